@@ -1,0 +1,124 @@
+-- The table of sectors, and what is used of it (MS-CFB 2.3, 2.4).
+use Rattle.std.specs.Prelude.{◌≡◌, ◌≢◌, ◌≤◌, ◌<◌, ◌+◌, ◌-◌, ◌*◌, ◌/◌, ℕ, zero, suc, Bool, true, false, ◌⊎◌, List, [], ◌∷◌, ◌++◌, length, take, min, replicate, slice_index, slice_index_or, slice_set}
+use Rattle.std.specs.List.{All, Contains}
+use Rattle.cfb_chain.specs.Bytes.{u32_at, block, sector, joined}
+use Rattle.cfb_chain.specs.Chain.{Store, Leads, IsPresent, IsChainOf, AreDistinct, END_OF_CHAIN}
+use Rattle.cfb_chain.specs.Header.{HeaderValue}
+use Rattle.cfb_chain.specs.declared.fault.ChainFault.{ChainFault}
+use Rattle.cfb_chain.specs.declared.fault.ChainFault.TheVariants.{OutOfFile, Cycle, CrossLinked, ShortChain, NoMemory}
+
+-- the sectors that begin before the end of a file
+abbrev pub sectors_in : List ℕ → ℕ
+sectors_in file = (length file + 511) / 512 - 1
+
+-- The sectors of a file: those with an entry in the FAT that begin before the end.
+unfoldable pub sectors_of : List ℕ → List ℕ → Store
+sectors_of file fat = record {
+  count = min (128 * length fat) (sectors_in file);
+  width = 512;
+  piece = sector file;
+  next = λ n. u32_at (joined (sector file) fat) (4 * n);
+}
+
+-- The mini sectors: those with an entry in the mini FAT, which lies in the sectors `mini_fat`, that begin before
+-- the end of the mini stream, of `size` bytes in the sectors `mini_stream`.
+unfoldable pub mini_sectors_of : List ℕ → List ℕ → List ℕ → ℕ → Store
+mini_sectors_of file mini_fat mini_stream size = record {
+  count = min (128 * length mini_fat) ((size + 63) / 64);
+  width = 64;
+  piece = λ m. block 64 (joined (sector file) mini_stream) (64 * m);
+  next = λ m. u32_at (joined (sector file) mini_fat) (4 * m);
+}
+
+-- the sectors of the FAT are in the file, each listed once
+pub record IsFat (file : List ℕ) (fat : List ℕ) : Type 0 where
+  pub present : All (IsPresent (sectors_of file fat)) fat
+  pub once : AreDistinct fat
+
+-- A table of sectors with their bytes: where the first stands, how wide each is, what follows each, which are used.
+pub record FatValue : Type 0 where
+  pub bytes : List ℕ
+  pub start : ℕ
+  pub width : ℕ
+  pub table : List ℕ
+  pub used : List Bool
+
+abbrev pub store_of : FatValue → Store
+store_of f = record { count = length f.table; width = f.width; piece = λ n. block f.width f.bytes (f.start + f.width * n); next = λ n. slice_index f.table n }
+
+-- a sector that has an entry and isn't used
+abbrev pub IsFree : FatValue → ℕ → Type 0
+IsFree f n = (n < length f.table) × (slice_index_or f.used n true ≡ false)
+
+-- sectors that have entries and aren't used, no two of them equal
+pub record AreFree (f : FatValue) (ns : List ℕ) : Type 0 where
+  pub free : All (IsFree f) ns
+  pub once : AreDistinct ns
+
+-- with sectors marked
+abbrev pub set_all : List Bool → List ℕ → List Bool
+set_all used [] = used
+set_all used (n ∷ ns) = set_all (slice_set used n true) ns
+
+abbrev pub marked : FatValue → List ℕ → FatValue
+marked f ns = record { bytes = f.bytes; start = f.start; width = f.width; table = f.table; used = set_all f.used ns }
+
+-- two stores that agree on the sectors that are there
+pub record AreSame (s t : Store) : Type 0 where
+  pub count : s.count ≡ t.count
+  pub width : s.width ≡ t.width
+  pub piece : (n : ℕ) → n < s.count → s.piece n ≡ t.piece n
+  pub next : (n : ℕ) → n < s.count → s.next n ≡ t.next n
+
+-- the table of a file whose FAT lies in these sectors, which are marked
+pub record IsTableOf (file : List ℕ) (fat : List ℕ) (f : FatValue) : Type 0 where
+  pub is_fat : IsFat file fat
+  pub sectors : AreSame (store_of f) (sectors_of file fat)
+  pub marks : f.used ≡ set_all (replicate (length f.table) false) fat
+
+-- a chain of unused sectors with room for some bytes, or none where there are none
+pub record IsFound (f : FatValue) (start bytes : ℕ) (ns : List ℕ) : Type 0 where
+  pub chain : IsChainOf (store_of f) start bytes ns
+  pub free : AreFree f ns
+
+-- the mini FAT's chain and the mini stream's, no sector of one in the other
+pub record IsMiniFound (f : FatValue) (first count start size : ℕ) (mini_fat mini_stream : List ℕ) : Type 0 where
+  pub table : IsChainOf (store_of f) first (512 * count) mini_fat
+  pub stream : IsChainOf (store_of f) start size mini_stream
+  pub free : AreFree f (mini_fat ++ mini_stream)
+
+-- The table of a mini stream of `size` bytes, whose sectors are given, and `mini_fat`, those of its table.
+pub record IsMiniTable (f : FatValue) (mini_fat mini_stream : List ℕ) (size : ℕ) (m : FatValue) : Type 0 where
+  pub sectors : AreSame (store_of m) (record {
+    count = min (128 * length mini_fat) ((size + 63) / 64);
+    width = 64;
+    piece = λ n. block 64 (joined (store_of f).piece mini_stream) (64 * n);
+    next = λ n. u32_at (joined (store_of f).piece mini_fat) (4 * n);
+  })
+  pub marks : m.used ≡ replicate (length m.table) false
+
+-- when a fault may be answered for a FAT
+abbrev pub MayRefuseFat : List ℕ → List ℕ → ChainFault → Type 0
+MayRefuseFat file fat OutOfFile = (n : ℕ) × Contains fat n × (sectors_in file ≤ n)
+MayRefuseFat file fat CrossLinked = AreDistinct fat → ⊥
+MayRefuseFat file fat NoMemory = Unit {0}
+MayRefuseFat file fat _ = ⊥
+
+-- when a fault may be answered for the chain from a sector that needs room for some bytes
+abbrev pub MayRefuse : FatValue → ℕ → ℕ → ChainFault → Type 0
+MayRefuse f start bytes OutOfFile = (ns : List ℕ) × (last : ℕ) × Leads (store_of f).next start ns last × All (IsFree f) ns × (last ≢ END_OF_CHAIN) × (length f.table ≤ last)
+MayRefuse f start bytes Cycle = (ns : List ℕ) × (last : ℕ) × Leads (store_of f).next start ns last × All (IsFree f) ns × Contains ns last
+MayRefuse f start bytes CrossLinked = (ns : List ℕ) × (last : ℕ) × Leads (store_of f).next start ns last × All (IsFree f) ns × (last < length f.table) × (slice_index_or f.used last true ≡ true)
+MayRefuse f start bytes ShortChain = (ns : List ℕ) × Leads (store_of f).next start ns END_OF_CHAIN × AreFree f ns × (f.width * length ns < bytes)
+MayRefuse f start bytes NoMemory = Unit {0}
+MayRefuse f start bytes _ = ⊥
+
+-- each sector has a mark, and a regular number
+abbrev pub IsSound : List ℕ → List Bool → Type 0
+IsSound table used = (length table ≡ length used) × (length table ≤ 0xFFFFFFF9)
+
+-- when a fault may be answered for the mini FAT's chain and the mini stream's: for either as they stand, or for the
+-- mini stream's where the mini FAT's sectors are marked
+abbrev pub MayRefuseMini : FatValue → HeaderValue → ℕ → ℕ → ChainFault → Type 0
+MayRefuseMini f h start size e = MayRefuse f h.first_mini_fat (512 * h.mini_fat_count) e
+    ⊎ ((ns : List ℕ) × IsFound f h.first_mini_fat (512 * h.mini_fat_count) ns × MayRefuse (marked f ns) start size e)
