@@ -1,13 +1,6 @@
-// A library with one function.
+//! The directory of a compound file: names, entries, trees of siblings (MS-CFB 2.6).
 #![tactic(auto)]
 
-ghost use Rattle.std.specs.Prelude.{◌≡◌};
-ghost use Rattle.cfb_directory.specs.Echo.{echo_of};
-
-// The `ensures` clause is the contract: what `echo` returns is `echo_of` of its argument, a definition
-// in `specs/Echo.antt`, which a caller's clause can cite too.
-pub fn echo(x: usize) -> usize
-    ensures { result ≡ echo_of x }
-{
-    x
-}
+pub mod entries;
+pub mod fault;
+pub mod name;

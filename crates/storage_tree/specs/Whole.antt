@@ -1,0 +1,28 @@
+-- Trees that are whole.
+use Rattle.std.specs.Prelude.{ℕ, zero, suc, ◌≡◌}
+use Rattle.std.specs.declared.cmp.Ordering.TheVariants.{Less}
+use Rattle.cfb_directory.specs.Names.{IsName, key, key_cmp}
+use Rattle.storage_tree.specs.Tree.{Tree, Children, tree, none, stream, storage}
+
+-- a child under the key of its name, which is one that a directory takes
+pub record IsNamed (k n : List ℕ) : Type 0 where
+  pub under_key : k ≡ key n
+  pub valid : IsName n
+
+-- every child stands under a greater key than this
+abbrev pub AreAbove : List ℕ → Children → Type 0
+AreAbove k none = Unit {0}
+AreAbove k (stream q n b cs) = (key_cmp k q ≡ Less) × AreAbove k cs
+AreAbove k (storage q n t cs) = (key_cmp k q ≡ Less) × AreAbove k cs
+
+-- Children are well named and stand in name order, each before all greater ones, so that no two names are equal in
+-- upper case; at most so many storages stand inside one another.
+abbrev mutual
+  pub IsTree : ℕ → Tree → Type 0
+  IsTree depth (tree class state cs) = AreTrees depth cs
+
+  pub AreTrees : ℕ → Children → Type 0
+  AreTrees depth none = Unit {0}
+  AreTrees depth (stream k n b cs) = IsNamed k n × AreAbove k cs × AreTrees depth cs
+  AreTrees zero (storage k n t cs) = ⊥
+  AreTrees (suc depth) (storage k n t cs) = IsNamed k n × AreAbove k cs × IsTree depth t × AreTrees (suc depth) cs
