@@ -1,2 +1,4 @@
-//! To come.
+//! Whole compound files.
 #![tactic(auto)]
+
+pub mod law;

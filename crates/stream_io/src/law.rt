@@ -1,0 +1,16 @@
+//! Laws of what compound files denote.
+
+ghost use Rattle.std.specs.Prelude.{List, ℕ, ◌≡◌};
+ghost use Rattle.storage_tree.specs.Tree.{Tree};
+ghost use Rattle.stream_io.specs.Denotes.{Denotes};
+ghost use Rattle.stream_io.specs.Need.{LeastFat};
+
+/// Bytes denote at most one tree.
+pub fn one_tree()
+    ensures { (file : List ℕ) (a b : Tree) → Denotes file a → Denotes file b → a ≡ b }
+{}
+
+/// The number of FAT sectors that a tree needs is the least that covers all sectors.
+pub fn least_fat()
+    ensures { LeastFat }
+{}
