@@ -1,4 +1,5 @@
 //! Whole compound files.
 #![tactic(auto)]
 
+pub mod fault;
 pub mod law;

@@ -1,0 +1,78 @@
+//! Why a file isn't read, or a tree isn't written.
+
+use cfb_chain::fault::ChainFault;
+use cfb_directory::fault::DirFault;
+use std::alloc::{AllocError, AllocFailed};
+use thiserror::Error;
+
+/// Why a file isn't read.
+#[derive(Debug, Clone, Copy, PartialEq, Eq, Error)]
+pub enum ReadFault {
+    /// The header or a chain of sectors is at fault.
+    #[error("{0}")]
+    Chain(ChainFault),
+    /// The directory is at fault.
+    #[error("{0}")]
+    Directory(DirFault),
+    /// No memory was left.
+    #[error("no memory is left")]
+    NoMemory,
+}
+
+impl ReadFault {
+    /// The fault's name, as it is printed.
+    pub fn name(&self) -> &'static str {
+        match self {
+            ReadFault::Chain(fault) => fault.name(),
+            ReadFault::Directory(fault) => fault.name(),
+            ReadFault::NoMemory => "NoMemory",
+        }
+    }
+}
+
+/// Why a tree isn't written.
+#[derive(Debug, Clone, Copy, PartialEq, Eq, Error)]
+pub enum WriteFault {
+    /// The tree needs more room than a file has.
+    #[error("the tree is too big for a file")]
+    TooBig,
+    /// The tree has a storage, which isn't written yet.
+    #[error("the tree has a storage")]
+    WrongKind,
+    /// No memory was left.
+    #[error("no memory is left")]
+    NoMemory,
+}
+
+impl WriteFault {
+    /// The fault's name, as it is printed.
+    pub fn name(&self) -> &'static str {
+        match self {
+            WriteFault::TooBig => "TooBig",
+            WriteFault::WrongKind => "WrongKind",
+            WriteFault::NoMemory => "NoMemory",
+        }
+    }
+}
+
+impl From<AllocError> for WriteFault {
+    ghost use Rattle.std.specs.Prelude.{◌≡◌};
+    ghost use Rattle.stream_io.specs.declared.fault.WriteFault.TheVariants.{NoMemory};
+
+    ghost from_gives = { λ _ e. e ≡ NoMemory };
+
+    fn from(_: AllocError) -> Self {
+        WriteFault::NoMemory
+    }
+}
+
+impl<T: Drop> From<AllocFailed<T>> for WriteFault {
+    ghost use Rattle.std.specs.Prelude.{◌≡◌};
+    ghost use Rattle.stream_io.specs.declared.fault.WriteFault.TheVariants.{NoMemory};
+
+    ghost from_gives = { λ _ e. e ≡ NoMemory };
+
+    fn from(_: AllocFailed<T>) -> Self {
+        WriteFault::NoMemory
+    }
+}
