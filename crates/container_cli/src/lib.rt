@@ -1,2 +1,4 @@
-//! To come.
+//! The texts that the program reads and writes, and its commands over readers and writers.
 #![tactic(auto)]
+
+mod words;

@@ -1,0 +1,120 @@
+//! Words and numbers of texts.
+
+ghost use Rattle.container_cli.specs.Words.{byte_read, content_read, digits_read, further, hex_digit, hex_read, lower_digit, number_read, pair_value, pieces};
+ghost use Rattle.std.specs.Option.{option_copied, option_map};
+ghost use Rattle.std.specs.Prelude.{◌≡◌, ◌<◌, ◌∷◌, length, vec_items, IfOk, IfSome};
+
+use std::alloc::{AllocError, Global};
+
+/// The bytes before the first such byte, and those behind it, where there is one.
+pub fn cut(bytes: &[u8], at: u8) -> (&[u8], Option<&[u8]>)
+    ensures pieces { pieces at bytes.now ≡ result.0.now ∷ further at (option_copied result.1) }
+    ensures shorter { IfSome result.1 (λ rest. length rest.now < length bytes.now) }
+{
+    for (i, byte) in bytes.iter().enumerate() {
+        if *byte == at {
+            return (&bytes[..i], Some(&bytes[i + 1..]));
+        }
+    }
+    (bytes, None)
+}
+
+/// The number of 32 bits that these digits are.
+fn digits(word: &[u8]) -> Option<u32>
+    ensures { result ≡ digits_read 0 word.now }
+{
+    let mut number: u32 = 0;
+    for digit in word {
+        if !digit.is_ascii_digit() {
+            return None;
+        }
+        let more = 10 * u64::from(number) + u64::from(*digit - b'0');
+        if more > u64::from(u32::MAX) {
+            return None;
+        }
+        number = more as u32;
+    }
+    Some(number)
+}
+
+/// A decimal number of 32 bits without leading zeros.
+pub fn number(word: &[u8]) -> Option<u32>
+    ensures { result ≡ number_read word.now }
+{
+    match word {
+        [] => None,
+        [b'0', _, ..] => None,
+        _ => digits(word),
+    }
+}
+
+/// The value of a lower-case hexadecimal digit.
+pub fn lower_digit(digit: u8) -> Option<u8>
+    ensures bound { IfSome result (λ n. n < 16) }
+    ensures value { result ≡ lower_digit digit }
+{
+    match digit {
+        b'0'..=b'9' => Some(digit - b'0'),
+        b'a'..=b'f' => Some(digit - b'a' + 10),
+        _ => None,
+    }
+}
+
+/// The value of a hexadecimal digit of either case.
+fn hex_digit(digit: u8) -> Option<u8>
+    ensures bound { IfSome result (λ n. n < 16) }
+    ensures value { result ≡ hex_digit digit }
+{
+    match digit {
+        b'A'..=b'F' => Some(digit - b'A' + 10),
+        _ => lower_digit(digit),
+    }
+}
+
+/// The byte of two hexadecimal digits.
+fn pair(high: u8, low: u8) -> Option<u8>
+    ensures { result ≡ pair_value (hex_digit high) (hex_digit low) }
+{
+    Some(16 * hex_digit(high)? + hex_digit(low)?)
+}
+
+/// A byte in two hexadecimal digits.
+pub fn byte(word: &[u8]) -> Option<u8>
+    ensures { result ≡ byte_read word.now }
+{
+    match word {
+        [high, low] => pair(*high, *low),
+        _ => None,
+    }
+}
+
+/// Bytes in two hexadecimal digits each.
+fn hex(alloc: Global, word: &[u8]) -> Result<Option<Vec<u8>>, AllocError>
+    ensures { IfOk result (λ bytes. option_map vec_items bytes ≡ hex_read word.now) }
+{
+    let mut bytes = Vec::with_capacity(alloc, word.len() / 2)?;
+    let mut rest = word;
+    while let [high, low, more @ ..] = rest {
+        match pair(*high, *low) {
+            Some(byte) => bytes.push(byte)?,
+            None => return Ok(None),
+        }
+        rest = more;
+    }
+    if rest.is_empty() {
+        Ok(Some(bytes))
+    } else {
+        Ok(None)
+    }
+}
+
+/// The bytes of a stream: hexadecimal, or `-` for none.
+pub fn content(alloc: Global, word: &[u8]) -> Result<Option<Vec<u8>>, AllocError>
+    ensures { IfOk result (λ bytes. option_map vec_items bytes ≡ content_read word.now) }
+{
+    match word {
+        [] => Ok(None),
+        [b'-'] => Ok(Some(Vec::new(alloc))),
+        _ => hex(alloc, word),
+    }
+}
