@@ -5,7 +5,7 @@ use Rattle.std.proofs.lemmas.List.{take_rest}
 use Rattle.container_cli.specs.Words.{hex_read, hex_digit, pair_value, onto}
 
 -- one more byte, behind those read so far
-pub onto-behind : (out : List ℕ) (b : ℕ) (told : Option ℕ) (more : Option (List ℕ)) → told ≡ Some b
+pub onto-behind : {A : Type 0} (out : List A) (b : A) (told : Option A) (more : Option (List A)) → told ≡ Some b
     → option_map (λ bs. (out ++ b ∷ []) ++ bs) more ≡ option_map (λ bs. out ++ bs) (onto told more)
 onto-behind out b told None is = ap (λ t. option_map (λ bs. out ++ bs) (onto t None)) (sym is)
 onto-behind out b told (Some bs) is = ap Some (append_assoc out (b ∷ []) bs) ∙ ap (λ t. option_map (λ bs. out ++ bs) (onto t (Some bs))) (sym is)

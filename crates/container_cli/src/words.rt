@@ -2,12 +2,13 @@
 
 ghost use Rattle.container_cli.specs.Words.{byte_read, content_read, digits_read, further, hex_digit, hex_read, lower_digit, number_read, pair_value, pieces};
 ghost use Rattle.std.specs.Option.{option_copied, option_map};
-ghost use Rattle.std.specs.Prelude.{◌≡◌, ◌<◌, ◌∷◌, length, vec_items, IfOk, IfSome};
+ghost use Rattle.std.specs.Prelude.{◌≡◌, ◌<◌, [], ◌∷◌, length, vec_items, IfOk, IfSome, MatchOption};
 
 use std::alloc::{AllocError, Global};
+use std::marker::Model;
 
 /// The bytes before the first such byte, and those behind it, where there is one.
-pub fn cut(bytes: &[u8], at: u8) -> (&[u8], Option<&[u8]>)
+fn cut(bytes: &[u8], at: u8) -> (&[u8], Option<&[u8]>)
     ensures pieces { pieces at bytes.now ≡ result.0.now ∷ further at (option_copied result.1) }
     ensures shorter { IfSome result.1 (λ rest. length rest.now < length bytes.now) }
 {
@@ -17,6 +18,44 @@ pub fn cut(bytes: &[u8], at: u8) -> (&[u8], Option<&[u8]>)
         }
     }
     (bytes, None)
+}
+
+/// The pieces of a text that is cut at each such byte, the first of them first.
+#[derive(Drop)]
+pub struct Pieces<'a> {
+    at: u8,
+    rest: Option<&'a [u8]>,
+}
+
+impl<'a> Model for Pieces<'a> {
+    ghost use Rattle.std.specs.Prelude.{List, ℕ};
+    ghost use Rattle.std.specs.Option.{option_copied};
+    ghost use Rattle.container_cli.specs.Words.{further};
+
+    ghost Value = { List (List ℕ) };
+
+    ghost view = { λ p. further p.at (option_copied p.rest) };
+}
+
+impl<'a> Pieces<'a> {
+    /// All pieces of a text.
+    pub fn new(text: &'a [u8], at: u8) -> Pieces<'a>
+        ensures { result ≡ pieces at text.now }
+    {
+        Pieces {
+            at,
+            rest: Some(text),
+        }
+    }
+
+    /// The next piece, if one is left.
+    pub fn next_piece(&mut self) -> Option<&'a [u8]>
+        ensures { MatchOption result ((self.old ≡ []) × (self.new ≡ [])) (λ piece. self.old ≡ piece.now ∷ self.new) }
+    {
+        let (piece, rest) = cut(self.rest?, self.at);
+        self.rest = rest;
+        Some(piece)
+    }
 }
 
 /// The number of 32 bits that these digits are.
