@@ -1,5 +1,7 @@
 //! The texts that the program reads and writes, and its commands over readers and writers.
 #![tactic(auto)]
 
-mod path;
-mod words;
+pub mod command;
+pub mod fault;
+pub mod path;
+pub mod words;

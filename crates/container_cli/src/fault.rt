@@ -1,0 +1,50 @@
+//! Why a description, a file or a stream is refused.
+
+use cfb_directory::fault::DirFault;
+use std::fmt;
+use storage_tree::fault::TreeFault;
+use stream_io::fault::{ReadFault, WriteFault};
+use thiserror::Error;
+
+/// Why a line of a description is refused.
+#[derive(Debug, Clone, Copy, PartialEq, Eq, Error)]
+pub enum LineFault {
+    /// The line is outside the grammar.
+    #[error("the line is outside the grammar")]
+    Bad,
+    /// A name of its path is none that a directory takes.
+    #[error("{0}")]
+    Name(DirFault),
+    /// The tree doesn't take it.
+    #[error("{0}")]
+    Tree(TreeFault),
+    /// No memory was left.
+    #[error("no memory is left")]
+    NoMemory,
+}
+
+impl LineFault {
+    /// The fault's name, as it is printed.
+    pub fn name(&self) -> &'static str {
+        match self {
+            LineFault::Bad => "Bad",
+            LineFault::Name(fault) => fault.name(),
+            LineFault::Tree(fault) => fault.name(),
+            LineFault::NoMemory => "NoMemory",
+        }
+    }
+}
+
+impl From<TreeFault> for LineFault {
+    ghost use Rattle.std.specs.Prelude.{◌≡◌};
+    ghost use Rattle.container_cli.specs.Faults.{of_tree_fault};
+
+    ghost from_gives = { λ fault e. e ≡ of_tree_fault fault };
+
+    fn from(fault: TreeFault) -> Self {
+        match fault {
+            TreeFault::NoMemory => LineFault::NoMemory,
+            _ => LineFault::Tree(fault),
+        }
+    }
+}
