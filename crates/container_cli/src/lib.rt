@@ -2,6 +2,7 @@
 #![tactic(auto)]
 
 pub mod command;
+mod description;
 pub mod fault;
 pub mod path;
 pub mod words;

@@ -41,6 +41,13 @@ impl Path {
         }
         Ok(Some(Path { names }))
     }
+
+    /// The names.
+    pub fn names(&self) -> &[Bytes]
+        ensures { result.now ≡ self.now }
+    {
+        &self.names
+    }
 }
 
 /// Whether a byte ends a word or can't be seen.

@@ -1,0 +1,8 @@
+use Rattle.std.proofs.Common.{◌≡◌}
+use Rattle.std.specs.Vec.Iter.{into_iter_items}
+use Rattle.storage_tree.specs.Kept.{kept}
+use Rattle.container_cli.specs.Description.{carried, nothing}
+use Rattle.container_cli.proofs.description.carry_all.Given as goal
+
+abbrev pub invariant-loop-number : goal.invariant-loop-number
+invariant-loop-number l = carried (into_iter_items l.number-iterator) (kept l.tree) ≡ carried l.fn.commands.items nothing
