@@ -4,5 +4,6 @@
 pub mod command;
 mod description;
 pub mod fault;
+mod listing;
 pub mod path;
 pub mod words;
