@@ -1,3 +1,4 @@
 pub mod Cuts
 pub mod Hex
 pub mod Described
+pub mod Inputs

@@ -1,7 +1,6 @@
 //! Why a description, a file or a stream is refused.
 
 use cfb_directory::fault::DirFault;
-use std::fmt;
 use storage_tree::fault::TreeFault;
 use stream_io::fault::{ReadFault, WriteFault};
 use thiserror::Error;
@@ -45,6 +44,31 @@ impl From<TreeFault> for LineFault {
         match fault {
             TreeFault::NoMemory => LineFault::NoMemory,
             _ => LineFault::Tree(fault),
+        }
+    }
+}
+
+/// Why an input isn't read.
+#[derive(Debug, Clone, Copy, PartialEq, Eq, Error)]
+pub enum InputFault {
+    /// A read fails.
+    #[error("reading fails")]
+    Unreadable,
+    /// The input has more bytes than are taken.
+    #[error("the input is too big")]
+    TooBig,
+    /// No memory was left.
+    #[error("no memory is left")]
+    NoMemory,
+}
+
+impl InputFault {
+    /// The fault's name, as it is printed.
+    pub fn name(&self) -> &'static str {
+        match self {
+            InputFault::Unreadable => "Unreadable",
+            InputFault::TooBig => "TooBig",
+            InputFault::NoMemory => "NoMemory",
         }
     }
 }

@@ -4,6 +4,7 @@
 pub mod command;
 mod description;
 pub mod fault;
+mod input;
 mod listing;
 pub mod path;
 pub mod words;
