@@ -72,3 +72,37 @@ impl InputFault {
         }
     }
 }
+
+/// Why no file is made.
+#[derive(Debug, Clone, Copy, PartialEq, Eq, Error)]
+pub enum MakeFault {
+    /// The description isn't read.
+    #[error("{0}")]
+    Input(InputFault),
+    /// A line of the description is refused.
+    #[error("line {0}: {1}")]
+    Line(usize, LineFault),
+    /// The described tree isn't written.
+    #[error("{0}")]
+    Write(WriteFault),
+    /// A write fails.
+    #[error("writing fails")]
+    Unwritable,
+}
+
+/// Why no listing is written.
+#[derive(Debug, Clone, Copy, PartialEq, Eq, Error)]
+pub enum ListFault {
+    /// The file isn't read whole.
+    #[error("{0}")]
+    Input(InputFault),
+    /// The bytes denote no tree.
+    #[error("{0}")]
+    Read(ReadFault),
+    /// A write fails.
+    #[error("writing fails")]
+    Unwritable,
+    /// No memory was left.
+    #[error("no memory is left")]
+    NoMemory,
+}

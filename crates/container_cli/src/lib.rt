@@ -2,9 +2,11 @@
 #![tactic(auto)]
 
 pub mod command;
+pub mod commands;
 mod description;
 pub mod fault;
 mod input;
 mod listing;
 pub mod path;
+mod stand_in;
 pub mod words;
