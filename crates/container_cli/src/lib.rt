@@ -8,5 +8,6 @@ pub mod fault;
 mod input;
 mod listing;
 pub mod path;
+pub mod report;
 mod stand_in;
 pub mod words;
