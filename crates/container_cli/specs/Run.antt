@@ -4,6 +4,7 @@ use Rattle.std.specs.Io.KnownBytes.{Appends}
 use Rattle.storage_tree.specs.Tree.{Tree}
 use Rattle.storage_tree.specs.Kept.{Kept}
 use Rattle.stream_io.specs.Denotes.{Denotes}
+use Rattle.stream_io.specs.Refusals.{writable, Refuses}
 use Rattle.container_cli.specs.Input.{MayRefuseInput}
 use Rattle.container_cli.specs.Description.{described, RefusesLine}
 use Rattle.container_cli.specs.Listing.{listing}
@@ -29,7 +30,7 @@ pub record Makes (text : List ℕ) (old new : Option (List ℕ)) (count : ℕ) :
 abbrev pub MayRefuseMake : List ℕ → MakeFault → Type 0
 MayRefuseMake text (make.Input fault) = MayRefuseInput text fault
 MayRefuseMake text (make.Line n fault) = RefusesLine (described text) (n, fault)
-MayRefuseMake text (make.Write fault) = (k : Kept) × (described text ≡ Ok k)
+MayRefuseMake text (make.Write fault) = (k : Kept) × (described text ≡ Ok k) × Refuses (writable k.now) fault
 MayRefuseMake text make.Unwritable = Unit {0}
 
 -- the listing of the tree that the bytes denote was written

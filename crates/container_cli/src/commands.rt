@@ -1,10 +1,14 @@
 //! The commands of the program over readers and writers.
 
+ghost use Rattle.container_cli.specs.Building.{IsDescribed};
 ghost use Rattle.container_cli.specs.Input.{most};
 ghost use Rattle.container_cli.specs.Run.{IsMade, Lists, Makes, MayRefuseList, MayRefuseMake};
 ghost use Rattle.std.specs.Io.KnownBytes.{Appends};
-ghost use Rattle.std.specs.Prelude.{◌≡◌, ◌≢◌, ◌≤◌, length, IfErr, IfOk, IfSome, OnOk};
+ghost use Rattle.storage_tree.specs.Kept.{Kept, kept};
+ghost use Rattle.stream_io.specs.Refusals.{has_storage, writable};
+ghost use Rattle.std.specs.Prelude.{◌≡◌, Err, ◌≢◌, ◌≤◌, length, IfErr, IfOk, IfSome, OnOk};
 
+use crate::building::Described;
 use crate::description::describe;
 use crate::fault::{ListFault, MakeFault};
 use crate::input::read_all;
@@ -13,6 +17,9 @@ use crate::stand_in::{read_file, write_file};
 use std::alloc::Global;
 use std::io;
 use std::io::{Read, Write};
+use storage_tree::storage::Node;
+use storage_tree::tree::Tree;
+use stream_io::fault::WriteFault;
 
 /// Writes the compound file of the tree that a description describes, and gives its length.
 ///
@@ -45,14 +52,37 @@ fn make(alloc: Global, text: &[u8]) -> Result<Vec<u8>, MakeFault>
     ensures made { IfOk result (λ file. IsMade text.now file.items) }
     ensures refused { IfErr result (MayRefuseMake text.now) }
 {
-    let tree = match describe(alloc, text) {
-        Ok(tree) => tree,
-        Err((number, fault)) => return Err(MakeFault::Line(number, fault)),
-    };
-    match write_file(alloc, &tree) {
-        Ok(file) => Ok(file),
-        Err(fault) => Err(MakeFault::Write(fault)),
+    match describe(alloc, text) {
+        Ok(Described::Whole(tree)) => match write_file(alloc, &tree) {
+            Ok(file) => Ok(file),
+            Err(fault) => Err(MakeFault::Write(fault)),
+        },
+        Ok(Described::Outline(tree)) => Err(MakeFault::Write(too_big(&tree))),
+        Err((number, fault)) => Err(MakeFault::Line(number, fault)),
     }
+}
+
+/// Why a tree isn't written whose streams have more bytes than a file.
+fn too_big(outline: &Tree) -> WriteFault
+    ensures { (k : Kept) → IsDescribed k (Described.Outline outline.now) → writable k.now ≡ Err result }
+{
+    if has_storage(outline) {
+        WriteFault::WrongKind
+    } else {
+        WriteFault::TooBig
+    }
+}
+
+/// Whether a storage stands below the root.
+fn has_storage(tree: &Tree) -> bool
+    ensures { result ≡ has_storage (kept tree.now).now }
+{
+    for (_, child) in tree.root().children.iter() {
+        if let Node::Storage(_) = &child.1 {
+            return true;
+        }
+    }
+    false
 }
 
 /// Writes the listing of the tree that a compound file holds.

@@ -1,29 +1,27 @@
 //! Descriptions of trees.
 
+ghost use Rattle.container_cli.specs.Building.{Builds, IsBuilt, IsDescribed};
 ghost use Rattle.container_cli.specs.Commands.{commands_read, is_skipped};
-ghost use Rattle.container_cli.specs.Description.{Refuses, RefusesLine, carried, carried_out, described, named, nothing, of_tree, stream_made, then_by, zero_class};
+ghost use Rattle.container_cli.specs.Description.{Refuses, RefusesLine, carried, carried_out, described, named, nothing};
 ghost use Rattle.container_cli.specs.Words.{lines};
-ghost use Rattle.std.specs.Prelude.{◌≡◌, ◌<◌, ◌^◌, Err, Ok, length, replicate, IfErr, IfOk, OnOk};
-ghost use Rattle.storage_tree.specs.Kept.{kept, made};
+ghost use Rattle.std.specs.Prelude.{◌≡◌, ◌<◌, ◌^◌, Err, Ok, length, IfErr, IfOk};
+ghost use Rattle.storage_tree.specs.Kept.{Kept};
 
+use crate::building::{Building, Described};
 use crate::command::Command;
 use crate::fault::LineFault;
 use crate::path::Path;
 use crate::words::Pieces;
 use cfb_directory::name::Name;
-use std::alloc::{AllocError, Global};
-use storage_tree::bytes::Bytes;
-use storage_tree::class_id::ClassId;
-use storage_tree::fault::TreeFault;
-use storage_tree::tree::Tree;
+use std::alloc::Global;
 
-/// The tree that a description describes.
+/// The tree that a description describes, or its outline where its streams have more bytes than a file.
 ///
 /// Refused: the first line that is outside the grammar (`Bad`), or else the first that can't be carried out, with its
 /// number from 1.
-pub fn describe(alloc: Global, text: &[u8]) -> Result<Tree, (usize, LineFault)>
+pub fn describe(alloc: Global, text: &[u8]) -> Result<Described, (usize, LineFault)>
     requires { length text.now < 2 ^ 32 }
-    ensures made { IfOk result (λ tree. described text.now ≡ Ok (kept tree)) }
+    ensures made { IfOk result (λ d. (k : Kept) × (described text.now ≡ Ok k) × IsDescribed k d) }
     ensures refused { IfErr result (RefusesLine (described text.now)) }
 {
     carry_all(alloc, parse_all(alloc, text)?)
@@ -83,53 +81,26 @@ fn names(alloc: Global, path: &Path) -> Result<Vec<Name>, LineFault>
     Ok(names)
 }
 
-/// Puts a new stream at a path.
-fn put_new(tree: &mut Tree, path: &[Name], bytes: Bytes) -> Result<(), LineFault>
-    ensures made { OnOk result (stream_made bytes (kept tree.old) path.now ≡ Ok (kept tree.new)) }
-    ensures refused { IfErr result (Refuses (stream_made bytes (kept tree.old) path.now)) }
-{
-    if tree.get(path).is_ok() {
-        return Err(LineFault::Tree(TreeFault::Exists));
-    }
-    tree.put_stream(path, bytes)?;
-    Ok(())
-}
-
-/// Makes a storage of class zero at a path.
-fn make_new(tree: &mut Tree, path: &[Name]) -> Result<(), LineFault>
-    ensures made { OnOk result (of_tree (made path.now zero_class 0 (kept tree.old)) ≡ Ok (kept tree.new)) }
-    ensures refused { IfErr result (Refuses (of_tree (made path.now zero_class 0 (kept tree.old)))) }
-{
-    match tree.make_storage(path, ClassId::from_bytes([0; 16]), 0) {
-        Ok(()) => Ok(()),
-        Err(fault) => Err(LineFault::from(fault)),
-    }
-}
-
-/// So many bytes that are all the same.
-fn filled(alloc: Global, count: u32, byte: u8) -> Result<Bytes, AllocError>
-    ensures { IfOk result (λ bytes. bytes ≡ replicate count byte) }
-{
-    Ok(Bytes::from_vec(vec![in alloc; byte; count as usize]?))
-}
-
 /// Carries out a command.
-fn carry_out(alloc: Global, tree: &mut Tree, command: Command) -> Result<(), LineFault>
-    ensures made { OnOk result (carried_out command (kept tree.old) ≡ Ok (kept tree.new)) }
-    ensures refused { IfErr result (Refuses (carried_out command (kept tree.old))) }
+fn carry_out(
+    alloc: Global,
+    building: &mut Building,
+    command: Command,
+) -> Result<(), LineFault>
+    ensures { (k : Kept) → IsBuilt building.old k → Builds (carried_out command k) result building.new }
 {
     match command {
         Command::Storage(path) => {
             let names = names(alloc, &path)?;
-            make_new(tree, &names)
+            building.make_storage(&names)
         }
-        Command::Stream(path, bytes) => put_new(tree, &names(alloc, &path)?, bytes),
+        Command::Stream(path, bytes) => {
+            let names = names(alloc, &path)?;
+            building.put_bytes(alloc, &names, bytes)
+        }
         Command::Fill(path, count, byte) => {
             let names = names(alloc, &path)?;
-            match filled(alloc, count, byte) {
-                Ok(bytes) => put_new(tree, &names, bytes),
-                Err(_) => Err(LineFault::NoMemory),
-            }
+            building.put_filled(alloc, &names, count, byte)
         }
     }
 }
@@ -138,16 +109,16 @@ fn carry_out(alloc: Global, tree: &mut Tree, command: Command) -> Result<(), Lin
 fn carry_all(
     alloc: Global,
     commands: Vec<(usize, Command)>,
-) -> Result<Tree, (usize, LineFault)>
-    ensures made { IfOk result (λ tree. carried commands.items nothing ≡ Ok (kept tree)) }
+) -> Result<Described, (usize, LineFault)>
+    ensures made { IfOk result (λ d. (k : Kept) × (carried commands.items nothing ≡ Ok k) × IsDescribed k d) }
     ensures refused { IfErr result (RefusesLine (carried commands.items nothing)) }
 {
-    let mut tree = Tree::new(alloc, ClassId::from_bytes([0; 16]), 0);
+    let mut building = Building::new(alloc);
     for (number, command) in commands {
-        match carry_out(alloc, &mut tree, command) {
+        match carry_out(alloc, &mut building, command) {
             Ok(()) => {}
             Err(fault) => return Err((number, fault)),
         }
     }
-    Ok(tree)
+    Ok(building.finish())
 }

@@ -1,6 +1,7 @@
 //! The texts that the program reads and writes, and its commands over readers and writers.
 #![tactic(auto)]
 
+mod building;
 pub mod command;
 pub mod commands;
 mod description;
