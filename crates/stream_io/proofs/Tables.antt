@@ -10,8 +10,8 @@ use Rattle.std.proofs.lemmas.Nat.{from_le_bytes-to_le_bytes_4}
 use Rattle.std.specs.List.{flat_map, range_with_len, sum, All}
 use Rattle.std.specs.Int.{w32, to_le_bytes, from_le_bytes}
 use Rattle.cfb_chain.specs.Bytes.{u32_at}
-use Rattle.cfb_chain.specs.Chain.{Leads, END_OF_CHAIN, FREE_SECTOR}
-use Rattle.stream_io.specs.Image.{run, runs, table_bytes}
+use Rattle.cfb_chain.specs.Chain.{Store, Leads, IsPresent, IsChain, IsChainOf, AreDistinct, END_OF_CHAIN, FREE_SECTOR}
+use Rattle.stream_io.specs.Image.{run, runs, start, table_bytes}
 
 -- a number that four bytes hold
 abbrev pub IsWord : ℕ → Type 0
@@ -109,3 +109,51 @@ leads_run next at (suc (suc n)) table some =
     let s : next at ≡ at + 1 = sym (ap next e) ∙ table 0 (omega arith) in
     let P : ℕ → Type 0 = λ x. Leads next x (range_with_len (at + 1) (suc n)) END_OF_CHAIN in
     (refl, subst P (sym s) (leads_run next (at + 1) (suc n) (λ k l. let f : at + 1 + k ≡ at + suc k = omega arith in ap next f ∙ table (suc k) (omega arith)) (omega arith)))
+
+-- A store whose sectors a table has, entry by entry.
+pub record IsTabled (s : Store) (table : List ℕ) : Type 0 where
+  pub count : s.count ≡ length table
+  pub next : (k : ℕ) → k < length table → s.next k ≡ get_or table k 0
+  pub small : length table ≤ 0xFFFFFFF9
+
+present_in_range : (s : Store) (at n : ℕ) → at + n ≤ s.count → s.count ≤ 0xFFFFFFF9 → All (IsPresent s) (range_with_len at n)
+present_in_range s at n h small = λ k d l.
+    let m : k < n = omega (arith, length-range_with_len at n) in
+    rw get_or-range_with_len (omega arith, omega arith)
+
+pub chain_in_table : (s : Store) (table front back : List ℕ) (at n bytes : ℕ) → IsTabled s table → table ≡ front ++ (run at n ++ back)
+    → length front ≡ at → 0 < n → bytes ≤ s.width * n → IsChain s at bytes (range_with_len at n)
+chain_in_table s table front back at n bytes t e before some enough =
+    let long : length table ≡ at + (n + length back) =
+      ap length e ∙ length-append front (run at n ++ back) ∙ omega (arith, length-append (run at n) back, length-run at n) in
+    let entries : (k : ℕ) → k < n → s.next (at + k) ≡ get_or (run at n) k 0 =
+      λ k l. t.next (at + k) (omega arith) ∙ ap (λ xs. get_or xs (at + k) 0) e ∙ run_entry front back at n k before l in
+    record {
+      linked = leads_run s.next at n entries some;
+      present = present_in_range s at n (omega (arith, t.count)) (omega (arith, t.count, t.small));
+      enough = let w : length (range_with_len at n) ≡ n = length-range_with_len at n in rw w enough;
+    }
+
+-- a run in a table is a chain, or none where it is empty
+pub chain_of_in_table : (s : Store) (table front back : List ℕ) (at n bytes : ℕ) → IsTabled s table → table ≡ front ++ (run at n ++ back)
+    → length front ≡ at → bytes ≤ s.width * n → (bytes ≡ 0 → n ≡ 0) → IsChainOf s (start at n) bytes (range_with_len at n)
+chain_of_in_table s table front back at zero zero t e before enough none = refl
+chain_of_in_table s table front back at zero (suc b) t e before enough none = absurd (let z : s.width * 0 ≡ 0 = omega arith in omega arith)
+chain_of_in_table s table front back at (suc n) zero t e before enough none = absurd (let z : suc n ≡ 0 = none refl in omega arith)
+chain_of_in_table s table front back at (suc n) (suc b) t e before enough none =
+    chain_in_table s table front back at (suc n) (suc b) t e before (omega arith) enough
+
+-- ranges one after another are one
+pub range-append : (at m n : ℕ) → range_with_len at m ++ range_with_len (at + m) n ≡ range_with_len at (m + n)
+range-append at zero n = let e : at + 0 ≡ at = omega arith in let z : 0 + n ≡ n = omega arith in rw (e, z) refl
+range-append at (suc m) n =
+    let e : at + suc m ≡ at + 1 + m = omega arith in
+    let z : suc m + n ≡ suc (m + n) = omega arith in
+    rw (e, z) (ap (λ xs. at ∷ xs) (range-append (at + 1) m n))
+
+pub range_distinct : (at n : ℕ) → AreDistinct (range_with_len at n)
+range_distinct at n = λ i j d l m e.
+    let len : length (range_with_len at n) ≡ n = length-range_with_len at n in
+    let a : get_or (range_with_len at n) i d ≡ at + i = get_or-range_with_len at n i d (omega arith) in
+    let b : get_or (range_with_len at n) j d ≡ at + j = get_or-range_with_len at n j d (omega arith) in
+    omega arith
