@@ -1,3 +1,4 @@
 pub mod Lists
 pub mod Unique
-mod Tables
+pub mod Tables
+pub mod PlacedParts
