@@ -2,13 +2,30 @@
 
 ghost use Rattle.cfb_chain.specs.Header.{header_bytes, header_read};
 ghost use Rattle.cfb_chain.specs.declared.fault.ChainFault.TheVariants.{TooBig};
-ghost use Rattle.std.specs.Prelude.{◌<◌, ◌≡◌, IfErr, IfOk, length};
+ghost use Rattle.cfb_chain.specs.Header.{IsHeader};
+ghost use Rattle.cfb_chain.specs.Bytes.{u32_at};
+ghost use Rattle.std.specs.Prelude.{◌*◌, ◌+◌, ◌<◌, ◌≡◌, ◌≤◌, ◌↔◌, IfErr, IfOk, IsOk, length, slice_index, ℕ};
 
+use crate::bytes::{read_u16, read_u32};
 use crate::fault::ChainFault;
 use std::marker::Model;
 
 /// How many FAT sectors the header can name.
 pub const LISTED: usize = 109;
+
+const SIGNATURE: [u8; 8] = [0xd0, 0xcf, 0x11, 0xe0, 0xa1, 0xb1, 0x1a, 0xe1];
+
+/// The numbers of the header's list.
+fn read_listed(bytes: &[u8]) -> [u32; 109]
+    requires { 512 ≤ length bytes.now }
+    ensures { (k : ℕ) → k < 109 → slice_index result k ≡ u32_at bytes.now (76 + 4 * k) }
+{
+    let mut fat = [0; LISTED];
+    for k in 0..LISTED {
+        fat[k] = read_u32(bytes, 76 + 4 * k);
+    }
+    fat
+}
 
 /// What a header says: the FAT's sectors, the directory's first one, the mini FAT's first one and their number.
 #[derive(Drop)]
@@ -55,6 +72,50 @@ impl Header {
             first_directory,
             first_mini_fat,
             mini_fat_count,
+        })
+    }
+
+    /// The header of a file, from its first 512 bytes. The fields that MS-CFB 2.2 leaves to the writer are not looked at.
+    ///
+    /// Refused, in this order: `Truncated` for fewer than 512 bytes, `BadSignature` for other first eight bytes,
+    /// `Unsupported` with the field's offset where the major version (26) isn't 3, the byte order (28) isn't 0xFFFE, the
+    /// sector shift (30) isn't 9, the mini sector shift (32) isn't 6 or the cutoff (56) isn't 4096, `TooBig` for more than
+    /// 109 FAT sectors or any DIFAT sector.
+    pub fn read(bytes: &[u8]) -> Result<Header, ChainFault>
+        ensures read { result ≡ header_read bytes.now }
+        ensures whole { IsOk result ↔ IsHeader bytes.now }
+    {
+        if bytes.len() < 512 {
+            return Err(ChainFault::Truncated);
+        }
+        if !bytes.starts_with(&SIGNATURE) {
+            return Err(ChainFault::BadSignature);
+        }
+        if read_u16(bytes, 26) != 3 {
+            return Err(ChainFault::Unsupported(26));
+        }
+        if read_u16(bytes, 28) != 0xfffe {
+            return Err(ChainFault::Unsupported(28));
+        }
+        if read_u16(bytes, 30) != 9 {
+            return Err(ChainFault::Unsupported(30));
+        }
+        if read_u16(bytes, 32) != 6 {
+            return Err(ChainFault::Unsupported(32));
+        }
+        if read_u32(bytes, 56) != 4096 {
+            return Err(ChainFault::Unsupported(56));
+        }
+        let fat_count = read_u32(bytes, 44);
+        if fat_count > 109 || read_u32(bytes, 72) != 0 {
+            return Err(ChainFault::TooBig);
+        }
+        Ok(Header {
+            fat_count,
+            fat: read_listed(bytes),
+            first_directory: read_u32(bytes, 48),
+            first_mini_fat: read_u32(bytes, 60),
+            mini_fat_count: read_u32(bytes, 64),
         })
     }
 
