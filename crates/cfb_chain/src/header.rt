@@ -4,10 +4,14 @@ ghost use Rattle.cfb_chain.specs.Header.{header_bytes, header_read};
 ghost use Rattle.cfb_chain.specs.declared.fault.ChainFault.TheVariants.{TooBig};
 ghost use Rattle.cfb_chain.specs.Header.{IsHeader};
 ghost use Rattle.cfb_chain.specs.Bytes.{u32_at};
-ghost use Rattle.std.specs.Prelude.{◌*◌, ◌+◌, ◌<◌, ◌≡◌, ◌≤◌, ◌↔◌, IfErr, IfOk, IsOk, length, slice_index, ℕ};
+ghost use Rattle.std.specs.Int.{to_le_bytes, w32};
+ghost use Rattle.std.specs.List.{flat_map};
+ghost use Rattle.std.specs.Prelude.{◌*◌, ◌+◌, ◌++◌, ◌-◌, ◌<◌, ◌≡◌, ◌≤◌, ◌↔◌, IfErr, IfOk, IsOk, length, replicate, slice_index, take, ℕ};
 
-use crate::bytes::{read_u16, read_u32};
+use crate::bytes::{read_u16, read_u32, write_u16, write_u32};
+use crate::fat::END_OF_CHAIN;
 use crate::fault::ChainFault;
+use byteorder::{ByteOrder, LittleEndian};
 use std::marker::Model;
 
 /// How many FAT sectors the header can name.
@@ -25,6 +29,15 @@ fn read_listed(bytes: &[u8]) -> [u32; 109]
         fat[k] = read_u32(bytes, 76 + 4 * k);
     }
     fat
+}
+
+/// Writes the FAT's sectors, behind which the entries are free.
+fn write_listed(entries: &mut [u8], fat: &[u32])
+    requires { 4 * length fat.now ≤ length entries.old }
+    ensures { entries.new ≡ flat_map (to_le_bytes w32) fat.now ++ replicate (length entries.old - 4 * length fat.now) 255 }
+{
+    entries.fill(0xff);
+    LittleEndian::write_u32_into(fat, &mut entries[..4 * fat.len()]);
 }
 
 /// What a header says: the FAT's sectors, the directory's first one, the mini FAT's first one and their number.
@@ -117,6 +130,28 @@ impl Header {
             first_mini_fat: read_u32(bytes, 60),
             mini_fat_count: read_u32(bytes, 64),
         })
+    }
+
+    /// The bytes of the header: no class id, minor version 0x3E, no transactions, no DIFAT, and unused entries of the list
+    /// free.
+    pub fn write(&self) -> [u8; 512]
+        ensures { result ≡ header_bytes self.now }
+    {
+        let mut bytes = [0; 512];
+        bytes[..8].copy_from_slice(&SIGNATURE);
+        write_u16(&mut bytes, 24, 0x3e);
+        write_u16(&mut bytes, 26, 3);
+        write_u16(&mut bytes, 28, 0xfffe);
+        write_u16(&mut bytes, 30, 9);
+        write_u16(&mut bytes, 32, 6);
+        write_u32(&mut bytes, 44, self.fat_count);
+        write_u32(&mut bytes, 48, self.first_directory);
+        write_u32(&mut bytes, 56, 4096);
+        write_u32(&mut bytes, 60, self.first_mini_fat);
+        write_u32(&mut bytes, 64, self.mini_fat_count);
+        write_u32(&mut bytes, 68, END_OF_CHAIN);
+        write_listed(&mut bytes[76..], self.fat());
+        bytes
     }
 
     /// The sectors of the FAT, in order.
