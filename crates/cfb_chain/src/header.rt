@@ -1,12 +1,12 @@
 //! The header of a compound file, its first 512 bytes (MS-CFB 2.2).
 
-ghost use Rattle.cfb_chain.specs.Header.{header_bytes, header_read};
+ghost use Rattle.cfb_chain.specs.Header.{FitsHeader, HeaderValue, header_bytes, header_read};
 ghost use Rattle.cfb_chain.specs.declared.fault.ChainFault.TheVariants.{TooBig};
 ghost use Rattle.cfb_chain.specs.Header.{IsHeader};
 ghost use Rattle.cfb_chain.specs.Bytes.{u32_at};
 ghost use Rattle.std.specs.Int.{to_le_bytes, w32};
 ghost use Rattle.std.specs.List.{flat_map};
-ghost use Rattle.std.specs.Prelude.{◌*◌, ◌+◌, ◌++◌, ◌-◌, ◌<◌, ◌≡◌, ◌≤◌, ◌↔◌, IfErr, IfOk, IsOk, length, replicate, slice_index, take, ℕ};
+ghost use Rattle.std.specs.Prelude.{◌*◌, ◌+◌, ◌++◌, ◌-◌, ◌<◌, ◌≡◌, ◌≤◌, ◌↔◌, IfErr, IfOk, IsOk, List, length, replicate, slice_index, take, ℕ};
 
 use crate::bytes::{read_u16, read_u32, write_u16, write_u32};
 use crate::fat::END_OF_CHAIN;
@@ -182,3 +182,9 @@ impl Header {
         self.mini_fat_count
     }
 }
+
+/// What was written is read again, whatever bytes follow.
+pub fn written_is_read()
+    ensures whole { (h : HeaderValue) → (rest : List ℕ) → FitsHeader h → IsHeader (header_bytes h ++ rest) }
+    ensures read { (h : HeaderValue) → (rest : List ℕ) → FitsHeader h → header_read (header_bytes h ++ rest) ≡ Ok h }
+{}
