@@ -74,7 +74,7 @@ length-runs at [] = refl
 length-runs at (n ∷ ns) =
     omega (arith, length-append (run at n) (runs (at + n) ns), length-run at n, length-runs (at + n) ns, sum_by-cons (λ x. x) n ns)
 
-words_in_range : (at n : ℕ) → at + n ≤ 2 ^ 32 → All IsWord (range_with_len at n)
+pub words_in_range : (at n : ℕ) → at + n ≤ 2 ^ 32 → All IsWord (range_with_len at n)
 words_in_range at n h = λ k d l.
     let m : k < n = omega (arith, length-range_with_len at n) in
     rw get_or-range_with_len (omega arith)
@@ -116,7 +116,7 @@ pub record IsTabled (s : Store) (table : List ℕ) : Type 0 where
   pub next : (k : ℕ) → k < length table → s.next k ≡ get_or table k 0
   pub small : length table ≤ 0xFFFFFFF9
 
-present_in_range : (s : Store) (at n : ℕ) → at + n ≤ s.count → s.count ≤ 0xFFFFFFF9 → All (IsPresent s) (range_with_len at n)
+pub present_in_range : (s : Store) (at n : ℕ) → at + n ≤ s.count → s.count ≤ 0xFFFFFFF9 → All (IsPresent s) (range_with_len at n)
 present_in_range s at n h small = λ k d l.
     let m : k < n = omega (arith, length-range_with_len at n) in
     rw get_or-range_with_len (omega arith, omega arith)
