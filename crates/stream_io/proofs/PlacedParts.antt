@@ -1,5 +1,5 @@
 -- Sectors in a row hold the part of a file that stands there.
-use Rattle.std.proofs.Common.{◌≡◌, ◌<◌, ◌≤◌, ◌+◌, ◌-◌, ◌*◌, ℕ, zero, suc, List, [], ◌∷◌, ◌++◌, length, take, drop, refl, sym, ◌∙◌, ap, arith, append_assoc, append-nil, length-append, length-drop, drop-drop}
+use Rattle.std.proofs.Common.{◌≡◌, ◌≤◌, ◌+◌, ◌-◌, ◌*◌, ℕ, zero, suc, List, [], ◌∷◌, ◌++◌, length, take, drop, refl, sym, ◌∙◌, ap, arith, append_assoc, append-nil, length-append, length-drop, drop-drop}
 use Rattle.std.proofs.lemmas.List.{drop-append-le, take-append-le, take-append-drop, drop_at}
 use Rattle.std.specs.List.{range_with_len}
 use Rattle.cfb_chain.specs.Bytes.{block, sector, joined}
@@ -19,12 +19,12 @@ joined_range file part after start (suc n) h e =
     let within : 512 ≤ length part = omega arith in
     let place : 512 + 512 * start ≡ 512 * (start + 1) = omega arith in
     let first : sector file start ≡ take 512 part =
-      ap (block 512 file) place ∙ block_at 512 file (512 * (start + 1)) (part ++ after) e (omega (arith, length-append part after)) ∙ take-append-le 512 part after within in
+    ap (block 512 file) place ∙ block_at 512 file (512 * (start + 1)) (part ++ after) e (omega (arith, length-append part after)) ∙ take-append-le 512 part after within in
     let behind : drop (512 * (start + 1 + 1)) file ≡ drop 512 part ++ after =
-      let q : 512 * (start + 1 + 1) ≡ 512 * (start + 1) + 512 = omega arith in
-      ap (λ k. drop k file) q ∙ sym (drop-drop 512 (512 * (start + 1)) file) ∙ ap (drop 512) e ∙ drop-append-le 512 part after within in
+    let q : 512 * (start + 1 + 1) ≡ 512 * (start + 1) + 512 = omega arith in
+    ap (λ k. drop k file) q ∙ sym (drop-drop 512 (512 * (start + 1)) file) ∙ ap (drop 512) e ∙ drop-append-le 512 part after within in
     let rest : joined (sector file) (range_with_len (start + 1) n) ≡ drop 512 part =
-      joined_range file (drop 512 part) after (start + 1) n (omega (arith, length-drop 512 part)) behind in
+    joined_range file (drop 512 part) after (start + 1) n (omega (arith, length-drop 512 part)) behind in
     (λ t. first t ++ rest t) ∙ take-append-drop 512 part
 
 -- what stands behind a part
@@ -46,18 +46,18 @@ pub joined_parts : (file header fat directory mini_fat mini_stream : List ℕ) (
     → IsJoined file fat directory mini_fat mini_stream f d m s
 joined_parts file header fat directory mini_fat mini_stream f d m s e h1 h2 h3 h4 h5 =
     let nested : header ++ fat ++ directory ++ mini_fat ++ mini_stream ≡ header ++ (fat ++ (directory ++ (mini_fat ++ mini_stream))) =
-      simp append_assoc in
+    simp append_assoc in
     let long : length file ≡ 512 * (1 + f + d + m + s) =
-      ap length (e ∙ nested) ∙ simp length-append (omega arith) in
+    ap length (e ∙ nested) ∙ simp length-append (omega arith) in
     let at_header : drop 0 file ≡ header ++ (fat ++ (directory ++ (mini_fat ++ mini_stream))) = e ∙ nested in
     let at_fat : drop (512 * (0 + 1)) file ≡ fat ++ (directory ++ (mini_fat ++ mini_stream)) =
-      next_part file header (fat ++ (directory ++ (mini_fat ++ mini_stream))) 0 (512 * (0 + 1)) at_header (omega arith) in
+    next_part file header (fat ++ (directory ++ (mini_fat ++ mini_stream))) 0 (512 * (0 + 1)) at_header (omega arith) in
     let at_directory : drop (512 * (f + 1)) file ≡ directory ++ (mini_fat ++ mini_stream) =
-      next_part file fat (directory ++ (mini_fat ++ mini_stream)) (512 * (0 + 1)) (512 * (f + 1)) at_fat (omega arith) in
+    next_part file fat (directory ++ (mini_fat ++ mini_stream)) (512 * (0 + 1)) (512 * (f + 1)) at_fat (omega arith) in
     let at_mini_fat : drop (512 * (f + d + 1)) file ≡ mini_fat ++ mini_stream =
-      next_part file directory (mini_fat ++ mini_stream) (512 * (f + 1)) (512 * (f + d + 1)) at_directory (omega arith) in
+    next_part file directory (mini_fat ++ mini_stream) (512 * (f + 1)) (512 * (f + d + 1)) at_directory (omega arith) in
     let at_mini_stream : drop (512 * (f + d + m + 1)) file ≡ mini_stream =
-      next_part file mini_fat mini_stream (512 * (f + d + 1)) (512 * (f + d + m + 1)) at_mini_fat (omega arith) in
+    next_part file mini_fat mini_stream (512 * (f + d + 1)) (512 * (f + d + m + 1)) at_mini_fat (omega arith) in
     record {
       size = long;
       fat_bytes = joined_range file fat (directory ++ (mini_fat ++ mini_stream)) 0 f h2 at_fat;

@@ -1,14 +1,14 @@
 -- Tables of sectors as bytes, and the runs that stand in them.
-use Rattle.std.proofs.Common.{◌≡◌, ◌<◌, ◌≤◌, ◌+◌, ◌-◌, ◌*◌, ◌^◌, ℕ, zero, suc, List, [], ◌∷◌, ◌++◌, length, take, drop, get_or, replicate, lit≤, refl, sym, ◌∙◌, ap, subst, arith, length-append, length-drop}
+use Rattle.std.proofs.Common.{◌≡◌, ◌<◌, ◌≤◌, ◌+◌, ◌-◌, ◌*◌, ◌^◌, ℕ, zero, suc, List, [], ◌∷◌, ◌++◌, length, drop, get_or, replicate, lit≤, refl, sym, ◌∙◌, ap, subst, arith, length-append, length-drop}
 use Rattle.std.proofs.Math.Seq.{drop-append-add}
-use Rattle.std.proofs.lemmas.List.{drop-append-le, take-append-le, take_all, drop_at, get_or_append_left, get_or-append-add, length-replicate}
+use Rattle.std.proofs.lemmas.List.{drop-append-le, take-append-le, get_or_append_left, get_or-append-add, length-replicate}
 use Rattle.std.proofs.lemmas.List.Concat.{flat_map-append}
-use Rattle.std.proofs.lemmas.List.Elements.{All-append, All-cons, All-nil, All-replicate, All-tail}
+use Rattle.std.proofs.lemmas.List.Elements.{All-append, All-cons, All-nil, All-tail}
 use Rattle.std.proofs.lemmas.List.FromFn.{length-range_with_len, get_or-range_with_len}
 use Rattle.std.proofs.lemmas.List.Sums.{sum_by-cons}
 use Rattle.std.proofs.lemmas.Nat.{from_le_bytes-to_le_bytes_4}
 use Rattle.std.specs.List.{flat_map, range_with_len, sum, All}
-use Rattle.std.specs.Int.{w32, to_le_bytes, from_le_bytes}
+use Rattle.std.specs.Int.{w32, to_le_bytes}
 use Rattle.cfb_chain.specs.Bytes.{u32_at}
 use Rattle.cfb_chain.specs.Chain.{Store, Leads, IsPresent, IsChain, IsChainOf, AreDistinct, END_OF_CHAIN, FREE_SECTOR}
 use Rattle.stream_io.specs.Image.{run, runs, start, table_bytes}
@@ -53,15 +53,19 @@ u32_at_number (n ∷ ns) (suc k) fits h =
 -- a table takes whole sectors
 pub length-table_bytes : (count : ℕ) (ns : List ℕ) → length ns ≤ 128 * count → length (table_bytes count ns) ≡ 512 * count
 length-table_bytes count ns h =
-    omega (arith, length-numbers_bytes (ns ++ replicate (128 * count - length ns) FREE_SECTOR),
-    length-append ns (replicate (128 * count - length ns) FREE_SECTOR), length-replicate (128 * count - length ns) FREE_SECTOR)
+    omega (
+      arith,
+      length-numbers_bytes (ns ++ replicate (128 * count - length ns) FREE_SECTOR),
+      length-append ns (replicate (128 * count - length ns) FREE_SECTOR),
+      length-replicate (128 * count - length ns) FREE_SECTOR,
+    )
 
 pub table_number : (count : ℕ) (ns : List ℕ) (k : ℕ) → All IsWord ns → k < length ns
     → u32_at (table_bytes count ns) (4 * k) ≡ get_or ns k 0
 table_number count ns k fits h =
     let free : List ℕ = replicate (128 * count - length ns) FREE_SECTOR in
     let front : u32_at (numbers_bytes ns ++ numbers_bytes free) (4 * k) ≡ u32_at (numbers_bytes ns) (4 * k) =
-      u32_at_front (numbers_bytes ns) (numbers_bytes free) (4 * k) (omega (arith, length-numbers_bytes ns)) in
+    u32_at_front (numbers_bytes ns) (numbers_bytes free) (4 * k) (omega (arith, length-numbers_bytes ns)) in
     ap (λ bytes. u32_at bytes (4 * k)) (flat_map-append (to_le_bytes w32) ns free) ∙ front ∙ u32_at_number ns k fits h
 
 -- a run has so many entries
@@ -125,9 +129,9 @@ pub chain_in_table : (s : Store) (table front back : List ℕ) (at n bytes : ℕ
     → length front ≡ at → 0 < n → bytes ≤ s.width * n → IsChain s at bytes (range_with_len at n)
 chain_in_table s table front back at n bytes t e before some enough =
     let long : length table ≡ at + (n + length back) =
-      ap length e ∙ length-append front (run at n ++ back) ∙ omega (arith, length-append (run at n) back, length-run at n) in
+    ap length e ∙ length-append front (run at n ++ back) ∙ omega (arith, length-append (run at n) back, length-run at n) in
     let entries : (k : ℕ) → k < n → s.next (at + k) ≡ get_or (run at n) k 0 =
-      λ k l. t.next (at + k) (omega arith) ∙ ap (λ xs. get_or xs (at + k) 0) e ∙ run_entry front back at n k before l in
+    λ k l. t.next (at + k) (omega arith) ∙ ap (λ xs. get_or xs (at + k) 0) e ∙ run_entry front back at n k before l in
     record {
       linked = leads_run s.next at n entries some;
       present = present_in_range s at n (omega (arith, t.count)) (omega (arith, t.count, t.small));
