@@ -21,6 +21,16 @@ block-take w xs h =
     let z : w - length xs ≡ 0 = omega arith in
     rw z (append-nil (take w xs))
 
+-- a block that lies in the front of bytes
+pub block-append : (w : ℕ) (xs ys : List ℕ) (n : ℕ) → n + w ≤ length xs → block w (xs ++ ys) n ≡ block w xs n
+unfolding block
+block-append w xs ys n h =
+    let a : n ≤ length xs = omega arith in
+    let b : w ≤ length (drop n xs) = omega (arith, length-drop n xs) in
+    let z : w - length (drop n xs) ≡ 0 = omega arith in
+    let c : w - length (drop n xs ++ ys) ≡ 0 = omega (arith, length-append (drop n xs) ys) in
+    rw (drop-append-le n xs ys a, take-append-le w (drop n xs) ys b, z, c) refl
+
 -- blocks in a row, joined
 pub joined_blocks : (w : ℕ) (f : ℕ → List ℕ) (bytes : List ℕ) (at n : ℕ) → length bytes ≡ w * n
     → ((k : ℕ) → k < n → f (at + k) ≡ block w bytes (w * k)) → flat_map f (range_with_len at n) ≡ bytes

@@ -1,3 +1,5 @@
 pub mod Lists
 pub mod Unique
 pub mod ContentsMini
+pub mod ContentsLists
+pub mod ContentsStore
