@@ -1,5 +1,5 @@
 -- Tables of sectors as bytes, and the runs that stand in them.
-use Rattle.std.proofs.Common.{◌≡◌, ◌<◌, ◌≤◌, ◌+◌, ◌-◌, ◌*◌, ◌^◌, ℕ, zero, suc, List, [], ◌∷◌, ◌++◌, length, drop, get_or, replicate, lit≤, refl, sym, ◌∙◌, ap, subst, arith, length-append, length-drop}
+use Rattle.std.proofs.Common.{◌≡◌, append_assoc, ◌<◌, ◌≤◌, ◌+◌, ◌-◌, ◌*◌, ◌^◌, ℕ, zero, suc, List, [], ◌∷◌, ◌++◌, length, drop, get_or, replicate, lit≤, refl, sym, ◌∙◌, ap, subst, arith, length-append, length-drop}
 use Rattle.std.proofs.Math.Seq.{drop-append-add}
 use Rattle.std.proofs.lemmas.List.{drop-append-le, take-append-le, get_or_append_left, get_or-append-add, length-replicate}
 use Rattle.std.proofs.lemmas.List.Concat.{flat_map-append}
@@ -161,3 +161,25 @@ range_distinct at n = λ i j d l m e.
     let a : get_or (range_with_len at n) i d ≡ at + i = get_or-range_with_len at n i d (omega arith) in
     let b : get_or (range_with_len at n) j d ≡ at + j = get_or-range_with_len at n j d (omega arith) in
     omega arith
+
+-- one number of a range, pushed
+pub range_more : (xs : List ℕ) (at end : ℕ) → at < end
+    → (xs ++ at ∷ []) ++ range_with_len (at + 1) (end - (at + 1)) ≡ xs ++ range_with_len at (end - at)
+range_more xs at end h =
+    let e : end - at ≡ suc (end - (at + 1)) = omega arith in
+    rw e (append_assoc xs (at ∷ []) (range_with_len (at + 1) (end - (at + 1))))
+
+free_bytes : (n : ℕ) → numbers_bytes (replicate n FREE_SECTOR) ≡ replicate (4 * n) 255
+free_bytes zero = refl
+free_bytes (suc n) =
+    let e : 4 * suc n ≡ suc (suc (suc (suc (4 * n)))) = omega arith in
+    rw e (ap (λ xs. 255 ∷ 255 ∷ 255 ∷ 255 ∷ xs) (free_bytes n))
+
+-- a table and its free entries, one after another
+pub table_pushed : (count : ℕ) (ns out : List ℕ)
+    → (out ++ numbers_bytes ns) ++ replicate (4 * (128 * count - length ns)) 255 ≡ out ++ table_bytes count ns
+table_pushed count ns out =
+    let free : List ℕ = replicate (128 * count - length ns) FREE_SECTOR in
+    append_assoc out (numbers_bytes ns) (replicate (4 * (128 * count - length ns)) 255)
+    ∙ ap (λ xs. out ++ (numbers_bytes ns ++ xs)) (sym (free_bytes (128 * count - length ns)))
+    ∙ ap (λ xs. out ++ xs) (sym (flat_map-append (to_le_bytes w32) ns free))
