@@ -3,3 +3,4 @@ pub mod Unique
 pub mod ContentsMini
 pub mod ContentsLists
 pub mod ContentsStore
+pub mod ContentsEntries
