@@ -4,3 +4,4 @@ pub mod ContentsMini
 pub mod ContentsLists
 pub mod ContentsStore
 pub mod ContentsEntries
+pub mod ContentsHolds
