@@ -5,3 +5,4 @@ pub mod ContentsLists
 pub mod ContentsStore
 pub mod ContentsEntries
 pub mod ContentsHolds
+pub mod ContentsLinks
