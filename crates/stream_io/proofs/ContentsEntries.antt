@@ -36,7 +36,7 @@ pub record HaveRoom (links : Links) (place at : ℕ) (s : NamedBytes) : Type 0 w
   pub first : at < 2 ^ 32
   pub size : length s.bytes < 2 ^ 32
 
-start-fits : (at n : ℕ) → at < 2 ^ 32 → start at n < 2 ^ 32
+pub start-fits : (at n : ℕ) → at < 2 ^ 32 → start at n < 2 ^ 32
 start-fits at zero h = lit< tt
 start-fits at (suc n) h = h
 

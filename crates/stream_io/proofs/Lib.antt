@@ -6,3 +6,5 @@ pub mod ContentsStore
 pub mod ContentsEntries
 pub mod ContentsHolds
 pub mod ContentsLinks
+pub mod ContentsRoom
+pub mod Contents
