@@ -1,8 +1,13 @@
 pub mod Lists
 pub mod Unique
+pub mod ContentsMini
+pub mod ContentsLists
+pub mod ContentsStore
+pub mod ContentsEntries
+pub mod ContentsHolds
+pub mod ContentsLinks
+pub mod ContentsRoom
+pub mod Contents
 pub mod Tables
 pub mod PlacedParts
 pub mod Placed
-pub mod ContentsLists
-pub mod ContentsStore
-pub mod ContentsMini
