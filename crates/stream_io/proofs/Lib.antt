@@ -11,3 +11,4 @@ pub mod Contents
 pub mod Tables
 pub mod PlacedParts
 pub mod Placed
+pub mod Balanced

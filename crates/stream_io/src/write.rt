@@ -1,12 +1,21 @@
 //! Writing whole compound files.
 
+ghost use Rattle.cfb_directory.specs.Written.{entry_bytes};
 ghost use Rattle.std.specs.Int.{to_le_bytes, w32};
-ghost use Rattle.std.specs.List.{flat_map, range_with_len, sum};
-ghost use Rattle.std.specs.Prelude.{◌≡◌, ◌≤◌, ◌<◌, ◌+◌, ◌*◌, ◌^◌, ◌++◌, OnOk, length, replicate};
-ghost use Rattle.stream_io.specs.Image.{run, runs, table_bytes};
+ghost use Rattle.std.specs.List.{All, flat_map, range_with_len, sum};
+ghost use Rattle.std.specs.Prelude.{◌≡◌, ◌≤◌, ◌<◌, ◌+◌, ◌-◌, ◌*◌, ◌^◌, ◌++◌, ℕ, OnOk, length, map, replicate};
+ghost use Rattle.stream_io.specs.Balanced.{balanced, span_of, top};
+ghost use Rattle.stream_io.specs.Image.{padded, run, runs, start, table_bytes};
+ghost use Rattle.stream_io.specs.Need.{pieces};
+ghost use Rattle.stream_io.specs.View.{named};
+ghost use Rattle.stream_io.specs.Written.{mini_stream_of, minis_of, stream_entries, stream_fields};
 
 use cfb_chain::fat::END_OF_CHAIN;
+use cfb_directory::entries::EntryKind;
+use cfb_directory::name::Name;
+use cfb_directory::write::{EntryFields, write_entry, write_free_entry};
 use std::alloc::AllocError;
+use storage_tree::bytes::Bytes;
 
 /// Adds a number in four bytes, least byte first.
 fn push_number(out: &mut Vec<u8>, n: u32) -> Result<(), AllocError>
@@ -80,5 +89,97 @@ fn push_runs(table: &mut Vec<u32>, at: u32, counts: &[u32]) -> Result<(), AllocE
         push_run(table, next, *count)?;
         next += *count;
     }
+    Ok(())
+}
+
+/// The value of a missing sibling or child.
+const NO_STREAM: u32 = 0xffff_ffff;
+
+/// The entry on top of siblings from one place up to another: that of a place p is p + 1.
+fn top_of(low: u32, high: u32) -> u32
+    requires { high < 2 ^ 31 }
+    ensures { result ≡ top low high }
+{
+    if low < high {
+        low + (high - low) / 2 + 1
+    } else {
+        NO_STREAM
+    }
+}
+
+/// The entries to the left and right of the one at a place, among siblings from one place up to another.
+fn sides(low: u32, high: u32, place: u32) -> (u32, u32)
+    requires above { low ≤ place }
+    requires below { place < high }
+    requires small { high < 2 ^ 31 }
+    ensures left { (depth : ℕ) → high - low ≤ depth → result.0 ≡ top (span_of depth low high place).low place }
+    ensures right { (depth : ℕ) → high - low ≤ depth → result.1 ≡ top (place + 1) (span_of depth low high place).high }
+{
+    let middle = low + (high - low) / 2;
+    if place < middle {
+        sides(low, middle, place)
+    } else if middle < place {
+        sides(middle + 1, high, place)
+    } else {
+        (top_of(low, place), top_of(place + 1, high))
+    }
+}
+
+/// A stream of the root.
+#[derive(Clone, Copy)]
+struct Stream<'a> {
+    name: &'a Name,
+    bytes: &'a Bytes,
+}
+
+/// How many mini sectors so many bytes take.
+fn mini_sectors(len: usize) -> u32
+    requires { len < 4096 }
+    ensures { result ≡ pieces 64 len }
+{
+    (len as u32).div_ceil(64)
+}
+
+/// How many sectors so many bytes take.
+fn sectors(len: usize) -> u32
+    requires { len < 2 ^ 32 }
+    ensures { result ≡ pieces 512 len }
+{
+    len.div_ceil(512) as u32
+}
+
+/// The sector that a run starts in, which is none where it is empty.
+fn start_of(at: u32, count: u32) -> u32
+    ensures { result ≡ start at count }
+{
+    if count == 0 { END_OF_CHAIN } else { at }
+}
+
+/// Adds the entry of the stream at a place among so many siblings, whose bytes start at a mini sector.
+fn push_stream(
+    out: &mut Vec<u8>,
+    count: u32,
+    place: u32,
+    at: u32,
+    stream: &Stream<'_>,
+) -> Result<(), AllocError>
+    requires below { place < count }
+    requires few { count < 2 ^ 31 }
+    requires short { length stream.now.bytes.now < 4096 }
+    ensures { OnOk result (out.new.items ≡ out.old.items ++ entry_bytes stream.now.name.now (stream_fields (balanced count) place at (length stream.now.bytes.now))) }
+{
+    let (left, right) = sides(0, count, place);
+    let size = stream.bytes.len();
+    let fields = EntryFields {
+        kind: EntryKind::Stream,
+        left,
+        right,
+        child: NO_STREAM,
+        class: [0; 16],
+        state: 0,
+        first: start_of(at, mini_sectors(size)),
+        size: size as u32,
+    };
+    write_entry(out, stream.name.as_bytes(), &fields)?;
     Ok(())
 }
