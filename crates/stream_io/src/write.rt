@@ -3,7 +3,7 @@
 ghost use Rattle.cfb_directory.specs.Written.{entry_bytes};
 ghost use Rattle.std.specs.Int.{to_le_bytes, w32};
 ghost use Rattle.std.specs.List.{All, flat_map, range_with_len, sum};
-ghost use Rattle.std.specs.Prelude.{◌≡◌, ◌≤◌, ◌<◌, ◌+◌, ◌-◌, ◌*◌, ◌^◌, ◌++◌, ℕ, OnOk, length, map, replicate};
+ghost use Rattle.std.specs.Prelude.{◌≡◌, ◌≤◌, ◌<◌, ◌+◌, ◌-◌, ◌*◌, ◌^◌, ◌++◌, ℕ, IfOk, OnOk, length, map, replicate};
 ghost use Rattle.stream_io.specs.Balanced.{balanced, span_of, top};
 ghost use Rattle.stream_io.specs.Image.{padded, run, runs, start, table_bytes};
 ghost use Rattle.stream_io.specs.Need.{pieces};
@@ -14,7 +14,7 @@ use cfb_chain::fat::END_OF_CHAIN;
 use cfb_directory::entries::EntryKind;
 use cfb_directory::name::Name;
 use cfb_directory::write::{EntryFields, write_entry, write_free_entry};
-use std::alloc::AllocError;
+use std::alloc::{AllocError, Global};
 use storage_tree::bytes::Bytes;
 
 /// Adds a number in four bytes, least byte first.
@@ -182,4 +182,53 @@ fn push_stream(
     };
     write_entry(out, stream.name.as_bytes(), &fields)?;
     Ok(())
+}
+
+/// Adds the entries of streams, which are all the siblings there are.
+fn push_streams(out: &mut Vec<u8>, streams: &[Stream<'_>]) -> Result<(), AllocError>
+    requires few { length streams.now < 2 ^ 16 }
+    requires short { All (λ s. length s.bytes.now < 4096) streams.now }
+    ensures { OnOk result (out.new.items ≡ out.old.items ++ stream_entries (balanced (length streams.now)) 0 0 (map named streams.now)) }
+{
+    let count = streams.len() as u32;
+    let mut at = 0;
+    for (place, stream) in streams.iter().enumerate() {
+        push_stream(out, count, place as u32, at, stream)?;
+        at += mini_sectors(stream.bytes.len());
+    }
+    Ok(())
+}
+
+/// How many mini sectors each stream takes.
+fn minis(alloc: Global, streams: &[Stream<'_>]) -> Result<Vec<u32>, AllocError>
+    requires { All (λ s. length s.bytes.now < 4096) streams.now }
+    ensures { IfOk result (λ v. v.items ≡ minis_of (map named streams.now)) }
+{
+    let mut counts = Vec::new(alloc);
+    for stream in streams {
+        counts.push(mini_sectors(stream.bytes.len()))?;
+    }
+    Ok(counts)
+}
+
+/// Adds bytes, with zeros up to a whole number of mini sectors.
+fn push_padded(out: &mut Vec<u8>, bytes: &[u8]) -> Result<(), AllocError>
+    ensures { OnOk result (out.new.items ≡ out.old.items ++ padded 64 bytes.now) }
+{
+    out.extend_from_slice(bytes)?;
+    push_equal(out, (64 - bytes.len() % 64) % 64, 0)?;
+    Ok(())
+}
+
+/// The mini stream that holds these streams, each in whole mini sectors, in whole sectors.
+fn mini_stream(alloc: Global, streams: &[Stream<'_>]) -> Result<Vec<u8>, AllocError>
+    ensures { IfOk result (λ v. v.items ≡ mini_stream_of (map named streams.now)) }
+{
+    let mut out = Vec::new(alloc);
+    for stream in streams {
+        push_padded(&mut out, stream.bytes.as_slice())?;
+    }
+    let used = out.len() % 512;
+    push_equal(&mut out, (512 - used) % 512, 0)?;
+    Ok(out)
 }
