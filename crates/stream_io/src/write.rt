@@ -1,21 +1,29 @@
 //! Writing whole compound files.
 
+ghost use Rattle.cfb_chain.specs.Chain.{FAT_SECTOR as FAT_SECTOR_VALUE};
+ghost use Rattle.cfb_chain.specs.Header.{header_bytes};
 ghost use Rattle.cfb_directory.specs.Written.{entry_bytes};
 ghost use Rattle.std.specs.Int.{to_le_bytes, w32};
 ghost use Rattle.std.specs.List.{All, flat_map, range_with_len, sum};
 ghost use Rattle.std.specs.Prelude.{◌≡◌, ◌≤◌, ◌<◌, ◌+◌, ◌-◌, ◌*◌, ◌^◌, ◌++◌, ℕ, IfOk, OnOk, length, map, replicate};
+ghost use Rattle.std.specs.Vec.{vec_len};
 ghost use Rattle.stream_io.specs.Balanced.{balanced, span_of, top};
-ghost use Rattle.stream_io.specs.Image.{padded, run, runs, start, table_bytes};
+ghost use Rattle.stream_io.specs.Image.{image, padded, run, runs, start, table_bytes};
 ghost use Rattle.stream_io.specs.Need.{pieces};
-ghost use Rattle.stream_io.specs.View.{named};
+ghost use Rattle.stream_io.specs.Placed.{Fits};
+ghost use Rattle.stream_io.specs.View.{named, seen};
 ghost use Rattle.stream_io.specs.Written.{mini_stream_of, minis_of, stream_entries, stream_fields};
 
 use cfb_chain::fat::END_OF_CHAIN;
+use cfb_chain::header::Header;
 use cfb_directory::entries::EntryKind;
 use cfb_directory::name::Name;
 use cfb_directory::write::{EntryFields, write_entry, write_free_entry};
 use std::alloc::{AllocError, Global};
 use storage_tree::bytes::Bytes;
+
+/// The value of a sector that holds a part of the FAT.
+const FAT_SECTOR: u32 = 0xffff_fffd;
 
 /// Adds a number in four bytes, least byte first.
 fn push_number(out: &mut Vec<u8>, n: u32) -> Result<(), AllocError>
@@ -148,6 +156,14 @@ fn sectors(len: usize) -> u32
     len.div_ceil(512) as u32
 }
 
+/// How many sectors a table of so many entries takes.
+fn table_sectors(len: usize) -> u32
+    requires { len < 2 ^ 32 }
+    ensures { result ≡ pieces 128 len }
+{
+    len.div_ceil(128) as u32
+}
+
 /// The sector that a run starts in, which is none where it is empty.
 fn start_of(at: u32, count: u32) -> u32
     ensures { result ≡ start at count }
@@ -230,5 +246,79 @@ fn mini_stream(alloc: Global, streams: &[Stream<'_>]) -> Result<Vec<u8>, AllocEr
     }
     let used = out.len() % 512;
     push_equal(&mut out, (512 - used) % 512, 0)?;
+    Ok(out)
+}
+
+/// The parts of a file behind its FAT: the directory and the mini stream, each in whole sectors, and how many mini
+/// sectors each stream takes.
+#[derive(Drop)]
+struct Parts {
+    directory: Vec<u8>,
+    minis: Vec<u32>,
+    mini_stream: Vec<u8>,
+}
+
+/// The FAT: its own sectors, and behind them runs of these lengths.
+fn fat_table(alloc: Global, fat_count: u32, counts: &[u32]) -> Result<Vec<u32>, AllocError>
+    requires { fat_count + sum counts.now < 2 ^ 32 }
+    ensures items { IfOk result (λ v. v.items ≡ replicate fat_count FAT_SECTOR_VALUE ++ runs fat_count counts.now) }
+    ensures len { IfOk result (λ v. vec_len v ≡ fat_count + sum counts.now) }
+{
+    let mut table = Vec::new(alloc);
+    table.resize(fat_count as usize, FAT_SECTOR)?;
+    push_runs(&mut table, fat_count, counts)?;
+    Ok(table)
+}
+
+/// Adds the header of a file with so many sectors of the FAT, the directory and the mini FAT, in this order.
+fn push_header(
+    alloc: Global,
+    out: &mut Vec<u8>,
+    fat_count: u32,
+    directory_count: u32,
+    mini_fat_count: u32,
+) -> Result<(), AllocError>
+    requires few { fat_count ≤ 109 }
+    requires small { directory_count < 2 ^ 16 }
+    ensures { OnOk result (out.new.items ≡ out.old.items ++ header_bytes (record { fat = range_with_len 0 fat_count; first_directory = fat_count; first_mini_fat = start (fat_count + directory_count) mini_fat_count; mini_fat_count = mini_fat_count })) }
+{
+    let mut fat = Vec::new(alloc);
+    push_range(&mut fat, 0, fat_count)?;
+    let first_mini_fat = start_of(fat_count + directory_count, mini_fat_count);
+    match Header::new(&fat, fat_count, first_mini_fat, mini_fat_count) {
+        Ok(header) => out.extend_from_slice(&header.write())?,
+        Err(_) => unreachable!(),
+    }
+    Ok(())
+}
+
+/// The mini FAT of streams that take so many mini sectors each.
+fn mini_table(alloc: Global, minis: &[u32]) -> Result<Vec<u32>, AllocError>
+    requires { sum minis.now < 2 ^ 32 }
+    ensures items { IfOk result (λ v. v.items ≡ runs 0 minis.now) }
+    ensures len { IfOk result (λ v. vec_len v ≡ sum minis.now) }
+{
+    let mut table = Vec::new(alloc);
+    push_runs(&mut table, 0, minis)?;
+    Ok(table)
+}
+
+/// The file of these parts, with so many FAT sectors.
+#[tactic(auto, unfolding(crate::specs::Image::image))]
+fn lay_out(alloc: Global, fat_count: u32, parts: &Parts) -> Result<Vec<u8>, AllocError>
+    requires { Fits fat_count (seen parts.now) }
+    ensures { IfOk result (λ v. v.items ≡ image fat_count (seen parts.now)) }
+{
+    let directory = sectors(parts.directory.len());
+    let minis = mini_table(alloc, &parts.minis)?;
+    let mini_fat = table_sectors(minis.len());
+    let mini_stream = sectors(parts.mini_stream.len());
+    let fat = fat_table(alloc, fat_count, &[directory, mini_fat, mini_stream])?;
+    let mut out = Vec::new(alloc);
+    push_header(alloc, &mut out, fat_count, directory, mini_fat)?;
+    push_table(&mut out, fat_count as usize, &fat)?;
+    out.extend_from_slice(&parts.directory)?;
+    push_table(&mut out, mini_fat as usize, &minis)?;
+    out.extend_from_slice(&parts.mini_stream)?;
     Ok(out)
 }
