@@ -5,14 +5,16 @@ ghost use Rattle.cfb_chain.specs.Header.{header_bytes};
 ghost use Rattle.cfb_directory.specs.Written.{entry_bytes};
 ghost use Rattle.std.specs.Int.{to_le_bytes, w32};
 ghost use Rattle.std.specs.List.{All, flat_map, range_with_len, sum};
-ghost use Rattle.std.specs.Prelude.{◌≡◌, ◌≤◌, ◌<◌, ◌+◌, ◌-◌, ◌*◌, ◌^◌, ◌++◌, ℕ, IfOk, OnOk, length, map, replicate};
+ghost use Rattle.std.specs.Prelude.{◌≡◌, ◌≤◌, ◌<◌, ◌+◌, ◌-◌, ◌*◌, ◌^◌, ◌++◌, ℕ, IfNone, IfOk, IfSome, OnOk, OnSome, length, map, min, replicate, true, false};
 ghost use Rattle.std.specs.Vec.{vec_len};
 ghost use Rattle.stream_io.specs.Balanced.{balanced, span_of, top};
 ghost use Rattle.stream_io.specs.Image.{image, padded, run, runs, start, table_bytes};
-ghost use Rattle.stream_io.specs.Need.{pieces};
+ghost use Rattle.stream_io.specs.Need.{over_streams, pieces, short_pieces};
 ghost use Rattle.stream_io.specs.Placed.{Fits};
+ghost use Rattle.stream_io.specs.Refusals.{has_long, has_storage};
 ghost use Rattle.stream_io.specs.View.{named, seen};
-ghost use Rattle.stream_io.specs.Written.{mini_stream_of, minis_of, stream_entries, stream_fields};
+ghost use Rattle.stream_io.specs.Written.{children_of, mini_stream_of, minis_of, stream_entries, stream_fields, streams};
+ghost use Rattle.storage_tree.specs.View.{view};
 
 use cfb_chain::fat::END_OF_CHAIN;
 use cfb_chain::header::Header;
@@ -21,6 +23,7 @@ use cfb_directory::name::Name;
 use cfb_directory::write::{EntryFields, write_entry, write_free_entry};
 use std::alloc::{AllocError, Global};
 use storage_tree::bytes::Bytes;
+use storage_tree::storage::{Node, Storage};
 
 /// The value of a sector that holds a part of the FAT.
 const FAT_SECTOR: u32 = 0xffff_fffd;
@@ -321,4 +324,55 @@ fn lay_out(alloc: Global, fat_count: u32, parts: &Parts) -> Result<Vec<u8>, Allo
     push_table(&mut out, mini_fat as usize, &minis)?;
     out.extend_from_slice(&parts.mini_stream)?;
     Ok(out)
+}
+
+/// More entries or mini sectors than any file that is written has.
+const MANY: u32 = 0x1_0000;
+
+/// What is known of a root that has streams alone: whether one has 4,096 bytes or more, and how many mini sectors the
+/// others take, or the bound where they take more.
+#[derive(Clone, Copy)]
+struct Survey {
+    long: bool,
+    minis: u32,
+}
+
+/// What decides whether a root is written, if it has no storage.
+fn survey_root(root: &Storage) -> Option<Survey>
+    ensures storage { IfNone result (has_storage (view root.now) ≡ true) }
+    ensures flat { OnSome result (has_storage (view root.now) ≡ false) }
+    ensures long { IfSome result (λ s. s.long ≡ has_long (view root.now)) }
+    ensures minis { IfSome result (λ s. s.minis ≡ min 65536 (over_streams short_pieces (view root.now))) }
+{
+    let mut long = false;
+    let mut minis: u32 = 0;
+    for (_, child) in root.children.iter() {
+        match &child.1 {
+            Node::Storage(_) => return None,
+            Node::Stream(bytes) => {
+                if bytes.len() >= 4096 {
+                    long = true;
+                } else {
+                    minis = (minis + mini_sectors(bytes.len())).min(MANY);
+                }
+            }
+        }
+    }
+    Some(Survey { long, minis })
+}
+
+/// The streams of a root, in name order.
+fn list_streams<'a>(alloc: Global, root: &'a Storage) -> Result<Vec<Stream<'a>>, AllocError>
+    ensures { IfOk result (λ v. map named v.items ≡ streams (children_of (view root.now))) }
+{
+    let mut listed = Vec::new(alloc);
+    for (_, child) in root.children.iter() {
+        if let Node::Stream(bytes) = &child.1 {
+            listed.push(Stream {
+                name: &child.0,
+                bytes,
+            })?;
+        }
+    }
+    Ok(listed)
 }
