@@ -12,3 +12,4 @@ pub mod Tables
 pub mod PlacedParts
 pub mod Placed
 pub mod Balanced
+pub mod Refused
