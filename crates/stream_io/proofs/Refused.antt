@@ -1,9 +1,15 @@
 -- What a root without storages is refused for, by how many children and mini sectors it has.
 use Rattle.std.proofs.Common.{◌≡◌, ◌≤◌, ◌<◌, ◌+◌, ◌*◌, ◌/◌, ◌||◌, min, ℕ, zero, suc, Bool, true, false, nat_le, nat_lt, cond, Result, Ok, Err, List, [], ◌∷◌, length, map, refl, sym, ◌∙◌, ap, arith}
 use Rattle.std.proofs.lemmas.Bool.{leb-false, lt-ltb, le-ltb, ltb-false, or_parts}
+use Rattle.std.proofs.lemmas.List.{length-map}
 use Rattle.std.specs.Prelude.{if◌then◌else◌}
+use Rattle.storage_tree.specs.declared.storage.Storage.{Storage}
+use Rattle.storage_tree.specs.View.{view, children, children_of, shown}
+use Rattle.storage_tree.specs.declared.storage.Node.{Node}
+use Rattle.storage_tree.specs.Change.{Seen, bytes, inner}
+use Rattle.storage_tree.proofs.Entries.{view-out}
 use Rattle.storage_tree.specs.Tree.{Tree, Children, tree, none, stream, storage}
-use Rattle.stream_io.specs.Need.{pieces, entries, over_streams, over_streams_of, short_pieces, long_pieces, mini_sectors, directory_sectors, mini_fat_sectors, mini_stream_sectors, long_sectors, data_sectors, fat_sectors}
+use Rattle.stream_io.specs.Need.{pieces, entries, entries_of, over_streams, over_streams_of, short_pieces, long_pieces, mini_sectors, directory_sectors, mini_fat_sectors, mini_stream_sectors, long_sectors, data_sectors, fat_sectors}
 use Rattle.stream_io.specs.Refusals.{has_long, has_long_in, has_storage, has_storage_in, writable}
 use Rattle.stream_io.specs.declared.fault.WriteFault.{WriteFault}
 use Rattle.stream_io.specs.declared.fault.WriteFault.TheVariants.{TooBig, WrongKind}
@@ -53,3 +59,15 @@ pub allowed_room : (t : Tree) → has_storage t ≡ false → has_long t ≡ fal
 allowed_room t flat short h =
     let few : fat_sectors (needed (entries t) (mini_sectors t)) ≤ 1 = omega arith in
     room_says t flat short ∙ ap (λ b. cond b (Err TooBig) (Ok tt)) (le-ltb 1 (fat_sectors (needed (entries t) (mini_sectors t))) few)
+
+-- each child of a root without storages is one entry
+counted_seen : (xs : List (List ℕ × (List ℕ × Seen))) → has_storage_in (children_of xs) ≡ false → entries_of (children_of xs) ≡ length xs
+counted_seen [] flat = refl
+counted_seen ((k, (n, bytes b)) ∷ xs) flat = omega (arith, counted_seen xs flat)
+counted_seen ((k, (n, inner t)) ∷ xs) flat = absurd (true≢false flat)
+
+entries_counted : (es : List (List ℕ × (List ℕ × Node))) → has_storage_in (children es) ≡ false → entries_of (children es) ≡ length es
+entries_counted es flat = counted_seen (map (λ e. (e.0, shown e.1)) es) flat ∙ length-map es (λ e. (e.0, shown e.1))
+
+pub root_counted : (s : Storage) → has_storage (view s) ≡ false → entries (view s) ≡ length s.children.entries
+root_counted s flat = ap entries (view-out s) ∙ entries_counted s.children.entries (sym (ap has_storage (view-out s)) ∙ flat)

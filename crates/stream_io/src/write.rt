@@ -5,13 +5,13 @@ ghost use Rattle.cfb_chain.specs.Header.{header_bytes};
 ghost use Rattle.cfb_directory.specs.Written.{entry_bytes};
 ghost use Rattle.std.specs.Int.{to_le_bytes, w32};
 ghost use Rattle.std.specs.List.{All, flat_map, range_with_len, sum};
-ghost use Rattle.std.specs.Prelude.{◌≡◌, ◌≤◌, ◌<◌, ◌+◌, ◌-◌, ◌*◌, ◌^◌, ◌++◌, ℕ, IfNone, IfOk, IfSome, OnOk, OnSome, length, map, min, replicate, true, false};
+ghost use Rattle.std.specs.Prelude.{◌≡◌, ◌≤◌, ◌<◌, ◌+◌, ◌-◌, ◌*◌, ◌^◌, ◌++◌, ℕ, Err, IfErr, IfNone, IfOk, IfSome, Ok, OnOk, OnSome, length, map, min, replicate, true, false};
 ghost use Rattle.std.specs.Vec.{vec_len};
 ghost use Rattle.stream_io.specs.Balanced.{balanced, span_of, top};
 ghost use Rattle.stream_io.specs.Image.{image, padded, run, runs, start, table_bytes};
-ghost use Rattle.stream_io.specs.Need.{over_streams, pieces, short_pieces};
+ghost use Rattle.stream_io.specs.Need.{entries, over_streams, pieces, short_pieces};
 ghost use Rattle.stream_io.specs.Placed.{Fits};
-ghost use Rattle.stream_io.specs.Refusals.{has_long, has_storage};
+ghost use Rattle.stream_io.specs.Refusals.{has_long, has_storage, writable};
 ghost use Rattle.stream_io.specs.View.{named, seen};
 ghost use Rattle.stream_io.specs.Written.{children_of, mini_stream_of, minis_of, stream_entries, stream_fields, streams};
 ghost use Rattle.storage_tree.specs.View.{view};
@@ -21,6 +21,7 @@ use cfb_chain::header::Header;
 use cfb_directory::entries::EntryKind;
 use cfb_directory::name::Name;
 use cfb_directory::write::{EntryFields, write_entry, write_free_entry};
+use crate::fault::WriteFault;
 use std::alloc::{AllocError, Global};
 use storage_tree::bytes::Bytes;
 use storage_tree::storage::{Node, Storage};
@@ -375,4 +376,48 @@ fn list_streams<'a>(alloc: Global, root: &'a Storage) -> Result<Vec<Stream<'a>>,
         }
     }
     Ok(listed)
+}
+
+/// How many children a root has, and how many mini sectors they take.
+#[derive(Clone, Copy)]
+struct Counts {
+    children: u32,
+    minis: u32,
+}
+
+/// How many sectors the directory, the mini FAT and the mini stream take.
+fn data_sectors(counts: Counts) -> u32
+    requires few { counts.children ≤ 65536 }
+    requires short { counts.minis ≤ 65536 }
+    ensures { result ≡ pieces 4 (1 + counts.children) + pieces 128 counts.minis + pieces 512 (64 * counts.minis) }
+{
+    (1 + counts.children).div_ceil(4)
+        + counts.minis.div_ceil(128)
+        + (64 * counts.minis).div_ceil(512)
+}
+
+/// How many children a root has that can be written, and how many mini sectors they take.
+///
+/// Refused: `WrongKind` for a storage; then `TooBig` for a stream of 4,096 bytes or more, or for more than one FAT
+/// sector covers.
+fn count(root: &Storage) -> Result<Counts, WriteFault>
+    ensures refused { IfErr result (λ e. writable (view root.now) ≡ Err e) }
+    ensures allowed { OnOk result (writable (view root.now) ≡ Ok tt) }
+    ensures flat { OnOk result (has_storage (view root.now) ≡ false) }
+    ensures short { OnOk result (has_long (view root.now) ≡ false) }
+    ensures children { IfOk result (λ c. c.children ≡ entries (view root.now)) }
+    ensures minis { IfOk result (λ c. c.minis ≡ over_streams short_pieces (view root.now)) }
+    ensures covered { IfOk result (λ c. pieces 4 (1 + c.children) + pieces 128 c.minis + pieces 512 (64 * c.minis) ≤ 127) }
+{
+    let Some(survey) = survey_root(root) else {
+        return Err(WriteFault::WrongKind);
+    };
+    let counts = Counts {
+        children: root.children.len().min(MANY as usize) as u32,
+        minis: survey.minis,
+    };
+    if survey.long || data_sectors(counts) > 127 {
+        return Err(WriteFault::TooBig);
+    }
+    Ok(counts)
 }

@@ -1,0 +1,30 @@
+use Rattle.std.proofs.Common.{rules, arith, ◌≡◌, ◌≤◌, ◌∙◌, ◌+◌, ◌*◌, min, length, ap, sym, false}
+use Rattle.storage_tree.specs.View.{view}
+use Rattle.stream_io.specs.Need.{entries, mini_sectors, pieces}
+use Rattle.stream_io.specs.Refusals.{has_long, has_storage}
+use Rattle.stream_io.proofs.Refused.{allowed_room, root_counted, needed, refused_long, refused_room}
+use Rattle.stream_io.proofs.write.count.Goals as goal
+use Rattle.stream_io.proofs.write.count.Goals.{then-survey-via-then-survey, then-survey-via-else-survey+then-data_sectors-gt127}
+
+pub returns-then-survey-clause-refused : goal.returns-then-survey-clause-refused
+returns-then-survey-clause-refused c =
+    let flat : has_storage (view c.args.root.now) ≡ false = c.in-Some.ensures.flat in
+    let many : c.len.result ≡ entries (view c.args.root.now) = c.len.ensures.len ∙ sym (root_counted c.args.root.now flat) in
+    elim c.then-survey.branch [
+      | then-survey-via-then-survey w ↦ refused_long (view c.args.root.now) flat (sym c.in-Some.ensures.long ∙ w.if-survey.true)
+      | then-survey-via-else-survey+then-data_sectors-gt127 w ↦
+          refused_room (view c.args.root.now) flat (sym c.in-Some.ensures.long ∙ w.if-survey.false)
+          (omega (arith, c.in-Some.ensures.minis))
+    ]
+
+pub returns-clause-allowed : goal.returns-clause-allowed
+returns-clause-allowed c =
+    let flat : has_storage (view c.args.root.now) ≡ false = c.in-Some.ensures.flat in
+    let many : c.len.result ≡ entries (view c.args.root.now) = c.len.ensures.len ∙ sym (root_counted c.args.root.now flat) in
+    allowed_room (view c.args.root.now) flat (sym c.in-Some.ensures.long ∙ c.if-survey.false) (omega (arith, c.in-Some.ensures.minis))
+
+pub returns-clause-children : goal.returns-clause-children
+returns-clause-children c =
+    let flat : has_storage (view c.args.root.now) ≡ false = c.in-Some.ensures.flat in
+    let many : c.len.result ≡ entries (view c.args.root.now) = c.len.ensures.len ∙ sym (root_counted c.args.root.now flat) in
+    omega (arith, c.in-Some.ensures.minis)
