@@ -13,3 +13,4 @@ pub mod PlacedParts
 pub mod Placed
 pub mod Balanced
 pub mod Refused
+pub mod Listed

@@ -31,7 +31,7 @@ no_long (storage k n t cs) flat short = absurd (true≢false flat)
 abbrev pub needed : ℕ → ℕ → ℕ
 needed children minis = pieces 4 (1 + children) + pieces 128 minis + pieces 512 (64 * minis)
 
-data_is : (t : Tree) → has_storage t ≡ false → has_long t ≡ false → data_sectors t ≡ needed (entries t) (mini_sectors t)
+pub data_is : (t : Tree) → has_storage t ≡ false → has_long t ≡ false → data_sectors t ≡ needed (entries t) (mini_sectors t)
 data_is (tree class state cs) flat short = omega (arith, no_long cs flat short)
 
 pub refused_storage : (t : Tree) → has_storage t ≡ true → writable t ≡ Err WrongKind

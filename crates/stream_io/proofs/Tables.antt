@@ -1,13 +1,14 @@
 -- Tables of sectors as bytes, and the runs that stand in them.
-use Rattle.std.proofs.Common.{◌≡◌, append_assoc, ◌<◌, ◌≤◌, ◌+◌, ◌-◌, ◌*◌, ◌^◌, ℕ, zero, suc, List, [], ◌∷◌, ◌++◌, length, drop, get_or, replicate, lit≤, refl, sym, ◌∙◌, ap, subst, arith, length-append, length-drop}
+use Rattle.std.proofs.Common.{◌≡◌, append-nil, append_assoc, ◌<◌, ◌≤◌, ◌+◌, ◌-◌, ◌*◌, ◌^◌, ℕ, zero, suc, List, [], ◌∷◌, ◌++◌, length, drop, get_or, replicate, lit≤, refl, sym, ◌∙◌, ap, subst, arith, length-append, length-drop}
 use Rattle.std.proofs.Math.Seq.{drop-append-add}
 use Rattle.std.proofs.lemmas.List.{drop-append-le, take-append-le, get_or_append_left, get_or-append-add, length-replicate}
-use Rattle.std.proofs.lemmas.List.Concat.{flat_map-append}
+use Rattle.std.proofs.lemmas.Grind.{replicate_next}
+use Rattle.std.proofs.lemmas.List.Concat.{concat_is, flat_map-append}
 use Rattle.std.proofs.lemmas.List.Elements.{All-append, All-cons, All-nil, All-tail}
 use Rattle.std.proofs.lemmas.List.FromFn.{length-range_with_len, get_or-range_with_len}
 use Rattle.std.proofs.lemmas.List.Sums.{sum_by-cons}
 use Rattle.std.proofs.lemmas.Nat.{from_le_bytes-to_le_bytes_4}
-use Rattle.std.specs.List.{flat_map, range_with_len, sum, All}
+use Rattle.std.specs.List.{concat, flat_map, range_with_len, sum, All}
 use Rattle.std.specs.Int.{w32, to_le_bytes}
 use Rattle.cfb_chain.specs.Bytes.{u32_at}
 use Rattle.cfb_chain.specs.Chain.{Store, Leads, IsPresent, IsChain, IsChainOf, AreDistinct, END_OF_CHAIN, FREE_SECTOR}
@@ -183,3 +184,9 @@ table_pushed count ns out =
     append_assoc out (numbers_bytes ns) (replicate (4 * (128 * count - length ns)) 255)
     ∙ ap (λ xs. out ++ (numbers_bytes ns ++ xs)) (sym (free_bytes (128 * count - length ns)))
     ∙ ap (λ xs. out ++ xs) (sym (flat_map-append (to_le_bytes w32) ns free))
+
+-- one more of equal pieces
+pub concat_more : (xs : List ℕ) (n : ℕ) → concat (replicate (n + 1) xs) ≡ concat (replicate n xs) ++ xs
+concat_more xs n =
+    concat_is (replicate (n + 1) xs) ∙ ap (flat_map (λ x. x)) (replicate_next n xs) ∙ flat_map-append (λ x. x) (replicate n xs) (xs ∷ [])
+    ∙ (λ i. sym (concat_is (replicate n xs)) i ++ append-nil xs i)

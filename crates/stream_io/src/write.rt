@@ -2,18 +2,19 @@
 
 ghost use Rattle.cfb_chain.specs.Chain.{FAT_SECTOR as FAT_SECTOR_VALUE};
 ghost use Rattle.cfb_chain.specs.Header.{header_bytes};
-ghost use Rattle.cfb_directory.specs.Written.{entry_bytes};
+ghost use Rattle.cfb_directory.specs.Entries.{root_name};
+ghost use Rattle.cfb_directory.specs.Written.{entry_bytes, free_entry_bytes};
 ghost use Rattle.std.specs.Int.{to_le_bytes, w32};
-ghost use Rattle.std.specs.List.{All, flat_map, range_with_len, sum};
+ghost use Rattle.std.specs.List.{All, concat, flat_map, range_with_len, sum};
 ghost use Rattle.std.specs.Prelude.{◌≡◌, ◌≤◌, ◌<◌, ◌+◌, ◌-◌, ◌*◌, ◌^◌, ◌++◌, ℕ, Err, IfErr, IfNone, IfOk, IfSome, Ok, OnOk, OnSome, length, map, min, replicate, true, false};
 ghost use Rattle.std.specs.Vec.{vec_len};
 ghost use Rattle.stream_io.specs.Balanced.{balanced, span_of, top};
 ghost use Rattle.stream_io.specs.Image.{image, padded, run, runs, start, table_bytes};
-ghost use Rattle.stream_io.specs.Need.{entries, over_streams, pieces, short_pieces};
+ghost use Rattle.stream_io.specs.Need.{over_streams, pieces, short_pieces};
 ghost use Rattle.stream_io.specs.Placed.{Fits};
 ghost use Rattle.stream_io.specs.Refusals.{has_long, has_storage, writable};
-ghost use Rattle.stream_io.specs.View.{named, seen};
-ghost use Rattle.stream_io.specs.Written.{children_of, mini_stream_of, minis_of, stream_entries, stream_fields, streams};
+ghost use Rattle.stream_io.specs.View.{IsCount, named, seen};
+ghost use Rattle.stream_io.specs.Written.{children_of, directory_bytes, mini_stream_of, minis_of, root_fields, stream_entries, stream_fields, streams};
 ghost use Rattle.storage_tree.specs.View.{view};
 
 use cfb_chain::fat::END_OF_CHAIN;
@@ -403,11 +404,7 @@ fn data_sectors(counts: Counts) -> u32
 fn count(root: &Storage) -> Result<Counts, WriteFault>
     ensures refused { IfErr result (λ e. writable (view root.now) ≡ Err e) }
     ensures allowed { OnOk result (writable (view root.now) ≡ Ok tt) }
-    ensures flat { OnOk result (has_storage (view root.now) ≡ false) }
-    ensures short { OnOk result (has_long (view root.now) ≡ false) }
-    ensures children { IfOk result (λ c. c.children ≡ entries (view root.now)) }
-    ensures minis { IfOk result (λ c. c.minis ≡ over_streams short_pieces (view root.now)) }
-    ensures covered { IfOk result (λ c. pieces 4 (1 + c.children) + pieces 128 c.minis + pieces 512 (64 * c.minis) ≤ 127) }
+    ensures counted { IfOk result (λ c. IsCount c (view root.now)) }
 {
     let Some(survey) = survey_root(root) else {
         return Err(WriteFault::WrongKind);
@@ -420,4 +417,61 @@ fn count(root: &Storage) -> Result<Counts, WriteFault>
         return Err(WriteFault::TooBig);
     }
     Ok(counts)
+}
+
+/// Adds the root's entry, behind so many FAT sectors.
+fn push_root(
+    out: &mut Vec<u8>,
+    fat_count: u32,
+    root: &Storage,
+    counts: Counts,
+) -> Result<(), AllocError>
+    requires few { fat_count ≤ 109 }
+    requires counted { IsCount counts (view root.now) }
+    ensures { OnOk result (out.new.items ≡ out.old.items ++ entry_bytes root_name (root_fields fat_count (balanced counts.children) (view root.now))) }
+{
+    let behind = fat_count + (1 + counts.children).div_ceil(4) + counts.minis.div_ceil(128);
+    let fields = EntryFields {
+        kind: EntryKind::Root,
+        left: NO_STREAM,
+        right: NO_STREAM,
+        child: top_of(0, counts.children),
+        class: *root.class.as_bytes(),
+        state: root.state,
+        first: start_of(behind, (64 * counts.minis).div_ceil(512)),
+        size: 64 * counts.minis,
+    };
+    write_entry(out, b"Root Entry", &fields)?;
+    Ok(())
+}
+
+/// Adds so many free entries.
+fn push_free_entries(out: &mut Vec<u8>, count: u32) -> Result<(), AllocError>
+    ensures { OnOk result (out.new.items ≡ out.old.items ++ concat (replicate count free_entry_bytes)) }
+{
+    for _ in 0..count {
+        write_free_entry(out)?;
+    }
+    Ok(())
+}
+
+/// The directory of a root with these streams, behind so many FAT sectors.
+fn directory(
+    alloc: Global,
+    fat_count: u32,
+    root: &Storage,
+    counts: Counts,
+    listed: &[Stream<'_>],
+) -> Result<Vec<u8>, AllocError>
+    requires few { fat_count ≤ 109 }
+    requires counted { IsCount counts (view root.now) }
+    requires listed { map named listed.now ≡ streams (children_of (view root.now)) }
+    ensures { IfOk result (λ v. v.items ≡ directory_bytes fat_count (balanced (length listed.now)) (view root.now)) }
+{
+    let mut out = Vec::new(alloc);
+    push_root(&mut out, fat_count, root, counts)?;
+    push_streams(&mut out, listed)?;
+    let used = 1 + counts.children;
+    push_free_entries(&mut out, 4 * used.div_ceil(4) - used)?;
+    Ok(out)
 }
