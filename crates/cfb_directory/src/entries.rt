@@ -1,12 +1,19 @@
 //! Entries of the directory (MS-CFB 2.6).
 
-ghost use Rattle.cfb_directory.specs.Entries.{AreFree, AreLinked, MayRefuseChildren, MayRefuseLoad, child, entry_at, marked, set_all};
-ghost use Rattle.std.specs.Prelude.{◌≡◌, ◌/◌, ◌∷◌, [], false, replicate, length, IfErr, IfOk, OnErr};
+ghost use Rattle.cfb_directory.specs.Entries.{AreFree, AreLinked, IsFree, MayRefuseChildren, MayRefuseLinked, MayRefuseLoad, child, entry_at, left, marked, right, set_all};
+ghost use Rattle.cfb_directory.specs.Walk.{IsTaken, unmarked};
+ghost use Rattle.cfb_directory.specs.declared.fault.DirFault.TheVariants.{BadEntry};
+ghost use Rattle.std.specs.List.{All};
+ghost use Rattle.std.specs.Prelude.{◌≡◌, ◌<◌, ◌≤◌, ◌*◌, ◌/◌, ◌∷◌, [], false, replicate, length, IfErr, IfOk, OnErr, OnOk};
 
+use crate::bytes::{ENTRY_LEN, entry_bytes, read_u32};
 use crate::fault::DirFault;
 use crate::name::Name;
 use std::alloc::Global;
 use std::marker::Model;
+
+/// The value of a link to nobody.
+pub const NO_STREAM: u32 = 0xffff_ffff;
 
 /// What an entry is.
 #[derive(Debug, Clone, Copy, PartialEq, Eq)]
@@ -54,7 +61,13 @@ impl<'a> Entries<'a> {
         ensures loaded { IfOk result (λ e. e ≡ record { directory = directory.now; used = set_all (replicate (length directory.now / 128) false) (0 ∷ []) }) }
         ensures refused { IfErr result (MayRefuseLoad directory.now) }
     {
-        Err(DirFault::NoMemory)
+        let count = directory.len() / ENTRY_LEN;
+        if count == 0 {
+            return Err(DirFault::BadEntry);
+        }
+        let mut used = vec![in alloc; false; count]?;
+        used[0] = true;
+        Ok(Entries { directory, used })
     }
 
     /// The children of an entry: just those that links reach from its child, which it marks. A refusal marks none.
@@ -67,6 +80,95 @@ impl<'a> Entries<'a> {
         ensures refused { IfErr result (MayRefuseChildren self.old id) }
         ensures kept { OnErr result (self.new ≡ self.old) }
     {
-        Err(DirFault::NoMemory)
+        let top = self.child(id)?;
+        let mut found = Vec::new(alloc);
+        match self.walk(alloc, top, &mut found) {
+            Ok(()) => Ok(found),
+            Err(fault) => {
+                self.unmark(found);
+                Err(fault)
+            }
+        }
+    }
+
+    /// Finds and marks what links reach from an entry, a parent before what it links to. A refusal leaves those that were
+    /// found marked.
+    fn walk(&mut self, alloc: Global, top: u32, found: &mut Vec<u32>) -> Result<(), DirFault>
+        requires { found.old.items ≡ [] }
+        ensures linked { OnOk result (AreLinked self.old.directory top found.new.items) }
+        ensures free { AreFree self.old found.new.items }
+        ensures marks { self.new ≡ marked self.old found.new.items }
+        ensures refused { IfErr result (MayRefuseLinked self.old top) }
+    {
+        let mut waiting = Vec::new(alloc);
+        waiting.push(top)?;
+        while let Some(id) = waiting.pop() {
+            if id == NO_STREAM {
+                continue;
+            }
+            match self.check(id) {
+                Ok(()) => {}
+                Err(fault) => return Err(fault),
+            }
+            found.push(id)?;
+            self.mark(id);
+            let (left, right) = self.links(id);
+            waiting.push(right)?;
+            waiting.push(left)?;
+        }
+        Ok(())
+    }
+
+    /// Takes marks back, the last one first.
+    fn unmark(&mut self, mut found: Vec<u32>)
+        requires { All (λ n. n < length self.old.used) found.items }
+        ensures { self.new ≡ unmarked self.old found.items }
+    {
+        while let Some(id) = found.pop() {
+            self.used[id as usize] = false;
+        }
+    }
+
+    /// The child of an entry.
+    fn child(&self, id: u32) -> Result<u32, DirFault>
+        ensures read { IfOk result (λ top. (128 * id < length self.now.directory) × (top ≡ child (entry_at self.now.directory id))) }
+        ensures refused { IfErr result (λ e. (length self.now.directory ≤ 128 * id) × (e ≡ BadEntry)) }
+    {
+        if self.directory.len() <= ENTRY_LEN * id as usize {
+            return Err(DirFault::BadEntry);
+        }
+        Ok(read_u32(&entry_bytes(self.directory, id), 76))
+    }
+
+    /// The left and right link of an entry.
+    fn links(&self, id: u32) -> (u32, u32)
+        requires { 128 * id < length self.now.directory }
+        ensures left { result.0 ≡ left (entry_at self.now.directory id) }
+        ensures right { result.1 ≡ right (entry_at self.now.directory id) }
+    {
+        let entry = entry_bytes(self.directory, id);
+        (read_u32(&entry, 68), read_u32(&entry, 72))
+    }
+
+    /// Refuses an entry that isn't there, or is marked.
+    fn check(&self, id: u32) -> Result<(), DirFault>
+        ensures free { OnOk result (IsFree self.now id) }
+        ensures refused { IfErr result (IsTaken self.now id) }
+    {
+        if self.directory.len() <= ENTRY_LEN * id as usize {
+            return Err(DirFault::BadEntry);
+        }
+        match self.used.get(id as usize) {
+            Some(false) => Ok(()),
+            _ => Err(DirFault::TreeCycle),
+        }
+    }
+
+    /// Marks an entry that is there and isn't marked.
+    fn mark(&mut self, id: u32)
+        requires { IsFree self.old id }
+        ensures { self.new ≡ marked self.old (id ∷ []) }
+    {
+        self.used[id as usize] = true;
     }
 }
