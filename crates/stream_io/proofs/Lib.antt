@@ -7,4 +7,5 @@ pub mod ContentsEntries
 pub mod ContentsHolds
 pub mod ContentsLinks
 pub mod ContentsRoom
-pub mod Contents
+pub mod ContentsDenoted
+pub mod ContentsWalk

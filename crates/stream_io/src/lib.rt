@@ -1,5 +1,6 @@
 //! Whole compound files.
 #![tactic(auto)]
 
+pub mod contents;
 pub mod fault;
 pub mod law;
