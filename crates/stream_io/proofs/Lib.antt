@@ -9,3 +9,4 @@ pub mod ContentsLinks
 pub mod ContentsRoom
 pub mod ContentsDenoted
 pub mod ContentsWalk
+pub mod ContentsWritable

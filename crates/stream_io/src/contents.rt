@@ -1,8 +1,8 @@
 //! What is written of the streams below a root (MS-CFB 2.4, 2.6).
 
-ghost use Rattle.std.specs.Prelude.{◌≡◌, ◌≤◌, ◌<◌, ◌⊎◌, true, false, length, IfSome, MatchOption};
+ghost use Rattle.std.specs.Prelude.{◌≡◌, ◌≤◌, ◌<◌, ◌⊎◌, true, false, length, ◌+◌, ◌*◌, ◌↔◌, IsTrue, IfSome, MatchOption};
 ghost use Rattle.storage_tree.specs.View.{view};
-ghost use Rattle.stream_io.specs.Need.{mini_sectors, pieces};
+ghost use Rattle.stream_io.specs.Need.{fat_sectors, mini_sectors, pieces};
 ghost use Rattle.stream_io.specs.Refusals.{has_long, has_storage, writable};
 
 use crate::fault::WriteFault;
@@ -55,4 +55,34 @@ fn mini_room(root: &Storage) -> Option<usize>
         }
     }
     Some(minis)
+}
+
+/// Whether so many entries below the root and so many mini sectors, with the root's entry, lie in sectors that one FAT
+/// sector covers beside itself.
+fn is_covered(entries: usize, minis: usize) -> bool
+    requires { minis ≤ 16256 }
+    ensures { IsTrue result ↔ (fat_sectors (pieces 4 (1 + entries) + pieces 128 minis + pieces 512 (64 * minis)) ≤ 1) }
+{
+    entries < 508 && (entries + 1).div_ceil(4) + minis.div_ceil(128) + minis.div_ceil(8) <= 127
+}
+
+/// Tests whether a tree is written.
+///
+/// Refused: `WrongKind` where a storage stands below the root, then `TooBig` where a stream has 4,096 bytes or more or
+/// the tree needs more than one FAT sector.
+pub fn check_writable(root: &Storage) -> Result<(), WriteFault>
+    ensures { result ≡ writable (view root.now) }
+{
+    if holds_storage(root) {
+        return Err(WriteFault::WrongKind);
+    }
+    match mini_room(root) {
+        None => Err(WriteFault::TooBig),
+        Some(minis) => {
+            if !is_covered(root.children.len(), minis) {
+                return Err(WriteFault::TooBig);
+            }
+            Ok(())
+        }
+    }
 }
