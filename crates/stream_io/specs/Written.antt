@@ -19,6 +19,10 @@ streams none = []
 streams (stream k n b cs) = record { name = n; bytes = b } ∷ streams cs
 streams (storage k n t cs) = streams cs
 
+-- the streams below a root
+abbrev pub root_streams : Tree → List NamedBytes
+root_streams (tree class state cs) = streams cs
+
 -- how many mini sectors each stream takes
 abbrev pub minis_of : List NamedBytes → List ℕ
 minis_of ss = map (λ s. pieces 64 (length s.bytes)) ss
@@ -65,18 +69,15 @@ root_fields f links (tree class state cs) = record {
   size = 64 * mini_sectors (tree class state cs);
 }
 
-abbrev pub children_of : Tree → Children
-children_of (tree class state cs) = cs
-
 -- the root, its streams, and free entries up to a whole sector
 abbrev pub directory_bytes : ℕ → Links → Tree → List ℕ
 directory_bytes f links t = entry_bytes root_name (root_fields f links t)
-    ++ stream_entries links 0 0 (streams (children_of t))
+    ++ stream_entries links 0 0 (root_streams t)
     ++ concat (replicate (4 * directory_sectors t - (1 + entries t)) free_entry_bytes)
 
 abbrev pub parts : ℕ → Links → Tree → Parts
 parts f links t = record {
   directory = directory_bytes f links t;
-  minis = minis_of (streams (children_of t));
-  mini_stream = mini_stream_of (streams (children_of t));
+  minis = minis_of (root_streams t);
+  mini_stream = mini_stream_of (root_streams t);
 }

@@ -1,11 +1,15 @@
 //! What is written of the streams below a root (MS-CFB 2.4, 2.6).
 
-ghost use Rattle.std.specs.Prelude.{◌≡◌, ◌≤◌, ◌<◌, ◌⊎◌, true, false, length, ◌+◌, ◌*◌, ◌↔◌, IsTrue, IfSome, MatchOption};
+ghost use Rattle.std.specs.Prelude.{◌≡◌, ◌≤◌, ◌<◌, ◌⊎◌, true, false, length, replicate, OnOk, ◌++◌, ◌+◌, ◌*◌, ◌↔◌, IsTrue, IfSome, MatchOption};
+ghost use Rattle.std.specs.List.{flat_map};
 ghost use Rattle.storage_tree.specs.View.{view};
 ghost use Rattle.stream_io.specs.Need.{fat_sectors, mini_sectors, pieces};
 ghost use Rattle.stream_io.specs.Refusals.{has_long, has_storage, writable};
+ghost use Rattle.stream_io.specs.Image.{padded};
+ghost use Rattle.stream_io.specs.Written.{mini_stream_of, minis_of, root_streams};
 
 use crate::fault::WriteFault;
+use std::alloc::AllocError;
 use storage_tree::bytes::Bytes;
 use storage_tree::storage::{Node, Storage};
 
@@ -85,4 +89,66 @@ pub fn check_writable(root: &Storage) -> Result<(), WriteFault>
             Ok(())
         }
     }
+}
+
+/// Adds zero bytes.
+fn push_zeros(out: &mut Vec<u8>, count: usize) -> Result<(), AllocError>
+    requires { count < 512 }
+    ensures { OnOk result (out.new.items ≡ out.old.items ++ replicate count 0) }
+{
+    let len = out.len() + count;
+    out.resize(len, 0)?;
+    Ok(())
+}
+
+/// Adds the bytes of a short stream, with zeros up to whole mini sectors.
+fn push_padded(out: &mut Vec<u8>, bytes: &Bytes) -> Result<(), AllocError>
+    requires { length bytes.now < 4096 }
+    ensures { OnOk result (out.new.items ≡ out.old.items ++ padded 64 bytes.now) }
+{
+    out.extend_from_slice(bytes.as_slice())?;
+    push_zeros(out, 64 * minis_for(bytes) - bytes.len())?;
+    Ok(())
+}
+
+/// Adds how many mini sectors each stream below a root takes, in name order.
+///
+/// Where no memory is left, some may have been added.
+pub fn push_mini_counts(counts: &mut Vec<u32>, root: &Storage) -> Result<(), AllocError>
+    requires { has_long (view root.now) ≡ false }
+    ensures { OnOk result (counts.new.items ≡ counts.old.items ++ minis_of (root_streams (view root.now))) }
+{
+    for (_, child) in root.children.iter() {
+        if let Node::Stream(bytes) = &child.1 {
+            counts.push(minis_for(bytes) as u32)?;
+        }
+    }
+    Ok(())
+}
+
+/// Adds the streams below a root in name order, each with zeros up to whole mini sectors.
+fn push_streams(out: &mut Vec<u8>, root: &Storage) -> Result<(), AllocError>
+    requires { has_long (view root.now) ≡ false }
+    ensures { OnOk result (out.new.items ≡ out.old.items ++ flat_map (λ s. padded 64 s.bytes) (root_streams (view root.now))) }
+{
+    for (_, child) in root.children.iter() {
+        if let Node::Stream(bytes) = &child.1 {
+            push_padded(out, bytes)?;
+        }
+    }
+    Ok(())
+}
+
+/// Adds the mini stream of a root: its streams in name order, each in whole mini sectors, all in whole sectors.
+///
+/// Where no memory is left, a part of it may have been added.
+pub fn push_mini_stream(out: &mut Vec<u8>, root: &Storage) -> Result<(), AllocError>
+    requires { has_long (view root.now) ≡ false }
+    ensures { OnOk result (out.new.items ≡ out.old.items ++ mini_stream_of (root_streams (view root.now))) }
+{
+    let before = out.len();
+    push_streams(out, root)?;
+    let written = out.len() - before;
+    push_zeros(out, 512 * written.div_ceil(512) - written)?;
+    Ok(())
 }
