@@ -3,3 +3,4 @@ pub mod Keys
 pub mod Linked
 pub mod Marks
 pub mod Walk
+pub mod Reading
