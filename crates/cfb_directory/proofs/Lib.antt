@@ -4,3 +4,4 @@ pub mod Linked
 pub mod Marks
 pub mod Walk
 pub mod Reading
+pub mod Marked

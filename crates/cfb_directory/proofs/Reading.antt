@@ -29,6 +29,13 @@ list_any-contained p (x ∷ xs) h =
           (r.0, (suc r.1.0, omega (arith, r.1.1), r.1.2), r.2)
     ]
 
+pub list_any-at : (p : ℕ → Bool) (xs : List ℕ) (c : ℕ) → Contains xs c → p c ≡ true → list_any p xs ≡ true
+list_any-at p [] c (k, lt, is) h = absurd (omega arith)
+list_any-at p (x ∷ xs) c (zero, lt, is) h = ap (λ b. b || list_any p xs) (ap p is ∙ h)
+list_any-at p (x ∷ xs) c (suc k, lt, is) h =
+    let rest : list_any p xs ≡ true = list_any-at p xs c (k, omega arith, is) h in
+    elim (cases_Bool (p x)) [ inl t ↦ ap (λ b. b || list_any p xs) t | inr f ↦ ap (λ b. b || list_any p xs) f ∙ rest ]
+
 pub name_read-ok : (bytes : List ℕ) (P : List ℕ → Type 0) → P bytes → IfOk (name_read bytes) P
 name_read-ok bytes P h =
     let Q : Result (List ℕ) DirFault → Type 0 = λ r. IfOk r P in
