@@ -5,3 +5,4 @@ pub mod Marks
 pub mod Walk
 pub mod Reading
 pub mod Marked
+pub mod Trees
