@@ -3,3 +3,6 @@ pub mod Keys
 pub mod Linked
 pub mod Marks
 pub mod Walk
+pub mod Reading
+pub mod Marked
+pub mod Trees

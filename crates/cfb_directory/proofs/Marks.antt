@@ -42,7 +42,7 @@ pub set_all-append : (used : List Bool) (ms ns : List ℕ) → set_all used (ms 
 set_all-append used [] ns = refl
 set_all-append used (m ∷ ms) ns = set_all-append (set used m true) ms ns
 
-set_all-stays : (used : List Bool) (ns : List ℕ) (n : ℕ) → get_or used n true ≡ true → get_or (set_all used ns) n true ≡ true
+pub set_all-stays : (used : List Bool) (ns : List ℕ) (n : ℕ) → get_or used n true ≡ true → get_or (set_all used ns) n true ≡ true
 set_all-stays used [] n h = h
 set_all-stays used (m ∷ ns) n h = set_all-stays (set used m true) ns n (set_true used m n (inr h))
 
@@ -130,7 +130,7 @@ marked-push e s ids id h =
     ap (λ v. marked v (id ∷ [])) h ∙ (λ t. record { directory = e.directory; used = used t })
 
 -- what was marked is among the marks, and can be taken back
-free_below : (used : List Bool) (n : ℕ) → get_or used n true ≡ false → n < length used
+pub free_below : (used : List Bool) (n : ℕ) → get_or used n true ≡ false → n < length used
 free_below [] n h = absurd (cc h)
 free_below (b ∷ bs) zero h = omega arith
 free_below (b ∷ bs) (suc n) h = omega (arith, free_below bs n h)

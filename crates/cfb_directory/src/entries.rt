@@ -1,14 +1,14 @@
 //! Entries of the directory (MS-CFB 2.6).
 
-ghost use Rattle.cfb_directory.specs.Entries.{AreFree, AreLinked, IsFree, MayRefuseChildren, MayRefuseLinked, MayRefuseLoad, child, entry_at, left, marked, right, set_all};
-ghost use Rattle.cfb_directory.specs.Walk.{IsTaken, unmarked};
+ghost use Rattle.cfb_directory.specs.Entries.{AreFree, AreLinked, IsEntry, IsFree, IsKindOf, IsNamed, MayRefuseChildren, MayRefuseEntry, MayRefuseLinked, MayRefuseLoad, child, class_of, entry_at, kind_number, left, marked, right, set_all};
+ghost use Rattle.cfb_directory.specs.Walk.{IsTaken, MayRefuseName, unmarked};
 ghost use Rattle.cfb_directory.specs.declared.fault.DirFault.TheVariants.{BadEntry};
 ghost use Rattle.std.specs.List.{All};
 ghost use Rattle.std.specs.Prelude.{◌≡◌, ◌<◌, ◌≤◌, ◌*◌, ◌/◌, ◌∷◌, [], false, replicate, length, IfErr, IfOk, OnErr, OnOk};
 
-use crate::bytes::{ENTRY_LEN, entry_bytes, read_u32};
+use crate::bytes::{ENTRY_LEN, entry_bytes, read_u16, read_u32};
 use crate::fault::DirFault;
-use crate::name::Name;
+use crate::name::{LONGEST, Name};
 use std::alloc::Global;
 use std::marker::Model;
 
@@ -42,6 +42,57 @@ pub struct Entries<'a> {
     used: Vec<bool>,
 }
 
+/// The kind of an entry: entry 0 is the root, and all others are storages and streams.
+fn kind_of(id: u32, kind: u8) -> Result<EntryKind, DirFault>
+    ensures held { IfOk result (λ k. kind_number k ≡ kind) }
+    ensures allowed { IfOk result (λ k. IsKindOf id kind) }
+    ensures refused { IfErr result (λ e. (e ≡ BadEntry) × (IsKindOf id kind → ⊥)) }
+{
+    match (id, kind) {
+        (0, 5) => Ok(EntryKind::Root),
+        (0, _) => Err(DirFault::BadEntry),
+        (_, 1) => Ok(EntryKind::Storage),
+        (_, 2) => Ok(EntryKind::Stream),
+        _ => Err(DirFault::BadEntry),
+    }
+}
+
+/// The class id of an entry.
+fn class_of(entry: &[u8; 128]) -> [u8; 16]
+    ensures { result ≡ class_of entry.now }
+{
+    let mut class = [0; 16];
+    class.copy_from_slice(&entry[80..96]);
+    class
+}
+
+/// The name of an entry.
+fn read_name(entry: &[u8; 128]) -> Result<Name, DirFault>
+    ensures read { IfOk result (IsNamed entry.now) }
+    ensures refused { IfErr result (MayRefuseName entry.now) }
+{
+    let len = read_u16(entry, 64);
+    if len < 4 {
+        return Err(DirFault::NameEmpty);
+    }
+    if len > 64 {
+        return Err(DirFault::NameTooLong);
+    }
+    if len % 2 != 0 {
+        return Err(DirFault::BadEntry);
+    }
+    let mut units = [0; LONGEST];
+    let count = len as usize / 2 - 1;
+    for k in 0..count {
+        let unit = read_u16(entry, 2 * k);
+        if unit > 127 {
+            return Err(DirFault::NameNotAscii);
+        }
+        units[k] = unit as u8;
+    }
+    Name::new(&units[..count])
+}
+
 impl<'a> Model for Entries<'a> {
     ghost use Rattle.std.specs.Prelude.{◌≡◌, ◌/◌, length};
     ghost use Rattle.cfb_directory.specs.Entries.{EntriesValue};
@@ -68,6 +119,39 @@ impl<'a> Entries<'a> {
         let mut used = vec![in alloc; false; count]?;
         used[0] = true;
         Ok(Entries { directory, used })
+    }
+
+    /// What an entry says. The root is named `Root Entry`, whatever stands in the file.
+    ///
+    /// Refused: `BadEntry` for an id outside the directory, for an entry 0 that isn't a root, for another entry that is
+    /// neither a storage nor a stream, and for an odd length of its name; what `Name::new` refuses for its name, whose
+    /// length with the closing zero is from 4 to 64 bytes (MS-CFB 2.6.1).
+    pub fn entry(&self, id: u32) -> Result<Entry, DirFault>
+        ensures read { IfOk result (IsEntry self.now.directory id) }
+        ensures refused { IfErr result (MayRefuseEntry self.now.directory id) }
+    {
+        if self.directory.len() <= ENTRY_LEN * id as usize {
+            return Err(DirFault::BadEntry);
+        }
+        let entry = entry_bytes(self.directory, id);
+        let kind = kind_of(id, entry[66])?;
+        let name = if id == 0 {
+            Name::root()
+        } else {
+            match read_name(&entry) {
+                Ok(name) => name,
+                Err(fault) => return Err(fault),
+            }
+        };
+        Ok(Entry {
+            name,
+            kind,
+            class: class_of(&entry),
+            state: read_u32(&entry, 96),
+            child: read_u32(&entry, 76),
+            first: read_u32(&entry, 116),
+            size: read_u32(&entry, 120),
+        })
     }
 
     /// The children of an entry: just those that links reach from its child, which it marks. A refusal marks none.

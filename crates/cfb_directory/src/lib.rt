@@ -4,5 +4,6 @@
 mod bytes;
 pub mod entries;
 pub mod fault;
+pub mod links;
 pub mod name;
 pub mod write;
