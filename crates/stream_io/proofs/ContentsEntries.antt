@@ -4,13 +4,12 @@ use Rattle.std.proofs.lemmas.List.{drop_at, take_at, length-replicate}
 use Rattle.std.specs.List.{flat_map, range_with_len, sum}
 use Rattle.cfb_chain.specs.Bytes.{block}
 use Rattle.cfb_directory.specs.Entries.{entry_at, kind, left, right, child, class_of, state_of, first_of, size_of, name_of, IsNamed, NO_STREAM}
-use Rattle.cfb_directory.specs.declared.links.Links.{Links}
 use Rattle.cfb_directory.specs.Written.{entry_bytes}
 use Rattle.cfb_directory.specs.declared.write.EntryFields.{EntryFields}
 use Rattle.cfb_directory.proofs.Fields.{length-entry_bytes, kind-entry_bytes, left-entry_bytes, right-entry_bytes, first_of-entry_bytes, size_of-entry_bytes, is_named-entry_bytes}
 use Rattle.stream_io.specs.Need.{pieces}
 use Rattle.stream_io.specs.Image.{start}
-use Rattle.stream_io.specs.Written.{NamedBytes, left_id, right_id, stream_fields, stream_entries, minis_of}
+use Rattle.stream_io.specs.Written.{NamedBytes, Links, stream_fields, stream_entries, minis_of}
 use Rattle.stream_io.proofs.ContentsMini.{block-drop, block-take}
 
 -- the entry at a place of the directory that begins with these bytes
@@ -24,16 +23,16 @@ entry-begins directory entry rest id wide e =
 pub record IsStreamEntry (links : Links) (place at : ℕ) (s : NamedBytes) (entry : List ℕ) : Type 0 where
   pub held : kind entry ≡ 2
   pub named : IsNamed entry s.name
-  pub to_left : left entry ≡ left_id links place
-  pub to_right : right entry ≡ right_id links place
+  pub to_left : left entry ≡ links.left place
+  pub to_right : right entry ≡ links.right place
   pub first : first_of entry ≡ start at (pieces 64 (length s.bytes))
   pub size : size_of entry ≡ length s.bytes
 
 -- numbers that an entry has room for
 pub record HaveRoom (links : Links) (place at : ℕ) (s : NamedBytes) : Type 0 where
   pub short : length s.name ≤ 31
-  pub to_left : left_id links place < 2 ^ 32
-  pub to_right : right_id links place < 2 ^ 32
+  pub to_left : links.left place < 2 ^ 32
+  pub to_right : links.right place < 2 ^ 32
   pub first : at < 2 ^ 32
   pub size : length s.bytes < 2 ^ 32
 

@@ -7,7 +7,6 @@ use Rattle.std.specs.List.Sorted.{IsStrictlySortedBy}
 use Rattle.std.specs.declared.cmp.Ordering.TheVariants.{Less}
 use Rattle.cfb_chain.specs.Bytes.{joined}
 use Rattle.cfb_chain.specs.Chain.{Store, IsChainOf}
-use Rattle.cfb_directory.specs.declared.links.Links.{Links}
 use Rattle.cfb_directory.specs.Names.{key, key_cmp}
 use Rattle.cfb_directory.specs.Entries.{entry_at, kind, first_of, size_of, name_of}
 use Rattle.storage_tree.specs.Tree.{Tree, Children, tree, none, stream, storage, keys}
@@ -16,7 +15,7 @@ use Rattle.stream_io.specs.Need.{pieces}
 use Rattle.stream_io.specs.Image.{start}
 use Rattle.stream_io.specs.Refusals.{has_storage_in, has_long_in}
 use Rattle.stream_io.specs.Denotes.{Layout, directory_of, minis, sectors, entry, store_for, HoldsBytes, IsCalled, HoldsEach, Used, nothing, both, taken}
-use Rattle.stream_io.specs.Written.{NamedBytes, streams, minis_of}
+use Rattle.stream_io.specs.Written.{NamedBytes, Links, streams, minis_of}
 use Rattle.stream_io.proofs.ContentsMini.{mini_chain, mini_content}
 use Rattle.stream_io.proofs.ContentsStore.{AreAt, IsStore, are-lies, are-step, sum-cons}
 use Rattle.stream_io.proofs.ContentsEntries.{AreRead, IsStreamEntry}

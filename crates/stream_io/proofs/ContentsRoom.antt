@@ -1,5 +1,5 @@
 -- The numbers of a tree whose streams all lie below its root: how many entries and mini sectors, and that they fit.
-use Rattle.std.proofs.Common.{◌≡◌, ◌<◌, ◌≤◌, ◌+◌, ◌-◌, ◌*◌, ◌/◌, ◌^◌, ◌⊎◌, inl, inr, ℕ, zero, suc, Bool, true, false, nat_eq, nat_lt, nat_le, slice_index, ◌||◌, List, [], ◌∷◌, ◌++◌, length, map, replicate, refl, sym, ◌∙◌, ap, subst, arith, length-append, lit<}
+use Rattle.std.proofs.Common.{◌≡◌, ◌<◌, ◌≤◌, ◌+◌, ◌-◌, ◌*◌, ◌/◌, ◌^◌, ◌⊎◌, inl, inr, ℕ, zero, suc, Bool, true, false, nat_lt, nat_le, ◌||◌, List, [], ◌∷◌, ◌++◌, length, map, replicate, refl, sym, ◌∙◌, ap, subst, arith, length-append, lit<}
 use Rattle.std.proofs.lemmas.Bool.{leb-false, lt-ltb, or_parts, cases_order}
 use Rattle.std.specs.Prelude.{if◌then◌else◌}
 use Rattle.std.specs.List.{concat, sum}
@@ -10,11 +10,10 @@ use Rattle.storage_tree.specs.Tree.{Tree, Children, tree, none, stream, storage}
 use Rattle.storage_tree.specs.Whole.{AreTrees}
 use Rattle.stream_io.specs.Need.{pieces, entries_of, over_streams_of, short_pieces}
 use Rattle.stream_io.specs.Refusals.{has_storage_in, has_long_in}
-use Rattle.stream_io.specs.Written.{NamedBytes, child_id, left_id, right_id, streams, minis_of}
+use Rattle.stream_io.specs.Written.{NamedBytes, Links, streams, minis_of}
 use Rattle.stream_io.proofs.ContentsStore.{sum-cons}
 use Rattle.stream_io.proofs.ContentsEntries.{AllHaveRoom, HaveRoom}
-use Rattle.cfb_directory.specs.SearchTree.{IsSearchTree, empty, node, middle, link_to}
-use Rattle.cfb_directory.specs.declared.links.Links.{Links}
+use Rattle.stream_io.proofs.ContentsLinks.{Spans, empty, split}
 
 true≢false : true ≡ false → ⊥
 true≢false e = cc
@@ -40,31 +39,24 @@ length-free (suc n) = omega (arith, length-append free_entry_bytes (concat (repl
 
 -- links name entries or nobody
 pub record LinkFits (links : Links) (place : ℕ) : Type 0 where
-  pub to_left : left_id links place < 2 ^ 32
-  pub to_right : right_id links place < 2 ^ 32
+  pub to_left : links.left place < 2 ^ 32
+  pub to_right : links.right place < 2 ^ 32
 
-link-fits : (place : ℕ) → place + 1 < 2 ^ 32 → link_to child_id place < 2 ^ 32
-link-fits place small = elim (nat_eq place NO_STREAM) as (λ b. (if b then NO_STREAM else place + 1) < 2 ^ 32) [ true ↦ lit< tt | false ↦ small ]
+pub top-fits : (links : Links) (lo hi id : ℕ) → Spans links lo hi id → hi + 1 < 2 ^ 32 → id < 2 ^ 32
+top-fits links lo hi id (empty lo') small = lit< tt
+top-fits links lo hi id (split lo' place hi' above below before after) small = omega arith
 
-pub top-fits : (lefts rights : List ℕ) (lo hi top : ℕ) → IsSearchTree lefts rights lo hi top → hi + 1 < 2 ^ 32 → link_to child_id top < 2 ^ 32
-top-fits lefts rights lo hi top (empty at) small = lit< tt
-top-fits lefts rights lo hi top (node from to some before after) small = link-fits (middle lo hi) (omega arith)
-
-pub links-fit : (links : Links) (lo hi top : ℕ) → IsSearchTree links.left.items links.right.items lo hi top → hi + 1 < 2 ^ 32
-    → (p : ℕ) → lo ≤ p → p < hi → LinkFits links p
-links-fit links lo hi top (empty at) small p from to = absurd (omega arith)
-links-fit links lo hi top (node lo' hi' some before after) small p from to =
-    let ls : List ℕ = links.left.items in
-    let rs : List ℕ = links.right.items in
-    let m : ℕ = middle lo hi in
-    elim (cases_order m p) [
+pub links-fit : (links : Links) (lo hi id : ℕ) → Spans links lo hi id → hi + 1 < 2 ^ 32 → (p : ℕ) → lo ≤ p → p < hi → LinkFits links p
+links-fit links lo hi id (empty lo') small p from to = absurd (omega arith)
+links-fit links lo hi id (split lo' place hi' above below before after) small p from to =
+    elim (cases_order place p) [
       | inl e ↦ subst (LinkFits links) e (record {
-          to_left = top-fits ls rs lo m (slice_index ls m) before (omega arith);
-          to_right = top-fits ls rs (m + 1) hi (slice_index rs m) after small;
+          to_left = top-fits links lo place (links.left place) before (omega arith);
+          to_right = top-fits links (place + 1) hi (links.right place) after small;
         })
       | inr d ↦ elim d [
-        | inl more ↦ links-fit links (m + 1) hi (slice_index rs m) after small p (omega arith) to
-        | inr less ↦ links-fit links lo m (slice_index ls m) before (omega arith) p from less
+        | inl more ↦ links-fit links (place + 1) hi (links.right place) after small p (omega arith) to
+        | inr less ↦ links-fit links lo place (links.left place) before (omega arith) p from less
       ]
     ]
 

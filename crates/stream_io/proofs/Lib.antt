@@ -7,6 +7,4 @@ pub mod ContentsEntries
 pub mod ContentsHolds
 pub mod ContentsLinks
 pub mod ContentsRoom
-pub mod ContentsDenoted
-pub mod ContentsWalk
-pub mod ContentsWritable
+pub mod Contents

@@ -1,9 +1,7 @@
 -- What is written of a tree whose streams all lie below its root (MS-CFB 2.4, 2.6.3).
-use Rattle.std.specs.Prelude.{◌≡◌, ◌+◌, ◌-◌, ◌*◌, ℕ, List, [], ◌∷◌, ◌++◌, length, map, replicate, slice_index}
+use Rattle.std.specs.Prelude.{◌≡◌, ◌+◌, ◌-◌, ◌*◌, ℕ, List, [], ◌∷◌, ◌++◌, length, map, replicate}
 use Rattle.std.specs.List.{concat, flat_map}
 use Rattle.cfb_directory.specs.Entries.{NO_STREAM, root_name}
-use Rattle.cfb_directory.specs.SearchTree.{link_to}
-use Rattle.cfb_directory.specs.declared.links.Links.{Links}
 use Rattle.cfb_directory.specs.Written.{entry_bytes, free_entry_bytes}
 use Rattle.cfb_directory.specs.declared.write.EntryFields.{EntryFields}
 use Rattle.cfb_directory.specs.declared.entries.EntryKind.TheVariants.{Stream, Root}
@@ -21,10 +19,6 @@ streams none = []
 streams (stream k n b cs) = record { name = n; bytes = b } ∷ streams cs
 streams (storage k n t cs) = streams cs
 
--- the streams below a root
-abbrev pub root_streams : Tree → List NamedBytes
-root_streams (tree class state cs) = streams cs
-
 -- how many mini sectors each stream takes
 abbrev pub minis_of : List NamedBytes → List ℕ
 minis_of ss = map (λ s. pieces 64 (length s.bytes)) ss
@@ -33,26 +27,18 @@ minis_of ss = map (λ s. pieces 64 (length s.bytes)) ss
 abbrev pub mini_stream_of : List NamedBytes → List ℕ
 mini_stream_of ss = padded 512 (flat_map (λ s. padded 64 s.bytes) ss)
 
--- the entry that stands for the child at a place: the root's is the first
-abbrev pub child_id : ℕ → ℕ
-child_id place = place + 1
-
--- the entries on top of the children, and to the left and right of each
-abbrev pub top_id : Links → ℕ
-top_id links = link_to child_id links.top
-
-abbrev pub left_id : Links → ℕ → ℕ
-left_id links place = link_to child_id (slice_index links.left.items place)
-
-abbrev pub right_id : Links → ℕ → ℕ
-right_id links place = link_to child_id (slice_index links.right.items place)
+-- How children are linked: the entries to the left and right of each, and the first that is reached.
+pub record Links : Type 0 where
+  pub left : ℕ → ℕ
+  pub right : ℕ → ℕ
+  pub top : ℕ
 
 -- the entry of the child at a place, whose bytes start at a mini sector
 abbrev pub stream_fields : Links → ℕ → ℕ → ℕ → EntryFields
 stream_fields links place at size = record {
   kind = Stream;
-  left = left_id links place;
-  right = right_id links place;
+  left = links.left place;
+  right = links.right place;
   child = NO_STREAM;
   class = replicate 16 0;
   state = 0;
@@ -72,22 +58,25 @@ root_fields f links (tree class state cs) = record {
   kind = Root;
   left = NO_STREAM;
   right = NO_STREAM;
-  child = top_id links;
+  child = links.top;
   class = class;
   state = state;
   first = start (f + directory_sectors (tree class state cs) + mini_fat_sectors (tree class state cs)) (mini_stream_sectors (tree class state cs));
   size = 64 * mini_sectors (tree class state cs);
 }
 
+abbrev pub children_of : Tree → Children
+children_of (tree class state cs) = cs
+
 -- the root, its streams, and free entries up to a whole sector
 abbrev pub directory_bytes : ℕ → Links → Tree → List ℕ
 directory_bytes f links t = entry_bytes root_name (root_fields f links t)
-    ++ stream_entries links 0 0 (root_streams t)
+    ++ stream_entries links 0 0 (streams (children_of t))
     ++ concat (replicate (4 * directory_sectors t - (1 + entries t)) free_entry_bytes)
 
 abbrev pub parts : ℕ → Links → Tree → Parts
 parts f links t = record {
   directory = directory_bytes f links t;
-  minis = minis_of (root_streams t);
-  mini_stream = mini_stream_of (root_streams t);
+  minis = minis_of (streams (children_of t));
+  mini_stream = mini_stream_of (streams (children_of t));
 }

@@ -18,14 +18,11 @@ use Rattle.stream_io.specs.Image.{Parts, start, runs, padded, directory_count, m
 use Rattle.stream_io.specs.Placed.{Fits, IsPlaced}
 use Rattle.stream_io.specs.Refusals.{has_storage, has_long}
 use Rattle.stream_io.specs.Denotes.{Layout, directory_of, root_of, minis, entry, AreChildren, Holds, Used, Denotes}
-use Rattle.stream_io.specs.Written.{NamedBytes, child_id, top_id, streams, minis_of, root_fields, stream_entries, directory_bytes, parts}
+use Rattle.stream_io.specs.Written.{NamedBytes, Links, streams, minis_of, root_fields, stream_entries, directory_bytes, parts}
 use Rattle.stream_io.proofs.ContentsMini.{length-padded_sector}
 use Rattle.stream_io.proofs.ContentsStore.{IsStore, AreAt, length-whole_minis, whole_minis}
 use Rattle.stream_io.proofs.ContentsEntries.{AllHaveRoom, AreRead, are-read, entry-begins, length-stream_entries, start-fits}
-use Rattle.cfb_directory.specs.SearchTree.{IsSearchTree}
-use Rattle.cfb_directory.specs.declared.links.Links.{Links}
-use Rattle.cfb_directory.proofs.Trees.{Reached}
-use Rattle.stream_io.proofs.ContentsLinks.{children-reached, same-range}
+use Rattle.stream_io.proofs.ContentsLinks.{Spans, ReachesSpan, reaches-span, links-read, same-range}
 use Rattle.stream_io.proofs.ContentsLists.{distinct_range}
 use Rattle.stream_io.proofs.ContentsHolds.{AreHeld, are-held, keys-read, keys-ordered}
 use Rattle.stream_io.proofs.ContentsRoom.{entries-flat, minis-flat, length-free, links-fit, top-fits, all-have-room}
@@ -40,8 +37,7 @@ pub record IsFlat (f : ℕ) (class : List ℕ) (state : ℕ) (cs : Children) : T
   pub few : f ≤ 109
   pub covered : f + data_sectors (tree class state cs) ≤ 128 * f
 
-module _ (f : ℕ) (class : List ℕ) (state : ℕ) (cs : Children) (is : IsFlat f class state cs) (links : Links) 
-    (search : IsSearchTree links.left.items links.right.items 0 (length (streams cs)) links.top) where
+module _ (f : ℕ) (class : List ℕ) (state : ℕ) (cs : Children) (is : IsFlat f class state cs) (links : Links) (spans : Spans links 0 (length (streams cs)) links.top) where
   abbrev t : Tree
   t = tree class state cs
 
@@ -65,7 +61,7 @@ module _ (f : ℕ) (class : List ℕ) (state : ℕ) (cs : Children) (is : IsFlat
 
   room : AllHaveRoom links 0 0 ss
   room = all-have-room links 32 0 0 cs is.flat is.short is.whole
-      (λ q from to. links-fit links 0 (length ss) links.top search (omega (arith, is.covered, is.few, counted)) q from (omega arith))
+      (λ q from to. links-fit links 0 (length ss) links.top spans (omega (arith, is.covered, is.few, counted)) q from (omega arith))
       (omega (arith, is.covered, is.few, mini_counted))
 
   length-root : length root ≡ 128
@@ -156,18 +152,20 @@ module _ (f : ℕ) (class : List ℕ) (state : ℕ) (cs : Children) (is : IsFlat
     held : AreHeld file l links (runs 0 (minis_of ss)) p.mini_stream (sum (minis_of ss)) store 0 0 cs
     held = are-held file l links (runs 0 (minis_of ss)) p.mini_stream (sum (minis_of ss)) store 32 0 0 cs is.flat is.short is.whole read at-start
 
-    reached : Reached (directory_of file l) child_id 0 (length ss) links.top
-    reached = children-reached (directory_of file l) links ss read (omega (arith, length-is, counted)) (omega (arith, is.covered, is.few, counted)) search
+    reached : ReachesSpan (directory_of file l) 0 (length ss) links.top
+    reached = reaches-span (directory_of file l) links (length ss)
+        (links-read (directory_of file l) links ss read (omega (arith, length-is, counted)) (omega (arith, is.covered, is.few, counted)))
+        0 (length ss) links.top spans (omega arith)
 
-    top-is : child (entry file l 0) ≡ top_id links
+    top-is : child (entry file l 0) ≡ links.top
     top-is = ap child root-is
         ∙ child-entry_bytes root_name (root_fields f links t) (lit≤ tt) is.class_id
-          (top-fits links.left.items links.right.items 0 (length ss) links.top search (omega (arith, is.covered, is.few, counted)))
+          (top-fits links 0 (length ss) links.top spans (omega (arith, is.covered, is.few, counted)))
 
     children : AreChildren file l 0 (range_with_len 1 (length ss))
     children = record {
-      reached = reached.ids;
-      linked = subst (λ (z : ℕ). AreLinked (directory_of file l) z reached.ids) (sym top-is) reached.linked;
+      reached = reached.reached;
+      linked = subst (λ (z : ℕ). AreLinked (directory_of file l) z reached.reached) (sym top-is) reached.linked;
       once = reached.once;
       same = same-range (directory_of file l) (length ss) links.top reached;
       ordered = subst (λ (ks : List (List ℕ)). IsStrictlySortedBy key_cmp ks) (sym (keys-read file l links 32 0 0 cs is.flat is.whole read)) (keys-ordered 32 cs is.whole);
