@@ -4,5 +4,6 @@
 pub mod bytes;
 pub mod class_id;
 pub mod fault;
+pub mod laws;
 pub mod storage;
 pub mod tree;

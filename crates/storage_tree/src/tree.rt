@@ -7,7 +7,6 @@ ghost use Rattle.storage_tree.specs.Change.{Outcome, inner, look, map_ok};
 ghost use Rattle.storage_tree.specs.View.{found_seen};
 ghost use Rattle.storage_tree.specs.Whole.{AreWhole, IsTree};
 ghost use Rattle.storage_tree.specs.View.{view};
-ghost use Rattle.storage_tree.specs.Laws.{ChangeKeeps, PutIsThere, Stays};
 
 use crate::bytes::Bytes;
 use crate::class_id::ClassId;
@@ -131,18 +130,3 @@ impl Tree {
         }
     }
 }
-
-/// What a change leaves as it was.
-pub fn stays()
-    ensures { Stays }
-{}
-
-/// What a put leaves at its path.
-pub fn put_is_there()
-    ensures { PutIsThere }
-{}
-
-/// What every change keeps.
-pub fn change_keeps()
-    ensures { ChangeKeeps }
-{}
