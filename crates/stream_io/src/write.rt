@@ -14,7 +14,7 @@ ghost use Rattle.stream_io.specs.Need.{over_streams, pieces, short_pieces};
 ghost use Rattle.stream_io.specs.Placed.{Fits};
 ghost use Rattle.stream_io.specs.Refusals.{has_long, has_storage, writable};
 ghost use Rattle.stream_io.specs.View.{IsCount, named, seen};
-ghost use Rattle.stream_io.specs.Written.{children_of, directory_bytes, mini_stream_of, minis_of, root_fields, stream_entries, stream_fields, streams};
+ghost use Rattle.stream_io.specs.Written.{children_of, directory_bytes, mini_stream_of, minis_of, parts, root_fields, stream_entries, stream_fields, streams};
 ghost use Rattle.storage_tree.specs.View.{view};
 
 use cfb_chain::fat::END_OF_CHAIN;
@@ -419,6 +419,14 @@ fn count(root: &Storage) -> Result<Counts, WriteFault>
     Ok(counts)
 }
 
+/// The bytes of a class id.
+fn class_of(bytes: &[u8; 16]) -> [u8; 16]
+    ensures value { result ≡ bytes.now }
+    ensures len { length bytes.now ≡ 16 }
+{
+    *bytes
+}
+
 /// Adds the root's entry, behind so many FAT sectors.
 fn push_root(
     out: &mut Vec<u8>,
@@ -428,7 +436,9 @@ fn push_root(
 ) -> Result<(), AllocError>
     requires few { fat_count ≤ 109 }
     requires counted { IsCount counts (view root.now) }
-    ensures { OnOk result (out.new.items ≡ out.old.items ++ entry_bytes root_name (root_fields fat_count (balanced counts.children) (view root.now))) }
+    ensures pushed { OnOk result (out.new.items ≡ out.old.items ++ entry_bytes root_name (root_fields fat_count (balanced counts.children) (view root.now))) }
+    ensures class { OnOk result (length root.now.class ≡ 16) }
+    ensures state { OnOk result (root.now.state < 2 ^ 32) }
 {
     let behind = fat_count + (1 + counts.children).div_ceil(4) + counts.minis.div_ceil(128);
     let fields = EntryFields {
@@ -436,7 +446,7 @@ fn push_root(
         left: NO_STREAM,
         right: NO_STREAM,
         child: top_of(0, counts.children),
-        class: *root.class.as_bytes(),
+        class: class_of(root.class.as_bytes()),
         state: root.state,
         first: start_of(behind, (64 * counts.minis).div_ceil(512)),
         size: 64 * counts.minis,
@@ -466,7 +476,9 @@ fn directory(
     requires few { fat_count ≤ 109 }
     requires counted { IsCount counts (view root.now) }
     requires listed { map named listed.now ≡ streams (children_of (view root.now)) }
-    ensures { IfOk result (λ v. v.items ≡ directory_bytes fat_count (balanced (length listed.now)) (view root.now)) }
+    ensures written { IfOk result (λ v. v.items ≡ directory_bytes fat_count (balanced counts.children) (view root.now)) }
+    ensures class { OnOk result (length root.now.class ≡ 16) }
+    ensures state { OnOk result (root.now.state < 2 ^ 32) }
 {
     let mut out = Vec::new(alloc);
     push_root(&mut out, fat_count, root, counts)?;
@@ -474,4 +486,19 @@ fn directory(
     let used = 1 + counts.children;
     push_free_entries(&mut out, 4 * used.div_ceil(4) - used)?;
     Ok(out)
+}
+
+/// The parts of the file of a root, behind one FAT sector.
+fn parts_of(alloc: Global, root: &Storage, counts: Counts) -> Result<Parts, AllocError>
+    requires { IsCount counts (view root.now) }
+    ensures parts { IfOk result (λ p. seen p ≡ parts 1 (balanced counts.children) (view root.now)) }
+    ensures class { OnOk result (length root.now.class ≡ 16) }
+    ensures state { OnOk result (root.now.state < 2 ^ 32) }
+{
+    let listed = list_streams(alloc, root)?;
+    Ok(Parts {
+        directory: directory(alloc, 1, root, counts, &listed)?,
+        minis: minis(alloc, &listed)?,
+        mini_stream: mini_stream(alloc, &listed)?,
+    })
 }

@@ -7,7 +7,7 @@ use Rattle.storage_tree.specs.View.{view}
 use Rattle.stream_io.specs.Balanced.{balanced}
 use Rattle.stream_io.specs.Need.{directory_sectors, entries}
 use Rattle.stream_io.specs.View.{named}
-use Rattle.stream_io.specs.Written.{root_fields, stream_entries}
+use Rattle.stream_io.specs.Written.{directory_bytes, root_fields, stream_entries}
 use Rattle.stream_io.proofs.Listed.{directory_joined, listed_counted, listed_short}
 use Rattle.stream_io.proofs.write.directory.Goals as goal
 
@@ -18,8 +18,8 @@ push_streams-requires-clause-few c =
 pub push_streams-requires-clause-short : goal.push_streams-requires-clause-short
 push_streams-requires-clause-short c = listed_short (view c.args.root.now) c.args.listed.now c.requires.listed c.requires.counted.short
 
-pub returns : goal.returns
-returns c =
+pub returns-clause-written : goal.returns-clause-written
+returns-clause-written c =
     let t : Tree = view c.args.root.now in
     let count : ℕ = c.args.counts.children in
     let n : ℕ = 4 * c.div_ceil.result - (1 + count) in
@@ -32,3 +32,4 @@ returns c =
     rest ∙ ap (λ xs. xs ++ concat (replicate n free_entry_bytes))
     (streams ∙ ap (λ xs. xs ++ stream_entries (balanced (length c.args.listed.now)) 0 0 (map named c.args.listed.now)) root)
     ∙ directory_joined c.args.fat_count count n t c.args.listed.now c.requires.listed same free
+    ∙ ap (λ k. directory_bytes c.args.fat_count (balanced k) t) (sym same)
