@@ -14,3 +14,4 @@ pub mod Placed
 pub mod Balanced
 pub mod Refused
 pub mod Listed
+pub mod Denoted

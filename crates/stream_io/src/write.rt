@@ -9,10 +9,13 @@ ghost use Rattle.std.specs.List.{All, concat, flat_map, range_with_len, sum};
 ghost use Rattle.std.specs.Prelude.{◌≡◌, ◌≤◌, ◌<◌, ◌+◌, ◌-◌, ◌*◌, ◌^◌, ◌++◌, ℕ, Err, IfErr, IfNone, IfOk, IfSome, Ok, OnOk, OnSome, length, map, min, replicate, true, false};
 ghost use Rattle.std.specs.Vec.{vec_len};
 ghost use Rattle.stream_io.specs.Balanced.{balanced, span_of, top};
+ghost use Rattle.storage_tree.specs.Kept.{kept};
+ghost use Rattle.storage_tree.specs.Whole.{IsTree};
+ghost use Rattle.stream_io.specs.Denotes.{Denotes};
 ghost use Rattle.stream_io.specs.Image.{image, padded, run, runs, start, table_bytes};
 ghost use Rattle.stream_io.specs.Need.{over_streams, pieces, short_pieces};
 ghost use Rattle.stream_io.specs.Placed.{Fits};
-ghost use Rattle.stream_io.specs.Refusals.{has_long, has_storage, writable};
+ghost use Rattle.stream_io.specs.Refusals.{Refuses, has_long, has_storage, writable};
 ghost use Rattle.stream_io.specs.View.{IsCount, named, seen};
 ghost use Rattle.stream_io.specs.Written.{children_of, directory_bytes, mini_stream_of, minis_of, parts, root_fields, stream_entries, stream_fields, streams};
 ghost use Rattle.storage_tree.specs.View.{view};
@@ -26,6 +29,7 @@ use crate::fault::WriteFault;
 use std::alloc::{AllocError, Global};
 use storage_tree::bytes::Bytes;
 use storage_tree::storage::{Node, Storage};
+use storage_tree::tree::Tree;
 
 /// The value of a sector that holds a part of the FAT.
 const FAT_SECTOR: u32 = 0xffff_fffd;
@@ -501,4 +505,29 @@ fn parts_of(alloc: Global, root: &Storage, counts: Counts) -> Result<Parts, Allo
         minis: minis(alloc, &listed)?,
         mini_stream: mini_stream(alloc, &listed)?,
     })
+}
+
+/// The file of a whole tree with this root.
+fn write_root(alloc: Global, root: &Storage) -> Result<Vec<u8>, WriteFault>
+    requires { ∥ IsTree 32 (view root.now) ∥₁ }
+    ensures denotes { IfOk result (λ v. ∥ Denotes v.items (view root.now) ∥₁) }
+    ensures refused { IfErr result (Refuses (writable (view root.now))) }
+    ensures allowed { OnOk result (writable (view root.now) ≡ Ok tt) }
+{
+    let counts = count(root)?;
+    let parts = parts_of(alloc, root, counts)?;
+    Ok(lay_out(alloc, 1, &parts)?)
+}
+
+/// The bytes of a compound file that denotes the tree (MS-CFB 2). They may be others in later versions.
+///
+/// Refused: `WrongKind` where the root has a storage; then `TooBig` where a stream has 4,096 bytes or more, or the tree
+/// needs more sectors than one FAT sector covers; then `NoMemory`.
+pub fn write_file(alloc: Global, tree: &Tree) -> Result<Vec<u8>, WriteFault>
+    ensures denotes { IfOk result (λ v. ∥ Denotes v.items (kept tree.now).now ∥₁) }
+    ensures refused { IfErr result (Refuses (writable (kept tree.now).now)) }
+    ensures allowed { OnOk result (writable (kept tree.now).now ≡ Ok tt) }
+{
+    let file = write_root(alloc, tree.root())?;
+    Ok(file)
 }
