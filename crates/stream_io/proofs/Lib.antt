@@ -8,3 +8,4 @@ pub mod ContentsHolds
 pub mod ContentsLinks
 pub mod ContentsRoom
 pub mod Contents
+pub mod ContentsWhole
