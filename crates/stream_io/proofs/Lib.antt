@@ -9,3 +9,4 @@ pub mod ContentsLinks
 pub mod ContentsRoom
 pub mod Contents
 pub mod ContentsWhole
+pub mod ContentsPieces
