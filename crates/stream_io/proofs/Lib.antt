@@ -8,6 +8,8 @@ pub mod ContentsHolds
 pub mod ContentsLinks
 pub mod ContentsRoom
 pub mod Contents
+pub mod ContentsWhole
+pub mod ContentsPieces
 pub mod Tables
 pub mod PlacedParts
 pub mod Placed
