@@ -73,3 +73,58 @@ along next count start (n ∷ ns) (m ∷ ms) last few h g below =
       inl w ↦ inl (w.0, (λ i. same i ∷ w.1 i))
     | inr w ↦ inr (w.0, (λ i. sym same i ∷ w.1 i))
     ]
+
+-- a chain that is there, of sectors that are free, is refused only for want of memory
+module _ (f : FatValue) (few : length f.table ≤ 0xFFFFFFF9) (start bytes : ℕ) (ns : List ℕ)
+    (h : IsChain (store_of f) start bytes ns) (g : AreFree f ns) where
+  end_outside : length f.table ≤ END_OF_CHAIN
+  end_outside = omega arith
+
+  way : (ms : List ℕ) (last : ℕ) → Leads (store_of f).next start ms last → All (IsFree f) ms
+      → ((last ≡ END_OF_CHAIN) × (ms ≡ ns)) ⊎ ((rest : List ℕ) × (ns ≡ ms ++ last ∷ rest))
+  way ms last l free = along (store_of f).next (length f.table) start ns ms last end_outside h.linked l (λ k d b. (free k d b).0)
+
+  -- what comes next on a way is a sector of the chain
+  next_of : (ms : List ℕ) (last : ℕ) (rest : List ℕ) → ns ≡ ms ++ last ∷ rest → Contains ns last
+  next_of ms last rest e = subst (λ xs. Contains xs last) (sym e) (Contains-append_right ms (last ∷ rest) last (0, omega arith, refl))
+
+  not_marked : (n : ℕ) → Contains ns n → get_or f.used n true ≡ true → ⊥
+  not_marked n c t = let e : true ≡ false = sym t ∙ (All-contains (IsFree f) ns n g.free c).1 in cc
+
+  pub refused_not : (e : ChainFault) → MayRefuse f start bytes e → e ≡ NoMemory
+  refused_not Truncated r = absurd r
+  refused_not BadSignature r = absurd r
+  refused_not (Unsupported n) r = absurd r
+  refused_not OutOfFile r =
+    elim (way r.0 r.1 r.2 r.3) [
+      inl w ↦ absurd (r.4 w.0)
+    | inr w ↦ absurd (omega (arith, r.5, (All-contains (IsFree f) ns r.1 g.free (next_of r.0 r.1 w.0 w.1)).0))
+    ]
+  refused_not Cycle r =
+    elim (way r.0 r.1 r.2 r.3) [
+      inl w ↦ absurd (omega (arith, w.0, (All-contains (IsFree f) r.0 r.1 r.3 r.4).0))
+    | inr w ↦ absurd (distinct_apart r.0 (r.1 ∷ w.0) (subst AreDistinct w.1 g.once) r.1 r.4 (0, omega arith, refl))
+    ]
+  refused_not CrossLinked r =
+    elim (way r.0 r.1 r.2 r.3) [
+      inl w ↦ absurd (omega (arith, w.0, r.4))
+    | inr w ↦ absurd (not_marked r.1 (next_of r.0 r.1 w.0 w.1) r.5)
+    ]
+  refused_not ShortChain r =
+    elim (way r.0 END_OF_CHAIN r.1 r.2.free) [
+      inl w ↦ absurd (let e : length r.0 ≡ length ns = ap length w.1 in let q : f.width * length r.0 ≡ f.width * length ns = ap (λ n. f.width * n) e in omega (arith, q, r.3, h.enough))
+    | inr w ↦ absurd (omega (arith, (All-contains (IsFree f) ns END_OF_CHAIN g.free (next_of r.0 END_OF_CHAIN w.0 w.1)).0))
+    ]
+  refused_not TooBig r = absurd r
+  refused_not NoMemory r = refl
+
+pub refused_not_fat : (file fat : List ℕ) (e : ChainFault) → IsFat file fat → MayRefuseFat file fat e → e ≡ NoMemory
+refused_not_fat file fat Truncated h r = absurd r
+refused_not_fat file fat BadSignature h r = absurd r
+refused_not_fat file fat (Unsupported n) h r = absurd r
+refused_not_fat file fat OutOfFile h r = absurd (r.2 (All-contains (IsPresent (sectors_of file fat)) fat r.0 h.present r.1))
+refused_not_fat file fat Cycle h r = absurd r
+refused_not_fat file fat CrossLinked h r = absurd (r h.once)
+refused_not_fat file fat ShortChain h r = absurd r
+refused_not_fat file fat TooBig h r = absurd r
+refused_not_fat file fat NoMemory h r = refl
