@@ -1,14 +1,17 @@
 -- Chains in stores that agree, and what refuses a chain that is there.
-use Rattle.std.proofs.Common.{◌≡◌, ◌≢◌, ◌<◌, ◌≤◌, ◌+◌, ◌*◌, ◌⊎◌, inl, inr, ℕ, zero, suc, Bool, true, false, List, [], ◌∷◌, ◌++◌, length, get_or, refl, sym, ap, subst, ◌∙◌, arith, lit≤, lit<, min}
-use Rattle.std.proofs.lemmas.List.Elements.{All-contains, All-head, All-tail, Contains-append_right}
-use Rattle.std.specs.List.{All, Contains}
+use Rattle.std.proofs.Common.{◌≡◌, ◌≢◌, ◌<◌, ◌≤◌, ◌+◌, ◌*◌, ◌⊎◌, inl, inr, ℕ, zero, suc, Bool, true, false, List, [], ◌∷◌, ◌++◌, length, length-append, length-drop, drop, take, eqb, get_or, refl, sym, ap, subst, ◌∙◌, arith, lit≤, lit<, min}
+use Rattle.std.proofs.lemmas.List.Elements.{All-cons, All-push, All-take, All-drop, All-contains, All-head, All-tail, Contains-append_right}
+use Rattle.std.specs.List.{All, AllByRecursion, Contains, IsDistinct}
+use Rattle.std.proofs.lemmas.Map.Views.{Contains-from_any}
+use Rattle.std.proofs.lemmas.Map.Steps.{length-le_from_distinct_below}
+use Rattle.std.proofs.lemmas.Bool.{cases_Bool, eqb-true}
 use Rattle.cfb_chain.specs.Bytes.{joined}
 use Rattle.cfb_chain.specs.Chain.{AreDistinct, END_OF_CHAIN, IsChain, IsChainOf, IsPresent, Leads, Store}
 use Rattle.cfb_chain.specs.Fat.{AreFree, AreSame, FatValue, IsFat, IsFound, IsFree, IsMiniFound, MayRefuse, MayRefuseFat, MayRefuseMini, marked, sectors_of, set_all, store_of}
 use Rattle.cfb_chain.specs.Header.{HeaderValue}
 use Rattle.cfb_chain.specs.declared.fault.ChainFault.{ChainFault}
 use Rattle.cfb_chain.specs.declared.fault.ChainFault.TheVariants.{Truncated, BadSignature, Unsupported, OutOfFile, Cycle, CrossLinked, ShortChain, TooBig, NoMemory}
-use Rattle.cfb_chain.proofs.Marks.{distinct_apart}
+use Rattle.cfb_chain.proofs.Marks.{distinct_apart, distinct_cons}
 
 pub same_back : {s t : Store} → AreSame s t → AreSame t s
 same_back {s} {t} h = record {
@@ -128,3 +131,97 @@ refused_not_fat file fat CrossLinked h r = absurd (r h.once)
 refused_not_fat file fat ShortChain h r = absurd r
 refused_not_fat file fat TooBig h r = absurd r
 refused_not_fat file fat NoMemory h r = refl
+
+-- a store has one chain from a sector
+pub chain_once : (s : Store) (start bytes : ℕ) (ns ms : List ℕ) → IsChainOf s start bytes ns → IsChainOf s start bytes ms → ns ≡ ms
+chain_once s start zero ns ms h g = h ∙ sym g
+chain_once s start (suc n) ns ms h g =
+    elim (along s.next 0xFFFFFFFA start ns ms END_OF_CHAIN (lit≤ tt) h.linked g.linked (λ k d l. omega (arith, (g.present k d l).0))) [
+      inl w ↦ sym w.1
+    | inr w ↦
+        let c : Contains ns END_OF_CHAIN = subst (λ xs. Contains xs END_OF_CHAIN) (sym w.1) (Contains-append_right ms (END_OF_CHAIN ∷ w.0) END_OF_CHAIN (0, omega arith, refl)) in
+        absurd (omega (arith, (All-contains (IsPresent s) ns END_OF_CHAIN h.present c).0))
+    ]
+
+-- the rest of a way
+leads_drop : (next : ℕ → ℕ) (start : ℕ) (ns : List ℕ) (last : ℕ) (k d : ℕ) → Leads next start ns last → k < length ns
+    → Leads next (next (get_or ns k d)) (drop (suc k) ns) last
+leads_drop next start [] last k d h l = absurd (omega arith)
+leads_drop next start (n ∷ ns) last zero d h l = h.1
+leads_drop next start (n ∷ ns) last (suc k) d h l = leads_drop next (next n) ns last k d h.1 (omega arith)
+
+-- a way that ends meets no sector twice
+pub distinct_chain : (next : ℕ → ℕ) (count start : ℕ) (ns : List ℕ) → count ≤ END_OF_CHAIN → Leads next start ns END_OF_CHAIN
+    → All (λ n. n < count) ns → AreDistinct ns
+distinct_chain next count start [] few h below = λ i j d l k. absurd (omega arith)
+distinct_chain next count start (n ∷ ns) few h below =
+    let tail : All (λ n. n < count) ns = All-tail (λ n. n < count) n ns below in
+    distinct_cons n ns
+      (λ k d l same.
+        let again : Leads next (next n) (drop (suc k) ns) END_OF_CHAIN =
+          subst (λ x. Leads next (next x) (drop (suc k) ns) END_OF_CHAIN) (sym same) (leads_drop next (next n) ns END_OF_CHAIN k d h.1 l) in
+        elim (along next count (next n) ns (drop (suc k) ns) END_OF_CHAIN few h.1 again (All-drop (λ n. n < count) (suc k) ns tail)) [
+          inl w ↦ omega (arith, length-drop (suc k) ns, ap length w.1)
+        | inr w ↦
+            let c : Contains ns END_OF_CHAIN = subst (λ xs. Contains xs END_OF_CHAIN) (sym w.1) (Contains-append_right (drop (suc k) ns) (END_OF_CHAIN ∷ w.0) END_OF_CHAIN (0, omega arith, refl)) in
+            omega (arith, All-contains (λ n. n < count) ns END_OF_CHAIN tail c)
+        ])
+      (distinct_chain next count (next n) ns few h.1 tail)
+
+-- one step further
+pub leads_push : (next : ℕ → ℕ) (start : ℕ) (ns : List ℕ) (last : ℕ)
+    → Leads next start ns last → Leads next start (ns ++ last ∷ []) (next last)
+leads_push next start [] last h = (h, refl)
+leads_push next start (n ∷ ns) last h = (h.0, leads_push next (next n) ns last h.1)
+
+-- part of the way
+leads_take : (next : ℕ → ℕ) (start : ℕ) (ns : List ℕ) (last : ℕ) → Leads next start ns last
+    → (k : ℕ) → k ≤ length ns → Leads next start (take k ns) (get_or (ns ++ last ∷ []) k 0)
+leads_take next start [] last h zero l = h
+leads_take next start [] last h (suc k) l = absurd (omega arith)
+leads_take next start (n ∷ ns) last h zero l = h.0
+leads_take next start (n ∷ ns) last h (suc k) l =
+    let l' : k ≤ length ns = omega arith in (h.0, leads_take next (next n) ns last h.1 k l')
+
+-- a number stands nowhere in a list, or at some place
+apart_or_at : (n : ℕ) (xs : List ℕ) → AllByRecursion (λ y. eqb n y ≡ false) xs ⊎ ((k : ℕ) × (k < length xs) × (get_or xs k 0 ≡ n))
+apart_or_at n [] = inl tt
+apart_or_at n (x ∷ xs) =
+    elim (cases_Bool (eqb n x)) [
+      inl same ↦ inr (0, omega arith, sym (eqb-true n x same))
+    | inr other ↦ elim (apart_or_at n xs) [ inl a ↦ inl (other, a) | inr p ↦ inr (suc p.0, omega (arith, p.1), p.2) ]
+    ]
+
+-- a way that comes back to one of its sectors
+abbrev pub ComesBack : (ℕ → ℕ) → (ℕ → Type 0) → ℕ → Type 0
+ComesBack next P start = (ns : List ℕ) × (last : ℕ) × Leads next start ns last × All P ns × Contains ns last
+
+-- a way on which no sector is met twice, or one of its fronts ends where it has been
+distinct_or_met : (next : ℕ → ℕ) (P : ℕ → Type 0) (start : ℕ) (ns : List ℕ) (last : ℕ) → Leads next start ns last → All P ns
+    → IsDistinct eqb (ns ++ last ∷ []) ⊎ ComesBack next P start
+unfolding IsDistinct
+distinct_or_met next P start [] last h every = inl (tt, tt)
+distinct_or_met next P start (n ∷ ns) last h every =
+    elim (distinct_or_met next P (next n) ns last h.1 (All-tail P n ns every)) [
+      inr m ↦ inr (n ∷ m.0, m.1, (h.0, m.2), All-cons P n m.0 (All-head P n ns every) m.3, (suc m.4.0, omega (arith, m.4.1), m.4.2))
+    | inl d ↦ elim (apart_or_at n (ns ++ last ∷ [])) [
+        inl a ↦ inl (a, d)
+      | inr p ↦
+          let le : p.0 ≤ length ns = omega (arith, length-append ns (last ∷ []), p.1) in
+          let way : Leads next (next n) (take p.0 ns) n =
+            let Q : ℕ → Type 0 = λ x. Leads next (next n) (take p.0 ns) x in subst Q p.2 (leads_take next (next n) ns last h.1 p.0 le) in
+          inr (n ∷ take p.0 ns, n, (h.0, way), All-cons P n (take p.0 ns) (All-head P n ns every) (All-take P p.0 ns (All-tail P n ns every)), (0, omega arith, refl))
+      ]
+    ]
+
+-- a way over as many sectors as there are, that goes on, has come back
+pub met_when_long : (next : ℕ → ℕ) (P : ℕ → Type 0) (start : ℕ) (ns : List ℕ) (last : ℕ) (count : ℕ) → Leads next start ns last
+    → All P ns → All (λ n. n < count) ns → last < count → count ≤ length ns → ComesBack next P start
+met_when_long next P start ns last count h every all below long =
+    elim (distinct_or_met next P start ns last h every) [
+      inr m ↦ m
+    | inl d ↦
+        let each : All (λ n. n < count) (ns ++ last ∷ []) = All-push (λ n. n < count) ns last all below in
+        let short : length (ns ++ last ∷ []) ≤ count = length-le_from_distinct_below (ns ++ last ∷ []) count d (λ q t. All-contains (λ n. n < count) (ns ++ last ∷ []) q each (Contains-from_any eqb-true q (ns ++ last ∷ []) t)) in
+        absurd (omega (arith, length-append ns (last ∷ []), short))
+    ]
