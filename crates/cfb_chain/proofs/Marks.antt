@@ -2,9 +2,10 @@
 use Rattle.std.proofs.Common.{◌≡◌, ◌≢◌, ◌<◌, ◌≤◌, ◌+◌, ◌⊎◌, inl, inr, ℕ, zero, suc, Bool, true, false, List, [], ◌∷◌, ◌++◌, length, get_or, set, replicate, refl, sym, ap, subst, ◌∙◌, arith, eqb, get_or-set_other, length-append}
 use Rattle.std.proofs.Math.ListN.{length-set}
 use Rattle.std.proofs.lemmas.Bool.{cases_Bool, eqb-false, eqb-true}
-use Rattle.std.proofs.lemmas.List.{length-replicate, get_or-replicate}
+use Rattle.std.proofs.lemmas.List.{get_or_default, length-replicate, get_or-replicate, same_lists}
+use Rattle.std.proofs.lemmas.Grind.{get_or-set_at}
 use Rattle.std.proofs.lemmas.List.Kept.{AllPairs-cons}
-use Rattle.std.proofs.lemmas.List.Elements.{All-append, All-contains, All-contains_itself, All-weaker, Contains-append_cases, Contains-append_left, Contains-append_right, Contains-get_or}
+use Rattle.std.proofs.lemmas.List.Elements.{All-cons, All-head, All-tail, All-append, All-contains, All-contains_itself, All-weaker, Contains-append_cases, Contains-append_left, Contains-append_right, Contains-get_or}
 use Rattle.std.specs.List.{All, Contains}
 use Rattle.cfb_chain.specs.Chain.{AreDistinct, IsPresent}
 use Rattle.cfb_chain.specs.Fat.{AreFree, AreSame, FatValue, IsFat, IsFree, IsTableOf, marked, sectors_of, set_all, store_of}
@@ -144,3 +145,106 @@ free_when f ns ms h g below = record {
       ms (All-contains_itself ms);
     once = distinct_right ns ms g;
   }
+
+-- sectors that are free one after another are free at once
+unmarked_before : (used : List Bool) (ms : List ℕ) (n : ℕ) → get_or (set_all used ms) n true ≡ false → get_or used n true ≡ false
+unmarked_before used ms n h =
+    elim (cases_Bool (get_or used n true)) [
+      inl t ↦ absurd (let e : true ≡ false = sym (marked_kept used ms n t) ∙ h in cc)
+    | inr e ↦ e
+    ]
+
+pub free_then : (f : FatValue) (ns ms : List ℕ) → AreFree f ns → AreFree (marked f ns) ms → AreFree f (ns ++ ms)
+free_then f ns ms h g = record {
+    free = All-append (IsFree f) ns ms h.free
+      (All-weaker (IsFree (marked f ns)) (IsFree f) (λ n q. (q.0, unmarked_before f.used ns n q.1)) ms g.free);
+    once = distinct_append ns ms h.once g.once (λ n a b.
+      let e : true ≡ false = sym (marked_by f.used ns n a) ∙ (All-contains (IsFree (marked f ns)) ms n g.free b).1 in cc);
+  }
+
+pub free_left : (f : FatValue) (ns ms : List ℕ) → AreFree f (ns ++ ms) → AreFree f ns
+free_left f ns ms h = record {
+    free = All-weaker (Contains ns) (IsFree f) (λ n c. All-contains (IsFree f) (ns ++ ms) n h.free (Contains-append_left ns ms n c)) ns (All-contains_itself ns);
+    once = distinct_left ns ms h.once;
+  }
+
+pub free_rest : (f : FatValue) (ns ms : List ℕ) → AreFree f (ns ++ ms) → AreFree (marked f ns) ms
+free_rest f ns ms h = record {
+    free = All-weaker (Contains ms) (IsFree (marked f ns))
+      (λ n c.
+        let q : IsFree f n = All-contains (IsFree f) (ns ++ ms) n h.free (Contains-append_right ns ms n c) in
+        ( q.0
+        , elim (cases_Bool (get_or (set_all f.used ns) n true)) [
+            inl t ↦ elim (marked_only f.used ns n t) [
+              inl u ↦ absurd (let e : true ≡ false = sym u ∙ q.1 in cc)
+            | inr a ↦ absurd (distinct_apart ns ms h.once n a c)
+            ]
+          | inr e ↦ e
+          ]))
+      ms (All-contains_itself ms);
+    once = distinct_right ns ms h.once;
+  }
+
+pub set_all-append : (used : List Bool) (ns ms : List ℕ) → set_all used (ns ++ ms) ≡ set_all (set_all used ns) ms
+set_all-append used [] ms = refl
+set_all-append used (n ∷ ns) ms = set_all-append (set used n true) ns ms
+
+-- marks taken away
+abbrev pub clear_all : List Bool → List ℕ → List Bool
+clear_all used [] = used
+clear_all used (n ∷ ns) = clear_all (set used n false) ns
+
+pub clear_all-append : (used : List Bool) (ns ms : List ℕ) → clear_all used (ns ++ ms) ≡ clear_all (clear_all used ns) ms
+clear_all-append used [] ms = refl
+clear_all-append used (n ∷ ns) ms = clear_all-append (set used n false) ns ms
+
+pub length-clear_all : (used : List Bool) (ns : List ℕ) → length (clear_all used ns) ≡ length used
+length-clear_all used [] = refl
+length-clear_all used (n ∷ ns) = length-clear_all (set used n false) ns ∙ length-set used n false
+
+cleared_other : (used : List Bool) (ns : List ℕ) (k : ℕ) (d : Bool) → All (λ n. k ≢ n) ns → get_or (clear_all used ns) k d ≡ get_or used k d
+cleared_other used [] k d h = refl
+cleared_other used (n ∷ ns) k d h =
+    cleared_other (set used n false) ns k d (All-tail (λ n. k ≢ n) n ns h)
+    ∙ get_or-set_other used n k false d (All-head (λ n. k ≢ n) n ns h)
+
+set_other : (used : List Bool) (ns : List ℕ) (k : ℕ) (d : Bool) → All (λ n. k ≢ n) ns → get_or (set_all used ns) k d ≡ get_or used k d
+set_other used [] k d h = refl
+set_other used (n ∷ ns) k d h =
+    set_other (set used n true) ns k d (All-tail (λ n. k ≢ n) n ns h)
+    ∙ get_or-set_other used n k true d (All-head (λ n. k ≢ n) n ns h)
+
+stands_or_not : (k : ℕ) (ns : List ℕ) → Contains ns k ⊎ All (λ n. k ≢ n) ns
+stands_or_not k [] = inr (λ i d l. absurd (omega arith))
+stands_or_not k (n ∷ ns) =
+    elim (cases_Bool (eqb k n)) [
+      inl same ↦ inl (0, omega arith, sym (eqb-true k n same))
+    | inr other ↦ elim (stands_or_not k ns) [
+        inl c ↦ inl (suc c.0, omega (arith, c.1), c.2)
+      | inr a ↦ inr (All-cons (λ n. k ≢ n) n ns (eqb-false k n other) a)
+      ]
+    ]
+
+cleared_by : (used : List Bool) (ns : List ℕ) (k : ℕ) (d : Bool) → k < length used → Contains ns k → get_or (clear_all used ns) k d ≡ false
+cleared_by used [] k d l c = absurd (omega (arith, c.1))
+cleared_by used (n ∷ ns) k d l (suc i, b, e) =
+    cleared_by (set used n false) ns k d (omega (arith, l, length-set used n false)) (i, omega arith, e)
+cleared_by used (n ∷ ns) k d l (zero, b, e) =
+    elim (stands_or_not k ns) [
+      inl c ↦ cleared_by (set used n false) ns k d (omega (arith, l, length-set used n false)) c
+    | inr a ↦ cleared_other (set used n false) ns k d a ∙ get_or-set_at used n k false d (sym e) (omega arith)
+    ]
+
+-- sectors that were free are so again
+pub set_and_cleared : (used : List Bool) (ns : List ℕ) → All (λ n. get_or used n true ≡ false) ns → clear_all (set_all used ns) ns ≡ used
+set_and_cleared used ns free =
+    let long : length (clear_all (set_all used ns) ns) ≡ length used = length-clear_all (set_all used ns) ns ∙ length-set_all used ns in
+    same_lists (clear_all (set_all used ns) ns) used long
+      (λ k d l.
+        let below : k < length used = omega arith in
+        elim (stands_or_not k ns) [
+          inl c ↦
+            cleared_by (set_all used ns) ns k d (omega (arith, length-set_all used ns)) c
+            ∙ sym (get_or_default used k d true below ∙ All-contains (λ n. get_or used n true ≡ false) ns k free c)
+        | inr a ↦ cleared_other (set_all used ns) ns k d a ∙ set_other used ns k d a
+        ])
