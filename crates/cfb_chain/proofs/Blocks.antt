@@ -1,8 +1,8 @@
 -- The bytes of sectors, as slices of the code give them.
 use Rattle.std.proofs.Common.{◌≡◌, ◌≤◌, ◌<◌, ◌+◌, ◌-◌, ◌*◌, ◌⊎◌, inl, inr, ℕ, zero, suc, List, [], ◌∷◌, ◌++◌, length, take, drop, replicate, refl, arith, append_assoc, min, length-append, length-drop, ap, ◌∙◌, sym, subst}
-use Rattle.std.proofs.lemmas.List.{drop_min, length-replicate, length-take, take_all, take_min}
+use Rattle.std.proofs.lemmas.List.{drop_all, drop_min, length-replicate, length-take, take_all, take_min}
 use Rattle.std.specs.List.{flat_map}
-use Rattle.cfb_chain.specs.Bytes.{block, joined}
+use Rattle.cfb_chain.specs.Bytes.{block, joined, u32_at}
 
 -- a sector is added: what there is of its bytes, and zeros
 pub block_pushed : (w at m k n : ℕ) (out mid new bytes : List ℕ) → n ≡ length out → m ≡ min at (length bytes)
@@ -36,3 +36,8 @@ pub length_joined : (piece : ℕ → List ℕ) (w : ℕ) (ns : List ℕ) → ((n
 length_joined piece w [] wide = omega arith
 length_joined piece w (n ∷ ns) wide =
     length-append (piece n) (joined piece ns) ∙ (λ i. wide n i + length_joined piece w ns wide i) ∙ omega arith
+
+-- no number stands past the end
+pub u32_at_past : (bytes : List ℕ) (at : ℕ) → length bytes ≤ at → u32_at bytes at ≡ 0
+unfolding u32_at
+u32_at_past bytes at h = rw (drop_all at bytes h) refl
