@@ -1,7 +1,6 @@
 -- The bytes of sectors, as slices of the code give them.
-use Rattle.std.proofs.Common.{◌≡◌, ◌≤◌, ◌<◌, ◌+◌, ◌-◌, ◌*◌, ◌⊎◌, inl, inr, ℕ, zero, suc, List, [], ◌∷◌, ◌++◌, length, take, drop, replicate, refl, arith, append_assoc, min, length-append, length-drop, ap, ◌∙◌, sym, subst}
+use Rattle.std.proofs.Common.{◌≡◌, ◌≤◌, ◌+◌, ◌-◌, ◌*◌, ℕ, List, [], ◌∷◌, ◌++◌, length, take, drop, replicate, refl, arith, append_assoc, min, length-append, length-drop, ap, ◌∙◌}
 use Rattle.std.proofs.lemmas.List.{drop_all, drop_min, length-replicate, length-take, take_all, take_min}
-use Rattle.std.specs.List.{flat_map}
 use Rattle.cfb_chain.specs.Bytes.{block, joined, u32_at}
 
 -- a sector is added: what there is of its bytes, and zeros
@@ -15,9 +14,9 @@ block_pushed w at m k n out mid new bytes en em ek emid enew =
     let rest : List ℕ = drop at bytes in
     let a : drop m bytes ≡ rest = ap (λ m. drop m bytes) em ∙ drop_min at bytes in
     let b : take (length bytes - m) (drop m bytes) ≡ rest =
-      take_all (length bytes - m) (drop m bytes) (omega (arith, length-drop m bytes)) ∙ a in
+    take_all (length bytes - m) (drop m bytes) (omega (arith, length-drop m bytes)) ∙ a in
     let d : mid ≡ out ++ take w rest =
-      emid ∙ (λ i. out ++ take (ek i) (b i)) ∙ ap (λ l. out ++ take (min w (length l)) rest) b ∙ ap (λ l. out ++ l) (take_min w rest) in
+    emid ∙ (λ i. out ++ take (ek i) (b i)) ∙ ap (λ l. out ++ take (min w (length l)) rest) b ∙ ap (λ l. out ++ l) (take_min w rest) in
     let len : length mid ≡ length out + min w (length rest) = ap (λ l. length l) d ∙ length-append out (take w rest) ∙ ap (λ l. length out + l) (length-take w rest) in
     let fill : n + w - length mid ≡ w - length rest = omega (arith, en, len) in
     let all : take (n + w) mid ≡ out ++ take w rest = take_all (n + w) mid (omega (arith, en, len)) ∙ d in

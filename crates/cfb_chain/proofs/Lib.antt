@@ -3,3 +3,4 @@ pub mod Written
 pub mod Marks
 pub mod Chains
 pub mod Blocks
+pub mod Results

@@ -6,9 +6,17 @@ ghost use Rattle.std.specs.Prelude.{◌*◌, ◌+◌, ◌++◌, ◌<◌, ◌≡�
 use crate::bytes::read_u32;
 use std::alloc::{AllocError, Global};
 
+/// The size of a sector.
+pub(crate) const SECTOR: usize = 512;
+
 /// Adds the bytes of a sector, zero bytes standing for those past the end.
 
-pub(crate) fn push_block(out: &mut Vec<u8>, width: usize, bytes: &[u8], at: usize) -> Result<(), AllocError>
+pub(crate) fn push_block(
+    out: &mut Vec<u8>,
+    width: usize,
+    bytes: &[u8],
+    at: usize,
+) -> Result<(), AllocError>
     requires { width ≤ 512 }
     ensures { OnOk result (out.new.items ≡ out.old.items ++ block width bytes.now at) }
 {
@@ -45,7 +53,11 @@ fn number(bytes: &[u8], k: usize) -> u32
     requires fits { k < 2 ^ 60 }
     ensures { result ≡ u32_at bytes.now (4 * k) }
 {
-    if 4 * k < bytes.len() { read_u32(bytes, 4 * k) } else { 0 }
+    if 4 * k < bytes.len() {
+        read_u32(bytes, 4 * k)
+    } else {
+        0
+    }
 }
 
 /// So many numbers of four bytes each, 0 for those past the end.
