@@ -132,12 +132,68 @@ impl<'a> Fat<'a> {
         Ok(bytes)
     }
 
+    /// The first `len` bytes of the chain from a sector on, whose sectors it marks. Where `len` is 0 there is no chain,
+    /// and nothing is walked. A refusal marks none.
+    ///
+    /// Refused: as for `chain`, and `ShortChain` where the chain has no room for so many bytes.
+    pub fn bytes(&mut self, alloc: Global, start: u32, len: u32) -> Result<Vec<u8>, ChainFault>
+        ensures found { IfOk result (λ v. (ns : List ℕ) × IsFound self.old start len ns × (v.items ≡ take len (joined (store_of self.old).piece ns)) × (self.new ≡ marked self.old ns)) }
+        ensures refused { IfErr result (MayRefuse self.old start len) }
+        ensures there { (ns : List ℕ) → IsFound self.old start len ns → IfErr result (λ e. e ≡ NoMemory) }
+        ensures kept { OnErr result (self.new ≡ self.old) }
+    {
+        let sectors = self.find(alloc, start, len as u64)?;
+        let mut bytes = self.join(alloc, &sectors)?;
+        bytes.truncate(len as usize);
+        self.mark(&sectors);
+        Ok(bytes)
+    }
+
+    /// The least sector that is free: in the table, not marked, and with the value of a sector that isn't used.
+    pub fn free_sector(&self) -> Option<u32>
+        ensures found { IfSome result (λ n. IsFree self.now n × (slice_index self.now.table n ≡ FREE_SECTOR)) }
+        ensures least { IfSome result (λ n. (k : ℕ) → k < n → IsFree self.now k → slice_index self.now.table k ≢ FREE_SECTOR) }
+        ensures none { IfNone result ((k : ℕ) → IsFree self.now k → slice_index self.now.table k ≢ FREE_SECTOR) }
+    {
+        for n in 0..self.next.len() {
+            if self.next[n] == FREE_SECTOR && !self.used[n] {
+                return Some(n as u32);
+            }
+        }
+        None
+    }
+
+    /// The chain from a sector on with room for `len` bytes, or none where `len` is 0, marking nothing.
+    fn find(&self, alloc: Global, start: u32, len: u64) -> Result<Vec<u32>, ChainFault>
+        ensures found { IfOk result (λ v. IsFound self.now start len v.items) }
+        ensures refused { IfErr result (MayRefuse self.now start len) }
+        ensures there { (ns : List ℕ) → IsFound self.now start len ns → IfErr result (λ e. e ≡ NoMemory) }
+    {
+        if len == 0 {
+            return Ok(Vec::new(alloc));
+        }
+        let sectors = self.walk(alloc, start)?;
+        if self.room(sectors.len()) < len {
+            return Err(ChainFault::ShortChain);
+        }
+        Ok(sectors)
+    }
+
+    /// How many bytes there are in so many sectors.
+    fn room(&self, sectors: usize) -> u64
+        requires { sectors ≤ 0xFFFFFFFF }
+        ensures { result ≡ self.now.width * sectors }
+    {
+        (self.pieces.width() * sectors) as u64
+    }
+
     /// The chain from a sector on, marking nothing.
     fn walk(&self, alloc: Global, start: u32) -> Result<Vec<u32>, ChainFault>
         ensures linked { IfOk result (λ v. IsChain (store_of self.now) start 0 v.items) }
         ensures free { IfOk result (λ v. AreFree self.now v.items) }
         ensures refused { IfErr result (MayRefuse self.now start 0) }
         ensures few { length self.now.table ≤ 0xFFFFFFF9 }
+        ensures short { IfOk result (λ v. length v.items ≤ length self.now.table) }
     {
         let mut sectors = Vec::new(alloc);
         let mut at = start;
