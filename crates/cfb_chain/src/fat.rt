@@ -4,8 +4,8 @@ ghost use Rattle.cfb_chain.specs.Bytes.{joined};
 ghost use Rattle.cfb_chain.specs.Chain.{FREE_SECTOR, IsChain};
 ghost use Rattle.cfb_chain.specs.Fat.{AreFree, IsFat, IsFound, IsFree, IsMiniFound, IsMiniTable, IsTableOf, MayRefuse, MayRefuseFat, MayRefuseMini, marked, sectors_in, store_of};
 ghost use Rattle.cfb_chain.specs.View.{bytes_of, start_of, width_of};
-ghost use Rattle.cfb_chain.specs.declared.fault.ChainFault.TheVariants.{CrossLinked, NoMemory};
-ghost use Rattle.std.specs.List.{All};
+ghost use Rattle.cfb_chain.specs.declared.fault.ChainFault.TheVariants.{CrossLinked, NoMemory, OutOfFile};
+ghost use Rattle.std.specs.List.{All, Contains};
 ghost use Rattle.std.specs.Prelude.{◌*◌, ◌+◌, ◌++◌, ◌<◌, ◌^◌, ◌≡◌, ◌≢◌, ◌≤◌, IfErr, IfNone, IfOk, IfSome, List, OnErr, OnOk, length, slice_index, take, ℕ};
 
 use crate::fault::ChainFault;
@@ -88,6 +88,19 @@ fn count_sectors(file: &[u8]) -> usize
     ((file.len() + 511) / SECTOR).saturating_sub(1)
 }
 
+/// Refuses a sector that isn't among the first `count`.
+fn check_present(sectors: &[u32], count: usize) -> Result<(), ChainFault>
+    ensures present { OnOk result (All (λ n. n < count) sectors.now) }
+    ensures refused { IfErr result (λ e. (e ≡ OutOfFile) × ((n : ℕ) × Contains sectors.now n × (count ≤ n))) }
+{
+    for n in sectors {
+        if *n as usize >= count {
+            return Err(ChainFault::OutOfFile);
+        }
+    }
+    Ok(())
+}
+
 impl<'a> Fat<'a> {
     /// The table of a file. It marks its own sectors.
     ///
@@ -95,8 +108,21 @@ impl<'a> Fat<'a> {
     pub fn load(alloc: Global, header: &Header, file: &'a [u8]) -> Result<Fat<'a>, ChainFault>
         ensures table { IfOk result (λ f. IsTableOf file.now header.now.fat f) }
         ensures refused { IfErr result (MayRefuseFat file.now header.now.fat) }
+        ensures there { IsFat file.now header.now.fat → IfErr result (λ e. e ≡ NoMemory) }
     {
-        Err(ChainFault::NoMemory)
+        let listed = header.fat();
+        let count = (128 * header.fat_count()).min(count_sectors(file));
+        check_present(listed, count)?;
+        let bytes = join_blocks(alloc, SECTOR, file, SECTOR, listed)?;
+        let next = numbers(alloc, &bytes, count)?;
+        let used = vec![in alloc; false; count]?;
+        let mut fat = Fat {
+            pieces: Pieces::Sectors(file),
+            next,
+            used,
+        };
+        fat.mark_apart(listed)?;
+        Ok(fat)
     }
 
     /// The chain from a sector on, whose sectors it marks. A refusal marks none.
@@ -212,6 +238,23 @@ impl<'a> Fat<'a> {
             at = self.next[n];
         }
         Ok(sectors)
+    }
+
+    /// Marks sectors as used, of which none may be used before.
+    fn mark_apart(&mut self, sectors: &[u32]) -> Result<(), ChainFault>
+        requires { All (λ n. n < length self.old.table) sectors.now }
+        ensures marks { OnOk result (self.new ≡ marked self.old sectors.now) }
+        ensures free { OnOk result (AreFree self.old sectors.now) }
+        ensures refused { IfErr result (λ e. (e ≡ CrossLinked) × (AreFree self.old sectors.now → ⊥)) }
+    {
+        for n in sectors {
+            let n = *n as usize;
+            if self.used[n] {
+                return Err(ChainFault::CrossLinked);
+            }
+            self.used[n] = true;
+        }
+        Ok(())
     }
 
     /// Marks sectors as used.
