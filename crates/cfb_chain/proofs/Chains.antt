@@ -233,3 +233,8 @@ chain_some s start (suc n) ns some h = h
 
 pub chain_any : (s : Store) (start bytes : ℕ) (ns : List ℕ) → IsChain s start bytes ns → IsChain s start 0 ns
 chain_any s start bytes ns h = record { linked = h.linked; present = h.present; enough = omega arith }
+
+-- the room in a chain
+pub chain_room : (s : Store) (start bytes : ℕ) (ns : List ℕ) → IsChainOf s start bytes ns → bytes ≤ s.width * length ns
+chain_room s start zero ns h = omega arith
+chain_room s start (suc n) ns h = h.enough

@@ -2,11 +2,11 @@
 
 ghost use Rattle.cfb_chain.specs.Bytes.{joined};
 ghost use Rattle.cfb_chain.specs.Chain.{FREE_SECTOR, IsChain};
-ghost use Rattle.cfb_chain.specs.Fat.{AreFree, IsFat, IsFound, IsFree, IsMiniFound, IsMiniTable, IsTableOf, MayRefuse, MayRefuseFat, MayRefuseMini, marked, sectors_in, store_of};
+ghost use Rattle.cfb_chain.specs.Fat.{AreFree, FatValue, IsFat, IsFound, IsFree, IsMiniFound, IsMiniTable, IsTableOf, MayRefuse, MayRefuseFat, MayRefuseMini, marked, sectors_in, store_of};
 ghost use Rattle.cfb_chain.specs.View.{bytes_of, start_of, width_of};
 ghost use Rattle.cfb_chain.specs.declared.fault.ChainFault.TheVariants.{CrossLinked, NoMemory, OutOfFile};
 ghost use Rattle.std.specs.List.{All, Contains};
-ghost use Rattle.std.specs.Prelude.{◌*◌, ◌+◌, ◌++◌, ◌<◌, ◌^◌, ◌≡◌, ◌≢◌, ◌≤◌, IfErr, IfNone, IfOk, IfSome, List, OnErr, OnOk, length, slice_index, take, ℕ};
+ghost use Rattle.std.specs.Prelude.{◌*◌, ◌+◌, ◌++◌, ◌<◌, ◌^◌, ◌≡◌, ◌≢◌, ◌≤◌, ◌⊎◌, IfErr, IfNone, IfOk, IfSome, List, OnErr, OnOk, length, slice_index, take, ℕ};
 
 use crate::fault::ChainFault;
 use crate::header::Header;
@@ -61,7 +61,8 @@ impl<'a> Pieces<'a> {
 
     /// The size of each.
     fn width(&self) -> usize
-        ensures { result ≡ width_of self.now }
+        ensures value { result ≡ width_of self.now }
+        ensures either { (result ≡ 512) ⊎ (result ≡ 64) }
     {
         match self {
             Pieces::Sectors(_) => SECTOR,
@@ -175,6 +176,75 @@ impl<'a> Fat<'a> {
         Ok(bytes)
     }
 
+    /// The table of the mini stream of `size` bytes that begins at `start`, with the mini FAT that the header names. The
+    /// sectors of both chains are marked. A refusal marks none.
+    ///
+    /// Refused: as for `bytes`, for either chain.
+    pub fn mini(
+        &mut self,
+        alloc: Global,
+        header: &Header,
+        start: u32,
+        size: u32,
+    ) -> Result<Fat<'a>, ChainFault>
+        ensures found { IfOk result (λ m. (mini_fat : List ℕ) × (mini_stream : List ℕ)
+            × IsMiniFound self.old header.now.first_mini_fat header.now.mini_fat_count start size mini_fat mini_stream
+            × IsMiniTable self.old (take header.now.mini_fat_count mini_fat) mini_stream size m
+            × (self.new ≡ marked self.old (mini_fat ++ mini_stream))) }
+        ensures refused { IfErr result (MayRefuseMini self.old header.now start size) }
+        ensures there { (mini_fat : List ℕ) → (mini_stream : List ℕ)
+            → IsMiniFound self.old header.now.first_mini_fat header.now.mini_fat_count start size mini_fat mini_stream
+            → IfErr result (λ e. e ≡ NoMemory) }
+        ensures kept { OnErr result (self.new ≡ self.old) }
+    {
+        let count = header.mini_fat_count() as usize;
+        let sectors = self.find(
+            alloc,
+            header.first_mini_fat(),
+            512 * header.mini_fat_count() as u64,
+        )?;
+        self.mark(&sectors);
+        match self.mini_table(alloc, &sectors[..count], start, size) {
+            Ok(mini) => Ok(mini),
+            Err(fault) => {
+                self.clear(&sectors);
+                Err(fault)
+            }
+        }
+    }
+
+    /// The table of the mini stream of `size` bytes that begins at `start`, whose mini FAT lies in these sectors. The mini
+    /// stream's sectors are marked.
+    fn mini_table(
+        &mut self,
+        alloc: Global,
+        mini_fat: &[u32],
+        start: u32,
+        size: u32,
+    ) -> Result<Fat<'a>, ChainFault>
+        requires present { All (λ n. n < length self.old.table) mini_fat.now }
+        requires few { length mini_fat.now < 2 ^ 32 }
+        ensures found { IfOk result (λ m. (mini_stream : List ℕ) × IsFound self.old start size mini_stream
+            × IsMiniTable self.old mini_fat.now mini_stream size m
+            × (self.new ≡ marked self.old mini_stream)) }
+        ensures refused { IfErr result (MayRefuse self.old start size) }
+        ensures there { (ns : List ℕ) → IsFound self.old start size ns → IfErr result (λ e. e ≡ NoMemory) }
+        ensures kept { OnErr result (self.new ≡ self.old) }
+    {
+        let sectors = self.find(alloc, start, size as u64)?;
+        let stream = self.join(alloc, &sectors)?;
+        let entries = self.join(alloc, mini_fat)?;
+        let count = (128 * mini_fat.len()).min((size as usize + 63) / 64);
+        let next = numbers(alloc, &entries, count)?;
+        let used = vec![in alloc; false; count]?;
+        self.mark(&sectors);
+        Ok(Fat {
+            pieces: Pieces::MiniSectors(stream),
+            next,
+            used,
+        })
+    }
+
     /// The least sector that is free: in the table, not marked, and with the value of a sector that isn't used.
     pub fn free_sector(&self) -> Option<u32>
         ensures found { IfSome result (λ n. IsFree self.now n × (slice_index self.now.table n ≡ FREE_SECTOR)) }
@@ -194,23 +264,17 @@ impl<'a> Fat<'a> {
         ensures found { IfOk result (λ v. IsFound self.now start len v.items) }
         ensures refused { IfErr result (MayRefuse self.now start len) }
         ensures there { (ns : List ℕ) → IsFound self.now start len ns → IfErr result (λ e. e ≡ NoMemory) }
+        ensures either { (self.now.width ≡ 512) ⊎ (self.now.width ≡ 64) }
     {
+        let width = self.pieces.width();
         if len == 0 {
             return Ok(Vec::new(alloc));
         }
         let sectors = self.walk(alloc, start)?;
-        if self.room(sectors.len()) < len {
+        if ((width * sectors.len()) as u64) < len {
             return Err(ChainFault::ShortChain);
         }
         Ok(sectors)
-    }
-
-    /// How many bytes there are in so many sectors.
-    fn room(&self, sectors: usize) -> u64
-        requires { sectors ≤ 0xFFFFFFFF }
-        ensures { result ≡ self.now.width * sectors }
-    {
-        (self.pieces.width() * sectors) as u64
     }
 
     /// The chain from a sector on, marking nothing.
@@ -264,6 +328,16 @@ impl<'a> Fat<'a> {
     {
         for n in sectors {
             self.used[*n as usize] = true;
+        }
+    }
+
+    /// Takes back marks.
+    fn clear(&mut self, sectors: &[u32])
+        requires { All (λ n. n < length self.old.table) sectors.now }
+        ensures { (f : FatValue) → self.old ≡ marked f sectors.now → AreFree f sectors.now → self.new ≡ f }
+    {
+        for n in sectors {
+            self.used[*n as usize] = false;
         }
     }
 }
