@@ -271,3 +271,13 @@ clash f ns i d l g t =
     let r : AreFree (marked f (take i ns)) (n ∷ drop (suc i) ns) = free_rest f (take i ns) (n ∷ drop (suc i) ns) (subst (AreFree f) (sym e) g) in
     let q : true ≡ false = sym t ∙ (r.free 0 0 (omega arith)).1 in
     cc
+
+-- a fresh table marks nothing
+pub marks_none : (f : FatValue) → f.used ≡ replicate (length f.table) false → Marks f []
+marks_none f fresh = record {
+    each = sym (ap length fresh ∙ length-replicate (length f.table) false);
+    listed = λ k d l. absurd (omega arith);
+    only = λ n m.
+      absurd (let e : true ≡ false = sym m.1 ∙ ap (λ u. get_or u n true) fresh ∙ get_or-replicate (length f.table) n false true m.0 in cc);
+    once = λ i j d l k. absurd (omega arith);
+  }

@@ -3,9 +3,10 @@ use Rattle.std.proofs.Common.{◌≡◌, ◌<◌, ◌≤◌, ◌*◌, ℕ, List,
 use Rattle.std.proofs.lemmas.List.{get_or-replicate}
 use Rattle.std.proofs.lemmas.List.Elements.{All-weaker}
 use Rattle.std.specs.List.{All, Contains}
-use Rattle.cfb_chain.specs.Bytes.{joined, sector, u32_at}
+use Rattle.cfb_chain.specs.Bytes.{block, joined, sector, u32_at}
 use Rattle.cfb_chain.specs.Chain.{IsPresent}
-use Rattle.cfb_chain.specs.Fat.{AreFree, FatValue, IsTableOf, MayRefuseFat, marked, sectors_in, sectors_of, set_all}
+use Rattle.cfb_chain.specs.Fat.{AreSame, IsMiniTable, mini_sectors_of, store_of, AreFree, FatValue, IsTableOf, MayRefuseFat, marked, sectors_in, sectors_of, set_all}
+use Rattle.cfb_chain.proofs.Chains.{joined_same}
 use Rattle.cfb_chain.specs.declared.fault.ChainFault.TheVariants.{OutOfFile, CrossLinked}
 
 -- a table over a file
@@ -54,3 +55,18 @@ module _ (file fat : List ℕ) (count : ℕ) (e : count ≡ min (128 * length fa
         };
         marks = ap (λ u. set_all u fat) (fresh ∙ ap (λ n. replicate n false) (sym len));
       })
+
+-- The mini sectors that a table of them has are those of the file.
+pub mini_same : (file fat mini_fat mini_stream : List ℕ) (size : ℕ) (f m : FatValue) → AreSame (store_of f) (sectors_of file fat)
+    → All (λ n. n < length f.table) mini_fat → All (λ n. n < length f.table) mini_stream → IsMiniTable f mini_fat mini_stream size m
+    → AreSame (store_of m) (mini_sectors_of file mini_fat mini_stream size)
+unfolding sectors_of mini_sectors_of
+mini_same file fat mini_fat mini_stream size f m same in_fat in_stream h =
+    let entries : joined (store_of f).piece mini_fat ≡ joined (sector file) mini_fat = joined_same (store_of f) (sectors_of file fat) same mini_fat in_fat in
+    let bytes : joined (store_of f).piece mini_stream ≡ joined (sector file) mini_stream = joined_same (store_of f) (sectors_of file fat) same mini_stream in_stream in
+    record {
+      count = h.sectors.count;
+      width = h.sectors.width;
+      piece = λ n l. h.sectors.piece n l ∙ ap (λ x. block 64 x (64 * n)) bytes;
+      next = λ n l. h.sectors.next n l ∙ ap (λ x. u32_at x (4 * n)) entries;
+    }
