@@ -5,3 +5,6 @@ mod bytes;
 pub mod fat;
 pub mod fault;
 pub mod header;
+mod sectors;
+#[cfg(test)]
+mod tests;
