@@ -7,11 +7,10 @@ use Rattle.std.specs.List.{All, concat}
 use Rattle.cfb_directory.specs.Entries.{root_name}
 use Rattle.cfb_directory.specs.Written.{entry_bytes, free_entry_bytes}
 use Rattle.storage_tree.specs.Tree.{Tree, Children, tree, none, stream, storage}
-use Rattle.stream_io.specs.Balanced.{balanced}
 use Rattle.stream_io.specs.Need.{entries, directory_sectors}
 use Rattle.stream_io.specs.Refusals.{has_long, has_long_in, has_storage}
 use Rattle.stream_io.specs.View.{named}
-use Rattle.stream_io.specs.Written.{NamedBytes, children_of, directory_bytes, root_fields, stream_entries, streams}
+use Rattle.stream_io.specs.Written.{Links, NamedBytes, children_of, directory_bytes, root_fields, stream_entries, streams}
 use Rattle.stream_io.specs.declared.write.Stream.{Stream}
 use Rattle.stream_io.proofs.ContentsRoom.{entries-flat}
 
@@ -35,10 +34,9 @@ listed_short (tree class state cs) listed e short = λ k d l.
     subst (λ (s : NamedBytes). length s.bytes < 4096) (get_or-map named listed k d (named d) l) (all k (named d) within)
 
 -- the directory's parts, one after another
-pub directory_joined : (f count n : ℕ) (t : Tree) (listed : List Stream) → map named listed ≡ streams (children_of t) → count ≡ length listed
+pub directory_joined : (f n : ℕ) (links : Links) (t : Tree) (listed : List Stream) → map named listed ≡ streams (children_of t)
     → n ≡ 4 * directory_sectors t - (1 + entries t)
-    → (entry_bytes root_name (root_fields f (balanced count) t) ++ stream_entries (balanced (length listed)) 0 0 (map named listed))
-      ++ concat (replicate n free_entry_bytes) ≡ directory_bytes f (balanced (length listed)) t
-directory_joined f count n t listed e same free = λ i.
-    (entry_bytes root_name (root_fields f (balanced (same i)) t) ++ stream_entries (balanced (length listed)) 0 0 (e i))
-    ++ concat (replicate (free i) free_entry_bytes)
+    → (entry_bytes root_name (root_fields f links t) ++ stream_entries links 0 0 (map named listed))
+      ++ concat (replicate n free_entry_bytes) ≡ directory_bytes f links t
+directory_joined f n links t listed e free = λ i.
+    (entry_bytes root_name (root_fields f links t) ++ stream_entries links 0 0 (e i)) ++ concat (replicate (free i) free_entry_bytes)

@@ -3,12 +3,12 @@
 ghost use Rattle.cfb_chain.specs.Chain.{FAT_SECTOR as FAT_SECTOR_VALUE};
 ghost use Rattle.cfb_chain.specs.Header.{header_bytes};
 ghost use Rattle.cfb_directory.specs.Entries.{root_name};
+ghost use Rattle.cfb_directory.specs.SearchTree.{link_to};
 ghost use Rattle.cfb_directory.specs.Written.{entry_bytes, free_entry_bytes};
 ghost use Rattle.std.specs.Int.{to_le_bytes, w32};
 ghost use Rattle.std.specs.List.{All, concat, flat_map, range_with_len, sum};
 ghost use Rattle.std.specs.Prelude.{◌≡◌, ◌≤◌, ◌<◌, ◌+◌, ◌-◌, ◌*◌, ◌^◌, ◌++◌, ℕ, Err, IfErr, IfNone, IfOk, IfSome, Ok, OnOk, OnSome, length, map, min, replicate, true, false};
 ghost use Rattle.std.specs.Vec.{vec_len};
-ghost use Rattle.stream_io.specs.Balanced.{balanced, span_of, top};
 ghost use Rattle.storage_tree.specs.Kept.{kept};
 ghost use Rattle.storage_tree.specs.Whole.{IsTree};
 ghost use Rattle.stream_io.specs.Denotes.{Denotes};
@@ -16,13 +16,14 @@ ghost use Rattle.stream_io.specs.Image.{image, padded, run, runs, start, table_b
 ghost use Rattle.stream_io.specs.Need.{over_streams, pieces, short_pieces};
 ghost use Rattle.stream_io.specs.Placed.{Fits};
 ghost use Rattle.stream_io.specs.Refusals.{Refuses, has_long, has_storage, writable};
-ghost use Rattle.stream_io.specs.View.{IsCount, named, seen};
+ghost use Rattle.stream_io.specs.View.{IsCount, linked, named, seen};
 ghost use Rattle.stream_io.specs.Written.{children_of, directory_bytes, mini_stream_of, minis_of, parts, root_fields, stream_entries, stream_fields, streams};
 ghost use Rattle.storage_tree.specs.View.{view};
 
 use cfb_chain::fat::END_OF_CHAIN;
 use cfb_chain::header::Header;
-use cfb_directory::entries::EntryKind;
+use cfb_directory::entries::{EntryKind, NO_STREAM};
+use cfb_directory::links::{Links, balanced};
 use cfb_directory::name::Name;
 use cfb_directory::write::{EntryFields, write_entry, write_free_entry};
 use crate::fault::WriteFault;
@@ -109,36 +110,14 @@ fn push_runs(table: &mut Vec<u32>, at: u32, counts: &[u32]) -> Result<(), AllocE
     Ok(())
 }
 
-/// The value of a missing sibling or child.
-const NO_STREAM: u32 = 0xffff_ffff;
-
-/// The entry on top of siblings from one place up to another: that of a place p is p + 1.
-fn top_of(low: u32, high: u32) -> u32
-    requires { high < 2 ^ 31 }
-    ensures { result ≡ top low high }
+/// The entry of the sibling at a place, of which the first is entry 1.
+fn entry_of(place: u32) -> u32
+    ensures { result ≡ link_to (λ p. p + 1) place }
 {
-    if low < high {
-        low + (high - low) / 2 + 1
-    } else {
+    if place == NO_STREAM {
         NO_STREAM
-    }
-}
-
-/// The entries to the left and right of the one at a place, among siblings from one place up to another.
-fn sides(low: u32, high: u32, place: u32) -> (u32, u32)
-    requires above { low ≤ place }
-    requires below { place < high }
-    requires small { high < 2 ^ 31 }
-    ensures left { (depth : ℕ) → high - low ≤ depth → result.0 ≡ top (span_of depth low high place).low place }
-    ensures right { (depth : ℕ) → high - low ≤ depth → result.1 ≡ top (place + 1) (span_of depth low high place).high }
-{
-    let middle = low + (high - low) / 2;
-    if place < middle {
-        sides(low, middle, place)
-    } else if middle < place {
-        sides(middle + 1, high, place)
     } else {
-        (top_of(low, place), top_of(place + 1, high))
+        place + 1
     }
 }
 
@@ -180,25 +159,24 @@ fn start_of(at: u32, count: u32) -> u32
     if count == 0 { END_OF_CHAIN } else { at }
 }
 
-/// Adds the entry of the stream at a place among so many siblings, whose bytes start at a mini sector.
+/// Adds the entry of the stream at a place among its siblings, whose bytes start at a mini sector.
 fn push_stream(
     out: &mut Vec<u8>,
-    count: u32,
-    place: u32,
+    links: &Links,
+    place: usize,
     at: u32,
     stream: &Stream<'_>,
 ) -> Result<(), AllocError>
-    requires below { place < count }
-    requires few { count < 2 ^ 31 }
+    requires in_left { place < length links.now.left.items }
+    requires in_right { place < length links.now.right.items }
     requires short { length stream.now.bytes.now < 4096 }
-    ensures { OnOk result (out.new.items ≡ out.old.items ++ entry_bytes stream.now.name.now (stream_fields (balanced count) place at (length stream.now.bytes.now))) }
+    ensures { OnOk result (out.new.items ≡ out.old.items ++ entry_bytes stream.now.name.now (stream_fields (linked links.now) place at (length stream.now.bytes.now))) }
 {
-    let (left, right) = sides(0, count, place);
     let size = stream.bytes.len();
     let fields = EntryFields {
         kind: EntryKind::Stream,
-        left,
-        right,
+        left: entry_of(links.left[place]),
+        right: entry_of(links.right[place]),
         child: NO_STREAM,
         class: [0; 16],
         state: 0,
@@ -210,15 +188,20 @@ fn push_stream(
 }
 
 /// Adds the entries of streams, which are all the siblings there are.
-fn push_streams(out: &mut Vec<u8>, streams: &[Stream<'_>]) -> Result<(), AllocError>
+fn push_streams(
+    out: &mut Vec<u8>,
+    links: &Links,
+    streams: &[Stream<'_>],
+) -> Result<(), AllocError>
+    requires in_left { length streams.now ≤ length links.now.left.items }
+    requires in_right { length streams.now ≤ length links.now.right.items }
     requires few { length streams.now < 2 ^ 16 }
     requires short { All (λ s. length s.bytes.now < 4096) streams.now }
-    ensures { OnOk result (out.new.items ≡ out.old.items ++ stream_entries (balanced (length streams.now)) 0 0 (map named streams.now)) }
+    ensures { OnOk result (out.new.items ≡ out.old.items ++ stream_entries (linked links.now) 0 0 (map named streams.now)) }
 {
-    let count = streams.len() as u32;
     let mut at = 0;
     for (place, stream) in streams.iter().enumerate() {
-        push_stream(out, count, place as u32, at, stream)?;
+        push_stream(out, links, place, at, stream)?;
         at += mini_sectors(stream.bytes.len());
     }
     Ok(())
@@ -437,10 +420,11 @@ fn push_root(
     fat_count: u32,
     root: &Storage,
     counts: Counts,
+    links: &Links,
 ) -> Result<(), AllocError>
     requires few { fat_count ≤ 109 }
     requires counted { IsCount counts (view root.now) }
-    ensures pushed { OnOk result (out.new.items ≡ out.old.items ++ entry_bytes root_name (root_fields fat_count (balanced counts.children) (view root.now))) }
+    ensures pushed { OnOk result (out.new.items ≡ out.old.items ++ entry_bytes root_name (root_fields fat_count (linked links.now) (view root.now))) }
     ensures class { OnOk result (length root.now.class ≡ 16) }
     ensures state { OnOk result (root.now.state < 2 ^ 32) }
 {
@@ -449,7 +433,7 @@ fn push_root(
         kind: EntryKind::Root,
         left: NO_STREAM,
         right: NO_STREAM,
-        child: top_of(0, counts.children),
+        child: entry_of(links.top),
         class: class_of(root.class.as_bytes()),
         state: root.state,
         first: start_of(behind, (64 * counts.minis).div_ceil(512)),
@@ -475,33 +459,43 @@ fn directory(
     fat_count: u32,
     root: &Storage,
     counts: Counts,
+    links: &Links,
     listed: &[Stream<'_>],
 ) -> Result<Vec<u8>, AllocError>
     requires few { fat_count ≤ 109 }
     requires counted { IsCount counts (view root.now) }
+    requires in_left { length links.now.left.items ≡ counts.children }
+    requires in_right { length links.now.right.items ≡ counts.children }
     requires listed { map named listed.now ≡ streams (children_of (view root.now)) }
-    ensures written { IfOk result (λ v. v.items ≡ directory_bytes fat_count (balanced counts.children) (view root.now)) }
+    ensures written { IfOk result (λ v. v.items ≡ directory_bytes fat_count (linked links.now) (view root.now)) }
     ensures class { OnOk result (length root.now.class ≡ 16) }
     ensures state { OnOk result (root.now.state < 2 ^ 32) }
 {
     let mut out = Vec::new(alloc);
-    push_root(&mut out, fat_count, root, counts)?;
-    push_streams(&mut out, listed)?;
+    push_root(&mut out, fat_count, root, counts, links)?;
+    push_streams(&mut out, links, listed)?;
     let used = 1 + counts.children;
     push_free_entries(&mut out, 4 * used.div_ceil(4) - used)?;
     Ok(out)
 }
 
 /// The parts of the file of a root, behind one FAT sector.
-fn parts_of(alloc: Global, root: &Storage, counts: Counts) -> Result<Parts, AllocError>
-    requires { IsCount counts (view root.now) }
-    ensures parts { IfOk result (λ p. seen p ≡ parts 1 (balanced counts.children) (view root.now)) }
+fn parts_of(
+    alloc: Global,
+    root: &Storage,
+    counts: Counts,
+    links: &Links,
+) -> Result<Parts, AllocError>
+    requires counted { IsCount counts (view root.now) }
+    requires in_left { length links.now.left.items ≡ counts.children }
+    requires in_right { length links.now.right.items ≡ counts.children }
+    ensures parts { IfOk result (λ p. seen p ≡ parts 1 (linked links.now) (view root.now)) }
     ensures class { OnOk result (length root.now.class ≡ 16) }
     ensures state { OnOk result (root.now.state < 2 ^ 32) }
 {
     let listed = list_streams(alloc, root)?;
     Ok(Parts {
-        directory: directory(alloc, 1, root, counts, &listed)?,
+        directory: directory(alloc, 1, root, counts, links, &listed)?,
         minis: minis(alloc, &listed)?,
         mini_stream: mini_stream(alloc, &listed)?,
     })
@@ -515,7 +509,8 @@ fn write_root(alloc: Global, root: &Storage) -> Result<Vec<u8>, WriteFault>
     ensures allowed { OnOk result (writable (view root.now) ≡ Ok tt) }
 {
     let counts = count(root)?;
-    let parts = parts_of(alloc, root, counts)?;
+    let links = balanced(alloc, counts.children)?;
+    let parts = parts_of(alloc, root, counts, &links)?;
     Ok(lay_out(alloc, 1, &parts)?)
 }
 

@@ -8,4 +8,4 @@ use Rattle.stream_io.proofs.write.parts_of.Goals as goal
 pub minis-requires : goal.minis-requires
 minis-requires c =
     let listed : map named c.deref-2.result.now ≡ streams (children_of (view c.args.root.now)) = search rules in
-    listed_short (view c.args.root.now) c.deref-2.result.now listed c.requires.short
+    listed_short (view c.args.root.now) c.deref-2.result.now listed c.requires.counted.short
