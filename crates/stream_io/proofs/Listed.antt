@@ -29,7 +29,7 @@ pub listed_short : (t : Tree) (listed : List Stream) → map named listed ≡ st
     → All (λ s. length s.bytes.now < 4096) listed
 listed_short (tree class state cs) listed e short = λ k d l.
     let all : All (λ s. length s.bytes < 4096) (map named listed) =
-      subst (λ (ss : List NamedBytes). All (λ s. length s.bytes < 4096) ss) (sym e) (streams_short cs short) in
+    subst (λ (ss : List NamedBytes). All (λ s. length s.bytes < 4096) ss) (sym e) (streams_short cs short) in
     let within : k < length (map named listed) = omega (arith, length-map listed named) in
     subst (λ (s : NamedBytes). length s.bytes < 4096) (get_or-map named listed k d (named d) l) (all k (named d) within)
 
@@ -37,6 +37,6 @@ listed_short (tree class state cs) listed e short = λ k d l.
 pub directory_joined : (f n : ℕ) (links : Links) (t : Tree) (listed : List Stream) → map named listed ≡ streams (children_of t)
     → n ≡ 4 * directory_sectors t - (1 + entries t)
     → (entry_bytes root_name (root_fields f links t) ++ stream_entries links 0 0 (map named listed))
-      ++ concat (replicate n free_entry_bytes) ≡ directory_bytes f links t
+    ++ concat (replicate n free_entry_bytes) ≡ directory_bytes f links t
 directory_joined f n links t listed e free = λ i.
     (entry_bytes root_name (root_fields f links t) ++ stream_entries links 0 0 (e i)) ++ concat (replicate (free i) free_entry_bytes)

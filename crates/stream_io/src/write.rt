@@ -20,13 +20,13 @@ ghost use Rattle.stream_io.specs.View.{IsCount, linked, named, seen};
 ghost use Rattle.stream_io.specs.Written.{children_of, directory_bytes, mini_stream_of, minis_of, parts, root_fields, stream_entries, stream_fields, streams};
 ghost use Rattle.storage_tree.specs.View.{view};
 
+use crate::fault::WriteFault;
 use cfb_chain::fat::END_OF_CHAIN;
 use cfb_chain::header::Header;
 use cfb_directory::entries::{EntryKind, NO_STREAM};
 use cfb_directory::links::{Links, balanced};
 use cfb_directory::name::Name;
 use cfb_directory::write::{EntryFields, write_entry, write_free_entry};
-use crate::fault::WriteFault;
 use std::alloc::{AllocError, Global};
 use storage_tree::bytes::Bytes;
 use storage_tree::storage::{Node, Storage};
@@ -188,11 +188,7 @@ fn push_stream(
 }
 
 /// Adds the entries of streams, which are all the siblings there are.
-fn push_streams(
-    out: &mut Vec<u8>,
-    links: &Links,
-    streams: &[Stream<'_>],
-) -> Result<(), AllocError>
+fn push_streams(out: &mut Vec<u8>, links: &Links, streams: &[Stream<'_>]) -> Result<(), AllocError>
     requires in_left { length streams.now ≤ length links.now.left.items }
     requires in_right { length streams.now ≤ length links.now.right.items }
     requires few { length streams.now < 2 ^ 16 }
@@ -526,3 +522,6 @@ pub fn write_file(alloc: Global, tree: &Tree) -> Result<Vec<u8>, WriteFault>
     let file = write_root(alloc, tree.root())?;
     Ok(file)
 }
+
+#[cfg(test)]
+mod tests;

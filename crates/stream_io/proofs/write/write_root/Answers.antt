@@ -14,7 +14,7 @@ lay_out-requires c =
     let same : seen c.in_ok-parts.parts ≡ parts 1 (linked c.in_ok-links.links) (view c.args.root.now) = c.in_ok-parts.ensures.parts in
     ∥∥₁_elim c.requires (fits_prop 1 (seen c.in_ok-parts.parts))
     (λ whole. subst (λ (p : Parts). Fits 1 p) (sym same)
-      (root_fits c.args.root.now c.in_ok-counts.counts c.in_ok-links.links c.in_ok-links.ensures.tree c.in_ok-counts.ensures.counted c.in_ok-parts.ensures.class c.in_ok-parts.ensures.state whole))
+    (root_fits c.args.root.now c.in_ok-counts.counts c.in_ok-links.links c.in_ok-links.ensures.tree c.in_ok-counts.ensures.counted c.in_ok-parts.ensures.class c.in_ok-parts.ensures.state whole))
 
 pub returns-clause-denotes : goal.returns-clause-denotes
 returns-clause-denotes c =
@@ -22,4 +22,4 @@ returns-clause-denotes c =
     let file : c.in_ok-lay_out.field-0.items ≡ image 1 (seen c.in_ok-parts.parts) = c.in_ok-lay_out.ensures in
     ∥∥₁_map c.requires
     (λ whole. subst (λ (bytes : List ℕ). Denotes bytes (view c.args.root.now)) (sym (file ∙ ap (λ (p : Parts). image 1 p) same))
-      (root_denoted c.args.root.now c.in_ok-counts.counts c.in_ok-links.links c.in_ok-links.ensures.tree c.in_ok-counts.ensures.counted c.in_ok-parts.ensures.class c.in_ok-parts.ensures.state whole))
+    (root_denoted c.args.root.now c.in_ok-counts.counts c.in_ok-links.links c.in_ok-links.ensures.tree c.in_ok-counts.ensures.counted c.in_ok-parts.ensures.class c.in_ok-parts.ensures.state whole))
