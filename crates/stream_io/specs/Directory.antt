@@ -1,0 +1,152 @@
+-- How the directory of a tree is written: entries stand depth first, siblings in name order (MS-CFB 2.6).
+use Rattle.std.specs.Prelude.{◌≡◌, ◌<◌, ◌+◌, ◌-◌, ◌*◌, ◌^◌, ℕ, List, [], ◌∷◌, ◌++◌, length, map, replicate, slice_index, if◌then◌else◌, nat_lt}
+use Rattle.std.specs.List.{concat, flat_map}
+use Rattle.cfb_directory.specs.Entries.{NO_STREAM, root_name}
+use Rattle.cfb_directory.specs.SearchTree.{link_to, IsSearchTree}
+use Rattle.cfb_directory.specs.Written.{entry_bytes, free_entry_bytes}
+use Rattle.cfb_directory.specs.declared.write.EntryFields.{EntryFields}
+use Rattle.cfb_directory.specs.declared.entries.EntryKind.TheVariants as kinds
+use Rattle.storage_tree.specs.Tree.{Tree, Children, tree, none, stream, storage}
+use Rattle.stream_io.specs.Need.{pieces, entries, entries_of, mini_sectors, long_sectors, short_pieces, long_pieces, directory_sectors, mini_fat_sectors, mini_stream_sectors}
+use Rattle.stream_io.specs.Image.{Parts, start, padded}
+
+-- The links of so many siblings, by their places: the one on top, and those to the left and right of each.
+pub record Siblings : Type 0 where
+  pub top : ℕ
+  pub left : List ℕ
+  pub right : List ℕ
+
+abbrev pub AreBalanced : (ℕ → Siblings) → Type 0
+AreBalanced links = (n : ℕ) → IsSearchTree (links n).left (links n).right 0 n (links n).top
+
+-- the entries of siblings, of which the first has this one; those below a storage stand between it and the next
+abbrev pub ids_from : ℕ → Children → List ℕ
+ids_from id none = []
+ids_from id (stream k n b cs) = id ∷ ids_from (id + 1) cs
+ids_from id (storage k n t cs) = id ∷ ids_from (id + 1 + entries t) cs
+
+-- the entry that a link to one of these siblings names
+abbrev pub linked : List ℕ → ℕ → ℕ
+linked ids place = link_to (slice_index ids) place
+
+-- where a stream starts: in the mini stream or, from 4,096 bytes on, in sectors of its own
+abbrev pub first_of_stream : ℕ → ℕ → ℕ → ℕ
+first_of_stream mini sector size = if nat_lt size 4096 then start mini (pieces 64 size) else start sector (pieces 512 size)
+
+abbrev pub child_of : (ℕ → Siblings) → ℕ → Tree → ℕ
+child_of links id (tree class state cs) = linked (ids_from (id + 1) cs) (links (length (ids_from (id + 1) cs))).top
+
+abbrev pub class_in : Tree → List ℕ
+class_in (tree class state cs) = class
+
+abbrev pub state_in : Tree → ℕ
+state_in (tree class state cs) = state
+
+module _ (links : ℕ → Siblings) where
+  -- the entry of the stream at a place among siblings
+  abbrev pub stream_says : List ℕ → ℕ → ℕ → ℕ → ℕ → EntryFields
+  stream_says ids place mini sector size = record {
+    kind = kinds.Stream;
+    left = linked ids (slice_index (links (length ids)).left place);
+    right = linked ids (slice_index (links (length ids)).right place);
+    child = NO_STREAM;
+    class = replicate 16 0;
+    state = 0;
+    first = first_of_stream mini sector size;
+    size = size;
+  }
+
+  -- the entry of the storage at a place among siblings, which is this one
+  abbrev pub storage_says : List ℕ → ℕ → ℕ → Tree → EntryFields
+  storage_says ids place id t = record {
+    kind = kinds.Storage;
+    left = linked ids (slice_index (links (length ids)).left place);
+    right = linked ids (slice_index (links (length ids)).right place);
+    child = child_of links id t;
+    class = class_in t;
+    state = state_in t;
+    first = 0;
+    size = 0;
+  }
+
+  -- the entries below a storage that has this one, and those of siblings from a place on, where the next entry, mini
+  -- sector and sector are these
+  abbrev mutual
+    pub entries_below : ℕ → ℕ → ℕ → Tree → List ℕ
+    entries_below id mini sector (tree class state cs) = each_entry (ids_from (id + 1) cs) 0 (id + 1) mini sector cs
+
+    pub each_entry : List ℕ → ℕ → ℕ → ℕ → ℕ → Children → List ℕ
+    each_entry ids place id mini sector none = []
+    each_entry ids place id mini sector (stream k n b cs) =
+        entry_bytes n (stream_says ids place mini sector (length b))
+        ++ each_entry ids (place + 1) (id + 1) (mini + short_pieces b) (sector + long_pieces b) cs
+    each_entry ids place id mini sector (storage k n t cs) =
+        entry_bytes n (storage_says ids place id t)
+        ++ (entries_below id mini sector t
+        ++ each_entry ids (place + 1) (id + 1 + entries t) (mini + mini_sectors t) (sector + long_sectors t) cs)
+
+  -- the root's entry, with f FAT sectors in front of the directory
+  abbrev pub root_says : ℕ → Tree → EntryFields
+  root_says f t = record {
+    kind = kinds.Root;
+    left = NO_STREAM;
+    right = NO_STREAM;
+    child = child_of links 0 t;
+    class = class_in t;
+    state = state_in t;
+    first = start (f + directory_sectors t + mini_fat_sectors t) (mini_stream_sectors t);
+    size = 64 * mini_sectors t;
+  }
+
+  -- the first sector behind the FAT, the directory, the mini FAT and the mini stream
+  abbrev pub long_start : ℕ → Tree → ℕ
+  long_start f t = f + directory_sectors t + mini_fat_sectors t + mini_stream_sectors t
+
+  -- the root, what is below it, and free entries up to a whole sector
+  abbrev pub directory_of_tree : ℕ → Tree → List ℕ
+  directory_of_tree f t = entry_bytes root_name (root_says f t)
+      ++ (entries_below 0 0 (long_start f t) t ++ concat (replicate (4 * directory_sectors t - (1 + entries t)) free_entry_bytes))
+
+-- the streams of a tree that lie in the mini stream, in the order of their entries, and the other ones
+abbrev mutual
+  pub short_streams : Tree → List (List ℕ)
+  short_streams (tree class state cs) = short_streams_of cs
+
+  pub short_streams_of : Children → List (List ℕ)
+  short_streams_of none = []
+  short_streams_of (stream k n b cs) = if nat_lt (length b) 4096 then b ∷ short_streams_of cs else short_streams_of cs
+  short_streams_of (storage k n t cs) = short_streams t ++ short_streams_of cs
+
+abbrev mutual
+  pub long_streams : Tree → List (List ℕ)
+  long_streams (tree class state cs) = long_streams_of cs
+
+  pub long_streams_of : Children → List (List ℕ)
+  long_streams_of none = []
+  long_streams_of (stream k n b cs) = if nat_lt (length b) 4096 then long_streams_of cs else b ∷ long_streams_of cs
+  long_streams_of (storage k n t cs) = long_streams t ++ long_streams_of cs
+
+-- how many pieces of a width each takes, and their bytes in whole pieces
+abbrev pub pieces_of : ℕ → List (List ℕ) → List ℕ
+pieces_of width bs = map (λ b. pieces width (length b)) bs
+
+abbrev pub whole_pieces : ℕ → List (List ℕ) → List ℕ
+whole_pieces width bs = flat_map (padded width) bs
+
+-- the parts of a file that holds a tree, without the sectors of long streams
+abbrev pub parts_of : (ℕ → Siblings) → ℕ → Tree → Parts
+parts_of links f t = record {
+  directory = directory_of_tree links f t;
+  minis = pieces_of 64 (short_streams t);
+  mini_stream = padded 512 (whole_pieces 64 (short_streams t));
+}
+
+-- class ids of 16 bytes, numbers of four
+abbrev mutual
+  pub IsSpelled : Tree → Type 0
+  IsSpelled (tree class state cs) = (length class ≡ 16) × (state < 2 ^ 32) × AreSpelled cs
+
+  pub AreSpelled : Children → Type 0
+  AreSpelled none = Unit {0}
+  AreSpelled (stream k n b cs) = (length b < 2 ^ 32) × AreSpelled cs
+  AreSpelled (storage k n t cs) = IsSpelled t × AreSpelled cs
