@@ -12,6 +12,12 @@ use crate::header::Header;
 use std::alloc::Global;
 use std::marker::Model;
 
+/// The value that ends a chain.
+pub const END_OF_CHAIN: u32 = 0xffff_fffe;
+
+/// The value of a sector that isn't used.
+pub const FREE_SECTOR: u32 = 0xffff_ffff;
+
 /// A table of sectors over their bytes, which marks those that are used: the FAT over a file, or the mini FAT over
 /// the mini stream.
 #[derive(Drop)]

@@ -1,6 +1,7 @@
 //! Sectors and chains of a compound file (MS-CFB).
 #![tactic(auto)]
 
+mod bytes;
 pub mod fat;
 pub mod fault;
 pub mod header;
