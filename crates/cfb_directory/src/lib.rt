@@ -4,3 +4,4 @@
 pub mod entries;
 pub mod fault;
 pub mod name;
+pub mod write;
