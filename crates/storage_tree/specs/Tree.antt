@@ -1,5 +1,5 @@
 -- Trees of storages and streams (MS-CFB 1.3.1, 2.6).
-use Rattle.std.specs.Prelude.{ℕ, List, [], ◌∷◌, ◌++◌}
+use Rattle.std.specs.Prelude.{ℕ, List, [], ◌∷◌}
 
 -- A storage is its class id, its state bits and its children, each a stream of bytes or a storage. A child
 -- stands under the key of its name, with the name as it is spelled.
@@ -17,3 +17,12 @@ abbrev pub keys : Children → List (List ℕ)
 keys none = []
 keys (stream k n b cs) = k ∷ keys cs
 keys (storage k n t cs) = k ∷ keys cs
+
+-- the names of children, as they are spelled, in their order
+abbrev pub names : Children → List (List ℕ)
+names none = []
+names (stream k n b cs) = n ∷ names cs
+names (storage k n t cs) = n ∷ names cs
+
+abbrev pub child_names : Tree → List (List ℕ)
+child_names (tree class state cs) = names cs
