@@ -1,2 +1,4 @@
 pub mod Headers
 pub mod Written
+pub mod Marks
+pub mod Chains

@@ -99,7 +99,7 @@ pub record IsMiniTable (f : FatValue) (mini_fat mini_stream : List ℕ) (size : 
 
 -- when a fault may be answered for a FAT
 abbrev pub MayRefuseFat : List ℕ → List ℕ → ChainFault → Type 0
-MayRefuseFat file fat OutOfFile = (n : ℕ) × Contains fat n × (sectors_in file ≤ n)
+MayRefuseFat file fat OutOfFile = (n : ℕ) × Contains fat n × (IsPresent (sectors_of file fat) n → ⊥)
 MayRefuseFat file fat CrossLinked = AreDistinct fat → ⊥
 MayRefuseFat file fat NoMemory = Unit {0}
 MayRefuseFat file fat _ = ⊥
