@@ -1,3 +1,5 @@
 pub mod Lists
 pub mod Unique
 pub mod EmptyDocument
+pub mod ReadingMarks
+pub mod ReadingRefused

@@ -1,0 +1,90 @@
+//! Reading a compound file.
+
+ghost use Rattle.cfb_chain.specs.Bytes.{joined};
+ghost use Rattle.cfb_chain.specs.Fat.{IsFound, store_of};
+ghost use Rattle.cfb_directory.specs.Names.{key_cmp};
+ghost use Rattle.std.specs.List.{All, Contains};
+ghost use Rattle.std.specs.List.Sorted.{IsStrictlySortedBy};
+ghost use Rattle.std.specs.Map.{keys_of, values_of};
+ghost use Rattle.std.specs.Prelude.{◌↔◌, ◌≡◌, ◌≢◌, IfErr, IfOk, List, OnOk, map, take, ℕ};
+ghost use Rattle.stream_io.specs.Reads.{IsKeyed, IsRegular, MayRefuseNames, fat_after, key_at, mini_after, table_for};
+ghost use Rattle.stream_io.specs.declared.fault.ReadFault.TheVariants.{NoMemory};
+
+use crate::fault::ReadFault;
+use cfb_chain::fat::Fat;
+use cfb_directory::entries::Entries;
+use cfb_directory::fault::DirFault;
+use std::alloc::Global;
+use std::collections::BTreeMap;
+
+/// A stream of fewer bytes lies in mini sectors (MS-CFB 2.2).
+const CUTOFF: u32 = 4096;
+
+/// The tables of a file, which mark what was read of it, and its directory.
+#[derive(Drop)]
+struct Reader<'a> {
+    fat: Fat<'a>,
+    mini: Fat<'a>,
+    entries: Entries<'a>,
+}
+
+/// The entries under the keys of their names.
+///
+/// Refused: as `Entries::entry`, and `DuplicateName` where two names are equal in upper case.
+fn by_key(
+    alloc: Global,
+    entries: &Entries<'_>,
+    ids: &[u32],
+) -> Result<BTreeMap<[u8; 32], u32>, ReadFault>
+    requires { All (λ n. n ≢ 0) ids.now }
+    ensures keyed { IfOk result (λ m. All (IsKeyed entries.now.directory) m.entries) }
+    ensures ordered { IfOk result (λ m. IsStrictlySortedBy key_cmp (keys_of m.entries)) }
+    ensures same { IfOk result (λ m. (n : ℕ) → Contains ids.now n ↔ Contains (values_of m.entries) n) }
+    ensures refused { IfErr result (MayRefuseNames entries.now.directory ids.now) }
+{
+    let mut keyed = BTreeMap::new(alloc);
+    for id in ids {
+        let entry = entries.entry(*id)?;
+        match keyed.insert(entry.name.key(), *id) {
+            Ok(None) => {}
+            Ok(Some(_)) => return Err(ReadFault::Directory(DirFault::DuplicateName)),
+            Err(_) => return Err(ReadFault::NoMemory),
+        }
+    }
+    Ok(keyed)
+}
+
+/// The entries in the order of their names.
+///
+/// Refused: as `by_key`.
+fn by_name(alloc: Global, entries: &Entries<'_>, ids: &[u32]) -> Result<Vec<u32>, ReadFault>
+    requires { All (λ n. n ≢ 0) ids.now }
+    ensures ordered { IfOk result (λ v. IsStrictlySortedBy key_cmp (map (key_at entries.now.directory) v.items)) }
+    ensures same { IfOk result (λ v. (n : ℕ) → Contains ids.now n ↔ Contains v.items n) }
+    ensures refused { IfErr result (MayRefuseNames entries.now.directory ids.now) }
+{
+    let keyed = by_key(alloc, entries, ids)?;
+    Ok(keyed.values().copied().collect(alloc)?)
+}
+
+impl<'a> Reader<'a> {
+    /// The bytes of a stream, whose sectors are marked.
+    fn read_stream(&mut self, alloc: Global, first: u32, size: u32) -> Result<Vec<u8>, ReadFault>
+        ensures found { IfOk result (λ v. (ns : List ℕ) × IsFound (table_for size self.old.fat self.old.mini) first size ns
+            × (v.items ≡ take size (joined (store_of (table_for size self.old.fat self.old.mini)).piece ns))
+            × (self.new.fat ≡ fat_after size ns self.old.fat) × (self.new.mini ≡ mini_after size ns self.old.mini)) }
+        ensures entries { self.new.entries ≡ self.old.entries }
+        ensures refused { IfErr result (λ e. e ≢ NoMemory → IsRegular self.old.fat → IsRegular self.old.mini
+            → (ns : List ℕ) → IsFound (table_for size self.old.fat self.old.mini) first size ns → ⊥) }
+    {
+        // An empty stream has no chain.
+        if size == 0 {
+            return Ok(Vec::new(alloc));
+        }
+        if size < CUTOFF {
+            Ok(self.mini.bytes(alloc, first, size)?)
+        } else {
+            Ok(self.fat.bytes(alloc, first, size)?)
+        }
+    }
+}
