@@ -3,3 +3,4 @@ pub mod Unique
 pub mod EmptyDocument
 pub mod ReadingMarks
 pub mod ReadingRefused
+pub mod ReadingNames

@@ -1,6 +1,7 @@
 //! Reading a compound file.
 
 ghost use Rattle.cfb_chain.specs.Bytes.{joined};
+ghost use Rattle.cfb_chain.specs.Chain.{AreDistinct};
 ghost use Rattle.cfb_chain.specs.Fat.{IsFound, store_of};
 ghost use Rattle.cfb_directory.specs.Names.{key_cmp};
 ghost use Rattle.std.specs.List.{All, Contains};
@@ -36,7 +37,8 @@ fn by_key(
     entries: &Entries<'_>,
     ids: &[u32],
 ) -> Result<BTreeMap<[u8; 32], u32>, ReadFault>
-    requires { All (λ n. n ≢ 0) ids.now }
+    requires below_root { All (λ n. n ≢ 0) ids.now }
+    requires distinct { AreDistinct ids.now }
     ensures keyed { IfOk result (λ m. All (IsKeyed entries.now.directory) m.entries) }
     ensures ordered { IfOk result (λ m. IsStrictlySortedBy key_cmp (keys_of m.entries)) }
     ensures same { IfOk result (λ m. (n : ℕ) → Contains ids.now n ↔ Contains (values_of m.entries) n) }
@@ -58,7 +60,8 @@ fn by_key(
 ///
 /// Refused: as `by_key`.
 fn by_name(alloc: Global, entries: &Entries<'_>, ids: &[u32]) -> Result<Vec<u32>, ReadFault>
-    requires { All (λ n. n ≢ 0) ids.now }
+    requires below_root { All (λ n. n ≢ 0) ids.now }
+    requires distinct { AreDistinct ids.now }
     ensures ordered { IfOk result (λ v. IsStrictlySortedBy key_cmp (map (key_at entries.now.directory) v.items)) }
     ensures same { IfOk result (λ v. (n : ℕ) → Contains ids.now n ↔ Contains v.items n) }
     ensures refused { IfErr result (MayRefuseNames entries.now.directory ids.now) }
