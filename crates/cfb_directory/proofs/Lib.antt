@@ -1,2 +1,6 @@
-pub mod Keys
 pub mod Fields
+pub mod Keys
+pub mod Linked
+pub mod Marks
+pub mod Walk
+pub mod Reading
