@@ -1,5 +1,5 @@
 -- Chains in stores that agree, and what refuses a chain that is there.
-use Rattle.std.proofs.Common.{◌≡◌, ◌≢◌, ◌<◌, ◌≤◌, ◌+◌, ◌*◌, ◌⊎◌, inl, inr, ℕ, zero, suc, Bool, true, false, List, [], ◌∷◌, ◌++◌, length, length-append, length-drop, drop, take, eqb, get_or, refl, sym, ap, subst, ◌∙◌, arith, lit≤, lit<, min}
+use Rattle.std.proofs.Common.{◌≡◌, ◌<◌, ◌≤◌, ◌*◌, ◌⊎◌, inl, inr, ℕ, zero, suc, true, false, List, [], ◌∷◌, ◌++◌, length, length-append, length-drop, drop, take, eqb, get_or, refl, sym, ap, subst, ◌∙◌, arith, lit≤}
 use Rattle.std.proofs.lemmas.List.Elements.{All-cons, All-push, All-take, All-drop, All-contains, All-head, All-tail, Contains-append_right}
 use Rattle.std.specs.List.{All, AllByRecursion, Contains, IsDistinct}
 use Rattle.std.proofs.lemmas.Map.Views.{Contains-from_any}
@@ -7,43 +7,43 @@ use Rattle.std.proofs.lemmas.Map.Steps.{length-le_from_distinct_below}
 use Rattle.std.proofs.lemmas.Bool.{cases_Bool, eqb-true}
 use Rattle.cfb_chain.specs.Bytes.{joined}
 use Rattle.cfb_chain.specs.Chain.{AreDistinct, END_OF_CHAIN, IsChain, IsChainOf, IsPresent, Leads, Store}
-use Rattle.cfb_chain.specs.Fat.{AreFree, AreSame, FatValue, IsFat, IsFound, IsFree, IsMiniFound, MayRefuse, MayRefuseFat, MayRefuseMini, marked, sectors_of, set_all, store_of}
-use Rattle.cfb_chain.specs.Header.{HeaderValue}
+use Rattle.cfb_chain.specs.Fat.{AreFree, AreSame, FatValue, IsFat, IsFree, MayRefuse, MayRefuseFat, sectors_of, store_of}
 use Rattle.cfb_chain.specs.declared.fault.ChainFault.{ChainFault}
 use Rattle.cfb_chain.specs.declared.fault.ChainFault.TheVariants.{Truncated, BadSignature, Unsupported, OutOfFile, Cycle, CrossLinked, ShortChain, TooBig, NoMemory}
 use Rattle.cfb_chain.proofs.Marks.{distinct_apart, distinct_cons}
 
 pub same_back : {s t : Store} → AreSame s t → AreSame t s
 same_back {s} {t} h = record {
-    count = sym h.count;
-    width = sym h.width;
-    piece = λ n l. sym (h.piece n (subst (λ c. n < c) (sym h.count) l));
-    next = λ n l. sym (h.next n (subst (λ c. n < c) (sym h.count) l));
-  }
+  count = sym h.count;
+  width = sym h.width;
+  piece = λ n l. sym (h.piece n (subst (λ c. n < c) (sym h.count) l));
+  next = λ n l. sym (h.next n (subst (λ c. n < c) (sym h.count) l));
+}
 
 pub same_then : {s t u : Store} → AreSame s t → AreSame t u → AreSame s u
 same_then {s} {t} {u} h g = record {
-    count = h.count ∙ g.count;
-    width = h.width ∙ g.width;
-    piece = λ n l. h.piece n l ∙ g.piece n (subst (λ c. n < c) h.count l);
-    next = λ n l. h.next n l ∙ g.next n (subst (λ c. n < c) h.count l);
-  }
+  count = h.count ∙ g.count;
+  width = h.width ∙ g.width;
+  piece = λ n l. h.piece n l ∙ g.piece n (subst (λ c. n < c) h.count l);
+  next = λ n l. h.next n l ∙ g.next n (subst (λ c. n < c) h.count l);
+}
 
 pub leads_same : (s t : Store) → AreSame s t → (start : ℕ) (ns : List ℕ) (last : ℕ) → All (λ n. n < s.count) ns
     → Leads s.next start ns last → Leads t.next start ns last
 leads_same s t same start [] last below h = h
 leads_same s t same start (n ∷ ns) last below h =
-    let P : ℕ → Type 0 = λ x. Leads t.next x ns last in
-    ( h.0
-    , subst P (same.next n (All-head (λ n. n < s.count) n ns below))
-        (leads_same s t same (s.next n) ns last (All-tail (λ n. n < s.count) n ns below) h.1))
+    let P : ℕ → Type 0 = λ x. Leads t.next x ns last in (
+      h.0,
+      subst P (same.next n (All-head (λ n. n < s.count) n ns below))
+          (leads_same s t same (s.next n) ns last (All-tail (λ n. n < s.count) n ns below) h.1),
+    )
 
 pub chain_same : (s t : Store) → AreSame s t → (start bytes : ℕ) (ns : List ℕ) → IsChain s start bytes ns → IsChain t start bytes ns
 chain_same s t same start bytes ns h = record {
-    linked = leads_same s t same start ns END_OF_CHAIN (λ k d l. (h.present k d l).1) h.linked;
-    present = λ k d l. ((h.present k d l).0, subst (λ c. get_or ns k d < c) same.count (h.present k d l).1);
-    enough = subst (λ w. bytes ≤ w * length ns) same.width h.enough;
-  }
+  linked = leads_same s t same start ns END_OF_CHAIN (λ k d l. (h.present k d l).1) h.linked;
+  present = λ k d l. ((h.present k d l).0, subst (λ c. get_or ns k d < c) same.count (h.present k d l).1);
+  enough = subst (λ w. bytes ≤ w * length ns) same.width h.enough;
+}
 
 pub chain_of_same : (s t : Store) → AreSame s t → (start bytes : ℕ) (ns : List ℕ) → IsChainOf s start bytes ns → IsChainOf t start bytes ns
 chain_of_same s t same start zero ns h = h
@@ -73,8 +73,8 @@ along next count start (n ∷ ns) [] last few h g below = inr (ns, ap (λ x. x �
 along next count start (n ∷ ns) (m ∷ ms) last few h g below =
     let same : m ≡ n = sym g.0 ∙ h.0 in
     elim (along next count (next n) ns ms last few h.1 (subst (λ x. Leads next (next x) ms last) same g.1) (All-tail (λ n. n < count) m ms below)) [
-      inl w ↦ inl (w.0, (λ i. same i ∷ w.1 i))
-    | inr w ↦ inr (w.0, (λ i. sym same i ∷ w.1 i))
+      | inl w ↦ inl (w.0, (λ i. same i ∷ w.1 i))
+      | inr w ↦ inr (w.0, (λ i. sym same i ∷ w.1 i))
     ]
 
 -- a chain that is there, of sectors that are free, is refused only for want of memory
@@ -99,25 +99,25 @@ module _ (f : FatValue) (few : length f.table ≤ 0xFFFFFFF9) (start bytes : ℕ
   refused_not BadSignature r = absurd r
   refused_not (Unsupported n) r = absurd r
   refused_not OutOfFile r =
-    elim (way r.0 r.1 r.2 r.3) [
-      inl w ↦ absurd (r.4 w.0)
-    | inr w ↦ absurd (omega (arith, r.5, (All-contains (IsFree f) ns r.1 g.free (next_of r.0 r.1 w.0 w.1)).0))
-    ]
+      elim (way r.0 r.1 r.2 r.3) [
+        | inl w ↦ absurd (r.4 w.0)
+        | inr w ↦ absurd (omega (arith, r.5, (All-contains (IsFree f) ns r.1 g.free (next_of r.0 r.1 w.0 w.1)).0))
+      ]
   refused_not Cycle r =
-    elim (way r.0 r.1 r.2 r.3) [
-      inl w ↦ absurd (omega (arith, w.0, (All-contains (IsFree f) r.0 r.1 r.3 r.4).0))
-    | inr w ↦ absurd (distinct_apart r.0 (r.1 ∷ w.0) (subst AreDistinct w.1 g.once) r.1 r.4 (0, omega arith, refl))
-    ]
+      elim (way r.0 r.1 r.2 r.3) [
+        | inl w ↦ absurd (omega (arith, w.0, (All-contains (IsFree f) r.0 r.1 r.3 r.4).0))
+        | inr w ↦ absurd (distinct_apart r.0 (r.1 ∷ w.0) (subst AreDistinct w.1 g.once) r.1 r.4 (0, omega arith, refl))
+      ]
   refused_not CrossLinked r =
-    elim (way r.0 r.1 r.2 r.3) [
-      inl w ↦ absurd (omega (arith, w.0, r.4))
-    | inr w ↦ absurd (not_marked r.1 (next_of r.0 r.1 w.0 w.1) r.5)
-    ]
+      elim (way r.0 r.1 r.2 r.3) [
+        | inl w ↦ absurd (omega (arith, w.0, r.4))
+        | inr w ↦ absurd (not_marked r.1 (next_of r.0 r.1 w.0 w.1) r.5)
+      ]
   refused_not ShortChain r =
-    elim (way r.0 END_OF_CHAIN r.1 r.2.free) [
-      inl w ↦ absurd (let e : length r.0 ≡ length ns = ap length w.1 in let q : f.width * length r.0 ≡ f.width * length ns = ap (λ n. f.width * n) e in omega (arith, q, r.3, h.enough))
-    | inr w ↦ absurd (omega (arith, (All-contains (IsFree f) ns END_OF_CHAIN g.free (next_of r.0 END_OF_CHAIN w.0 w.1)).0))
-    ]
+      elim (way r.0 END_OF_CHAIN r.1 r.2.free) [
+        | inl w ↦ absurd (let e : length r.0 ≡ length ns = ap length w.1 in let q : f.width * length r.0 ≡ f.width * length ns = ap (λ n. f.width * n) e in omega (arith, q, r.3, h.enough))
+        | inr w ↦ absurd (omega (arith, (All-contains (IsFree f) ns END_OF_CHAIN g.free (next_of r.0 END_OF_CHAIN w.0 w.1)).0))
+      ]
   refused_not TooBig r = absurd r
   refused_not NoMemory r = refl
 
@@ -137,10 +137,10 @@ pub chain_once : (s : Store) (start bytes : ℕ) (ns ms : List ℕ) → IsChainO
 chain_once s start zero ns ms h g = h ∙ sym g
 chain_once s start (suc n) ns ms h g =
     elim (along s.next 0xFFFFFFFA start ns ms END_OF_CHAIN (lit≤ tt) h.linked g.linked (λ k d l. omega (arith, (g.present k d l).0))) [
-      inl w ↦ sym w.1
-    | inr w ↦
-        let c : Contains ns END_OF_CHAIN = subst (λ xs. Contains xs END_OF_CHAIN) (sym w.1) (Contains-append_right ms (END_OF_CHAIN ∷ w.0) END_OF_CHAIN (0, omega arith, refl)) in
-        absurd (omega (arith, (All-contains (IsPresent s) ns END_OF_CHAIN h.present c).0))
+      | inl w ↦ sym w.1
+      | inr w ↦
+          let c : Contains ns END_OF_CHAIN = subst (λ xs. Contains xs END_OF_CHAIN) (sym w.1) (Contains-append_right ms (END_OF_CHAIN ∷ w.0) END_OF_CHAIN (0, omega arith, refl)) in
+          absurd (omega (arith, (All-contains (IsPresent s) ns END_OF_CHAIN h.present c).0))
     ]
 
 -- the rest of a way
@@ -157,16 +157,16 @@ distinct_chain next count start [] few h below = λ i j d l k. absurd (omega ari
 distinct_chain next count start (n ∷ ns) few h below =
     let tail : All (λ n. n < count) ns = All-tail (λ n. n < count) n ns below in
     distinct_cons n ns
-      (λ k d l same.
-        let again : Leads next (next n) (drop (suc k) ns) END_OF_CHAIN =
-          subst (λ x. Leads next (next x) (drop (suc k) ns) END_OF_CHAIN) (sym same) (leads_drop next (next n) ns END_OF_CHAIN k d h.1 l) in
-        elim (along next count (next n) ns (drop (suc k) ns) END_OF_CHAIN few h.1 again (All-drop (λ n. n < count) (suc k) ns tail)) [
-          inl w ↦ omega (arith, length-drop (suc k) ns, ap length w.1)
-        | inr w ↦
-            let c : Contains ns END_OF_CHAIN = subst (λ xs. Contains xs END_OF_CHAIN) (sym w.1) (Contains-append_right (drop (suc k) ns) (END_OF_CHAIN ∷ w.0) END_OF_CHAIN (0, omega arith, refl)) in
-            omega (arith, All-contains (λ n. n < count) ns END_OF_CHAIN tail c)
-        ])
-      (distinct_chain next count (next n) ns few h.1 tail)
+    (λ k d l same.
+    let again : Leads next (next n) (drop (suc k) ns) END_OF_CHAIN =
+    subst (λ x. Leads next (next x) (drop (suc k) ns) END_OF_CHAIN) (sym same) (leads_drop next (next n) ns END_OF_CHAIN k d h.1 l) in
+    elim (along next count (next n) ns (drop (suc k) ns) END_OF_CHAIN few h.1 again (All-drop (λ n. n < count) (suc k) ns tail)) [
+      | inl w ↦ omega (arith, length-drop (suc k) ns, ap length w.1)
+      | inr w ↦
+          let c : Contains ns END_OF_CHAIN = subst (λ xs. Contains xs END_OF_CHAIN) (sym w.1) (Contains-append_right (drop (suc k) ns) (END_OF_CHAIN ∷ w.0) END_OF_CHAIN (0, omega arith, refl)) in
+          omega (arith, All-contains (λ n. n < count) ns END_OF_CHAIN tail c)
+    ])
+    (distinct_chain next count (next n) ns few h.1 tail)
 
 -- one step further
 pub leads_push : (next : ℕ → ℕ) (start : ℕ) (ns : List ℕ) (last : ℕ)
@@ -188,8 +188,8 @@ apart_or_at : (n : ℕ) (xs : List ℕ) → AllByRecursion (λ y. eqb n y ≡ fa
 apart_or_at n [] = inl tt
 apart_or_at n (x ∷ xs) =
     elim (cases_Bool (eqb n x)) [
-      inl same ↦ inr (0, omega arith, sym (eqb-true n x same))
-    | inr other ↦ elim (apart_or_at n xs) [ inl a ↦ inl (other, a) | inr p ↦ inr (suc p.0, omega (arith, p.1), p.2) ]
+      | inl same ↦ inr (0, omega arith, sym (eqb-true n x same))
+      | inr other ↦ elim (apart_or_at n xs) [ inl a ↦ inl (other, a) | inr p ↦ inr (suc p.0, omega (arith, p.1), p.2) ]
     ]
 
 -- a way that comes back to one of its sectors
@@ -203,14 +203,14 @@ unfolding IsDistinct
 distinct_or_met next P start [] last h every = inl (tt, tt)
 distinct_or_met next P start (n ∷ ns) last h every =
     elim (distinct_or_met next P (next n) ns last h.1 (All-tail P n ns every)) [
-      inr m ↦ inr (n ∷ m.0, m.1, (h.0, m.2), All-cons P n m.0 (All-head P n ns every) m.3, (suc m.4.0, omega (arith, m.4.1), m.4.2))
-    | inl d ↦ elim (apart_or_at n (ns ++ last ∷ [])) [
-        inl a ↦ inl (a, d)
-      | inr p ↦
-          let le : p.0 ≤ length ns = omega (arith, length-append ns (last ∷ []), p.1) in
-          let way : Leads next (next n) (take p.0 ns) n =
+      | inr m ↦ inr (n ∷ m.0, m.1, (h.0, m.2), All-cons P n m.0 (All-head P n ns every) m.3, (suc m.4.0, omega (arith, m.4.1), m.4.2))
+      | inl d ↦ elim (apart_or_at n (ns ++ last ∷ [])) [
+        | inl a ↦ inl (a, d)
+        | inr p ↦
+            let le : p.0 ≤ length ns = omega (arith, length-append ns (last ∷ []), p.1) in
+            let way : Leads next (next n) (take p.0 ns) n =
             let Q : ℕ → Type 0 = λ x. Leads next (next n) (take p.0 ns) x in subst Q p.2 (leads_take next (next n) ns last h.1 p.0 le) in
-          inr (n ∷ take p.0 ns, n, (h.0, way), All-cons P n (take p.0 ns) (All-head P n ns every) (All-take P p.0 ns (All-tail P n ns every)), (0, omega arith, refl))
+            inr (n ∷ take p.0 ns, n, (h.0, way), All-cons P n (take p.0 ns) (All-head P n ns every) (All-take P p.0 ns (All-tail P n ns every)), (0, omega arith, refl))
       ]
     ]
 
@@ -219,9 +219,9 @@ pub met_when_long : (next : ℕ → ℕ) (P : ℕ → Type 0) (start : ℕ) (ns 
     → All P ns → All (λ n. n < count) ns → last < count → count ≤ length ns → ComesBack next P start
 met_when_long next P start ns last count h every all below long =
     elim (distinct_or_met next P start ns last h every) [
-      inr m ↦ m
-    | inl d ↦
-        let each : All (λ n. n < count) (ns ++ last ∷ []) = All-push (λ n. n < count) ns last all below in
-        let short : length (ns ++ last ∷ []) ≤ count = length-le_from_distinct_below (ns ++ last ∷ []) count d (λ q t. All-contains (λ n. n < count) (ns ++ last ∷ []) q each (Contains-from_any eqb-true q (ns ++ last ∷ []) t)) in
-        absurd (omega (arith, length-append ns (last ∷ []), short))
+      | inr m ↦ m
+      | inl d ↦
+          let each : All (λ n. n < count) (ns ++ last ∷ []) = All-push (λ n. n < count) ns last all below in
+          let short : length (ns ++ last ∷ []) ≤ count = length-le_from_distinct_below (ns ++ last ∷ []) count d (λ q t. All-contains (λ n. n < count) (ns ++ last ∷ []) q each (Contains-from_any eqb-true q (ns ++ last ∷ []) t)) in
+          absurd (omega (arith, length-append ns (last ∷ []), short))
     ]

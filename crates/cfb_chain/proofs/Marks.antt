@@ -1,14 +1,14 @@
 -- What is marked in a table, and what of it is free.
-use Rattle.std.proofs.Common.{◌≡◌, ◌≢◌, ◌<◌, ◌≤◌, ◌+◌, ◌⊎◌, inl, inr, ℕ, zero, suc, Bool, true, false, List, [], ◌∷◌, ◌++◌, length, get_or, set, replicate, refl, sym, ap, subst, ◌∙◌, arith, eqb, get_or-set_other, length-append}
+use Rattle.std.proofs.Common.{◌≡◌, ◌≢◌, ◌<◌, ◌⊎◌, inl, inr, ℕ, zero, suc, Bool, true, false, List, [], ◌∷◌, ◌++◌, length, get_or, set, replicate, refl, sym, ap, subst, ◌∙◌, arith, eqb, get_or-set_other}
 use Rattle.std.proofs.Math.ListN.{length-set}
 use Rattle.std.proofs.lemmas.Bool.{cases_Bool, eqb-false, eqb-true}
 use Rattle.std.proofs.lemmas.List.{get_or_default, length-replicate, get_or-replicate, same_lists}
 use Rattle.std.proofs.lemmas.Grind.{get_or-set_at}
 use Rattle.std.proofs.lemmas.List.Kept.{AllPairs-cons}
-use Rattle.std.proofs.lemmas.List.Elements.{All-cons, All-head, All-tail, All-append, All-contains, All-contains_itself, All-weaker, Contains-append_cases, Contains-append_left, Contains-append_right, Contains-get_or}
+use Rattle.std.proofs.lemmas.List.Elements.{All-cons, All-head, All-tail, All-append, All-contains, All-contains_itself, All-weaker, Contains-append_left, Contains-append_right}
 use Rattle.std.specs.List.{All, Contains}
 use Rattle.cfb_chain.specs.Chain.{AreDistinct, IsPresent}
-use Rattle.cfb_chain.specs.Fat.{AreFree, AreSame, FatValue, IsFat, IsFree, IsTableOf, marked, sectors_of, set_all, store_of}
+use Rattle.cfb_chain.specs.Fat.{AreFree, FatValue, IsFree, IsTableOf, marked, sectors_of, set_all}
 
 -- numbers of which no two are equal
 pub distinct_tail : (n : ℕ) (ns : List ℕ) → AreDistinct (n ∷ ns) → AreDistinct ns
@@ -25,16 +25,16 @@ pub distinct_append : (ns ms : List ℕ) → AreDistinct ns → AreDistinct ms
 distinct_append [] ms h g apart = g
 distinct_append (n ∷ ns) ms h g apart =
     distinct_cons n (ns ++ ms)
-      (All-append (λ m. n ≢ m) ns ms (distinct_head n ns h)
-        (All-weaker (Contains ms) (λ m. n ≢ m) (λ m in_ms same. apart m (0, omega arith, same) in_ms) ms (All-contains_itself ms)))
-      (distinct_append ns ms (distinct_tail n ns h) g (λ m a b. apart m (suc a.0, omega (arith, a.1), a.2) b))
+    (All-append (λ m. n ≢ m) ns ms (distinct_head n ns h)
+    (All-weaker (Contains ms) (λ m. n ≢ m) (λ m in_ms same. apart m (0, omega arith, same) in_ms) ms (All-contains_itself ms)))
+    (distinct_append ns ms (distinct_tail n ns h) g (λ m a b. apart m (suc a.0, omega (arith, a.1), a.2) b))
 
 pub distinct_left : (ns ms : List ℕ) → AreDistinct (ns ++ ms) → AreDistinct ns
 distinct_left [] ms h = λ i j d l k. absurd (omega arith)
 distinct_left (n ∷ ns) ms h =
     distinct_cons n ns
-      (All-weaker (Contains ns) (λ m. n ≢ m) (λ m c. All-contains (λ m. n ≢ m) (ns ++ ms) m (distinct_head n (ns ++ ms) h) (Contains-append_left ns ms m c)) ns (All-contains_itself ns))
-      (distinct_left ns ms (distinct_tail n (ns ++ ms) h))
+    (All-weaker (Contains ns) (λ m. n ≢ m) (λ m c. All-contains (λ m. n ≢ m) (ns ++ ms) m (distinct_head n (ns ++ ms) h) (Contains-append_left ns ms m c)) ns (All-contains_itself ns))
+    (distinct_left ns ms (distinct_tail n (ns ++ ms) h))
 
 pub distinct_right : (ns ms : List ℕ) → AreDistinct (ns ++ ms) → AreDistinct ms
 distinct_right [] ms h = h
@@ -77,10 +77,10 @@ pub marked_only : (used : List Bool) (ms : List ℕ) (n : ℕ) → get_or (set_a
 marked_only used [] n h = inl h
 marked_only used (m ∷ ms) n h =
     elim (marked_only (set used m true) ms n h) [
-      inr c ↦ inr (suc c.0, omega (arith, c.1), c.2)
-    | inl t ↦ elim (cases_Bool (eqb n m)) [
-        inl same ↦ inr (0, omega arith, sym (eqb-true n m same))
-      | inr other ↦ inl (sym (get_or-set_other used m n true true (eqb-false n m other)) ∙ t)
+      | inr c ↦ inr (suc c.0, omega (arith, c.1), c.2)
+      | inl t ↦ elim (cases_Bool (eqb n m)) [
+        | inl same ↦ inr (0, omega arith, sym (eqb-true n m same))
+        | inr other ↦ inl (sym (get_or-set_other used m n true true (eqb-false n m other)) ∙ t)
       ]
     ]
 
@@ -99,91 +99,94 @@ pub marks_load : (file fat : List ℕ) (f : FatValue) → IsTableOf file fat f �
 marks_load file fat f h =
     let fresh : List Bool = replicate (length f.table) false in
     let long : length f.used ≡ length f.table =
-      ap length h.marks ∙ length-set_all fresh fat ∙ length-replicate (length f.table) false in
+    ap length h.marks ∙ length-set_all fresh fat ∙ length-replicate (length f.table) false in
     record {
       each = sym long;
       listed = All-weaker (Contains fat) (IsMarked f)
-        (λ n c.
-          ( subst (λ k. n < k) (sym h.sectors.count) (All-contains (IsPresent (sectors_of file fat)) fat n h.is_fat.present c).1
-          , subst (λ used. get_or used n true ≡ true) (sym h.marks) (marked_by fresh fat n c)))
-        fat (All-contains_itself fat);
+          (λ n c. (
+            subst (λ k. n < k) (sym h.sectors.count) (All-contains (IsPresent (sectors_of file fat)) fat n h.is_fat.present c).1,
+            subst (λ used. get_or used n true ≡ true) (sym h.marks) (marked_by fresh fat n c),
+          ))
+          fat (All-contains_itself fat);
       only = λ n m.
-        elim (marked_only fresh fat n (subst (λ used. get_or used n true ≡ true) h.marks m.1)) [
-          inl t ↦ absurd (let f : true ≡ false = sym t ∙ get_or-replicate (length f.table) n false true m.0 in cc)
-        | inr c ↦ c
-        ];
+          elim (marked_only fresh fat n (subst (λ used. get_or used n true ≡ true) h.marks m.1)) [
+            | inl t ↦ absurd (let f : true ≡ false = sym t ∙ get_or-replicate (length f.table) n false true m.0 in cc)
+            | inr c ↦ c
+          ];
       once = h.is_fat.once;
     }
 
 -- those that are marked more
 pub marks_more : (f : FatValue) (ns ms : List ℕ) → Marks f ns → AreFree f ms → Marks (marked f ms) (ns ++ ms)
 marks_more f ns ms h g = record {
-    each = h.each ∙ sym (length-set_all f.used ms);
-    listed = All-append (IsMarked (marked f ms)) ns ms
+  each = h.each ∙ sym (length-set_all f.used ms);
+  listed = All-append (IsMarked (marked f ms)) ns ms
       (All-weaker (IsMarked f) (IsMarked (marked f ms)) (λ n m. (m.0, marked_kept f.used ms n m.1)) ns h.listed)
       (All-weaker (Contains ms) (IsMarked (marked f ms)) (λ n c. ((All-contains (IsFree f) ms n g.free c).0, marked_by f.used ms n c)) ms (All-contains_itself ms));
-    only = λ n m.
+  only = λ n m.
       elim (marked_only f.used ms n m.1) [
-        inl t ↦ Contains-append_left ns ms n (h.only n (m.0, t))
-      | inr c ↦ Contains-append_right ns ms n c
+        | inl t ↦ Contains-append_left ns ms n (h.only n (m.0, t))
+        | inr c ↦ Contains-append_right ns ms n c
       ];
-    once = distinct_append ns ms h.once g.once (λ n a b.
+  once = distinct_append ns ms h.once g.once (λ n a b.
       let t : true ≡ false = sym (All-contains (IsMarked f) ns n h.listed a).1 ∙ (All-contains (IsFree f) ms n g.free b).1 in cc);
-  }
+}
 
 -- sectors apart from those that are marked are free
 pub free_when : (f : FatValue) (ns ms : List ℕ) → Marks f ns → AreDistinct (ns ++ ms) → All (λ n. n < length f.table) ms → AreFree f ms
 free_when f ns ms h g below = record {
-    free = All-weaker (Contains ms) (IsFree f)
+  free = All-weaker (Contains ms) (IsFree f)
       (λ n c.
-        let l : n < length f.table = All-contains (λ n. n < length f.table) ms n below c in
-        ( l
-        , elim (cases_Bool (get_or f.used n true)) [
-            inl t ↦ absurd (distinct_apart ns ms g n (h.only n (l, t)) c)
+      let l : n < length f.table = All-contains (λ n. n < length f.table) ms n below c in (
+        l,
+        elim (cases_Bool (get_or f.used n true)) [
+          | inl t ↦ absurd (distinct_apart ns ms g n (h.only n (l, t)) c)
           | inr e ↦ e
-          ]))
+        ],
+      ))
       ms (All-contains_itself ms);
-    once = distinct_right ns ms g;
-  }
+  once = distinct_right ns ms g;
+}
 
 -- sectors that are free one after another are free at once
 unmarked_before : (used : List Bool) (ms : List ℕ) (n : ℕ) → get_or (set_all used ms) n true ≡ false → get_or used n true ≡ false
 unmarked_before used ms n h =
     elim (cases_Bool (get_or used n true)) [
-      inl t ↦ absurd (let e : true ≡ false = sym (marked_kept used ms n t) ∙ h in cc)
-    | inr e ↦ e
+      | inl t ↦ absurd (let e : true ≡ false = sym (marked_kept used ms n t) ∙ h in cc)
+      | inr e ↦ e
     ]
 
 pub free_then : (f : FatValue) (ns ms : List ℕ) → AreFree f ns → AreFree (marked f ns) ms → AreFree f (ns ++ ms)
 free_then f ns ms h g = record {
-    free = All-append (IsFree f) ns ms h.free
+  free = All-append (IsFree f) ns ms h.free
       (All-weaker (IsFree (marked f ns)) (IsFree f) (λ n q. (q.0, unmarked_before f.used ns n q.1)) ms g.free);
-    once = distinct_append ns ms h.once g.once (λ n a b.
+  once = distinct_append ns ms h.once g.once (λ n a b.
       let e : true ≡ false = sym (marked_by f.used ns n a) ∙ (All-contains (IsFree (marked f ns)) ms n g.free b).1 in cc);
-  }
+}
 
 pub free_left : (f : FatValue) (ns ms : List ℕ) → AreFree f (ns ++ ms) → AreFree f ns
 free_left f ns ms h = record {
-    free = All-weaker (Contains ns) (IsFree f) (λ n c. All-contains (IsFree f) (ns ++ ms) n h.free (Contains-append_left ns ms n c)) ns (All-contains_itself ns);
-    once = distinct_left ns ms h.once;
-  }
+  free = All-weaker (Contains ns) (IsFree f) (λ n c. All-contains (IsFree f) (ns ++ ms) n h.free (Contains-append_left ns ms n c)) ns (All-contains_itself ns);
+  once = distinct_left ns ms h.once;
+}
 
 pub free_rest : (f : FatValue) (ns ms : List ℕ) → AreFree f (ns ++ ms) → AreFree (marked f ns) ms
 free_rest f ns ms h = record {
-    free = All-weaker (Contains ms) (IsFree (marked f ns))
+  free = All-weaker (Contains ms) (IsFree (marked f ns))
       (λ n c.
-        let q : IsFree f n = All-contains (IsFree f) (ns ++ ms) n h.free (Contains-append_right ns ms n c) in
-        ( q.0
-        , elim (cases_Bool (get_or (set_all f.used ns) n true)) [
-            inl t ↦ elim (marked_only f.used ns n t) [
-              inl u ↦ absurd (let e : true ≡ false = sym u ∙ q.1 in cc)
+      let q : IsFree f n = All-contains (IsFree f) (ns ++ ms) n h.free (Contains-append_right ns ms n c) in (
+        q.0,
+        elim (cases_Bool (get_or (set_all f.used ns) n true)) [
+          | inl t ↦ elim (marked_only f.used ns n t) [
+            | inl u ↦ absurd (let e : true ≡ false = sym u ∙ q.1 in cc)
             | inr a ↦ absurd (distinct_apart ns ms h.once n a c)
-            ]
+          ]
           | inr e ↦ e
-          ]))
+        ],
+      ))
       ms (All-contains_itself ms);
-    once = distinct_right ns ms h.once;
-  }
+  once = distinct_right ns ms h.once;
+}
 
 pub set_all-append : (used : List Bool) (ns ms : List ℕ) → set_all used (ns ++ ms) ≡ set_all (set_all used ns) ms
 set_all-append used [] ms = refl
@@ -218,10 +221,10 @@ stands_or_not : (k : ℕ) (ns : List ℕ) → Contains ns k ⊎ All (λ n. k ≢
 stands_or_not k [] = inr (λ i d l. absurd (omega arith))
 stands_or_not k (n ∷ ns) =
     elim (cases_Bool (eqb k n)) [
-      inl same ↦ inl (0, omega arith, sym (eqb-true k n same))
-    | inr other ↦ elim (stands_or_not k ns) [
-        inl c ↦ inl (suc c.0, omega (arith, c.1), c.2)
-      | inr a ↦ inr (All-cons (λ n. k ≢ n) n ns (eqb-false k n other) a)
+      | inl same ↦ inl (0, omega arith, sym (eqb-true k n same))
+      | inr other ↦ elim (stands_or_not k ns) [
+        | inl c ↦ inl (suc c.0, omega (arith, c.1), c.2)
+        | inr a ↦ inr (All-cons (λ n. k ≢ n) n ns (eqb-false k n other) a)
       ]
     ]
 
@@ -231,8 +234,8 @@ cleared_by used (n ∷ ns) k d l (suc i, b, e) =
     cleared_by (set used n false) ns k d (omega (arith, l, length-set used n false)) (i, omega arith, e)
 cleared_by used (n ∷ ns) k d l (zero, b, e) =
     elim (stands_or_not k ns) [
-      inl c ↦ cleared_by (set used n false) ns k d (omega (arith, l, length-set used n false)) c
-    | inr a ↦ cleared_other (set used n false) ns k d a ∙ get_or-set_at used n k false d (sym e) (omega arith)
+      | inl c ↦ cleared_by (set used n false) ns k d (omega (arith, l, length-set used n false)) c
+      | inr a ↦ cleared_other (set used n false) ns k d a ∙ get_or-set_at used n k false d (sym e) (omega arith)
     ]
 
 -- sectors that were free are so again
@@ -240,11 +243,11 @@ pub set_and_cleared : (used : List Bool) (ns : List ℕ) → All (λ n. get_or u
 set_and_cleared used ns free =
     let long : length (clear_all (set_all used ns) ns) ≡ length used = length-clear_all (set_all used ns) ns ∙ length-set_all used ns in
     same_lists (clear_all (set_all used ns) ns) used long
-      (λ k d l.
-        let below : k < length used = omega arith in
-        elim (stands_or_not k ns) [
-          inl c ↦
-            cleared_by (set_all used ns) ns k d (omega (arith, length-set_all used ns)) c
-            ∙ sym (get_or_default used k d true below ∙ All-contains (λ n. get_or used n true ≡ false) ns k free c)
-        | inr a ↦ cleared_other (set_all used ns) ns k d a ∙ set_other used ns k d a
-        ])
+    (λ k d l.
+    let below : k < length used = omega arith in
+    elim (stands_or_not k ns) [
+      | inl c ↦
+          cleared_by (set_all used ns) ns k d (omega (arith, length-set_all used ns)) c
+          ∙ sym (get_or_default used k d true below ∙ All-contains (λ n. get_or used n true ≡ false) ns k free c)
+      | inr a ↦ cleared_other (set_all used ns) ns k d a ∙ set_other used ns k d a
+    ])

@@ -1,14 +1,16 @@
 //! The table of sectors and its chains (MS-CFB 2.3, 2.4).
 
 ghost use Rattle.cfb_chain.specs.Bytes.{joined};
-ghost use Rattle.cfb_chain.specs.Chain.{IsChain};
-ghost use Rattle.cfb_chain.specs.Fat.{IsFound, IsMiniFound, IsMiniTable, IsTableOf, MayRefuse, MayRefuseFat, MayRefuseMini, marked, store_of};
-ghost use Rattle.cfb_chain.specs.declared.fault.ChainFault.TheVariants.{NoMemory};
+ghost use Rattle.cfb_chain.specs.Chain.{FREE_SECTOR, IsChain};
+ghost use Rattle.cfb_chain.specs.Fat.{AreFree, IsFat, IsFound, IsFree, IsMiniFound, IsMiniTable, IsTableOf, MayRefuse, MayRefuseFat, MayRefuseMini, marked, sectors_in, store_of};
+ghost use Rattle.cfb_chain.specs.View.{bytes_of, start_of, width_of};
+ghost use Rattle.cfb_chain.specs.declared.fault.ChainFault.TheVariants.{CrossLinked, NoMemory};
 ghost use Rattle.std.specs.List.{All};
-ghost use Rattle.std.specs.Prelude.{◌++◌, ◌<◌, ◌≡◌, IfErr, IfOk, List, OnErr, length, take, ℕ};
+ghost use Rattle.std.specs.Prelude.{◌*◌, ◌+◌, ◌++◌, ◌<◌, ◌^◌, ◌≡◌, ◌≢◌, ◌≤◌, IfErr, IfNone, IfOk, IfSome, List, OnErr, OnOk, length, slice_index, take, ℕ};
 
 use crate::fault::ChainFault;
 use crate::header::Header;
+use crate::sectors::{SECTOR, join_blocks, numbers};
 use std::alloc::Global;
 use std::marker::Model;
 
@@ -36,6 +38,38 @@ enum Pieces<'a> {
     MiniSectors(Vec<u8>),
 }
 
+impl<'a> Pieces<'a> {
+    /// The bytes in which they lie.
+    fn bytes(&self) -> &[u8]
+        ensures { result.now ≡ bytes_of self.now }
+    {
+        match self {
+            Pieces::Sectors(file) => file,
+            Pieces::MiniSectors(stream) => stream.as_slice(),
+        }
+    }
+
+    /// Where the first one stands.
+    fn start(&self) -> usize
+        ensures { result ≡ start_of self.now }
+    {
+        match self {
+            Pieces::Sectors(_) => SECTOR,
+            Pieces::MiniSectors(_) => 0,
+        }
+    }
+
+    /// The size of each.
+    fn width(&self) -> usize
+        ensures { result ≡ width_of self.now }
+    {
+        match self {
+            Pieces::Sectors(_) => SECTOR,
+            Pieces::MiniSectors(_) => 64,
+        }
+    }
+}
+
 impl<'a> Model for Fat<'a> {
     ghost use Rattle.cfb_chain.specs.Fat.{FatValue, IsSound};
     ghost use Rattle.cfb_chain.specs.View.{bytes_of, start_of, width_of};
@@ -45,6 +79,13 @@ impl<'a> Model for Fat<'a> {
     ghost view = { λ f. record { bytes = bytes_of f.pieces; start = start_of f.pieces; width = width_of f.pieces; table = f.next.items; used = f.used.items } };
 
     ghost invariant = { λ f. IsSound f.next.items f.used.items };
+}
+
+/// How many sectors begin before the end of a file.
+fn count_sectors(file: &[u8]) -> usize
+    ensures { result ≡ sectors_in file.now }
+{
+    ((file.len() + 511) / SECTOR).saturating_sub(1)
 }
 
 impl<'a> Fat<'a> {
@@ -63,13 +104,16 @@ impl<'a> Fat<'a> {
     /// Refused: `OutOfFile` where the chain leaves the table, `Cycle` where it meets one of its own sectors again,
     /// `CrossLinked` where it meets one that is marked.
     pub fn chain(&mut self, alloc: Global, start: u32) -> Result<Vec<u32>, ChainFault>
-        ensures found { IfOk result (λ v. IsFound self.old start 0 v.items) }
         ensures linked { IfOk result (λ v. IsChain (store_of self.old) start 0 v.items) }
+        ensures free { IfOk result (λ v. AreFree self.old v.items) }
         ensures marks { IfOk result (λ v. self.new ≡ marked self.old v.items) }
         ensures refused { IfErr result (MayRefuse self.old start 0) }
+        ensures there { (ns : List ℕ) → IsChain (store_of self.old) start 0 ns → AreFree self.old ns → IfErr result (λ e. e ≡ NoMemory) }
         ensures kept { OnErr result (self.new ≡ self.old) }
     {
-        Err(ChainFault::NoMemory)
+        let sectors = self.walk(alloc, start)?;
+        self.mark(&sectors);
+        Ok(sectors)
     }
 
     /// The bytes of the sectors, one after another.
@@ -78,39 +122,49 @@ impl<'a> Fat<'a> {
         ensures bytes { IfOk result (λ v. v.items ≡ joined (store_of self.now).piece sectors.now) }
         ensures refused { IfErr result (λ e. e ≡ NoMemory) }
     {
-        Err(ChainFault::NoMemory)
+        let bytes = join_blocks(
+            alloc,
+            self.pieces.width(),
+            self.pieces.bytes(),
+            self.pieces.start(),
+            sectors,
+        )?;
+        Ok(bytes)
     }
 
-    /// The first `len` bytes of the chain from a sector on, whose sectors it marks. Where `len` is 0 there is no chain,
-    /// and nothing is walked. A refusal marks none.
-    ///
-    /// Refused: as for `chain`, and `ShortChain` where the chain has no room for so many bytes.
-    pub fn bytes(&mut self, alloc: Global, start: u32, len: u32) -> Result<Vec<u8>, ChainFault>
-        ensures found { IfOk result (λ v. (ns : List ℕ) × IsFound self.old start len ns × (v.items ≡ take len (joined (store_of self.old).piece ns)) × (self.new ≡ marked self.old ns)) }
-        ensures refused { IfErr result (MayRefuse self.old start len) }
-        ensures kept { OnErr result (self.new ≡ self.old) }
+    /// The chain from a sector on, marking nothing.
+    fn walk(&self, alloc: Global, start: u32) -> Result<Vec<u32>, ChainFault>
+        ensures linked { IfOk result (λ v. IsChain (store_of self.now) start 0 v.items) }
+        ensures free { IfOk result (λ v. AreFree self.now v.items) }
+        ensures refused { IfErr result (MayRefuse self.now start 0) }
+        ensures few { length self.now.table ≤ 0xFFFFFFF9 }
     {
-        Err(ChainFault::NoMemory)
+        let mut sectors = Vec::new(alloc);
+        let mut at = start;
+        while at != END_OF_CHAIN {
+            let n = at as usize;
+            if n >= self.next.len() {
+                return Err(ChainFault::OutOfFile);
+            }
+            if self.used[n] {
+                return Err(ChainFault::CrossLinked);
+            }
+            if sectors.len() >= self.next.len() {
+                return Err(ChainFault::Cycle);
+            }
+            sectors.push(at)?;
+            at = self.next[n];
+        }
+        Ok(sectors)
     }
 
-    /// The table of the mini stream of `size` bytes that begins at `start`, with the mini FAT that the header names. The
-    /// sectors of both chains are marked. A refusal marks none.
-    ///
-    /// Refused: as for `bytes`, for either chain.
-    pub fn mini(
-        &mut self,
-        alloc: Global,
-        header: &Header,
-        start: u32,
-        size: u32,
-    ) -> Result<Fat<'a>, ChainFault>
-        ensures found { IfOk result (λ m. (mini_fat : List ℕ) × (mini_stream : List ℕ)
-            × IsMiniFound self.old header.now.first_mini_fat header.now.mini_fat_count start size mini_fat mini_stream
-            × IsMiniTable self.old (take header.now.mini_fat_count mini_fat) mini_stream size m
-            × (self.new ≡ marked self.old (mini_fat ++ mini_stream))) }
-        ensures refused { IfErr result (MayRefuseMini self.old header.now start size) }
-        ensures kept { OnErr result (self.new ≡ self.old) }
+    /// Marks sectors as used.
+    fn mark(&mut self, sectors: &[u32])
+        requires { All (λ n. n < length self.old.table) sectors.now }
+        ensures { self.new ≡ marked self.old sectors.now }
     {
-        Err(ChainFault::NoMemory)
+        for n in sectors {
+            self.used[*n as usize] = true;
+        }
     }
 }

@@ -161,6 +161,14 @@ impl Header {
         &self.fat[..self.fat_count as usize]
     }
 
+    /// How many sectors the FAT has.
+    pub(crate) fn fat_count(&self) -> usize
+        ensures count { result ≡ length self.now.fat }
+        ensures few { result ≤ 109 }
+    {
+        self.fat_count as usize
+    }
+
     /// The first sector of the directory.
     pub fn first_directory(&self) -> u32
         ensures { result ≡ self.now.first_directory }

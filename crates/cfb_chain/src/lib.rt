@@ -5,3 +5,4 @@ mod bytes;
 pub mod fat;
 pub mod fault;
 pub mod header;
+mod sectors;
