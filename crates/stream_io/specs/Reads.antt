@@ -13,16 +13,8 @@ use Rattle.cfb_directory.specs.declared.fault.DirFault.TheVariants as directory
 use Rattle.storage_tree.specs.Change.{put_seen}
 use Rattle.storage_tree.specs.Kept.{Kept, put}
 use Rattle.storage_tree.specs.Tree.{Tree, Children, tree, none, stream, storage}
-use Rattle.stream_io.specs.Denotes.{Denotes}
-use Rattle.stream_io.specs.Refusals.{has_storage}
 use Rattle.stream_io.specs.declared.fault.ReadFault.{ReadFault}
 use Rattle.stream_io.specs.declared.fault.ReadFault.TheVariants.{Chain, Directory, NoMemory}
-
--- Why a file is refused: for want of memory, or where it denotes no tree, but that a file with a storage below the
--- root may be refused for anything.
-abbrev pub MayRefuseRead : List ℕ → ReadFault → Type 0
-MayRefuseRead file NoMemory = Unit {0}
-MayRefuseRead file fault = (t : Tree) → Denotes file t → has_storage t ≡ false → ⊥
 
 -- the faults of the layers below
 abbrev pub chain_fault : ChainFault → ReadFault
@@ -46,10 +38,6 @@ fat_after size ns fat = if nat_lt size 4096 then fat else marked fat ns
 
 abbrev pub mini_after : ℕ → List ℕ → FatValue → FatValue
 mini_after size ns mini = if nat_lt size 4096 then marked mini ns else mini
-
--- every number of a table is one of a regular sector
-abbrev pub IsRegular : FatValue → Type 0
-IsRegular f = length f.table ≤ 0xFFFFFFF9
 
 -- An entry of a stream, its name, its unused sectors and its bytes.
 pub record IsStreamRead (directory : List ℕ) (id : ℕ) (fat mini : FatValue) (k name bytes ns : List ℕ) : Type 0 where

@@ -8,7 +8,7 @@ ghost use Rattle.std.specs.List.{All, Contains};
 ghost use Rattle.std.specs.List.Sorted.{IsStrictlySortedBy};
 ghost use Rattle.std.specs.Map.{keys_of, values_of};
 ghost use Rattle.std.specs.Prelude.{◌↔◌, ◌≡◌, ◌≢◌, IfErr, IfOk, List, OnOk, map, take, ℕ};
-ghost use Rattle.stream_io.specs.Reads.{IsKeyed, IsRegular, MayRefuseNames, fat_after, key_at, mini_after, table_for};
+ghost use Rattle.stream_io.specs.Reads.{IsKeyed, MayRefuseNames, fat_after, key_at, mini_after, table_for};
 ghost use Rattle.stream_io.specs.declared.fault.ReadFault.TheVariants.{NoMemory};
 
 use crate::fault::ReadFault;
@@ -77,13 +77,8 @@ impl<'a> Reader<'a> {
             × (v.items ≡ take size (joined (store_of (table_for size self.old.fat self.old.mini)).piece ns))
             × (self.new.fat ≡ fat_after size ns self.old.fat) × (self.new.mini ≡ mini_after size ns self.old.mini)) }
         ensures entries { self.new.entries ≡ self.old.entries }
-        ensures refused { IfErr result (λ e. e ≢ NoMemory → IsRegular self.old.fat → IsRegular self.old.mini
-            → (ns : List ℕ) → IsFound (table_for size self.old.fat self.old.mini) first size ns → ⊥) }
+        ensures there { (ns : List ℕ) → IsFound (table_for size self.old.fat self.old.mini) first size ns → IfErr result (λ e. e ≡ NoMemory) }
     {
-        // An empty stream has no chain.
-        if size == 0 {
-            return Ok(Vec::new(alloc));
-        }
         if size < CUTOFF {
             Ok(self.mini.bytes(alloc, first, size)?)
         } else {
