@@ -171,3 +171,10 @@ named_twice dir ids i es k id old distinct lt at h is some =
     let place : get_or ids before.0 old ≡ old = sym (get_or-take i ids before.0 old less) ∙ before.2 in
     let ne : old ≢ id = λ e. distinct before.0 i old less lt (place ∙ e ∙ at ∙ get_or_default ids i id old lt) in
     (old, id, (before.0, omega (arith, less, lt), place), (i, lt, sym at), ne, sym r.0 ∙ is)
+
+pub keys_keyed : (dir : List ℕ) (es : List (List ℕ × ℕ)) → All (IsKeyed dir) es → keys_of es ≡ map (key_at dir) (values_of es)
+keys_keyed dir [] all = refl
+keys_keyed dir (e ∷ es) all =
+    let first : e.0 ≡ key_at dir e.1 = All-head (IsKeyed dir) e es all in
+    let rest : keys_of es ≡ map (key_at dir) (values_of es) = keys_keyed dir es (All-tail (IsKeyed dir) e es all) in
+    λ t. first t ∷ rest t

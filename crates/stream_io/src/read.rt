@@ -15,7 +15,7 @@ use crate::fault::ReadFault;
 use cfb_chain::fat::Fat;
 use cfb_directory::entries::Entries;
 use cfb_directory::fault::DirFault;
-use std::alloc::Global;
+use std::alloc::{AllocError, Global};
 use std::collections::BTreeMap;
 
 /// A stream of fewer bytes lies in mini sectors (MS-CFB 2.2).
@@ -56,6 +56,13 @@ fn by_key(
     Ok(keyed)
 }
 
+/// The values in the order of their keys.
+fn values(alloc: Global, keyed: &BTreeMap<[u8; 32], u32>) -> Result<Vec<u32>, AllocError>
+    ensures { IfOk result (λ v. v.items ≡ values_of keyed.now.entries) }
+{
+    keyed.values().copied().collect(alloc)
+}
+
 /// The entries in the order of their names.
 ///
 /// Refused: as `by_key`.
@@ -67,7 +74,8 @@ fn by_name(alloc: Global, entries: &Entries<'_>, ids: &[u32]) -> Result<Vec<u32>
     ensures refused { IfErr result (MayRefuseNames entries.now.directory ids.now) }
 {
     let keyed = by_key(alloc, entries, ids)?;
-    Ok(keyed.values().copied().collect(alloc)?)
+    let sorted = values(alloc, &keyed)?;
+    Ok(sorted)
 }
 
 impl<'a> Reader<'a> {
