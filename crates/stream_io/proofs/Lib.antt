@@ -4,3 +4,4 @@ pub mod EmptyDocument
 pub mod ReadingMarks
 pub mod ReadingRefused
 pub mod ReadingNames
+pub mod ReadingEntries

@@ -8,6 +8,7 @@ use Rattle.cfb_chain.specs.declared.fault.ChainFault.{ChainFault}
 use Rattle.cfb_chain.specs.declared.fault.ChainFault.TheVariants as chain
 use Rattle.cfb_directory.specs.Names.{IsName, key, key_cmp}
 use Rattle.cfb_directory.specs.Entries.{AreFree, AreLinked, EntriesValue, IsNamed, MayRefuseEntry, child, entry_at, first_of, kind, name_of, size_of}
+use Rattle.cfb_directory.specs.declared.entries.Entry.{Entry}
 use Rattle.cfb_directory.specs.declared.fault.DirFault.{DirFault}
 use Rattle.cfb_directory.specs.declared.fault.DirFault.TheVariants as directory
 use Rattle.storage_tree.specs.Change.{put_seen}
@@ -38,6 +39,14 @@ fat_after size ns fat = if nat_lt size 4096 then fat else marked fat ns
 
 abbrev pub mini_after : ℕ → List ℕ → FatValue → FatValue
 mini_after size ns mini = if nat_lt size 4096 then marked mini ns else mini
+
+-- an entry of a stream, as it is read
+pub record IsStream (directory : List ℕ) (id : ℕ) (e : Entry) : Type 0 where
+  pub kind_is : kind (entry_at directory id) ≡ 2
+  pub named : IsNamed (entry_at directory id) e.name
+  pub valid : IsName e.name
+  pub first : e.first ≡ first_of (entry_at directory id)
+  pub size : e.size ≡ size_of (entry_at directory id)
 
 -- An entry of a stream, its name, its unused sectors and its bytes.
 pub record IsStreamRead (directory : List ℕ) (id : ℕ) (fat mini : FatValue) (k name bytes ns : List ℕ) : Type 0 where

@@ -3,20 +3,24 @@
 ghost use Rattle.cfb_chain.specs.Bytes.{joined};
 ghost use Rattle.cfb_chain.specs.Chain.{AreDistinct};
 ghost use Rattle.cfb_chain.specs.Fat.{IsFound, store_of};
-ghost use Rattle.cfb_directory.specs.Names.{key_cmp};
+ghost use Rattle.cfb_directory.specs.Entries.{IsNamed, entry_at, kind};
+ghost use Rattle.cfb_directory.specs.Names.{IsName, key_cmp};
 ghost use Rattle.std.specs.List.{All, Contains};
 ghost use Rattle.std.specs.List.Sorted.{IsStrictlySortedBy};
 ghost use Rattle.std.specs.Map.{keys_of, values_of};
-ghost use Rattle.std.specs.Prelude.{◌↔◌, ◌≡◌, ◌≢◌, IfErr, IfOk, List, OnOk, map, take, ℕ};
-ghost use Rattle.stream_io.specs.Reads.{IsKeyed, MayRefuseNames, fat_after, key_at, mini_after, table_for};
+ghost use Rattle.std.specs.Prelude.{◌↔◌, ◌≡◌, ◌≢◌, IfErr, IfOk, IsOk, List, OnOk, map, take, ℕ};
+ghost use Rattle.storage_tree.specs.Kept.{kept};
+ghost use Rattle.stream_io.specs.Reads.{IsKeyed, IsPut, IsStream, IsStreamRead, MayRefuseNames, fat_after, key_at, mini_after, table_for};
 ghost use Rattle.stream_io.specs.declared.fault.ReadFault.TheVariants.{NoMemory};
 
 use crate::fault::ReadFault;
 use cfb_chain::fat::Fat;
-use cfb_directory::entries::Entries;
+use cfb_directory::entries::{Entries, Entry, EntryKind};
 use cfb_directory::fault::DirFault;
 use std::alloc::{AllocError, Global};
 use std::collections::BTreeMap;
+use storage_tree::bytes::Bytes;
+use storage_tree::tree::Tree;
 
 /// A stream of fewer bytes lies in mini sectors (MS-CFB 2.2).
 const CUTOFF: u32 = 4096;
@@ -78,6 +82,23 @@ fn by_name(alloc: Global, entries: &Entries<'_>, ids: &[u32]) -> Result<Vec<u32>
     Ok(sorted)
 }
 
+/// The entry of a stream.
+///
+/// Refused: as `Entries::entry`, and `BadEntry` for a storage.
+fn stream_entry(entries: &Entries<'_>, id: u32) -> Result<Entry, ReadFault>
+    requires { id ≢ 0 }
+    ensures read { IfOk result (IsStream entries.now.directory id) }
+    ensures there { (name : List ℕ) → kind (entry_at entries.now.directory id) ≡ 2 → IsNamed (entry_at entries.now.directory id) name → IsName name → IsOk result }
+{
+    let entry = entries.entry(id)?;
+    // That the name is one that a directory takes, which its characters tell.
+    let _ = entry.name.as_bytes();
+    match entry.kind {
+        EntryKind::Stream => Ok(entry),
+        _ => Err(ReadFault::Directory(DirFault::BadEntry)),
+    }
+}
+
 impl<'a> Reader<'a> {
     /// The bytes of a stream, whose sectors are marked.
     fn read_stream(&mut self, alloc: Global, first: u32, size: u32) -> Result<Vec<u8>, ReadFault>
@@ -91,6 +112,23 @@ impl<'a> Reader<'a> {
             Ok(self.mini.bytes(alloc, first, size)?)
         } else {
             Ok(self.fat.bytes(alloc, first, size)?)
+        }
+    }
+
+    /// Reads an entry, and puts its stream into the tree.
+    ///
+    /// Refused: as `stream_entry` and `Fat::bytes`.
+    fn read_child(&mut self, alloc: Global, id: u32, tree: &mut Tree) -> Result<(), ReadFault>
+        requires { id ≢ 0 }
+        ensures read { OnOk result (IsPut self.old.entries.directory id self.old.fat self.old.mini (kept tree.old) self.new.fat self.new.mini (kept tree.new)) }
+        ensures entries { self.new.entries ≡ self.old.entries }
+        ensures there { (k name bytes ns : List ℕ) → IsStreamRead self.old.entries.directory id self.old.fat self.old.mini k name bytes ns → IfErr result (λ e. e ≡ NoMemory) }
+    {
+        let entry = stream_entry(&self.entries, id)?;
+        let bytes = self.read_stream(alloc, entry.first, entry.size)?;
+        match tree.put_stream(&[entry.name], Bytes::from_vec(bytes)) {
+            Ok(()) => Ok(()),
+            Err(_) => Err(ReadFault::NoMemory),
         }
     }
 }
