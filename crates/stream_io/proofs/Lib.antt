@@ -5,3 +5,4 @@ pub mod ReadingMarks
 pub mod ReadingRefused
 pub mod ReadingNames
 pub mod ReadingEntries
+pub mod ReadingChildren
