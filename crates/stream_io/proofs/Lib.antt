@@ -6,3 +6,4 @@ pub mod ReadingRefused
 pub mod ReadingNames
 pub mod ReadingEntries
 pub mod ReadingChildren
+pub mod ReadingSorted
