@@ -24,3 +24,7 @@ chain_memory (Err e) fault h i = h ∙ ap chain_fault i
 pub directory_memory : {A : Type 0} (r : Result A ReadFault) (fault : DirFault) → IsErrAnd r (λ e. e ≡ directory_fault fault) → fault ≡ directory.NoMemory → IfErr r (λ e. e ≡ NoMemory)
 directory_memory (Ok a) fault h i = tt
 directory_memory (Err e) fault h i = h ∙ ap directory_fault i
+
+pub same_memory : {A : Type 0} (r : Result A ReadFault) (fault : ReadFault) → IsErrAnd r (λ e. e ≡ fault) → fault ≡ NoMemory → IfErr r (λ e. e ≡ NoMemory)
+same_memory (Ok a) fault h i = tt
+same_memory (Err e) fault h i = h ∙ i

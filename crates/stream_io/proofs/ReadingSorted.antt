@@ -131,3 +131,20 @@ names_not_refused e id found ids cs fat mini fat' mini' fault root l h r refused
     let top : ℕ = child (entry_at e.directory id) in
     let same : found ≡ h.reached = linked_unique e.directory top top found h.reached refl l h.linked in
     by_names e id ids cs fat mini fat' mini' root h r fault (subst (λ (xs : List ℕ). MayRefuseNames e.directory xs fault) same refused)
+
+-- ---- as they are found
+pub sorted_from : (e : EntriesValue) (id : ℕ) (found listed sorted items dir : List ℕ) → AreLinked e.directory (child (entry_at e.directory id)) found → AreFree e found
+    → listed ≡ found → dir ≡ e.directory → IsStrictlySortedBy key_cmp (map (key_at dir) sorted) → ((n : ℕ) → Contains listed n ↔ Contains sorted n) → items ≡ sorted
+    → AreSorted e id items
+sorted_from e id found listed sorted items dir l f is d o s same = record {
+  reached = found;
+  linked = l;
+  free = f;
+  same = subst (λ (xs : List ℕ). (n : ℕ) → Contains found n ↔ Contains xs n) (sym same) (subst (λ (xs : List ℕ). (n : ℕ) → Contains xs n ↔ Contains sorted n) is s);
+  ordered = subst (λ (xs : List ℕ). IsStrictlySortedBy key_cmp (map (key_at e.directory) xs)) (sym same)
+    (subst (λ (x : List ℕ). IsStrictlySortedBy key_cmp (map (key_at x) sorted)) d o);
+}
+
+-- sorted entries are those found, and lie below the root
+pub sorted_below : (e : EntriesValue) (id : ℕ) (ids : List ℕ) → get_or e.used 0 true ≡ true → AreSorted e id ids → All (λ n. n ≢ 0) ids
+sorted_below e id ids root h = all-from (λ n. n ≢ 0) ids (λ n c. All-contains (λ m. m ≢ 0) h.reached n (below_root e h.reached root h.free) ((h.same n).1 c))

@@ -2,15 +2,16 @@
 
 ghost use Rattle.cfb_chain.specs.Bytes.{joined};
 ghost use Rattle.cfb_chain.specs.Chain.{AreDistinct};
-ghost use Rattle.cfb_chain.specs.Fat.{IsFound, store_of};
+ghost use Rattle.cfb_chain.specs.Fat.{FatValue, IsFound, store_of};
 ghost use Rattle.cfb_directory.specs.Entries.{IsNamed, entry_at, kind};
 ghost use Rattle.cfb_directory.specs.Names.{IsName, key_cmp};
 ghost use Rattle.std.specs.List.{All, Contains};
 ghost use Rattle.std.specs.List.Sorted.{IsStrictlySortedBy};
 ghost use Rattle.std.specs.Map.{keys_of, values_of};
-ghost use Rattle.std.specs.Prelude.{◌↔◌, ◌≡◌, ◌≢◌, IfErr, IfOk, IsOk, List, OnOk, map, take, ℕ};
+ghost use Rattle.std.specs.Prelude.{◌*◌, ◌↔◌, ◌<◌, ◌≡◌, ◌≢◌, IfErr, IfOk, IsOk, List, OnOk, length, map, slice_index_or, take, true, ℕ};
 ghost use Rattle.storage_tree.specs.Kept.{kept};
-ghost use Rattle.stream_io.specs.Reads.{IsKeyed, IsPut, IsStream, IsStreamRead, MayRefuseNames, fat_after, key_at, mini_after, table_for};
+ghost use Rattle.storage_tree.specs.Tree.{Children, none};
+ghost use Rattle.stream_io.specs.Reads.{AreChildrenRead, AreRead, AreSorted, children_in, IsKeyed, IsPut, IsStream, IsStreamRead, MayRefuseNames, fat_after, key_at, mini_after, table_for};
 ghost use Rattle.stream_io.specs.declared.fault.ReadFault.TheVariants.{NoMemory};
 
 use crate::fault::ReadFault;
@@ -130,5 +131,24 @@ impl<'a> Reader<'a> {
             Ok(()) => Ok(()),
             Err(_) => Err(ReadFault::NoMemory),
         }
+    }
+
+    /// Reads the children of an entry into a tree that has none.
+    ///
+    /// Refused: as `Entries::children`, `by_name` and `read_child`.
+    fn read_children(&mut self, alloc: Global, id: u32, tree: &mut Tree) -> Result<(), ReadFault>
+        requires inside { 128 * id < length self.old.entries.directory }
+        requires root_marked { slice_index_or self.old.entries.used 0 true ≡ true }
+        requires empty { children_in (kept tree.old).now ≡ none }
+        ensures read { OnOk result (AreChildrenRead self.old.entries id self.old.fat self.old.mini (kept tree.old) self.new.fat self.new.mini (kept tree.new)) }
+        ensures there { (ids : List ℕ) (cs : Children) (fat mini : FatValue) → AreSorted self.old.entries id ids
+            → AreRead self.old.entries.directory ids cs self.old.fat self.old.mini fat mini → IfErr result (λ e. e ≡ NoMemory) }
+    {
+        let ids = self.entries.children(alloc, id)?;
+        let sorted = by_name(alloc, &self.entries, &ids)?;
+        for child in &sorted {
+            self.read_child(alloc, *child, tree)?;
+        }
+        Ok(())
     }
 }
