@@ -1,5 +1,5 @@
 -- The bytes of sectors, as slices of the code give them.
-use Rattle.std.proofs.Common.{◌≡◌, ◌≤◌, ◌+◌, ◌-◌, ◌*◌, ℕ, List, [], ◌∷◌, ◌++◌, length, take, drop, replicate, refl, arith, append_assoc, min, length-append, length-drop, ap, ◌∙◌}
+use Rattle.std.proofs.Common.{◌⊎◌, inl, inr, ◌≡◌, ◌≤◌, ◌+◌, ◌-◌, ◌*◌, ℕ, List, [], ◌∷◌, ◌++◌, length, take, drop, replicate, refl, arith, append_assoc, min, length-append, length-drop, ap, ◌∙◌}
 use Rattle.std.proofs.lemmas.List.{drop_all, drop_min, length-replicate, length-take, take_all, take_min}
 use Rattle.cfb_chain.specs.Bytes.{block, joined, u32_at}
 
@@ -40,3 +40,8 @@ length_joined piece w (n ∷ ns) wide =
 pub u32_at_past : (bytes : List ℕ) (at : ℕ) → length bytes ≤ at → u32_at bytes at ≡ 0
 unfolding u32_at
 u32_at_past bytes at h = rw (drop_all at bytes h) refl
+
+-- sectors hold whole numbers
+pub whole_numbers : (w n l : ℕ) → (w ≡ 512) ⊎ (w ≡ 64) → l ≡ w * n → (m : ℕ) × (l ≡ 4 * m)
+whole_numbers w n l (inl e) h = (128 * n, h ∙ ap (λ w. w * n) e ∙ omega arith)
+whole_numbers w n l (inr e) h = (16 * n, h ∙ ap (λ w. w * n) e ∙ omega arith)

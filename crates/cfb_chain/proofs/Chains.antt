@@ -225,3 +225,16 @@ met_when_long next P start ns last count h every all below long =
           let short : length (ns ++ last ∷ []) ≤ count = length-le_from_distinct_below (ns ++ last ∷ []) count d (λ q t. All-contains (λ n. n < count) (ns ++ last ∷ []) q each (Contains-from_any eqb-true q (ns ++ last ∷ []) t)) in
           absurd (omega (arith, length-append ns (last ∷ []), short))
     ]
+
+-- a chain that has room for some bytes
+pub chain_some : (s : Store) (start bytes : ℕ) (ns : List ℕ) → 0 < bytes → IsChainOf s start bytes ns → IsChain s start bytes ns
+chain_some s start zero ns some h = absurd (omega arith)
+chain_some s start (suc n) ns some h = h
+
+pub chain_any : (s : Store) (start bytes : ℕ) (ns : List ℕ) → IsChain s start bytes ns → IsChain s start 0 ns
+chain_any s start bytes ns h = record { linked = h.linked; present = h.present; enough = omega arith }
+
+-- the room in a chain
+pub chain_room : (s : Store) (start bytes : ℕ) (ns : List ℕ) → IsChainOf s start bytes ns → bytes ≤ s.width * length ns
+chain_room s start zero ns h = omega arith
+chain_room s start (suc n) ns h = h.enough

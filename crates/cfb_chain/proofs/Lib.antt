@@ -4,3 +4,4 @@ pub mod Marks
 pub mod Chains
 pub mod Blocks
 pub mod Results
+pub mod Tables

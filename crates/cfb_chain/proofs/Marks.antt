@@ -1,6 +1,8 @@
 -- What is marked in a table, and what of it is free.
-use Rattle.std.proofs.Common.{◌≡◌, ◌≢◌, ◌<◌, ◌⊎◌, inl, inr, ℕ, zero, suc, Bool, true, false, List, [], ◌∷◌, ◌++◌, length, get_or, set, replicate, refl, sym, ap, subst, ◌∙◌, arith, eqb, get_or-set_other}
+use Rattle.std.proofs.Common.{take, drop, ◌≡◌, ◌≢◌, ◌<◌, ◌⊎◌, inl, inr, ℕ, zero, suc, Bool, true, false, List, [], ◌∷◌, ◌++◌, length, get_or, set, replicate, refl, sym, ap, subst, ◌∙◌, arith, eqb, get_or-set_other}
 use Rattle.std.proofs.Math.ListN.{length-set}
+use Rattle.std.proofs.Math.Seq.{drop-cons}
+use Rattle.std.proofs.lemmas.List.{take-append-drop}
 use Rattle.std.proofs.lemmas.Bool.{cases_Bool, eqb-false, eqb-true}
 use Rattle.std.proofs.lemmas.List.{get_or_default, length-replicate, get_or-replicate, same_lists}
 use Rattle.std.proofs.lemmas.Grind.{get_or-set_at}
@@ -251,3 +253,31 @@ set_and_cleared used ns free =
           ∙ sym (get_or_default used k d true below ∙ All-contains (λ n. get_or used n true ≡ false) ns k free c)
       | inr a ↦ cleared_other (set_all used ns) ns k d a ∙ set_other used ns k d a
     ])
+
+-- one sector more
+pub free_more : (f : FatValue) (ns : List ℕ) (n : ℕ) → AreFree f ns → n < length f.table → get_or (set_all f.used ns) n true ≡ false
+    → AreFree f (ns ++ n ∷ [])
+free_more f ns n h l e =
+    free_then f ns (n ∷ []) h (record {
+      free = All-cons (IsFree (marked f ns)) n [] (l, e) (λ k d b. absurd (omega arith));
+      once = λ i j d b k. absurd (omega arith);
+    })
+
+-- a sector that is marked already isn't free behind those before it
+pub clash : (f : FatValue) (ns : List ℕ) (i d : ℕ) → i < length ns → AreFree f ns → get_or (set_all f.used (take i ns)) (get_or ns i d) true ≡ true → ⊥
+clash f ns i d l g t =
+    let n : ℕ = get_or ns i d in
+    let e : take i ns ++ (n ∷ drop (suc i) ns) ≡ ns = ap (λ xs. take i ns ++ xs) (sym (drop-cons ns i d l)) ∙ take-append-drop i ns in
+    let r : AreFree (marked f (take i ns)) (n ∷ drop (suc i) ns) = free_rest f (take i ns) (n ∷ drop (suc i) ns) (subst (AreFree f) (sym e) g) in
+    let q : true ≡ false = sym t ∙ (r.free 0 0 (omega arith)).1 in
+    cc
+
+-- a fresh table marks nothing
+pub marks_none : (f : FatValue) → f.used ≡ replicate (length f.table) false → Marks f []
+marks_none f fresh = record {
+    each = sym (ap length fresh ∙ length-replicate (length f.table) false);
+    listed = λ k d l. absurd (omega arith);
+    only = λ n m.
+      absurd (let e : true ≡ false = sym m.1 ∙ ap (λ u. get_or u n true) fresh ∙ get_or-replicate (length f.table) n false true m.0 in cc);
+    once = λ i j d l k. absurd (omega arith);
+  }

@@ -2,11 +2,11 @@
 
 ghost use Rattle.cfb_chain.specs.Bytes.{joined};
 ghost use Rattle.cfb_chain.specs.Chain.{FREE_SECTOR, IsChain};
-ghost use Rattle.cfb_chain.specs.Fat.{AreFree, IsFat, IsFound, IsFree, IsMiniFound, IsMiniTable, IsTableOf, MayRefuse, MayRefuseFat, MayRefuseMini, marked, sectors_in, store_of};
+ghost use Rattle.cfb_chain.specs.Fat.{AreFree, FatValue, IsFat, IsFound, IsFree, IsMiniFound, IsMiniTable, IsTableOf, MayRefuse, MayRefuseFat, MayRefuseMini, marked, sectors_in, store_of};
 ghost use Rattle.cfb_chain.specs.View.{bytes_of, start_of, width_of};
-ghost use Rattle.cfb_chain.specs.declared.fault.ChainFault.TheVariants.{CrossLinked, NoMemory};
-ghost use Rattle.std.specs.List.{All};
-ghost use Rattle.std.specs.Prelude.{◌*◌, ◌+◌, ◌++◌, ◌<◌, ◌^◌, ◌≡◌, ◌≢◌, ◌≤◌, IfErr, IfNone, IfOk, IfSome, List, OnErr, OnOk, length, slice_index, take, ℕ};
+ghost use Rattle.cfb_chain.specs.declared.fault.ChainFault.TheVariants.{CrossLinked, NoMemory, OutOfFile};
+ghost use Rattle.std.specs.List.{All, Contains};
+ghost use Rattle.std.specs.Prelude.{◌*◌, ◌+◌, ◌++◌, ◌<◌, ◌^◌, ◌≡◌, ◌≢◌, ◌≤◌, ◌⊎◌, IfErr, IfNone, IfOk, IfSome, List, OnErr, OnOk, length, slice_index, take, ℕ};
 
 use crate::fault::ChainFault;
 use crate::header::Header;
@@ -61,7 +61,8 @@ impl<'a> Pieces<'a> {
 
     /// The size of each.
     fn width(&self) -> usize
-        ensures { result ≡ width_of self.now }
+        ensures value { result ≡ width_of self.now }
+        ensures either { (result ≡ 512) ⊎ (result ≡ 64) }
     {
         match self {
             Pieces::Sectors(_) => SECTOR,
@@ -88,6 +89,19 @@ fn count_sectors(file: &[u8]) -> usize
     ((file.len() + 511) / SECTOR).saturating_sub(1)
 }
 
+/// Refuses a sector that isn't among the first `count`.
+fn check_present(sectors: &[u32], count: usize) -> Result<(), ChainFault>
+    ensures present { OnOk result (All (λ n. n < count) sectors.now) }
+    ensures refused { IfErr result (λ e. (e ≡ OutOfFile) × ((n : ℕ) × Contains sectors.now n × (count ≤ n))) }
+{
+    for n in sectors {
+        if *n as usize >= count {
+            return Err(ChainFault::OutOfFile);
+        }
+    }
+    Ok(())
+}
+
 impl<'a> Fat<'a> {
     /// The table of a file. It marks its own sectors.
     ///
@@ -95,8 +109,21 @@ impl<'a> Fat<'a> {
     pub fn load(alloc: Global, header: &Header, file: &'a [u8]) -> Result<Fat<'a>, ChainFault>
         ensures table { IfOk result (λ f. IsTableOf file.now header.now.fat f) }
         ensures refused { IfErr result (MayRefuseFat file.now header.now.fat) }
+        ensures there { IsFat file.now header.now.fat → IfErr result (λ e. e ≡ NoMemory) }
     {
-        Err(ChainFault::NoMemory)
+        let listed = header.fat();
+        let count = (128 * header.fat_count()).min(count_sectors(file));
+        check_present(listed, count)?;
+        let bytes = join_blocks(alloc, SECTOR, file, SECTOR, listed)?;
+        let next = numbers(alloc, &bytes, count)?;
+        let used = vec![in alloc; false; count]?;
+        let mut fat = Fat {
+            pieces: Pieces::Sectors(file),
+            next,
+            used,
+        };
+        fat.mark_apart(listed)?;
+        Ok(fat)
     }
 
     /// The chain from a sector on, whose sectors it marks. A refusal marks none.
@@ -132,12 +159,131 @@ impl<'a> Fat<'a> {
         Ok(bytes)
     }
 
+    /// The first `len` bytes of the chain from a sector on, whose sectors it marks. Where `len` is 0 there is no chain,
+    /// and nothing is walked. A refusal marks none.
+    ///
+    /// Refused: as for `chain`, and `ShortChain` where the chain has no room for so many bytes.
+    pub fn bytes(&mut self, alloc: Global, start: u32, len: u32) -> Result<Vec<u8>, ChainFault>
+        ensures found { IfOk result (λ v. (ns : List ℕ) × IsFound self.old start len ns × (v.items ≡ take len (joined (store_of self.old).piece ns)) × (self.new ≡ marked self.old ns)) }
+        ensures refused { IfErr result (MayRefuse self.old start len) }
+        ensures there { (ns : List ℕ) → IsFound self.old start len ns → IfErr result (λ e. e ≡ NoMemory) }
+        ensures kept { OnErr result (self.new ≡ self.old) }
+    {
+        let sectors = self.find(alloc, start, len as u64)?;
+        let mut bytes = self.join(alloc, &sectors)?;
+        bytes.truncate(len as usize);
+        self.mark(&sectors);
+        Ok(bytes)
+    }
+
+    /// The table of the mini stream of `size` bytes that begins at `start`, with the mini FAT that the header names. The
+    /// sectors of both chains are marked. A refusal marks none.
+    ///
+    /// Refused: as for `bytes`, for either chain.
+    pub fn mini(
+        &mut self,
+        alloc: Global,
+        header: &Header,
+        start: u32,
+        size: u32,
+    ) -> Result<Fat<'a>, ChainFault>
+        ensures found { IfOk result (λ m. (mini_fat : List ℕ) × (mini_stream : List ℕ)
+            × IsMiniFound self.old header.now.first_mini_fat header.now.mini_fat_count start size mini_fat mini_stream
+            × IsMiniTable self.old (take header.now.mini_fat_count mini_fat) mini_stream size m
+            × (self.new ≡ marked self.old (mini_fat ++ mini_stream))) }
+        ensures refused { IfErr result (MayRefuseMini self.old header.now start size) }
+        ensures there { (mini_fat : List ℕ) → (mini_stream : List ℕ)
+            → IsMiniFound self.old header.now.first_mini_fat header.now.mini_fat_count start size mini_fat mini_stream
+            → IfErr result (λ e. e ≡ NoMemory) }
+        ensures kept { OnErr result (self.new ≡ self.old) }
+    {
+        let count = header.mini_fat_count() as usize;
+        let sectors = self.find(
+            alloc,
+            header.first_mini_fat(),
+            512 * header.mini_fat_count() as u64,
+        )?;
+        self.mark(&sectors);
+        match self.mini_table(alloc, &sectors[..count], start, size) {
+            Ok(mini) => Ok(mini),
+            Err(fault) => {
+                self.clear(&sectors);
+                Err(fault)
+            }
+        }
+    }
+
+    /// The table of the mini stream of `size` bytes that begins at `start`, whose mini FAT lies in these sectors. The mini
+    /// stream's sectors are marked.
+    fn mini_table(
+        &mut self,
+        alloc: Global,
+        mini_fat: &[u32],
+        start: u32,
+        size: u32,
+    ) -> Result<Fat<'a>, ChainFault>
+        requires present { All (λ n. n < length self.old.table) mini_fat.now }
+        requires few { length mini_fat.now < 2 ^ 32 }
+        ensures found { IfOk result (λ m. (mini_stream : List ℕ) × IsFound self.old start size mini_stream
+            × IsMiniTable self.old mini_fat.now mini_stream size m
+            × (self.new ≡ marked self.old mini_stream)) }
+        ensures refused { IfErr result (MayRefuse self.old start size) }
+        ensures there { (ns : List ℕ) → IsFound self.old start size ns → IfErr result (λ e. e ≡ NoMemory) }
+        ensures kept { OnErr result (self.new ≡ self.old) }
+    {
+        let sectors = self.find(alloc, start, size as u64)?;
+        let stream = self.join(alloc, &sectors)?;
+        let entries = self.join(alloc, mini_fat)?;
+        let count = (128 * mini_fat.len()).min((size as usize + 63) / 64);
+        let next = numbers(alloc, &entries, count)?;
+        let used = vec![in alloc; false; count]?;
+        self.mark(&sectors);
+        Ok(Fat {
+            pieces: Pieces::MiniSectors(stream),
+            next,
+            used,
+        })
+    }
+
+    /// The least sector that is free: in the table, not marked, and with the value of a sector that isn't used.
+    pub fn free_sector(&self) -> Option<u32>
+        ensures found { IfSome result (λ n. IsFree self.now n × (slice_index self.now.table n ≡ FREE_SECTOR)) }
+        ensures least { IfSome result (λ n. (k : ℕ) → k < n → IsFree self.now k → slice_index self.now.table k ≢ FREE_SECTOR) }
+        ensures none { IfNone result ((k : ℕ) → IsFree self.now k → slice_index self.now.table k ≢ FREE_SECTOR) }
+    {
+        for n in 0..self.next.len() {
+            if self.next[n] == FREE_SECTOR && !self.used[n] {
+                return Some(n as u32);
+            }
+        }
+        None
+    }
+
+    /// The chain from a sector on with room for `len` bytes, or none where `len` is 0, marking nothing.
+    fn find(&self, alloc: Global, start: u32, len: u64) -> Result<Vec<u32>, ChainFault>
+        ensures found { IfOk result (λ v. IsFound self.now start len v.items) }
+        ensures refused { IfErr result (MayRefuse self.now start len) }
+        ensures there { (ns : List ℕ) → IsFound self.now start len ns → IfErr result (λ e. e ≡ NoMemory) }
+        ensures either { (self.now.width ≡ 512) ⊎ (self.now.width ≡ 64) }
+    {
+        let width = self.pieces.width();
+        if len == 0 {
+            return Ok(Vec::new(alloc));
+        }
+        let sectors = self.walk(alloc, start)?;
+        if ((width * sectors.len()) as u64) < len {
+            return Err(ChainFault::ShortChain);
+        }
+        Ok(sectors)
+    }
+
     /// The chain from a sector on, marking nothing.
     fn walk(&self, alloc: Global, start: u32) -> Result<Vec<u32>, ChainFault>
         ensures linked { IfOk result (λ v. IsChain (store_of self.now) start 0 v.items) }
         ensures free { IfOk result (λ v. AreFree self.now v.items) }
         ensures refused { IfErr result (MayRefuse self.now start 0) }
         ensures few { length self.now.table ≤ 0xFFFFFFF9 }
+        ensures short { IfOk result (λ v. length v.items ≤ length self.now.table) }
     {
         let mut sectors = Vec::new(alloc);
         let mut at = start;
@@ -158,6 +304,23 @@ impl<'a> Fat<'a> {
         Ok(sectors)
     }
 
+    /// Marks sectors as used, of which none may be used before.
+    fn mark_apart(&mut self, sectors: &[u32]) -> Result<(), ChainFault>
+        requires { All (λ n. n < length self.old.table) sectors.now }
+        ensures marks { OnOk result (self.new ≡ marked self.old sectors.now) }
+        ensures free { OnOk result (AreFree self.old sectors.now) }
+        ensures refused { IfErr result (λ e. (e ≡ CrossLinked) × (AreFree self.old sectors.now → ⊥)) }
+    {
+        for n in sectors {
+            let n = *n as usize;
+            if self.used[n] {
+                return Err(ChainFault::CrossLinked);
+            }
+            self.used[n] = true;
+        }
+        Ok(())
+    }
+
     /// Marks sectors as used.
     fn mark(&mut self, sectors: &[u32])
         requires { All (λ n. n < length self.old.table) sectors.now }
@@ -165,6 +328,16 @@ impl<'a> Fat<'a> {
     {
         for n in sectors {
             self.used[*n as usize] = true;
+        }
+    }
+
+    /// Takes back marks.
+    fn clear(&mut self, sectors: &[u32])
+        requires { All (λ n. n < length self.old.table) sectors.now }
+        ensures { (f : FatValue) → self.old ≡ marked f sectors.now → AreFree f sectors.now → self.new ≡ f }
+    {
+        for n in sectors {
+            self.used[*n as usize] = false;
         }
     }
 }

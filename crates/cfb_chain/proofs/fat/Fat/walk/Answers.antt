@@ -1,4 +1,4 @@
-use Rattle.std.proofs.Common.{◌≡◌, ◌≤◌, ℕ, Bool, length, subst, get_or, arith}
+use Rattle.std.proofs.Common.{length-append, ◌≡◌, ◌≤◌, ℕ, Bool, length, subst, get_or, arith}
 use Rattle.std.proofs.lemmas.List.Elements.{All-push}
 use Rattle.std.proofs.lemmas.Grind.{common_steps}
 use Rattle.std.proofs.lemmas.List.{get_or_default}
@@ -42,4 +42,5 @@ loop-at-preserved c =
     rw (c.in_ok-push.ensures.items, e) (
       leads_push _ _ _ _ c.loop-at.invariant.0,
       All-push (IsFree c.args.self.now) _ _ c.loop-at.invariant.1 (rw (← c.self.view_is) (grind (arith, common_steps), grind (arith, common_steps, c.index.ensures, get_or_default {X = Bool}))),
+      rw (← c.self.view_is) (grind (arith, common_steps, length-append {A = ℕ})),
     )
