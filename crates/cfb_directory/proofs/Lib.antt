@@ -4,3 +4,5 @@ pub mod Linked
 pub mod Marks
 pub mod Walk
 pub mod Reading
+pub mod Marked
+pub mod Trees

@@ -1,12 +1,11 @@
 -- Marks of entries.
-use Rattle.std.proofs.Common.{◌≡◌, ◌≢◌, ◌↔◌, ◌<◌, ◌≤◌, ◌+◌, ◌*◌, ◌/◌, ℕ, zero, suc, Bool, true, false, ◌⊎◌, inl, inr, List, [], ◌∷◌, ◌++◌, length, get_or, set, replicate, refl, sym, ◌∙◌, ap, subst, arith, append_assoc, append-nil, length-append}
-use Rattle.std.proofs.lemmas.Bool.{cases_Bool, eqb-true, cases_lt}
-use Rattle.std.proofs.lemmas.List.Elements.{All-push, All-append, Contains-append_cases, Contains-append_left, Contains-append_right}
+use Rattle.std.proofs.Common.{◌≡◌, ◌≢◌, ◌<◌, ◌+◌, ℕ, zero, suc, Bool, true, false, ◌⊎◌, inl, inr, List, [], ◌∷◌, ◌++◌, length, get_or, set, refl, sym, ◌∙◌, ap, subst, arith, append_assoc, append-nil, length-append}
+use Rattle.std.proofs.lemmas.Bool.{cases_Bool}
+use Rattle.std.proofs.lemmas.List.Elements.{All-push}
 use Rattle.std.proofs.lemmas.List.Quantifiers.{all_pairs_push}
 use Rattle.std.proofs.lemmas.List.{get_or-append-add, get_or_default}
 use Rattle.std.proofs.Math.ListN.{length-set, get_or-append}
-use Rattle.std.specs.List.{All, AllPairs, Contains}
-use Rattle.cfb_chain.specs.Chain.{AreDistinct}
+use Rattle.std.specs.List.{All, Contains}
 use Rattle.cfb_directory.specs.Entries.{EntriesValue, IsFree, AreFree, marked, set_all}
 use Rattle.cfb_directory.specs.Walk.{clear_all, unmarked}
 
@@ -42,7 +41,7 @@ pub set_all-append : (used : List Bool) (ms ns : List ℕ) → set_all used (ms 
 set_all-append used [] ns = refl
 set_all-append used (m ∷ ms) ns = set_all-append (set used m true) ms ns
 
-set_all-stays : (used : List Bool) (ns : List ℕ) (n : ℕ) → get_or used n true ≡ true → get_or (set_all used ns) n true ≡ true
+pub set_all-stays : (used : List Bool) (ns : List ℕ) (n : ℕ) → get_or used n true ≡ true → get_or (set_all used ns) n true ≡ true
 set_all-stays used [] n h = h
 set_all-stays used (m ∷ ns) n h = set_all-stays (set used m true) ns n (set_true used m n (inr h))
 
@@ -130,7 +129,7 @@ marked-push e s ids id h =
     ap (λ v. marked v (id ∷ [])) h ∙ (λ t. record { directory = e.directory; used = used t })
 
 -- what was marked is among the marks, and can be taken back
-free_below : (used : List Bool) (n : ℕ) → get_or used n true ≡ false → n < length used
+pub free_below : (used : List Bool) (n : ℕ) → get_or used n true ≡ false → n < length used
 free_below [] n h = absurd (cc h)
 free_below (b ∷ bs) zero h = omega arith
 free_below (b ∷ bs) (suc n) h = omega (arith, free_below bs n h)

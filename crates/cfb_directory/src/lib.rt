@@ -4,5 +4,8 @@
 mod bytes;
 pub mod entries;
 pub mod fault;
+pub mod links;
 pub mod name;
+#[cfg(test)]
+mod tests;
 pub mod write;
