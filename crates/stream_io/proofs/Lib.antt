@@ -7,3 +7,4 @@ pub mod ReadingNames
 pub mod ReadingEntries
 pub mod ReadingChildren
 pub mod ReadingSorted
+pub mod ReadingStreams
