@@ -8,3 +8,4 @@ pub mod ReadingEntries
 pub mod ReadingChildren
 pub mod ReadingSorted
 pub mod ReadingStreams
+pub mod ReadingFile

@@ -148,3 +148,10 @@ sorted_from e id found listed sorted items dir l f is d o s same = record {
 -- sorted entries are those found, and lie below the root
 pub sorted_below : (e : EntriesValue) (id : ℕ) (ids : List ℕ) → get_or e.used 0 true ≡ true → AreSorted e id ids → All (λ n. n ≢ 0) ids
 sorted_below e id ids root h = all-from (λ n. n ≢ 0) ids (λ n c. All-contains (λ m. m ≢ 0) h.reached n (below_root e h.reached root h.free) ((h.same n).1 c))
+
+-- sorted entries are distinct
+pub sorted_distinct : (dir ids : List ℕ) → IsStrictlySortedBy key_cmp (map (key_at dir) ids) → AreDistinct ids
+sorted_distinct dir ids sorted = λ i j d lt l e.
+    let at : get_or ids i 0 ≡ get_or ids i d = get_or_default ids i 0 d (omega (arith, lt, l)) in
+    let at' : get_or ids j 0 ≡ get_or ids j d = get_or_default ids j 0 d l in
+    apart_keys dir ids i j sorted lt l (ap (key_at dir) (at ∙ e ∙ sym at'))
