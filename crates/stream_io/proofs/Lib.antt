@@ -9,3 +9,4 @@ pub mod ReadingChildren
 pub mod ReadingSorted
 pub mod ReadingStreams
 pub mod ReadingFile
+pub mod ReadingThere
