@@ -151,3 +151,11 @@ denoted file l fat mini fat' mini' e class state old new header r marked root c 
         (distinct-cons 0 h.ids (λ z. All-contains (λ n. n ≢ 0) h.ids 0 below z refl) (sorted_distinct e.directory h.ids h.sorted.ordered));
       is_tree = whole;
     }
+
+-- the same, by what the calls answer
+pub opened_at : (file : List ℕ) (h : HeaderValue) (f fat : FatValue) (start : ℕ) (directory listed_are joined_are bytes : List ℕ) → h ≡ header_of file → IsTableOf file h.fat f
+    → start ≡ h.first_directory → IsChain (store_of f) start 0 directory → AreFree f directory → fat ≡ marked f directory → listed_are ≡ directory
+    → joined_are ≡ joined (store_of fat).piece listed_are → bytes ≡ joined_are → IsOpened file fat directory bytes
+opened_at file h f fat start directory listed_are joined_are bytes is table s chain free after l j b =
+    opened file h f fat directory bytes is table (subst (λ (x : ℕ). IsChain (store_of f) x 0 directory) s chain) free after
+    (b ∙ j ∙ ap (λ (xs : List ℕ). joined (store_of fat).piece xs) l)

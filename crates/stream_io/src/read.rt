@@ -8,19 +8,24 @@ ghost use Rattle.cfb_directory.specs.Names.{IsName, key_cmp};
 ghost use Rattle.std.specs.List.{All, Contains};
 ghost use Rattle.std.specs.List.Sorted.{IsStrictlySortedBy};
 ghost use Rattle.std.specs.Map.{keys_of, values_of};
-ghost use Rattle.std.specs.Prelude.{◌*◌, ◌↔◌, ◌<◌, ◌≡◌, ◌≢◌, IfErr, IfOk, IsOk, List, OnOk, length, map, slice_index_or, take, true, ℕ};
+ghost use Rattle.std.specs.Prelude.{[], ◌*◌, ◌↔◌, ◌<◌, ◌≡◌, ◌≢◌, IfErr, IfOk, IsOk, List, OnOk, false, length, map, slice_index_or, take, true, ℕ};
 ghost use Rattle.storage_tree.specs.Kept.{kept};
+ghost use Rattle.storage_tree.specs.Tree as tree;
 ghost use Rattle.storage_tree.specs.Tree.{Children, none};
+ghost use Rattle.stream_io.specs.Denotes.{Denotes};
+ghost use Rattle.stream_io.specs.Refusals.{has_storage};
 ghost use Rattle.stream_io.specs.Reads.{AreChildrenRead, AreRead, AreSorted, children_in, IsKeyed, IsPut, IsStream, IsStreamRead, MayRefuseNames, fat_after, key_at, mini_after, table_for};
 ghost use Rattle.stream_io.specs.declared.fault.ReadFault.TheVariants.{NoMemory};
 
 use crate::fault::ReadFault;
 use cfb_chain::fat::Fat;
+use cfb_chain::header::Header;
 use cfb_directory::entries::{Entries, Entry, EntryKind};
 use cfb_directory::fault::DirFault;
 use std::alloc::{AllocError, Global};
 use std::collections::BTreeMap;
 use storage_tree::bytes::Bytes;
+use storage_tree::class_id::ClassId;
 use storage_tree::tree::Tree;
 
 /// A stream of fewer bytes lies in mini sectors (MS-CFB 2.2).
@@ -151,4 +156,27 @@ impl<'a> Reader<'a> {
         }
         Ok(())
     }
+}
+
+/// The tree that a compound file denotes (MS-CFB 2), outside transactions.
+///
+/// Refused: a header or chain that isn't as it must be (`Chain`), a directory that isn't (`Directory`), and `NoMemory`. A
+/// file that denotes a tree without storages is refused for want of memory alone. One with a storage below the root isn't
+/// read yet: it is refused by `BadEntry` where nothing else is at fault.
+pub fn read_file(alloc: Global, file: &[u8]) -> Result<Tree, ReadFault>
+    ensures denotes { IfOk result (λ t. ∥ Denotes file.now (kept t).now ∥₁) }
+    ensures closed { IfOk result (λ t. (kept t).saved ≡ []) }
+    ensures reads { (t : tree.Tree) → Denotes file.now t → has_storage t ≡ false → IfErr result (λ e. e ≡ NoMemory) }
+{
+    let header = Header::read(file)?;
+    let mut fat = Fat::load(alloc, &header, file)?;
+    let chain = fat.chain(alloc, header.first_directory())?;
+    let directory = fat.join(alloc, &chain)?;
+    let entries = Entries::load(alloc, &directory)?;
+    let root = entries.entry(0)?;
+    let mini = fat.mini(alloc, &header, root.first, root.size)?;
+    let mut reader = Reader { fat, mini, entries };
+    let mut tree = Tree::new(alloc, ClassId::from_bytes(root.class), root.state);
+    reader.read_children(alloc, 0, &mut tree)?;
+    Ok(tree)
 }
