@@ -76,7 +76,7 @@ put_behind : (name b : List ℕ) (t : Tree) (saved : List Tree) (cs : Children) 
 put_behind name b (tree class state old) saved cs new all h =
     let F : Result Children TreeFault → Result Kept TreeFault = λ r. map_ok (λ s. record { now = tree_of s (tree class state cs); saved = saved }) (map_ok (λ x. inner (tree class state x)) r) in
     let e : put (name ∷ []) b (filled (record { now = tree class state old; saved = saved }) cs) ≡ Ok (filled (record { now = tree class state old; saved = saved }) (followed cs (stream (key name) name b none))) =
-      ap F (put_new name b cs all) in
+    ap F (put_new name b cs all) in
     kept_is new (filled (record { now = tree class state old; saved = saved }) (followed cs (stream (key name) name b none))) (sym h ∙ e)
 
 -- ---- one entry after another
@@ -140,12 +140,12 @@ module _ (dir : List ℕ) where
       let ks : List (List ℕ) = map (key_at dir) ids in
       let long : length ks ≡ length ids = length-map ids (key_at dir) in
       let each : All (IsBehind k) (take i ks) = λ j d l.
-        let below : j < i = omega (arith, l, length-take i ks) in
-        let here : get_or ks i d ≡ k = get_or-map (key_at dir) ids i 0 d lt ∙ sym e in
-        let less : key_cmp (get_or ks j d) (get_or ks i d) ≡ Less = Less-from_sorted key_cmp ks j i d sorted below (omega (arith, long)) in
-        let there : get_or (take i ks) j d ≡ get_or ks j d = get_or-take i ks j d below in
-        let flip : key_cmp k (get_or ks j d) ≡ ordering_reverse (key_cmp (get_or ks j d) k) = nat_list_cmp_total.antisymm k (get_or ks j d) in
-        ap (key_cmp k) there ∙ flip ∙ ap (λ x. ordering_reverse (key_cmp (get_or ks j d) x)) (sym here) ∙ ap ordering_reverse less in
+      let below : j < i = omega (arith, l, length-take i ks) in
+      let here : get_or ks i d ≡ k = get_or-map (key_at dir) ids i 0 d lt ∙ sym e in
+      let less : key_cmp (get_or ks j d) (get_or ks i d) ≡ Less = Less-from_sorted key_cmp ks j i d sorted below (omega (arith, long)) in
+      let there : get_or (take i ks) j d ≡ get_or ks j d = get_or-take i ks j d below in
+      let flip : key_cmp k (get_or ks j d) ≡ ordering_reverse (key_cmp (get_or ks j d) k) = nat_list_cmp_total.antisymm k (get_or ks j d) in
+      ap (key_cmp k) there ∙ flip ∙ ap (λ x. ordering_reverse (key_cmp (get_or ks j d) x)) (sym here) ∙ ap ordering_reverse less in
       subst (All (IsBehind k)) (sym is) each
 
   pub progress_more : (ids : List ℕ) (fat0 mini0 : FatValue) (old : Kept) (i : ℕ) (fat mini : FatValue) (new : Kept) (fat1 mini1 : FatValue) (next : Kept)
@@ -162,27 +162,27 @@ module _ (dir : List ℕ) where
         cs = followed h.cs (stream (key p.name) p.name p.bytes none);
         tree_is = put_behind p.name p.bytes old.now old.saved h.cs next behind (subst (λ (x : Kept). put (p.name ∷ []) p.bytes x ≡ Ok next) h.tree_is p.is_put);
         keys_are = keys-followed h.cs (stream (key p.name) p.name p.bytes none) ∙ ap (λ ks. ks ++ key p.name ∷ []) h.keys_are
-          ∙ ap (λ k. take i (map (key_at dir) ids) ++ k ∷ []) (at ∙ sym (get_or-map (key_at dir) ids i 0 [] lt))
-          ∙ sym (take_more (map (key_at dir) ids) i [] (omega (arith, length-map ids (key_at dir))));
+            ∙ ap (λ k. take i (map (key_at dir) ids) ++ k ∷ []) (at ∙ sym (get_or-map (key_at dir) ids i 0 [] lt))
+            ∙ sym (take_more (map (key_at dir) ids) i [] (omega (arith, length-map ids (key_at dir))));
         sound = λ ds fat' mini' r.
-          let one : AreRead dir (id ∷ drop (i + 1) ids) (stream (key p.name) p.name p.bytes ds) fat mini fat' mini' =
-            ( p.ns
-            , subst (λ (k : List ℕ). IsStreamRead dir id fat mini k p.name p.bytes p.ns) k_is p.is_read
-            , subst (λ (x : FatValue). AreRead dir (drop (i + 1) ids) ds (fat_after size p.ns fat) x fat' mini') p.mini_is
-              (subst (λ (x : FatValue). AreRead dir (drop (i + 1) ids) ds x mini1 fat' mini') p.fat_is r)
+            let one : AreRead dir (id ∷ drop (i + 1) ids) (stream (key p.name) p.name p.bytes ds) fat mini fat' mini' = (
+              p.ns,
+              subst (λ (k : List ℕ). IsStreamRead dir id fat mini k p.name p.bytes p.ns) k_is p.is_read,
+              subst (λ (x : FatValue). AreRead dir (drop (i + 1) ids) ds (fat_after size p.ns fat) x fat' mini') p.mini_is
+                  (subst (λ (x : FatValue). AreRead dir (drop (i + 1) ids) ds x mini1 fat' mini') p.fat_is r),
             ) in
-          let all : AreRead dir ids (followed h.cs (stream (key p.name) p.name p.bytes ds)) fat0 mini0 fat' mini' =
+            let all : AreRead dir ids (followed h.cs (stream (key p.name) p.name p.bytes ds)) fat0 mini0 fat' mini' =
             h.sound (stream (key p.name) p.name p.bytes ds) fat' mini' (subst (λ (xs : List ℕ). AreRead dir xs (stream (key p.name) p.name p.bytes ds) fat mini fat' mini') (sym rest) one) in
-          subst (λ (x : Children). AreRead dir ids x fat0 mini0 fat' mini') (sym (followed-followed h.cs (stream (key p.name) p.name p.bytes none) ds)) all;
+            subst (λ (x : Children). AreRead dir ids x fat0 mini0 fat' mini') (sym (followed-followed h.cs (stream (key p.name) p.name p.bytes none) ds)) all;
         complete = λ ds fat' mini' r.
-          let left : (es : Children) × AreRead dir (drop i ids) es fat mini fat' mini' = h.complete ds fat' mini' r in
-          let here : AreRead dir (id ∷ drop (i + 1) ids) left.0 fat mini fat' mini' = subst (λ (xs : List ℕ). AreRead dir xs left.0 fat mini fat' mini') rest left.1 in
-          let more : (es : Children) × AreRead dir (drop (i + 1) ids) es (fat_after size p.ns fat) (mini_after size p.ns mini) fat' mini' =
-            rest_read id (drop (i + 1) ids) left.0 fat mini fat' mini' p.ns p.is_read.found here in
-          ( more.0
-          , subst (λ (x : FatValue). AreRead dir (drop (i + 1) ids) more.0 fat1 x fat' mini') (sym p.mini_is)
-            (subst (λ (x : FatValue). AreRead dir (drop (i + 1) ids) more.0 x (mini_after size p.ns mini) fat' mini') (sym p.fat_is) more.1)
-          );
+            let left : (es : Children) × AreRead dir (drop i ids) es fat mini fat' mini' = h.complete ds fat' mini' r in
+            let here : AreRead dir (id ∷ drop (i + 1) ids) left.0 fat mini fat' mini' = subst (λ (xs : List ℕ). AreRead dir xs left.0 fat mini fat' mini') rest left.1 in
+            let more : (es : Children) × AreRead dir (drop (i + 1) ids) es (fat_after size p.ns fat) (mini_after size p.ns mini) fat' mini' =
+            rest_read id (drop (i + 1) ids) left.0 fat mini fat' mini' p.ns p.is_read.found here in (
+              more.0,
+              subst (λ (x : FatValue). AreRead dir (drop (i + 1) ids) more.0 fat1 x fat' mini') (sym p.mini_is)
+                  (subst (λ (x : FatValue). AreRead dir (drop (i + 1) ids) more.0 x (mini_after size p.ns mini) fat' mini') (sym p.fat_is) more.1),
+            );
       }
 
   -- at the end all are read

@@ -75,12 +75,12 @@ stream_not_refused dir (suc id) name NoMemory k n v ne r = r
 -- an entry, its bytes and its change of the tree
 pub is_put : (dir : List ℕ) (id : ℕ) (e : Entry) (bytes : List ℕ) (fat mini fat' mini' : FatValue) (old new : Kept) → IsStream dir id e
     → (ns : List ℕ) × IsFound (table_for e.size fat mini) e.first e.size ns × (bytes ≡ take e.size (joined (store_of (table_for e.size fat mini)).piece ns))
-        × (fat' ≡ fat_after e.size ns fat) × (mini' ≡ mini_after e.size ns mini)
+    × (fat' ≡ fat_after e.size ns fat) × (mini' ≡ mini_after e.size ns mini)
     → put (e.name ∷ []) bytes old ≡ Ok new
     → IsPut dir id fat mini old fat' mini' new
 is_put dir id e bytes fat mini fat' mini' old new s h p =
     let Q : ℕ → ℕ → Type 0 = λ first size. (ns : List ℕ) × IsFound (table_for size fat mini) first size ns × (bytes ≡ take size (joined (store_of (table_for size fat mini)).piece ns))
-        × (fat' ≡ fat_after size ns fat) × (mini' ≡ mini_after size ns mini) in
+    × (fat' ≡ fat_after size ns fat) × (mini' ≡ mini_after size ns mini) in
     let r : Q (first_of (entry_at dir id)) (size_of (entry_at dir id)) = subst (λ (x : ℕ). Q x (size_of (entry_at dir id))) s.first (subst (λ (x : ℕ). Q e.first x) s.size h) in
     record {
       k = key e.name;

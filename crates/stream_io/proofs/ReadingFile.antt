@@ -66,7 +66,7 @@ opened file h f fat directory bytes is table chain free after joined_are =
       marks = marks_more f (listed file) directory (marks_load file (listed file) f table') free;
       chain = chain_same (store_of f) (sectors_of file (listed file)) table'.sectors (first_directory file) 0 directory chain';
       bytes_are = j ∙ joined_same (store_of f) (sectors_of file (listed file)) table'.sectors directory (chain_present (store_of f) (first_directory file) 0 directory chain')
-        ∙ sectors_joined file (listed file) directory;
+          ∙ sectors_joined file (listed file) directory;
     }) joined_are
 
 -- all tables
@@ -90,15 +90,15 @@ ready file h fat fat' mini directory bytes first size mini_fat mini_stream is o 
     let first_is : first ≡ first_of (root_of file l) = f ∙ ap (λ x. first_of (entry_at x 0)) bytes_are in
     let size_is : size ≡ size_of (root_of file l) = s ∙ ap (λ x. size_of (entry_at x 0)) bytes_are in
     let in_fat : IsChainOf (store_of fat) (first_mini_fat file) (512 * mini_fat_count file) mini_fat =
-      subst (λ (x : HeaderValue). IsChainOf (store_of fat) x.first_mini_fat (512 * x.mini_fat_count) mini_fat) is found.table in
+    subst (λ (x : HeaderValue). IsChainOf (store_of fat) x.first_mini_fat (512 * x.mini_fat_count) mini_fat) is found.table in
     let in_stream : IsChainOf (store_of fat) (first_of (root_of file l)) (size_of (root_of file l)) mini_stream =
-      subst (λ (x : ℕ). IsChainOf (store_of fat) x (size_of (root_of file l)) mini_stream) first_is
-      (subst (λ (x : ℕ). IsChainOf (store_of fat) first x mini_stream) size_is found.stream) in
+    subst (λ (x : ℕ). IsChainOf (store_of fat) x (size_of (root_of file l)) mini_stream) first_is
+    (subst (λ (x : ℕ). IsChainOf (store_of fat) first x mini_stream) size_is found.stream) in
     let below_fat : All (λ n. n < length fat.table) mini_fat = chain_below (store_of fat) (first_mini_fat file) (512 * mini_fat_count file) mini_fat in_fat in
     let below_stream : All (λ n. n < length fat.table) mini_stream = chain_below (store_of fat) (first_of (root_of file l)) (size_of (root_of file l)) mini_stream in_stream in
     let table' : IsMiniTable fat (take (mini_fat_count file) mini_fat) mini_stream (size_of (root_of file l)) mini =
-      subst (λ (x : ℕ). IsMiniTable fat (take (mini_fat_count file) mini_fat) mini_stream x mini) size_is
-      (subst (λ (x : HeaderValue). IsMiniTable fat (take x.mini_fat_count mini_fat) mini_stream size mini) is table) in
+    subst (λ (x : ℕ). IsMiniTable fat (take (mini_fat_count file) mini_fat) mini_stream x mini) size_is
+    (subst (λ (x : HeaderValue). IsMiniTable fat (take x.mini_fat_count mini_fat) mini_stream size mini) is table) in
     record {
       laid_out = record {
         fat_listed = refl;
@@ -110,10 +110,10 @@ ready file h fat fat' mini directory bytes first size mini_fat mini_stream is o 
       bytes_are = bytes_are;
       same = subst (λ (x : FatValue). AreSame (store_of x) (sectors file l)) (sym after) o.same;
       same_minis = mini_same file (listed file) (take (mini_fat_count file) mini_fat) mini_stream (size_of (root_of file l)) fat mini o.same
-        (All-take (λ n. n < length fat.table) (mini_fat_count file) mini_fat below_fat) below_stream table';
+          (All-take (λ n. n < length fat.table) (mini_fat_count file) mini_fat below_fat) below_stream table';
       marks = subst (λ (x : FatValue). Marks x (l.fat ++ l.directory ++ l.mini_fat ++ l.mini_stream)) (sym after)
-        (subst (Marks (marked fat (mini_fat ++ mini_stream))) (sym (append_assoc (listed file ++ directory) mini_fat mini_stream))
-        (marks_more fat (listed file ++ directory) (mini_fat ++ mini_stream) o.marks found.free));
+          (subst (Marks (marked fat (mini_fat ++ mini_stream))) (sym (append_assoc (listed file ++ directory) mini_fat mini_stream))
+          (marks_more fat (listed file ++ directory) (mini_fat ++ mini_stream) o.marks found.free));
       mini_marks = marks_none mini table'.marks;
     }
 
@@ -126,7 +126,7 @@ denoted file l fat mini fat' mini' e class state old new header r marked root c 
     let dir : e.directory ≡ directory_of file l = r.bytes_are in
     let read : AreRead (directory_of file l) h.ids h.cs fat mini fat' mini' = subst (λ (x : List ℕ). AreRead x h.ids h.cs fat mini fat' mini') dir h.is_read in
     let held : AreHeld file l h.ids h.cs fat' mini' (l.fat ++ l.directory ++ l.mini_fat ++ l.mini_stream) [] =
-      read_held file l h.ids h.cs fat mini fat' mini' (l.fat ++ l.directory ++ l.mini_fat ++ l.mini_stream) [] r.same r.same_minis r.marks r.mini_marks read in
+    read_held file l h.ids h.cs fat mini fat' mini' (l.fat ++ l.directory ++ l.mini_fat ++ l.mini_stream) [] r.same r.same_minis r.marks r.mini_marks read in
     let now : new.now ≡ tree class state h.cs = ap (λ (k : Kept). k.now) h.tree_is ∙ ap (λ (k : Kept). (filled k h.cs).now) is in
     let children : AreChildren file l 0 h.ids = record {
       reached = h.sorted.reached;
@@ -148,7 +148,7 @@ denoted file l fat mini fat' mini' e class state old new header r marked root c 
       sectors_apart = held.marks.once;
       minis_apart = held.mini_marks.once;
       ids_apart = subst (λ (xs : List ℕ). AreDistinct (0 ∷ xs)) (sym held.ids_are)
-        (distinct-cons 0 h.ids (λ z. All-contains (λ n. n ≢ 0) h.ids 0 below z refl) (sorted_distinct e.directory h.ids h.sorted.ordered));
+          (distinct-cons 0 h.ids (λ z. All-contains (λ n. n ≢ 0) h.ids 0 below z refl) (sorted_distinct e.directory h.ids h.sorted.ordered));
       is_tree = whole;
     }
 

@@ -122,8 +122,7 @@ module _ (f : FatValue) where
   pub free_back : (ns ms : List ℕ) → AreFree f (ns ++ ms) → AreFree (marked f ns) ms
   free_back ns ms h = record {
     free = all-from (IsFree (marked f ns)) ms (λ m c.
-      free_after ns m (All-contains (IsFree f) (ns ++ ms) m h.free (Contains-append_right ns ms m c))
-      (λ d. distinct-apart ns ms h.once m d c));
+        free_after ns m (All-contains (IsFree f) (ns ++ ms) m h.free (Contains-append_right ns ms m c))
+        (λ d. distinct-apart ns ms h.once m d c));
     once = distinct-back ns ms h.once;
   }
-

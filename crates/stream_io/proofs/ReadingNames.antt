@@ -90,7 +90,7 @@ module _ (k : List ℕ) (v : ℕ) where
   values_inserted (e ∷ es) n none =
       let ne : key_cmp k e.0 ≡ Equal → ⊥ = not_equal (key_cmp k e.0) (none_head (is_eq (key_cmp k e.0)) e.1 (lookup (is_at (key_cmp k)) es) none) in
       let rest : Contains (v ∷ values_of es) n ↔ Contains (values_of (insert_entry key_cmp es k v)) n =
-        values_inserted es n (none_tail (is_eq (key_cmp k e.0)) e.1 (lookup (is_at (key_cmp k)) es) none) in
+      values_inserted es n (none_tail (is_eq (key_cmp k e.0)) e.1 (lookup (is_at (key_cmp k)) es) none) in
       (step_to e es (insert_entry key_cmp es k v) n (key_cmp k e.0) ne rest.0, step_from e es (insert_entry key_cmp es k v) n (key_cmp k e.0) ne rest.1)
 
 -- what a look-up finds
@@ -147,18 +147,18 @@ keyed_more dir ids i es k id lt at h is none sorted = record {
   keyed = all_inserted k id (IsKeyed dir) es none is h.keyed;
   ordered = sorted;
   same = λ n.
-    let both : Contains (id ∷ values_of es) n ↔ Contains (values_of (insert_entry key_cmp es k id)) n = values_inserted k id es n none in
-    let more : take (i + 1) ids ≡ take i ids ++ id ∷ [] = take_more ids i id lt ∙ ap (λ m. take i ids ++ m ∷ []) (sym at) in
-    let P : List ℕ → Type 0 = λ xs. Contains xs n in
-    ( λ c. both.0 (elim (Contains-push_cases (take i ids) id n (subst P more c)) [
-        | inl d ↦ Contains-behind id (values_of es) n ((h.same n).0 d)
-        | inr e ↦ subst (Contains (id ∷ values_of es)) e (Contains-front id (values_of es))
-      ])
-    , λ c. subst P (sym more) (elim (Contains-cons_cases id (values_of es) n (both.1 c)) [
-        | inl e ↦ subst (Contains (take i ids ++ id ∷ [])) e (Contains-push (take i ids) id)
-        | inr d ↦ Contains-append_left (take i ids) (id ∷ []) n ((h.same n).1 d)
-      ])
-    );
+      let both : Contains (id ∷ values_of es) n ↔ Contains (values_of (insert_entry key_cmp es k id)) n = values_inserted k id es n none in
+      let more : take (i + 1) ids ≡ take i ids ++ id ∷ [] = take_more ids i id lt ∙ ap (λ m. take i ids ++ m ∷ []) (sym at) in
+      let P : List ℕ → Type 0 = λ xs. Contains xs n in (
+        λ c. both.0 (elim (Contains-push_cases (take i ids) id n (subst P more c)) [
+          | inl d ↦ Contains-behind id (values_of es) n ((h.same n).0 d)
+          | inr e ↦ subst (Contains (id ∷ values_of es)) e (Contains-front id (values_of es))
+        ]),
+        λ c. subst P (sym more) (elim (Contains-cons_cases id (values_of es) n (both.1 c)) [
+          | inl e ↦ subst (Contains (take i ids ++ id ∷ [])) e (Contains-push (take i ids) id)
+          | inr d ↦ Contains-append_left (take i ids) (id ∷ []) n ((h.same n).1 d)
+        ]),
+      );
 }
 
 -- a name that stands twice

@@ -107,7 +107,7 @@ module _ (e : EntriesValue) (id : ℕ) (ids : List ℕ) (cs : Children) (fat min
   one_name : (n : ℕ) (fault : DirFault) → Contains h.reached n → MayRefuseEntry e.directory n fault → ⊥
   one_name n fault c refused =
       let s : (name : List ℕ) × (kind (entry_at e.directory n) ≡ 2) × IsNamed (entry_at e.directory n) name × IsName name =
-        each_read e.directory ids cs fat mini fat' mini' r n ((h.same n).0 c) in
+      each_read e.directory ids cs fat mini fat' mini' r n ((h.same n).0 c) in
       stream_not_refused e.directory n s.0 fault s.1 s.2 s.3 (All-contains (λ m. m ≢ 0) h.reached n (below_root e h.reached root h.free) c) refused
 
   by_names : (fault : ReadFault) → MayRefuseNames e.directory h.reached fault → fault ≡ told.NoMemory
@@ -142,7 +142,7 @@ sorted_from e id found listed sorted items dir l f is d o s same = record {
   free = f;
   same = subst (λ (xs : List ℕ). (n : ℕ) → Contains found n ↔ Contains xs n) (sym same) (subst (λ (xs : List ℕ). (n : ℕ) → Contains xs n ↔ Contains sorted n) is s);
   ordered = subst (λ (xs : List ℕ). IsStrictlySortedBy key_cmp (map (key_at e.directory) xs)) (sym same)
-    (subst (λ (x : List ℕ). IsStrictlySortedBy key_cmp (map (key_at x) sorted)) d o);
+      (subst (λ (x : List ℕ). IsStrictlySortedBy key_cmp (map (key_at x) sorted)) d o);
 }
 
 -- sorted entries are those found, and lie below the root

@@ -103,22 +103,28 @@ module _ (file : List ℕ) (l : Layout) where
       let s : IsStreamRead (directory_of file l) id fat mini k n b ns = h.1 in
       let us : Used = taken id size ns in
       let rest : AreHeld ids cs fat' mini' (xs ++ us.sectors) (ys ++ us.minis) =
-        read_held ids cs (fat_after size ns fat) (mini_after size ns mini) fat' mini' (xs ++ us.sectors) (ys ++ us.minis)
-        (same_after (sectors file l) (minis file l) fat mini same same' test ns)
-        (same_minis_after (sectors file l) (minis file l) fat mini same same' test ns)
-        (marks_after (sectors file l) (minis file l) fat mini same same' xs ys m m' id test ns s.found.free)
-        (mini_marks_after (sectors file l) (minis file l) fat mini same same' xs ys m m' id test ns s.found.free)
-        h.2 in
+      read_held ids cs (fat_after size ns fat) (mini_after size ns mini) fat' mini' (xs ++ us.sectors) (ys ++ us.minis)
+      (same_after (sectors file l) (minis file l) fat mini same same' test ns)
+      (same_minis_after (sectors file l) (minis file l) fat mini same same' test ns)
+      (marks_after (sectors file l) (minis file l) fat mini same same' xs ys m m' id test ns s.found.free)
+      (mini_marks_after (sectors file l) (minis file l) fat mini same same' xs ys m m' id test ns s.found.free)
+      h.2 in
       record {
         used = both us rest.used;
-        held =
-          ( s.kind_is
-          , record { named = s.named; under_key = s.under_key }
-          , (ns, rest.used, record {
+        held = (
+          s.kind_is,
+          record { named = s.named; under_key = s.under_key },
+          (
+            ns,
+            rest.used,
+            record {
               chain = found_chain (sectors file l) (minis file l) fat mini same same' test first size ns s.found;
               content = s.content ∙ ap (take size) (found_bytes (sectors file l) (minis file l) fat mini same same' test first size ns s.found);
-            }, refl, rest.held)
-          );
+            },
+            refl,
+            rest.held,
+          ),
+        );
         marks = subst (Marks fat') (append_assoc xs us.sectors rest.used.sectors) rest.marks;
         mini_marks = subst (Marks mini') (append_assoc ys us.minis rest.used.minis) rest.mini_marks;
         ids_are = ap (λ is. is ++ rest.used.ids) (ids_by test id ns) ∙ ap (λ is. id ∷ is) rest.ids_are;
@@ -142,29 +148,36 @@ module _ (file : List ℕ) (l : Layout) where
       let rest : Used = h.2.1 in
       let us : Used = taken id size ns in
       let apart : AreDistinct ((xs ++ us.sectors) ++ rest.sectors) =
-        subst AreDistinct (sym (append_assoc xs us.sectors rest.sectors)) (subst (λ (u : Used). AreDistinct (xs ++ u.sectors)) h.2.3 d) in
+      subst AreDistinct (sym (append_assoc xs us.sectors rest.sectors)) (subst (λ (u : Used). AreDistinct (xs ++ u.sectors)) h.2.3 d) in
       let apart' : AreDistinct ((ys ++ us.minis) ++ rest.minis) =
-        subst AreDistinct (sym (append_assoc ys us.minis rest.minis)) (subst (λ (u : Used). AreDistinct (ys ++ u.minis)) h.2.3 d') in
+      subst AreDistinct (sym (append_assoc ys us.minis rest.minis)) (subst (λ (u : Used). AreDistinct (ys ++ u.minis)) h.2.3 d') in
       let free : AreFree (table_for size fat mini) ns =
-        free_by (sectors file l) (minis file l) fat mini same same' xs ys m m' id test first size ns h.2.2.chain
-        (distinct_left (xs ++ us.sectors) rest.sectors apart) (distinct_left (ys ++ us.minis) rest.minis apart') in
+      free_by (sectors file l) (minis file l) fat mini same same' xs ys m m' id test first size ns h.2.2.chain
+      (distinct_left (xs ++ us.sectors) rest.sectors apart) (distinct_left (ys ++ us.minis) rest.minis apart') in
       let found : IsFound (table_for size fat mini) first size ns =
-        chain_found (sectors file l) (minis file l) fat mini same same' test first size ns h.2.2.chain free in
+      chain_found (sectors file l) (minis file l) fat mini same same' test first size ns h.2.2.chain free in
       let more : (fat' : FatValue) × (mini' : FatValue) × AreRead (directory_of file l) ids cs (fat_after size ns fat) (mini_after size ns mini) fat' mini' =
-        held_read depth ids cs rest (fat_after size ns fat) (mini_after size ns mini) (xs ++ us.sectors) (ys ++ us.minis)
-        (same_after (sectors file l) (minis file l) fat mini same same' test ns)
-        (same_minis_after (sectors file l) (minis file l) fat mini same same' test ns)
-        (marks_after (sectors file l) (minis file l) fat mini same same' xs ys m m' id test ns free)
-        (mini_marks_after (sectors file l) (minis file l) fat mini same same' xs ys m m' id test ns free)
-        h.2.4 flat (rest_trees depth k n b cs trees) apart apart' in
-      (more.0, more.1, (ns, record {
-        kind_is = h.0;
-        named = h.1.named;
-        valid = first_name depth k n b cs trees;
-        under_key = h.1.under_key;
-        found = found;
-        content = h.2.2.content ∙ ap (take size) (sym (found_bytes (sectors file l) (minis file l) fat mini same same' test first size ns found));
-      }, more.2))
+      held_read depth ids cs rest (fat_after size ns fat) (mini_after size ns mini) (xs ++ us.sectors) (ys ++ us.minis)
+      (same_after (sectors file l) (minis file l) fat mini same same' test ns)
+      (same_minis_after (sectors file l) (minis file l) fat mini same same' test ns)
+      (marks_after (sectors file l) (minis file l) fat mini same same' xs ys m m' id test ns free)
+      (mini_marks_after (sectors file l) (minis file l) fat mini same same' xs ys m m' id test ns free)
+      h.2.4 flat (rest_trees depth k n b cs trees) apart apart' in (
+        more.0,
+        more.1,
+        (
+          ns,
+          record {
+            kind_is = h.0;
+            named = h.1.named;
+            valid = first_name depth k n b cs trees;
+            under_key = h.1.under_key;
+            found = found;
+            content = h.2.2.content ∙ ap (take size) (sym (found_bytes (sectors file l) (minis file l) fat mini same same' test first size ns found));
+          },
+          more.2,
+        ),
+      )
   held_read depth (id ∷ ids) (storage k n t cs) used fat mini xs ys same same' m m' h flat trees d d' = absurd (let e : true ≡ false = flat in cc)
 
   -- the entries of streams

@@ -58,7 +58,7 @@ module _ (file : List ℕ) (t : Tree) (d : Denotes file t) where
   apart : AreDistinct ((listed file ++ d.layout.directory) ++ (d.layout.mini_fat ++ d.layout.mini_stream))
   apart =
       let all : AreDistinct (d.layout.fat ++ d.layout.directory ++ d.layout.mini_fat ++ d.layout.mini_stream) =
-        distinct_left (d.layout.fat ++ d.layout.directory ++ d.layout.mini_fat ++ d.layout.mini_stream) d.used.sectors d.sectors_apart in
+      distinct_left (d.layout.fat ++ d.layout.directory ++ d.layout.mini_fat ++ d.layout.mini_stream) d.used.sectors d.sectors_apart in
       subst (λ (xs : List ℕ). AreDistinct ((xs ++ d.layout.directory) ++ (d.layout.mini_fat ++ d.layout.mini_stream))) d.laid_out.fat_listed
       (subst AreDistinct (append_assoc (d.layout.fat ++ d.layout.directory) d.layout.mini_fat d.layout.mini_stream) all)
 
@@ -67,12 +67,12 @@ module _ (file : List ℕ) (t : Tree) (d : Denotes file t) where
   directory_there h f is table =
       let table' : IsTableOf file (listed file) f = subst (λ (x : HeaderValue). IsTableOf file x.fat f) is table in
       let here : IsChain (store_of f) (first_directory file) 0 d.layout.directory =
-        chain_same (sectors_of file (listed file)) (store_of f) (same_back table'.sectors) (first_directory file) 0 d.layout.directory chain in
-      let below : All (λ n. n < length f.table) d.layout.directory = λ k x lt. (here.present k x lt).1 in
-      ( d.layout.directory
-      , subst (λ (x : HeaderValue). IsChain (store_of f) x.first_directory 0 d.layout.directory) (sym is) here
-      , free_when f (listed file) d.layout.directory (marks_load file (listed file) f table')
-        (distinct_left (listed file ++ d.layout.directory) (d.layout.mini_fat ++ d.layout.mini_stream) apart) below
+      chain_same (sectors_of file (listed file)) (store_of f) (same_back table'.sectors) (first_directory file) 0 d.layout.directory chain in
+      let below : All (λ n. n < length f.table) d.layout.directory = λ k x lt. (here.present k x lt).1 in (
+        d.layout.directory,
+        subst (λ (x : HeaderValue). IsChain (store_of f) x.first_directory 0 d.layout.directory) (sym is) here,
+        free_when f (listed file) d.layout.directory (marks_load file (listed file) f table')
+            (distinct_left (listed file ++ d.layout.directory) (d.layout.mini_fat ++ d.layout.mini_stream) apart) below,
       )
 
   module _ (fat : FatValue) (directory bytes : List ℕ) (o : IsOpened file fat directory bytes) where
@@ -120,23 +120,23 @@ module _ (file : List ℕ) (t : Tree) (d : Denotes file t) where
         let size_is : size ≡ size_of (root_of file d.layout) = s ∙ ap (λ x. size_of (entry_at x 0)) same_bytes in
         let back : AreSame (sectors_of file (listed file)) (store_of fat) = same_back o.same in
         let table : IsChainOf (store_of fat) (first_mini_fat file) (512 * mini_fat_count file) d.layout.mini_fat =
-          chain_of_same (sectors_of file (listed file)) (store_of fat) back (first_mini_fat file) (512 * mini_fat_count file) d.layout.mini_fat
-          (subst (λ (xs : List ℕ). IsChainOf (sectors_of file xs) (first_mini_fat file) (512 * mini_fat_count file) d.layout.mini_fat) d.laid_out.fat_listed d.laid_out.mini_fat) in
+        chain_of_same (sectors_of file (listed file)) (store_of fat) back (first_mini_fat file) (512 * mini_fat_count file) d.layout.mini_fat
+        (subst (λ (xs : List ℕ). IsChainOf (sectors_of file xs) (first_mini_fat file) (512 * mini_fat_count file) d.layout.mini_fat) d.laid_out.fat_listed d.laid_out.mini_fat) in
         let stream : IsChainOf (store_of fat) first size d.layout.mini_stream =
-          chain_of_same (sectors_of file (listed file)) (store_of fat) back first size d.layout.mini_stream
-          (subst (λ (x : ℕ). IsChainOf (sectors_of file (listed file)) x size d.layout.mini_stream) (sym first_is)
-          (subst (λ (x : ℕ). IsChainOf (sectors_of file (listed file)) (first_of (root_of file d.layout)) x d.layout.mini_stream) (sym size_is)
-          (subst (λ (xs : List ℕ). IsChainOf (sectors_of file xs) (first_of (root_of file d.layout)) (size_of (root_of file d.layout)) d.layout.mini_stream)
-            d.laid_out.fat_listed d.laid_out.mini_stream))) in
+        chain_of_same (sectors_of file (listed file)) (store_of fat) back first size d.layout.mini_stream
+        (subst (λ (x : ℕ). IsChainOf (sectors_of file (listed file)) x size d.layout.mini_stream) (sym first_is)
+        (subst (λ (x : ℕ). IsChainOf (sectors_of file (listed file)) (first_of (root_of file d.layout)) x d.layout.mini_stream) (sym size_is)
+        (subst (λ (xs : List ℕ). IsChainOf (sectors_of file xs) (first_of (root_of file d.layout)) (size_of (root_of file d.layout)) d.layout.mini_stream)
+        d.laid_out.fat_listed d.laid_out.mini_stream))) in
         let below : All (λ n. n < length fat.table) (d.layout.mini_fat ++ d.layout.mini_stream) =
-          All-append (λ n. n < length fat.table) d.layout.mini_fat d.layout.mini_stream
-          (chain_below (store_of fat) (first_mini_fat file) (512 * mini_fat_count file) d.layout.mini_fat table)
-          (chain_below (store_of fat) first size d.layout.mini_stream stream) in
+        All-append (λ n. n < length fat.table) d.layout.mini_fat d.layout.mini_stream
+        (chain_below (store_of fat) (first_mini_fat file) (512 * mini_fat_count file) d.layout.mini_fat table)
+        (chain_below (store_of fat) first size d.layout.mini_stream stream) in
         record {
           table = subst (λ (x : HeaderValue). IsChainOf (store_of fat) x.first_mini_fat (512 * x.mini_fat_count) d.layout.mini_fat) (sym is) table;
           stream = stream;
           free = free_when fat (listed file ++ directory) (d.layout.mini_fat ++ d.layout.mini_stream) o.marks
-            (subst (λ (xs : List ℕ). AreDistinct ((listed file ++ xs) ++ (d.layout.mini_fat ++ d.layout.mini_stream))) (sym same_directory) apart) below;
+              (subst (λ (xs : List ℕ). AreDistinct ((listed file ++ xs) ++ (d.layout.mini_fat ++ d.layout.mini_stream))) (sym same_directory) apart) below;
         }
 
 -- the children of the root
@@ -167,12 +167,12 @@ module _ (file : List ℕ) (l : Layout) (fat mini : FatValue) (e : EntriesValue)
       let ids : List ℕ = h.2.0 in
       let ids_are : used.ids ≡ ids = held_ids file l ids cs used h.2.2 flat in
       let more : (fat' : FatValue) × (mini' : FatValue) × AreRead (directory_of file l) ids cs fat mini fat' mini' =
-        held_read file l 32 ids cs used fat mini (l.fat ++ l.directory ++ l.mini_fat ++ l.mini_stream) [] r.same r.same_minis r.marks r.mini_marks h.2.2 flat whole apart minis_apart in
+      held_read file l 32 ids cs used fat mini (l.fat ++ l.directory ++ l.mini_fat ++ l.mini_stream) [] r.same r.same_minis r.marks r.mini_marks h.2.2 flat whole apart minis_apart in
       let back : directory_of file l ≡ e.directory = sym r.bytes_are in
       let linked : AreLinked e.directory (child (entry_at e.directory 0)) h.2.1.reached =
-        subst (λ (x : List ℕ). AreLinked x (child (entry_at x 0)) h.2.1.reached) back h.2.1.linked in
+      subst (λ (x : List ℕ). AreLinked x (child (entry_at x 0)) h.2.1.reached) back h.2.1.linked in
       let below : (n : ℕ) → Contains h.2.1.reached n → n ≢ 0 = λ n c z.
-        distinct-head 0 ids (subst (λ (xs : List ℕ). AreDistinct (0 ∷ xs)) ids_are ids_apart) (subst (Contains ids) z ((h.2.1.same n).0 c)) in
+      distinct-head 0 ids (subst (λ (xs : List ℕ). AreDistinct (0 ∷ xs)) ids_are ids_apart) (subst (Contains ids) z ((h.2.1.same n).0 c)) in
       record {
         ids = ids;
         cs = cs;
@@ -183,8 +183,8 @@ module _ (file : List ℕ) (l : Layout) (fat mini : FatValue) (e : EntriesValue)
           linked = linked;
           free = record {
             free = all-from (IsFree e) h.2.1.reached (λ n c.
-              let lt : 128 * n < length e.directory = All-contains (λ m. 128 * m < length e.directory) h.2.1.reached n (linked_in e.directory (child (entry_at e.directory 0)) h.2.1.reached linked) c in
-              (lt, others_free e n loaded (below n c) (within n lt)));
+                let lt : 128 * n < length e.directory = All-contains (λ m. 128 * m < length e.directory) h.2.1.reached n (linked_in e.directory (child (entry_at e.directory 0)) h.2.1.reached linked) c in
+                (lt, others_free e n loaded (below n c) (within n lt)));
             once = h.2.1.once;
           };
           same = h.2.1.same;

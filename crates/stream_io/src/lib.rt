@@ -4,3 +4,5 @@
 pub mod fault;
 pub mod law;
 pub mod read;
+#[cfg(test)]
+mod read_tests;

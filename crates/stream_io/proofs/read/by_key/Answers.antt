@@ -15,7 +15,7 @@ returns-in-Ok-Some-clause-refused c =
     let id : ℕ = get_or c.args.ids.now i 0 in
     let at : id ≡ get_or c.args.ids.now i id = get_or_default c.args.ids.now i 0 id c.loop-id-test.true in
     let is : c.key.result ≡ key_at c.args.entries.now.directory id =
-      c.key.ensures ∙ entry_key c.args.entries.now.directory id c.in_ok-entry.entry (c.requires.below_root i 0 c.loop-id-test.true) c.in_ok-entry.ensures.read in
+    c.key.ensures ∙ entry_key c.args.entries.now.directory id c.in_ok-entry.entry (c.requires.below_root i 0 c.loop-id-test.true) c.in_ok-entry.ensures.read in
     let there : lookup (is_at (key_cmp c.key.result)) c.loop-id.keyed.entries ≡ Some c.in-Ok-Some.field-0-0 = sym c.in-Ok-Some.ensures.old ∙ c.in-Ok-Some.field-0-is in
     named_twice c.args.entries.now.directory c.args.ids.now i c.loop-id.keyed.entries c.key.result id c.in-Ok-Some.field-0-0 c.requires.distinct c.loop-id-test.true at
     c.loop-id.invariant is there
@@ -26,7 +26,7 @@ loop-id-preserved c =
     let id : ℕ = get_or c.args.ids.now i 0 in
     let at : id ≡ get_or c.args.ids.now i id = get_or_default c.args.ids.now i 0 id c.loop-id-test.true in
     let is : c.key.result ≡ key_at c.args.entries.now.directory id =
-      c.key.ensures ∙ entry_key c.args.entries.now.directory id c.in_ok-entry.entry (c.requires.below_root i 0 c.loop-id-test.true) c.in_ok-entry.ensures.read in
+    c.key.ensures ∙ entry_key c.args.entries.now.directory id c.in_ok-entry.entry (c.requires.below_root i 0 c.loop-id-test.true) c.in_ok-entry.ensures.read in
     let none : lookup (is_at (key_cmp c.key.result)) c.loop-id.keyed.entries ≡ None = sym c.in-Ok-None.ensures.old ∙ c.in-Ok-None.field-0-is in
     rw c.in-Ok-None.ensures.entries
     (keyed_more c.args.entries.now.directory c.args.ids.now i c.loop-id.keyed.entries c.key.result id c.loop-id-test.true at c.loop-id.invariant is none
