@@ -4,3 +4,6 @@
 pub mod fault;
 pub mod law;
 pub mod write;
+pub mod read;
+#[cfg(test)]
+mod read_tests;
