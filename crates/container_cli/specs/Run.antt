@@ -1,10 +1,11 @@
 -- What the commands answer, given the bytes of their readers and writers.
-use Rattle.std.specs.Prelude.{◌≡◌, ◌≢◌, ℕ, List, Option, Ok, Err, length}
+use Rattle.std.specs.Prelude.{◌≡◌, ℕ, List, false, Option, Ok, Err, length}
 use Rattle.std.specs.Io.KnownBytes.{Appends}
 use Rattle.storage_tree.specs.Tree.{Tree}
 use Rattle.storage_tree.specs.Kept.{Kept}
 use Rattle.stream_io.specs.Denotes.{Denotes}
-use Rattle.stream_io.specs.Refusals.{writable, Refuses}
+use Rattle.stream_io.specs.Refusals.{writable, has_storage, Refuses}
+use Rattle.stream_io.specs.declared.fault.ReadFault.TheVariants as ReadFault
 use Rattle.container_cli.specs.Input.{MayRefuseInput}
 use Rattle.container_cli.specs.Description.{described, RefusesLine}
 use Rattle.container_cli.specs.Listing.{listing}
@@ -17,7 +18,7 @@ use Rattle.container_cli.specs.declared.fault.ListFault.TheVariants as list
 pub record IsMade (text file : List ℕ) : Type 0 where
   pub k : Kept
   pub describes : described text ≡ Ok k
-  pub denotes : Denotes file k.now
+  pub denotes : ∥ Denotes file k.now ∥₁
 
 -- such a file was written, of so many bytes
 pub record Makes (text : List ℕ) (old new : Option (List ℕ)) (count : ℕ) : Type 0 where
@@ -36,11 +37,11 @@ MayRefuseMake text make.Unwritable = Unit {0}
 -- the listing of the tree that the bytes denote was written
 pub record Lists (file : List ℕ) (old new : Option (List ℕ)) : Type 0 where
   pub t : Tree
-  pub denotes : Denotes file t
+  pub denotes : ∥ Denotes file t ∥₁
   pub written : Appends old new (listing t)
 
 abbrev pub MayRefuseList : List ℕ → ListFault → Type 0
 MayRefuseList file (list.Input fault) = MayRefuseInput file fault
-MayRefuseList file (list.Read fault) = Unit {0}
+MayRefuseList file (list.Read fault) = (t : Tree) → Denotes file t → has_storage t ≡ false → fault ≡ ReadFault.NoMemory
 MayRefuseList file list.Unwritable = Unit {0}
 MayRefuseList file list.NoMemory = Unit {0}

@@ -13,13 +13,14 @@ use crate::description::describe;
 use crate::fault::{ListFault, MakeFault};
 use crate::input::read_all;
 use crate::listing::list;
-use crate::stand_in::{read_file, write_file};
 use std::alloc::Global;
 use std::io;
 use std::io::{Read, Write};
 use storage_tree::storage::Node;
 use storage_tree::tree::Tree;
 use stream_io::fault::WriteFault;
+use stream_io::read::read_file;
+use stream_io::write::write_file;
 
 /// Writes the compound file of the tree that a description describes, and gives its length.
 ///

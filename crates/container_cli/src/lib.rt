@@ -10,5 +10,4 @@ mod input;
 mod listing;
 pub mod path;
 pub mod report;
-mod stand_in;
 pub mod words;
