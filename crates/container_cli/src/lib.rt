@@ -11,3 +11,6 @@ mod listing;
 pub mod path;
 pub mod report;
 pub mod words;
+
+#[cfg(test)]
+mod tests;
