@@ -1,13 +1,23 @@
-// A library with one function.
+//! The states of an embedded object: of its storage, in the words of IPersistStorage, and of its
+//! window, in the words of IOleObject; what each verb does in each of them; and the menu texts that
+//! an object shows while it is active in place. Nothing here takes memory.
 #![tactic(auto)]
 
-ghost use Rattle.std.specs.Prelude.{◌≡◌};
-ghost use Rattle.object_state.specs.Echo.{echo_of};
+mod both_states;
+mod faults;
+pub mod laws;
+mod menu_texts;
+mod object_states;
+mod operations;
+mod persist_states;
+#[cfg(test)]
+mod tests;
+mod verbs;
 
-// The `ensures` clause is the contract: what `echo` returns is `echo_of` of its argument, a definition
-// in `specs/Echo.antt`, which a caller's clause can cite too.
-pub fn echo(x: usize) -> usize
-    ensures { result ≡ echo_of x }
-{
-    x
-}
+pub use both_states::States;
+pub use faults::StateFault;
+pub use menu_texts::{MENU_TEXT_MAX, MenuText, Menus};
+pub use object_states::ObjectState;
+pub use operations::{CloseOption, Op};
+pub use persist_states::{Persist, PersistState};
+pub use verbs::{Step, Verb};
