@@ -1,13 +1,15 @@
-// A library with one function.
+//! Who holds a frame's menus and border space, and what menus and border the frame shows for it.
+//! Nothing here takes memory.
 #![tactic(auto)]
 
-ghost use Rattle.std.specs.Prelude.{◌≡◌};
-ghost use Rattle.grant_core.specs.Echo.{echo_of};
+mod faults;
+mod frame_ui;
+mod grant_states;
+pub mod laws;
+#[cfg(test)]
+mod tests;
 
-// The `ensures` clause is the contract: what `echo` returns is `echo_of` of its argument, a definition
-// in `specs/Echo.antt`, which a caller's clause can cite too.
-pub fn echo(x: usize) -> usize
-    ensures { result ≡ echo_of x }
-{
-    x
-}
+pub use faults::GrantFault;
+pub use frame_ui::FrameUi;
+pub use grant_states::{Claim, GrantState, Tools};
+pub use object_state::{MenuText, Menus};
