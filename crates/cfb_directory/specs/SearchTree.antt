@@ -22,15 +22,16 @@ pub data IsSearchTree (lefts rights : List ℕ) : ℕ → ℕ → ℕ → Type 0
       → IsSearchTree lefts rights (middle lo hi + 1) hi (slice_index rights (middle lo hi))
       → IsSearchTree lefts rights lo hi (middle lo hi)
 
--- Siblings that links reach from one: those on its left, itself, those on its right.
+-- Siblings that links reach from one: those on its left, itself, those on its right. It stands in their middle.
 pub data IsTree (lefts rights : List ℕ) : ℕ → List ℕ → Type 0 where
   nobody : IsTree lefts rights NO_STREAM []
   somebody : (k : ℕ) (before after : List ℕ)
+      → length before ≡ length (before ++ (k ∷ after)) / 2
       → IsTree lefts rights (slice_index lefts k) before
       → IsTree lefts rights (slice_index rights k) after
       → IsTree lefts rights k (before ++ (k ∷ after))
 
--- links of the siblings with these names, by the places of the names: a search tree of just them
+-- links of the siblings with these names, by the places of the names: a balanced search tree of just them
 pub record IsBuilt (names : List (List ℕ)) (l : Links) : Type 0 where
   pub siblings : List ℕ
   pub tree : IsTree l.left.items l.right.items l.top siblings
