@@ -1,5 +1,5 @@
 -- Building a tree of siblings from their names.
-use Rattle.std.proofs.Common.{◌≡◌, ◌≢◌, ◌<◌, ◌≤◌, ◌+◌, ◌-◌, ◌*◌, ◌/◌, ℕ, zero, suc, Bool, true, false, ◌⊎◌, inl, inr, List, [], ◌∷◌, ◌++◌, length, map, take, drop, get_or, set, eqb, nat_cmp, refl, sym, ◌∙◌, ap, subst, arith, length-append, length-drop, get_or-set_other, get_or-set_same}
+use Rattle.std.proofs.Common.{◌≡◌, ◌≢◌, ◌<◌, ◌≤◌, ◌+◌, ◌-◌, ◌/◌, ℕ, zero, suc, false, inl, inr, List, [], ◌∷◌, ◌++◌, length, get_or, set, eqb, nat_cmp, refl, sym, ◌∙◌, ap, subst, arith, get_or-set_other, get_or-set_same}
 use Rattle.std.proofs.lemmas.Bool.{cases_lt}
 use Rattle.std.proofs.lemmas.Bool.Decides.{Decides-eqb, eqb_tells}
 use Rattle.std.proofs.lemmas.List.{get_or_default, get_or-map, length-map}
@@ -10,14 +10,13 @@ use Rattle.std.proofs.lemmas.Map.Keys.{IsDistinct-IsPermutation}
 use Rattle.std.proofs.lemmas.Map.Made.{AllPairs-from_IsDistinct, IsDistinct-from_AllPairs}
 use Rattle.std.specs.Cmp.Lexicographic.{nat_list_cmp_total}
 use Rattle.std.specs.FinMap.{nat_cmp-IsAntisymmetric, slice_cmp-IsAntisymmetric}
-use Rattle.std.specs.List.{All, AllPairs, Contains, IsDistinct, range_with_len}
-use Rattle.std.specs.List.Sorted.{IsPermutation, IsSorted}
+use Rattle.std.specs.List.{All, AllPairs, Contains, range_with_len}
+use Rattle.std.specs.List.Sorted.{IsPermutation}
 use Rattle.std.specs.Ordering.{is_lt, ordering_reverse, ordering_then}
 use Rattle.std.specs.declared.cmp.Ordering.{Ordering}
 use Rattle.std.specs.declared.cmp.Ordering.TheVariants.{Less, Equal, Greater}
 use Rattle.cfb_chain.specs.Chain.{AreDistinct}
 use Rattle.cfb_directory.specs.Building.{AllAdjacentApart, HasEqualNeighbours, KeepsOthers, keyed_from, keyed_names, places}
-use Rattle.cfb_directory.specs.Entries.{NO_STREAM}
 use Rattle.cfb_directory.specs.Names.{key, key_cmp, name_cmp}
 use Rattle.cfb_directory.specs.SearchTree.{IsTree, nobody, somebody, MayRefuseBuild}
 use Rattle.cfb_directory.specs.declared.fault.DirFault.TheVariants.{DuplicateName}

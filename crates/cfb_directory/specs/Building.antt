@@ -1,9 +1,7 @@
 -- Steps of building a tree of siblings.
 use Rattle.std.specs.Prelude.{◌≡◌, ◌≢◌, ◌<◌, ◌+◌, ℕ, List, [], ◌∷◌, length, map, slice_index, slice_index_or}
-use Rattle.std.specs.List.{All, range_with_len, zip}
+use Rattle.std.specs.List.{All}
 use Rattle.cfb_directory.specs.Names.{key}
-use Rattle.cfb_directory.specs.declared.fault.DirFault.{DirFault}
-use Rattle.cfb_directory.specs.declared.fault.DirFault.TheVariants.{DuplicateName, NoMemory}
 
 -- the keys of names, each with its place
 abbrev pub keyed_from : ℕ → List (List ℕ) → List (List ℕ × ℕ)

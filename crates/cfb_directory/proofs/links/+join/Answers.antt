@@ -1,4 +1,4 @@
-use Rattle.std.proofs.Common.{◌≡◌, ◌≢◌, true, false, ◌+◌, ◌-◌, ◌<◌, ◌≤◌, ◌/◌, ℕ, suc, List, [], ◌∷◌, ◌++◌, length, take, drop, get_or, set, ◌∙◌, ap, sym, subst, arith, add-one, drop-cons, length-drop, eqb}
+use Rattle.std.proofs.Common.{◌≡◌, ◌≢◌, true, false, ◌+◌, ◌-◌, ◌<◌, ◌/◌, ℕ, suc, List, [], ◌∷◌, ◌++◌, length, take, drop, get_or, set, ◌∙◌, ap, sym, subst, arith, add-one, drop-cons, length-drop, eqb}
 use Rattle.std.proofs.lemmas.Bool.{eq-eqb, eqb-true}
 use Rattle.std.proofs.lemmas.List.{length-take-le, nil_from_length, take-append-drop, take_all}
 use Rattle.cfb_chain.specs.Chain.{AreDistinct}

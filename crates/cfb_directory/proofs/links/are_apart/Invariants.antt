@@ -1,4 +1,4 @@
-use Rattle.std.proofs.Common.{◌≡◌, ◌≢◌, ◌<◌, ◌+◌, ℕ, List, get_or}
+use Rattle.std.proofs.Common.{◌≢◌, ◌<◌, ◌+◌, ℕ, List, get_or}
 use Rattle.cfb_directory.proofs.links.are_apart.Given as goal
 
 abbrev pub invariant-loop-k : goal.invariant-loop-k
