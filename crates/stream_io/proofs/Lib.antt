@@ -1,7 +1,7 @@
 pub mod Lists
 pub mod Unique
 pub mod EmptyDocument
-pub mod ReadingMarks
+pub mod ReadingLists
 pub mod ReadingRefused
 pub mod ReadingNames
 pub mod ReadingEntries
