@@ -17,3 +17,13 @@ pub mod Balanced
 pub mod Refused
 pub mod Listed
 pub mod Denoted
+pub mod EmptyDocument
+pub mod ReadingLists
+pub mod ReadingRefused
+pub mod ReadingNames
+pub mod ReadingEntries
+pub mod ReadingChildren
+pub mod ReadingSorted
+pub mod ReadingStreams
+pub mod ReadingFile
+pub mod ReadingThere

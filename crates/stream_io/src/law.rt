@@ -3,6 +3,7 @@
 ghost use Rattle.std.specs.Prelude.{List, ℕ, ◌≡◌};
 ghost use Rattle.storage_tree.specs.Tree.{Tree};
 ghost use Rattle.stream_io.specs.Denotes.{Denotes};
+ghost use Rattle.stream_io.specs.EmptyDocument.{empty_document as empty_bytes, empty_tree};
 ghost use Rattle.stream_io.specs.Need.{LeastFat};
 
 /// Bytes denote at most one tree.
@@ -13,4 +14,9 @@ pub fn one_tree()
 /// The number of FAT sectors that a tree needs is the least that covers all sectors.
 pub fn least_fat()
     ensures { LeastFat }
+{}
+
+/// The empty document's bytes denote a root without children.
+pub fn empty_document()
+    ensures { Denotes empty_bytes empty_tree }
 {}
