@@ -18,7 +18,7 @@ pub mod Refused
 pub mod Listed
 pub mod Denoted
 pub mod EmptyDocument
-pub mod ReadingMarks
+pub mod ReadingLists
 pub mod ReadingRefused
 pub mod ReadingNames
 pub mod ReadingEntries

@@ -16,7 +16,7 @@ use Rattle.cfb_directory.specs.declared.entries.Entry.{Entry}
 use Rattle.storage_tree.specs.Kept.{Kept, put}
 use Rattle.stream_io.specs.Reads.{IsPut, IsStream, fat_after, mini_after, table_for}
 use Rattle.stream_io.proofs.Lists.{Contains-cons_cases}
-use Rattle.stream_io.proofs.ReadingMarks.{contains-none}
+use Rattle.stream_io.proofs.ReadingLists.{contains-none}
 
 -- past the directory all bytes are zero
 pub kind_outside : (dir : List ℕ) (id : ℕ) → length dir ≤ 128 * id → kind (entry_at dir id) ≡ 0

@@ -26,7 +26,7 @@ use Rattle.stream_io.proofs.ReadingEntries.{kind_inside}
 use Rattle.std.specs.List.Sorted.{IsStrictlySortedBy}
 use Rattle.cfb_directory.specs.Names.{key, key_cmp}
 use Rattle.cfb_directory.specs.Entries.{name_of}
-use Rattle.stream_io.proofs.ReadingMarks.{distinct-cons}
+use Rattle.stream_io.proofs.ReadingLists.{distinct-cons}
 use Rattle.stream_io.proofs.Unique.{layout_unique}
 
 header_is : (a b : HeaderValue) → ◌≡◌ {A = Result HeaderValue ChainFault} (Ok a) (Ok b) → a ≡ b

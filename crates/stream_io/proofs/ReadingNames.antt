@@ -20,7 +20,7 @@ use Rattle.stream_io.specs.Reads.{IsKeyed, MayRefuseNames, directory_fault, key_
 use Rattle.stream_io.specs.declared.fault.ReadFault.{ReadFault}
 use Rattle.stream_io.specs.declared.fault.ReadFault.TheVariants.{Chain, Directory}
 use Rattle.stream_io.proofs.Lists.{Contains-cons_cases, Contains-front, Contains-behind}
-use Rattle.stream_io.proofs.ReadingMarks.{contains-none}
+use Rattle.stream_io.proofs.ReadingLists.{contains-none}
 
 none_head : (b : Bool) (v : ℕ) (o : Option ℕ) → cond b (Some v) o ≡ None → b ≡ false
 none_head true v o h = cc

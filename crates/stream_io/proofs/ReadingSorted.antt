@@ -23,7 +23,7 @@ use Rattle.stream_io.proofs.Lists.{sorted_unique}
 use Rattle.stream_io.proofs.Unique.{linked_unique}
 use Rattle.stream_io.proofs.ReadingChildren.{each_read}
 use Rattle.stream_io.proofs.ReadingEntries.{stream_not_refused}
-use Rattle.stream_io.proofs.ReadingMarks.{all-from}
+use Rattle.stream_io.proofs.ReadingLists.{all-from}
 
 -- one order of the children
 pub sorted_same : (e : EntriesValue) (id : ℕ) (ids ids' : List ℕ) → AreSorted e id ids → AreSorted e id ids' → ids ≡ ids'

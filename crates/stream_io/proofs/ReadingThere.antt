@@ -23,7 +23,7 @@ use Rattle.stream_io.specs.Reads.{AreRead, AreSorted}
 use Rattle.stream_io.specs.Refusals.{has_storage}
 use Rattle.stream_io.proofs.ReadingEntries.{kind_inside}
 use Rattle.stream_io.proofs.ReadingFile.{IsOpened, IsReady}
-use Rattle.stream_io.proofs.ReadingMarks.{all-from, distinct-head}
+use Rattle.stream_io.proofs.ReadingLists.{all-from, distinct-head}
 use Rattle.stream_io.proofs.ReadingStreams.{held_ids, held_read}
 use Rattle.stream_io.proofs.Unique.{chain_unique, layout_unique}
 

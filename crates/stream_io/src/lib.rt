@@ -3,7 +3,8 @@
 
 pub mod fault;
 pub mod law;
-pub mod write;
 pub mod read;
+pub mod write;
+
 #[cfg(test)]
 mod read_tests;

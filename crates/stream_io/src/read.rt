@@ -3,6 +3,8 @@
 ghost use Rattle.cfb_chain.specs.Bytes.{joined};
 ghost use Rattle.cfb_chain.specs.Chain.{AreDistinct};
 ghost use Rattle.cfb_chain.specs.Fat.{FatValue, IsFound, store_of};
+ghost use Rattle.cfb_chain.specs.Header.{header_read};
+ghost use Rattle.cfb_chain.specs.declared.fault.ChainFault.{ChainFault};
 ghost use Rattle.cfb_directory.specs.Entries.{IsNamed, entry_at, kind};
 ghost use Rattle.cfb_directory.specs.Names.{IsName, key_cmp};
 ghost use Rattle.std.specs.List.{All, Contains};
@@ -14,7 +16,7 @@ ghost use Rattle.storage_tree.specs.Tree as tree;
 ghost use Rattle.storage_tree.specs.Tree.{Children, none};
 ghost use Rattle.stream_io.specs.Denotes.{Denotes};
 ghost use Rattle.stream_io.specs.Refusals.{has_storage};
-ghost use Rattle.stream_io.specs.Reads.{AreChildrenRead, AreRead, AreSorted, children_in, IsKeyed, IsPut, IsStream, IsStreamRead, MayRefuseNames, fat_after, key_at, mini_after, table_for};
+ghost use Rattle.stream_io.specs.Reads.{AreChildrenRead, AreRead, AreSorted, children_in, IsKeyed, IsPut, IsStream, IsStreamRead, MayRefuseNames, chain_fault, fat_after, key_at, mini_after, table_for};
 ghost use Rattle.stream_io.specs.declared.fault.ReadFault.TheVariants.{NoMemory};
 
 use crate::fault::ReadFault;
@@ -166,6 +168,7 @@ impl<'a> Reader<'a> {
 pub fn read_file(alloc: Global, file: &[u8]) -> Result<Tree, ReadFault>
     ensures denotes { IfOk result (λ t. ∥ Denotes file.now (kept t).now ∥₁) }
     ensures closed { IfOk result (λ t. (kept t).saved ≡ []) }
+    ensures header { (e : ChainFault) → header_read file.now ≡ Err e → result ≡ Err (chain_fault e) }
     ensures reads { (t : tree.Tree) → Denotes file.now t → has_storage t ≡ false → IfErr result (λ e. e ≡ NoMemory) }
 {
     let header = Header::read(file)?;

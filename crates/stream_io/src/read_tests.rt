@@ -17,90 +17,105 @@ const END: [u8; 4] = [0xfe, 0xff, 0xff, 0xff];
 const FAT: [u8; 4] = [0xfd, 0xff, 0xff, 0xff];
 
 /// A header: the FAT in sector 0, the directory at sector 1, a mini FAT at this sector, of so many.
-fn header(mini_fat: [u8; 4], count: u8) -> [u8; 512] {
-    let mut bytes = [0; 512];
-    bytes[..8].copy_from_slice(&[0xd0, 0xcf, 0x11, 0xe0, 0xa1, 0xb1, 0x1a, 0xe1]);
-    bytes[24] = 0x3e;
-    bytes[26] = 3;
-    bytes[28] = 0xfe;
-    bytes[29] = 0xff;
-    bytes[30] = 9;
-    bytes[32] = 6;
-    bytes[44] = 1;
-    bytes[48] = 1;
-    bytes[57] = 0x10;
-    bytes[60..64].copy_from_slice(&mini_fat);
-    bytes[64] = count;
-    bytes[68..72].copy_from_slice(&END);
-    bytes[80..].fill(0xff);
-    bytes
+fn header(alloc: Global, mini_fat: &[u8; 4], count: u8) -> Result<Vec<u8>, Fail> {
+    let mut file = Vec::from_slice(alloc, &[0xd0, 0xcf, 0x11, 0xe0, 0xa1, 0xb1, 0x1a, 0xe1])?;
+    file.extend_from_slice(&[0; 16])?;
+    file.extend_from_slice(&[0x3e, 0, 3, 0, 0xfe, 0xff, 9, 0, 6, 0])?;
+    file.extend_from_slice(&[0; 10])?;
+    file.extend_from_slice(&[1, 0, 0, 0, 1, 0, 0, 0, 0, 0, 0, 0, 0, 16, 0, 0])?;
+    file.extend_from_slice(mini_fat)?;
+    file.extend_from_slice(&[count, 0, 0, 0])?;
+    file.extend_from_slice(&END)?;
+    file.extend_from_slice(&[0; 8])?;
+    file.extend_from_slice(&[0xff; 432])?;
+    Ok(file)
+}
+
+/// A sector of a table that begins with these entries.
+fn push_table(file: &mut Vec<u8>, entries: &[[u8; 4]]) -> Result<(), Fail> {
+    for entry in entries {
+        file.extend_from_slice(entry)?;
+    }
+    for _ in entries.len()..128 {
+        file.extend_from_slice(&FREE)?;
+    }
+    Ok(())
 }
 
 /// An entry of a kind with this name, child, first sector and size.
-fn entry(kind: u8, name: &[u8; 2], child: [u8; 4], first: [u8; 4], size: [u8; 4]) -> [u8; 128] {
-    let mut bytes = [0; 128];
-    bytes[..2].copy_from_slice(name);
-    bytes[64] = 4;
-    bytes[66] = kind;
-    bytes[67] = 1;
-    bytes[68..76].fill(0xff);
-    bytes[76..80].copy_from_slice(&child);
-    bytes[116..120].copy_from_slice(&first);
-    bytes[120..124].copy_from_slice(&size);
-    bytes
+fn push_entry(
+    file: &mut Vec<u8>,
+    kind: u8,
+    name: u8,
+    child: &[u8; 4],
+    first: &[u8; 4],
+    size: &[u8; 4],
+) -> Result<(), Fail> {
+    file.extend_from_slice(&[name, 0])?;
+    file.extend_from_slice(&[0; 62])?;
+    file.extend_from_slice(&[4, 0, kind, 1])?;
+    file.extend_from_slice(&[0xff; 8])?;
+    file.extend_from_slice(child)?;
+    file.extend_from_slice(&[0; 36])?;
+    file.extend_from_slice(first)?;
+    file.extend_from_slice(size)?;
+    file.extend_from_slice(&[0; 4])?;
+    Ok(())
 }
 
 /// The file of a root without children.
-fn empty_file() -> [u8; 1536] {
-    let mut file = [0; 1536];
-    file[..512].copy_from_slice(&header(END, 0));
-    file[512..1024].fill(0xff);
-    file[512..516].copy_from_slice(&FAT);
-    file[516..520].copy_from_slice(&END);
-    file[1024..1152].copy_from_slice(&entry(5, b"R\0", FREE, END, [0; 4]));
-    file
+fn empty_file(alloc: Global) -> Result<Vec<u8>, Fail> {
+    let mut file = header(alloc, &END, 0)?;
+    push_table(&mut file, &[FAT, END])?;
+    push_entry(&mut file, 5, b'R', &FREE, &END, &[0; 4])?;
+    file.extend_from_slice(&[0; 384])?;
+    Ok(file)
 }
 
 /// A file with the stream `A` of the bytes 1, 2, 3: the mini FAT in sector 2, the mini stream in sector 3.
-fn short_file() -> [u8; 2560] {
-    let mut file = [0; 2560];
-    file[..512].copy_from_slice(&header([2, 0, 0, 0], 1));
-    file[512..1024].fill(0xff);
-    file[512..516].copy_from_slice(&FAT);
-    file[516..520].copy_from_slice(&END);
-    file[520..524].copy_from_slice(&END);
-    file[524..528].copy_from_slice(&END);
-    let root = entry(5, b"R\0", [1, 0, 0, 0], [3, 0, 0, 0], [64, 0, 0, 0]);
-    file[1024..1152].copy_from_slice(&root);
-    file[1152..1280].copy_from_slice(&entry(2, b"A\0", FREE, [0; 4], [3, 0, 0, 0]));
-    file[1536..2048].fill(0xff);
-    file[1536..1540].copy_from_slice(&END);
-    file[2048..2051].copy_from_slice(&[1, 2, 3]);
-    file
+fn short_file(alloc: Global) -> Result<Vec<u8>, Fail> {
+    let mut file = header(alloc, &[2, 0, 0, 0], 1)?;
+    push_table(&mut file, &[FAT, END, END, END])?;
+    push_entry(
+        &mut file,
+        5,
+        b'R',
+        &[1, 0, 0, 0],
+        &[3, 0, 0, 0],
+        &[64, 0, 0, 0],
+    )?;
+    push_entry(&mut file, 2, b'A', &FREE, &[0; 4], &[3, 0, 0, 0])?;
+    file.extend_from_slice(&[0; 256])?;
+    push_table(&mut file, &[END])?;
+    file.extend_from_slice(&[1, 2, 3])?;
+    file.extend_from_slice(&[0; 509])?;
+    Ok(file)
 }
 
 /// A file with the stream `A` of 4,096 bytes 7 in sectors 2 to 9.
-fn long_file() -> [u8; 5632] {
-    let mut file = [7; 5632];
-    file[..512].copy_from_slice(&header(END, 0));
-    file[512..1024].fill(0xff);
-    file[512..516].copy_from_slice(&FAT);
-    file[516..520].copy_from_slice(&END);
-    for n in 2..9 {
-        file[512 + 4 * n..516 + 4 * n].copy_from_slice(&(n as u32 + 1).to_le_bytes());
+fn long_file(alloc: Global) -> Result<Vec<u8>, Fail> {
+    let mut file = header(alloc, &END, 0)?;
+    file.extend_from_slice(&FAT)?;
+    file.extend_from_slice(&END)?;
+    for n in 3u8..10 {
+        file.extend_from_slice(&[n, 0, 0, 0])?;
     }
-    file[548..552].copy_from_slice(&END);
-    file[1024..1536].fill(0);
-    file[1024..1152].copy_from_slice(&entry(5, b"R\0", [1, 0, 0, 0], END, [0; 4]));
-    let stream = entry(2, b"A\0", FREE, [2, 0, 0, 0], [0, 16, 0, 0]);
-    file[1152..1280].copy_from_slice(&stream);
-    file
+    file.extend_from_slice(&END)?;
+    file.extend_from_slice(&[0xff; 472])?;
+    push_entry(&mut file, 5, b'R', &[1, 0, 0, 0], &END, &[0; 4])?;
+    push_entry(&mut file, 2, b'A', &FREE, &[2, 0, 0, 0], &[0, 16, 0, 0])?;
+    file.extend_from_slice(&[0; 256])?;
+    file.extend_from_slice(&[7; 4096])?;
+    Ok(file)
 }
 
 /// A file with four bytes at a place set to others.
-fn changed(mut file: [u8; 2560], at: usize, bytes: [u8; 4]) -> [u8; 2560] {
-    if at <= 2556 {
-        file[at..at + 4].copy_from_slice(&bytes);
+fn changed(mut file: Vec<u8>, at: u16, bytes: [u8; 4]) -> Vec<u8> {
+    for (k, byte) in bytes.iter().enumerate() {
+        match file.get_mut(at as usize + k) {
+            Some(place) => *place = *byte,
+            None => {}
+        }
     }
     file
 }
@@ -128,7 +143,10 @@ fn bytes_of(tree: &Tree) -> Option<&[u8]> {
 
 #[test]
 fn reads_a_root(rt: HostRuntime) -> Result<(), Fail> {
-    let tree = read_file(rt.alloc(), &empty_file())?;
+    let alloc = rt.alloc();
+    let file = empty_file(alloc)?;
+    assert_eq!(rt; file.len(), 1536);
+    let tree = read_file(alloc, &file)?;
     assert_eq!(rt; tree.root().children.len(), 0);
     assert_eq!(rt; tree.root().class.as_bytes(), &[0; 16]);
     assert_eq!(rt; tree.root().state, 0);
@@ -138,41 +156,50 @@ fn reads_a_root(rt: HostRuntime) -> Result<(), Fail> {
 #[test]
 fn reads_a_short_stream(rt: HostRuntime) -> Result<(), Fail> {
     let alloc = rt.alloc();
-    let tree = read_file(alloc, &short_file())?;
+    let file = short_file(alloc)?;
+    assert_eq!(rt; file.len(), 2560);
+    let tree = read_file(alloc, &file)?;
     assert_eq!(rt; bytes_of(&tree), Some([1, 2, 3].as_slice()));
-    // The high half of the size, and a red entry.
-    let high = changed(short_file(), 1276, FREE);
-    assert_eq!(rt;
-        bytes_of(&read_file(alloc, &high)?),
-        Some([1, 2, 3].as_slice())
-    );
-    let red = changed(short_file(), 1216, [4, 0, 2, 0]);
-    assert_eq!(rt;
-        bytes_of(&read_file(alloc, &red)?),
-        Some([1, 2, 3].as_slice())
-    );
-    // A part of the last sector.
-    let part = short_file();
-    assert_eq!(rt;
-        bytes_of(&read_file(alloc, &part[..2304])?),
-        Some([1, 2, 3].as_slice())
-    );
-    // Another class id of the root.
-    let classed = changed(short_file(), 1104, [0xab, 0, 0, 0]);
-    let tree = read_file(alloc, &classed)?;
+    Ok(())
+}
+
+#[test]
+fn reads_what_is_not_looked_at(rt: HostRuntime) -> Result<(), Fail> {
+    let alloc = rt.alloc();
+    // The high half of the size.
+    let tree = read_file(alloc, &changed(short_file(alloc)?, 1276, FREE))?;
+    assert_eq!(rt; bytes_of(&tree), Some([1, 2, 3].as_slice()));
+    // A red entry.
+    let tree = read_file(alloc, &changed(short_file(alloc)?, 1216, [4, 0, 2, 0]))?;
+    assert_eq!(rt; bytes_of(&tree), Some([1, 2, 3].as_slice()));
+    // The end of the last sector.
+    let mut part = short_file(alloc)?;
+    part.truncate(2304);
+    let tree = read_file(alloc, &part)?;
+    assert_eq!(rt; bytes_of(&tree), Some([1, 2, 3].as_slice()));
+    Ok(())
+}
+
+#[test]
+fn reads_the_class_of_the_root(rt: HostRuntime) -> Result<(), Fail> {
+    let alloc = rt.alloc();
+    let tree = read_file(alloc, &changed(short_file(alloc)?, 1104, [0xab, 0, 0, 0]))?;
     assert_eq!(rt; tree.root().class.as_bytes()[0], 0xab);
     Ok(())
 }
 
 #[test]
 fn reads_a_long_stream(rt: HostRuntime) -> Result<(), Fail> {
-    let tree = read_file(rt.alloc(), &long_file())?;
+    let alloc = rt.alloc();
+    let file = long_file(alloc)?;
+    assert_eq!(rt; file.len(), 5632);
+    let tree = read_file(alloc, &file)?;
     assert_eq!(rt; bytes_of(&tree), Some([7; 4096].as_slice()));
     Ok(())
 }
 
 #[test]
-fn refuses_a_chain(rt: HostRuntime) {
+fn refuses_a_chain(rt: HostRuntime) -> Result<(), Fail> {
     let alloc = rt.alloc();
     let changes = [
         (26, [4, 0, 0xfe, 0xff], ChainFault::Unsupported(26)),
@@ -184,28 +211,40 @@ fn refuses_a_chain(rt: HostRuntime) {
         (1536, [0, 0, 0, 0], ChainFault::Cycle),
     ];
     for (at, bytes, fault) in changes {
-        let file = changed(short_file(), at, bytes);
+        let file = changed(short_file(alloc)?, at, bytes);
         assert_eq!(rt;
             fault_of(alloc, &file),
             Some(ReadFault::Chain(fault)),
             "at {at}"
         );
     }
-    let file = short_file();
-    let truncated = Some(ReadFault::Chain(ChainFault::Truncated));
-    assert_eq!(rt; fault_of(alloc, &file[..511]), truncated);
-    let outside = Some(ReadFault::Chain(ChainFault::OutOfFile));
-    assert_eq!(rt; fault_of(alloc, &file[..2048]), outside);
-    let mut circle = empty_file();
-    circle[516..520].copy_from_slice(&[1, 0, 0, 0]);
+    let circle = changed(empty_file(alloc)?, 516, [1, 0, 0, 0]);
     assert_eq!(rt;
         fault_of(alloc, &circle),
         Some(ReadFault::Chain(ChainFault::Cycle))
     );
+    Ok(())
 }
 
 #[test]
-fn refuses_an_entry(rt: HostRuntime) {
+fn refuses_a_part_of_a_file(rt: HostRuntime) -> Result<(), Fail> {
+    let alloc = rt.alloc();
+    let mut file = short_file(alloc)?;
+    file.truncate(2048);
+    assert_eq!(rt;
+        fault_of(alloc, &file),
+        Some(ReadFault::Chain(ChainFault::OutOfFile))
+    );
+    file.truncate(511);
+    assert_eq!(rt;
+        fault_of(alloc, &file),
+        Some(ReadFault::Chain(ChainFault::Truncated))
+    );
+    Ok(())
+}
+
+#[test]
+fn refuses_an_entry(rt: HostRuntime) -> Result<(), Fail> {
     let alloc = rt.alloc();
     let changes = [
         (1152, [0x2f, 0, 0, 0], DirFault::NameForbidden),
@@ -219,19 +258,28 @@ fn refuses_an_entry(rt: HostRuntime) {
         (1088, [4, 0, 1, 1], DirFault::BadEntry),
     ];
     for (at, bytes, fault) in changes {
-        let file = changed(short_file(), at, bytes);
+        let file = changed(short_file(alloc)?, at, bytes);
         assert_eq!(rt;
             fault_of(alloc, &file),
             Some(ReadFault::Directory(fault)),
             "at {at}"
         );
     }
+    Ok(())
 }
 
 #[test]
-fn refuses_two_names_equal_in_upper_case(rt: HostRuntime) {
-    let mut file = changed(short_file(), 1220, [2, 0, 0, 0]);
-    file[1280..1408].copy_from_slice(&entry(2, b"a\0", FREE, END, [0; 4]));
+fn refuses_two_names_equal_in_upper_case(rt: HostRuntime) -> Result<(), Fail> {
+    let alloc = rt.alloc();
+    let mut file = header(alloc, &END, 0)?;
+    push_table(&mut file, &[FAT, END])?;
+    push_entry(&mut file, 5, b'R', &[1, 0, 0, 0], &END, &[0; 4])?;
+    push_entry(&mut file, 2, b'A', &FREE, &END, &[0; 4])?;
+    push_entry(&mut file, 2, b'a', &FREE, &END, &[0; 4])?;
+    file.extend_from_slice(&[0; 128])?;
+    // The second is on the right of the first.
+    let linked = changed(file, 1224, [2, 0, 0, 0]);
     let twice = Some(ReadFault::Directory(DirFault::DuplicateName));
-    assert_eq!(rt; fault_of(rt.alloc(), &file), twice);
+    assert_eq!(rt; fault_of(alloc, &linked), twice);
+    Ok(())
 }
