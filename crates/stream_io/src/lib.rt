@@ -4,7 +4,6 @@
 pub mod fault;
 pub mod law;
 pub mod read;
-pub mod write;
-
 #[cfg(test)]
 mod read_tests;
+pub mod write;
