@@ -1,5 +1,5 @@
 -- The empty document's bytes denote its tree, by computing.
-use Rattle.std.proofs.Common.{◌<◌, ◌≤◌, get_or, ◌≡◌, ℕ, zero, suc, [], ◌∷◌, length, refl, arith, lit≤, lit<}
+use Rattle.std.proofs.Common.{◌<◌, ◌≤◌, get_or, ◌≡◌, ℕ, zero, suc, [], ◌∷◌, refl, arith, lit≤, lit<}
 use Rattle.std.specs.List.Sorted.{IsStrictlySortedBy}
 use Rattle.cfb_chain.specs.Bytes.{u16_at, u32_at, block}
 use Rattle.cfb_chain.specs.Header.{IsHeader}

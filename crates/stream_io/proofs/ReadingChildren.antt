@@ -1,20 +1,19 @@
 -- Children read one after another, in the order of their names.
-use Rattle.std.proofs.Common.{◌≡◌, ◌≢◌, ◌↔◌, ◌<◌, ◌≤◌, ◌+◌, ◌*◌, ◌⊎◌, inl, inr, ℕ, zero, suc, Bool, true, false, cond, List, [], ◌∷◌, ◌++◌, Option, Some, None, Result, Ok, Err, IfErr, length, get_or, drop, take, map, refl, sym, ◌∙◌, ap, subst, arith}
+use Rattle.std.proofs.Common.{◌≡◌, ◌<◌, ◌≤◌, ◌+◌, inl, inr, ℕ, cond, List, [], ◌∷◌, ◌++◌, Some, None, Result, Ok, length, get_or, drop, take, map, refl, sym, ◌∙◌, ap, subst, arith}
 use Rattle.std.proofs.lemmas.Cmp.{nat_list_cmp_total}
-use Rattle.std.proofs.lemmas.List.{drop_more, take_more, length-map, length-take, get_or-map, get_or-take, drop_all, take_all, get_or_default}
-use Rattle.std.proofs.lemmas.List.Elements.{All-head, All-tail, All-contains}
+use Rattle.std.proofs.lemmas.List.{drop_more, take_more, length-map, length-take, get_or-map, get_or-take, drop_all}
+use Rattle.std.proofs.lemmas.List.Elements.{All-head, All-tail}
 use Rattle.std.proofs.lemmas.Map.Keys.{Less-from_sorted}
 use Rattle.std.specs.List.{All, Contains}
 use Rattle.std.specs.List.Sorted.{IsStrictlySortedBy}
 use Rattle.std.specs.Ordering.{is_eq, match_ordering, ordering_reverse}
-use Rattle.std.specs.declared.cmp.Ordering.{Ordering}
-use Rattle.std.specs.declared.cmp.Ordering.TheVariants.{Less, Equal, Greater}
+use Rattle.std.specs.declared.cmp.Ordering.TheVariants.{Less, Greater}
 use Rattle.cfb_chain.specs.Fat.{FatValue, IsFound}
 use Rattle.cfb_chain.proofs.Chains.{chain_once}
 use Rattle.cfb_chain.specs.Fat.{store_of}
 use Rattle.cfb_directory.specs.Names.{IsName, key, key_cmp}
-use Rattle.cfb_directory.specs.Entries.{IsNamed, entry_at, first_of, kind, name_of, size_of}
-use Rattle.storage_tree.specs.Change.{bytes, inner, child, map_ok, find, place, put_seen, putting, Seen}
+use Rattle.cfb_directory.specs.Entries.{IsNamed, entry_at, first_of, kind, size_of}
+use Rattle.storage_tree.specs.Change.{bytes, inner, map_ok, find, place, putting}
 use Rattle.storage_tree.specs.Kept.{Kept, put, tree_of}
 use Rattle.storage_tree.specs.Tree.{Tree, Children, tree, none, stream, storage, keys}
 use Rattle.storage_tree.specs.declared.fault.TreeFault.{TreeFault}

@@ -1,11 +1,11 @@
 -- An entry of a stream isn't refused.
-use Rattle.std.proofs.Common.{◌≡◌, ◌≢◌, ◌<◌, ◌≤◌, ◌+◌, ◌*◌, ◌-◌, ◌⊎◌, inl, inr, ℕ, zero, suc, Bool, true, false, ◌||◌, List, [], ◌∷◌, ◌++◌, length, drop, take, replicate, slice_index, refl, sym, ◌∙◌, ap, subst, arith, nat_le, Result, Ok}
+use Rattle.std.proofs.Common.{◌≡◌, ◌≢◌, ◌<◌, ◌≤◌, ◌+◌, ◌*◌, ◌-◌, inl, inr, ℕ, zero, suc, Bool, true, false, ◌||◌, List, [], ◌∷◌, ◌++◌, length, drop, take, replicate, slice_index, refl, sym, ◌∙◌, ap, subst, arith, nat_le, Ok}
 use Rattle.std.proofs.lemmas.Bool.Decides.{nat_tests}
 use Rattle.std.proofs.lemmas.List.{drop_all}
 use Rattle.std.specs.List.{Contains, list_any}
 use Rattle.cfb_chain.specs.Bytes.{block}
 use Rattle.cfb_directory.specs.Names.{IsName, is_forbidden}
-use Rattle.cfb_directory.specs.Entries.{IsKindOf, IsNamed, MayRefuseEntry, entry_at, kind, name_length, name_of}
+use Rattle.cfb_directory.specs.Entries.{IsNamed, MayRefuseEntry, entry_at, kind}
 use Rattle.cfb_directory.specs.declared.fault.DirFault.{DirFault}
 use Rattle.cfb_directory.specs.declared.fault.DirFault.TheVariants.{NameEmpty, NameTooLong, NameNotAscii, NameForbidden, DuplicateName, BadEntry, TreeCycle, TooNested, NoMemory}
 use Rattle.cfb_chain.specs.Bytes.{joined}

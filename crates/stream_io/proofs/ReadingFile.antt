@@ -1,33 +1,28 @@
 -- The parts of a file as they are read, and those of a file that denotes a tree.
-use Rattle.std.proofs.Common.{◌≡◌, ◌≢◌, ◌↔◌, ◌<◌, ◌≤◌, ◌+◌, ◌*◌, ◌/◌, ◌⊎◌, inl, inr, ℕ, zero, suc, Bool, true, false, List, [], ◌∷◌, ◌++◌, Result, Ok, Err, IsOk, length, take, get_or, set, replicate, refl, sym, ◌∙◌, ap, subst, arith, map, append_assoc}
-use Rattle.std.proofs.lemmas.List.{length-replicate, get_or-replicate, get_or-set_other, get_or-set_same}
-use Rattle.std.proofs.lemmas.List.Elements.{All-contains, All-take, Contains-append_cases, All-append}
-use Rattle.std.specs.List.{All, Contains}
+use Rattle.std.proofs.Common.{◌≡◌, ◌≢◌, ◌<◌, ◌*◌, ℕ, true, List, [], ◌∷◌, ◌++◌, Result, Ok, length, take, get_or, refl, sym, ◌∙◌, ap, subst, map, append_assoc}
+use Rattle.std.proofs.lemmas.List.Elements.{All-contains, All-take}
+use Rattle.std.specs.List.{All}
 use Rattle.cfb_chain.specs.Bytes.{joined, sector}
 use Rattle.cfb_chain.specs.Chain.{AreDistinct, IsChain, IsChainOf, Store}
 use Rattle.cfb_chain.specs.Fat.{AreFree, AreSame, FatValue, IsFat, IsMiniFound, IsMiniTable, IsTableOf, marked, sectors_of, store_of}
 use Rattle.cfb_chain.specs.Header.{HeaderValue, IsHeader, first_directory, first_mini_fat, header_of, header_read, listed, mini_fat_count}
 use Rattle.cfb_chain.specs.declared.fault.ChainFault.{ChainFault}
-use Rattle.cfb_chain.proofs.Blocks.{length_block, length_joined}
-use Rattle.cfb_chain.proofs.Chains.{chain_below, chain_of_same, chain_once, chain_same, joined_same, same_back}
+use Rattle.cfb_chain.proofs.Chains.{chain_below, chain_of_same, chain_same, joined_same}
 use Rattle.cfb_chain.proofs.Headers.{read_whole}
-use Rattle.cfb_chain.proofs.Marks.{Marks, distinct_left, free_when, marks_load, marks_more, marks_none}
+use Rattle.cfb_chain.proofs.Marks.{Marks, marks_load, marks_more, marks_none}
 use Rattle.cfb_chain.proofs.Tables.{mini_same}
-use Rattle.cfb_directory.specs.Entries.{AreLinked, EntriesValue, around, child, class_of, entry_at, first_of, kind, left, nobody, right, size_of, state_of}
+use Rattle.cfb_directory.specs.Entries.{AreLinked, EntriesValue, child, class_of, entry_at, first_of, kind, size_of, state_of}
 use Rattle.storage_tree.specs.Kept.{Kept}
-use Rattle.storage_tree.specs.Tree.{Tree, Children, tree, none}
+use Rattle.storage_tree.specs.Tree.{Tree, tree, none}
 use Rattle.storage_tree.specs.Whole.{IsTree}
-use Rattle.stream_io.specs.Denotes.{AreChildren, Denotes, Holds, HoldsEach, IsLaidOut, Layout, Used, directory_of, minis, root_of, sectors}
-use Rattle.stream_io.specs.Reads.{AreChildrenRead, AreRead, AreSorted, filled}
-use Rattle.stream_io.specs.Refusals.{has_storage}
-use Rattle.stream_io.proofs.ReadingStreams.{AreHeld, held_ids, held_read, read_held}
+use Rattle.stream_io.specs.Denotes.{AreChildren, Denotes, Holds, IsLaidOut, Layout, directory_of, minis, root_of, sectors}
+use Rattle.stream_io.specs.Reads.{AreChildrenRead, AreRead, filled}
+use Rattle.stream_io.proofs.ReadingStreams.{AreHeld, read_held}
 use Rattle.stream_io.proofs.ReadingSorted.{sorted_below, sorted_distinct}
-use Rattle.stream_io.proofs.ReadingEntries.{kind_inside}
 use Rattle.std.specs.List.Sorted.{IsStrictlySortedBy}
 use Rattle.cfb_directory.specs.Names.{key, key_cmp}
 use Rattle.cfb_directory.specs.Entries.{name_of}
 use Rattle.stream_io.proofs.ReadingLists.{distinct-cons}
-use Rattle.stream_io.proofs.Unique.{layout_unique}
 
 header_is : (a b : HeaderValue) → ◌≡◌ {A = Result HeaderValue ChainFault} (Ok a) (Ok b) → a ≡ b
 header_is a b h = cc

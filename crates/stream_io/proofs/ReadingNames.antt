@@ -1,8 +1,8 @@
 -- Entries under the keys of their names.
-use Rattle.std.proofs.Common.{◌≡◌, ◌≢◌, ◌↔◌, ◌<◌, ◌≤◌, ◌+◌, ℕ, zero, suc, Bool, true, false, cond, List, [], ◌∷◌, ◌++◌, ◌⊎◌, inl, inr, Option, Some, None, Result, Ok, Err, IfErr, length, get_or, map, take, refl, sym, ◌∙◌, ap, subst, arith}
+use Rattle.std.proofs.Common.{◌≡◌, ◌≢◌, ◌↔◌, ◌<◌, ◌+◌, ℕ, zero, suc, Bool, true, false, cond, List, [], ◌∷◌, ◌++◌, inl, inr, Option, Some, None, length, get_or, map, take, refl, sym, ◌∙◌, ap, subst, arith}
 use Rattle.std.proofs.lemmas.List.{take_more, length-take, get_or-take, get_or_default}
 use Rattle.std.specs.List.Sorted.{IsStrictlySortedBy}
-use Rattle.std.proofs.lemmas.List.Elements.{All-cons, All-head, All-tail, All-nil, Contains-append_left, Contains-append_right, Contains-append_cases, Contains-push, Contains-push_cases, Contains-get_or, All-contains}
+use Rattle.std.proofs.lemmas.List.Elements.{All-cons, All-head, All-tail, All-nil, Contains-append_left, Contains-push, Contains-push_cases}
 use Rattle.std.proofs.lemmas.Map.Lookups.{exact_bytes}
 use Rattle.std.specs.BTreeMap.{insert_entry, is_at}
 use Rattle.std.specs.List.{All, Contains}
@@ -12,15 +12,14 @@ use Rattle.std.specs.declared.cmp.Ordering.{Ordering}
 use Rattle.std.specs.declared.cmp.Ordering.TheVariants.{Less, Equal, Greater}
 use Rattle.cfb_chain.specs.Chain.{AreDistinct}
 use Rattle.cfb_directory.specs.Names.{key, key_cmp}
-use Rattle.cfb_directory.specs.Entries.{IsEntry, IsNamed, MayRefuseEntry, entry_at, name_of}
+use Rattle.cfb_directory.specs.Entries.{IsEntry, IsNamed, MayRefuseEntry, entry_at}
 use Rattle.cfb_directory.specs.declared.entries.Entry.{Entry}
 use Rattle.cfb_directory.specs.declared.fault.DirFault.{DirFault}
 use Rattle.cfb_directory.specs.declared.fault.DirFault.TheVariants.{NameEmpty, NameTooLong, NameNotAscii, NameForbidden, DuplicateName, BadEntry, TreeCycle, TooNested, NoMemory}
 use Rattle.stream_io.specs.Reads.{IsKeyed, MayRefuseNames, directory_fault, key_at}
 use Rattle.stream_io.specs.declared.fault.ReadFault.{ReadFault}
-use Rattle.stream_io.specs.declared.fault.ReadFault.TheVariants.{Chain, Directory}
+use Rattle.stream_io.specs.declared.fault.ReadFault.TheVariants.{Directory}
 use Rattle.stream_io.proofs.Lists.{Contains-cons_cases, Contains-front, Contains-behind}
-use Rattle.stream_io.proofs.ReadingLists.{contains-none}
 
 none_head : (b : Bool) (v : ℕ) (o : Option ℕ) → cond b (Some v) o ≡ None → b ≡ false
 none_head true v o h = cc

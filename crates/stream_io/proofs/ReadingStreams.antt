@@ -1,17 +1,16 @@
 -- Entries that are read hold the children that they are read as, and the other way round.
-use Rattle.std.proofs.Common.{◌≡◌, ◌≢◌, ◌<◌, ◌≤◌, ◌+◌, ◌*◌, ℕ, zero, suc, Bool, true, false, List, [], ◌∷◌, ◌++◌, length, take, refl, sym, ◌∙◌, ap, subst, arith, nat_lt, if◌then◌else◌, append_assoc}
+use Rattle.std.proofs.Common.{◌≡◌, ℕ, zero, suc, Bool, true, false, List, [], ◌∷◌, ◌++◌, take, refl, sym, ◌∙◌, ap, subst, nat_lt, if◌then◌else◌, append_assoc}
 use Rattle.std.proofs.lemmas.List.{append-nil}
-use Rattle.std.specs.List.{All}
 use Rattle.cfb_chain.specs.Bytes.{joined}
 use Rattle.cfb_chain.specs.Chain.{AreDistinct, IsChainOf, Store}
 use Rattle.cfb_chain.specs.Fat.{AreFree, AreSame, FatValue, IsFound, marked, store_of}
 use Rattle.cfb_chain.proofs.Chains.{chain_below, chain_of_same, joined_same, same_back}
 use Rattle.cfb_chain.proofs.Marks.{Marks, distinct_left, free_when, marks_more}
-use Rattle.cfb_directory.specs.Names.{IsName, key}
-use Rattle.cfb_directory.specs.Entries.{entry_at, first_of, kind, size_of}
+use Rattle.cfb_directory.specs.Names.{IsName}
+use Rattle.cfb_directory.specs.Entries.{entry_at, first_of, size_of}
 use Rattle.storage_tree.specs.Tree.{Children, none, stream, storage}
 use Rattle.storage_tree.specs.Whole.{AreTrees}
-use Rattle.stream_io.specs.Denotes.{HoldsBytes, HoldsEach, Layout, Used, both, directory_of, entry, minis, nothing, sectors, store_for, taken}
+use Rattle.stream_io.specs.Denotes.{HoldsEach, Layout, Used, both, directory_of, minis, nothing, sectors, taken}
 use Rattle.stream_io.specs.Refusals.{has_storage_in}
 use Rattle.stream_io.specs.Reads.{AreRead, IsStreamRead, fat_after, mini_after, table_for}
 

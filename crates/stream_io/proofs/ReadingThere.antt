@@ -1,5 +1,5 @@
 -- The parts of a file that denotes a tree are there to be read.
-use Rattle.std.proofs.Common.{◌≡◌, ◌≢◌, ◌<◌, ◌≤◌, ◌+◌, ◌*◌, ◌/◌, ◌⊎◌, inl, inr, ℕ, zero, suc, Bool, true, false, List, [], ◌∷◌, ◌++◌, length, get_or, set, map, replicate, refl, sym, ◌∙◌, ap, subst, arith, append_assoc, get_or-set_other}
+use Rattle.std.proofs.Common.{◌≡◌, ◌≢◌, ◌<◌, ◌+◌, ◌*◌, ◌/◌, inl, inr, ℕ, true, false, List, [], ◌∷◌, ◌++◌, length, get_or, map, replicate, refl, sym, ◌∙◌, ap, subst, arith, append_assoc, get_or-set_other}
 use Rattle.std.proofs.lemmas.List.{get_or-replicate}
 use Rattle.std.proofs.lemmas.List.Elements.{All-append, All-cons, All-contains, All-nil}
 use Rattle.std.specs.List.{All, Contains}
@@ -18,7 +18,7 @@ use Rattle.cfb_directory.specs.declared.fault.DirFault.TheVariants.{NameEmpty, N
 use Rattle.cfb_directory.proofs.Marks.{set_all-there}
 use Rattle.storage_tree.specs.Tree.{Tree, Children, tree}
 use Rattle.storage_tree.specs.Whole.{IsTree}
-use Rattle.stream_io.specs.Denotes.{Denotes, Holds, IsLaidOut, Layout, Used, directory_of, minis, root_of, sectors}
+use Rattle.stream_io.specs.Denotes.{Denotes, Holds, Layout, Used, directory_of, root_of}
 use Rattle.stream_io.specs.Reads.{AreRead, AreSorted}
 use Rattle.stream_io.specs.Refusals.{has_storage}
 use Rattle.stream_io.proofs.ReadingEntries.{kind_inside}

@@ -1,6 +1,6 @@
 -- How a file is read, and which files are refused.
-use Rattle.std.specs.Prelude.{◌≡◌, ◌≢◌, ◌↔◌, ◌<◌, ◌≤◌, ◌*◌, ℕ, List, [], ◌∷◌, Bool, true, false, length, map, take, if◌then◌else◌, nat_lt, Result, Ok}
-use Rattle.std.specs.List.{All, Contains}
+use Rattle.std.specs.Prelude.{◌≡◌, ◌≢◌, ◌↔◌, ℕ, List, [], ◌∷◌, map, take, if◌then◌else◌, nat_lt, Ok}
+use Rattle.std.specs.List.{Contains}
 use Rattle.std.specs.List.Sorted.{IsStrictlySortedBy}
 use Rattle.cfb_chain.specs.Bytes.{joined}
 use Rattle.cfb_chain.specs.Fat.{FatValue, IsFound, marked, store_of}
@@ -11,7 +11,6 @@ use Rattle.cfb_directory.specs.Entries.{AreFree, AreLinked, EntriesValue, IsName
 use Rattle.cfb_directory.specs.declared.entries.Entry.{Entry}
 use Rattle.cfb_directory.specs.declared.fault.DirFault.{DirFault}
 use Rattle.cfb_directory.specs.declared.fault.DirFault.TheVariants as directory
-use Rattle.storage_tree.specs.Change.{put_seen}
 use Rattle.storage_tree.specs.Kept.{Kept, put}
 use Rattle.storage_tree.specs.Tree.{Tree, Children, tree, none, stream, storage}
 use Rattle.stream_io.specs.declared.fault.ReadFault.{ReadFault}

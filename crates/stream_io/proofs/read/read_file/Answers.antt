@@ -1,10 +1,10 @@
-use Rattle.std.proofs.Common.{◌≡◌, ◌/◌, List, [], ◌∷◌, ℕ, true, false, length, replicate, get_or, Result, IfErr, refl, sym, ◌∙◌, ap, subst, rules}
+use Rattle.std.proofs.Common.{◌≡◌, ◌/◌, List, [], ◌∷◌, ℕ, true, false, length, replicate, get_or, refl, sym, ◌∙◌, ap, subst, rules}
 use Rattle.std.proofs.Math.Logic.{∥∥₁_map}
 use Rattle.std.specs.Result.{IsErrAnd}
 use Rattle.cfb_chain.specs.Chain.{IsChain}
 use Rattle.cfb_chain.specs.Fat.{AreFree, store_of}
 use Rattle.cfb_chain.specs.Header.{HeaderValue, IsHeader, header_of, listed}
-use Rattle.cfb_directory.specs.Entries.{EntriesValue, MayRefuseLoad, set_all}
+use Rattle.cfb_directory.specs.Entries.{EntriesValue, set_all}
 use Rattle.storage_tree.specs.Kept.{kept}
 use Rattle.stream_io.specs.Denotes.{Layout}
 use Rattle.stream_io.proofs.ReadingFile.{IsOpened, IsReady, denoted, opened_at, read_header, ready}

@@ -1,17 +1,11 @@
-use Rattle.std.proofs.Common.{◌≡◌, ◌≢◌, ◌↔◌, ◌<◌, ◌+◌, List, [], ◌∷◌, length, get_or, drop, map, ℕ, true, Result, IfErr, refl, sym, ◌∙◌, ap, subst, arith, rules}
+use Rattle.std.proofs.Common.{◌≡◌, ◌+◌, List, ◌∷◌, get_or, drop, ℕ, sym, ◌∙◌, ap, subst, rules}
 use Rattle.std.specs.Result.{IsErrAnd}
 use Rattle.std.proofs.lemmas.List.{drop_more}
-use Rattle.std.specs.List.{All, Contains}
-use Rattle.std.specs.List.Sorted.{IsStrictlySortedBy}
-use Rattle.cfb_chain.specs.Fat.{FatValue}
-use Rattle.cfb_directory.specs.Names.{key_cmp}
-use Rattle.cfb_directory.specs.Entries.{EntriesValue, marked}
+use Rattle.cfb_directory.specs.Entries.{EntriesValue}
 use Rattle.storage_tree.specs.Kept.{kept}
 use Rattle.storage_tree.specs.Tree.{Children}
-use Rattle.stream_io.specs.Reads.{AreRead, AreSorted, IsPut, IsStreamRead, MayRefuseNames, key_at}
-use Rattle.stream_io.specs.declared.fault.ReadFault.{ReadFault}
-use Rattle.stream_io.specs.declared.fault.ReadFault.TheVariants.{NoMemory}
-use Rattle.stream_io.proofs.ReadingChildren.{Progress, first_read, progress_all, progress_more, progress_none}
+use Rattle.stream_io.specs.Reads.{AreRead, AreSorted, IsPut, IsStreamRead, MayRefuseNames}
+use Rattle.stream_io.proofs.ReadingChildren.{first_read, progress_all, progress_more, progress_none}
 use Rattle.stream_io.proofs.ReadingRefused.{directory_memory, same_memory}
 use Rattle.stream_io.proofs.ReadingSorted.{children_not_refused, names_not_refused, sorted_below, sorted_from, sorted_same}
 use Rattle.stream_io.proofs.read.Reader.read_children.Goals as goal

@@ -1,4 +1,4 @@
-use Rattle.std.proofs.Common.{◌≡◌, List, ℕ, Bool, subst, arith, if◌then◌else◌}
+use Rattle.std.proofs.Common.{Bool, subst, if◌then◌else◌}
 use Rattle.cfb_chain.specs.Fat.{IsFound}
 use Rattle.stream_io.proofs.ReadingRefused.{below, not_below, chain_memory}
 use Rattle.stream_io.proofs.read.Reader.read_stream.Goals as goal
