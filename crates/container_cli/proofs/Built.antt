@@ -38,10 +38,11 @@ tree_of-outlined (inner u) t = refl
 -- changes that leave equal outlines, of trees with equal outlines
 ok-alike : (a k : Kept) (ra rk : Result Seen TreeFault) (a' : Kept) → outline a.now ≡ outline k.now → map_ok outlined ra ≡ map_ok outlined rk
     → map_ok (after a) ra ≡ Ok a' → (x : Kept) × (map_ok (after k) rk ≡ Ok x) × (outline a'.now ≡ outline x.now)
-ok-alike a k (Ok s) (Ok u) a' same alike told =
-    ( after k u
-    , refl
-    , ap (λ (q : Kept). outline q.now) (sym (is_told told)) ∙ tree_of-outlined s a.now ∙ ap (λ x. tree_of x (outline a.now)) (is_told alike) ∙ ap (tree_of (outlined u)) same ∙ sym (tree_of-outlined u k.now) )
+ok-alike a k (Ok s) (Ok u) a' same alike told = (
+  after k u,
+  refl,
+  ap (λ (q : Kept). outline q.now) (sym (is_told told)) ∙ tree_of-outlined s a.now ∙ ap (λ x. tree_of x (outline a.now)) (is_told alike) ∙ ap (tree_of (outlined u)) same ∙ sym (tree_of-outlined u k.now),
+)
 ok-alike a k (Ok s) (Err f) a' same alike told = absurd (is_refused (sym alike))
 ok-alike a k (Err f) rk a' same alike told = absurd (is_refused told)
 
@@ -144,13 +145,16 @@ pub storage-made : (b b' : Building) (k : Kept) (path : List (List ℕ)) (class 
 storage-made b b' k path class state built h spent =
     let make : Edit = Make class state (nat_le (length path) 32) in
     let told = ok-alike (kept b.tree) k (change make path (inner (kept b.tree).now)) (change make path (inner k.now)) (kept b'.tree) built.same
-        (makes-alike (kept b.tree) k path class state (nat_le (length path) 32) built.same) h in
-    let more = grown make path 0 k told.0 (λ s t. let wider = make-total class state (nat_le (length path) 32) path (inner k.now) s t in omega (arith, wider)) told.1 in
-    (told.0, ap of_tree told.1, record {
-      same = told.2;
-      spent = omega (arith, built.spent, more);
-      exact = λ within. let is : kept b.tree ≡ k = built.exact (omega arith) in is_told (sym h ∙ ap (made path class state) is ∙ told.1)
-    })
+    (makes-alike (kept b.tree) k path class state (nat_le (length path) 32) built.same) h in
+    let more = grown make path 0 k told.0 (λ s t. let wider = make-total class state (nat_le (length path) 32) path (inner k.now) s t in omega (arith, wider)) told.1 in (
+      told.0,
+      ap of_tree told.1,
+      record {
+        same = told.2;
+        spent = omega (arith, built.spent, more);
+        exact = λ within. let is : kept b.tree ≡ k = built.exact (omega arith) in is_told (sym h ∙ ap (made path class state) is ∙ told.1);
+      },
+    )
 
 pub storage-refused : (b : Building) (k after_it : Kept) (path : List (List ℕ)) (class : List ℕ) (state : ℕ) (fault : TreeFault) → IsBuilt b k
     → Outcome (Err fault) (made path class state (kept b.tree)) (kept b.tree) after_it → Refuses (of_tree (made path class state k)) (of_tree_fault fault)

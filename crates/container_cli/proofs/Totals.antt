@@ -30,14 +30,18 @@ place-new : (k n : List ℕ) (s : Seen) (cs : Children) → find k cs ≡ None �
 place-new k n s none absent = over-child k n s none
 place-new k n s (stream q m b cs) absent =
     (elim (key_cmp k q) as (λ o. cond (is_eq o) (Some (m, bytes b)) (find k cs) ≡ None
-    → over (match_ordering o (child k (n, s) (stream q m b cs)) (child q (n, s) cs) (stream q m b (place k (n, s) cs))) ≡ total s + over (stream q m b cs))
-    [ Less ↦ λ h. over-child k n s (stream q m b cs) | Equal ↦ λ h. absurd (not_found h)
-    | Greater ↦ λ h. let deeper = place-new k n s cs h in omega (arith, deeper) ] absent)
+    → over (match_ordering o (child k (n, s) (stream q m b cs)) (child q (n, s) cs) (stream q m b (place k (n, s) cs))) ≡ total s + over (stream q m b cs)) [
+      | Less ↦ λ h. over-child k n s (stream q m b cs)
+      | Equal ↦ λ h. absurd (not_found h)
+      | Greater ↦ λ h. let deeper = place-new k n s cs h in omega (arith, deeper)
+    ] absent)
 place-new k n s (storage q m t cs) absent =
     (elim (key_cmp k q) as (λ o. cond (is_eq o) (Some (m, inner t)) (find k cs) ≡ None
-    → over (match_ordering o (child k (n, s) (storage q m t cs)) (child q (n, s) cs) (storage q m t (place k (n, s) cs))) ≡ total s + over (storage q m t cs))
-    [ Less ↦ λ h. over-child k n s (storage q m t cs) | Equal ↦ λ h. absurd (not_found h)
-    | Greater ↦ λ h. let deeper = place-new k n s cs h in omega (arith, deeper) ] absent)
+    → over (match_ordering o (child k (n, s) (storage q m t cs)) (child q (n, s) cs) (storage q m t (place k (n, s) cs))) ≡ total s + over (storage q m t cs)) [
+      | Less ↦ λ h. over-child k n s (storage q m t cs)
+      | Equal ↦ λ h. absurd (not_found h)
+      | Greater ↦ λ h. let deeper = place-new k n s cs h in omega (arith, deeper)
+    ] absent)
 
 -- a child that has more bytes than before
 place-more : (k n : List ℕ) (c : List ℕ × Seen) (s : Seen) (more : ℕ) (cs : Children) → find k cs ≡ Some c → total c.1 + more ≤ total s
@@ -45,16 +49,18 @@ place-more : (k n : List ℕ) (c : List ℕ × Seen) (s : Seen) (more : ℕ) (cs
 place-more k n c s more none present grows = absurd (not_found (sym present))
 place-more k n c s more (stream q m b cs) present grows =
     (elim (key_cmp k q) as (λ o. cond (is_eq o) (Some (m, bytes b)) (find k cs) ≡ Some c
-    → over (stream q m b cs) + more ≤ over (match_ordering o (child k (n, s) (stream q m b cs)) (child q (n, s) cs) (stream q m b (place k (n, s) cs))))
-    [ Less ↦ λ h. omega (arith, over-child k n s (stream q m b cs), grows)
-    | Equal ↦ λ h. omega (arith, over-child q n s cs, ap (λ p. total p.1) (same h), grows)
-    | Greater ↦ λ h. let deeper = place-more k n c s more cs h grows in omega (arith, deeper) ] present)
+    → over (stream q m b cs) + more ≤ over (match_ordering o (child k (n, s) (stream q m b cs)) (child q (n, s) cs) (stream q m b (place k (n, s) cs)))) [
+      | Less ↦ λ h. omega (arith, over-child k n s (stream q m b cs), grows)
+      | Equal ↦ λ h. omega (arith, over-child q n s cs, ap (λ p. total p.1) (same h), grows)
+      | Greater ↦ λ h. let deeper = place-more k n c s more cs h grows in omega (arith, deeper)
+    ] present)
 place-more k n c s more (storage q m t cs) present grows =
     (elim (key_cmp k q) as (λ o. cond (is_eq o) (Some (m, inner t)) (find k cs) ≡ Some c
-    → over (storage q m t cs) + more ≤ over (match_ordering o (child k (n, s) (storage q m t cs)) (child q (n, s) cs) (storage q m t (place k (n, s) cs))))
-    [ Less ↦ λ h. omega (arith, over-child k n s (storage q m t cs), grows)
-    | Equal ↦ λ h. omega (arith, over-child q n s cs, ap (λ p. total p.1) (same h), grows)
-    | Greater ↦ λ h. let deeper = place-more k n c s more cs h grows in omega (arith, deeper) ] present)
+    → over (storage q m t cs) + more ≤ over (match_ordering o (child k (n, s) (storage q m t cs)) (child q (n, s) cs) (storage q m t (place k (n, s) cs)))) [
+      | Less ↦ λ h. omega (arith, over-child k n s (storage q m t cs), grows)
+      | Equal ↦ λ h. omega (arith, over-child q n s cs, ap (λ p. total p.1) (same h), grows)
+      | Greater ↦ λ h. let deeper = place-more k n c s more cs h grows in omega (arith, deeper)
+    ] present)
 
 pub is_told : {A : Type 0} {x y : A} → ◌≡◌ {A = Result A TreeFault} (Ok x) (Ok y) → x ≡ y
 is_told h = cc

@@ -2,8 +2,9 @@
 
 ghost use Rattle.container_cli.specs.Building.{Builds, IsBuilt, IsDescribed, room};
 ghost use Rattle.container_cli.specs.Description.{of_tree, nothing, stream_made, zero_class};
-ghost use Rattle.std.specs.Prelude.{◌≡◌, ◌+◌, ◌<◌, ◌≤◌, List, ℕ, length, replicate, IfOk};
-ghost use Rattle.storage_tree.specs.Kept.{Kept, made};
+ghost use Rattle.std.specs.Prelude.{◌≡◌, ◌+◌, ◌<◌, ◌≤◌, List, ℕ, length, is_ok, replicate, IfOk};
+ghost use Rattle.storage_tree.specs.Change.{inner, look};
+ghost use Rattle.storage_tree.specs.Kept.{Kept, kept, made};
 
 use crate::fault::LineFault;
 use cfb_directory::name::Name;
@@ -53,6 +54,13 @@ impl Building {
         }
     }
 
+    /// Whether something stands at a path.
+    fn is_taken(&self, path: &[Name]) -> bool
+        ensures { result ≡ is_ok (look path.now (inner (kept self.now.tree).now)) }
+    {
+        self.tree.get(path).is_ok()
+    }
+
     /// Makes a storage of class zero at a path.
     pub fn make_storage(&mut self, path: &[Name]) -> Result<(), LineFault>
         ensures { (k : Kept) → IsBuilt self.old k → Builds (of_tree (made path.now zero_class 0 k)) result self.new }
@@ -67,12 +75,7 @@ impl Building {
     }
 
     /// Puts a new stream of these bytes at a path.
-    pub fn put_bytes(
-        &mut self,
-        alloc: Global,
-        path: &[Name],
-        bytes: Bytes,
-    ) -> Result<(), LineFault>
+    pub fn put_bytes(&mut self, alloc: Global, path: &[Name], bytes: Bytes) -> Result<(), LineFault>
         ensures { (k : Kept) → IsBuilt self.old k → Builds (stream_made bytes k path.now) result self.new }
     {
         let size = bytes.len() as u64;
@@ -106,7 +109,7 @@ impl Building {
         requires { self.old.spent + length bytes ≤ room }
         ensures { (k : Kept) → IsBuilt self.old k → Builds (stream_made bytes k path.now) result self.new }
     {
-        if self.tree.get(path).is_ok() {
+        if self.is_taken(path) {
             return Err(LineFault::Tree(TreeFault::Exists));
         }
         let size = bytes.len() as u64;
@@ -124,7 +127,7 @@ impl Building {
         requires { room < self.old.spent + size }
         ensures { (k : Kept) (bytes : List ℕ) → length bytes ≡ size → IsBuilt self.old k → Builds (stream_made bytes k path.now) result self.new }
     {
-        if self.tree.get(path).is_ok() {
+        if self.is_taken(path) {
             return Err(LineFault::Tree(TreeFault::Exists));
         }
         match self.tree.put_stream(path, Bytes::new(alloc)) {

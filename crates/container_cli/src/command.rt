@@ -57,9 +57,11 @@ fn storage(alloc: Global, mut words: Pieces<'_>) -> Result<Option<Command>, Allo
 fn stream(alloc: Global, mut words: Pieces<'_>) -> Result<Option<Command>, AllocError>
     ensures { IfOk result (λ command. command ≡ stream_read words.entry) }
 {
-    let (Some(path), Some(bytes), None) =
-        (words.next_piece(), words.next_piece(), words.next_piece())
-    else {
+    let (Some(path), Some(bytes), None) = (
+        words.next_piece(),
+        words.next_piece(),
+        words.next_piece(),
+    ) else {
         return Ok(None);
     };
     match (Path::parse(alloc, path)?, content(alloc, bytes)?) {

@@ -82,11 +82,7 @@ fn names(alloc: Global, path: &Path) -> Result<Vec<Name>, LineFault>
 }
 
 /// Carries out a command.
-fn carry_out(
-    alloc: Global,
-    building: &mut Building,
-    command: Command,
-) -> Result<(), LineFault>
+fn carry_out(alloc: Global, building: &mut Building, command: Command) -> Result<(), LineFault>
     ensures { (k : Kept) → IsBuilt building.old k → Builds (carried_out command k) result building.new }
 {
     match command {

@@ -23,8 +23,13 @@ pub enum LineFault {
 }
 
 impl LineFault {
+    ghost use Rattle.std.specs.Prelude.{◌≡◌};
+    ghost use Rattle.container_cli.specs.Faults.{line_fault_name};
+
     /// The fault's name, as it is printed.
-    pub fn name(&self) -> &'static str {
+    pub fn name(&self) -> &'static str
+        ensures { result.now ≡ line_fault_name self.now }
+    {
         match self {
             LineFault::Bad => "Bad",
             LineFault::Name(fault) => fault.name(),
@@ -63,8 +68,13 @@ pub enum InputFault {
 }
 
 impl InputFault {
+    ghost use Rattle.std.specs.Prelude.{◌≡◌};
+    ghost use Rattle.container_cli.specs.Faults.{input_fault_name};
+
     /// The fault's name, as it is printed.
-    pub fn name(&self) -> &'static str {
+    pub fn name(&self) -> &'static str
+        ensures { result.now ≡ input_fault_name self.now }
+    {
         match self {
             InputFault::Unreadable => "Unreadable",
             InputFault::TooBig => "TooBig",

@@ -2,15 +2,15 @@
 #![tactic(auto)]
 
 mod building;
-pub mod command;
+mod command;
 pub mod commands;
 mod description;
 pub mod fault;
 mod input;
+pub mod laws;
 mod listing;
-pub mod path;
+mod path;
 pub mod report;
-pub mod words;
-
 #[cfg(test)]
 mod tests;
+mod words;

@@ -95,7 +95,12 @@ fn push_storage(text: &mut Vec<u8>, path: &[u8], class: &ClassId) -> Result<(), 
 }
 
 /// Writes a stream's line.
-fn push_stream(alloc: Global, text: &mut Vec<u8>, path: &[u8], size: usize) -> Result<(), AllocError>
+fn push_stream(
+    alloc: Global,
+    text: &mut Vec<u8>,
+    path: &[u8],
+    size: usize,
+) -> Result<(), AllocError>
     ensures { OnOk result (text.new.items ≡ text.old.items ++ stream_line path.now size) }
 {
     text.extend_from_slice(b"stream ".as_slice())?;

@@ -25,8 +25,13 @@ impl<'a> fmt::Display for Report<'a> {
 }
 
 impl MakeFault {
+    ghost use Rattle.std.specs.Prelude.{◌≡◌};
+    ghost use Rattle.container_cli.specs.Reports.{make_place, place_of};
+
     /// How the fault is printed where a file of this name is made from standard input.
-    pub fn report<'a>(&self, file: &'a str) -> Report<'a> {
+    pub fn report<'a>(&self, file: &'a str) -> Report<'a>
+        ensures { place_of result ≡ make_place self.now file.entry.now }
+    {
         match self {
             MakeFault::Input(InputFault::NoMemory) => {
                 Report::File(file, InputFault::NoMemory.name())
@@ -40,8 +45,13 @@ impl MakeFault {
 }
 
 impl ListFault {
+    ghost use Rattle.std.specs.Prelude.{◌≡◌};
+    ghost use Rattle.container_cli.specs.Reports.{list_place, place_of};
+
     /// How the fault is printed where a file of this name is listed on standard output.
-    pub fn report<'a>(&self, file: &'a str) -> Report<'a> {
+    pub fn report<'a>(&self, file: &'a str) -> Report<'a>
+        ensures { place_of result ≡ list_place self.now file.entry.now }
+    {
         match self {
             ListFault::Input(fault) => Report::File(file, fault.name()),
             ListFault::Read(fault) => Report::File(file, fault.name()),

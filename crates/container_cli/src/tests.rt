@@ -79,7 +79,8 @@ fn filled_streams_are_made(rt: HostRuntime) -> Result<(), Fail> {
 #[test]
 fn streams_are_listed_in_name_order_as_paths_spell_them(rt: HostRuntime) -> Result<(), Fail> {
     let text = "stream AA 01\nstream b -\nstream \\01\\20x\\7f ff00\n";
-    let want = "root 00000000-0000-0000-0000-000000000000\nstream b 0\nstream AA 1\nstream \\01\\20x\\7f 2\n";
+    let want =
+        "root 00000000-0000-0000-0000-000000000000\nstream b 0\nstream AA 1\nstream \\01\\20x\\7f 2\n";
     assert_listed(&rt, rt.alloc(), text, want)
 }
 
@@ -121,7 +122,10 @@ fn a_storage_is_nested_32_deep_at_most(rt: HostRuntime) -> Result<(), Fail> {
         text.push_str("\n")?;
         path.push_str("/")?;
     }
-    assert_eq!(rt; refusal(rt.alloc(), text.as_str())?.as_str(), "line 33: TooDeep");
+    assert_eq!(rt;
+        refusal(rt.alloc(), text.as_str())?.as_str(),
+        "line 33: TooDeep"
+    );
     Ok(())
 }
 
@@ -157,7 +161,11 @@ fn lines_outside_the_grammar_are_told_first(rt: HostRuntime) -> Result<(), Fail>
         "fill A 1 007",
         "remove A",
     ] {
-        assert_eq!(rt; refusal(rt.alloc(), text)?.as_str(), "line 1: Bad", "{text}");
+        assert_eq!(rt;
+            refusal(rt.alloc(), text)?.as_str(),
+            "line 1: Bad",
+            "{text}"
+        );
     }
     let late = "stream A 01\nstream A 02\n# skipped\nwhat";
     assert_eq!(rt; refusal(rt.alloc(), late)?.as_str(), "line 4: Bad");
@@ -171,10 +179,16 @@ fn trees_that_do_not_fit_into_a_file_are_told_last(rt: HostRuntime) -> Result<()
         ("storage D", "file a.ole: WrongKind"),
         ("fill A 4096 07\nstorage D", "file a.ole: WrongKind"),
         ("fill A 4294967295 07", "file a.ole: TooBig"),
-        ("fill A 4294967295 07\nfill B 4294967295 07", "file a.ole: TooBig"),
+        (
+            "fill A 4294967295 07\nfill B 4294967295 07",
+            "file a.ole: TooBig",
+        ),
         ("fill A 4294967295 07\nstream a 01", "line 2: Exists"),
         ("fill A 4294967295 07\nstream A/b 01", "line 2: WrongKind"),
-        ("fill A 4294967295 07\nstorage D\nstream D/A 01", "file a.ole: WrongKind"),
+        (
+            "fill A 4294967295 07\nstorage D\nstream D/A 01",
+            "file a.ole: WrongKind",
+        ),
         ("fill A 7143936 07\nfill B 1 07", "file a.ole: TooBig"),
     ] {
         assert_eq!(rt; refusal(rt.alloc(), text)?.as_str(), want, "{text}");
@@ -195,18 +209,25 @@ fn a_class_id_is_listed_in_lower_case(rt: HostRuntime) -> Result<(), Fail> {
 
 #[test]
 fn files_that_denote_no_tree_are_told(rt: HostRuntime) -> Result<(), Fail> {
-    let file = made(rt.alloc(), "stream A 010203")?;
-    assert_eq!(rt; file.len(), 2560);
-    assert_eq!(rt; file_refusal(rt.alloc(), &file[..511])?.as_str(), "file a.ole: Truncated");
-    assert_eq!(rt; file_refusal(rt.alloc(), &file[..2048])?.as_str(), "file a.ole: OutOfFile");
-    assert!(rt; file_refusal(rt.alloc(), &file[..2304])?.is_empty());
+    for (length, want) in [
+        (2304, ""),
+        (2048, "file a.ole: OutOfFile"),
+        (511, "file a.ole: Truncated"),
+    ] {
+        let mut file = made(rt.alloc(), "stream A 010203")?;
+        file.truncate(length);
+        assert_eq!(rt; file_refusal(rt.alloc(), &file)?.as_str(), want, "{length}");
+    }
     let mut cycle = made(rt.alloc(), "")?;
     assert_eq!(rt; cycle.len(), 1536);
     cycle[516] = 1;
     cycle[517] = 0;
     cycle[518] = 0;
     cycle[519] = 0;
-    assert_eq!(rt; file_refusal(rt.alloc(), &cycle)?.as_str(), "file a.ole: Cycle");
+    assert_eq!(rt;
+        file_refusal(rt.alloc(), &cycle)?.as_str(),
+        "file a.ole: Cycle"
+    );
     Ok(())
 }
 
@@ -251,19 +272,27 @@ impl Write for Full {
 
 #[test]
 fn reads_and_writes_that_fail_are_told(rt: HostRuntime) -> Result<(), Fail> {
-    let mut text = Failing { rest: b"stream A 01\n".as_slice() };
+    let mut text = Failing {
+        rest: b"stream A 01\n".as_slice(),
+    };
     let mut file = Vec::new(rt.alloc());
     match make_file(rt.alloc(), &mut text, &mut file) {
         Ok(_) => panic!(rt; "the file is made"),
         Err(fault) => {
-            assert_eq!(rt; fault.report("a.ole").to_string(rt.alloc())?.as_str(), "file -: Unreadable");
+            assert_eq!(rt;
+                fault.report("a.ole").to_string(rt.alloc())?.as_str(),
+                "file -: Unreadable"
+            );
         }
     }
     assert!(rt; file.is_empty());
     match make_file(rt.alloc(), &mut b"".as_slice(), &mut Full { room: 1535 }) {
         Ok(_) => panic!(rt; "the file is made"),
         Err(fault) => {
-            assert_eq!(rt; fault.report("a.ole").to_string(rt.alloc())?.as_str(), "file a.ole: Unwritable");
+            assert_eq!(rt;
+                fault.report("a.ole").to_string(rt.alloc())?.as_str(),
+                "file a.ole: Unwritable"
+            );
         }
     }
     let whole = make_file(rt.alloc(), &mut b"".as_slice(), &mut Full { room: 1536 })?;
@@ -278,14 +307,20 @@ fn reads_and_writes_of_a_listing_that_fail_are_told(rt: HostRuntime) -> Result<(
     match list_file(rt.alloc(), &mut Failing { rest: &file }, &mut text) {
         Ok(_) => panic!(rt; "the file is listed"),
         Err(fault) => {
-            assert_eq!(rt; fault.report("a.ole").to_string(rt.alloc())?.as_str(), "file a.ole: Unreadable");
+            assert_eq!(rt;
+                fault.report("a.ole").to_string(rt.alloc())?.as_str(),
+                "file a.ole: Unreadable"
+            );
         }
     }
     assert!(rt; text.is_empty());
     match list_file(rt.alloc(), &mut file.as_slice(), &mut Full { room: 5 }) {
         Ok(_) => panic!(rt; "the file is listed"),
         Err(fault) => {
-            assert_eq!(rt; fault.report("a.ole").to_string(rt.alloc())?.as_str(), "file -: Unwritable");
+            assert_eq!(rt;
+                fault.report("a.ole").to_string(rt.alloc())?.as_str(),
+                "file -: Unwritable"
+            );
         }
     }
     Ok(())

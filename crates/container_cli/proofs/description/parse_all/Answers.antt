@@ -7,7 +7,7 @@ use Rattle.container_cli.proofs.description.parse_all.Goals as goal
 pub loop-line-init : goal.loop-line-init
 loop-line-init c = record {
   few = rw c.new-left.ensures (omega (arith, length-pieces 10 c.args.text.now));
-  read = rw (c.new-commands.ensures.items, c.new-left.ensures) (behind-nothing (commands_read 1 (lines c.args.text.now)))
+  read = rw (c.new-commands.ensures.items, c.new-left.ensures) (behind-nothing (commands_read 1 (lines c.args.text.now)));
 }
 
 pub loop-line-preserved : goal.loop-line-preserved
@@ -16,7 +16,7 @@ loop-line-preserved c =
     record {
       few = omega (arith, c.loop-line.invariant.few, ap length taken);
       read = rw c.in-Ok.ensures.items (
-        commands_read-turn c.loop-line.commands.items (c.loop-line.number + 1) c.in-Some.line.now c.next_piece.new.self c.in-Ok-Some.command (sym c.is_skipped.ensures ∙ c.if-is_skipped.false) (sym c.in-Ok-Some.field-0-is ∙ c.in-Ok-Some.ensures)
-        ∙ ap (λ ls. behind c.loop-line.commands.items (commands_read (c.loop-line.number + 1) ls)) (sym taken)
-        ∙ c.loop-line.invariant.read)
+          commands_read-turn c.loop-line.commands.items (c.loop-line.number + 1) c.in-Some.line.now c.next_piece.new.self c.in-Ok-Some.command (sym c.is_skipped.ensures ∙ c.if-is_skipped.false) (sym c.in-Ok-Some.field-0-is ∙ c.in-Ok-Some.ensures)
+          ∙ ap (λ ls. behind c.loop-line.commands.items (commands_read (c.loop-line.number + 1) ls)) (sym taken)
+          ∙ c.loop-line.invariant.read);
     }
