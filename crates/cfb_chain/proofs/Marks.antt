@@ -275,9 +275,9 @@ clash f ns i d l g t =
 -- a fresh table marks nothing
 pub marks_none : (f : FatValue) → f.used ≡ replicate (length f.table) false → Marks f []
 marks_none f fresh = record {
-    each = sym (ap length fresh ∙ length-replicate (length f.table) false);
-    listed = λ k d l. absurd (omega arith);
-    only = λ n m.
+  each = sym (ap length fresh ∙ length-replicate (length f.table) false);
+  listed = λ k d l. absurd (omega arith);
+  only = λ n m.
       absurd (let e : true ≡ false = sym m.1 ∙ ap (λ u. get_or u n true) fresh ∙ get_or-replicate (length f.table) n false true m.0 in cc);
-    once = λ i j d l k. absurd (omega arith);
-  }
+  once = λ i j d l k. absurd (omega arith);
+}

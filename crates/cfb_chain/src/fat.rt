@@ -138,9 +138,9 @@ impl<'a> Fat<'a> {
         ensures there { (ns : List ℕ) → IsChain (store_of self.old) start 0 ns → AreFree self.old ns → IfErr result (λ e. e ≡ NoMemory) }
         ensures kept { OnErr result (self.new ≡ self.old) }
     {
-        let sectors = self.walk(alloc, start)?;
-        self.mark(&sectors);
-        Ok(sectors)
+        let chain = self.walk(alloc, start)?;
+        self.mark(&chain);
+        Ok(chain)
     }
 
     /// The bytes of the sectors, one after another.
@@ -198,16 +198,16 @@ impl<'a> Fat<'a> {
         ensures kept { OnErr result (self.new ≡ self.old) }
     {
         let count = header.mini_fat_count() as usize;
-        let sectors = self.find(
+        let mini_fat = self.find(
             alloc,
             header.first_mini_fat(),
             512 * header.mini_fat_count() as u64,
         )?;
-        self.mark(&sectors);
-        match self.mini_table(alloc, &sectors[..count], start, size) {
+        self.mark(&mini_fat);
+        match self.mini_table(alloc, &mini_fat[..count], start, size) {
             Ok(mini) => Ok(mini),
             Err(fault) => {
-                self.clear(&sectors);
+                self.clear(&mini_fat);
                 Err(fault)
             }
         }
@@ -231,15 +231,15 @@ impl<'a> Fat<'a> {
         ensures there { (ns : List ℕ) → IsFound self.old start size ns → IfErr result (λ e. e ≡ NoMemory) }
         ensures kept { OnErr result (self.new ≡ self.old) }
     {
-        let sectors = self.find(alloc, start, size as u64)?;
-        let stream = self.join(alloc, &sectors)?;
+        let mini_stream = self.find(alloc, start, size as u64)?;
+        let bytes = self.join(alloc, &mini_stream)?;
         let entries = self.join(alloc, mini_fat)?;
         let count = (128 * mini_fat.len()).min((size as usize + 63) / 64);
         let next = numbers(alloc, &entries, count)?;
         let used = vec![in alloc; false; count]?;
-        self.mark(&sectors);
+        self.mark(&mini_stream);
         Ok(Fat {
-            pieces: Pieces::MiniSectors(stream),
+            pieces: Pieces::MiniSectors(bytes),
             next,
             used,
         })
@@ -312,11 +312,11 @@ impl<'a> Fat<'a> {
         ensures refused { IfErr result (λ e. (e ≡ CrossLinked) × (AreFree self.old sectors.now → ⊥)) }
     {
         for n in sectors {
-            let n = *n as usize;
-            if self.used[n] {
+            let sector = *n as usize;
+            if self.used[sector] {
                 return Err(ChainFault::CrossLinked);
             }
-            self.used[n] = true;
+            self.used[sector] = true;
         }
         Ok(())
     }

@@ -6,3 +6,5 @@ pub mod fat;
 pub mod fault;
 pub mod header;
 mod sectors;
+#[cfg(test)]
+mod tests;

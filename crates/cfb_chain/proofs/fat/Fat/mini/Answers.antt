@@ -23,12 +23,12 @@ pub returns-in-Ok-clause-found : goal.returns-in-Ok-clause-found
 returns-in-Ok-clause-found c =
     let f = c.args.self.now in
     let h = c.args.header.now in
-    let ns = c.in_ok-sectors.sectors.items in
+    let ns = c.in_ok-mini_fat.mini_fat.items in
     let rest = c.in-Ok.ensures.found in
     let made : c.mark.new.self ≡ marked f ns = c.mark.ensures ∙ ap (marked f) c.deref.ensures.value in
     let first : IsFound f h.first_mini_fat (512 * h.mini_fat_count) ns =
     subst (λ n. IsFound f h.first_mini_fat (512 * n) ns) c.mini_fat_count.ensures
-    (subst (λ n. IsFound f n (512 * c.mini_fat_count.result) ns) c.first_mini_fat.ensures c.in_ok-sectors.ensures.found) in
+    (subst (λ n. IsFound f n (512 * c.mini_fat_count.result) ns) c.first_mini_fat.ensures c.in_ok-mini_fat.ensures.found) in
     let table : IsMiniTable c.mark.new.self (take h.mini_fat_count ns) rest.0 c.args.size c.in-Ok.mini =
     subst (λ xs. IsMiniTable c.mark.new.self xs rest.0 c.args.size c.in-Ok.mini)
     (λ i. take (c.mini_fat_count-count.ensures i) (c.deref-2.ensures.value i)) rest.2 in (
@@ -43,10 +43,10 @@ pub returns-clause-there : goal.returns-clause-there
 returns-clause-there c = λ mini_fat mini_stream h.
     let f = c.args.self.now in
     let v = c.args.header.now in
-    let ns = c.in_ok-sectors.sectors.items in
+    let ns = c.in_ok-mini_fat.mini_fat.items in
     let first : IsFound f v.first_mini_fat (512 * v.mini_fat_count) ns =
     subst (λ n. IsFound f v.first_mini_fat (512 * n) ns) c.mini_fat_count.ensures
-    (subst (λ n. IsFound f n (512 * c.mini_fat_count.result) ns) c.first_mini_fat.ensures c.in_ok-sectors.ensures.found) in
+    (subst (λ n. IsFound f n (512 * c.mini_fat_count.result) ns) c.first_mini_fat.ensures c.in_ok-mini_fat.ensures.found) in
     let made : c.mark.new.self ≡ marked f mini_fat =
     c.mark.ensures ∙ ap (marked f) (c.deref.ensures.value ∙ chain_once (store_of f) v.first_mini_fat (512 * v.mini_fat_count) ns mini_fat first.chain h.table) in
     let rest : IsFound (marked f mini_fat) c.args.start c.args.size mini_stream =
