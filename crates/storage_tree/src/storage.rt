@@ -5,7 +5,7 @@ ghost use Rattle.storage_tree.specs.declared.fault.TreeFault.TheVariants.{NoMemo
 ghost use Rattle.cfb_directory.specs.Names.{IsName, key};
 ghost use Rattle.storage_tree.specs.Laws.{IsNewName, LeavesNames};
 ghost use Rattle.storage_tree.specs.Tree.{child_names, none, tree};
-ghost use Rattle.storage_tree.specs.Change.{inner, change, Outcome, put_seen, look, map_ok};
+ghost use Rattle.storage_tree.specs.Change.{Changes, Outcome, inner, look, map_ok, put_seen};
 ghost use Rattle.storage_tree.specs.View.{found_seen, moved, seen, view};
 
 use crate::bytes::Bytes;
@@ -159,7 +159,7 @@ impl Storage {
     /// Changes what stands at a path.
     #[cycle(edits)]
     pub(crate) fn edit(&mut self, alloc: Global, path: &[Name], edit: Edit) -> Result<(), TreeFault>
-        ensures change { Outcome result (change edit path.now (inner (view self.old))) (inner (view self.old)) (inner (view self.new)) }
+        ensures change { Changes result edit path.now (inner (view self.old)) (inner (view self.new)) }
         ensures names { OnOk result (LeavesNames edit path.now) }
         ensures no_memory { edit ≡ Edit.Remove → result ≢ Err NoMemory }
     {
@@ -177,7 +177,7 @@ impl Storage {
     fn edit_child(&mut self, alloc: Global, name: &Name, edit: Edit) -> Result<(), TreeFault>
         ensures names { IsNewName edit name.now }
         ensures no_memory { edit ≡ Edit.Remove → result ≢ Err NoMemory }
-        ensures change { Outcome result (change edit (name.now ∷ []) (inner (view self.old))) (inner (view self.old)) (inner (view self.new)) }
+        ensures change { Changes result edit (name.now ∷ []) (inner (view self.old)) (inner (view self.new)) }
     {
         match edit {
             Edit::Put(bytes) => self.put_child(name, bytes),
@@ -189,7 +189,7 @@ impl Storage {
 
     fn put_child(&mut self, name: &Name, bytes: Bytes) -> Result<(), TreeFault>
         ensures names { IsName name.now }
-        ensures change { Outcome result (change (Edit.Put bytes) (name.now ∷ []) (inner (view self.old))) (inner (view self.old)) (inner (view self.new)) }
+        ensures change { Changes result (Edit.Put bytes) (name.now ∷ []) (inner (view self.old)) (inner (view self.new)) }
     {
         let key = key_of(name);
         match self.children.get_mut(&key) {
@@ -213,7 +213,7 @@ impl Storage {
         fits: bool,
     ) -> Result<(), TreeFault>
         ensures names { IsName name.now }
-        ensures change { Outcome result (change (Edit.Make class state fits) (name.now ∷ []) (inner (view self.old))) (inner (view self.old)) (inner (view self.new)) }
+        ensures change { Changes result (Edit.Make class state fits) (name.now ∷ []) (inner (view self.old)) (inner (view self.new)) }
     {
         let key = key_of(name);
         if self.children.contains_key(&key) {
@@ -234,7 +234,7 @@ impl Storage {
 
     fn rename_child(&mut self, alloc: Global, name: &Name, new: Name) -> Result<(), TreeFault>
         ensures names { IsName new }
-        ensures change { Outcome result (change (Edit.Rename new) (name.now ∷ []) (inner (view self.old))) (inner (view self.old)) (inner (view self.new)) }
+        ensures change { Changes result (Edit.Rename new) (name.now ∷ []) (inner (view self.old)) (inner (view self.new)) }
     {
         let key = name.key();
         let new_key = key_of(&new);
@@ -279,7 +279,7 @@ impl Storage {
 
     fn remove_child(&mut self, name: &Name) -> Result<(), TreeFault>
         ensures no_memory { result ≢ Err NoMemory }
-        ensures change { Outcome result (change Edit.Remove (name.now ∷ []) (inner (view self.old))) (inner (view self.old)) (inner (view self.new)) }
+        ensures change { Changes result Edit.Remove (name.now ∷ []) (inner (view self.old)) (inner (view self.new)) }
     {
         if self.children.remove(&name.key()).is_none() {
             return Err(TreeFault::NotFound);
@@ -292,7 +292,7 @@ impl Node {
     /// The change at a path below.
     #[cycle(edits)]
     fn edit(&mut self, alloc: Global, path: &[Name], edit: Edit) -> Result<(), TreeFault>
-        ensures change { Outcome result (change edit path.now (seen self.old)) (seen self.old) (seen self.new) }
+        ensures change { Changes result edit path.now (seen self.old) (seen self.new) }
         ensures names { OnOk result (LeavesNames edit path.now) }
         ensures no_memory { edit ≡ Edit.Remove → result ≢ Err NoMemory }
     {
