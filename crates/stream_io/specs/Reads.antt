@@ -1,11 +1,13 @@
 -- How a file is read, and which files are refused.
-use Rattle.std.specs.Prelude.{◌≡◌, ◌≢◌, ◌↔◌, ℕ, List, [], ◌∷◌, map, take, if◌then◌else◌, nat_lt, Ok}
+use Rattle.std.specs.Prelude.{◌≡◌, ◌≢◌, ◌↔◌, ℕ, List, [], ◌∷◌, map, take, if◌then◌else◌, nat_lt, Ok, codes}
 use Rattle.std.specs.List.{Contains}
 use Rattle.std.specs.List.Sorted.{IsStrictlySortedBy}
 use Rattle.cfb_chain.specs.Bytes.{joined}
+use Rattle.cfb_chain.specs.Fault.{name_of as name_of_chain}
 use Rattle.cfb_chain.specs.Fat.{FatValue, IsFound, marked, store_of}
 use Rattle.cfb_chain.specs.declared.fault.ChainFault.{ChainFault}
 use Rattle.cfb_chain.specs.declared.fault.ChainFault.TheVariants as chain
+use Rattle.cfb_directory.specs.Faults.{name_of_fault}
 use Rattle.cfb_directory.specs.Names.{IsName, key, key_cmp}
 use Rattle.cfb_directory.specs.Entries.{AreFree, AreLinked, EntriesValue, IsNamed, MayRefuseEntry, child, entry_at, first_of, kind, name_of, size_of}
 use Rattle.cfb_directory.specs.declared.entries.Entry.{Entry}
@@ -24,6 +26,12 @@ chain_fault fault = Chain fault
 abbrev pub directory_fault : DirFault → ReadFault
 directory_fault directory.NoMemory = NoMemory
 directory_fault fault = Directory fault
+
+-- a fault's name, as it is printed
+abbrev pub read_fault_name : ReadFault → List ℕ
+read_fault_name (Chain fault) = name_of_chain fault
+read_fault_name (Directory fault) = name_of_fault fault
+read_fault_name NoMemory = codes "NoMemory"
 
 -- The key of an entry's name.
 abbrev pub key_at : List ℕ → ℕ → List ℕ

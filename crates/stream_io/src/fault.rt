@@ -20,8 +20,13 @@ pub enum ReadFault {
 }
 
 impl ReadFault {
+    ghost use Rattle.std.specs.Prelude.{◌≡◌};
+    ghost use Rattle.stream_io.specs.Reads.{read_fault_name};
+
     /// The fault's name, as it is printed.
-    pub fn name(&self) -> &'static str {
+    pub fn name(&self) -> &'static str
+        ensures { result.now ≡ read_fault_name self.now }
+    {
         match self {
             ReadFault::Chain(fault) => fault.name(),
             ReadFault::Directory(fault) => fault.name(),

@@ -283,3 +283,16 @@ fn refuses_two_names_equal_in_upper_case(rt: HostRuntime) -> Result<(), Fail> {
     assert_eq!(rt; fault_of(alloc, &linked), twice);
     Ok(())
 }
+
+#[test]
+fn names_faults(rt: HostRuntime) {
+    assert_eq!(rt;
+        ReadFault::Chain(ChainFault::Unsupported(26)).name(),
+        "Unsupported"
+    );
+    assert_eq!(rt;
+        ReadFault::Directory(DirFault::TreeCycle).name(),
+        "TreeCycle"
+    );
+    assert_eq!(rt; ReadFault::NoMemory.name(), "NoMemory");
+}
