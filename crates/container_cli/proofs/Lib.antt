@@ -7,3 +7,4 @@ pub mod Totals
 pub mod Room
 pub mod Built
 pub mod Spelled
+pub mod Numbers
