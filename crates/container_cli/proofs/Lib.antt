@@ -6,3 +6,5 @@ pub mod Outlines
 pub mod Totals
 pub mod Room
 pub mod Built
+pub mod Spelled
+pub mod Numbers

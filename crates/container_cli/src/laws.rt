@@ -1,5 +1,6 @@
 //! Laws of the texts that the program writes.
 
+ghost use Rattle.container_cli.specs.Laws.{PrintedNumbersAreRead, SpelledPathsAreRead};
 ghost use Rattle.container_cli.specs.Listing.{class_text};
 ghost use Rattle.std.specs.Prelude.{◌≡◌, Some};
 ghost use Rattle.uuid.specs.Parts.{swap_fields};
@@ -17,3 +18,13 @@ pub fn class_text_is_read_back(class: &ClassId)
     let id = Uuid::from_bytes_le(*class.as_bytes());
     let _ = id.hyphenated().encode_lower(&mut buffer);
 }
+
+/// A path of names that a directory takes, as listings spell it, is read as that path by `make`.
+pub fn spelled_path_is_read()
+    ensures { SpelledPathsAreRead }
+{}
+
+/// A number of 32 bits, printed as usual, is read as that number by `make`.
+pub fn printed_number_is_read()
+    ensures { PrintedNumbersAreRead }
+{}
