@@ -58,13 +58,14 @@ Unslashed text = All (λ b. nat_eq b 47 ≡ false) text
 
 byte-unslashed : (c : ℕ) (rest : List ℕ) → is_forbidden c ≡ false → Unslashed rest → Unslashed (byte_text c ++ rest)
 byte-unslashed c rest allowed all =
-    (elim (is_hidden c) as (λ b. is_hidden c ≡ b → Unslashed ((cond b (92 ∷ digit_text (c / 16) ∷ digit_text (c % 16) ∷ []) (c ∷ [])) ++ rest))
-    [ true ↦ λ h.
-        let small = hidden-value c h in
-        let high : c / 16 < 16 = omega arith in
-        let low : c % 16 < 16 = omega arith in
-        All-cons (λ b. nat_eq b 47 ≡ false) 92 (digit_text (c / 16) ∷ digit_text (c % 16) ∷ rest) refl (All-cons (λ b. nat_eq b 47 ≡ false) (digit_text (c / 16)) (digit_text (c % 16) ∷ rest) (digit-no-slash (c / 16) high) (All-cons (λ b. nat_eq b 47 ≡ false) (digit_text (c % 16)) rest (digit-no-slash (c % 16) low) all))
-    | false ↦ λ h. All-cons (λ b. nat_eq b 47 ≡ false) c rest (no-slash c allowed) all ] refl)
+    (elim (is_hidden c) as (λ b. is_hidden c ≡ b → Unslashed ((cond b (92 ∷ digit_text (c / 16) ∷ digit_text (c % 16) ∷ []) (c ∷ [])) ++ rest)) [
+      | true ↦ λ h.
+          let small = hidden-value c h in
+          let high : c / 16 < 16 = omega arith in
+          let low : c % 16 < 16 = omega arith in
+          All-cons (λ b. nat_eq b 47 ≡ false) 92 (digit_text (c / 16) ∷ digit_text (c % 16) ∷ rest) refl (All-cons (λ b. nat_eq b 47 ≡ false) (digit_text (c / 16)) (digit_text (c % 16) ∷ rest) (digit-no-slash (c / 16) high) (All-cons (λ b. nat_eq b 47 ≡ false) (digit_text (c % 16)) rest (digit-no-slash (c % 16) low) all))
+      | false ↦ λ h. All-cons (λ b. nat_eq b 47 ≡ false) c rest (no-slash c allowed) all
+    ] refl)
 
 name-unslashed : (name : List ℕ) → list_any is_forbidden name ≡ false → Unslashed (name_text name)
 name-unslashed [] h = All-nil (λ b. nat_eq b 47 ≡ false)
