@@ -1,5 +1,6 @@
 -- Where the faults of the commands are told to be.
-use Rattle.std.specs.Prelude.{ℕ, List, codes}
+use Rattle.std.specs.Prelude.{◌++◌, ℕ, List, codes}
+use Rattle.std.specs.Fmt.{decimal}
 use Rattle.container_cli.specs.declared.report.Report.{Report}
 use Rattle.container_cli.specs.declared.report.Report.TheVariants as report
 use Rattle.container_cli.specs.declared.fault.InputFault.TheVariants as input
@@ -16,6 +17,11 @@ pub data Place : Type 0 where
 abbrev pub place_of : Report → Place
 place_of (report.File name fault) = file name.now
 place_of (report.Line number fault) = line number
+
+-- what is printed of it
+abbrev pub report_text : Report → List ℕ
+report_text (report.File name fault) = codes "file " ++ name.now ++ codes ": " ++ fault.now
+report_text (report.Line number fault) = codes "line " ++ decimal number ++ codes ": " ++ fault.now
 
 -- the name of a standard stream
 abbrev pub standard : List ℕ

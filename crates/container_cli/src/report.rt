@@ -16,6 +16,11 @@ pub enum Report<'a> {
 }
 
 impl<'a> fmt::Display for Report<'a> {
+    ghost use Rattle.container_cli.specs.Reports.{report_text};
+    ghost use Rattle.std.specs.Prelude.{Some};
+
+    ghost output = { λ report. Some (report_text report) };
+
     fn fmt<W: fmt::Write>(&self, f: &mut fmt::Formatter<W>) -> fmt::Result {
         match self {
             Report::File(file, fault) => write!(f, "file {file}: {fault}"),
