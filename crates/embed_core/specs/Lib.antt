@@ -1,0 +1,4 @@
+pub mod Content
+pub mod Kinds
+pub mod Edits
+pub mod Pictures

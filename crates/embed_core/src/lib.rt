@@ -1,0 +1,4 @@
+//! Embedded objects.
+#![tactic(auto)]
+
+pub mod fault;
