@@ -1,6 +1,6 @@
 -- Entries of the directory, 128 bytes each (MS-CFB 2.6).
 use Rattle.std.specs.Prelude.{◌≡◌, ◌≢◌, ◌<◌, ◌≤◌, ◌+◌, ◌-◌, ◌*◌, ◌/◌, ◌⊎◌, ℕ, zero, suc, Bool, true, false, List, [], ◌∷◌, ◌++◌, length, map, take, drop, slice_index, slice_index_or, slice_set}
-use Rattle.std.specs.List.{All, AllPairs, Contains, range_with_len}
+use Rattle.std.specs.List.{All, Contains, range_with_len}
 use Rattle.cfb_chain.specs.Bytes.{u16_at, u32_at, block}
 use Rattle.cfb_chain.specs.Chain.{AreDistinct}
 use Rattle.cfb_directory.specs.Names.{is_forbidden}

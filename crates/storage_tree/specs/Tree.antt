@@ -1,5 +1,5 @@
 -- Trees of storages and streams (MS-CFB 1.3.1, 2.6).
-use Rattle.std.specs.Prelude.{ℕ, List, [], ◌∷◌, ◌++◌}
+use Rattle.std.specs.Prelude.{ℕ, List, [], ◌∷◌}
 
 -- A storage is its class id, its state bits and its children, each a stream of bytes or a storage. A child
 -- stands under the key of its name, with the name as it is spelled.

@@ -1,8 +1,9 @@
 -- Trees that are whole.
-use Rattle.std.specs.Prelude.{ℕ, zero, suc, List, ◌≡◌}
+use Rattle.std.specs.Prelude.{ℕ, zero, suc, ◌≡◌, List, [], ◌∷◌}
 use Rattle.std.specs.declared.cmp.Ordering.TheVariants.{Less}
 use Rattle.cfb_directory.specs.Names.{IsName, key, key_cmp}
 use Rattle.storage_tree.specs.Tree.{Tree, Children, tree, none, stream, storage}
+use Rattle.storage_tree.specs.Change.{Seen, bytes, inner}
 
 -- a child under the key of its name, which is one that a directory takes
 pub record IsNamed (k n : List ℕ) : Type 0 where
@@ -26,3 +27,17 @@ abbrev mutual
   AreTrees depth (stream k n b cs) = IsNamed k n × AreAbove k cs × AreTrees depth cs
   AreTrees zero (storage k n t cs) = ⊥
   AreTrees (suc depth) (storage k n t cs) = IsNamed k n × AreAbove k cs × IsTree depth t × AreTrees (suc depth) cs
+
+-- what may stand in a storage that has so many levels below it
+abbrev pub IsWhole : ℕ → Seen → Type 0
+IsWhole depth (bytes b) = Unit {0}
+IsWhole zero (inner t) = ⊥
+IsWhole (suc depth) (inner t) = IsTree depth t
+
+abbrev pub AllWhole : List Tree → Type 0
+AllWhole [] = Unit {0}
+AllWhole (t ∷ ts) = IsTree 32 t × AllWhole ts
+
+-- the tree now and those that open transactions began with
+abbrev pub AreWhole : Tree → List Tree → Type 0
+AreWhole now saved = IsTree 32 now × AllWhole saved
