@@ -1,5 +1,5 @@
 -- What embedded objects contain: a note a text, a table texts in cells, a drawing shapes.
-use Rattle.std.specs.Prelude.{◌≡◌, ◌≤◌, ◌<◌, ◌+◌, ◌*◌, ◌&&◌, ◌||◌, ℕ, Bool, true, List, [], ◌∷◌, ◌++◌, length, map, nat_le, nat_eq, nat_lt}
+use Rattle.std.specs.Prelude.{◌≡◌, ◌≤◌, ◌<◌, ◌+◌, ◌*◌, ◌&&◌, ◌||◌, ℕ, Bool, true, List, [], ◌∷◌, ◌++◌, length, map, nat_le, nat_eq, nat_lt, codes}
 use Rattle.std.specs.List.{list_all, flat_map}
 use Rattle.std.specs.List.Sorted.{IsStrictlySortedBy}
 use Rattle.std.specs.Ordering.{nat_cmp}
@@ -65,11 +65,17 @@ is_cell_text text = nat_le 1 (length text) && nat_le (length text) CELL_SIZE && 
 abbrev pub is_entry : Cell × List ℕ → Bool
 is_entry e = is_cell e.0 && is_cell_text e.1
 
--- A content within its kind's characters, ranges and sizes.
-abbrev pub IsContent : Content → Type 0
-IsContent (note text) = (length text ≤ NOTE_SIZE) × (list_all is_note_text text ≡ true)
-IsContent (table entries) = IsStrictlySortedBy nat_cmp (map (λ e. cell_place e.0) entries) × (list_all is_entry entries ≡ true)
-IsContent (drawing shapes) = (length shapes ≤ DRAWING_SIZE) × (list_all is_shape shapes ≡ true)
+-- each number is greater than the one before it
+abbrev pub is_rising : List ℕ → Bool
+is_rising [] = true
+is_rising (n ∷ []) = true
+is_rising (n ∷ m ∷ ns) = nat_lt n m && is_rising (m ∷ ns)
+
+-- A content within its kind's characters, ranges and sizes; a table's cells stand by row and then by column.
+abbrev pub is_content : Content → Bool
+is_content (note text) = nat_le (length text) NOTE_SIZE && list_all is_note_text text
+is_content (table entries) = is_rising (map (λ e. cell_place e.0) entries) && list_all is_entry entries
+is_content (drawing shapes) = nat_le (length shapes) DRAWING_SIZE && list_all is_shape shapes
 
 -- How contents are spelled in streams.
 abbrev pub cell_bytes : Cell → List ℕ
@@ -94,21 +100,11 @@ shape_bytes (line x y d n) = 108 ∷ spaced (decimal x ∷ decimal y ∷ (direct
 abbrev pub shape_line : Shape → List ℕ
 shape_line s = shape_bytes s ++ 10 ∷ []
 
--- `Text`, `Cells`, `Shapes`
-abbrev pub text_name : List ℕ
-text_name = 84 ∷ 101 ∷ 120 ∷ 116 ∷ []
-
-abbrev pub cells_name : List ℕ
-cells_name = 67 ∷ 101 ∷ 108 ∷ 108 ∷ 115 ∷ []
-
-abbrev pub shapes_name : List ℕ
-shapes_name = 83 ∷ 104 ∷ 97 ∷ 112 ∷ 101 ∷ 115 ∷ []
-
 -- a content is held in one stream, under the name that its kind has for it
 abbrev pub stream_name : Content → List ℕ
-stream_name (note text) = text_name
-stream_name (table entries) = cells_name
-stream_name (drawing shapes) = shapes_name
+stream_name (note text) = codes "Text"
+stream_name (table entries) = codes "Cells"
+stream_name (drawing shapes) = codes "Shapes"
 
 abbrev pub stream_bytes : Content → List ℕ
 stream_bytes (note text) = text

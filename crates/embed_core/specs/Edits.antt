@@ -1,10 +1,11 @@
 -- Edits: how they are spelled, and what they do.
-use Rattle.std.specs.Prelude.{◌≡◌, ◌≤◌, ◌<◌, ◌+◌, ◌-◌, ◌*◌, ◌&&◌, ℕ, Bool, true, List, [], ◌∷◌, ◌++◌, length, take, drop, nat_le, nat_eq, nat_lt, cond, Result, Ok, Err, filter, not}
+use Rattle.std.specs.Prelude.{◌<◌, ◌^◌, ◌+◌, ◌-◌, ◌*◌, ◌&&◌, ℕ, Bool, true, List, [], ◌∷◌, ◌++◌, length, take, drop, nat_le, nat_eq, nat_lt, cond, Result, Ok, Err, filter, not}
 use Rattle.std.specs.List.{list_all, list_any}
 use Rattle.std.specs.Fmt.{decimal}
-use Rattle.embed_core.specs.Content.{Cell, Shape, Content, note, table, drawing, is_note_text, is_printable, is_cell, is_shape, cell_place, cell_bytes, shape_bytes, spaced, NOTE_SIZE, CELL_SIZE, DRAWING_SIZE}
+use Rattle.embed_core.specs.Content.{Cell, Shape, box, line, Content, note, table, drawing, is_note_text, is_printable, is_cell, is_shape, cell_place, cell_bytes, shape_bytes, spaced, NOTE_SIZE, CELL_SIZE, DRAWING_SIZE}
+use Rattle.embed_core.specs.Kinds.{Kind, Note, Table, Drawing}
 use Rattle.embed_core.specs.declared.fault.EmbedFault.{EmbedFault}
-use Rattle.embed_core.specs.declared.fault.EmbedFault.TheVariants.{BadEdit, BadContent, TooBig, NoMemory}
+use Rattle.embed_core.specs.declared.fault.EmbedFault.TheVariants.{BadEdit, TooBig}
 
 -- a note's text grows at a place, or loses so many characters there; a cell is set or cleared; a shape is added,
 -- removed by its number from 1, or moved to the end
@@ -56,15 +57,25 @@ edited (remove i) (drawing ss) = within (nat_le 1 i && nat_le i (length ss)) tru
 edited (raise i) (drawing ss) = within (nat_le 1 i && nat_le i (length ss)) true (drawing (take (i - 1) ss ++ drop i ss ++ take 1 (drop (i - 1) ss)))
 edited _ c = Err BadEdit
 
--- bytes edit a content into another: they spell an edit that does so
-pub record Edits (bytes : List ℕ) (old new : Content) : Type 0 where
-  pub edit : Edit
-  pub spells : spelled edit ≡ bytes
-  pub does : edited edit old ≡ Ok new
+-- whether each number of an edit is one of 64 bits
+abbrev pub IsSmallShape : Shape → Type 0
+IsSmallShape (box x y w h) = (x < 2 ^ 64) × (y < 2 ^ 64) × (w < 2 ^ 64) × (h < 2 ^ 64)
+IsSmallShape (line x y d n) = (x < 2 ^ 64) × (y < 2 ^ 64) × (n < 2 ^ 64)
 
--- when bytes are refused as an edit
-abbrev pub RefusesEdit : List ℕ → Content → EmbedFault → Type 0
-RefusesEdit bytes old BadEdit = (e : Edit) → spelled e ≡ bytes → edited e old ≡ Err BadEdit
-RefusesEdit bytes old TooBig = (e : Edit) × (spelled e ≡ bytes) × (edited e old ≡ Err TooBig)
-RefusesEdit bytes old NoMemory = (new : Content) × Edits bytes old new
-RefusesEdit bytes old BadContent = ⊥
+abbrev pub IsSmall : Edit → Type 0
+IsSmall (insert p text) = p < 2 ^ 64
+IsSmall (delete p n) = (p < 2 ^ 64) × (n < 2 ^ 64)
+IsSmall (set c text) = c.row < 2 ^ 64
+IsSmall (clear c) = c.row < 2 ^ 64
+IsSmall (add s) = IsSmallShape s
+IsSmall (remove i) = i < 2 ^ 64
+IsSmall (raise i) = i < 2 ^ 64
+
+abbrev pub kind_edited : Edit → Kind
+kind_edited (insert p text) = Note
+kind_edited (delete p n) = Note
+kind_edited (set c text) = Table
+kind_edited (clear c) = Table
+kind_edited (add s) = Drawing
+kind_edited (remove i) = Drawing
+kind_edited (raise i) = Drawing

@@ -1,5 +1,5 @@
 -- The three kinds: their classes, what they show, what they do with an edit.
-use Rattle.std.specs.Prelude.{◌≡◌, ℕ, List, [], ◌∷◌, ◌++◌, replicate}
+use Rattle.std.specs.Prelude.{◌≡◌, ℕ, List, [], ◌∷◌, codes}
 use Rattle.embed_core.specs.Content.{Content, note, table, drawing}
 
 pub data Kind : Type 0 where
@@ -27,20 +27,14 @@ empty Note = note []
 empty Table = table []
 empty Drawing = drawing []
 
--- the menus under groups 1, 3 and 5: `Edit Note Help`, `Edit Table Help`, `Edit Draw Help`
-abbrev pub edit_text : List ℕ
-edit_text = 69 ∷ 100 ∷ 105 ∷ 116 ∷ []
-
-abbrev pub help_text : List ℕ
-help_text = 72 ∷ 101 ∷ 108 ∷ 112 ∷ []
-
+-- the texts of the menus under groups 1, 3 and 5
 abbrev pub object_text : Kind → List ℕ
-object_text Note = 78 ∷ 111 ∷ 116 ∷ 101 ∷ []
-object_text Table = 84 ∷ 97 ∷ 98 ∷ 108 ∷ 101 ∷ []
-object_text Drawing = 68 ∷ 114 ∷ 97 ∷ 119 ∷ []
+object_text Note = codes "Note"
+object_text Table = codes "Table"
+object_text Drawing = codes "Draw"
 
 abbrev pub menu_texts : Kind → List (List ℕ)
-menu_texts k = edit_text ∷ object_text k ∷ help_text ∷ []
+menu_texts k = codes "Edit" ∷ object_text k ∷ codes "Help" ∷ []
 
 -- the border space that the object asks for: left, top, right, bottom
 abbrev pub border_of : Kind → List ℕ

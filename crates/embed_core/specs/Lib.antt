@@ -1,4 +1,6 @@
 pub mod Content
 pub mod Kinds
 pub mod Edits
+pub mod Reading
 pub mod Pictures
+pub mod Objects
