@@ -1,5 +1,6 @@
 -- The three kinds: their classes, what they show, what they do with an edit.
 use Rattle.std.specs.Prelude.{◌≡◌, ℕ, List, [], ◌∷◌, codes}
+use Rattle.object_state.specs.declared.menus.Menus.{Menus}
 use Rattle.embed_core.specs.Content.{Content, note, table, drawing}
 
 pub data Kind : Type 0 where
@@ -33,8 +34,8 @@ object_text Note = codes "Note"
 object_text Table = codes "Table"
 object_text Drawing = codes "Draw"
 
-abbrev pub menu_texts : Kind → List (List ℕ)
-menu_texts k = codes "Edit" ∷ object_text k ∷ codes "Help" ∷ []
+abbrev pub menus_of : Kind → Menus
+menus_of k = record { edit = codes "Edit"; object = object_text k; help = codes "Help" }
 
 -- the border space that the object asks for: left, top, right, bottom
 abbrev pub border_of : Kind → List ℕ

@@ -1,2 +1,23 @@
-//! To come.
+//! The states of an embedded object: of its storage, in the words of IPersistStorage, and of its
+//! window, in the words of IOleObject; what each verb does in each of them; and the menu texts that
+//! an object shows while it is active in place. Nothing here takes memory.
 #![tactic(auto)]
+
+mod both_states;
+mod faults;
+pub mod laws;
+mod menu_texts;
+mod object_states;
+mod operations;
+mod persist_states;
+#[cfg(test)]
+mod tests;
+mod verbs;
+
+pub use both_states::States;
+pub use faults::StateFault;
+pub use menu_texts::{MENU_TEXT_MAX, MenuText, Menus};
+pub use object_states::ObjectState;
+pub use operations::{CloseOption, Op};
+pub use persist_states::{Persist, PersistState};
+pub use verbs::{Step, Verb};

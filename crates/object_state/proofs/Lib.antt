@@ -1,0 +1,2 @@
+pub mod Inline
+pub mod Tables
