@@ -1,6 +1,6 @@
 -- The three kinds: their classes, what they show, what they do with an edit.
 use Rattle.std.specs.Prelude.{◌≡◌, ℕ, List, [], ◌∷◌, codes}
-use Rattle.object_state.specs.declared.menus.Menus.{Menus}
+use Rattle.object_state.specs.declared.menu_texts.Menus.{Menus}
 use Rattle.embed_core.specs.Content.{Content, note, table, drawing}
 
 pub data Kind : Type 0 where

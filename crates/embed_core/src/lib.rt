@@ -1,4 +1,6 @@
-//! Embedded objects.
+//! Embedded objects: the trait that each kind has, and what the kinds are.
 #![tactic(auto)]
 
+pub mod embedded;
 pub mod fault;
+pub mod streams;
