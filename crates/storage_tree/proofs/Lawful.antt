@@ -1,4 +1,4 @@
-use Rattle.std.proofs.Common.{◌≡◌, ℕ, List, [], ◌∷◌, refl, sym, ◌∙◌, ap, Bool, true, false, cond, Option, Some, None, Result, Ok, Err, rules, inl, inr}
+use Rattle.std.proofs.Common.{◌++◌, subst, ◌≡◌, ℕ, List, [], ◌∷◌, refl, sym, ◌∙◌, ap, Bool, true, false, cond, Option, Some, None, Result, Ok, Err, rules, inl, inr}
 use Rattle.std.specs.Cmp.Lexicographic.{nat_list_cmp_total}
 use Rattle.std.specs.Ordering.{is_eq, match_ordering, ordering_reverse}
 use Rattle.std.specs.declared.cmp.Ordering.TheVariants.{Less, Equal, Greater}
@@ -8,8 +8,8 @@ use Rattle.storage_tree.specs.declared.storage.Edit.{Edit}
 use Rattle.storage_tree.specs.declared.storage.Edit.TheVariants.{Put, Make, Remove, Rename}
 use Rattle.cfb_directory.specs.Names.{key, key_cmp, key_eq}
 use Rattle.storage_tree.specs.Tree.{Children, none, stream, storage, tree}
-use Rattle.storage_tree.specs.Change.{child, Seen, bytes, inner, find, place, without, map_ok, on_ok, found, change, edited, putting, making, removing, look}
-use Rattle.storage_tree.specs.Laws.{IsHere, Stays, PutIsThere}
+use Rattle.storage_tree.specs.Change.{child, Seen, bytes, inner, find, place, without, map_ok, on_ok, found, change, edited, putting, making, removing, moving, renaming, look}
+use Rattle.storage_tree.specs.Laws.{Apart, beside, target, Stays, PutIsThere, MadeIsThere, RenamedIsThere}
 use Rattle.storage_tree.proofs.Entries.{find-child, place-child, without-child, reflexive}
 
 pub err_ok : {A : Type 0} {P : Type 0} (f : TreeFault) (a : A) → ◌≡◌ {A = Result A TreeFault} (Err f) (Ok a) → P
@@ -33,7 +33,7 @@ place-step q k c n old cs d ih = ap (find q) (place-child k c n old cs)
       | Greater ↦ λ h. find-child q n old (place k c cs) ∙ ap (cond (key_eq q n) (Some old)) ih ∙ sym (find-child q n old cs)
     ] refl)
 
-find-place-other : (q k : List ℕ) (c : List ℕ × Seen) (cs : Children) → key_eq q k ≡ false → find q (place k c cs) ≡ find q cs
+pub find-place-other : (q k : List ℕ) (c : List ℕ × Seen) (cs : Children) → key_eq q k ≡ false → find q (place k c cs) ≡ find q cs
 find-place-other q k c none d = find-child q k c none ∙ ap (λ b. cond b (Some c) None) d
 find-place-other q k c (stream n m b cs) d = place-step q k c n (m, bytes b) cs d (find-place-other q k c cs d)
 find-place-other q k c (storage n m t cs) d = place-step q k c n (m, inner t) cs d (find-place-other q k c cs d)
@@ -48,7 +48,7 @@ same-step k c n old cs ih = ap (find k) (place-child k c n old cs)
       | Greater ↦ λ h. find-child k n old (place k c cs) ∙ ap (λ o. cond (is_eq o) (Some old) (find k (place k c cs))) h ∙ ih
     ] refl)
 
-find-place : (k : List ℕ) (c : List ℕ × Seen) (cs : Children) → find k (place k c cs) ≡ Some c
+pub find-place : (k : List ℕ) (c : List ℕ × Seen) (cs : Children) → find k (place k c cs) ≡ Some c
 find-place k c none = find-child k k c none ∙ ap (λ o. cond (is_eq o) (Some c) None) (reflexive k)
 find-place k c (stream n m b cs) = same-step k c n (m, bytes b) cs (find-place k c cs)
 find-place k c (storage n m t cs) = same-step k c n (m, inner t) cs (find-place k c cs)
@@ -82,11 +82,22 @@ remove-other : (q name : List ℕ) (cs cs' : Children) (o : Option (List ℕ × 
 remove-other q name cs cs' None d h = err_ok NotFound cs' h
 remove-other q name cs cs' (Some c) d h = ap (find q) (sym (ok_is _ _ h)) ∙ find-without q (key name) cs d
 
-edited-other : (e : Edit) (q name : List ℕ) (cs cs' : Children) → IsHere e → key_eq q (key name) ≡ false → edited e name cs ≡ Ok cs' → find q cs' ≡ find q cs
-edited-other (Put new) q name cs cs' i d h = put-other q name new cs cs' (find (key name) cs) d h
-edited-other (Make class state fits) q name cs cs' i d h = make-other q name class state fits cs cs' (find (key name) cs) d h
-edited-other Remove q name cs cs' i d h = remove-other q name cs cs' (find (key name) cs) d h
-edited-other (Rename new) q name cs cs' i d h = absurd i
+move-other : (q name new : List ℕ) (cs cs' : Children) (s : Seen) (o : Option (List ℕ × Seen)) → key_eq q (key name) ≡ false → key_eq q (key new) ≡ false → moving name new cs s o ≡ Ok cs' → find q cs' ≡ find q cs
+move-other q name new cs cs' s None d e h = ap (find q) (sym (ok_is _ _ h)) ∙ find-place-other q (key new) (new, s) (without (key name) cs) e ∙ find-without q (key name) cs d
+move-other q name new cs cs' s (Some c) d e h = err_ok Exists cs' h
+
+rename-other : (q name new : List ℕ) (cs cs' : Children) (o : Option (List ℕ × Seen)) → key_eq q (key name) ≡ false → key_eq q (key new) ≡ false → renaming name new cs o ≡ Ok cs' → find q cs' ≡ find q cs
+rename-other q name new cs cs' None d e h = err_ok NotFound cs' h
+rename-other q name new cs cs' (Some c) d e h =
+    elim (key_eq (key new) (key name)) as (λ b. cond b (Ok (place (key name) (new, c.1) cs)) (moving name new cs c.1 (find (key new) cs)) ≡ Ok cs' → find q cs' ≡ find q cs)
+    [ true ↦ λ g. ap (find q) (sym (ok_is _ _ g)) ∙ find-place-other q (key name) (new, c.1) cs d | false ↦ λ g. move-other q name new cs cs' c.1 (find (key new) cs) d e g ] h
+
+edited-other : (e : Edit) (m n : List ℕ) (q : List (List ℕ)) (cs cs' : Children) → key_eq (key m) (key n) ≡ false → Apart (target e (n ∷ [])) (m ∷ q) → edited e n cs ≡ Ok cs' → find (key m) cs' ≡ find (key m) cs
+edited-other (Put new) m n q cs cs' d a h = put-other (key m) n new cs cs' (find (key n) cs) d h
+edited-other (Make class state fits) m n q cs cs' d a h = make-other (key m) n class state fits cs cs' (find (key n) cs) d h
+edited-other Remove m n q cs cs' d a h = remove-other (key m) n cs cs' (find (key n) cs) d h
+edited-other (Rename new) m n q cs cs' d (inl e) h = rename-other (key m) n new cs cs' (find (key n) cs) d e h
+edited-other (Rename new) m n q cs cs' d (inr a) h = absurd a
 
 -- a result that is Ok
 pub from_map : {A B : Type 0} (f : A → B) (r : Result A TreeFault) (b : B) → map_ok f r ≡ Ok b → (a : A) × (r ≡ Ok a) × (f a ≡ b)
@@ -119,23 +130,34 @@ module _ (n m : List ℕ) (q : List (List ℕ)) (cs : Children) (c : List ℕ ×
     | Greater ↦ λ h. ap go (find-place-other (key m) (key n) (c.0, s) cs (ap is_eq h))
   ] refl
 
+-- the target of a change below
+target-below : (e : Edit) (n x : List ℕ) (rest : List (List ℕ)) → target e (n ∷ x ∷ rest) ≡ n ∷ target e (x ∷ rest)
+target-below (Put new) n x rest = refl
+target-below (Make class state fits) n x rest = refl
+target-below Remove n x rest = refl
+target-below (Rename new) n x rest = refl
+
 pub stays : Stays
-stays e path q (bytes b) t i h a = err_ok WrongKind t h
-stays e [] q (inner s) t i h a = absurd a
-stays e (n ∷ []) [] (inner (tree class state cs)) t i h a = absurd a
-stays e (n ∷ []) (m ∷ q) (inner (tree class state cs)) t i h (inl d) =
+stays e path q (bytes b) t h a z = err_ok WrongKind t h
+stays e [] q (inner s) t h a z = absurd a
+stays e (n ∷ []) [] (inner (tree class state cs)) t h a z = absurd a
+stays e (n ∷ []) (m ∷ q) (inner (tree class state cs)) t h (inl d) z =
     let w = from_map _ (edited e n cs) t h in
-    ap (look (m ∷ q)) (sym w.2) ∙ ap (λ o. on_ok (λ c. look q c.1) (found o)) (edited-other e (key m) n cs w.0 i d w.1)
-stays e (n ∷ []) (m ∷ q) (inner (tree class state cs)) t i h (inr a) = absurd a
-stays e (n ∷ x ∷ rest) [] (inner (tree class state cs)) t i h a = absurd a
-stays e (n ∷ x ∷ rest) (m ∷ q) (inner (tree class state cs)) t i h (inl d) =
+    ap (look (m ∷ q)) (sym w.2) ∙ ap (λ o. on_ok (λ c. look q c.1) (found o)) (edited-other e m n q cs w.0 d z w.1)
+stays e (n ∷ []) (m ∷ q) (inner (tree class state cs)) t h (inr a) z = absurd a
+stays e (n ∷ x ∷ rest) [] (inner (tree class state cs)) t h a z = absurd a
+stays e (n ∷ x ∷ rest) (m ∷ q) (inner (tree class state cs)) t h (inl d) z =
     let u = from_found _ (find (key n) cs) t h in
     let w = from_map _ (change e (x ∷ rest) u.0.1) t u.2 in
     ap (look (m ∷ q)) (sym w.2) ∙ ap (λ o. on_ok (λ c. look q c.1) (found o)) (find-place-other (key m) (key n) (u.0.0, w.0) cs d)
-stays e (n ∷ x ∷ rest) (m ∷ q) (inner (tree class state cs)) t i h (inr a) =
+stays e (n ∷ x ∷ rest) (m ∷ q) (inner (tree class state cs)) t h (inr a) z =
     let u = from_found _ (find (key n) cs) t h in
     let w = from_map _ (change e (x ∷ rest) u.0.1) t u.2 in
-    ap (look (m ∷ q)) (sym w.2) ∙ below-child n m q cs u.0 w.0 u.1 (stays e (x ∷ rest) q u.0.1 w.0 i w.1 a)
+    let z' : Apart (n ∷ target e (x ∷ rest)) (m ∷ q) = subst (λ p. Apart p (m ∷ q)) (target-below e n x rest) z in
+    elim z' as (λ y. look (m ∷ q) t ≡ look (m ∷ q) (inner (tree class state cs))) [
+      | inl d ↦ ap (look (m ∷ q)) (sym w.2) ∙ ap (λ o. on_ok (λ c. look q c.1) (found o)) (find-place-other (key m) (key n) (u.0.0, w.0) cs d)
+      | inr b ↦ ap (look (m ∷ q)) (sym w.2) ∙ below-child n m q cs u.0 w.0 u.1 (stays e (x ∷ rest) q u.0.1 w.0 w.1 a b)
+    ]
 
 pub put_is_there : PutIsThere
 put_is_there path new (bytes b) t h = err_ok WrongKind t h
@@ -148,3 +170,56 @@ put_is_there (n ∷ x ∷ rest) new (inner (tree class state cs)) t h =
     let w = from_map _ (change (Put new) (x ∷ rest) u.0.1) t u.2 in
     ap (look (n ∷ x ∷ rest)) (sym w.2) ∙ ap (λ o. on_ok (λ c. look (x ∷ rest) c.1) (found o)) (find-place (key n) (u.0.0, w.0) cs)
     ∙ put_is_there (x ∷ rest) new u.0.1 w.0 w.1
+
+make-here : (name class : List ℕ) (state : ℕ) (fits : Bool) (cs cs' : Children) (o : Option (List ℕ × Seen)) → making name class state fits cs o ≡ Ok cs'
+    → on_ok (λ c. look [] c.1) (found (find (key name) cs')) ≡ Ok (inner (tree class state none))
+make-here name class state true cs cs' None h = ap (λ x. on_ok (λ c. look [] c.1) (found (find (key name) x))) (sym (ok_is _ _ h)) ∙ ap (λ x. on_ok (λ c. look [] c.1) (found x)) (find-place (key name) (name, inner (tree class state none)) cs)
+make-here name class state false cs cs' None h = err_ok TooDeep cs' h
+make-here name class state fits cs cs' (Some c) h = err_ok Exists cs' h
+
+pub made_is_there : MadeIsThere
+made_is_there path class state fits (bytes b) t h = err_ok WrongKind t h
+made_is_there [] class state fits (inner s) t h = err_ok WrongKind t h
+made_is_there (n ∷ []) class state fits (inner (tree c st cs)) t h =
+    let w = from_map _ (making n class state fits cs (find (key n) cs)) t h in
+    ap (look (n ∷ [])) (sym w.2) ∙ make-here n class state fits cs w.0 (find (key n) cs) w.1
+made_is_there (n ∷ x ∷ rest) class state fits (inner (tree c st cs)) t h =
+    let u = from_found _ (find (key n) cs) t h in
+    let w = from_map _ (change (Make class state fits) (x ∷ rest) u.0.1) t u.2 in
+    ap (look (n ∷ x ∷ rest)) (sym w.2) ∙ ap (λ o. on_ok (λ c. look (x ∷ rest) c.1) (found o)) (find-place (key n) (u.0.0, w.0) cs)
+    ∙ made_is_there (x ∷ rest) class state fits u.0.1 w.0 w.1
+
+-- what was renamed
+pub equal_from : (a b : List ℕ) → key_eq a b ≡ true → key_cmp a b ≡ Equal
+equal_from a b h = elim (key_cmp a b) as (λ o. is_eq o ≡ true → o ≡ Equal) [ Less ↦ λ g. absurd (search rules) | Equal ↦ λ g. refl | Greater ↦ λ g. absurd (search rules) ] h
+
+moved-here : (name new : List ℕ) (cs cs' : Children) (s : Seen) (o : Option (List ℕ × Seen)) → moving name new cs s o ≡ Ok cs' → find (key new) cs' ≡ Some (new, s)
+moved-here name new cs cs' s None h = ap (find (key new)) (sym (ok_is _ _ h)) ∙ find-place (key new) (new, s) (without (key name) cs)
+moved-here name new cs cs' s (Some c) h = err_ok Exists cs' h
+
+renamed-here : (name new : List ℕ) (cs cs' : Children) (o : Option (List ℕ × Seen)) → renaming name new cs o ≡ Ok cs' → (c : List ℕ × Seen) × (o ≡ Some c) × (find (key new) cs' ≡ Some (new, c.1))
+renamed-here name new cs cs' None h = err_ok NotFound cs' h
+renamed-here name new cs cs' (Some c) h = (
+  c,
+  refl,
+  elim (key_eq (key new) (key name)) as (λ b. key_eq (key new) (key name) ≡ b → cond b (Ok (place (key name) (new, c.1) cs)) (moving name new cs c.1 (find (key new) cs)) ≡ Ok cs' → find (key new) cs' ≡ Some (new, c.1)) [
+    | true ↦ λ e g. ap (find (key new)) (sym (ok_is _ _ g)) ∙ find-same (key new) (key name) (place (key name) (new, c.1) cs) (equal_from (key new) (key name) e) ∙ find-place (key name) (new, c.1) cs
+    | false ↦ λ e g. moved-here name new cs cs' c.1 (find (key new) cs) g
+  ] refl h,
+)
+
+pub renamed_is_there : RenamedIsThere
+renamed_is_there path below new (bytes b) t h = err_ok WrongKind t h
+renamed_is_there [] below new (inner s) t h = err_ok WrongKind t h
+renamed_is_there (n ∷ []) below new (inner (tree class state cs)) t h =
+    let w = from_map _ (renaming n new cs (find (key n) cs)) t h in
+    let r = renamed-here n new cs w.0 (find (key n) cs) w.1 in
+    let go : Option (List ℕ × Seen) → Result Seen TreeFault = λ o. on_ok (λ c. look below c.1) (found o) in
+    ap (look (new ∷ below)) (sym w.2) ∙ ap go r.2 ∙ sym (ap go r.1)
+renamed_is_there (n ∷ x ∷ rest) below new (inner (tree class state cs)) t h =
+    let u = from_found _ (find (key n) cs) t h in
+    let w = from_map _ (change (Rename new) (x ∷ rest) u.0.1) t u.2 in
+    ap (look (n ∷ (beside (x ∷ rest) new ++ below))) (sym w.2)
+    ∙ ap (λ o. on_ok (λ c. look (beside (x ∷ rest) new ++ below) c.1) (found o)) (find-place (key n) (u.0.0, w.0) cs)
+    ∙ renamed_is_there (x ∷ rest) below new u.0.1 w.0 w.1
+    ∙ sym (ap (λ o. on_ok (λ c. look (x ∷ (rest ++ below)) c.1) (found o)) u.1)

@@ -30,7 +30,7 @@ to d k n (bytes b) cs p = (p.named, p.above, p.rest)
 to zero k n (inner t) cs p = p.inside
 to (suc d) k n (inner t) cs p = (p.named, p.above, p.inside, p.rest)
 
-from : (d : ℕ) (k n : List ℕ) (s : Seen) (cs : Children) → AreTrees d (child k (n, s) cs) → Parts d k n s cs
+pub from : (d : ℕ) (k n : List ℕ) (s : Seen) (cs : Children) → AreTrees d (child k (n, s) cs) → Parts d k n s cs
 from d k n (bytes b) cs p = record { named = p.0; above = p.1; inside = tt; rest = p.2 }
 from zero k n (inner t) cs p = absurd p
 from (suc d) k n (inner t) cs p = record { named = p.0; above = p.1; inside = p.2; rest = p.3 }
@@ -115,13 +115,13 @@ find-step d k q m old cs c all ih h =
     let P : List ℕ × Seen → Type 0 = λ x. IsWhole d x.1 in
     elim (key_eq k q) as (λ b. cond b (Some (m, old)) (find k cs) ≡ Some c → IsWhole d c.1) [ true ↦ λ g. subst P (same_some g) p.inside | false ↦ ih ] (sym (find-child k q (m, old) cs) ∙ h)
 
-find-whole : (d : ℕ) (k : List ℕ) (cs : Children) (c : List ℕ × Seen) → AreTrees d cs → find k cs ≡ Some c → IsWhole d c.1
+pub find-whole : (d : ℕ) (k : List ℕ) (cs : Children) (c : List ℕ × Seen) → AreTrees d cs → find k cs ≡ Some c → IsWhole d c.1
 find-whole d k none c all h = absurd (search rules)
 find-whole d k (stream q m b cs) c all h = find-step d k q m (bytes b) cs c all (find-whole d k cs c (from d q m (bytes b) cs all).rest) h
 find-whole d k (storage q m t cs) c all h = find-step d k q m (inner t) cs c all (find-whole d k cs c (from d q m (inner t) cs all).rest) h
 
 -- a child is found under the key of its name
-tied : (a b : List ℕ) → key_eq a b ≡ true → a ≡ b
+pub tied : (a b : List ℕ) → key_eq a b ≡ true → a ≡ b
 tied a b h = equal_keys a b (elim (key_cmp a b) as (λ o. is_eq o ≡ true → o ≡ Equal) [ Less ↦ λ g. absurd (search rules) | Equal ↦ λ g. refl | Greater ↦ λ g. absurd (search rules) ] h)
 
 named-step : (d : ℕ) (k q m : List ℕ) (old : Seen) (cs : Children) (c : List ℕ × Seen) → AreTrees d (child q (m, old) cs) → (find k cs ≡ Some c → IsNamed k c.0)

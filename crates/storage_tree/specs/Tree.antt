@@ -17,3 +17,12 @@ abbrev pub keys : Children → List (List ℕ)
 keys none = []
 keys (stream k n b cs) = k ∷ keys cs
 keys (storage k n t cs) = k ∷ keys cs
+
+-- the names of children, as they are spelled, in their order
+abbrev pub names : Children → List (List ℕ)
+names none = []
+names (stream k n b cs) = n ∷ names cs
+names (storage k n t cs) = n ∷ names cs
+
+abbrev pub child_names : Tree → List (List ℕ)
+child_names (tree class state cs) = names cs

@@ -4,5 +4,8 @@
 pub mod bytes;
 pub mod class_id;
 pub mod fault;
+pub mod laws;
 pub mod storage;
+pub mod stored;
+pub mod streams;
 pub mod tree;

@@ -4,7 +4,7 @@ ghost use Rattle.std.specs.Prelude.{◌≡◌, ◌≢◌, [], ◌∷◌, Err, If
 ghost use Rattle.storage_tree.specs.declared.fault.TreeFault.TheVariants.{NoMemory};
 ghost use Rattle.cfb_directory.specs.Names.{IsName, key};
 ghost use Rattle.storage_tree.specs.Laws.{IsNewName, LeavesNames};
-ghost use Rattle.storage_tree.specs.Tree.{none, tree};
+ghost use Rattle.storage_tree.specs.Tree.{child_names, none, tree};
 ghost use Rattle.storage_tree.specs.Change.{inner, change, Outcome, put_seen, look, map_ok};
 ghost use Rattle.storage_tree.specs.View.{found_seen, moved, seen, view};
 
@@ -86,6 +86,17 @@ impl Storage {
                 None => Err(TreeFault::NotFound),
             },
         }
+    }
+
+    /// The names of its children, as they are spelled, in name order.
+    pub fn names(&self, alloc: Global) -> Result<Vec<Name>, AllocError>
+        ensures { IfOk result (λ names. names.items ≡ child_names (view self.now)) }
+    {
+        let mut names = Vec::new(alloc);
+        for (_, child) in self.children.iter() {
+            names.push(child.0.copy())?;
+        }
+        Ok(names)
     }
 
     /// An equal storage.
