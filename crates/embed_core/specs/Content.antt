@@ -5,6 +5,7 @@ use Rattle.std.specs.List.Sorted.{IsStrictlySortedBy}
 use Rattle.std.specs.Ordering.{nat_cmp}
 use Rattle.std.specs.declared.cmp.Ordering.{Ordering}
 use Rattle.std.specs.Fmt.{decimal}
+use Rattle.storage_tree.specs.declared.streams.NamedStream.{NamedStream}
 
 -- a cell by its column, from 0 for A, and its row, from 1
 pub record Cell : Type 0 where
@@ -111,5 +112,5 @@ stream_bytes (note text) = text
 stream_bytes (table entries) = flat_map entry_bytes entries
 stream_bytes (drawing shapes) = flat_map shape_line shapes
 
-abbrev pub stored : Content → List (List ℕ × List ℕ)
-stored c = (stream_name c, stream_bytes c) ∷ []
+abbrev pub stored : Content → List NamedStream
+stored c = record { name = stream_name c; bytes = stream_bytes c } ∷ []

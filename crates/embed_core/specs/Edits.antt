@@ -57,19 +57,19 @@ edited (remove i) (drawing ss) = within (nat_le 1 i && nat_le i (length ss)) tru
 edited (raise i) (drawing ss) = within (nat_le 1 i && nat_le i (length ss)) true (drawing (take (i - 1) ss ++ drop i ss ++ take 1 (drop (i - 1) ss)))
 edited _ c = Err BadEdit
 
--- whether each number of an edit is one of 64 bits
+-- whether each number of an edit is one of 32 bits
 abbrev pub IsSmallShape : Shape → Type 0
-IsSmallShape (box x y w h) = (x < 2 ^ 64) × (y < 2 ^ 64) × (w < 2 ^ 64) × (h < 2 ^ 64)
-IsSmallShape (line x y d n) = (x < 2 ^ 64) × (y < 2 ^ 64) × (n < 2 ^ 64)
+IsSmallShape (box x y w h) = (x < 2 ^ 32) × (y < 2 ^ 32) × (w < 2 ^ 32) × (h < 2 ^ 32)
+IsSmallShape (line x y d n) = (x < 2 ^ 32) × (y < 2 ^ 32) × (n < 2 ^ 32)
 
 abbrev pub IsSmall : Edit → Type 0
-IsSmall (insert p text) = p < 2 ^ 64
-IsSmall (delete p n) = (p < 2 ^ 64) × (n < 2 ^ 64)
-IsSmall (set c text) = c.row < 2 ^ 64
-IsSmall (clear c) = c.row < 2 ^ 64
+IsSmall (insert p text) = p < 2 ^ 32
+IsSmall (delete p n) = (p < 2 ^ 32) × (n < 2 ^ 32)
+IsSmall (set c text) = c.row < 2 ^ 32
+IsSmall (clear c) = c.row < 2 ^ 32
 IsSmall (add s) = IsSmallShape s
-IsSmall (remove i) = i < 2 ^ 64
-IsSmall (raise i) = i < 2 ^ 64
+IsSmall (remove i) = i < 2 ^ 32
+IsSmall (raise i) = i < 2 ^ 32
 
 abbrev pub kind_edited : Edit → Kind
 kind_edited (insert p text) = Note

@@ -1,3 +1,4 @@
+pub mod Words
 pub mod Content
 pub mod Kinds
 pub mod Edits

@@ -1,6 +1,7 @@
 -- What an embedded object does with an edit and with streams.
 use Rattle.std.specs.Prelude.{◌≡◌, ◌≢◌, ◌<◌, ◌^◌, ℕ, Bool, true, List, [], ◌∷◌, Option, Some, None, Result, Ok, Err, IsOk, cond}
 use Rattle.cfb_directory.specs.Names.{key, key_eq}
+use Rattle.storage_tree.specs.declared.streams.NamedStream.{NamedStream}
 use Rattle.embed_core.specs.Content.{Content, is_content, stream_name, stream_bytes, stored}
 use Rattle.embed_core.specs.Kinds.{Kind, kind_of, empty}
 use Rattle.embed_core.specs.Edits.{Edit, edited}
@@ -21,8 +22,8 @@ abbrev pub load_told : Option Content → Result Content EmbedFault
 load_told None = Err BadContent
 load_told (Some c) = cond (is_content c) (Ok c) (Err BadContent)
 
-abbrev pub load : Kind → List (List ℕ × List ℕ) → Result Content EmbedFault
-load k (s ∷ []) = cond (key_eq (key s.0) (key (stream_name (empty k)))) (load_told (content_of k s.1)) (Err BadContent)
+abbrev pub load : Kind → List NamedStream → Result Content EmbedFault
+load k (s ∷ []) = cond (key_eq (key s.name) (key (stream_name (empty k)))) (load_told (content_of k s.bytes)) (Err BadContent)
 load k _ = Err BadContent
 
 -- a call answers what it is told to, or that no memory is left where it would have succeeded
@@ -38,7 +39,7 @@ StoredIsLoaded = (c : Content) → is_content c ≡ true → load (kind_of c) (s
 
 -- what is loaded was so stored, but for the case of the stream's name
 abbrev pub LoadedWasStored : Type 0
-LoadedWasStored = (k : Kind) (n b : List ℕ) (c : Content) → load k ((n, b) ∷ []) ≡ Ok c → (kind_of c ≡ k) × (is_content c ≡ true) × (stream_bytes c ≡ b)
+LoadedWasStored = (k : Kind) (s : NamedStream) (c : Content) → load k (s ∷ []) ≡ Ok c → (kind_of c ≡ k) × (is_content c ≡ true) × (stream_bytes c ≡ s.bytes)
 
 -- no edit changes the kind, or leaves its sizes
 abbrev pub EditsStay : Type 0

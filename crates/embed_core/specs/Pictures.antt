@@ -1,6 +1,7 @@
 -- What objects look like: lines of printable characters.
 use Rattle.std.specs.Prelude.{◌≡◌, ◌+◌, ◌-◌, ◌*◌, ◌&&◌, ◌||◌, ℕ, Bool, List, [], ◌∷◌, ◌++◌, length, map, take, nat_le, nat_eq, nat_lt, cond, if◌then◌else◌, ◌==◌}
-use Rattle.std.specs.List.{flat_map, range_with_len, slice_split}
+use Rattle.std.specs.List.{flat_map, range_with_len}
+use Rattle.embed_core.specs.Words.{pieces}
 use Rattle.embed_core.specs.Content.{Cell, Shape, box, line, Direction, across, down, Content, note, table, drawing, cell_bytes}
 
 -- the pieces of a text that line feeds end, and a last one if it isn't empty
@@ -10,7 +11,7 @@ ended (x ∷ []) = cond (nat_eq (length x) 0) [] (x ∷ [])
 ended (x ∷ y ∷ more) = x ∷ ended (y ∷ more)
 
 abbrev pub text_lines : List ℕ → List (List ℕ)
-text_lines text = ended (slice_split (λ b. b == 10) text)
+text_lines text = ended (pieces 10 text)
 
 -- a line of a table's picture: `CELL=TEXT`
 abbrev pub cell_line : Cell × List ℕ → List ℕ

@@ -1,32 +1,19 @@
 -- Reading edits and contents from bytes: what is read is what was spelled.
 use Rattle.std.specs.Prelude.{◌≡◌, ◌+◌, ◌-◌, ◌*◌, ◌&&◌, ◌==◌, ℕ, Bool, List, [], ◌∷◌, ◌++◌, length, cond, nat_eq, nat_le, Option, Some, None, option_map, option_and_then}
-use Rattle.std.specs.List.{fold, slice_split, join_with_byte}
-use Rattle.std.specs.Cmp.Lexicographic.{pointwise}
-use Rattle.std.specs.Fmt.{decimal}
+use Rattle.std.specs.List.{join_with_byte}
+use Rattle.embed_core.specs.Words.{pieces, words, number_read}
 use Rattle.embed_core.specs.Content.{Cell, Shape, box, line, Direction, across, down, Content, note, table, drawing}
 use Rattle.embed_core.specs.Kinds.{Kind, Note, Table, Drawing}
 use Rattle.embed_core.specs.Edits.{Edit, insert, delete, set, clear, add, remove, raise, spelled, IsSmall, kind_edited}
-
--- the words of bytes, parted by one space
-abbrev pub words : List ℕ → List (List ℕ)
-words bytes = slice_split (λ b. b == 32) bytes
 
 -- words with their spaces again
 abbrev pub text_of : List (List ℕ) → List ℕ
 text_of ws = join_with_byte 32 ws
 
--- what digits are worth
-abbrev pub value_of : List ℕ → ℕ
-value_of ds = fold (λ v d. 10 * v + (d - 48)) 0 ds
-
--- the number that a word spells, without leading zeros
-abbrev pub number_of : List ℕ → Option ℕ
-number_of w = cond (pointwise nat_eq (decimal (value_of w)) w) (Some (value_of w)) None
-
 -- the cell that a word spells: a letter from A, and a number
 abbrev pub cell_of : List ℕ → Option Cell
 cell_of [] = None
-cell_of (c ∷ ds) = cond (nat_le 65 c) (option_map (λ n. record { column = c - 65; row = n }) (number_of ds)) None
+cell_of (c ∷ ds) = cond (nat_le 65 c) (option_map (λ n. record { column = c - 65; row = n }) (number_read ds)) None
 
 abbrev pub direction_of : List ℕ → Option Direction
 direction_of (c ∷ []) = cond (nat_eq c 104) (Some across) (cond (nat_eq c 118) (Some down) None)
@@ -46,26 +33,26 @@ line_of (Some at) (Some d) (Some n) = Some (line at.0 at.1 d n)
 line_of _ _ _ = None
 
 abbrev pub pair_of : List ℕ → List ℕ → Option (ℕ × ℕ)
-pair_of a b = with_two (λ m n. (m, n)) (number_of a) (number_of b)
+pair_of a b = with_two (λ m n. (m, n)) (number_read a) (number_read b)
 
 -- the shape that words spell, given the letter in front
 abbrev pub shape_of : ℕ → List (List ℕ) → Option Shape
 shape_of c (x ∷ y ∷ w ∷ h ∷ []) =
     cond (nat_eq c 98) (box_of (pair_of x y) (pair_of w h))
-    (cond (nat_eq c 108) (line_of (pair_of x y) (direction_of w) (number_of h)) None)
+    (cond (nat_eq c 108) (line_of (pair_of x y) (direction_of w) (number_read h)) None)
 shape_of c _ = None
 
 -- what one number makes
 abbrev pub one_number : (ℕ → Edit) → List (List ℕ) → Option Edit
-one_number f (n ∷ []) = option_map f (number_of n)
+one_number f (n ∷ []) = option_map f (number_read n)
 one_number f _ = None
 
 abbrev pub place_and_text : List (List ℕ) → Option Edit
-place_and_text (p ∷ t ∷ ts) = option_map (λ n. insert n (text_of (t ∷ ts))) (number_of p)
+place_and_text (p ∷ t ∷ ts) = option_map (λ n. insert n (text_of (t ∷ ts))) (number_read p)
 place_and_text _ = None
 
 abbrev pub place_and_count : List (List ℕ) → Option Edit
-place_and_count (p ∷ n ∷ []) = with_two delete (number_of p) (number_of n)
+place_and_count (p ∷ n ∷ []) = with_two delete (number_read p) (number_read n)
 place_and_count _ = None
 
 abbrev pub cell_and_text : List (List ℕ) → Option Edit
@@ -99,7 +86,7 @@ whole_lines (l ∷ []) = None
 whole_lines (l ∷ m ∷ more) = option_map (λ ls. l ∷ ls) (whole_lines (m ∷ more))
 
 abbrev pub lines_of : List ℕ → Option (List (List ℕ))
-lines_of bytes = whole_lines (slice_split (λ b. b == 10) bytes)
+lines_of bytes = whole_lines (pieces 10 bytes)
 
 -- what each line spells, if each spells something
 abbrev pub each : {A : Type 0} → (List ℕ → Option A) → List (List ℕ) → Option (List A)

@@ -3,4 +3,4 @@
 
 pub mod embedded;
 pub mod fault;
-pub mod streams;
+pub mod words;
