@@ -7,7 +7,7 @@ ghost use Rattle.std.specs.Prelude.{◌≡◌, ◌<◌, [], ◌∷◌, length, I
 use std::marker::Model;
 
 /// The bytes before the first such byte, and those behind it, where there is one.
-fn cut(bytes: &[u8], at: u8) -> (&[u8], Option<&[u8]>)
+pub fn cut(bytes: &[u8], at: u8) -> (&[u8], Option<&[u8]>)
     ensures pieces { pieces at bytes.now ≡ result.0.now ∷ further at (option_copied result.1) }
     ensures shorter { IfSome result.1 (λ rest. length rest.now < length bytes.now) }
 {
