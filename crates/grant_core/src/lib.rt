@@ -1,2 +1,15 @@
-//! To come.
+//! Who holds a frame's menus and border space, and what menus and border the frame shows for it.
+//! Nothing here takes memory.
 #![tactic(auto)]
+
+mod faults;
+mod frame_ui;
+mod grant_states;
+pub mod laws;
+#[cfg(test)]
+mod tests;
+
+pub use faults::GrantFault;
+pub use frame_ui::FrameUi;
+pub use grant_states::{Claim, GrantState, Tools};
+pub use object_state::{MenuText, Menus};
