@@ -1,1 +1,8 @@
+pub mod Fields
 pub mod Keys
+pub mod Linked
+pub mod Marks
+pub mod Walk
+pub mod Reading
+pub mod Marked
+pub mod Trees

@@ -1,12 +1,19 @@
 //! Entries of the directory (MS-CFB 2.6).
 
-ghost use Rattle.cfb_directory.specs.Entries.{AreFree, AreLinked, MayRefuseChildren, MayRefuseLoad, child, entry_at, marked, set_all};
-ghost use Rattle.std.specs.Prelude.{◌≡◌, ◌/◌, ◌∷◌, [], false, replicate, length, IfErr, IfOk, OnErr};
+ghost use Rattle.cfb_directory.specs.Entries.{AreFree, AreLinked, IsEntry, IsFree, IsKindOf, IsNamed, MayRefuseChildren, MayRefuseEntry, MayRefuseLinked, MayRefuseLoad, child, class_of, entry_at, kind_number, left, marked, right, set_all};
+ghost use Rattle.cfb_directory.specs.Walk.{IsTaken, MayRefuseName, unmarked};
+ghost use Rattle.cfb_directory.specs.declared.fault.DirFault.TheVariants.{BadEntry};
+ghost use Rattle.std.specs.List.{All};
+ghost use Rattle.std.specs.Prelude.{◌≡◌, ◌<◌, ◌≤◌, ◌*◌, ◌/◌, ◌∷◌, [], false, replicate, length, IfErr, IfOk, OnErr, OnOk};
 
+use crate::bytes::{ENTRY_LEN, entry_bytes, read_u16, read_u32};
 use crate::fault::DirFault;
-use crate::name::Name;
+use crate::name::{LONGEST, Name};
 use std::alloc::Global;
 use std::marker::Model;
+
+/// The value of a link to nobody.
+pub const NO_STREAM: u32 = 0xffff_ffff;
 
 /// What an entry is.
 #[derive(Debug, Clone, Copy, PartialEq, Eq)]
@@ -35,6 +42,57 @@ pub struct Entries<'a> {
     used: Vec<bool>,
 }
 
+/// The kind of an entry: entry 0 is the root, and all others are storages and streams.
+fn kind_of(id: u32, kind: u8) -> Result<EntryKind, DirFault>
+    ensures held { IfOk result (λ k. kind_number k ≡ kind) }
+    ensures allowed { IfOk result (λ k. IsKindOf id kind) }
+    ensures refused { IfErr result (λ e. (e ≡ BadEntry) × (IsKindOf id kind → ⊥)) }
+{
+    match (id, kind) {
+        (0, 5) => Ok(EntryKind::Root),
+        (0, _) => Err(DirFault::BadEntry),
+        (_, 1) => Ok(EntryKind::Storage),
+        (_, 2) => Ok(EntryKind::Stream),
+        _ => Err(DirFault::BadEntry),
+    }
+}
+
+/// The class id of an entry.
+fn class_of(entry: &[u8; 128]) -> [u8; 16]
+    ensures { result ≡ class_of entry.now }
+{
+    let mut class = [0; 16];
+    class.copy_from_slice(&entry[80..96]);
+    class
+}
+
+/// The name of an entry.
+fn read_name(entry: &[u8; 128]) -> Result<Name, DirFault>
+    ensures read { IfOk result (IsNamed entry.now) }
+    ensures refused { IfErr result (MayRefuseName entry.now) }
+{
+    let len = read_u16(entry, 64);
+    if len < 4 {
+        return Err(DirFault::NameEmpty);
+    }
+    if len > 64 {
+        return Err(DirFault::NameTooLong);
+    }
+    if len % 2 != 0 {
+        return Err(DirFault::BadEntry);
+    }
+    let mut units = [0; LONGEST];
+    let count = len as usize / 2 - 1;
+    for k in 0..count {
+        let unit = read_u16(entry, 2 * k);
+        if unit > 127 {
+            return Err(DirFault::NameNotAscii);
+        }
+        units[k] = unit as u8;
+    }
+    Name::new(&units[..count])
+}
+
 impl<'a> Model for Entries<'a> {
     ghost use Rattle.std.specs.Prelude.{◌≡◌, ◌/◌, length};
     ghost use Rattle.cfb_directory.specs.Entries.{EntriesValue};
@@ -54,7 +112,46 @@ impl<'a> Entries<'a> {
         ensures loaded { IfOk result (λ e. e ≡ record { directory = directory.now; used = set_all (replicate (length directory.now / 128) false) (0 ∷ []) }) }
         ensures refused { IfErr result (MayRefuseLoad directory.now) }
     {
-        Err(DirFault::NoMemory)
+        let count = directory.len() / ENTRY_LEN;
+        if count == 0 {
+            return Err(DirFault::BadEntry);
+        }
+        let mut used = vec![in alloc; false; count]?;
+        used[0] = true;
+        Ok(Entries { directory, used })
+    }
+
+    /// What an entry says. The root is named `Root Entry`, whatever stands in the file.
+    ///
+    /// Refused: `BadEntry` for an id outside the directory, for an entry 0 that isn't a root, for another entry that is
+    /// neither a storage nor a stream, and for an odd length of its name; what `Name::new` refuses for its name, whose
+    /// length with the closing zero is from 4 to 64 bytes (MS-CFB 2.6.1).
+    pub fn entry(&self, id: u32) -> Result<Entry, DirFault>
+        ensures read { IfOk result (IsEntry self.now.directory id) }
+        ensures refused { IfErr result (MayRefuseEntry self.now.directory id) }
+    {
+        if self.directory.len() <= ENTRY_LEN * id as usize {
+            return Err(DirFault::BadEntry);
+        }
+        let entry = entry_bytes(self.directory, id);
+        let kind = kind_of(id, entry[66])?;
+        let name = if id == 0 {
+            Name::root()
+        } else {
+            match read_name(&entry) {
+                Ok(name) => name,
+                Err(fault) => return Err(fault),
+            }
+        };
+        Ok(Entry {
+            name,
+            kind,
+            class: class_of(&entry),
+            state: read_u32(&entry, 96),
+            child: read_u32(&entry, 76),
+            first: read_u32(&entry, 116),
+            size: read_u32(&entry, 120),
+        })
     }
 
     /// The children of an entry: just those that links reach from its child, which it marks. A refusal marks none.
@@ -67,6 +164,95 @@ impl<'a> Entries<'a> {
         ensures refused { IfErr result (MayRefuseChildren self.old id) }
         ensures kept { OnErr result (self.new ≡ self.old) }
     {
-        Err(DirFault::NoMemory)
+        let top = self.child(id)?;
+        let mut found = Vec::new(alloc);
+        match self.walk(alloc, top, &mut found) {
+            Ok(()) => Ok(found),
+            Err(fault) => {
+                self.unmark(found);
+                Err(fault)
+            }
+        }
+    }
+
+    /// Finds and marks what links reach from an entry, a parent before what it links to. A refusal leaves those that were
+    /// found marked.
+    fn walk(&mut self, alloc: Global, top: u32, found: &mut Vec<u32>) -> Result<(), DirFault>
+        requires { found.old.items ≡ [] }
+        ensures linked { OnOk result (AreLinked self.old.directory top found.new.items) }
+        ensures free { AreFree self.old found.new.items }
+        ensures marks { self.new ≡ marked self.old found.new.items }
+        ensures refused { IfErr result (MayRefuseLinked self.old top) }
+    {
+        let mut waiting = Vec::new(alloc);
+        waiting.push(top)?;
+        while let Some(id) = waiting.pop() {
+            if id == NO_STREAM {
+                continue;
+            }
+            match self.check(id) {
+                Ok(()) => {}
+                Err(fault) => return Err(fault),
+            }
+            found.push(id)?;
+            self.mark(id);
+            let (left, right) = self.links(id);
+            waiting.push(right)?;
+            waiting.push(left)?;
+        }
+        Ok(())
+    }
+
+    /// Takes marks back, the last one first.
+    fn unmark(&mut self, mut found: Vec<u32>)
+        requires { All (λ n. n < length self.old.used) found.items }
+        ensures { self.new ≡ unmarked self.old found.items }
+    {
+        while let Some(id) = found.pop() {
+            self.used[id as usize] = false;
+        }
+    }
+
+    /// The child of an entry.
+    fn child(&self, id: u32) -> Result<u32, DirFault>
+        ensures read { IfOk result (λ top. (128 * id < length self.now.directory) × (top ≡ child (entry_at self.now.directory id))) }
+        ensures refused { IfErr result (λ e. (length self.now.directory ≤ 128 * id) × (e ≡ BadEntry)) }
+    {
+        if self.directory.len() <= ENTRY_LEN * id as usize {
+            return Err(DirFault::BadEntry);
+        }
+        Ok(read_u32(&entry_bytes(self.directory, id), 76))
+    }
+
+    /// The left and right link of an entry.
+    fn links(&self, id: u32) -> (u32, u32)
+        requires { 128 * id < length self.now.directory }
+        ensures left { result.0 ≡ left (entry_at self.now.directory id) }
+        ensures right { result.1 ≡ right (entry_at self.now.directory id) }
+    {
+        let entry = entry_bytes(self.directory, id);
+        (read_u32(&entry, 68), read_u32(&entry, 72))
+    }
+
+    /// Refuses an entry that isn't there, or is marked.
+    fn check(&self, id: u32) -> Result<(), DirFault>
+        ensures free { OnOk result (IsFree self.now id) }
+        ensures refused { IfErr result (IsTaken self.now id) }
+    {
+        if self.directory.len() <= ENTRY_LEN * id as usize {
+            return Err(DirFault::BadEntry);
+        }
+        match self.used.get(id as usize) {
+            Some(false) => Ok(()),
+            _ => Err(DirFault::TreeCycle),
+        }
+    }
+
+    /// Marks an entry that is there and isn't marked.
+    fn mark(&mut self, id: u32)
+        requires { IsFree self.old id }
+        ensures { self.new ≡ marked self.old (id ∷ []) }
+    {
+        self.used[id as usize] = true;
     }
 }

@@ -1,6 +1,7 @@
 //! Names of directory entries (MS-CFB 2.6.1, 2.6.4).
 
 ghost use Rattle.cfb_directory.specs.Names.{is_forbidden, key, name_cmp, name_read, IsName, KeysAgree};
+ghost use Rattle.cfb_directory.specs.Entries.{root_name};
 ghost use Rattle.cfb_directory.specs.View.{units_of};
 ghost use Rattle.std.specs.Char.{to_ascii_uppercase};
 ghost use Rattle.std.specs.List.{list_any};
@@ -101,6 +102,15 @@ impl Name {
         Ok(Name {
             units: spelled(bytes),
         })
+    }
+
+    /// The name of the root, `Root Entry` (MS-CFB 2.6.2).
+    pub fn root() -> Name
+        ensures { result ≡ root_name }
+    {
+        Name {
+            units: spelled(b"Root Entry"),
+        }
     }
 
     /// An equal name.

@@ -27,8 +27,13 @@ pub enum TreeFault {
 }
 
 impl TreeFault {
+    ghost use Rattle.std.specs.Prelude.{◌≡◌};
+    ghost use Rattle.storage_tree.specs.FaultNames.{fault_name};
+
     /// The fault's name, as it is printed.
-    pub fn name(&self) -> &'static str {
+    pub fn name(&self) -> &'static str
+        ensures { result.now ≡ fault_name self.now }
+    {
         match self {
             TreeFault::NotFound => "NotFound",
             TreeFault::Exists => "Exists",
@@ -74,8 +79,13 @@ pub enum StreamsFault {
 }
 
 impl StreamsFault {
+    ghost use Rattle.std.specs.Prelude.{◌≡◌};
+    ghost use Rattle.storage_tree.specs.FaultNames.{streams_fault_name};
+
     /// The fault's name, as it is printed.
-    pub fn name(&self) -> &'static str {
+    pub fn name(&self) -> &'static str
+        ensures { result.now ≡ streams_fault_name self.now }
+    {
         match self {
             StreamsFault::OutOfOrder => "OutOfOrder",
             StreamsFault::NoMemory => "NoMemory",

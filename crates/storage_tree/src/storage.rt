@@ -15,24 +15,6 @@ use cfb_directory::name::Name;
 use std::alloc::{AllocError, Global};
 use std::collections::BTreeMap;
 
-/// A change of what stands under a name of a storage.
-#[derive(Drop)]
-pub enum Edit {
-    Put(Bytes),
-    Make(ClassId, u32, bool),
-    Remove,
-    Rename(Name),
-}
-
-/// The key of a name, and that the name is one that a directory takes, which its characters tell.
-fn key_of(name: &Name) -> [u8; 32]
-    ensures key { result ≡ key name.now }
-    ensures valid { IsName name.now }
-{
-    let _ = name.as_bytes();
-    name.key()
-}
-
 /// A storage: its class id, its state bits and its children.
 #[cycle(storage)]
 #[derive(Drop)]
@@ -49,13 +31,47 @@ pub struct Storage {
 #[cycle(storage)]
 #[derive(Drop)]
 pub enum Node {
+    /// A stream's bytes.
     Stream(Bytes),
+    /// A storage.
     Storage(Storage),
+}
+
+/// What stands at a path.
+#[derive(Drop)]
+pub enum Found<'a> {
+    /// A stream's bytes.
+    Stream(&'a Bytes),
+    /// A storage.
+    Storage(&'a Storage),
+}
+
+/// A change of what stands under a name of a storage.
+#[derive(Drop)]
+pub enum Edit {
+    /// Makes a stream of these bytes, or replaces the bytes of one.
+    Put(Bytes),
+    /// Makes a storage of this class id and these state bits, where it is known to fit.
+    Make(ClassId, u32, bool),
+    /// Removes what stands there.
+    Remove,
+    /// Gives it this name.
+    Rename(Name),
+}
+
+/// The key of a name.
+fn key_of(name: &Name) -> [u8; 32]
+    ensures key { result ≡ key name.now }
+    ensures valid { IsName name.now }
+{
+    // The characters are read for what is promised of them: that the name is valid.
+    let _ = name.as_bytes();
+    name.key()
 }
 
 impl Storage {
     /// A storage without children.
-    pub fn new(alloc: Global, class: ClassId, state: u32) -> Storage
+    pub(crate) fn new(alloc: Global, class: ClassId, state: u32) -> Storage
         ensures { view result ≡ tree class state none }
     {
         Storage {
@@ -64,17 +80,11 @@ impl Storage {
             children: BTreeMap::new(alloc),
         }
     }
-}
 
-/// What stands at a path.
-#[derive(Drop)]
-pub enum Found<'a> {
-    Stream(&'a Bytes),
-    Storage(&'a Storage),
-}
-
-impl Storage {
-    /// What stands at a path.
+    /// What stands at a path from this storage down; the storage itself at the empty one.
+    ///
+    /// Refused: `NotFound` where a name of the path isn't there; `WrongKind` where a stream stands on its way. The first
+    /// name of the path that meets one of these decides.
     #[cycle(gets)]
     pub fn get(&self, path: &[Name]) -> Result<Found<'_>, TreeFault>
         ensures { map_ok found_seen result ≡ look path.now (inner (view self.now)) }
@@ -99,7 +109,7 @@ impl Storage {
         Ok(names)
     }
 
-    /// An equal storage.
+    /// An equal storage, with all that it holds.
     #[cycle(copies)]
     pub fn copy(&self, alloc: Global) -> Result<Storage, AllocError>
         ensures { IfOk result (λ s. view s ≡ view self.now) }

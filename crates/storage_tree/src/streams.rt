@@ -126,3 +126,6 @@ impl Streams {
         Ok(Streams { items })
     }
 }
+
+#[cfg(test)]
+mod tests;

@@ -165,3 +165,6 @@ impl Tree {
         }
     }
 }
+
+#[cfg(test)]
+mod tests;

@@ -1,4 +1,4 @@
-use Rattle.std.proofs.Common.{◌≡◌, ◌++◌, drop}
+use Rattle.std.proofs.Common.{◌≡◌, drop}
 use Rattle.storage_tree.specs.Streams.{bytes_of}
 use Rattle.storage_tree.proofs.streams.Streams.get.Given as goal
 

@@ -1,4 +1,4 @@
-use Rattle.std.proofs.Common.{rules, ◌∙◌, sym, ap}
+use Rattle.std.proofs.Common.{◌∙◌, sym, ap}
 use Rattle.storage_tree.specs.Streams.{is_next}
 use Rattle.storage_tree.proofs.Ordered.{in_order-last}
 use Rattle.storage_tree.proofs.streams.Streams.push.Goals as goal

@@ -1,0 +1,24 @@
+use Rattle.std.proofs.Common.{◌≡◌, ◌≤◌, ◌<◌, ◌⊎◌, ◌+◌, ◌-◌, ◌*◌, ◌++◌, ℕ, List, inl, inr, length, take, drop, min, replicate, refl, sym, ◌∙◌, ap, arith, length-drop}
+use Rattle.std.proofs.lemmas.Bool.{cases_lt}
+use Rattle.std.proofs.lemmas.List.{take_all, length-take}
+use Rattle.cfb_chain.specs.Bytes.{block}
+use Rattle.cfb_directory.proofs.bytes.entry_bytes.Goals as goal
+
+-- the zeros behind a part stand for the bytes past the end
+cut_at : (rest : List ℕ) (m : ℕ) → m ≡ min 128 (length rest) → take m rest ++ replicate (128 - length (take m rest)) 0 ≡ take 128 rest ++ replicate (128 - length rest) 0
+cut_at rest m h =
+    let zeros : 128 - length (take m rest) ≡ 128 - length rest = omega (arith, length-take m rest) in
+    let part : take m rest ≡ take 128 rest =
+    elim (cases_lt (length rest) 128) [
+      | inl lt ↦ take_all m rest (omega arith) ∙ sym (take_all 128 rest (omega arith))
+      | inr ge ↦ let e : m ≡ 128 = omega arith in ap (λ k. take k rest) e
+    ] in
+    (λ t. part t ++ replicate (zeros t) 0)
+
+pub returns : goal.returns
+unfolding block
+returns c =
+    let start : ℕ = 128 * c.args.id in
+    let rest : List ℕ = drop start c.args.directory.now in
+    let m : c.min-end.result - start ≡ min 128 (length rest) = omega (arith, c.min-end.ensures, length-drop start c.args.directory.now) in
+    c.padded.ensures ∙ cut_at rest (c.min-end.result - start) m

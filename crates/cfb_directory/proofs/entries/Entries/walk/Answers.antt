@@ -1,0 +1,119 @@
+use Rattle.std.proofs.Common.{◌≡◌, ◌≢◌, ◌<◌, ◌+◌, ◌*◌, ℕ, List, [], ◌∷◌, ◌++◌, true, false, length, get_or, sym, ◌∙◌, ap, subst, arith, length-append}
+use Rattle.std.proofs.lemmas.List.{nil_from_length}
+use Rattle.std.proofs.lemmas.List.Elements.{All-push}
+use Rattle.std.specs.List.{All}
+use Rattle.cfb_directory.specs.Entries.{AreFree, AreLinked, EntriesValue, IsFree, NO_STREAM, Reaches, here, left, right, entry_at, marked}
+use Rattle.cfb_directory.proofs.Linked.{Completes, Completes-start, Completes-nobody, Completes-step, Completes-end, reaches_left, reaches_right}
+use Rattle.cfb_directory.proofs.Marks.{All-front, All-last, AreFree-none, AreFree-push, marked-push, unused, unused-set}
+use Rattle.cfb_directory.proofs.Walk.{taken_refused}
+use Rattle.cfb_directory.proofs.entries.Entries.walk.Goals as goal
+
+pub loop-id-init : goal.loop-id-init
+loop-id-init c =
+    let e : EntriesValue = c.args.self.now in
+    let none : c.args.found.now.items ≡ [] = c.requires in
+    let start : c.push.new.self.items ≡ c.args.top ∷ [] = c.in_ok-push.ensures.items ∙ ap (λ xs. xs ++ c.args.top ∷ []) c.new-waiting.ensures.items in
+    let R : ℕ → Type 0 = Reaches e.directory c.args.top in
+    record {
+      marks = ap (marked e) (sym none);
+      free = subst (AreFree e) (sym none) (AreFree-none e);
+      reached = subst (All R) (sym start) (All-push R [] c.args.top (λ k d lt. absurd (omega arith)) (here c.args.top));
+      linked = subst (λ (xs : List ℕ). Completes e.directory c.args.top xs c.push.new.self.items) (sym none)
+          (subst (Completes e.directory c.args.top []) (sym start) (Completes-start e.directory c.args.top));
+    }
+
+pub loop-id-preserved-then-id : goal.loop-id-preserved-then-id
+loop-id-preserved-then-id c =
+    let i = c.loop-id.invariant in
+    let d : List ℕ = c.args.self.now.directory in
+    let popped : c.loop-id.waiting.items ≡ c.pop.new.self.items ++ c.in-Some.id ∷ [] = c.in-Some.ensures.items in
+    record {
+      marks = i.marks;
+      free = i.free;
+      reached = All-front (Reaches d c.args.top) c.pop.new.self.items c.in-Some.id (subst (All (Reaches d c.args.top)) popped i.reached);
+      linked = Completes-nobody d c.args.top c.loop-id.found.items c.pop.new.self.items c.in-Some.id c.if-id.true
+          (subst (Completes d c.args.top c.loop-id.found.items) popped i.linked);
+    }
+
+pub returns-in-Err-clause-refused : goal.returns-in-Err-clause-refused
+returns-in-Err-clause-refused c =
+    let i = c.loop-id.invariant in
+    let d : List ℕ = c.args.self.now.directory in
+    let popped : c.loop-id.waiting.items ≡ c.pop.new.self.items ++ c.in-Some.id ∷ [] = c.in-Some.ensures.items in
+    taken_refused c.args.self.now c.loop-id.self c.args.top c.loop-id.found.items c.pop.new.self.items c.in-Some.id c.in-Err.fault i.marks
+    (subst (Completes d c.args.top c.loop-id.found.items) popped i.linked)
+    (All-last (Reaches d c.args.top) c.pop.new.self.items c.in-Some.id (subst (All (Reaches d c.args.top)) popped i.reached))
+    c.if-id.false c.in-Err.ensures.refused
+
+pub returns-clause-linked : goal.returns-clause-linked
+returns-clause-linked c =
+    let d : List ℕ = c.args.self.now.directory in
+    let none : c.loop-id.waiting.items ≡ [] = nil_from_length c.loop-id.waiting.items (omega (arith, c.in_default.ensures.cases.0)) in
+    Completes-end d c.args.top c.loop-id.found.items (subst (Completes d c.args.top c.loop-id.found.items) none c.loop-id.invariant.linked)
+
+pub loop-id-smaller : goal.loop-id-smaller
+loop-id-smaller c =
+    let free : IsFree c.loop-id.self c.in-Some.id = c.in-Ok.ensures.free in
+    omega (
+      arith,
+      unused-set c.loop-id.self.used c.in-Some.id free.1,
+      ap (λ v. unused v.used) c.mark.ensures,
+      ap length c.in_ok-push-4.ensures.items,
+      ap length c.in_ok-push-3.ensures.items,
+      ap length c.in-Some.ensures.items,
+      length-append {A = ℕ},
+    )
+
+-- what is found is free, and what is marked
+found_free : (e s : EntriesValue) (found more : List ℕ) (id : ℕ) → s ≡ marked e found → AreFree e found → IsFree s id → more ≡ found ++ id ∷ [] → AreFree e more
+found_free e s found more id is h f m =
+    let free : IsFree (marked e found) id = subst (λ (v : EntriesValue). IsFree v id) is f in
+    subst (AreFree e) (sym m) (AreFree-push e found id h free)
+
+found_marks : (e s t : EntriesValue) (found more : List ℕ) (id : ℕ) → s ≡ marked e found → t ≡ marked s (id ∷ []) → more ≡ found ++ id ∷ [] → t ≡ marked e more
+found_marks e s t found more id is u m = u ∙ marked-push e s found id is ∙ ap (marked e) (sym m)
+
+pub returns-in_err-push-4-clause-free : goal.returns-in_err-push-4-clause-free
+returns-in_err-push-4-clause-free c =
+    found_free c.args.self.now c.loop-id.self c.loop-id.found.items c.push-in-Some.new.self.items c.in-Some.id
+    c.loop-id.invariant.marks c.loop-id.invariant.free c.in-Ok.ensures.free c.in_ok-push-2.ensures.items
+
+pub returns-in_err-push-4-clause-marks : goal.returns-in_err-push-4-clause-marks
+returns-in_err-push-4-clause-marks c =
+    found_marks c.args.self.now c.loop-id.self c.mark.new.self c.loop-id.found.items c.push-in-Some.new.self.items c.in-Some.id
+    c.loop-id.invariant.marks c.mark.ensures c.in_ok-push-2.ensures.items
+
+pub loop-id-preserved : goal.loop-id-preserved
+loop-id-preserved c =
+    let i = c.loop-id.invariant in
+    let e : EntriesValue = c.args.self.now in
+    let d : List ℕ = e.directory in
+    let id : ℕ = c.in-Some.id in
+    let ws : List ℕ = c.pop.new.self.items in
+    let popped : c.loop-id.waiting.items ≡ ws ++ id ∷ [] = c.in-Some.ensures.items in
+    let pushed : c.push-in-Some.new.self.items ≡ c.loop-id.found.items ++ id ∷ [] = c.in_ok-push-2.ensures.items in
+    let free : IsFree c.loop-id.self id = c.in-Ok.ensures.free in
+    let before : c.loop-id.self.directory ≡ d = ap (λ v. v.directory) i.marks in
+    let same : c.mark.new.self.directory ≡ d = ap (λ v. v.directory) c.mark.ensures ∙ before in
+    let inside : 128 * id < length d = subst (λ (x : List ℕ). 128 * id < length x) before free.0 in
+    let l : ℕ = left (entry_at d id) in
+    let r : ℕ = right (entry_at d id) in
+    let left_is : c.links-left.result.0 ≡ l = c.links-left.ensures.left ∙ ap (λ x. left (entry_at x id)) same in
+    let right_is : c.links-left.result.1 ≡ r = c.links-left.ensures.right ∙ ap (λ x. right (entry_at x id)) same in
+    let waits : c.push-in-Some-3.new.self.items ≡ (ws ++ r ∷ []) ++ l ∷ [] =
+    c.in_ok-push-4.ensures.items ∙ ap (λ xs. xs ++ c.links-left.result.0 ∷ []) c.in_ok-push-3.ensures.items
+    ∙ (λ t. (ws ++ right_is t ∷ []) ++ left_is t ∷ []) in
+    let R : ℕ → Type 0 = Reaches d c.args.top in
+    let reached : All R (ws ++ id ∷ []) = subst (All R) popped i.reached in
+    let met : Reaches d c.args.top id = All-last R ws id reached in
+    let step : Completes d c.args.top (c.loop-id.found.items ++ id ∷ []) ((ws ++ r ∷ []) ++ l ∷ []) =
+    Completes-step d c.args.top c.loop-id.found.items ws id c.if-id.false inside (subst (Completes d c.args.top c.loop-id.found.items) popped i.linked) in
+    record {
+      marks = found_marks e c.loop-id.self c.mark.new.self c.loop-id.found.items c.push-in-Some.new.self.items id i.marks c.mark.ensures pushed;
+      free = found_free e c.loop-id.self c.loop-id.found.items c.push-in-Some.new.self.items id i.marks i.free free pushed;
+      reached = subst (All R) (sym waits)
+          (All-push R (ws ++ r ∷ []) l (All-push R ws r (All-front R ws id reached) (reaches_right d c.args.top id c.if-id.false inside met))
+          (reaches_left d c.args.top id c.if-id.false inside met));
+      linked = subst (λ (xs : List ℕ). Completes d c.args.top xs c.push-in-Some-3.new.self.items) (sym pushed)
+          (subst (Completes d c.args.top (c.loop-id.found.items ++ id ∷ [])) (sym waits) step);
+    }

@@ -1,0 +1,17 @@
+use Rattle.std.proofs.Common.{◌≡◌, ◌+◌, ◌*◌, length}
+use Rattle.std.specs.List.{All}
+use Rattle.cfb_directory.specs.Entries.{AreFree, Reaches, marked}
+use Rattle.cfb_directory.proofs.Linked.{Completes}
+use Rattle.cfb_directory.proofs.Marks.{unused}
+use Rattle.cfb_directory.proofs.entries.Entries.walk.Given as goal
+
+abbrev pub invariant-loop-id : goal.invariant-loop-id
+invariant-loop-id l = record {
+  marks : l.self ≡ marked l.initial.self l.found.items;
+  free : AreFree l.initial.self l.found.items;
+  reached : All (Reaches l.initial.self.directory l.top) l.waiting.items;
+  linked : Completes l.initial.self.directory l.top l.found.items l.waiting.items;
+}
+
+abbrev pub decreases-loop-id : goal.decreases-loop-id
+decreases-loop-id l = 2 * unused l.self.used + length l.waiting.items
