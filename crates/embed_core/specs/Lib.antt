@@ -5,3 +5,4 @@ pub mod Edits
 pub mod Reading
 pub mod Pictures
 pub mod Objects
+pub mod FaultNames

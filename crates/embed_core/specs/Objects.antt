@@ -1,5 +1,5 @@
 -- What an embedded object does with an edit and with streams.
-use Rattle.std.specs.Prelude.{◌≡◌, ◌≢◌, ◌<◌, ◌^◌, ℕ, Bool, true, List, [], ◌∷◌, Option, Some, None, Result, Ok, Err, IsOk, cond}
+use Rattle.std.specs.Prelude.{◌≡◌, ◌≢◌, ◌<◌, ◌^◌, ℕ, Bool, true, List, [], ◌∷◌, Option, Some, None, option_and_then, Result, Ok, Err, IsOk, cond}
 use Rattle.cfb_directory.specs.Names.{key, key_eq}
 use Rattle.storage_tree.specs.declared.streams.NamedStream.{NamedStream}
 use Rattle.embed_core.specs.Content.{Content, is_content, stream_name, stream_bytes, stored}
@@ -17,14 +17,18 @@ edit_told c (Some e) = edited e c
 abbrev pub edit : Content → List ℕ → Result Content EmbedFault
 edit c bytes = edit_told c (edit_of (kind_of c) bytes)
 
+-- the bytes of the only stream, where its name is this one, whatever the case
+abbrev pub sole_bytes : List ℕ → List NamedStream → Option (List ℕ)
+sole_bytes name (s ∷ []) = cond (key_eq (key s.name) (key name)) (Some s.bytes) None
+sole_bytes name _ = None
+
 -- the content that streams hold: the one stream of the kind, whatever the case of its name, within the kind's sizes
 abbrev pub load_told : Option Content → Result Content EmbedFault
 load_told None = Err BadContent
 load_told (Some c) = cond (is_content c) (Ok c) (Err BadContent)
 
 abbrev pub load : Kind → List NamedStream → Result Content EmbedFault
-load k (s ∷ []) = cond (key_eq (key s.name) (key (stream_name (empty k)))) (load_told (content_of k s.bytes)) (Err BadContent)
-load k _ = Err BadContent
+load k streams = load_told (option_and_then (content_of k) (sole_bytes (stream_name (empty k)) streams))
 
 -- a call answers what it is told to, or that no memory is left where it would have succeeded
 abbrev pub Refuses : {A : Type 0} → Result A EmbedFault → EmbedFault → Type 0

@@ -52,6 +52,9 @@ picture (note text) = map (take 60) (take 20 (text_lines text))
 picture (table entries) = map cell_line (take 20 entries)
 picture (drawing shapes) = map (drawn_line shapes) (range_with_len 0 12)
 
+abbrev pub ended_line : List ℕ → List ℕ
+ended_line l = l ++ 10 ∷ []
+
 -- the lines of a picture, each ended by a line feed
 abbrev pub picture_bytes : Content → List ℕ
-picture_bytes c = flat_map (λ l. l ++ 10 ∷ []) (picture c)
+picture_bytes c = flat_map ended_line (picture c)

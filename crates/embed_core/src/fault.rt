@@ -1,5 +1,6 @@
 //! Why an embedded object refuses.
 
+use std::alloc::{AllocError, AllocFailed};
 use thiserror::Error;
 
 /// Why an embedded object refuses a call.
@@ -20,13 +21,40 @@ pub enum EmbedFault {
 }
 
 impl EmbedFault {
+    ghost use Rattle.std.specs.Prelude.{◌≡◌};
+    ghost use Rattle.embed_core.specs.FaultNames.{fault_name};
+
     /// The fault's name, as it is printed.
-    pub fn name(&self) -> &'static str {
+    pub fn name(&self) -> &'static str
+        ensures { result.now ≡ fault_name self.now }
+    {
         match self {
             EmbedFault::BadEdit => "BadEdit",
             EmbedFault::BadContent => "BadContent",
             EmbedFault::TooBig => "TooBig",
             EmbedFault::NoMemory => "NoMemory",
         }
+    }
+}
+
+impl From<AllocError> for EmbedFault {
+    ghost use Rattle.std.specs.Prelude.{◌≡◌};
+    ghost use Rattle.embed_core.specs.declared.fault.EmbedFault.TheVariants.{NoMemory};
+
+    ghost from_gives = { λ _ e. e ≡ NoMemory };
+
+    fn from(_: AllocError) -> Self {
+        EmbedFault::NoMemory
+    }
+}
+
+impl<T: Drop> From<AllocFailed<T>> for EmbedFault {
+    ghost use Rattle.std.specs.Prelude.{◌≡◌};
+    ghost use Rattle.embed_core.specs.declared.fault.EmbedFault.TheVariants.{NoMemory};
+
+    ghost from_gives = { λ _ e. e ≡ NoMemory };
+
+    fn from(_: AllocFailed<T>) -> Self {
+        EmbedFault::NoMemory
     }
 }

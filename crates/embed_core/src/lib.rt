@@ -4,5 +4,15 @@
 pub mod classes;
 pub mod embedded;
 pub mod fault;
+pub mod kind_menus;
+pub mod picture;
+pub mod sole_stream;
+pub mod stream_names;
 pub mod tally;
 pub mod words;
+
+pub use object_state::Menus;
+pub use storage_tree::bytes::Bytes;
+pub use storage_tree::class_id::ClassId;
+pub use storage_tree::stored::Stored;
+pub use storage_tree::streams::Streams;
