@@ -1,1 +1,3 @@
-mod Cuts
+pub mod Cuts
+pub mod Staying
+pub mod Behind

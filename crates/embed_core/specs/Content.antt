@@ -1,9 +1,6 @@
 -- What embedded objects contain: a note a text, a table texts in cells, a drawing shapes.
-use Rattle.std.specs.Prelude.{◌≡◌, ◌≤◌, ◌<◌, ◌+◌, ◌*◌, ◌&&◌, ◌||◌, ℕ, Bool, true, List, [], ◌∷◌, ◌++◌, length, map, nat_le, nat_eq, nat_lt, codes}
+use Rattle.std.specs.Prelude.{◌+◌, ◌*◌, ◌&&◌, ◌||◌, ℕ, Bool, true, List, [], ◌∷◌, ◌++◌, length, map, nat_le, nat_eq, nat_lt, codes}
 use Rattle.std.specs.List.{list_all, flat_map}
-use Rattle.std.specs.List.Sorted.{IsStrictlySortedBy}
-use Rattle.std.specs.Ordering.{nat_cmp}
-use Rattle.std.specs.declared.cmp.Ordering.{Ordering}
 use Rattle.std.specs.Fmt.{decimal}
 use Rattle.storage_tree.specs.declared.streams.NamedStream.{NamedStream}
 

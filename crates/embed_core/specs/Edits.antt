@@ -1,5 +1,5 @@
 -- Edits: how they are spelled, and what they do.
-use Rattle.std.specs.Prelude.{◌<◌, ◌^◌, ◌+◌, ◌-◌, ◌*◌, ◌&&◌, ℕ, Bool, true, List, [], ◌∷◌, ◌++◌, length, take, drop, nat_le, nat_eq, nat_lt, cond, Result, Ok, Err, filter, not}
+use Rattle.std.specs.Prelude.{◌<◌, ◌^◌, ◌+◌, ◌-◌, ◌&&◌, ℕ, Bool, true, List, [], ◌∷◌, ◌++◌, length, take, drop, nat_le, nat_eq, nat_lt, cond, Result, Ok, Err, filter, not}
 use Rattle.std.specs.List.{list_all, list_any}
 use Rattle.std.specs.Fmt.{decimal}
 use Rattle.embed_core.specs.Content.{Cell, Shape, box, line, Content, note, table, drawing, is_note_text, is_printable, is_cell, is_shape, cell_place, cell_bytes, shape_bytes, spaced, NOTE_SIZE, CELL_SIZE, DRAWING_SIZE}

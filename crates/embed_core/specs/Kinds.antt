@@ -1,5 +1,5 @@
 -- The three kinds: their classes, what they show, what they do with an edit.
-use Rattle.std.specs.Prelude.{◌≡◌, ℕ, List, [], ◌∷◌, codes}
+use Rattle.std.specs.Prelude.{ℕ, List, [], ◌∷◌, codes}
 use Rattle.object_state.specs.declared.menu_texts.Menus.{Menus}
 use Rattle.embed_core.specs.Content.{Content, note, table, drawing}
 

@@ -1,5 +1,5 @@
 -- What an embedded object does with an edit and with streams.
-use Rattle.std.specs.Prelude.{◌≡◌, ◌≢◌, ◌<◌, ◌^◌, ℕ, Bool, true, List, [], ◌∷◌, Option, Some, None, option_and_then, Result, Ok, Err, IsOk, cond}
+use Rattle.std.specs.Prelude.{◌≡◌, ℕ, true, List, [], ◌∷◌, Option, Some, None, option_and_then, Result, Ok, Err, IsOk, cond}
 use Rattle.cfb_directory.specs.Names.{key, key_eq}
 use Rattle.storage_tree.specs.declared.streams.NamedStream.{NamedStream}
 use Rattle.embed_core.specs.Content.{Content, is_content, stream_name, stream_bytes, stored}
@@ -7,7 +7,7 @@ use Rattle.embed_core.specs.Kinds.{Kind, kind_of, empty}
 use Rattle.embed_core.specs.Edits.{Edit, edited}
 use Rattle.embed_core.specs.Reading.{edit_of, content_of}
 use Rattle.embed_core.specs.declared.fault.EmbedFault.{EmbedFault}
-use Rattle.embed_core.specs.declared.fault.EmbedFault.TheVariants.{BadEdit, BadContent, TooBig, NoMemory}
+use Rattle.embed_core.specs.declared.fault.EmbedFault.TheVariants.{BadEdit, BadContent, NoMemory}
 
 -- the content after the edit that bytes spell
 abbrev pub edit_told : Content → Option Edit → Result Content EmbedFault

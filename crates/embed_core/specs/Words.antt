@@ -1,5 +1,5 @@
 -- Pieces, words and numbers of texts.
-use Rattle.std.specs.Prelude.{◌≡◌, ◌+◌, ◌-◌, ◌*◌, ◌&&◌, ℕ, Option, Some, None, List, [], ◌∷◌, nat_le, nat_lt, nat_eq, cond}
+use Rattle.std.specs.Prelude.{◌+◌, ◌-◌, ◌*◌, ◌&&◌, ℕ, Option, Some, None, List, [], ◌∷◌, nat_le, nat_eq, cond}
 use Rattle.std.specs.List.{slice_split}
 use Rattle.std.specs.Char.{is_ascii_digit}
 

@@ -1,5 +1,4 @@
 -- The edits of a note.
-use Rattle.std.specs.Prelude.{Option, Some, None}
 use Rattle.embed_core.specs.Edits.{Edit, insert, delete}
 use Rattle.embed_note.specs.declared.edits.NoteEdit.{NoteEdit}
 use Rattle.embed_note.specs.declared.edits.NoteEdit.TheVariants.{Insert, Delete}

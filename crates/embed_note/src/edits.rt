@@ -31,6 +31,7 @@ pub fn read(bytes: &[u8]) -> Option<NoteEdit<'_>>
     }
 }
 
+#[tactic(auto, using(embed_core::proofs::Behind::readings))]
 fn insertion(bytes: &[u8]) -> Option<NoteEdit<'_>>
     ensures { option_map edit_told result ≡ place_and_text (words bytes.now) }
 {
@@ -39,13 +40,13 @@ fn insertion(bytes: &[u8]) -> Option<NoteEdit<'_>>
     Some(NoteEdit::Insert(number(place)?, text))
 }
 
+#[tactic(auto, using(embed_core::proofs::Behind::readings))]
 fn deletion(bytes: &[u8]) -> Option<NoteEdit<'_>>
     ensures { option_map edit_told result ≡ place_and_count (words bytes.now) }
 {
     let (place, rest) = cut(bytes, b' ');
-    let (count, more) = cut(rest?, b' ');
-    if more.is_some() {
+    let (count, None) = cut(rest?, b' ') else {
         return None;
-    }
+    };
     Some(NoteEdit::Delete(number(place)?, number(count)?))
 }

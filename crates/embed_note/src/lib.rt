@@ -2,4 +2,6 @@
 #![tactic(auto)]
 
 mod edits;
+mod lines;
 pub mod note;
+mod text;

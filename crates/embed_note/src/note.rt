@@ -1,29 +1,44 @@
 //! A note in a server.
 
-ghost use Rattle.embed_core.specs.Content.{is_content, is_note_text, note};
 ghost use Rattle.embed_core.specs.Edits.{delete, edited, insert};
+ghost use Rattle.embed_core.specs.Content.{note};
 ghost use Rattle.embed_core.specs.Objects.{Refuses};
-ghost use Rattle.std.specs.List.{list_all};
-ghost use Rattle.std.specs.Prelude.{[], ◌≡◌, IfErr, Ok, OnErr, OnOk, true};
+ghost use Rattle.std.specs.Prelude.{[], ◌≡◌, IfErr, Ok, OnErr, OnOk, take};
 
 use crate::edits::{self, NoteEdit};
-use embed_core::classes;
+use crate::lines::Lines;
+use crate::text;
 use embed_core::embedded::Embedded;
 use embed_core::fault::EmbedFault;
+use embed_core::picture::push_line;
 use embed_core::tally::Tally;
-use object_state::Menus;
+use embed_core::{ClassId, Menus, Streams, classes, kind_menus, sole_stream, stream_names};
 use std::alloc::Global;
-use storage_tree::class_id::ClassId;
-use storage_tree::streams::Streams;
+use std::marker::Model;
 
 /// The most characters that a note has.
 const SIZE: usize = 65_536;
+
+/// How many lines a picture shows, and how many characters of each.
+const PICTURE_LINES: usize = 20;
+
+const PICTURE_WIDTH: usize = 60;
 
 /// A note.
 pub struct Note {
     text: Vec<u8>,
     tally: Tally,
-    ghost sound: { is_content (note text.items) ≡ true },
+}
+
+impl Model for Note {
+    ghost use Rattle.std.specs.Prelude.{List, ℕ, ◌≡◌, true};
+    ghost use Rattle.embed_core.specs.Content.{is_content, note};
+
+    ghost Value = { List ℕ };
+
+    ghost view = { λ n. n.text.items };
+
+    ghost invariant = { λ n. is_content (note n.text.items) ≡ true };
 }
 
 impl Drop for Note {
@@ -33,17 +48,17 @@ impl Drop for Note {
     }
 }
 
-/// Whether all characters are printable or line feeds.
-fn is_note_text(text: &[u8]) -> bool
-    ensures { result ≡ list_all is_note_text text.now }
+/// What a picture shows of a line.
+fn first_part(line: &[u8]) -> &[u8]
+    ensures { result.now ≡ take 60 line.now }
 {
-    text.iter().all(|c| (32 <= *c && *c <= 126) || *c == b'\n')
+    &line[..line.len().min(PICTURE_WIDTH)]
 }
 
 impl Note {
     /// A note without text, which the tally counts once it is dropped.
     pub fn new(alloc: Global, tally: Tally) -> Note
-        ensures { result.text.items ≡ [] }
+        ensures { result ≡ [] }
     {
         Note {
             text: Vec::new(alloc),
@@ -51,38 +66,91 @@ impl Note {
         }
     }
 
-    fn insert(&mut self, place: u32, text: &[u8]) -> Result<(), EmbedFault>
-        ensures edited { OnOk result (edited (insert place text.now) (note self.old.text.items) ≡ Ok (note self.new.text.items)) }
-        ensures refused { IfErr result (Refuses (edited (insert place text.now) (note self.old.text.items))) }
-        ensures kept { OnErr result (self.new.text.items ≡ self.old.text.items) }
+    fn insert(&mut self, place: u32, more: &[u8]) -> Result<(), EmbedFault>
+        ensures edited { OnOk result (edited (insert place more.now) (note self.old) ≡ Ok (note self.new)) }
+        ensures refused { IfErr result (Refuses (edited (insert place more.now) (note self.old))) }
+        ensures kept { OnErr result (self.new ≡ self.old) }
     {
         let place = place as usize;
-        if text.is_empty() || !is_note_text(text) || place > self.text.len() {
+        if more.is_empty() || !text::is_note_text(more) || place > self.text.len() {
             return Err(EmbedFault::BadEdit);
         }
-        if text.len() > SIZE - self.text.len() {
+        if more.len() > SIZE - self.text.len() {
             return Err(EmbedFault::TooBig);
         }
-        if self.text.extend_from_slice(text).is_err() {
-            return Err(EmbedFault::NoMemory);
-        }
-        self.text[place..].rotate_right(text.len());
+        text::insert(&mut self.text, place, more)?;
         Ok(())
     }
 
     fn delete(&mut self, place: u32, count: u32) -> Result<(), EmbedFault>
-        ensures edited { OnOk result (edited (delete place count) (note self.old.text.items) ≡ Ok (note self.new.text.items)) }
-        ensures refused { IfErr result (Refuses (edited (delete place count) (note self.old.text.items))) }
-        ensures kept { OnErr result (self.new.text.items ≡ self.old.text.items) }
+        ensures edited { OnOk result (edited (delete place count) (note self.old) ≡ Ok (note self.new)) }
+        ensures refused { IfErr result (Refuses (edited (delete place count) (note self.old))) }
+        ensures kept { OnErr result (self.new ≡ self.old) }
     {
         let place = place as usize;
         let count = count as usize;
         if count == 0 || place > self.text.len() || count > self.text.len() - place {
             return Err(EmbedFault::BadEdit);
         }
-        self.text[place..].rotate_left(count);
-        let left = self.text.len() - count;
-        self.text.truncate(left);
+        text::delete(&mut self.text, place, count);
         Ok(())
+    }
+}
+
+impl Embedded for Note {
+    ghost use Rattle.embed_core.specs.Content.{note};
+
+    ghost content = { λ text. note text };
+
+    fn class(&self) -> ClassId {
+        classes::note()
+    }
+
+    fn init(&mut self) {
+        self.text.clear();
+    }
+
+    fn load(&mut self, alloc: Global, streams: &Streams) -> Result<(), EmbedFault> {
+        let Some(bytes) = sole_stream::bytes(streams, &stream_names::note()) else {
+            return Err(EmbedFault::BadContent);
+        };
+        if bytes.len() > SIZE || !text::is_note_text(bytes) {
+            return Err(EmbedFault::BadContent);
+        }
+        self.text = Vec::from_slice(alloc, bytes)?;
+        Ok(())
+    }
+
+    fn edit(&mut self, alloc: Global, bytes: &[u8]) -> Result<(), EmbedFault> {
+        match edits::read(bytes) {
+            Some(NoteEdit::Insert(place, more)) => self.insert(place, more),
+            Some(NoteEdit::Delete(place, count)) => self.delete(place, count),
+            None => Err(EmbedFault::BadEdit),
+        }
+    }
+
+    fn save(&self, alloc: Global) -> Result<Streams, EmbedFault> {
+        let bytes = Vec::from_slice(alloc, &self.text)?;
+        sole_stream::streams(alloc, stream_names::note(), bytes)
+    }
+
+    fn render(&self, alloc: Global) -> Result<Vec<u8>, EmbedFault> {
+        let mut picture = Vec::new(alloc);
+        let mut lines = Lines::new(&self.text);
+        for _ in 0..PICTURE_LINES {
+            match lines.next_line() {
+                Some(line) => push_line(&mut picture, first_part(line))?,
+                None => break,
+            }
+        }
+        Ok(picture)
+    }
+
+    fn menus(&self) -> Menus {
+        kind_menus::note()
+    }
+
+    fn border(&self) -> [u16; 4] {
+        [0, 1, 0, 0]
     }
 }
