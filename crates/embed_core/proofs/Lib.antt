@@ -1,3 +1,4 @@
+pub mod Tests
 pub mod Cuts
 pub mod Staying
 pub mod Behind

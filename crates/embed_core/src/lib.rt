@@ -5,6 +5,7 @@ pub mod classes;
 pub mod embedded;
 pub mod fault;
 pub mod kind_menus;
+pub mod laws;
 pub mod picture;
 pub mod sole_stream;
 pub mod stream_names;
