@@ -2,3 +2,4 @@ pub mod Tests
 pub mod Cuts
 pub mod Staying
 pub mod Behind
+pub mod Numerals
