@@ -3,3 +3,4 @@ pub mod Cuts
 pub mod Staying
 pub mod Behind
 pub mod Numerals
+pub mod Spelling

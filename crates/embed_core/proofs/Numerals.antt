@@ -16,8 +16,8 @@ abbrev pub read_on : ℕ → List ℕ → ℕ
 read_on n [] = n
 read_on n (c ∷ cs) = read_on (10 * n + (c - 48)) cs
 
-own : IsNumeralModel (λ ds. all_ascii_digits ds ≡ true) (read_on 0)
-own = numerals_by_fold _ (search rules) read_on (search rules)
+pub numerals : IsNumeralModel (λ ds. all_ascii_digits ds ≡ true) (read_on 0)
+numerals = numerals_by_fold _ (search rules) read_on (search rules)
 
 pub record IsRead (n : ℕ) (ds : List ℕ) (m : ℕ) : Type 0 where
   pub digits : all_ascii_digits ds ≡ true
@@ -72,7 +72,7 @@ spelled_so ds n some front r =
     let small : n ≤ 4294967295 = r.small in
     let fits : read_on 0 ds < 2 ^ 64 = (let v = r.value in omega arith) in
     record {
-        spelled = ap decimal (sym r.value) ∙ decimal-digits_value own ds r.digits some front fits;
+        spelled = ap decimal (sym r.value) ∙ decimal-digits_value numerals ds r.digits some front fits;
         small = omega arith
     }
 
@@ -94,7 +94,7 @@ front_of (suc n) h e = let past : 48 < get_or (decimal (suc n)) 0 0 = first_deci
 pub number_read-decimal : (n : ℕ) → n < 2 ^ 32 → number_read (decimal n) ≡ Some n
 number_read-decimal n h =
     let small : n < 2 ^ 64 = omega arith in
-    let value : read_on 0 (decimal n) ≡ n = digits_value-decimal own n small in
+    let value : read_on 0 (decimal n) ≡ n = digits_value-decimal numerals n small in
     number_read-digits (decimal n) (decimal_nonempty n small) (front_of n small)
-    ∙ digits_read-value 0 (decimal n) (digits_decimal own n small) (omega arith)
+    ∙ digits_read-value 0 (decimal n) (digits_decimal numerals n small) (omega arith)
     ∙ ap (λ m. Some m) value
