@@ -4,3 +4,4 @@ pub mod Staying
 pub mod Behind
 pub mod Numerals
 pub mod Spelling
+pub mod Told

@@ -1,11 +1,16 @@
 //! Laws of contents and edits.
 
 ghost use Rattle.embed_core.specs.Objects.{EditsStay};
-ghost use Rattle.embed_core.specs.Reading.{SpelledIsRead};
+ghost use Rattle.embed_core.specs.Reading.{ReadWasSpelled, SpelledIsRead};
 
 /// What is spelled as an edit is read as that edit.
 pub fn spelled_is_read()
     ensures { SpelledIsRead }
+{}
+
+/// What is read as an edit was spelled as that edit is.
+pub fn read_was_spelled()
+    ensures { ReadWasSpelled }
 {}
 
 /// No edit changes the kind of a content, or leads out of its characters, ranges and sizes.
