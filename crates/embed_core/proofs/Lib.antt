@@ -5,3 +5,4 @@ pub mod Behind
 pub mod Numerals
 pub mod Spelling
 pub mod Told
+pub mod Storing

@@ -1,6 +1,6 @@
 //! Laws of contents and edits.
 
-ghost use Rattle.embed_core.specs.Objects.{EditsStay};
+ghost use Rattle.embed_core.specs.Objects.{EditsStay, LoadedWasStored, StoredIsLoaded};
 ghost use Rattle.embed_core.specs.Reading.{ReadWasSpelled, SpelledIsRead};
 
 /// What is spelled as an edit is read as that edit.
@@ -16,4 +16,14 @@ pub fn read_was_spelled()
 /// No edit changes the kind of a content, or leads out of its characters, ranges and sizes.
 pub fn edits_stay()
     ensures { EditsStay }
+{}
+
+/// What is stored is loaded again.
+pub fn stored_is_loaded()
+    ensures { StoredIsLoaded }
+{}
+
+/// What is loaded was so stored, but for the case of the stream's name.
+pub fn loaded_was_stored()
+    ensures { LoadedWasStored }
 {}
