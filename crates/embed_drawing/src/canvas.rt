@@ -1,12 +1,14 @@
 //! Painting shapes on a canvas of 12 lines of 40 characters, which stand one line after the other.
 
-ghost use Rattle.embed_core.specs.Content.{box};
-ghost use Rattle.embed_core.specs.Pictures.{glyph_over, painted};
-ghost use Rattle.embed_drawing.specs.Canvases.{Painted, along, downward, edge};
+ghost use Rattle.embed_core.specs.Content.{box, drawing};
+ghost use Rattle.embed_core.specs.Pictures.{glyph_over, painted, picture_bytes};
+ghost use Rattle.embed_drawing.specs.Canvases.{Painted, along, cell_at, downward, edge};
 ghost use Rattle.embed_drawing.specs.Drawn.{shape_told, shapes_told};
-ghost use Rattle.std.specs.Prelude.{◌≡◌, ◌^◌, ◌<◌, length};
+ghost use Rattle.std.specs.Prelude.{◌≡◌, ◌^◌, ◌<◌, ℕ, IfOk, length, slice_index};
 
 use crate::shapes::{Figure, Heading};
+use embed_core::picture::push_line;
+use std::alloc::{AllocError, Global};
 
 /// How many characters a line has.
 pub const WIDTH: usize = 40;
@@ -101,4 +103,29 @@ fn paint_down(cells: &mut [u8], x: usize, y: usize, count: u32)
     for row in y..end.min(HEIGHT) {
         cells[WIDTH * row + x] = b'|';
     }
+}
+
+/// The picture of shapes: 12 lines, each ended by a line feed.
+///
+/// Refused for want of memory alone.
+pub fn picture(alloc: Global, figures: &[Figure]) -> Result<Vec<u8>, AllocError>
+    ensures { IfOk result (λ v. v.items ≡ picture_bytes (drawing (shapes_told figures.now))) }
+{
+    let mut cells = [b' '; AREA];
+    paint_all(&mut cells, figures);
+    let mut picture = Vec::new(alloc);
+    for row in 0..HEIGHT {
+        push_line(&mut picture, line(&cells, row))?;
+    }
+    Ok(picture)
+}
+
+/// A line of a canvas.
+fn line(cells: &[u8], row: usize) -> &[u8]
+    requires whole { length cells.now ≡ AREA }
+    requires low { row < 12 }
+    ensures wide { length result.now ≡ 40 }
+    ensures cells { (column : ℕ) → column < 40 → slice_index result.now column ≡ cell_at cells.now column row }
+{
+    &cells[WIDTH * row..WIDTH * (row + 1)]
 }

@@ -2,5 +2,8 @@
 #![tactic(auto)]
 
 mod canvas;
+pub mod drawing;
 mod edits;
+mod order;
 mod shapes;
+mod stored;
