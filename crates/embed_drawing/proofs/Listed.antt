@@ -1,11 +1,10 @@
 -- Shapes that are read from lines.
-use Rattle.std.proofs.Common.{◌≡◌, ◌+◌, ◌≤◌, ◌<◌, ◌&&◌, ℕ, zero, suc, Bool, true, false, cond, List, [], ◌∷◌, ◌++◌, length, map, refl, ap, sym, subst, ◌∙◌, arith, nat_le, append_assoc, append-nil}
+use Rattle.std.proofs.Common.{◌≡◌, ◌+◌, ◌≤◌, ◌<◌, ◌&&◌, ℕ, suc, Bool, true, false, cond, List, [], ◌∷◌, length, refl, ap, sym, subst, ◌∙◌, arith, nat_le}
 use Rattle.std.specs.Prelude.{Option, Some, None, Result, Ok, Err, IsSome, is_ok, option_map, option_and_then}
 use Rattle.std.specs.List.{join_with_byte, list_all}
 use Rattle.std.proofs.lemmas.List.Splits.{join_with_byte-slice_split}
 use Rattle.std.proofs.lemmas.Bool.Decides.{nat_tests}
-use Rattle.std.proofs.lemmas.List.{map-append}
-use Rattle.embed_core.specs.Content.{Shape, Content, drawing, is_content, is_shape}
+use Rattle.embed_core.specs.Content.{Shape, Content, drawing, is_shape}
 use Rattle.embed_core.specs.Kinds.{Drawing}
 use Rattle.embed_core.specs.Objects.{load_told}
 use Rattle.embed_core.specs.Reading.{content_of, each, lines_of, shape_in, whole_lines}
@@ -13,7 +12,6 @@ use Rattle.embed_core.specs.Words.{pieces, words}
 use Rattle.embed_core.specs.declared.fault.EmbedFault.{EmbedFault}
 use Rattle.embed_core.specs.declared.fault.EmbedFault.TheVariants.{BadContent}
 use Rattle.embed_core.proofs.Cuts.{pieces-known}
-use Rattle.embed_core.proofs.Tests.{told_cond}
 use Rattle.embed_drawing.specs.Lines.{in_range, shape_on, shapes_on}
 
 -- whether shapes behind so many others are there, and no more than a drawing has
@@ -40,7 +38,7 @@ lines_of-cut : (bytes l rest : List ℕ) → pieces 10 bytes ≡ l ∷ pieces 10
 lines_of-cut bytes l rest cut =
     ap whole_lines cut
     ∙ pieces-known 10 rest (λ ls. whole_lines (l ∷ ls)) (option_map (λ ls. l ∷ ls) (lines_of rest))
-        (λ p ps e. whole_lines-more l p ps ∙ ap (λ found. option_map (λ ls. l ∷ ls) (whole_lines found)) (sym e))
+    (λ p ps e. whole_lines-more l p ps ∙ ap (λ found. option_map (λ ls. l ∷ ls) (whole_lines found)) (sym e))
 
 no_more : (o : Option Shape) → None ≡ option_and_then (λ s. option_map (λ more. s ∷ more) None) o
 no_more None = refl

@@ -1,5 +1,5 @@
 -- Shapes in another order.
-use Rattle.std.proofs.Common.{◌≡◌, ◌+◌, ◌-◌, ◌<◌, ℕ, suc, List, [], ◌∷◌, ◌++◌, length, map, take, drop, get_or, refl, ap, sym, ◌∙◌, arith}
+use Rattle.std.proofs.Common.{◌≡◌, ◌+◌, ◌-◌, ◌<◌, ℕ, suc, List, [], ◌∷◌, ◌++◌, length, map, take, drop, get_or, ap, sym, ◌∙◌, arith}
 use borrow.Rule.Slice.PartMut.{put_mid, mid_of}
 use Rattle.std.proofs.lemmas.List.{map-append, take-map, drop-map, drop_more}
 use Rattle.std.proofs.lemmas.Slice.{put_mid-rotated}
@@ -22,7 +22,7 @@ told_raised figures i n e =
     map-append shape_told (take i figures ++ drop (i + 1) figures) (take 1 (drop i figures))
     ∙ ap (λ front. front ++ map shape_told (take 1 (drop i figures))) (told_without figures i n e)
     ∙ ap (λ last. take i (shapes_told figures) ++ drop n (shapes_told figures) ++ last)
-        (sym (take-map shape_told 1 (drop i figures)) ∙ ap (take 1) (sym (drop-map shape_told i figures)))
+    (sym (take-map shape_told 1 (drop i figures)) ∙ ap (take 1) (sym (drop-map shape_told i figures)))
 
 -- what is moved behind all others by a turn of the part that it begins
 pub turned : {X : Type 0} (i k : ℕ) (xs ys : List X) → k ≡ length xs - i → i < length xs → ys ≡ drop 1 (mid_of i k xs) ++ take 1 (mid_of i k xs)

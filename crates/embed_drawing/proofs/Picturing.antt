@@ -1,5 +1,5 @@
 -- The lines of a picture.
-use Rattle.std.proofs.Common.{◌≡◌, ◌+◌, ◌*◌, ◌<◌, ℕ, List, [], ◌∷◌, ◌++◌, length, map, replicate, get_or, refl, ap, sym, ◌∙◌, arith, append-nil}
+use Rattle.std.proofs.Common.{◌≡◌, ◌+◌, ◌*◌, ◌<◌, ℕ, List, [], ◌∷◌, ◌++◌, length, map, replicate, get_or, ap, sym, ◌∙◌, arith, append-nil}
 use Rattle.std.specs.List.{flat_map, range_with_len}
 use Rattle.std.proofs.lemmas.Grind.{flat_map-append}
 use Rattle.std.proofs.lemmas.List.{get_or-replicate}
@@ -14,8 +14,8 @@ pub line_drawn : (ss : List Shape) (blank cells line : List ℕ) (row : ℕ) →
 line_drawn ss blank cells line row low is painted wide each =
     fill_by_all (λ column. glyph ss column row) line 40 0 wide
     (λ column narrow.
-        each column narrow ∙ painted column row narrow low
-        ∙ ap (glyph_over ss column row) (ap (λ xs. cell_at xs column row) is ∙ get_or-replicate 480 (40 * row + column) 32 0 (omega arith)))
+    each column narrow ∙ painted column row narrow low
+    ∙ ap (glyph_over ss column row) (ap (λ xs. cell_at xs column row) is ∙ get_or-replicate 480 (40 * row + column) 32 0 (omega arith)))
 
 -- one line more
 pub lines_more : (ss : List Shape) (row : ℕ) (picture line : List ℕ) → picture ≡ flat_map ended_line (map (drawn_line ss) (range_with_len 0 row)) → line ≡ drawn_line ss row

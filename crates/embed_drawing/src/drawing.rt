@@ -6,11 +6,9 @@ ghost use Rattle.embed_core.specs.Objects.{Refuses};
 ghost use Rattle.embed_drawing.specs.Drawn.{shape_told};
 ghost use Rattle.std.specs.Prelude.{[], ◌≡◌, IfErr, Ok, OnErr, OnOk};
 
-use crate::canvas;
 use crate::edits::{self, DrawingEdit};
-use crate::order;
 use crate::shapes::Figure;
-use crate::stored;
+use crate::{canvas, order, stored};
 use embed_core::embedded::Embedded;
 use embed_core::fault::EmbedFault;
 use embed_core::tally::Tally;

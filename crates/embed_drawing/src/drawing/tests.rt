@@ -38,15 +38,27 @@ fn edits_change_the_shapes(rt: HostRuntime) -> Result<(), Fail> {
     let mut object = drawing(rt.alloc(), &tally)?;
     object.edit(rt.alloc(), b"b 0 0 3 2")?;
     object.edit(rt.alloc(), b"l 5 0 h 2")?;
-    assert_eq!(rt; saved(rt.alloc(), &object)?.as_slice(), b"b 0 0 3 2\nl 5 0 h 2\n".as_slice());
+    assert_eq!(rt;
+        saved(rt.alloc(), &object)?.as_slice(),
+        b"b 0 0 3 2\nl 5 0 h 2\n".as_slice()
+    );
     object.edit(rt.alloc(), b"u 1")?;
-    assert_eq!(rt; saved(rt.alloc(), &object)?.as_slice(), b"l 5 0 h 2\nb 0 0 3 2\n".as_slice());
+    assert_eq!(rt;
+        saved(rt.alloc(), &object)?.as_slice(),
+        b"l 5 0 h 2\nb 0 0 3 2\n".as_slice()
+    );
     assert!(rt; object.render(rt.alloc())?.starts_with(b"+-+  --"));
     object.edit(rt.alloc(), b"l 99 99 v 100")?;
     object.edit(rt.alloc(), b"r 2")?;
-    assert_eq!(rt; saved(rt.alloc(), &object)?.as_slice(), b"l 5 0 h 2\nl 99 99 v 100\n".as_slice());
+    assert_eq!(rt;
+        saved(rt.alloc(), &object)?.as_slice(),
+        b"l 5 0 h 2\nl 99 99 v 100\n".as_slice()
+    );
     object.edit(rt.alloc(), b"u 2")?;
-    assert_eq!(rt; saved(rt.alloc(), &object)?.as_slice(), b"l 5 0 h 2\nl 99 99 v 100\n".as_slice());
+    assert_eq!(rt;
+        saved(rt.alloc(), &object)?.as_slice(),
+        b"l 5 0 h 2\nl 99 99 v 100\n".as_slice()
+    );
     object.init();
     assert_eq!(rt; saved(rt.alloc(), &object)?.len(), 0);
     Ok(())
@@ -88,7 +100,10 @@ fn edits_that_are_none_are_bad(rt: HostRuntime) -> Result<(), Fail> {
     for edit in edits {
         assert_eq!(rt; object.edit(rt.alloc(), edit), Err(EmbedFault::BadEdit));
     }
-    assert_eq!(rt; saved(rt.alloc(), &object)?.as_slice(), b"b 0 0 3 2\n".as_slice());
+    assert_eq!(rt;
+        saved(rt.alloc(), &object)?.as_slice(),
+        b"b 0 0 3 2\n".as_slice()
+    );
     Ok(())
 }
 
@@ -99,8 +114,14 @@ fn a_drawing_has_a_greatest_size(rt: HostRuntime) -> Result<(), Fail> {
     for _ in 0..256 {
         object.edit(rt.alloc(), b"l 0 0 v 1")?;
     }
-    assert_eq!(rt; object.edit(rt.alloc(), b"l 0 0 h 1"), Err(EmbedFault::TooBig));
-    assert_eq!(rt; object.edit(rt.alloc(), b"l 0 0 h 0"), Err(EmbedFault::BadEdit));
+    assert_eq!(rt;
+        object.edit(rt.alloc(), b"l 0 0 h 1"),
+        Err(EmbedFault::TooBig)
+    );
+    assert_eq!(rt;
+        object.edit(rt.alloc(), b"l 0 0 h 0"),
+        Err(EmbedFault::BadEdit)
+    );
     assert_eq!(rt; object.edit(rt.alloc(), b"r 257"), Err(EmbedFault::BadEdit));
     let full = saved(rt.alloc(), &object)?;
     assert_eq!(rt; full.len(), 2_560);
@@ -110,7 +131,10 @@ fn a_drawing_has_a_greatest_size(rt: HostRuntime) -> Result<(), Fail> {
     let mut longer = Vec::from_slice(rt.alloc(), &full)?;
     longer.extend_from_slice(b"l 0 0 v 1\n")?;
     let longer = sole(rt.alloc(), "Shapes", &longer)?;
-    assert_eq!(rt; other.load(rt.alloc(), &longer), Err(EmbedFault::BadContent));
+    assert_eq!(rt;
+        other.load(rt.alloc(), &longer),
+        Err(EmbedFault::BadContent)
+    );
     Ok(())
 }
 
@@ -133,7 +157,7 @@ fn a_drawing_takes_no_other_streams(rt: HostRuntime) -> Result<(), Fail> {
     object.edit(rt.alloc(), b"b 0 0 3 2")?;
     let line = b"l 5 0 v 2\n";
     let mut two = sole(rt.alloc(), "Shapes", line)?;
-    push(&mut two, rt.alloc(), "Text", b"a")?;
+    push(&mut two, rt.alloc(), "Pictures", b"a")?;
     let refused = [
         Streams::new(rt.alloc()),
         two,
@@ -145,9 +169,15 @@ fn a_drawing_takes_no_other_streams(rt: HostRuntime) -> Result<(), Fail> {
         sole(rt.alloc(), "Shapes", b"r 1\n")?,
     ];
     for streams in &refused {
-        assert_eq!(rt; object.load(rt.alloc(), streams), Err(EmbedFault::BadContent));
+        assert_eq!(rt;
+            object.load(rt.alloc(), streams),
+            Err(EmbedFault::BadContent)
+        );
     }
-    assert_eq!(rt; saved(rt.alloc(), &object)?.as_slice(), b"b 0 0 3 2\n".as_slice());
+    assert_eq!(rt;
+        saved(rt.alloc(), &object)?.as_slice(),
+        b"b 0 0 3 2\n".as_slice()
+    );
     Ok(())
 }
 
@@ -172,7 +202,10 @@ fn shown(alloc: Global, lines: &[&[u8]]) -> Result<Vec<u8>, Fail> {
 fn a_picture_shows_shapes(rt: HostRuntime) -> Result<(), Fail> {
     let tally = Tally::new(rt.alloc())?;
     let mut object = drawing(rt.alloc(), &tally)?;
-    assert_eq!(rt; object.render(rt.alloc())?.as_slice(), shown(rt.alloc(), &[])?.as_slice());
+    assert_eq!(rt;
+        object.render(rt.alloc())?.as_slice(),
+        shown(rt.alloc(), &[])?.as_slice()
+    );
     object.edit(rt.alloc(), b"l 1 1 h 3")?;
     object.edit(rt.alloc(), b"b 0 0 5 4")?;
     object.edit(rt.alloc(), b"l 6 0 v 2")?;
@@ -186,7 +219,10 @@ fn a_picture_shows_shapes(rt: HostRuntime) -> Result<(), Fail> {
         b"+---+   |",
         b"        +",
     ];
-    assert_eq!(rt; object.render(rt.alloc())?.as_slice(), shown(rt.alloc(), &lines)?.as_slice());
+    assert_eq!(rt;
+        object.render(rt.alloc())?.as_slice(),
+        shown(rt.alloc(), &lines)?.as_slice()
+    );
     object.edit(rt.alloc(), b"l 4 0 v 2")?;
     let lines: [&[u8]; 5] = [
         b"+---| | +",
@@ -195,7 +231,10 @@ fn a_picture_shows_shapes(rt: HostRuntime) -> Result<(), Fail> {
         b"+---+   |",
         b"        +",
     ];
-    assert_eq!(rt; object.render(rt.alloc())?.as_slice(), shown(rt.alloc(), &lines)?.as_slice());
+    assert_eq!(rt;
+        object.render(rt.alloc())?.as_slice(),
+        shown(rt.alloc(), &lines)?.as_slice()
+    );
     Ok(())
 }
 
@@ -207,14 +246,20 @@ fn a_picture_is_cut_at_its_edges(rt: HostRuntime) -> Result<(), Fail> {
     object.edit(rt.alloc(), b"l 0 12 v 1")?;
     object.edit(rt.alloc(), b"l 40 0 v 12")?;
     object.edit(rt.alloc(), b"b 99 99 100 100")?;
-    assert_eq!(rt; object.render(rt.alloc())?.as_slice(), shown(rt.alloc(), &[])?.as_slice());
+    assert_eq!(rt;
+        object.render(rt.alloc())?.as_slice(),
+        shown(rt.alloc(), &[])?.as_slice()
+    );
     object.edit(rt.alloc(), b"b 38 0 100 2")?;
     object.edit(rt.alloc(), b"l 0 0 h 2")?;
     let lines: [&[u8]; 2] = [
         b"--                                    +-",
         b"                                      +-",
     ];
-    assert_eq!(rt; object.render(rt.alloc())?.as_slice(), shown(rt.alloc(), &lines)?.as_slice());
+    assert_eq!(rt;
+        object.render(rt.alloc())?.as_slice(),
+        shown(rt.alloc(), &lines)?.as_slice()
+    );
     Ok(())
 }
 

@@ -1,4 +1,4 @@
-use Rattle.std.proofs.Common.{◌≡◌, ◌-◌, length}
+use Rattle.std.proofs.Common.{◌-◌}
 use Rattle.embed_drawing.specs.Canvases.{Painted, along, edge}
 use Rattle.embed_drawing.proofs.canvas.paint_edge.Given as goal
 

@@ -10,7 +10,7 @@ loop-row-preserved c =
     let shapes = shapes_told c.args.figures.now in
     c.in_ok-push_line.ensures
     ∙ lines_more shapes c.loop-row.row c.loop-row.picture.items c.line.result.now c.loop-row.invariant
-        (line_drawn shapes _ c.paint_all.new.cells c.line.result.now c.loop-row.row c.loop-row-test.true refl c.paint_all.ensures c.line.ensures.wide c.line.ensures.cells)
+    (line_drawn shapes _ c.paint_all.new.cells c.line.result.now c.loop-row.row c.loop-row-test.true refl c.paint_all.ensures c.line.ensures.wide c.line.ensures.cells)
 
 pub returns : goal.returns
 returns c =
