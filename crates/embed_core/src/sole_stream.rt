@@ -1,0 +1,37 @@
+//! Contents that are held in one stream.
+
+ghost use Rattle.embed_core.specs.Objects.{sole_bytes};
+ghost use Rattle.storage_tree.specs.declared.streams.NamedStream.{NamedStream};
+ghost use Rattle.std.specs.Option.{option_map};
+ghost use Rattle.std.specs.Prelude.{[], ◌∷◌, ◌≡◌, IfErr, IfOk};
+
+use crate::fault::EmbedFault;
+use cfb_directory::name::Name;
+use std::alloc::Global;
+use storage_tree::bytes::Bytes;
+use storage_tree::streams::{NamedStream, Streams};
+
+/// The bytes of the only stream, where there is just one, and its name is this one, in whatever case.
+pub fn bytes<'a>(streams: &'a Streams, name: &Name) -> Option<&'a [u8]>
+    ensures { option_map (λ b. b.now) result ≡ sole_bytes name.now streams.now }
+{
+    match streams.as_slice() {
+        [stream] if stream.name.key().cmp(&name.key()).is_eq() => Some(stream.bytes.as_slice()),
+        _ => None,
+    }
+}
+
+/// Just one stream, of this name, with these bytes.
+///
+/// Refused for want of memory alone.
+pub fn streams(alloc: Global, name: Name, bytes: Vec<u8>) -> Result<Streams, EmbedFault>
+    ensures streams { IfOk result (λ s. s ≡ record { name = name; bytes = bytes.items } ∷ []) }
+    ensures refused { IfErr result (λ e. e ≡ EmbedFault.NoMemory) }
+{
+    let mut streams = Streams::new(alloc);
+    let bytes = Bytes::from_vec(bytes);
+    match streams.push(NamedStream { name, bytes }) {
+        Ok(()) => Ok(streams),
+        Err(_) => Err(EmbedFault::NoMemory),
+    }
+}

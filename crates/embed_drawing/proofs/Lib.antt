@@ -1,0 +1,5 @@
+pub mod Behind
+pub mod Over
+pub mod Listed
+pub mod Moved
+pub mod Picturing
