@@ -41,7 +41,10 @@ fn edits_change_the_text(rt: HostRuntime) -> Result<(), Fail> {
     assert_eq!(rt; object.edit(rt.alloc(), b"d 0 2"), Err(EmbedFault::BadEdit));
     assert_eq!(rt; saved(rt.alloc(), &object)?.as_slice(), b"b".as_slice());
     object.edit(rt.alloc(), b"i 1  two\nlines ")?;
-    assert_eq!(rt; saved(rt.alloc(), &object)?.as_slice(), b"b two\nlines ".as_slice());
+    assert_eq!(rt;
+        saved(rt.alloc(), &object)?.as_slice(),
+        b"b two\nlines ".as_slice()
+    );
     Ok(())
 }
 
@@ -102,8 +105,14 @@ fn a_note_has_a_greatest_size(rt: HostRuntime) -> Result<(), Fail> {
     assert_eq!(rt; saved(rt.alloc(), &object)?.len(), 0);
     object.edit(rt.alloc(), &full)?;
     assert_eq!(rt; saved(rt.alloc(), &object)?.len(), 65_536);
-    assert_eq!(rt; object.edit(rt.alloc(), b"i 65536 c"), Err(EmbedFault::TooBig));
-    assert_eq!(rt; object.edit(rt.alloc(), b"i 65537 c"), Err(EmbedFault::BadEdit));
+    assert_eq!(rt;
+        object.edit(rt.alloc(), b"i 65536 c"),
+        Err(EmbedFault::TooBig)
+    );
+    assert_eq!(rt;
+        object.edit(rt.alloc(), b"i 65537 c"),
+        Err(EmbedFault::BadEdit)
+    );
     assert_eq!(rt; saved(rt.alloc(), &object)?.len(), 65_536);
     Ok(())
 }
@@ -136,10 +145,17 @@ fn a_note_takes_no_other_streams(rt: HostRuntime) -> Result<(), Fail> {
         two,
         sole(rt.alloc(), "Texts", b"c")?,
         sole(rt.alloc(), "Text", b"\x07")?,
-        sole(rt.alloc(), "Text", &long_edit(rt.alloc(), b"", 65_537, b'c')?)?,
+        sole(
+            rt.alloc(),
+            "Text",
+            &long_edit(rt.alloc(), b"", 65_537, b'c')?,
+        )?,
     ];
     for streams in &refused {
-        assert_eq!(rt; object.load(rt.alloc(), streams), Err(EmbedFault::BadContent));
+        assert_eq!(rt;
+            object.load(rt.alloc(), streams),
+            Err(EmbedFault::BadContent)
+        );
     }
     assert_eq!(rt; saved(rt.alloc(), &object)?.as_slice(), b"ab".as_slice());
     Ok(())
@@ -152,12 +168,21 @@ fn a_picture_shows_lines(rt: HostRuntime) -> Result<(), Fail> {
     let mut object: Box<dyn Embedded> = Box::new(rt.alloc(), note)?;
     assert_eq!(rt; object.render(rt.alloc())?.len(), 0);
     object.edit(rt.alloc(), b"i 0 a\n\nb")?;
-    assert_eq!(rt; object.render(rt.alloc())?.as_slice(), b"a\n\nb\n".as_slice());
+    assert_eq!(rt;
+        object.render(rt.alloc())?.as_slice(),
+        b"a\n\nb\n".as_slice()
+    );
     object.edit(rt.alloc(), b"i 4 \n")?;
-    assert_eq!(rt; object.render(rt.alloc())?.as_slice(), b"a\n\nb\n".as_slice());
+    assert_eq!(rt;
+        object.render(rt.alloc())?.as_slice(),
+        b"a\n\nb\n".as_slice()
+    );
     object.init();
     object.edit(rt.alloc(), &long_edit(rt.alloc(), b"i 0 ", 61, b'd')?)?;
-    assert_eq!(rt; object.render(rt.alloc())?.as_slice(), long_edit(rt.alloc(), b"", 61, b'\n')?.as_slice());
+    assert_eq!(rt;
+        object.render(rt.alloc())?.as_slice(),
+        long_edit(rt.alloc(), b"", 61, b'\n')?.as_slice()
+    );
     object.init();
     for _ in 0..21 {
         object.edit(rt.alloc(), b"i 0 e\n")?;
