@@ -34,7 +34,10 @@ fn kinds_have_their_classes_menus_and_streams(rt: HostRuntime) {
         ),
     ];
     for (class, menus, name, last, text, stream) in kinds {
-        assert_eq!(rt; &class.as_bytes()[..5], [last, 0x2a, 0x1d, 0x6f, 0x4b].as_slice());
+        assert_eq!(rt;
+            &class.as_bytes()[..5],
+            [last, 0x2a, 0x1d, 0x6f, 0x4b].as_slice()
+        );
         assert_eq!(rt; menus.edit.as_bytes(), b"Edit".as_slice());
         assert_eq!(rt; menus.object.as_bytes(), text.as_bytes());
         assert_eq!(rt; menus.help.as_bytes(), b"Help".as_slice());
@@ -64,7 +67,10 @@ fn a_sole_stream_is_found(rt: HostRuntime) -> Result<(), Fail> {
 
 #[test]
 fn words_are_parted(rt: HostRuntime) -> Result<(), Fail> {
-    assert_eq!(rt; cut(b"i 0 a", b' '), (b"i".as_slice(), Some(b"0 a".as_slice())));
+    assert_eq!(rt;
+        cut(b"i 0 a", b' '),
+        (b"i".as_slice(), Some(b"0 a".as_slice()))
+    );
     assert_eq!(rt; cut(b"i", b' '), (b"i".as_slice(), None));
     let mut pieces = Pieces::new(b"a  b", b' ');
     for piece in [b"a".as_slice(), b"".as_slice(), b"b".as_slice()] {

@@ -4,10 +4,6 @@ use embed_core::Bytes;
 use std::test::Fail;
 use storage_tree::streams::NamedStream;
 
-fn note(alloc: Global, tally: &Tally) -> Result<Box<dyn Embedded>, Fail> {
-    Ok(Box::new(alloc, Note::new(alloc, tally.share()?))?)
-}
-
 fn push(streams: &mut Streams, alloc: Global, name: &str, text: &[u8]) -> Result<(), Fail> {
     let name = Name::new(name.as_bytes())?;
     let bytes = Bytes::from_vec(Vec::from_slice(alloc, text)?);
@@ -35,7 +31,8 @@ fn saved(alloc: Global, object: &Box<dyn Embedded>) -> Result<Vec<u8>, Fail> {
 #[test]
 fn edits_change_the_text(rt: HostRuntime) -> Result<(), Fail> {
     let tally = Tally::new(rt.alloc())?;
-    let mut object = note(rt.alloc(), &tally)?;
+    let note = Note::new(rt.alloc(), tally.share()?);
+    let mut object: Box<dyn Embedded> = Box::new(rt.alloc(), note)?;
     object.edit(rt.alloc(), b"i 0 ab")?;
     object.edit(rt.alloc(), b"i 1 X")?;
     assert_eq!(rt; saved(rt.alloc(), &object)?.as_slice(), b"aXb".as_slice());
@@ -44,14 +41,18 @@ fn edits_change_the_text(rt: HostRuntime) -> Result<(), Fail> {
     assert_eq!(rt; object.edit(rt.alloc(), b"d 0 2"), Err(EmbedFault::BadEdit));
     assert_eq!(rt; saved(rt.alloc(), &object)?.as_slice(), b"b".as_slice());
     object.edit(rt.alloc(), b"i 1  two\nlines ")?;
-    assert_eq!(rt; saved(rt.alloc(), &object)?.as_slice(), b"b two\nlines ".as_slice());
+    assert_eq!(rt;
+        saved(rt.alloc(), &object)?.as_slice(),
+        b"b two\nlines ".as_slice()
+    );
     Ok(())
 }
 
 #[test]
 fn edits_that_are_none_are_bad(rt: HostRuntime) -> Result<(), Fail> {
     let tally = Tally::new(rt.alloc())?;
-    let mut object = note(rt.alloc(), &tally)?;
+    let note = Note::new(rt.alloc(), tally.share()?);
+    let mut object: Box<dyn Embedded> = Box::new(rt.alloc(), note)?;
     object.edit(rt.alloc(), b"i 0 ab")?;
     let edits: [&[u8]; 17] = [
         b"",
@@ -92,7 +93,8 @@ fn long_edit(alloc: Global, front: &[u8], count: usize, last: u8) -> Result<Vec<
 #[test]
 fn a_note_has_a_greatest_size(rt: HostRuntime) -> Result<(), Fail> {
     let tally = Tally::new(rt.alloc())?;
-    let mut object = note(rt.alloc(), &tally)?;
+    let note = Note::new(rt.alloc(), tally.share()?);
+    let mut object: Box<dyn Embedded> = Box::new(rt.alloc(), note)?;
     let full = long_edit(rt.alloc(), b"i 0 ", 65_536, b'c')?;
     let longer = long_edit(rt.alloc(), b"i 0 ", 65_537, b'c')?;
     let bad = long_edit(rt.alloc(), b"i 0 ", 65_537, 7)?;
@@ -103,8 +105,14 @@ fn a_note_has_a_greatest_size(rt: HostRuntime) -> Result<(), Fail> {
     assert_eq!(rt; saved(rt.alloc(), &object)?.len(), 0);
     object.edit(rt.alloc(), &full)?;
     assert_eq!(rt; saved(rt.alloc(), &object)?.len(), 65_536);
-    assert_eq!(rt; object.edit(rt.alloc(), b"i 65536 c"), Err(EmbedFault::TooBig));
-    assert_eq!(rt; object.edit(rt.alloc(), b"i 65537 c"), Err(EmbedFault::BadEdit));
+    assert_eq!(rt;
+        object.edit(rt.alloc(), b"i 65536 c"),
+        Err(EmbedFault::TooBig)
+    );
+    assert_eq!(rt;
+        object.edit(rt.alloc(), b"i 65537 c"),
+        Err(EmbedFault::BadEdit)
+    );
     assert_eq!(rt; saved(rt.alloc(), &object)?.len(), 65_536);
     Ok(())
 }
@@ -112,7 +120,8 @@ fn a_note_has_a_greatest_size(rt: HostRuntime) -> Result<(), Fail> {
 #[test]
 fn a_note_loads_its_stream(rt: HostRuntime) -> Result<(), Fail> {
     let tally = Tally::new(rt.alloc())?;
-    let mut object = note(rt.alloc(), &tally)?;
+    let note = Note::new(rt.alloc(), tally.share()?);
+    let mut object: Box<dyn Embedded> = Box::new(rt.alloc(), note)?;
     object.load(rt.alloc(), &sole(rt.alloc(), "TEXT", b"a\nb")?)?;
     assert_eq!(rt; saved(rt.alloc(), &object)?.as_slice(), b"a\nb".as_slice());
     object.load(rt.alloc(), &sole(rt.alloc(), "Text", b"")?)?;
@@ -126,7 +135,8 @@ fn a_note_loads_its_stream(rt: HostRuntime) -> Result<(), Fail> {
 #[test]
 fn a_note_takes_no_other_streams(rt: HostRuntime) -> Result<(), Fail> {
     let tally = Tally::new(rt.alloc())?;
-    let mut object = note(rt.alloc(), &tally)?;
+    let note = Note::new(rt.alloc(), tally.share()?);
+    let mut object: Box<dyn Embedded> = Box::new(rt.alloc(), note)?;
     object.edit(rt.alloc(), b"i 0 ab")?;
     let mut two = sole(rt.alloc(), "Text", b"c")?;
     push(&mut two, rt.alloc(), "Cells", b"A1 c\n")?;
@@ -135,10 +145,17 @@ fn a_note_takes_no_other_streams(rt: HostRuntime) -> Result<(), Fail> {
         two,
         sole(rt.alloc(), "Texts", b"c")?,
         sole(rt.alloc(), "Text", b"\x07")?,
-        sole(rt.alloc(), "Text", &long_edit(rt.alloc(), b"", 65_537, b'c')?)?,
+        sole(
+            rt.alloc(),
+            "Text",
+            &long_edit(rt.alloc(), b"", 65_537, b'c')?,
+        )?,
     ];
     for streams in &refused {
-        assert_eq!(rt; object.load(rt.alloc(), streams), Err(EmbedFault::BadContent));
+        assert_eq!(rt;
+            object.load(rt.alloc(), streams),
+            Err(EmbedFault::BadContent)
+        );
     }
     assert_eq!(rt; saved(rt.alloc(), &object)?.as_slice(), b"ab".as_slice());
     Ok(())
@@ -147,15 +164,25 @@ fn a_note_takes_no_other_streams(rt: HostRuntime) -> Result<(), Fail> {
 #[test]
 fn a_picture_shows_lines(rt: HostRuntime) -> Result<(), Fail> {
     let tally = Tally::new(rt.alloc())?;
-    let mut object = note(rt.alloc(), &tally)?;
+    let note = Note::new(rt.alloc(), tally.share()?);
+    let mut object: Box<dyn Embedded> = Box::new(rt.alloc(), note)?;
     assert_eq!(rt; object.render(rt.alloc())?.len(), 0);
     object.edit(rt.alloc(), b"i 0 a\n\nb")?;
-    assert_eq!(rt; object.render(rt.alloc())?.as_slice(), b"a\n\nb\n".as_slice());
+    assert_eq!(rt;
+        object.render(rt.alloc())?.as_slice(),
+        b"a\n\nb\n".as_slice()
+    );
     object.edit(rt.alloc(), b"i 4 \n")?;
-    assert_eq!(rt; object.render(rt.alloc())?.as_slice(), b"a\n\nb\n".as_slice());
+    assert_eq!(rt;
+        object.render(rt.alloc())?.as_slice(),
+        b"a\n\nb\n".as_slice()
+    );
     object.init();
     object.edit(rt.alloc(), &long_edit(rt.alloc(), b"i 0 ", 61, b'd')?)?;
-    assert_eq!(rt; object.render(rt.alloc())?.as_slice(), long_edit(rt.alloc(), b"", 61, b'\n')?.as_slice());
+    assert_eq!(rt;
+        object.render(rt.alloc())?.as_slice(),
+        long_edit(rt.alloc(), b"", 61, b'\n')?.as_slice()
+    );
     object.init();
     for _ in 0..21 {
         object.edit(rt.alloc(), b"i 0 e\n")?;
@@ -167,7 +194,8 @@ fn a_picture_shows_lines(rt: HostRuntime) -> Result<(), Fail> {
 #[test]
 fn a_note_is_of_its_kind(rt: HostRuntime) -> Result<(), Fail> {
     let tally = Tally::new(rt.alloc())?;
-    let object = note(rt.alloc(), &tally)?;
+    let note = Note::new(rt.alloc(), tally.share()?);
+    let object: Box<dyn Embedded> = Box::new(rt.alloc(), note)?;
     let class = [
         0x01, 0x2a, 0x1d, 0x6f, 0x4b, 0x3c, 0x5f, 0x4e, 0x8a, 0x9b, 0x0c, 0x1d, 0x2e, 0x3f, 0x40,
         0x51,
@@ -192,8 +220,10 @@ fn edited(alloc: Global, mut object: Box<dyn Embedded>, edit: &[u8]) -> Option<B
 #[test]
 fn each_note_is_counted_once(rt: HostRuntime) -> Result<(), Fail> {
     let tally = Tally::new(rt.alloc())?;
-    let first = note(rt.alloc(), &tally)?;
-    let second = note(rt.alloc(), &tally)?;
+    let note = Note::new(rt.alloc(), tally.share()?);
+    let first: Box<dyn Embedded> = Box::new(rt.alloc(), note)?;
+    let note = Note::new(rt.alloc(), tally.share()?);
+    let second: Box<dyn Embedded> = Box::new(rt.alloc(), note)?;
     assert_eq!(rt; tally.count(), 0);
     let first = edited(rt.alloc(), first, b"i 0 ab");
     assert!(rt; first.is_some());
