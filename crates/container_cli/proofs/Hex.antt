@@ -1,5 +1,5 @@
 -- Bytes in hexadecimal.
-use Rattle.std.proofs.Common.{◌≡◌, ◌≤◌, ◌-◌, ◌++◌, ℕ, List, [], ◌∷◌, Option, Some, None, length, get_or, take, drop, refl, sym, ap, ◌∙◌, arith, append_assoc}
+use Rattle.std.proofs.Common.{◌≡◌, ◌≤◌, ◌-◌, ◌++◌, ℕ, List, [], ◌∷◌, Option, Some, None, length, get_or, take, drop, sym, ap, ◌∙◌, arith, append_assoc}
 use Rattle.std.specs.Option.{option_map}
 use Rattle.std.proofs.lemmas.List.{take_rest}
 use Rattle.container_cli.specs.Words.{hex_read, hex_digit, pair_value, onto}

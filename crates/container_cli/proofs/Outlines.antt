@@ -1,11 +1,10 @@
 -- Changes of a tree and of its outline.
-use Rattle.std.proofs.Common.{◌≡◌, ◌≤◌, ◌+◌, ℕ, Bool, true, false, cond, List, [], ◌∷◌, Option, Some, None, Result, Ok, Err, length, refl, sym, ap, ◌∙◌, arith, rules}
-use Rattle.std.specs.Prelude.{is_ok}
+use Rattle.std.proofs.Common.{◌≡◌, ℕ, Bool, true, false, cond, List, [], ◌∷◌, Option, Some, None, Result, Ok, Err, refl, sym, ap, ◌∙◌}
 use Rattle.std.specs.Option.{option_map}
 use Rattle.std.specs.Ordering.{match_ordering}
 use Rattle.std.specs.declared.cmp.Ordering.TheVariants.{Less, Equal, Greater}
 use Rattle.cfb_directory.specs.Names.{key, key_cmp, key_eq}
-use Rattle.storage_tree.specs.Tree.{Tree, Children, tree, none, stream, storage}
+use Rattle.storage_tree.specs.Tree.{Children, tree, none, stream, storage}
 use Rattle.storage_tree.specs.Change.{Seen, bytes, inner, child, find, place, look, map_ok, on_ok, found, change, edited, putting, put_seen, making}
 use Rattle.storage_tree.specs.declared.storage.Edit.{Edit}
 use Rattle.storage_tree.specs.declared.storage.Edit.TheVariants.{Put, Make}

@@ -1,7 +1,7 @@
 -- A tree whose streams have more bytes than any file is refused.
-use Rattle.std.proofs.Common.{◌≡◌, ◌≤◌, ◌<◌, ◌+◌, ◌-◌, ◌*◌, ◌/◌, ◌||◌, ℕ, Bool, true, false, cond, List, [], ◌∷◌, Result, Ok, Err, length, refl, sym, ap, ◌∙◌, arith, nat_lt, lt-ltb}
+use Rattle.std.proofs.Common.{◌≡◌, ◌≤◌, ◌<◌, ◌+◌, ◌*◌, ◌||◌, ℕ, Bool, true, false, cond, List, Result, Ok, Err, length, refl, sym, ap, ◌∙◌, arith, nat_lt, lt-ltb}
 use Rattle.storage_tree.specs.Tree.{Tree, Children, tree, none, stream, storage}
-use Rattle.stream_io.specs.Need.{pieces, over_streams, over_streams_of, short_pieces, long_pieces, mini_sectors, directory_sectors, mini_fat_sectors, mini_stream_sectors, long_sectors, data_sectors, fat_sectors}
+use Rattle.stream_io.specs.Need.{pieces, over_streams, over_streams_of, short_pieces, long_pieces, data_sectors, fat_sectors}
 use Rattle.stream_io.specs.Refusals.{writable, has_storage, has_storage_in, has_long}
 use Rattle.container_cli.specs.Outline.{outline, outlines}
 use Rattle.stream_io.specs.declared.fault.WriteFault.{WriteFault}

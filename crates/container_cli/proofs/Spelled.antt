@@ -1,13 +1,12 @@
 -- Paths that are spelled and read again.
-use Rattle.std.proofs.Common.{◌≡◌, ◌≢◌, ◌≤◌, ◌<◌, ◌+◌, ◌-◌, ◌*◌, ◌/◌, ◌%◌, ◌++◌, ◌||◌, ◌&&◌, ℕ, zero, suc, Bool, true, false, cond, List, [], ◌∷◌, Option, Some, None, length, refl, sym, ap, subst, ◌∙◌, arith, rules, append_assoc, nat_eq, nat_lt, nat_le, map}
-use Rattle.std.proofs.lemmas.Bool.{cases_Bool, eqb-true, ltb-true, ltb-false}
+use Rattle.std.proofs.Common.{◌≡◌, ◌≢◌, ◌<◌, ◌+◌, ◌*◌, ◌/◌, ◌%◌, ◌++◌, ◌||◌, ℕ, Bool, true, false, cond, List, [], ◌∷◌, Some, length, refl, sym, ap, ◌∙◌, arith, rules, nat_eq, map}
 use Rattle.std.proofs.lemmas.Bool.Decides.{nat_tests}
-use Rattle.std.specs.List.{AllByRecursion, list_any, flat_map, join_with_byte, All}
+use Rattle.std.specs.List.{AllByRecursion, list_any, All}
 use Rattle.std.proofs.lemmas.List.Elements.{All-cons, All-nil}
 use Rattle.std.proofs.lemmas.List.Splits.{slice_split_at, slice_split_none}
 use Rattle.cfb_directory.specs.Names.{IsName, is_forbidden}
-use Rattle.container_cli.specs.Words.{pieces, lower_digit, pair_value, onto}
-use Rattle.container_cli.specs.Paths.{is_hidden, digit_text, byte_text, name_text, path_text, plain_byte, hidden_byte, name_read, names_read, path_read}
+use Rattle.container_cli.specs.Words.{pieces, lower_digit, onto}
+use Rattle.container_cli.specs.Paths.{is_hidden, digit_text, byte_text, name_text, path_text, name_read, names_read, path_read}
 
 digit-read : (n : ℕ) → n < 16 → lower_digit (digit_text n) ≡ Some n
 digit-read n small = grind (arith, nat_tests)

@@ -1,15 +1,15 @@
 -- How many bytes the streams of a tree have together, and the room that they need.
-use Rattle.std.proofs.Common.{◌≡◌, ◌≤◌, ◌<◌, ◌+◌, ◌*◌, ◌/◌, ◌⊎◌, inl, inr, ℕ, Bool, true, false, cond, List, [], ◌∷◌, Option, Some, None, Result, Ok, Err, length, refl, sym, ap, ◌∙◌, arith, rules, nat_lt}
+use Rattle.std.proofs.Common.{◌≡◌, ◌≤◌, ◌+◌, ℕ, Bool, true, false, cond, List, [], ◌∷◌, Option, Some, None, Result, Ok, Err, length, refl, sym, ap, arith, rules}
 use Rattle.std.specs.Prelude.{is_ok}
 use Rattle.std.specs.Ordering.{match_ordering, is_eq}
 use Rattle.std.specs.declared.cmp.Ordering.TheVariants.{Less, Equal, Greater}
-use Rattle.cfb_directory.specs.Names.{key, key_cmp, key_eq}
-use Rattle.storage_tree.specs.Tree.{Tree, Children, tree, none, stream, storage}
-use Rattle.storage_tree.specs.Change.{Seen, bytes, inner, child, find, place, look, map_ok, on_ok, found, change, edited, putting, put_seen, making}
+use Rattle.cfb_directory.specs.Names.{key, key_cmp}
+use Rattle.storage_tree.specs.Tree.{Children, tree, none, stream, storage}
+use Rattle.storage_tree.specs.Change.{Seen, bytes, inner, child, find, place, look, map_ok, on_ok, found, change, edited, putting, making}
 use Rattle.storage_tree.specs.declared.storage.Edit.{Edit}
 use Rattle.storage_tree.specs.declared.storage.Edit.TheVariants.{Put, Make}
 use Rattle.storage_tree.specs.declared.fault.TreeFault.{TreeFault}
-use Rattle.stream_io.specs.Need.{over_streams, over_streams_of}
+use Rattle.stream_io.specs.Need.{over_streams_of}
 use Rattle.container_cli.specs.Outline.{total}
 
 abbrev over : Children → ℕ

@@ -1,6 +1,6 @@
 -- A tree that is built from a description. Once its streams have more bytes than any file holds, their bytes are no
 -- longer kept: the lines that follow can be refused by the outline alone, and then the whole for its size.
-use Rattle.std.specs.Prelude.{◌≡◌, ◌≤◌, ◌<◌, ℕ, List, length, Result, Ok, Err}
+use Rattle.std.specs.Prelude.{◌≡◌, ◌≤◌, ◌<◌, ℕ, length, Result, Ok, Err}
 use Rattle.storage_tree.specs.Kept.{Kept, kept}
 use Rattle.stream_io.specs.Need.{over_streams}
 use Rattle.container_cli.specs.Outline.{outline}

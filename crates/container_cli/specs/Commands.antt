@@ -1,5 +1,5 @@
 -- The lines of a description and the commands that they spell.
-use Rattle.std.specs.Prelude.{◌≡◌, ◌+◌, ℕ, Bool, true, false, Option, Some, None, List, [], ◌∷◌, nat_eq, cond, codes, Result, Ok, Err}
+use Rattle.std.specs.Prelude.{◌+◌, ℕ, Bool, true, Option, Some, None, List, [], ◌∷◌, nat_eq, cond, codes, Result, Ok, Err}
 use Rattle.std.specs.Option.{option_map}
 use Rattle.std.specs.Str.{bytes_eq}
 use Rattle.container_cli.specs.Words.{words, number_read, byte_read, content_read}

@@ -1,5 +1,5 @@
 -- Inputs and outputs of the program's commands.
-use Rattle.std.specs.Prelude.{◌≡◌, ◌<◌, ℕ, List, length}
+use Rattle.std.specs.Prelude.{◌<◌, ℕ, List, length}
 use Rattle.container_cli.specs.declared.fault.InputFault.{InputFault}
 use Rattle.container_cli.specs.declared.fault.InputFault.TheVariants.{Unreadable, TooBig, NoMemory}
 

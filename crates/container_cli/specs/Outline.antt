@@ -1,5 +1,5 @@
 -- The outline of a tree: what is left of it without the bytes of its streams.
-use Rattle.std.specs.Prelude.{ℕ, List, [], length}
+use Rattle.std.specs.Prelude.{ℕ, [], length}
 use Rattle.storage_tree.specs.Tree.{Tree, Children, tree, none, stream, storage}
 use Rattle.storage_tree.specs.Change.{Seen, bytes, inner}
 use Rattle.stream_io.specs.Need.{over_streams}

@@ -1,5 +1,5 @@
 -- How paths are spelled.
-use Rattle.std.specs.Prelude.{◌≡◌, ◌+◌, ◌/◌, ◌%◌, ◌&&◌, ◌||◌, not, ℕ, Bool, true, false, Option, Some, None, List, [], ◌∷◌, ◌++◌, nat_le, nat_lt, nat_eq, cond, if◌then◌else◌, map}
+use Rattle.std.specs.Prelude.{◌+◌, ◌/◌, ◌%◌, ◌||◌, ℕ, Bool, Option, Some, None, List, [], ◌∷◌, nat_le, nat_lt, nat_eq, if◌then◌else◌, map}
 use Rattle.std.specs.List.{flat_map, join_with_byte}
 use Rattle.container_cli.specs.Words.{pieces, lower_digit, pair_value, onto}
 

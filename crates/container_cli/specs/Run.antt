@@ -1,5 +1,5 @@
 -- What the commands answer, given the bytes of their readers and writers.
-use Rattle.std.specs.Prelude.{◌≡◌, ℕ, List, false, Option, Ok, Err, length}
+use Rattle.std.specs.Prelude.{◌≡◌, ℕ, List, false, Option, Ok, length}
 use Rattle.std.specs.Io.KnownBytes.{Appends}
 use Rattle.storage_tree.specs.Tree.{Tree}
 use Rattle.storage_tree.specs.Kept.{Kept}

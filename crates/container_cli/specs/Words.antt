@@ -1,6 +1,5 @@
 -- Lines, words and numbers of the texts that the program reads.
-use Rattle.std.specs.Prelude.{◌≡◌, ◌+◌, ◌-◌, ◌*◌, ◌&&◌, ◌||◌, ℕ, Bool, Option, Some, None, List, [], ◌∷◌, nat_le, nat_lt, nat_eq, cond}
-use Rattle.std.specs.Option.{option_map}
+use Rattle.std.specs.Prelude.{◌+◌, ◌-◌, ◌*◌, ◌&&◌, ℕ, Option, Some, None, List, [], ◌∷◌, nat_le, nat_eq, cond}
 use Rattle.std.specs.List.{slice_split}
 use Rattle.std.specs.Char.{is_ascii_digit}
 

@@ -1,4 +1,4 @@
-use Rattle.std.proofs.Common.{◌≡◌, ◌≤◌, ◌+◌, ◌∷◌, ap, sym, ◌∙◌, length, arith}
+use Rattle.std.proofs.Common.{◌≡◌, ◌+◌, ◌∷◌, ap, sym, ◌∙◌, length, arith}
 use Rattle.container_cli.specs.Commands.{commands_read}
 use Rattle.container_cli.specs.Words.{lines}
 use Rattle.container_cli.proofs.Described.{behind, behind-nothing, commands_read-turn, length-pieces}

@@ -1,4 +1,4 @@
-use Rattle.std.proofs.Common.{◌≡◌, ◌≤◌, ◌+◌, ◌++◌, List, ℕ, Result, length}
+use Rattle.std.proofs.Common.{◌≡◌, ◌≤◌, ◌+◌, length}
 use Rattle.container_cli.specs.Words.{lines}
 use Rattle.container_cli.specs.Commands.{commands_read}
 use Rattle.container_cli.proofs.Described.{behind}

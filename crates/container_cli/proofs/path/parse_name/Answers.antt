@@ -1,4 +1,4 @@
-use Rattle.std.proofs.Common.{◌≡◌, ◌++◌, Option, Some, List, ℕ, refl, ap, sym, ◌∙◌}
+use Rattle.std.proofs.Common.{◌++◌, Option, Some, List, ℕ, refl, ap, sym, ◌∙◌}
 use Rattle.std.specs.Option.{option_map}
 use Rattle.container_cli.specs.Paths.{name_read}
 use Rattle.container_cli.proofs.Hex.{onto-behind}

@@ -1,4 +1,4 @@
-use Rattle.std.proofs.Common.{ap, sym, ◌∙◌, ◌+◌, arith}
+use Rattle.std.proofs.Common.{ap, sym, ◌∙◌, ◌+◌}
 use Rattle.container_cli.proofs.Built.{whole-put}
 use Rattle.container_cli.proofs.building.Building.put_whole.Goals as goal
 
