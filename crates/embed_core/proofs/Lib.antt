@@ -1,4 +1,4 @@
-pub mod Tests
+pub mod Passing
 pub mod Cuts
 pub mod Staying
 pub mod Behind

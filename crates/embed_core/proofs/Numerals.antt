@@ -1,15 +1,13 @@
 -- Numbers that are spelled and read.
-use Rattle.std.proofs.Common.{◌≡◌, ◌≤◌, ◌<◌, ◌+◌, ◌-◌, ◌*◌, ◌^◌, ◌&&◌, ℕ, Bool, true, false, cond, List, [], ◌∷◌, zero, suc, length, get_or, refl, ap, sym, subst, ◌∙◌, arith, rules, nat_le, nat_lt, nat_eq, lit<}
-use Rattle.std.specs.Prelude.{Option, Some, None, not}
+use Rattle.std.proofs.Common.{◌≡◌, ◌≤◌, ◌<◌, ◌+◌, ◌-◌, ◌*◌, ◌^◌, ◌&&◌, ℕ, true, cond, List, [], ◌∷◌, zero, suc, length, get_or, refl, ap, sym, ◌∙◌, arith, rules, nat_le, nat_eq}
+use Rattle.std.specs.Prelude.{Option, Some, None}
 use Rattle.std.specs.Char.{is_ascii_digit}
 use Rattle.std.specs.Str.{all_ascii_digits}
 use Rattle.std.specs.Fmt.{decimal}
-use Rattle.std.specs.List.{list_all}
-use Rattle.std.proofs.lemmas.Bool.Decides.{nat_tests}
 use Rattle.std.proofs.lemmas.Fmt.{digits_decimal, digits_value-decimal, decimal-digits_value, decimal_nonempty, first_decimal, decimal_digit}
 use Rattle.std.proofs.lemmas.Str.Parse.{IsNumeralModel, numerals_by_fold}
 use Rattle.embed_core.specs.Words.{digits_read, number_read}
-use Rattle.embed_core.proofs.Tests.{both, first_of_both, second_of_both, told_cond, le_told, le_passes, ne_told, eq_told}
+use Rattle.embed_core.proofs.Passing.{both, first_of_both, second_of_both, told_cond, le_told, le_passes, ne_told, eq_told}
 
 -- the value of digits behind a number
 abbrev pub read_on : ℕ → List ℕ → ℕ
@@ -31,15 +29,15 @@ digits_told n (c ∷ cs) m small h =
     let next = 10 * n + (c - 48) in
     let P : Option ℕ → Type 0 = λ told. told ≡ Some m → IsRead n (c ∷ cs) m in
     told_cond P (is_ascii_digit c && nat_le next 4294967295) (digits_read next cs) None
-        (λ fits told.
-            let more : IsRead next cs m = digits_told next cs m (le_told next 4294967295 (second_of_both (is_ascii_digit c) (nat_le next 4294967295) fits)) told in
-            record {
-                digits = both (is_ascii_digit c) (all_ascii_digits cs) (first_of_both (is_ascii_digit c) (nat_le next 4294967295) fits) more.digits;
-                value = more.value;
-                small = more.small
-            })
-        (λ stops told. cc)
-        h
+    (λ fits told.
+    let more : IsRead next cs m = digits_told next cs m (le_told next 4294967295 (second_of_both (is_ascii_digit c) (nat_le next 4294967295) fits)) told in
+    record {
+      digits = both (is_ascii_digit c) (all_ascii_digits cs) (first_of_both (is_ascii_digit c) (nat_le next 4294967295) fits) more.digits;
+      value = more.value;
+      small = more.small;
+    })
+    (λ stops told. cc)
+    h
 
 read_on-grows : (n : ℕ) (ds : List ℕ) → n ≤ read_on n ds
 read_on-grows n [] = omega arith
@@ -52,7 +50,7 @@ digits_read-value n (c ∷ cs) d h =
     let next = 10 * n + (c - 48) in
     let grows : next ≤ read_on next cs = read_on-grows next cs in
     let passes : (is_ascii_digit c && nat_le next 4294967295) ≡ true =
-        both (is_ascii_digit c) (nat_le next 4294967295) (first_of_both (is_ascii_digit c) (all_ascii_digits cs) d) (le_passes next 4294967295 (omega arith)) in
+    both (is_ascii_digit c) (nat_le next 4294967295) (first_of_both (is_ascii_digit c) (all_ascii_digits cs) d) (le_passes next 4294967295 (omega arith)) in
     ap (λ b. cond b (digits_read next cs) None) passes ∙ digits_read-value next cs (second_of_both (is_ascii_digit c) (all_ascii_digits cs) d) h
 
 number_read-digits : (ds : List ℕ) → 0 < length ds → (get_or ds 0 0 ≡ 48 → length ds ≡ 1) → number_read ds ≡ digits_read 0 ds
@@ -60,8 +58,8 @@ number_read-digits [] some front = absurd (omega arith)
 number_read-digits (c ∷ []) some front = refl
 number_read-digits (c ∷ d ∷ ds) some front =
     told_cond (λ (told : Option ℕ). told ≡ digits_read 0 (c ∷ d ∷ ds)) (nat_eq c 48) None (digits_read 0 (c ∷ d ∷ ds))
-        (λ zeros. let two : suc (suc (length ds)) ≡ 1 = front (eq_told c 48 zeros) in absurd (omega arith))
-        (λ other. refl)
+    (λ zeros. let two : suc (suc (length ds)) ≡ 1 = front (eq_told c 48 zeros) in absurd (omega arith))
+    (λ other. refl)
 
 pub record IsNumber (ds : List ℕ) (n : ℕ) : Type 0 where
   pub spelled : decimal n ≡ ds
@@ -72,8 +70,8 @@ spelled_so ds n some front r =
     let small : n ≤ 4294967295 = r.small in
     let fits : read_on 0 ds < 2 ^ 64 = (let v = r.value in omega arith) in
     record {
-        spelled = ap decimal (sym r.value) ∙ decimal-digits_value numerals ds r.digits some front fits;
-        small = omega arith
+      spelled = ap decimal (sym r.value) ∙ decimal-digits_value numerals ds r.digits some front fits;
+      small = omega arith;
     }
 
 -- what is read as a number is how the number is spelled
@@ -82,9 +80,9 @@ number_told [] n h = cc
 number_told (c ∷ []) n h = spelled_so (c ∷ []) n (omega arith) (λ z. refl) (digits_told 0 (c ∷ []) n (omega arith) h)
 number_told (c ∷ d ∷ ds) n h =
     told_cond (λ (told : Option ℕ). told ≡ Some n → IsNumber (c ∷ d ∷ ds) n) (nat_eq c 48) None (digits_read 0 (c ∷ d ∷ ds))
-        (λ zeros told. cc)
-        (λ other told. spelled_so (c ∷ d ∷ ds) n (omega arith) (λ z. absurd (ne_told c 48 other z)) (digits_told 0 (c ∷ d ∷ ds) n (omega arith) told))
-        h
+    (λ zeros told. cc)
+    (λ other told. spelled_so (c ∷ d ∷ ds) n (omega arith) (λ z. absurd (ne_told c 48 other z)) (digits_told 0 (c ∷ d ∷ ds) n (omega arith) told))
+    h
 
 front_of : (n : ℕ) → n < 2 ^ 64 → get_or (decimal n) 0 0 ≡ 48 → length (decimal n) ≡ 1
 front_of zero h e = ap length (decimal_digit 0 (omega arith))

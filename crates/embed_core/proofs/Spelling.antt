@@ -1,19 +1,18 @@
 -- What is spelled is read.
-use Rattle.std.proofs.Common.{◌≡◌, ◌≤◌, ◌<◌, ◌+◌, ◌-◌, ◌^◌, ◌&&◌, ℕ, Bool, true, false, cond, List, [], ◌∷◌, ◌++◌, zero, suc, length, refl, ap, sym, subst, ◌∙◌, arith, nat_le, nat_eq, eq-eqb, append-nil, append_assoc}
+use Rattle.std.proofs.Common.{◌≡◌, ◌≤◌, ◌<◌, ◌+◌, ◌-◌, ◌^◌, ◌&&◌, ℕ, Bool, true, false, cond, List, [], ◌∷◌, ◌++◌, refl, ap, ◌∙◌, arith, nat_le, nat_eq, eq-eqb, append-nil}
 use Rattle.std.specs.Prelude.{Option, Some, None, option_map, not}
 use Rattle.std.specs.Char.{is_ascii_digit}
 use Rattle.std.specs.Str.{all_ascii_digits}
 use Rattle.std.specs.Fmt.{decimal}
 use Rattle.std.specs.List.{list_all, onto_first}
 use Rattle.std.proofs.lemmas.Bool.{ne_eqb}
-use Rattle.std.proofs.lemmas.Bool.Decides.{nat_tests}
 use Rattle.std.proofs.lemmas.List.Splits.{slice_split-cons_yes, slice_split-cons_no}
 use Rattle.embed_core.specs.Content.{Cell, Shape, box, line, Direction, across, down, cell_bytes, direction_byte, shape_bytes, spaced}
-use Rattle.embed_core.specs.Edits.{Edit, insert, delete, set, clear, add, remove, raise, spelled, IsSmall, IsSmallShape, kind_edited}
-use Rattle.embed_core.specs.Kinds.{Kind, Note, Table, Drawing}
-use Rattle.embed_core.specs.Reading.{SpelledIsRead, edit_of, edit_in, edit_by, cell_of, direction_of, shape_of, shape_in, pair_of, with_two, box_of, line_of, one_number, place_and_text, place_and_count, cell_and_text, cell_alone}
+use Rattle.embed_core.specs.Edits.{insert, delete, set, clear, add, remove, raise, spelled, IsSmallShape}
+use Rattle.embed_core.specs.Kinds.{Note, Table, Drawing}
+use Rattle.embed_core.specs.Reading.{SpelledIsRead, edit_of, edit_in, cell_of, direction_of, shape_of, pair_of, with_two, box_of, line_of}
 use Rattle.embed_core.specs.Words.{pieces, words, number_read}
-use Rattle.embed_core.proofs.Tests.{both, first_of_both, second_of_both, le_passes, le_told}
+use Rattle.embed_core.proofs.Passing.{both, first_of_both, second_of_both, le_passes, le_told}
 use Rattle.embed_core.proofs.Numerals.{number_read-decimal, numerals}
 use Rattle.embed_core.proofs.Behind.{place_and_text-rest, cell_and_text-rest}
 use Rattle.std.proofs.lemmas.Fmt.{digits_decimal}
@@ -57,8 +56,8 @@ digits_lack : (c : ℕ) (ds : List ℕ) → c < 48 → all_ascii_digits ds ≡ t
 digits_lack c [] h d = refl
 digits_lack c (x ∷ xs) h d =
     both (not (nat_eq x c)) (lacks c xs)
-        (other_passes x c (digit-other x c h (first_of_both (is_ascii_digit x) (all_ascii_digits xs) d)))
-        (digits_lack c xs h (second_of_both (is_ascii_digit x) (all_ascii_digits xs) d))
+    (other_passes x c (digit-other x c h (first_of_both (is_ascii_digit x) (all_ascii_digits xs) d)))
+    (digits_lack c xs h (second_of_both (is_ascii_digit x) (all_ascii_digits xs) d))
 
 -- numbers and cells have neither spaces nor line feeds
 pub decimal_lacks : (c n : ℕ) → c < 48 → n < 2 ^ 32 → lacks c (decimal n) ≡ true
@@ -74,7 +73,7 @@ cell_of-cell_bytes c small =
     let read : Option Cell = option_map (λ n. record { column = 65 + c.column - 65; row = n }) (number_read (decimal c.row)) in
     let letter : cell_of (cell_bytes c) ≡ read = ap (λ b. cond b read None) (le_passes 65 (65 + c.column) (omega arith)) in
     let number : read ≡ Some (record { column = 65 + c.column - 65; row = c.row }) =
-        ap (λ (r : Option ℕ). option_map (λ n. record { column = 65 + c.column - 65; row = n }) r) (number_read-decimal c.row small) in
+    ap (λ (r : Option ℕ). option_map (λ n. record { column = 65 + c.column - 65; row = n }) r) (number_read-decimal c.row small) in
     let column : 65 + c.column - 65 ≡ c.column = omega arith in
     letter ∙ number ∙ ap (λ k. Some (record { column = k; row = c.row })) column
 
@@ -86,7 +85,7 @@ insert_read : (p : ℕ) (text : List ℕ) → p < 2 ^ 32 → edit_of Note (spell
 insert_read p text h =
     let rest = text ++ [] in
     let told : words (spelled (insert p text)) ≡ (105 ∷ []) ∷ decimal p ∷ words rest =
-        pieces-ended 32 (105 ∷ []) (decimal p ++ 32 ∷ rest) refl ∙ ap (λ ws. (105 ∷ []) ∷ ws) (pieces-ended 32 (decimal p) rest (decimal_lacks 32 p (omega arith) h)) in
+    pieces-ended 32 (105 ∷ []) (decimal p ++ 32 ∷ rest) refl ∙ ap (λ ws. (105 ∷ []) ∷ ws) (pieces-ended 32 (decimal p) rest (decimal_lacks 32 p (omega arith) h)) in
     ap (edit_in Note) told ∙ place_and_text-rest (decimal p) rest
     ∙ ap (λ (r : Option ℕ). option_map (λ n. insert n rest) r) (number_read-decimal p h)
     ∙ ap (λ t. Some (insert p t)) (append-nil text)
@@ -96,14 +95,14 @@ delete_read p n h k =
     let a = decimal_lacks 32 p (omega arith) h in
     let b = decimal_lacks 32 n (omega arith) k in
     let told : words (spelled (delete p n)) ≡ (100 ∷ []) ∷ decimal p ∷ decimal n ∷ [] =
-        words-spaced (100 ∷ []) (decimal p ∷ decimal n ∷ []) refl (both (lacks 32 (decimal p)) (lacks 32 (decimal n) && true) a (both (lacks 32 (decimal n)) true b refl)) in
+    words-spaced (100 ∷ []) (decimal p ∷ decimal n ∷ []) refl (both (lacks 32 (decimal p)) (lacks 32 (decimal n) && true) a (both (lacks 32 (decimal n)) true b refl)) in
     ap (edit_in Note) told ∙ two_read delete p n h k
 
 set_read : (c : Cell) (text : List ℕ) → c.row < 2 ^ 32 → edit_of Table (spelled (set c text)) ≡ Some (set c text)
 set_read c text h =
     let rest = text ++ [] in
     let told : words (spelled (set c text)) ≡ (115 ∷ []) ∷ cell_bytes c ∷ words rest =
-        pieces-ended 32 (115 ∷ []) (cell_bytes c ++ 32 ∷ rest) refl ∙ ap (λ ws. (115 ∷ []) ∷ ws) (pieces-ended 32 (cell_bytes c) rest (cell_lacks 32 c (omega arith) h)) in
+    pieces-ended 32 (115 ∷ []) (cell_bytes c ++ 32 ∷ rest) refl ∙ ap (λ ws. (115 ∷ []) ∷ ws) (pieces-ended 32 (cell_bytes c) rest (cell_lacks 32 c (omega arith) h)) in
     ap (edit_in Table) told ∙ cell_and_text-rest (cell_bytes c) rest
     ∙ ap (λ (r : Option Cell). option_map (λ cell. set cell rest) r) (cell_of-cell_bytes c h)
     ∙ ap (λ t. Some (set c t)) (append-nil text)
@@ -111,19 +110,19 @@ set_read c text h =
 clear_read : (c : Cell) → c.row < 2 ^ 32 → edit_of Table (spelled (clear c)) ≡ Some (clear c)
 clear_read c h =
     let told : words (spelled (clear c)) ≡ (99 ∷ []) ∷ cell_bytes c ∷ [] =
-        words-spaced (99 ∷ []) (cell_bytes c ∷ []) refl (both (lacks 32 (cell_bytes c)) true (cell_lacks 32 c (omega arith) h) refl) in
+    words-spaced (99 ∷ []) (cell_bytes c ∷ []) refl (both (lacks 32 (cell_bytes c)) true (cell_lacks 32 c (omega arith) h) refl) in
     ap (edit_in Table) told ∙ ap (λ (r : Option Cell). option_map clear r) (cell_of-cell_bytes c h)
 
 pub four_lack : (a b c d : List ℕ) → lacks 32 a ≡ true → lacks 32 b ≡ true → lacks 32 c ≡ true → lacks 32 d ≡ true → list_all (lacks 32) (a ∷ b ∷ c ∷ d ∷ []) ≡ true
 four_lack a b c d ha hb hc hd =
     both (lacks 32 a) (lacks 32 b && (lacks 32 c && (lacks 32 d && true))) ha
-        (both (lacks 32 b) (lacks 32 c && (lacks 32 d && true)) hb (both (lacks 32 c) (lacks 32 d && true) hc (both (lacks 32 d) true hd refl)))
+    (both (lacks 32 b) (lacks 32 c && (lacks 32 d && true)) hb (both (lacks 32 c) (lacks 32 d && true) hc (both (lacks 32 d) true hd refl)))
 
 pub box_words : (x y w h : ℕ) → IsSmallShape (box x y w h) → words (shape_bytes (box x y w h)) ≡ (98 ∷ []) ∷ decimal x ∷ decimal y ∷ decimal w ∷ decimal h ∷ []
 box_words x y w h s =
     words-spaced (98 ∷ []) (decimal x ∷ decimal y ∷ decimal w ∷ decimal h ∷ []) refl
-        (four_lack (decimal x) (decimal y) (decimal w) (decimal h) (decimal_lacks 32 x (omega arith) s.0) (decimal_lacks 32 y (omega arith) s.1)
-            (decimal_lacks 32 w (omega arith) s.2) (decimal_lacks 32 h (omega arith) s.3))
+    (four_lack (decimal x) (decimal y) (decimal w) (decimal h) (decimal_lacks 32 x (omega arith) s.0) (decimal_lacks 32 y (omega arith) s.1)
+    (decimal_lacks 32 w (omega arith) s.2) (decimal_lacks 32 h (omega arith) s.3))
 
 direction_lacks : (d : Direction) → lacks 32 (direction_byte d ∷ []) ≡ true
 direction_lacks across = refl
@@ -137,8 +136,8 @@ pub line_words : (x y : ℕ) (d : Direction) (n : ℕ) → IsSmallShape (line x 
     → words (shape_bytes (line x y d n)) ≡ (108 ∷ []) ∷ decimal x ∷ decimal y ∷ (direction_byte d ∷ []) ∷ decimal n ∷ []
 line_words x y d n s =
     words-spaced (108 ∷ []) (decimal x ∷ decimal y ∷ (direction_byte d ∷ []) ∷ decimal n ∷ []) refl
-        (four_lack (decimal x) (decimal y) (direction_byte d ∷ []) (decimal n) (decimal_lacks 32 x (omega arith) s.0) (decimal_lacks 32 y (omega arith) s.1)
-            (direction_lacks d) (decimal_lacks 32 n (omega arith) s.2))
+    (four_lack (decimal x) (decimal y) (direction_byte d ∷ []) (decimal n) (decimal_lacks 32 x (omega arith) s.0) (decimal_lacks 32 y (omega arith) s.1)
+    (direction_lacks d) (decimal_lacks 32 n (omega arith) s.2))
 
 pub pair_read : (m n : ℕ) → m < 2 ^ 32 → n < 2 ^ 32 → pair_of (decimal m) (decimal n) ≡ Some (m, n)
 pair_read m n h k = two_read (λ a b. (a, b)) m n h k

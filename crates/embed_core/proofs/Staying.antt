@@ -1,6 +1,6 @@
 -- Edits leave contents within their characters, ranges and sizes.
-use Rattle.std.proofs.Common.{◌≡◌, ◌≤◌, ◌<◌, ◌+◌, ◌-◌, ◌&&◌, ℕ, Bool, true, false, cond, List, [], ◌∷◌, ◌++◌, zero, suc, length, map, take, drop, refl, ap, sym, subst, ◌∙◌, arith, nat_le, nat_lt, nat_eq, length-append, length-drop, length-take}
-use Rattle.std.specs.Prelude.{Result, Ok, Err, Option, Some, None, filter, not}
+use Rattle.std.proofs.Common.{◌≡◌, ◌≤◌, ◌<◌, ◌+◌, ◌-◌, ◌&&◌, ℕ, Bool, true, false, cond, List, [], ◌∷◌, ◌++◌, zero, suc, length, map, take, drop, refl, ap, sym, ◌∙◌, arith, nat_le, nat_lt, nat_eq, length-append, length-drop, length-take}
+use Rattle.std.specs.Prelude.{Ok, Option, Some, None, filter, not}
 use Rattle.embed_core.specs.Objects.{EditsStay, edit_told}
 use Rattle.embed_core.specs.Reading.{edit_of}
 use Rattle.std.specs.List.{list_all, list_any}
@@ -8,8 +8,7 @@ use Rattle.std.proofs.lemmas.List.Folds.{list_all-append}
 use Rattle.embed_core.specs.Content.{Cell, Shape, Content, note, table, drawing, is_content, is_note_text, is_printable, is_cell, is_cell_text, is_entry, is_rising, is_shape, cell_place, NOTE_SIZE, CELL_SIZE, DRAWING_SIZE}
 use Rattle.embed_core.specs.Edits.{Edit, insert, delete, set, clear, add, remove, raise, edited, within, with_cell, without_cell, is_at}
 use Rattle.embed_core.specs.Kinds.{kind_of}
-use Rattle.embed_core.specs.declared.fault.EmbedFault.{EmbedFault}
-use Rattle.embed_core.proofs.Tests.{both, first_of_both, second_of_both, told_cond, lt_passes, lt_told, le_told_false, eq_told, ne_told, le_passes, le_told}
+use Rattle.embed_core.proofs.Passing.{both, first_of_both, second_of_both, told_cond, lt_passes, lt_told, le_told_false, eq_told, ne_told, le_passes, le_told}
 
 pub list_all-take : {A : Type 0} (p : A → Bool) (n : ℕ) (xs : List A) → list_all p xs ≡ true → list_all p (take n xs) ≡ true
 list_all-take p zero xs s = refl
@@ -40,9 +39,9 @@ pub note-insert : (p : ℕ) (text t : List ℕ) → list_all is_note_text text �
 note-insert p text t given fits was =
     let s = note-text t was in
     note-made (take p t ++ text ++ drop p t)
-        (simp (length-append, length-take, length-drop) (omega arith))
-        (list_all-joined is_note_text (take p t ++ text) (drop p t)
-            (list_all-joined is_note_text (take p t) text (list_all-take is_note_text p t s) given) (list_all-drop is_note_text p t s))
+    (simp (length-append, length-take, length-drop) (omega arith))
+    (list_all-joined is_note_text (take p t ++ text) (drop p t)
+    (list_all-joined is_note_text (take p t) text (list_all-take is_note_text p t s) given) (list_all-drop is_note_text p t s))
 
 -- and by a deletion
 pub note-delete : (p n : ℕ) (t : List ℕ) → is_content (note t) ≡ true → is_content (note (take p t ++ drop (p + n) t)) ≡ true
@@ -50,8 +49,8 @@ note-delete p n t was =
     let s = note-text t was in
     let h = note-size t was in
     note-made (take p t ++ drop (p + n) t)
-        (simp (length-append, length-take, length-drop) (omega arith))
-        (list_all-joined is_note_text (take p t) (drop (p + n) t) (list_all-take is_note_text p t s) (list_all-drop is_note_text (p + n) t s))
+    (simp (length-append, length-take, length-drop) (omega arith))
+    (list_all-joined is_note_text (take p t) (drop (p + n) t) (list_all-take is_note_text p t s) (list_all-drop is_note_text (p + n) t s))
 
 -- the places of a table's cells
 abbrev pub places : List (Cell × List ℕ) → List ℕ
@@ -87,28 +86,28 @@ rising_with c text n (e ∷ es) h r =
     let rest : is_rising (cell_place e.0 ∷ places es) ≡ true = rising-second n (cell_place e.0) (places es) r in
     let P : List (Cell × List ℕ) → Type 0 = λ found. is_rising (n ∷ places found) ≡ true in
     told_cond P (nat_lt (cell_place c) (cell_place e.0)) ((c, text) ∷ e ∷ es) (cond (nat_eq (cell_place c) (cell_place e.0)) ((c, text) ∷ es) (e ∷ with_cell c text es))
-        (λ less. rising-put n (places (e ∷ es)) (cell_place c) h (rising-put (cell_place c) (places es) (cell_place e.0) (lt_told (cell_place c) (cell_place e.0) less) rest))
-        (λ more. told_cond P (nat_eq (cell_place c) (cell_place e.0)) ((c, text) ∷ es) (e ∷ with_cell c text es)
-            (λ same. rising-put n (places es) (cell_place c) h
-                (ap (λ m. is_rising (m ∷ places es)) (eq_told (cell_place c) (cell_place e.0) same) ∙ rest))
-            (λ other.
-                let le : cell_place e.0 ≤ cell_place c = le_told_false (cell_place c) (cell_place e.0) more in
-                let ne : (cell_place c ≡ cell_place e.0 → ⊥) = ne_told (cell_place c) (cell_place e.0) other in
-                rising-put n (places (with_cell c text es)) (cell_place e.0) (rising-first n (cell_place e.0) (places es) r)
-                    (rising_with c text (cell_place e.0) es (omega arith) rest)))
+    (λ less. rising-put n (places (e ∷ es)) (cell_place c) h (rising-put (cell_place c) (places es) (cell_place e.0) (lt_told (cell_place c) (cell_place e.0) less) rest))
+    (λ more. told_cond P (nat_eq (cell_place c) (cell_place e.0)) ((c, text) ∷ es) (e ∷ with_cell c text es)
+    (λ same. rising-put n (places es) (cell_place c) h
+    (ap (λ m. is_rising (m ∷ places es)) (eq_told (cell_place c) (cell_place e.0) same) ∙ rest))
+    (λ other.
+    let le : cell_place e.0 ≤ cell_place c = le_told_false (cell_place c) (cell_place e.0) more in
+    let ne : (cell_place c ≡ cell_place e.0 → ⊥) = ne_told (cell_place c) (cell_place e.0) other in
+    rising-put n (places (with_cell c text es)) (cell_place e.0) (rising-first n (cell_place e.0) (places es) r)
+    (rising_with c text (cell_place e.0) es (omega arith) rest)))
 
 rising_set : (c : Cell) (text : List ℕ) (es : List (Cell × List ℕ)) → is_rising (places es) ≡ true → is_rising (places (with_cell c text es)) ≡ true
 rising_set c text [] r = refl
 rising_set c text (e ∷ es) r =
     let P : List (Cell × List ℕ) → Type 0 = λ found. is_rising (places found) ≡ true in
     told_cond P (nat_lt (cell_place c) (cell_place e.0)) ((c, text) ∷ e ∷ es) (cond (nat_eq (cell_place c) (cell_place e.0)) ((c, text) ∷ es) (e ∷ with_cell c text es))
-        (λ less. rising-put (cell_place c) (places es) (cell_place e.0) (lt_told (cell_place c) (cell_place e.0) less) r)
-        (λ more. told_cond P (nat_eq (cell_place c) (cell_place e.0)) ((c, text) ∷ es) (e ∷ with_cell c text es)
-            (λ same. ap (λ m. is_rising (m ∷ places es)) (eq_told (cell_place c) (cell_place e.0) same) ∙ r)
-            (λ other.
-                let le : cell_place e.0 ≤ cell_place c = le_told_false (cell_place c) (cell_place e.0) more in
-                let ne : (cell_place c ≡ cell_place e.0 → ⊥) = ne_told (cell_place c) (cell_place e.0) other in
-                rising_with c text (cell_place e.0) es (omega arith) r))
+    (λ less. rising-put (cell_place c) (places es) (cell_place e.0) (lt_told (cell_place c) (cell_place e.0) less) r)
+    (λ more. told_cond P (nat_eq (cell_place c) (cell_place e.0)) ((c, text) ∷ es) (e ∷ with_cell c text es)
+    (λ same. ap (λ m. is_rising (m ∷ places es)) (eq_told (cell_place c) (cell_place e.0) same) ∙ r)
+    (λ other.
+    let le : cell_place e.0 ≤ cell_place c = le_told_false (cell_place c) (cell_place e.0) more in
+    let ne : (cell_place c ≡ cell_place e.0 → ⊥) = ne_told (cell_place c) (cell_place e.0) other in
+    rising_with c text (cell_place e.0) es (omega arith) r))
 
 -- entries that are left out leave the others in order
 rising_behind : (p : Cell × List ℕ → Bool) (n : ℕ) (es : List (Cell × List ℕ)) → is_rising (n ∷ places es) ≡ true
@@ -117,25 +116,25 @@ rising_behind p n [] r = refl
 rising_behind p n (e ∷ es) r =
     let P : List (Cell × List ℕ) → Type 0 = λ left. is_rising (n ∷ places left) ≡ true in
     told_cond P (p e) (e ∷ filter p es) (filter p es)
-        (λ stays. rising-put n (places (filter p es)) (cell_place e.0) (rising-first n (cell_place e.0) (places es) r)
-            (rising_behind p (cell_place e.0) es (rising-second n (cell_place e.0) (places es) r)))
-        (λ goes. rising_behind p n es (rising-over n (cell_place e.0) (places es) r))
+    (λ stays. rising-put n (places (filter p es)) (cell_place e.0) (rising-first n (cell_place e.0) (places es) r)
+    (rising_behind p (cell_place e.0) es (rising-second n (cell_place e.0) (places es) r)))
+    (λ goes. rising_behind p n es (rising-over n (cell_place e.0) (places es) r))
 
 rising_left : (p : Cell × List ℕ → Bool) (es : List (Cell × List ℕ)) → is_rising (places es) ≡ true → is_rising (places (filter p es)) ≡ true
 rising_left p [] r = refl
 rising_left p (e ∷ es) r =
     let P : List (Cell × List ℕ) → Type 0 = λ left. is_rising (places left) ≡ true in
     told_cond P (p e) (e ∷ filter p es) (filter p es)
-        (λ stays. rising_behind p (cell_place e.0) es r)
-        (λ goes. rising_left p es (rising-rest (cell_place e.0) (places es) r))
+    (λ stays. rising_behind p (cell_place e.0) es r)
+    (λ goes. rising_left p es (rising-rest (cell_place e.0) (places es) r))
 
 list_all-filter : {A : Type 0} (q p : A → Bool) (xs : List A) → list_all q xs ≡ true → list_all q (filter p xs) ≡ true
 list_all-filter q p [] s = refl
 list_all-filter q p (x ∷ xs) s =
     let more = list_all-filter q p xs (second_of_both (q x) (list_all q xs) s) in
     told_cond (λ left. list_all q left ≡ true) (p x) (x ∷ filter p xs) (filter p xs)
-        (λ stays. both (q x) (list_all q (filter p xs)) (first_of_both (q x) (list_all q xs) s) more)
-        (λ goes. more)
+    (λ stays. both (q x) (list_all q (filter p xs)) (first_of_both (q x) (list_all q xs) s) more)
+    (λ goes. more)
 
 entries_with : (c : Cell) (text : List ℕ) (es : List (Cell × List ℕ)) → is_entry (c, text) ≡ true → list_all is_entry es ≡ true
     → list_all is_entry (with_cell c text es) ≡ true
@@ -144,25 +143,25 @@ entries_with c text (e ∷ es) given s =
     let P : List (Cell × List ℕ) → Type 0 = λ found. list_all is_entry found ≡ true in
     let rest = second_of_both (is_entry e) (list_all is_entry es) s in
     told_cond P (nat_lt (cell_place c) (cell_place e.0)) ((c, text) ∷ e ∷ es) (cond (nat_eq (cell_place c) (cell_place e.0)) ((c, text) ∷ es) (e ∷ with_cell c text es))
-        (λ less. both (is_entry (c, text)) (list_all is_entry (e ∷ es)) given s)
-        (λ more. told_cond P (nat_eq (cell_place c) (cell_place e.0)) ((c, text) ∷ es) (e ∷ with_cell c text es)
-            (λ same. both (is_entry (c, text)) (list_all is_entry es) given rest)
-            (λ other. both (is_entry e) (list_all is_entry (with_cell c text es)) (first_of_both (is_entry e) (list_all is_entry es) s) (entries_with c text es given rest)))
+    (λ less. both (is_entry (c, text)) (list_all is_entry (e ∷ es)) given s)
+    (λ more. told_cond P (nat_eq (cell_place c) (cell_place e.0)) ((c, text) ∷ es) (e ∷ with_cell c text es)
+    (λ same. both (is_entry (c, text)) (list_all is_entry es) given rest)
+    (λ other. both (is_entry e) (list_all is_entry (with_cell c text es)) (first_of_both (is_entry e) (list_all is_entry es) s) (entries_with c text es given rest)))
 
 -- a table stays one where a cell is set
 pub table-set : (c : Cell) (text : List ℕ) (es : List (Cell × List ℕ)) → is_entry (c, text) ≡ true → is_content (table es) ≡ true
     → is_content (table (with_cell c text es)) ≡ true
 table-set c text es given was =
     both (is_rising (places (with_cell c text es))) (list_all is_entry (with_cell c text es))
-        (rising_set c text es (first_of_both (is_rising (places es)) (list_all is_entry es) was))
-        (entries_with c text es given (second_of_both (is_rising (places es)) (list_all is_entry es) was))
+    (rising_set c text es (first_of_both (is_rising (places es)) (list_all is_entry es) was))
+    (entries_with c text es given (second_of_both (is_rising (places es)) (list_all is_entry es) was))
 
 -- and where one is cleared
 pub table-clear : (c : Cell) (es : List (Cell × List ℕ)) → is_content (table es) ≡ true → is_content (table (without_cell c es)) ≡ true
 table-clear c es was =
     both (is_rising (places (without_cell c es))) (list_all is_entry (without_cell c es))
-        (rising_left (λ e. not (is_at c e)) es (first_of_both (is_rising (places es)) (list_all is_entry es) was))
-        (list_all-filter is_entry (λ e. not (is_at c e)) es (second_of_both (is_rising (places es)) (list_all is_entry es) was))
+    (rising_left (λ e. not (is_at c e)) es (first_of_both (is_rising (places es)) (list_all is_entry es) was))
+    (list_all-filter is_entry (λ e. not (is_at c e)) es (second_of_both (is_rising (places es)) (list_all is_entry es) was))
 
 drawing-made : (ss : List Shape) → length ss ≤ DRAWING_SIZE → list_all is_shape ss ≡ true → is_content (drawing ss) ≡ true
 drawing-made ss h s = both (nat_le (length ss) DRAWING_SIZE) (list_all is_shape ss) (le_passes (length ss) DRAWING_SIZE h) s
@@ -178,7 +177,7 @@ pub drawing-add : (s : Shape) (ss : List Shape) → is_shape s ≡ true → leng
     → is_content (drawing (ss ++ s ∷ [])) ≡ true
 drawing-add s ss given fits was =
     drawing-made (ss ++ s ∷ []) (simp length-append (omega arith))
-        (list_all-joined is_shape ss (s ∷ []) (drawing-shapes ss was) (both (is_shape s) true given refl))
+    (list_all-joined is_shape ss (s ∷ []) (drawing-shapes ss was) (both (is_shape s) true given refl))
 
 -- by one less
 pub drawing-remove : (i : ℕ) (ss : List Shape) → 1 ≤ i → is_content (drawing ss) ≡ true → is_content (drawing (take (i - 1) ss ++ drop i ss)) ≡ true
@@ -186,7 +185,7 @@ drawing-remove i ss some was =
     let s = drawing-shapes ss was in
     let h = drawing-size ss was in
     drawing-made (take (i - 1) ss ++ drop i ss) (simp (length-append, length-take, length-drop) (omega arith))
-        (list_all-joined is_shape (take (i - 1) ss) (drop i ss) (list_all-take is_shape (i - 1) ss s) (list_all-drop is_shape i ss s))
+    (list_all-joined is_shape (take (i - 1) ss) (drop i ss) (list_all-take is_shape (i - 1) ss s) (list_all-drop is_shape i ss s))
 
 -- and where one is moved to the end
 pub drawing-raise : (i : ℕ) (ss : List Shape) → 1 ≤ i → is_content (drawing ss) ≡ true
@@ -195,10 +194,10 @@ drawing-raise i ss some was =
     let s = drawing-shapes ss was in
     let h = drawing-size ss was in
     drawing-made (take (i - 1) ss ++ drop i ss ++ take 1 (drop (i - 1) ss))
-        (simp (length-append, length-take, length-drop) (omega arith))
-        (list_all-joined is_shape (take (i - 1) ss ++ drop i ss) (take 1 (drop (i - 1) ss))
-            (list_all-joined is_shape (take (i - 1) ss) (drop i ss) (list_all-take is_shape (i - 1) ss s) (list_all-drop is_shape i ss s))
-            (list_all-take is_shape 1 (drop (i - 1) ss) (list_all-drop is_shape (i - 1) ss s)))
+    (simp (length-append, length-take, length-drop) (omega arith))
+    (list_all-joined is_shape (take (i - 1) ss ++ drop i ss) (take 1 (drop (i - 1) ss))
+    (list_all-joined is_shape (take (i - 1) ss) (drop i ss) (list_all-take is_shape (i - 1) ss s) (list_all-drop is_shape i ss s))
+    (list_all-take is_shape 1 (drop (i - 1) ss) (list_all-drop is_shape (i - 1) ss s)))
 
 pub record Went (asked fits : Bool) (c d : Content) : Type 0 where
   pub was_asked : asked ≡ true
@@ -219,11 +218,11 @@ stays_as c made d e k h = (sym (ap kind_of e) ∙ k, sym (ap is_content e) ∙ h
 insert_stays : (p : ℕ) (text t : List ℕ) (d : Content) → edited (insert p text) (note t) ≡ Ok d → is_content (note t) ≡ true → Stays (note t) d
 insert_stays p text t d h was =
     let w = went (nat_le 1 (length text) && list_all is_note_text text && nat_le p (length t)) (nat_le (length t + length text) NOTE_SIZE)
-        (note (take p t ++ text ++ drop p t)) d h in
+    (note (take p t ++ text ++ drop p t)) d h in
     let given : list_all is_note_text text ≡ true = second_of_both (nat_le 1 (length text)) (list_all is_note_text text)
-        (first_of_both (nat_le 1 (length text) && list_all is_note_text text) (nat_le p (length t)) w.was_asked) in
+    (first_of_both (nat_le 1 (length text) && list_all is_note_text text) (nat_le p (length t)) w.was_asked) in
     stays_as (note t) (note (take p t ++ text ++ drop p t)) d w.became refl
-        (note-insert p text t given (le_told (length t + length text) NOTE_SIZE w.did_fit) was)
+    (note-insert p text t given (le_told (length t + length text) NOTE_SIZE w.did_fit) was)
 
 delete_stays : (p n : ℕ) (t : List ℕ) (d : Content) → edited (delete p n) (note t) ≡ Ok d → is_content (note t) ≡ true → Stays (note t) d
 delete_stays p n t d h was =
@@ -237,10 +236,10 @@ set_stays c text es d h was =
     let w = went (is_cell c && some && list_all is_printable text) (nat_le (length text) CELL_SIZE) (table (with_cell c text es)) d h in
     let front : (is_cell c && some) ≡ true = first_of_both (is_cell c && some) (list_all is_printable text) w.was_asked in
     let entry : is_entry (c, text) ≡ true =
-        both (is_cell c) (is_cell_text text) (first_of_both (is_cell c) some front)
-            (both (some && nat_le (length text) CELL_SIZE) (list_all is_printable text)
-                (both some (nat_le (length text) CELL_SIZE) (second_of_both (is_cell c) some front) w.did_fit)
-                (second_of_both (is_cell c && some) (list_all is_printable text) w.was_asked)) in
+    both (is_cell c) (is_cell_text text) (first_of_both (is_cell c) some front)
+    (both (some && nat_le (length text) CELL_SIZE) (list_all is_printable text)
+    (both some (nat_le (length text) CELL_SIZE) (second_of_both (is_cell c) some front) w.did_fit)
+    (second_of_both (is_cell c && some) (list_all is_printable text) w.was_asked)) in
     stays_as (table es) (table (with_cell c text es)) d w.became refl (table-set c text es entry was)
 
 clear_stays : (c : Cell) (es : List (Cell × List ℕ)) (d : Content) → edited (clear c) (table es) ≡ Ok d → is_content (table es) ≡ true → Stays (table es) d
@@ -252,7 +251,7 @@ add_stays : (s : Shape) (ss : List Shape) (d : Content) → edited (add s) (draw
 add_stays s ss d h was =
     let w = went (is_shape s) (nat_lt (length ss) DRAWING_SIZE) (drawing (ss ++ s ∷ [])) d h in
     stays_as (drawing ss) (drawing (ss ++ s ∷ [])) d w.became refl
-        (drawing-add s ss w.was_asked (lt_told (length ss) DRAWING_SIZE w.did_fit) was)
+    (drawing-add s ss w.was_asked (lt_told (length ss) DRAWING_SIZE w.did_fit) was)
 
 remove_stays : (i : ℕ) (ss : List Shape) (d : Content) → edited (remove i) (drawing ss) ≡ Ok d → is_content (drawing ss) ≡ true → Stays (drawing ss) d
 remove_stays i ss d h was =

@@ -1,5 +1,5 @@
 -- What is stored is loaded, and what is loaded was so stored.
-use Rattle.std.proofs.Common.{◌≡◌, ◌≤◌, ◌<◌, ◌+◌, ◌-◌, ◌^◌, ◌&&◌, ◌||◌, ℕ, Bool, true, false, cond, List, [], ◌∷◌, ◌++◌, zero, suc, length, map, refl, ap, sym, subst, ◌∙◌, arith, nat_le, nat_lt, nat_eq, append-nil, append_assoc}
+use Rattle.std.proofs.Common.{◌≡◌, ◌≤◌, ◌<◌, ◌^◌, ◌&&◌, ℕ, Bool, true, cond, List, [], ◌∷◌, ◌++◌, length, map, refl, ap, sym, ◌∙◌, arith, nat_le, nat_lt, nat_eq, append_assoc}
 use Rattle.std.specs.Prelude.{Option, Some, None, Result, Ok, Err, option_map, option_and_then, not}
 use Rattle.std.specs.Fmt.{decimal}
 use Rattle.std.specs.List.{join_with_byte, list_all, flat_map}
@@ -7,20 +7,19 @@ use Rattle.std.proofs.lemmas.Bool.{ne_eqb}
 use Rattle.std.proofs.lemmas.List.Folds.{list_all-append}
 use Rattle.std.proofs.lemmas.List.Splits.{join_with_byte-slice_split}
 use Rattle.cfb_directory.specs.Names.{key, key_eq}
-use Rattle.storage_tree.specs.declared.streams.NamedStream.{NamedStream}
 use Rattle.embed_core.specs.Content.{Cell, Shape, box, line, Direction, across, down, Content, note, table, drawing, is_content, is_printable, is_cell, is_cell_text, is_entry, is_rising, is_shape, cell_place, cell_bytes, direction_byte, entry_bytes, shape_bytes, shape_line, spaced, stream_name, stream_bytes, stored, CELL_SIZE, DRAWING_SIZE}
 use Rattle.embed_core.specs.Edits.{IsSmallShape}
 use Rattle.embed_core.specs.Kinds.{Kind, Note, Table, Drawing, kind_of, empty}
-use Rattle.embed_core.specs.Objects.{StoredIsLoaded, LoadedWasStored, load, load_told, sole_bytes}
+use Rattle.embed_core.specs.Objects.{StoredIsLoaded, LoadedWasStored, load_told, sole_bytes}
 use Rattle.embed_core.specs.Pictures.{ended_line}
-use Rattle.embed_core.specs.Reading.{text_of, cell_of, content_of, each, entry_in, lines_of, shape_in, shape_of, whole_lines}
+use Rattle.embed_core.specs.Reading.{text_of, cell_of, content_of, each, entry_in, lines_of, shape_in, whole_lines}
 use Rattle.embed_core.specs.Words.{pieces, words}
 use Rattle.embed_core.specs.declared.fault.EmbedFault.{EmbedFault}
 use Rattle.embed_core.specs.declared.fault.EmbedFault.TheVariants.{BadContent}
 use Rattle.embed_core.proofs.Behind.{entry_in-rest}
 use Rattle.embed_core.proofs.Cuts.{pieces-known}
 use Rattle.embed_core.proofs.Spelling.{lacks, pieces-ended, decimal_lacks, cell_lacks, cell_of-cell_bytes, box_words, line_words, box_read, line_read}
-use Rattle.embed_core.proofs.Tests.{both, first_of_both, second_of_both, told_cond, le_told}
+use Rattle.embed_core.proofs.Passing.{both, first_of_both, second_of_both, told_cond, le_told}
 use Rattle.embed_core.proofs.Told.{mapped, chained, cell_told, shape_told}
 
 whole_lines-more : (l m : List ℕ) (more : List (List ℕ)) → whole_lines (l ∷ m ∷ more) ≡ option_map (λ ls. l ∷ ls) (whole_lines (m ∷ more))
@@ -33,11 +32,11 @@ lines_read [] h = refl
 lines_read (l ∷ ls) h =
     let rest = flat_map ended_line ls in
     let cut : pieces 10 ((l ++ 10 ∷ []) ++ rest) ≡ l ∷ pieces 10 rest =
-        ap (pieces 10) (append_assoc l (10 ∷ []) rest) ∙ pieces-ended 10 l rest (first_of_both (lacks 10 l) (list_all (lacks 10) ls) h) in
+    ap (pieces 10) (append_assoc l (10 ∷ []) rest) ∙ pieces-ended 10 l rest (first_of_both (lacks 10 l) (list_all (lacks 10) ls) h) in
     let more : lines_of rest ≡ Some ls = lines_read ls (second_of_both (lacks 10 l) (list_all (lacks 10) ls) h) in
     ap whole_lines cut
     ∙ pieces-known 10 rest (λ found. whole_lines (l ∷ found)) (option_map (λ found. l ∷ found) (lines_of rest))
-        (λ p ps e. whole_lines-more l p ps ∙ ap (λ found. option_map (λ left. l ∷ left) (whole_lines found)) (sym e))
+    (λ p ps e. whole_lines-more l p ps ∙ ap (λ found. option_map (λ left. l ∷ left) (whole_lines found)) (sym e))
     ∙ ap (option_map (λ found. l ∷ found)) more
 
 -- lines that are read were so ended
@@ -161,8 +160,8 @@ spaced_lack (w ∷ ws) h =
 four_whole : (a b c d : List ℕ) → lacks 10 a ≡ true → lacks 10 b ≡ true → lacks 10 c ≡ true → lacks 10 d ≡ true → lacks 10 (spaced (a ∷ b ∷ c ∷ d ∷ [])) ≡ true
 four_whole a b c d ha hb hc hd =
     spaced_lack (a ∷ b ∷ c ∷ d ∷ [])
-        (both (lacks 10 a) (lacks 10 b && (lacks 10 c && (lacks 10 d && true))) ha
-            (both (lacks 10 b) (lacks 10 c && (lacks 10 d && true)) hb (both (lacks 10 c) (lacks 10 d && true) hc (both (lacks 10 d) true hd refl))))
+    (both (lacks 10 a) (lacks 10 b && (lacks 10 c && (lacks 10 d && true))) ha
+    (both (lacks 10 b) (lacks 10 c && (lacks 10 d && true)) hb (both (lacks 10 c) (lacks 10 d && true) hc (both (lacks 10 d) true hd refl))))
 
 direction_whole : (d : Direction) → lacks 10 (direction_byte d ∷ []) ≡ true
 direction_whole across = refl
@@ -172,11 +171,11 @@ shape_lacks : (s : Shape) → is_shape s ≡ true → lacks 10 (shape_bytes s) �
 shape_lacks (box x y w h) s =
     let small = small_shape (box x y w h) s in
     four_whole (decimal x) (decimal y) (decimal w) (decimal h) (decimal_lacks 10 x (omega arith) small.0) (decimal_lacks 10 y (omega arith) small.1)
-        (decimal_lacks 10 w (omega arith) small.2) (decimal_lacks 10 h (omega arith) small.3)
+    (decimal_lacks 10 w (omega arith) small.2) (decimal_lacks 10 h (omega arith) small.3)
 shape_lacks (line x y d n) s =
     let small = small_shape (line x y d n) s in
     four_whole (decimal x) (decimal y) (direction_byte d ∷ []) (decimal n) (decimal_lacks 10 x (omega arith) small.0) (decimal_lacks 10 y (omega arith) small.1)
-        (direction_whole d) (decimal_lacks 10 n (omega arith) small.2)
+    (direction_whole d) (decimal_lacks 10 n (omega arith) small.2)
 
 drawing_read : (ss : List Shape) → list_all is_shape ss ≡ true → content_of Drawing (stream_bytes (drawing ss)) ≡ Some (drawing ss)
 drawing_read ss h = listed_read drawing (λ l. shape_in (words l)) shape_line shape_bytes is_shape (λ s. refl) shape_read shape_lacks ss h
@@ -221,10 +220,12 @@ listed_told : {A : Type 0} (made : List A → Content) (f : List ℕ → Option 
     → option_and_then (λ ls. option_map made (each f ls)) (lines_of bytes) ≡ Some c → (xs : List A) × (made xs ≡ c) × (flat_map full xs ≡ bytes)
 listed_told made f full g is told bytes c h =
     let lines = chained (λ ls. option_map made (each f ls)) (lines_of bytes) c h in
-    let all = mapped made (each f lines.value) c lines.became in
-    (all.value, all.became,
-        flat_map-ended full g is all.value ∙ ap (flat_map ended_line) (each_told f g told lines.value all.value all.was)
-        ∙ lines_told (pieces 10 bytes) lines.value lines.was ∙ join_with_byte-slice_split 10 bytes)
+    let all = mapped made (each f lines.value) c lines.became in (
+      all.value,
+      all.became,
+      flat_map-ended full g is all.value ∙ ap (flat_map ended_line) (each_told f g told lines.value all.value all.was)
+          ∙ lines_told (pieces 10 bytes) lines.value lines.was ∙ join_with_byte-slice_split 10 bytes,
+    )
 
 -- what is read was so stored
 pub content_told : (k : Kind) (bytes : List ℕ) (c : Content) → content_of k bytes ≡ Some c → (kind_of c ≡ k) × (stream_bytes c ≡ bytes)
@@ -240,18 +241,18 @@ loaded_told : (o : Option Content) (c : Content) → load_told o ≡ Ok c → (o
 loaded_told None c h = cc
 loaded_told (Some d) c h =
     told_cond (λ (told : Result Content EmbedFault). told ≡ Ok c → (Some d ≡ Some c) × (is_content c ≡ true)) (is_content d) (Ok d) (Err BadContent)
-        (λ sound told. let e : d ≡ c = cc in (ap (λ x. Some x) e, ap is_content (sym e) ∙ sound))
-        (λ other told. cc)
-        h
+    (λ sound told. let e : d ≡ c = cc in (ap (λ x. Some x) e, ap is_content (sym e) ∙ sound))
+    (λ other told. cc)
+    h
 
 pub loaded_was_stored : LoadedWasStored
 loaded_was_stored k s c h =
     let name = stream_name (empty k) in
     told_cond (λ (found : Option (List ℕ)). load_told (option_and_then (content_of k) found) ≡ Ok c → (kind_of c ≡ k) × (is_content c ≡ true) × (stream_bytes c ≡ s.bytes))
-        (key_eq (key s.name) (key name)) (Some s.bytes) None
-        (λ same told.
-            let t = loaded_told (content_of k s.bytes) c told in
-            let r = content_told k s.bytes c t.0 in
-            (r.0, t.1, r.1))
-        (λ other told. cc)
-        h
+    (key_eq (key s.name) (key name)) (Some s.bytes) None
+    (λ same told.
+    let t = loaded_told (content_of k s.bytes) c told in
+    let r = content_told k s.bytes c t.0 in
+    (r.0, t.1, r.1))
+    (λ other told. cc)
+    h

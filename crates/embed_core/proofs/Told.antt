@@ -1,15 +1,14 @@
 -- What is read was so spelled.
-use Rattle.std.proofs.Common.{◌≡◌, ◌≤◌, ◌<◌, ◌+◌, ◌-◌, ◌^◌, ◌&&◌, ℕ, Bool, true, false, cond, List, [], ◌∷◌, ◌++◌, zero, suc, length, refl, ap, sym, subst, ◌∙◌, arith, nat_le, nat_eq, append-nil, append_assoc}
+use Rattle.std.proofs.Common.{◌≡◌, ◌≤◌, ◌+◌, ◌-◌, ℕ, cond, List, [], ◌∷◌, ◌++◌, refl, ap, sym, ◌∙◌, arith, nat_le, nat_eq, append-nil}
 use Rattle.std.specs.Prelude.{Option, Some, None, option_map, option_and_then}
 use Rattle.std.specs.Fmt.{decimal}
-use Rattle.std.specs.List.{join_with_byte}
 use Rattle.std.proofs.lemmas.List.Splits.{join_with_byte-slice_split}
 use Rattle.embed_core.specs.Content.{Cell, Shape, box, line, Direction, across, down, cell_bytes, direction_byte, shape_bytes, spaced}
 use Rattle.embed_core.specs.Edits.{Edit, insert, delete, set, clear, add, remove, raise, spelled}
 use Rattle.embed_core.specs.Kinds.{Kind, Note, Table, Drawing}
-use Rattle.embed_core.specs.Reading.{ReadWasSpelled, text_of, edit_of, edit_in, edit_by, cell_of, direction_of, shape_of, pair_of, with_two, box_of, line_of, one_number, place_and_text, place_and_count, cell_and_text, cell_alone}
-use Rattle.embed_core.specs.Words.{pieces, words, number_read}
-use Rattle.embed_core.proofs.Tests.{told_cond, eq_told, le_told}
+use Rattle.embed_core.specs.Reading.{ReadWasSpelled, text_of, edit_in, edit_by, cell_of, direction_of, shape_of, pair_of, with_two, box_of, line_of, one_number, place_and_text, place_and_count, cell_and_text, cell_alone}
+use Rattle.embed_core.specs.Words.{words, number_read}
+use Rattle.embed_core.proofs.Passing.{told_cond, eq_told, le_told}
 use Rattle.embed_core.proofs.Numerals.{number_told}
 
 pub record Mapped {A B : Type 0} (f : A → B) (o : Option A) (b : B) : Type 0 where
@@ -64,23 +63,23 @@ cell_told (x ∷ ds) c h =
     let cell : ℕ → Cell = λ n. record { column = x - 65; row = n } in
     let read : Option Cell = option_map cell (number_read ds) in
     told_cond (λ (told : Option Cell). told ≡ Some c → cell_bytes c ≡ x ∷ ds) (nat_le 65 x) read None
-        (λ letter told.
-            let m = mapped cell (number_read ds) c told in
-            let column : 65 + (x - 65) ≡ x = (let le : 65 ≤ x = le_told 65 x letter in omega arith) in
-            ap cell_bytes (sym m.became) ∙ ap (λ k. k ∷ decimal m.value) column ∙ ap (λ t. x ∷ t) (decimal_told ds m.value m.was))
-        (λ other told. cc)
-        h
+    (λ letter told.
+    let m = mapped cell (number_read ds) c told in
+    let column : 65 + (x - 65) ≡ x = (let le : 65 ≤ x = le_told 65 x letter in omega arith) in
+    ap cell_bytes (sym m.became) ∙ ap (λ k. k ∷ decimal m.value) column ∙ ap (λ t. x ∷ t) (decimal_told ds m.value m.was))
+    (λ other told. cc)
+    h
 
 direction_told : (w : List ℕ) (d : Direction) → direction_of w ≡ Some d → direction_byte d ∷ [] ≡ w
 direction_told [] d h = cc
 direction_told (c ∷ e ∷ r) d h = cc
 direction_told (c ∷ []) d h =
     told_cond (λ (told : Option Direction). told ≡ Some d → direction_byte d ∷ [] ≡ c ∷ []) (nat_eq c 104) (Some across) (cond (nat_eq c 118) (Some down) None)
-        (λ first told. let e : across ≡ d = cc in ap (λ k. direction_byte k ∷ []) (sym e) ∙ ap (λ b. b ∷ []) (sym (eq_told c 104 first)))
-        (λ other. told_cond (λ (told : Option Direction). told ≡ Some d → direction_byte d ∷ [] ≡ c ∷ []) (nat_eq c 118) (Some down) None
-            (λ second told. let e : down ≡ d = cc in ap (λ k. direction_byte k ∷ []) (sym e) ∙ ap (λ b. b ∷ []) (sym (eq_told c 118 second)))
-            (λ none told. cc))
-        h
+    (λ first told. let e : across ≡ d = cc in ap (λ k. direction_byte k ∷ []) (sym e) ∙ ap (λ b. b ∷ []) (sym (eq_told c 104 first)))
+    (λ other. told_cond (λ (told : Option Direction). told ≡ Some d → direction_byte d ∷ [] ≡ c ∷ []) (nat_eq c 118) (Some down) None
+    (λ second told. let e : down ≡ d = cc in ap (λ k. direction_byte k ∷ []) (sym e) ∙ ap (λ b. b ∷ []) (sym (eq_told c 118 second)))
+    (λ none told. cc))
+    h
 
 -- a place or a size
 record Pair (a b : List ℕ) (p : ℕ × ℕ) : Type 0 where
@@ -91,8 +90,8 @@ pair_told : (a b : List ℕ) (p : ℕ × ℕ) → pair_of a b ≡ Some p → Pai
 pair_told a b p h =
     let t = two (λ m n. (m, n)) (number_read a) (number_read b) p h in
     record {
-        first = ap (λ (q : ℕ × ℕ). decimal q.0) (sym t.became) ∙ decimal_told a t.first t.first_was;
-        second = ap (λ (q : ℕ × ℕ). decimal q.1) (sym t.became) ∙ decimal_told b t.second t.second_was
+      first = ap (λ (q : ℕ × ℕ). decimal q.0) (sym t.became) ∙ decimal_told a t.first t.first_was;
+      second = ap (λ (q : ℕ × ℕ). decimal q.1) (sym t.became) ∙ decimal_told b t.second t.second_was;
     }
 
 box_told : (at size : Option (ℕ × ℕ)) (a b c d : List ℕ) (s : Shape) → pair_of a b ≡ at → pair_of c d ≡ size → box_of at size ≡ Some s
@@ -128,15 +127,15 @@ pub shape_told : (b : ℕ) (ws : List (List ℕ)) (s : Shape) → shape_of b ws 
 shape_told k (x ∷ y ∷ w ∷ h ∷ []) s told =
     let P : Option Shape → Type 0 = λ found. found ≡ Some s → shape_bytes s ≡ text_of ((k ∷ []) ∷ x ∷ y ∷ w ∷ h ∷ []) in
     told_cond P (nat_eq k 98) (box_of (pair_of x y) (pair_of w h)) (cond (nat_eq k 108) (line_of (pair_of x y) (direction_of w) (number_read h)) None)
-        (λ first found.
-            box_told (pair_of x y) (pair_of w h) x y w h s refl refl found ∙ letter_spaced 98 x (y ∷ w ∷ h ∷ [])
-            ∙ ap (λ c. text_of ((c ∷ []) ∷ x ∷ y ∷ w ∷ h ∷ [])) (sym (eq_told k 98 first)))
-        (λ other. told_cond P (nat_eq k 108) (line_of (pair_of x y) (direction_of w) (number_read h)) None
-            (λ second found.
-                line_told (pair_of x y) (direction_of w) (number_read h) x y w h s refl refl refl found ∙ letter_spaced 108 x (y ∷ w ∷ h ∷ [])
-                ∙ ap (λ c. text_of ((c ∷ []) ∷ x ∷ y ∷ w ∷ h ∷ [])) (sym (eq_told k 108 second)))
-            (λ none found. cc))
-        told
+    (λ first found.
+    box_told (pair_of x y) (pair_of w h) x y w h s refl refl found ∙ letter_spaced 98 x (y ∷ w ∷ h ∷ [])
+    ∙ ap (λ c. text_of ((c ∷ []) ∷ x ∷ y ∷ w ∷ h ∷ [])) (sym (eq_told k 98 first)))
+    (λ other. told_cond P (nat_eq k 108) (line_of (pair_of x y) (direction_of w) (number_read h)) None
+    (λ second found.
+    line_told (pair_of x y) (direction_of w) (number_read h) x y w h s refl refl refl found ∙ letter_spaced 108 x (y ∷ w ∷ h ∷ [])
+    ∙ ap (λ c. text_of ((c ∷ []) ∷ x ∷ y ∷ w ∷ h ∷ [])) (sym (eq_told k 108 second)))
+    (λ none found. cc))
+    told
 shape_told k ws s told = cc
 
 -- Each form of an edit was spelled as it is read.
@@ -193,21 +192,21 @@ by_letter : (c b : ℕ) (found rest : Option Edit) (ws : List (List ℕ)) (e : E
     → cond (nat_eq c b) found rest ≡ Some e → spelled e ≡ text_of ((c ∷ []) ∷ ws)
 by_letter c b found rest ws e first others h =
     told_cond (λ (told : Option Edit). told ≡ Some e → spelled e ≡ text_of ((c ∷ []) ∷ ws)) (nat_eq c b) found rest
-        (λ same told. first told ∙ ap (λ k. text_of ((k ∷ []) ∷ ws)) (sym (eq_told c b same)))
-        (λ other told. others told)
-        h
+    (λ same told. first told ∙ ap (λ k. text_of ((k ∷ []) ∷ ws)) (sym (eq_told c b same)))
+    (λ other told. others told)
+    h
 
 edit_by_told : (k : Kind) (c : ℕ) (ws : List (List ℕ)) (e : Edit) → edit_by k c ws ≡ Some e → spelled e ≡ text_of ((c ∷ []) ∷ ws)
 edit_by_told Note c ws e h =
     by_letter c 105 (place_and_text ws) (cond (nat_eq c 100) (place_and_count ws) None) ws e (text_told ws e)
-        (by_letter c 100 (place_and_count ws) None ws e (count_told ws e) (λ none. cc)) h
+    (by_letter c 100 (place_and_count ws) None ws e (count_told ws e) (λ none. cc)) h
 edit_by_told Table c ws e h =
     by_letter c 115 (cell_and_text ws) (cond (nat_eq c 99) (cell_alone ws) None) ws e (set_told ws e)
-        (by_letter c 99 (cell_alone ws) None ws e (clear_told ws e) (λ none. cc)) h
+    (by_letter c 99 (cell_alone ws) None ws e (clear_told ws e) (λ none. cc)) h
 edit_by_told Drawing c ws e h =
     by_letter c 114 (one_number remove ws) (cond (nat_eq c 117) (one_number raise ws) (option_map add (shape_of c ws))) ws e
-        (number_alone_told 114 remove (λ n. refl) ws e)
-        (by_letter c 117 (one_number raise ws) (option_map add (shape_of c ws)) ws e (number_alone_told 117 raise (λ n. refl) ws e) (add_told c ws e)) h
+    (number_alone_told 114 remove (λ n. refl) ws e)
+    (by_letter c 117 (one_number raise ws) (option_map add (shape_of c ws)) ws e (number_alone_told 117 raise (λ n. refl) ws e) (add_told c ws e)) h
 
 edit_in_told : (k : Kind) (ws : List (List ℕ)) (e : Edit) → edit_in k ws ≡ Some e → spelled e ≡ text_of ws
 edit_in_told k ((c ∷ []) ∷ ws) e h = edit_by_told k c ws e h

@@ -154,3 +154,6 @@ impl Embedded for Note {
         [0, 1, 0, 0]
     }
 }
+
+#[cfg(test)]
+mod tests;

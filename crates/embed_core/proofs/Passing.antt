@@ -1,6 +1,5 @@
 -- Tests that hold.
 use Rattle.std.proofs.Common.{◌≡◌, ◌≤◌, ◌<◌, ◌&&◌, ℕ, Bool, true, false, cond, nat_le, nat_lt, nat_eq, refl, arith}
-use Rattle.std.specs.Prelude.{Result, Ok, Err}
 use Rattle.std.proofs.lemmas.Bool.Decides.{nat_tests}
 
 pub both : (a b : Bool) → a ≡ true → b ≡ true → (a && b) ≡ true
