@@ -19,7 +19,7 @@ use Rattle.embed_core.specs.declared.fault.EmbedFault.TheVariants.{BadContent}
 use Rattle.embed_core.proofs.Behind.{entry_in-rest}
 use Rattle.embed_core.proofs.Cuts.{pieces-known}
 use Rattle.embed_core.proofs.Staying.{places}
-use Rattle.embed_core.proofs.Tests.{both, first_of_both, second_of_both, told_cond, lt_passes, lt_told, le_passes, le_told}
+use Rattle.embed_core.proofs.Passing.{both, first_of_both, second_of_both, told_cond, lt_passes, lt_told, le_passes, le_told}
 use Rattle.embed_table.specs.Listed.{behind, entries_of, sound}
 use Rattle.embed_table.specs.Placed.{cell_at, entry_at, entries_at, place_of}
 use Rattle.embed_table.proofs.Kept.{Entries, Listing, placed, cell-placed, place-at, put-last, rising-rest}

@@ -134,3 +134,6 @@ impl Embedded for Table {
         [2, 1, 0, 0]
     }
 }
+
+#[cfg(test)]
+mod tests;
