@@ -1,13 +1,9 @@
-// A library with one function.
+//! Tables: texts in cells A1 to Z99.
 #![tactic(auto)]
 
-ghost use Rattle.std.specs.Prelude.{◌≡◌};
-ghost use Rattle.embed_table.specs.Echo.{echo_of};
-
-// The `ensures` clause is the contract: what `echo` returns is `echo_of` of its argument, a definition
-// in `specs/Echo.antt`, which a caller's clause can cite too.
-pub fn echo(x: usize) -> usize
-    ensures { result ≡ echo_of x }
-{
-    x
-}
+mod cell_name;
+mod edits;
+mod entries;
+mod lines;
+pub mod table;
+mod text;

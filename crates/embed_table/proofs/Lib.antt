@@ -1,0 +1,3 @@
+mod Written
+mod Kept
+mod Loading

@@ -1,0 +1,14 @@
+use Rattle.std.proofs.Common.{sym}
+use Rattle.embed_table.specs.Placed.{named}
+use Rattle.embed_core.specs.Reading.{entry_in}
+use Rattle.embed_core.specs.Words.{words}
+use Rattle.embed_table.proofs.Loading.{entry-sound, text-unsound}
+use Rattle.embed_table.proofs.entries.entry.Goals as goal
+
+pub returns : goal.returns
+returns c = entry-sound c.in_ok-place.place (named c.in_ok-cell.cell) c.in_ok-cell.text.now (entry_in (words c.args.line.now))
+    c.in_ok-cell.ensures c.in_ok-place.ensures (sym c.if-not-is_cell_text.ensures)
+
+pub returns-then-not-is_cell_text : goal.returns-then-not-is_cell_text
+returns-then-not-is_cell_text c = text-unsound (named c.in_ok-cell.cell) c.in_ok-cell.text.now (entry_in (words c.args.line.now))
+    c.in_ok-cell.ensures (sym c.if-not-is_cell_text.ensures)

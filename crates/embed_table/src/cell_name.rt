@@ -1,0 +1,49 @@
+//! Names of cells.
+
+ghost use Rattle.embed_core.specs.Reading.{cell_of};
+ghost use Rattle.embed_table.specs.Placed.{named, place_of};
+ghost use Rattle.std.specs.Option.{option_map};
+ghost use Rattle.std.specs.Prelude.{◌≡◌};
+
+use embed_core::words::number;
+
+/// A cell as a name spells it: its column, from 0 for A, and its row. It may lie outside of a table.
+#[derive(Debug, Clone, Copy)]
+pub struct CellName {
+    /// The column.
+    pub column: u8,
+    /// The row.
+    pub row: u32,
+}
+
+/// The cell that a word names, if any.
+pub fn read(word: &[u8]) -> Option<CellName>
+    ensures { option_map named result ≡ cell_of word.now }
+{
+    let [letter, digits @ ..] = word else {
+        return None;
+    };
+    if *letter < b'A' {
+        return None;
+    }
+    Some(CellName {
+        column: *letter - b'A',
+        row: number(digits)?,
+    })
+}
+
+impl CellName {
+    ghost use Rattle.std.specs.Prelude.{◌≡◌};
+    ghost use Rattle.embed_table.specs.Placed.{named, place_of};
+
+    /// Its place among all cells of a table, by row and then by column, if it is one of them.
+    pub fn place(self) -> Option<u16>
+        ensures { result ≡ place_of (named self) }
+    {
+        if self.column < 26 && 1 <= self.row && self.row <= 99 {
+            Some(26 * self.row as u16 + u16::from(self.column))
+        } else {
+            None
+        }
+    }
+}
