@@ -10,3 +10,5 @@ pub mod ContentsRoom
 pub mod Contents
 pub mod ContentsWhole
 pub mod ContentsPieces
+pub mod ContentsIds
+pub mod ContentsRead
