@@ -12,3 +12,4 @@ pub mod ContentsWhole
 pub mod ContentsPieces
 pub mod ContentsIds
 pub mod ContentsRead
+pub mod ContentsNext
