@@ -32,7 +32,7 @@ long-none b l = ap (λ c. if c then 0 else pieces 512 (length b)) (lt-ltb (lengt
 pub long-is : (b : List ℕ) → 4096 ≤ length b → long_pieces b ≡ pieces 512 (length b)
 long-is b l = ap (λ c. if c then 0 else pieces 512 (length b)) (le-ltb (length b) 4096 l)
 
-shorts-with : (k n b : List ℕ) (cs : Children) → length b < 4096 → short_streams_of (stream k n b cs) ≡ b ∷ short_streams_of cs
+pub shorts-with : (k n b : List ℕ) (cs : Children) → length b < 4096 → short_streams_of (stream k n b cs) ≡ b ∷ short_streams_of cs
 shorts-with k n b cs l = ap (λ c. if c then b ∷ short_streams_of cs else short_streams_of cs) (lt-ltb (length b) 4096 l)
 
 shorts-without : (k n b : List ℕ) (cs : Children) → 4096 ≤ length b → short_streams_of (stream k n b cs) ≡ short_streams_of cs
@@ -41,7 +41,7 @@ shorts-without k n b cs l = ap (λ c. if c then b ∷ short_streams_of cs else s
 longs-without : (k n b : List ℕ) (cs : Children) → length b < 4096 → long_streams_of (stream k n b cs) ≡ long_streams_of cs
 longs-without k n b cs l = ap (λ c. if c then long_streams_of cs else b ∷ long_streams_of cs) (lt-ltb (length b) 4096 l)
 
-longs-with : (k n b : List ℕ) (cs : Children) → 4096 ≤ length b → long_streams_of (stream k n b cs) ≡ b ∷ long_streams_of cs
+pub longs-with : (k n b : List ℕ) (cs : Children) → 4096 ≤ length b → long_streams_of (stream k n b cs) ≡ b ∷ long_streams_of cs
 longs-with k n b cs l = ap (λ c. if c then long_streams_of cs else b ∷ long_streams_of cs) (le-ltb (length b) 4096 l)
 
 pub sum-pieces-append : (w : ℕ) (xs ys : List (List ℕ)) → sum (pieces_of w (xs ++ ys)) ≡ sum (pieces_of w xs) + sum (pieces_of w ys)

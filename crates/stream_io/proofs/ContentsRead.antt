@@ -94,6 +94,22 @@ class-spelled (tree class state cs) h = h.0
 state-spelled : (t : Tree) → IsSpelled t → state_in t < 2 ^ 32
 state-spelled (tree class state cs) h = h.1
 
+module _ (links : ℕ → Siblings) (directory : List ℕ) where
+  -- what each entry says
+  abbrev mutual
+    pub SaidBelow : ℕ → ℕ → ℕ → Tree → Type 0
+    SaidBelow id mini sector (tree class state cs) = AreSaid (ids_from (id + 1) cs) 0 (id + 1) mini sector cs
+
+    pub AreSaid : List ℕ → ℕ → ℕ → ℕ → ℕ → Children → Type 0
+    AreSaid ids place id mini sector none = Unit {0}
+    AreSaid ids place id mini sector (stream k n b cs) =
+        Says n (stream_says links ids place mini sector (length b)) (entry_at directory id)
+        × AreSaid ids (place + 1) (id + 1) (mini + short_pieces b) (sector + long_pieces b) cs
+    AreSaid ids place id mini sector (storage k n t cs) =
+        Says n (storage_says links ids place id t) (entry_at directory id)
+        × SaidBelow id mini sector t
+        × AreSaid ids (place + 1) (id + 1 + entries t) (mini + mini_sectors t) (sector + long_sectors t) cs
+
 module _ (links : ℕ → Siblings) (balanced : AreBalanced links) (last : ℕ) (few : last < 2 ^ 32) where
   ids-small : (id : ℕ) (cs : Children) → id + entries_of cs ≤ last → (k : ℕ) → k < length (ids_from id cs) → get_or (ids_from id cs) k 0 < 2 ^ 32
   ids-small id cs within k l = let r : get_or (ids_from id cs) k 0 < id + entries_of cs = ids-below id cs k l in omega arith
@@ -153,32 +169,17 @@ module _ (links : ℕ → Siblings) (balanced : AreBalanced links) (last : ℕ) 
         omega (arith, length-append (entry_bytes n e) (inner ++ more), length-append inner more, length-entry_bytes n e whole.0.valid.short w)
 
   module _ (directory : List ℕ) where
-    -- what each entry says
-    abbrev mutual
-      pub SaidBelow : ℕ → ℕ → ℕ → Tree → Type 0
-      SaidBelow id mini sector (tree class state cs) = AreSaid (ids_from (id + 1) cs) 0 (id + 1) mini sector cs
-
-      pub AreSaid : List ℕ → ℕ → ℕ → ℕ → ℕ → Children → Type 0
-      AreSaid ids place id mini sector none = Unit {0}
-      AreSaid ids place id mini sector (stream k n b cs) =
-          Says n (stream_says links ids place mini sector (length b)) (entry_at directory id)
-          × AreSaid ids (place + 1) (id + 1) (mini + short_pieces b) (sector + long_pieces b) cs
-      AreSaid ids place id mini sector (storage k n t cs) =
-          Says n (storage_says links ids place id t) (entry_at directory id)
-          × SaidBelow id mini sector t
-          × AreSaid ids (place + 1) (id + 1 + entries t) (mini + mini_sectors t) (sector + long_sectors t) cs
-
     mutual
       pub said-below : (depth id mini sector : ℕ) (t : Tree) → IsTree depth t → IsSpelled t
           → AreWithin last (id + 1 + entries t) (mini + mini_sectors t) (sector + long_sectors t)
-          → Begins directory (id + 1) (entries_below links id mini sector t) → SaidBelow id mini sector t
+          → Begins directory (id + 1) (entries_below links id mini sector t) → SaidBelow links directory id mini sector t
       said-below depth id mini sector (tree class state cs) whole spelled within b =
           said-each depth (ids_from (id + 1) cs) (ids-small (id + 1) cs within.of_ids) 0 (id + 1) mini sector cs whole spelled.2 within (omega arith) b
 
       pub said-each : (depth : ℕ) (ids : List ℕ) → ((k : ℕ) → k < length ids → get_or ids k 0 < 2 ^ 32) → (place id mini sector : ℕ) (cs : Children)
           → AreTrees depth cs → AreSpelled cs → AreWithin last (id + entries_of cs) (mini + over_streams_of short_pieces cs) (sector + over_streams_of long_pieces cs)
           → place + length (ids_from id cs) ≤ length ids
-          → Begins directory id (each_entry links ids place id mini sector cs) → AreSaid ids place id mini sector cs
+          → Begins directory id (each_entry links ids place id mini sector cs) → AreSaid links directory ids place id mini sector cs
       said-each depth ids small place id mini sector none whole spelled within at b = tt
       said-each depth ids small place id mini sector (stream k n bytes cs) whole spelled within at b =
           let e : EntryFields = stream_says links ids place mini sector (length bytes) in

@@ -13,3 +13,4 @@ pub mod ContentsPieces
 pub mod ContentsIds
 pub mod ContentsRead
 pub mod ContentsNext
+pub mod ContentsTree
