@@ -73,7 +73,7 @@ begins-behind directory id n front more wide b = record {
 pub begins-front : (directory : List ℕ) (id : ℕ) (front more : List ℕ) → Begins directory id (front ++ more) → Begins directory id front
 begins-front directory id front more b = record { rest = more ++ b.rest; is = b.is ∙ append_assoc front more b.rest }
 
-start-fits : (at n : ℕ) → at < 2 ^ 32 → start at n < 2 ^ 32
+pub start-fits : (at n : ℕ) → at < 2 ^ 32 → start at n < 2 ^ 32
 start-fits at zero h = lit< tt
 start-fits at (suc n) h = h
 
@@ -88,10 +88,10 @@ pub record AreWithin (last ids minis sectors : ℕ) : Type 0 where
   pub of_minis : minis ≤ last
   pub of_sectors : sectors ≤ last
 
-class-spelled : (t : Tree) → IsSpelled t → length (class_in t) ≡ 16
+pub class-spelled : (t : Tree) → IsSpelled t → length (class_in t) ≡ 16
 class-spelled (tree class state cs) h = h.0
 
-state-spelled : (t : Tree) → IsSpelled t → state_in t < 2 ^ 32
+pub state-spelled : (t : Tree) → IsSpelled t → state_in t < 2 ^ 32
 state-spelled (tree class state cs) h = h.1
 
 module _ (links : ℕ → Siblings) (directory : List ℕ) where
@@ -114,7 +114,7 @@ module _ (links : ℕ → Siblings) (balanced : AreBalanced links) (last : ℕ) 
   ids-small : (id : ℕ) (cs : Children) → id + entries_of cs ≤ last → (k : ℕ) → k < length (ids_from id cs) → get_or (ids_from id cs) k 0 < 2 ^ 32
   ids-small id cs within k l = let r : get_or (ids_from id cs) k 0 < id + entries_of cs = ids-below id cs k l in omega arith
 
-  child-fits : (id : ℕ) (t : Tree) → id + 1 + entries t ≤ last → child_of links id t < 2 ^ 32
+  pub child-fits : (id : ℕ) (t : Tree) → id + 1 + entries t ≤ last → child_of links id t < 2 ^ 32
   child-fits id (tree class state cs) within = top-fits links balanced (ids_from (id + 1) cs) (ids-small (id + 1) cs within)
 
   module _ (ids : List ℕ) (small : (k : ℕ) → k < length ids → get_or ids k 0 < 2 ^ 32) where

@@ -14,3 +14,4 @@ pub mod ContentsIds
 pub mod ContentsRead
 pub mod ContentsNext
 pub mod ContentsTree
+pub mod ContentsAll

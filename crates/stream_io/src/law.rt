@@ -3,6 +3,7 @@
 ghost use Rattle.std.specs.Prelude.{List, ℕ, ◌≡◌};
 ghost use Rattle.storage_tree.specs.Tree.{Tree};
 ghost use Rattle.stream_io.specs.Denotes.{Denotes};
+ghost use Rattle.stream_io.specs.Directory.{PlacedDenotes};
 ghost use Rattle.stream_io.specs.Need.{LeastFat};
 
 /// Bytes denote at most one tree.
@@ -13,4 +14,10 @@ pub fn one_tree()
 /// The number of FAT sectors that a tree needs is the least that covers all sectors.
 pub fn least_fat()
     ensures { LeastFat }
+{}
+
+/// A file in which all parts of a tree lie denotes the tree: its entries depth first and balanced, its short streams in
+/// the mini stream and its long ones in sectors behind the other parts, both in the order of their entries.
+pub fn placed_denotes()
+    ensures { PlacedDenotes }
 {}
