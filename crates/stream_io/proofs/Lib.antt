@@ -15,3 +15,4 @@ pub mod ContentsRead
 pub mod ContentsNext
 pub mod ContentsTree
 pub mod ContentsAll
+pub mod ContentsBalanced

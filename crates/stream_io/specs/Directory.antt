@@ -1,10 +1,10 @@
 -- How the directory of a tree is written: entries stand depth first, siblings in name order (MS-CFB 2.6).
-use Rattle.std.specs.Prelude.{◌≡◌, ◌<◌, ◌≤◌, ◌+◌, ◌-◌, ◌*◌, ◌^◌, ℕ, List, [], ◌∷◌, ◌++◌, length, map, replicate, slice_index, if◌then◌else◌, nat_lt}
+use Rattle.std.specs.Prelude.{◌≡◌, ◌<◌, ◌≤◌, ◌+◌, ◌-◌, ◌*◌, ◌^◌, ℕ, List, [], ◌∷◌, ◌++◌, length, map, replicate, slice_index, if◌then◌else◌, cond, nat_lt, zero, suc}
 use Rattle.std.specs.List.{concat, flat_map, range_with_len, sum}
 use Rattle.cfb_chain.specs.Bytes.{block}
 use Rattle.cfb_chain.specs.Chain.{AreDistinct}
 use Rattle.cfb_directory.specs.Entries.{NO_STREAM, root_name}
-use Rattle.cfb_directory.specs.SearchTree.{link_to, IsSearchTree}
+use Rattle.cfb_directory.specs.SearchTree.{link_to, middle, IsSearchTree}
 use Rattle.cfb_directory.specs.Written.{entry_bytes, free_entry_bytes}
 use Rattle.cfb_directory.specs.declared.write.EntryFields.{EntryFields}
 use Rattle.cfb_directory.specs.declared.entries.EntryKind.TheVariants as kinds
@@ -23,6 +23,23 @@ pub record Siblings : Type 0 where
 
 abbrev pub AreBalanced : (ℕ → Siblings) → Type 0
 AreBalanced links = (n : ℕ) → IsSearchTree (links n).left (links n).right 0 n (links n).top
+
+-- the place on top of those from `lo` up to `hi`, or nobody's
+abbrev pub top_between : ℕ → ℕ → ℕ
+top_between lo hi = cond (nat_lt lo hi) (middle lo hi) NO_STREAM
+
+-- the links to the left and to the right of the places from `lo` up to `hi`, in as many halvings as are enough
+abbrev pub lefts : ℕ → ℕ → ℕ → List ℕ
+lefts zero lo hi = []
+lefts (suc depth) lo hi = cond (nat_lt lo hi) (lefts depth lo (middle lo hi) ++ top_between lo (middle lo hi) ∷ lefts depth (middle lo hi + 1) hi) []
+
+abbrev pub rights : ℕ → ℕ → ℕ → List ℕ
+rights zero lo hi = []
+rights (suc depth) lo hi = cond (nat_lt lo hi) (rights depth lo (middle lo hi) ++ top_between (middle lo hi + 1) hi ∷ rights depth (middle lo hi + 1) hi) []
+
+-- the balanced links of so many siblings
+abbrev pub balanced : ℕ → Siblings
+balanced n = record { top = top_between 0 n; left = lefts n 0 n; right = rights n 0 n }
 
 -- the entries of siblings, of which the first has this one; those below a storage stand between it and the next
 abbrev pub ids_from : ℕ → Children → List ℕ
