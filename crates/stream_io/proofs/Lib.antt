@@ -16,3 +16,4 @@ pub mod ContentsNext
 pub mod ContentsTree
 pub mod ContentsAll
 pub mod ContentsBalanced
+pub mod ContentsWalk

@@ -9,6 +9,7 @@ use Rattle.cfb_directory.specs.Written.{entry_bytes, free_entry_bytes}
 use Rattle.cfb_directory.specs.declared.write.EntryFields.{EntryFields}
 use Rattle.cfb_directory.specs.declared.entries.EntryKind.TheVariants as kinds
 use Rattle.storage_tree.specs.Tree.{Tree, Children, tree, none, stream, storage}
+use Rattle.storage_tree.specs.Change.{Seen, bytes, inner}
 use Rattle.storage_tree.specs.Whole.{IsTree}
 use Rattle.stream_io.specs.Need.{pieces, entries, entries_of, mini_sectors, long_sectors, short_pieces, long_pieces, directory_sectors, mini_fat_sectors, mini_stream_sectors, data_sectors}
 use Rattle.stream_io.specs.Image.{Parts, start, padded, runs}
@@ -46,6 +47,11 @@ abbrev pub ids_from : ℕ → Children → List ℕ
 ids_from id none = []
 ids_from id (stream k n b cs) = id ∷ ids_from (id + 1) cs
 ids_from id (storage k n t cs) = id ∷ ids_from (id + 1 + entries t) cs
+
+-- the entries of a child, with its own
+abbrev pub entries_with : Seen → ℕ
+entries_with (bytes b) = 1
+entries_with (inner t) = 1 + entries t
 
 -- the entry that a link to one of these siblings names
 abbrev pub linked : List ℕ → ℕ → ℕ

@@ -1,5 +1,6 @@
 //! Whole compound files.
 #![tactic(auto)]
 
+pub mod entries;
 pub mod fault;
 pub mod law;
