@@ -68,6 +68,9 @@ long_start f t = f + directory_sectors t + mini_fat_sectors t + mini_stream_sect
 abbrev pub child_of : (ℕ → Siblings) → ℕ → Tree → ℕ
 child_of links id (tree class state cs) = linked (ids_from (id + 1) cs) (links (length (ids_from (id + 1) cs))).top
 
+abbrev pub children_in : Tree → Children
+children_in (tree class state cs) = cs
+
 abbrev pub class_in : Tree → List ℕ
 class_in (tree class state cs) = class
 

@@ -1,10 +1,14 @@
 //! The entries of a tree, as they are written (MS-CFB 2.6).
 
-ghost use Rattle.std.specs.Prelude.{◌≡◌, min};
+ghost use Rattle.std.specs.Prelude.{◌≡◌, ◌<◌, ◌+◌, IfOk, min};
+ghost use Rattle.std.specs.Vec.{vec_len};
 ghost use Rattle.storage_tree.specs.View.{seen, view};
 ghost use Rattle.stream_io.specs.Need.{entries};
-ghost use Rattle.stream_io.specs.Directory.{entries_with};
+ghost use Rattle.stream_io.specs.Family.{IsFamily};
+ghost use Rattle.stream_io.specs.Directory.{children_in, entries_with, ids_from};
 
+use cfb_directory::links::{Links, balanced};
+use std::alloc::{AllocError, Global};
 use storage_tree::storage::{Node, Storage};
 
 /// More entries than any file that is written has.
@@ -31,4 +35,36 @@ fn count_with(child: &Node) -> u32
         Node::Stream(_) => 1,
         Node::Storage(inner) => (1 + count_below(inner)).min(MANY),
     }
+}
+
+/// The ids of a storage's children, of which the first has this one.
+fn child_ids(alloc: Global, storage: &Storage, first: u32) -> Result<Vec<u32>, AllocError>
+    requires { first + entries (view storage.now) < 1048576 }
+    ensures listed { IfOk result (λ ids. ids.items ≡ ids_from first (children_in (view storage.now))) }
+    ensures few { IfOk result (λ ids. vec_len ids < 1048576) }
+{
+    let mut ids = Vec::new(alloc);
+    let mut id = first;
+    for (_, child) in storage.children.iter() {
+        ids.push(id)?;
+        id += count_with(&child.1);
+    }
+    Ok(ids)
+}
+
+/// The entries of siblings, and how they are linked.
+#[derive(Drop)]
+struct Family {
+    ids: Vec<u32>,
+    links: Links,
+}
+
+/// The children of a storage, of which the first has this id.
+fn family_of(alloc: Global, storage: &Storage, first: u32) -> Result<Family, AllocError>
+    requires { first + entries (view storage.now) < 1048576 }
+    ensures { IfOk result (λ family. IsFamily family first (children_in (view storage.now))) }
+{
+    let ids = child_ids(alloc, storage, first)?;
+    let links = balanced(alloc, ids.len() as u32)?;
+    Ok(Family { ids, links })
 }
