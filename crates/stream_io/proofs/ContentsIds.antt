@@ -10,6 +10,7 @@ use Rattle.cfb_directory.specs.SearchTree.{IsSearchTree, empty, node, middle, li
 use Rattle.cfb_directory.proofs.Trees.{Reached}
 use Rattle.storage_tree.specs.Tree.{Tree, Children, tree, none, stream, storage}
 use Rattle.stream_io.specs.Need.{entries, entries_of}
+use Rattle.stream_io.specs.Family.{IsLink}
 use Rattle.stream_io.specs.Directory.{Siblings, AreBalanced, ids_from, linked}
 
 pub ids-from : (id : ℕ) (cs : Children) (k : ℕ) → k < length (ids_from id cs) → id ≤ get_or (ids_from id cs) k 0
@@ -43,11 +44,7 @@ count-le id none = omega arith
 count-le id (stream q n b cs) = omega (arith, count-le (id + 1) cs)
 count-le id (storage q n t cs) = omega (arith, count-le (id + 1 + entries t) cs)
 
--- a link to one of so many siblings, or to nobody
-abbrev pub IsLink : ℕ → ℕ → Type 0
-IsLink count place = (place ≡ NO_STREAM) ⊎ (place < count)
-
-top-link : (lefts rights : List ℕ) (lo hi top : ℕ) → IsSearchTree lefts rights lo hi top → IsLink hi top
+pub top-link : (lefts rights : List ℕ) (lo hi top : ℕ) → IsSearchTree lefts rights lo hi top → IsLink hi top
 top-link lefts rights lo hi top (empty at) = inl refl
 top-link lefts rights lo hi top (node from to some before after) = inr (omega arith)
 
@@ -59,7 +56,7 @@ pub record LinksAt (lefts rights : List ℕ) (count place : ℕ) : Type 0 where
   pub to_left : IsLink count (slice_index lefts place)
   pub to_right : IsLink count (slice_index rights place)
 
-links-at : (lefts rights : List ℕ) (lo hi top : ℕ) → IsSearchTree lefts rights lo hi top → (p : ℕ) → lo ≤ p → p < hi → LinksAt lefts rights hi p
+pub links-at : (lefts rights : List ℕ) (lo hi top : ℕ) → IsSearchTree lefts rights lo hi top → (p : ℕ) → lo ≤ p → p < hi → LinksAt lefts rights hi p
 links-at lefts rights lo hi top (empty at) p from to = absurd (omega arith)
 links-at lefts rights lo hi top (node from' to' some before after) p from to =
     let m : ℕ = middle lo hi in

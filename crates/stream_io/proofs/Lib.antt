@@ -17,3 +17,4 @@ pub mod ContentsTree
 pub mod ContentsAll
 pub mod ContentsBalanced
 pub mod ContentsWalk
+pub mod ContentsFamily

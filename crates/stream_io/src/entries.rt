@@ -7,6 +7,7 @@ ghost use Rattle.stream_io.specs.Need.{entries};
 ghost use Rattle.stream_io.specs.Family.{IsFamily};
 ghost use Rattle.stream_io.specs.Directory.{children_in, entries_with, ids_from};
 
+use cfb_directory::entries::NO_STREAM;
 use cfb_directory::links::{Links, balanced};
 use std::alloc::{AllocError, Global};
 use storage_tree::storage::{Node, Storage};
@@ -67,4 +68,48 @@ fn family_of(alloc: Global, storage: &Storage, first: u32) -> Result<Family, All
     let ids = child_ids(alloc, storage, first)?;
     let links = balanced(alloc, ids.len() as u32)?;
     Ok(Family { ids, links })
+}
+
+impl Family {
+    ghost use Rattle.std.specs.Prelude.{◌≡◌, ◌<◌, ℕ, length, slice_index};
+    ghost use Rattle.stream_io.specs.Family.{IsJoined, IsLink};
+    ghost use Rattle.stream_io.specs.Directory.{balanced, linked};
+
+    /// The entry that a link to one of the siblings names.
+    fn entry_id(&self, place: u32) -> u32
+        requires { IsLink (length self.now.ids.items) place }
+        ensures { result ≡ linked self.now.ids.items place }
+    {
+        if place == NO_STREAM {
+            NO_STREAM
+        } else {
+            self.ids[place as usize]
+        }
+    }
+
+    /// The entry on top.
+    fn top(&self) -> u32
+        requires { IsJoined self.now }
+        ensures { result ≡ linked self.now.ids.items (balanced (length self.now.ids.items)).top }
+    {
+        self.entry_id(self.links.top)
+    }
+
+    /// The entry to the left of the one at a place.
+    fn left(&self, place: usize) -> u32
+        requires joined { IsJoined self.now }
+        requires there { place < length self.now.ids.items }
+        ensures { result ≡ linked self.now.ids.items (slice_index (balanced (length self.now.ids.items)).left place) }
+    {
+        self.entry_id(self.links.left[place])
+    }
+
+    /// The entry to the right of the one at a place.
+    fn right(&self, place: usize) -> u32
+        requires joined { IsJoined self.now }
+        requires there { place < length self.now.ids.items }
+        ensures { result ≡ linked self.now.ids.items (slice_index (balanced (length self.now.ids.items)).right place) }
+    {
+        self.entry_id(self.links.right[place])
+    }
 }
