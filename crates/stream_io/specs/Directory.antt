@@ -65,9 +65,6 @@ first_of_stream mini sector size = if nat_lt size 4096 then start mini (pieces 6
 abbrev pub long_start : ℕ → Tree → ℕ
 long_start f t = f + directory_sectors t + mini_fat_sectors t + mini_stream_sectors t
 
-abbrev pub child_of : (ℕ → Siblings) → ℕ → Tree → ℕ
-child_of links id (tree class state cs) = linked (ids_from (id + 1) cs) (links (length (ids_from (id + 1) cs))).top
-
 abbrev pub children_in : Tree → Children
 children_in (tree class state cs) = cs
 
@@ -76,6 +73,10 @@ class_in (tree class state cs) = class
 
 abbrev pub state_in : Tree → ℕ
 state_in (tree class state cs) = state
+
+-- the entry on top of what is below a storage that has this one
+abbrev pub child_of : (ℕ → Siblings) → ℕ → Tree → ℕ
+child_of links id t = linked (ids_from (id + 1) (children_in t)) (links (length (ids_from (id + 1) (children_in t)))).top
 
 module _ (links : ℕ → Siblings) where
   -- the entry of the stream at a place among siblings

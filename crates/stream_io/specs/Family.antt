@@ -1,10 +1,14 @@
 -- The entries of siblings as the writer keeps them.
-use Rattle.std.specs.Prelude.{◌≡◌, ◌<◌, ◌⊎◌, ℕ, length}
+use Rattle.std.specs.Prelude.{◌≡◌, ◌<◌, ◌+◌, ◌⊎◌, ◌++◌, ℕ, List, length}
 use Rattle.cfb_directory.specs.Entries.{NO_STREAM}
 use Rattle.cfb_directory.specs.SearchTree.{IsSearchTree}
+use Rattle.cfb_directory.specs.Written.{entry_bytes}
 use Rattle.storage_tree.specs.Tree.{Children}
-use Rattle.stream_io.specs.Directory.{ids_from}
+use Rattle.storage_tree.specs.Change.{Seen, bytes, inner}
+use Rattle.stream_io.specs.Need.{mini_sectors, long_sectors, short_pieces, long_pieces}
+use Rattle.stream_io.specs.Directory.{ids_from, entries_with, stream_says, storage_says, entries_below, each_entry, balanced}
 use Rattle.stream_io.specs.declared.entries.Family.{Family}
+use Rattle.stream_io.specs.declared.entries.Cursor.{Cursor}
 
 -- links of as many siblings as there are
 pub record IsJoined (family : Family) : Type 0 where
@@ -20,3 +24,31 @@ pub record IsFamily (family : Family) (first : ℕ) (cs : Children) : Type 0 whe
 -- a link to one of so many siblings, or to nobody
 abbrev pub IsLink : ℕ → ℕ → Type 0
 IsLink count place = (place ≡ NO_STREAM) ⊎ (place < count)
+
+-- the mini sectors and sectors of a child
+abbrev pub minis_with : Seen → ℕ
+minis_with (bytes b) = short_pieces b
+minis_with (inner t) = mini_sectors t
+
+abbrev pub sectors_with : Seen → ℕ
+sectors_with (bytes b) = long_pieces b
+sectors_with (inner t) = long_sectors t
+
+-- where the next entry, mini sector and sector stand behind a child
+abbrev pub past : Cursor → Seen → Cursor
+past at s = record { id = at.id + entries_with s; mini = at.mini + minis_with s; sector = at.sector + sectors_with s }
+
+-- all of them are below a bound
+pub record IsBelow (at : Cursor) (bound : ℕ) : Type 0 where
+  pub id : at.id < bound
+  pub mini : at.mini < bound
+  pub sector : at.sector < bound
+
+-- the entry of a child, and those below it
+abbrev pub child_entries : List ℕ → ℕ → Cursor → List ℕ → Seen → List ℕ
+child_entries ids place at name (bytes b) = entry_bytes name (stream_says balanced ids place at.mini at.sector (length b))
+child_entries ids place at name (inner t) = entry_bytes name (storage_says balanced ids place at.id t) ++ entries_below balanced at.id at.mini at.sector t
+
+-- the entries of siblings
+abbrev pub sibling_entries : List ℕ → ℕ → Cursor → Children → List ℕ
+sibling_entries ids place at cs = each_entry balanced ids place at.id at.mini at.sector cs

@@ -1,15 +1,19 @@
 //! The entries of a tree, as they are written (MS-CFB 2.6).
 
-ghost use Rattle.std.specs.Prelude.{◌≡◌, ◌<◌, ◌+◌, IfOk, min};
+ghost use Rattle.std.specs.Prelude.{◌≡◌, ◌<◌, ◌+◌, ◌^◌, ℕ, IfOk, length, min};
 ghost use Rattle.std.specs.Vec.{vec_len};
 ghost use Rattle.storage_tree.specs.View.{seen, view};
 ghost use Rattle.stream_io.specs.Need.{entries};
-ghost use Rattle.stream_io.specs.Family.{IsFamily};
-ghost use Rattle.stream_io.specs.Directory.{children_in, entries_with, ids_from};
+ghost use Rattle.stream_io.specs.Family.{IsFamily, IsJoined};
+ghost use Rattle.stream_io.specs.Image.{start};
+ghost use Rattle.stream_io.specs.Directory.{balanced as balanced_links, children_in, entries_with, first_of_stream, ids_from, storage_says, stream_says};
 
-use cfb_directory::entries::NO_STREAM;
+use cfb_chain::fat::END_OF_CHAIN;
+use cfb_directory::entries::{EntryKind, NO_STREAM};
 use cfb_directory::links::{Links, balanced};
+use cfb_directory::write::EntryFields;
 use std::alloc::{AllocError, Global};
+use storage_tree::bytes::Bytes;
 use storage_tree::storage::{Node, Storage};
 
 /// More entries than any file that is written has.
@@ -111,5 +115,73 @@ impl Family {
         ensures { result ≡ linked self.now.ids.items (slice_index (balanced (length self.now.ids.items)).right place) }
     {
         self.entry_id(self.links.right[place])
+    }
+}
+
+/// Where the next entry, mini sector and sector stand.
+#[derive(Debug, Clone, Copy, PartialEq, Eq)]
+pub struct Cursor {
+    pub id: u32,
+    pub mini: u32,
+    pub sector: u32,
+}
+
+/// Where a run of so many sectors starts, which is nowhere where it is empty.
+fn chain_start(at: u32, count: u32) -> u32
+    ensures { result ≡ start at count }
+{
+    if count == 0 {
+        END_OF_CHAIN
+    } else {
+        at
+    }
+}
+
+/// Where a stream of so many bytes starts.
+fn stream_start(at: Cursor, len: u32) -> u32
+    ensures { result ≡ first_of_stream at.mini at.sector len }
+{
+    if len < 4096 {
+        chain_start(at.mini, len.div_ceil(64))
+    } else {
+        chain_start(at.sector, len.div_ceil(512))
+    }
+}
+
+/// What the entry of the stream at a place says.
+fn stream_entry(family: &Family, place: usize, at: Cursor, bytes: &Bytes) -> EntryFields
+    requires joined { IsJoined family.now }
+    requires there { place < length family.now.ids.items }
+    requires few { length bytes.now < 2 ^ 32 }
+    ensures { result ≡ stream_says balanced_links family.now.ids.items place at.mini at.sector (length bytes.now) }
+{
+    EntryFields {
+        kind: EntryKind::Stream,
+        left: family.left(place),
+        right: family.right(place),
+        child: NO_STREAM,
+        class: [0; 16],
+        state: 0,
+        first: stream_start(at, bytes.len() as u32),
+        size: bytes.len() as u32,
+    }
+}
+
+/// What the entry of the storage at a place says, whose children are these.
+fn storage_entry(family: &Family, place: usize, storage: &Storage, children: &Family) -> EntryFields
+    requires joined { IsJoined family.now }
+    requires there { place < length family.now.ids.items }
+    requires below { IsJoined children.now }
+    ensures { (id : ℕ) → IsFamily children.now (id + 1) (children_in (view storage.now)) → result ≡ storage_says balanced_links family.now.ids.items place id (view storage.now) }
+{
+    EntryFields {
+        kind: EntryKind::Storage,
+        left: family.left(place),
+        right: family.right(place),
+        child: children.top(),
+        class: *storage.class.as_bytes(),
+        state: storage.state,
+        first: 0,
+        size: 0,
     }
 }
