@@ -1,5 +1,5 @@
 -- The table of sectors, and what is used of it (MS-CFB 2.3, 2.4).
-use Rattle.std.specs.Prelude.{◌≡◌, ◌≢◌, ◌≤◌, ◌<◌, ◌+◌, ◌-◌, ◌*◌, ◌/◌, ℕ, zero, suc, Bool, true, false, ◌⊎◌, List, [], ◌∷◌, ◌++◌, length, take, min, replicate, slice_index, slice_index_or, slice_set}
+use Rattle.std.specs.Prelude.{◌≡◌, ◌≢◌, ◌≤◌, ◌<◌, ◌+◌, ◌-◌, ◌*◌, ◌/◌, ℕ, Bool, true, false, ◌⊎◌, List, [], ◌∷◌, ◌++◌, length, min, replicate, slice_index, slice_index_or, slice_set}
 use Rattle.std.specs.List.{All, Contains}
 use Rattle.cfb_chain.specs.Bytes.{u32_at, block, sector, joined}
 use Rattle.cfb_chain.specs.Chain.{Store, Leads, IsPresent, IsChainOf, AreDistinct, END_OF_CHAIN}
@@ -99,7 +99,7 @@ pub record IsMiniTable (f : FatValue) (mini_fat mini_stream : List ℕ) (size : 
 
 -- when a fault may be answered for a FAT
 abbrev pub MayRefuseFat : List ℕ → List ℕ → ChainFault → Type 0
-MayRefuseFat file fat OutOfFile = (n : ℕ) × Contains fat n × (sectors_in file ≤ n)
+MayRefuseFat file fat OutOfFile = (n : ℕ) × Contains fat n × (IsPresent (sectors_of file fat) n → ⊥)
 MayRefuseFat file fat CrossLinked = AreDistinct fat → ⊥
 MayRefuseFat file fat NoMemory = Unit {0}
 MayRefuseFat file fat _ = ⊥

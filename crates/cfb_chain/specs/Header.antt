@@ -1,6 +1,6 @@
 -- The header of a compound file, its first 512 bytes (MS-CFB 2.2).
-use Rattle.std.specs.Prelude.{◌≡◌, ◌≤◌, ◌+◌, ◌-◌, ◌*◌, ◌++◌, ℕ, List, [], ◌∷◌, length, take, map, replicate, Result, Ok, Err, cond, not, nat_lt, nat_eq}
-use Rattle.std.specs.List.{range_with_len, flat_map, starts_with}
+use Rattle.std.specs.Prelude.{◌≡◌, ◌≤◌, ◌<◌, ◌^◌, ◌+◌, ◌-◌, ◌*◌, ◌++◌, ℕ, List, [], ◌∷◌, length, take, map, replicate, Result, Ok, Err, cond, not, nat_lt, nat_eq}
+use Rattle.std.specs.List.{All, range_with_len, flat_map, starts_with}
 use Rattle.std.specs.Int.{w32, to_le_bytes}
 use Rattle.cfb_chain.specs.Bytes.{u16_at, u32_at}
 use Rattle.cfb_chain.specs.Chain.{END_OF_CHAIN}
@@ -45,6 +45,14 @@ pub record HeaderValue : Type 0 where
   pub first_directory : ℕ
   pub first_mini_fat : ℕ
   pub mini_fat_count : ℕ
+
+-- What there is room for in a header.
+pub record FitsHeader (h : HeaderValue) : Type 0 where
+  pub listed : length h.fat ≤ 109
+  pub fat : All (λ n. n < 2 ^ 32) h.fat
+  pub first_directory : h.first_directory < 2 ^ 32
+  pub first_mini_fat : h.first_mini_fat < 2 ^ 32
+  pub mini_fat_count : h.mini_fat_count < 2 ^ 32
 
 abbrev pub header_of : List ℕ → HeaderValue
 header_of file = record { fat = listed file; first_directory = first_directory file; first_mini_fat = first_mini_fat file; mini_fat_count = mini_fat_count file }

@@ -1,16 +1,24 @@
 //! The table of sectors and its chains (MS-CFB 2.3, 2.4).
 
 ghost use Rattle.cfb_chain.specs.Bytes.{joined};
-ghost use Rattle.cfb_chain.specs.Chain.{IsChain};
-ghost use Rattle.cfb_chain.specs.Fat.{IsFound, IsMiniFound, IsMiniTable, IsTableOf, MayRefuse, MayRefuseFat, MayRefuseMini, marked, store_of};
-ghost use Rattle.cfb_chain.specs.declared.fault.ChainFault.TheVariants.{NoMemory};
-ghost use Rattle.std.specs.List.{All};
-ghost use Rattle.std.specs.Prelude.{◌++◌, ◌<◌, ◌≡◌, IfErr, IfOk, List, OnErr, length, take, ℕ};
+ghost use Rattle.cfb_chain.specs.Chain.{FREE_SECTOR, IsChain};
+ghost use Rattle.cfb_chain.specs.Fat.{AreFree, FatValue, IsFat, IsFound, IsFree, IsMiniFound, IsMiniTable, IsTableOf, MayRefuse, MayRefuseFat, MayRefuseMini, marked, sectors_in, store_of};
+ghost use Rattle.cfb_chain.specs.View.{bytes_of, start_of, width_of};
+ghost use Rattle.cfb_chain.specs.declared.fault.ChainFault.TheVariants.{CrossLinked, NoMemory, OutOfFile};
+ghost use Rattle.std.specs.List.{All, Contains};
+ghost use Rattle.std.specs.Prelude.{◌*◌, ◌+◌, ◌++◌, ◌<◌, ◌^◌, ◌≡◌, ◌≢◌, ◌≤◌, ◌⊎◌, IfErr, IfNone, IfOk, IfSome, List, OnErr, OnOk, length, slice_index, take, ℕ};
 
 use crate::fault::ChainFault;
 use crate::header::Header;
+use crate::sectors::{SECTOR, join_blocks, numbers};
 use std::alloc::Global;
 use std::marker::Model;
+
+/// The value that ends a chain.
+pub const END_OF_CHAIN: u32 = 0xffff_fffe;
+
+/// The value of a sector that isn't used.
+pub const FREE_SECTOR: u32 = 0xffff_ffff;
 
 /// A table of sectors over their bytes, which marks those that are used: the FAT over a file, or the mini FAT over
 /// the mini stream.
@@ -30,6 +38,39 @@ enum Pieces<'a> {
     MiniSectors(Vec<u8>),
 }
 
+impl<'a> Pieces<'a> {
+    /// The bytes in which they lie.
+    fn bytes(&self) -> &[u8]
+        ensures { result.now ≡ bytes_of self.now }
+    {
+        match self {
+            Pieces::Sectors(file) => file,
+            Pieces::MiniSectors(stream) => stream.as_slice(),
+        }
+    }
+
+    /// Where the first one stands.
+    fn start(&self) -> usize
+        ensures { result ≡ start_of self.now }
+    {
+        match self {
+            Pieces::Sectors(_) => SECTOR,
+            Pieces::MiniSectors(_) => 0,
+        }
+    }
+
+    /// The size of each.
+    fn width(&self) -> usize
+        ensures value { result ≡ width_of self.now }
+        ensures either { (result ≡ 512) ⊎ (result ≡ 64) }
+    {
+        match self {
+            Pieces::Sectors(_) => SECTOR,
+            Pieces::MiniSectors(_) => 64,
+        }
+    }
+}
+
 impl<'a> Model for Fat<'a> {
     ghost use Rattle.cfb_chain.specs.Fat.{FatValue, IsSound};
     ghost use Rattle.cfb_chain.specs.View.{bytes_of, start_of, width_of};
@@ -41,6 +82,26 @@ impl<'a> Model for Fat<'a> {
     ghost invariant = { λ f. IsSound f.next.items f.used.items };
 }
 
+/// How many sectors begin before the end of a file.
+fn count_sectors(file: &[u8]) -> usize
+    ensures { result ≡ sectors_in file.now }
+{
+    ((file.len() + 511) / SECTOR).saturating_sub(1)
+}
+
+/// Refuses a sector that isn't among the first `count`.
+fn check_present(sectors: &[u32], count: usize) -> Result<(), ChainFault>
+    ensures present { OnOk result (All (λ n. n < count) sectors.now) }
+    ensures refused { IfErr result (λ e. (e ≡ OutOfFile) × ((n : ℕ) × Contains sectors.now n × (count ≤ n))) }
+{
+    for n in sectors {
+        if *n as usize >= count {
+            return Err(ChainFault::OutOfFile);
+        }
+    }
+    Ok(())
+}
+
 impl<'a> Fat<'a> {
     /// The table of a file. It marks its own sectors.
     ///
@@ -48,8 +109,21 @@ impl<'a> Fat<'a> {
     pub fn load(alloc: Global, header: &Header, file: &'a [u8]) -> Result<Fat<'a>, ChainFault>
         ensures table { IfOk result (λ f. IsTableOf file.now header.now.fat f) }
         ensures refused { IfErr result (MayRefuseFat file.now header.now.fat) }
+        ensures there { IsFat file.now header.now.fat → IfErr result (λ e. e ≡ NoMemory) }
     {
-        Err(ChainFault::NoMemory)
+        let listed = header.fat();
+        let count = (128 * header.fat_count()).min(count_sectors(file));
+        check_present(listed, count)?;
+        let bytes = join_blocks(alloc, SECTOR, file, SECTOR, listed)?;
+        let next = numbers(alloc, &bytes, count)?;
+        let used = vec![in alloc; false; count]?;
+        let mut fat = Fat {
+            pieces: Pieces::Sectors(file),
+            next,
+            used,
+        };
+        fat.mark_apart(listed)?;
+        Ok(fat)
     }
 
     /// The chain from a sector on, whose sectors it marks. A refusal marks none.
@@ -57,13 +131,16 @@ impl<'a> Fat<'a> {
     /// Refused: `OutOfFile` where the chain leaves the table, `Cycle` where it meets one of its own sectors again,
     /// `CrossLinked` where it meets one that is marked.
     pub fn chain(&mut self, alloc: Global, start: u32) -> Result<Vec<u32>, ChainFault>
-        ensures found { IfOk result (λ v. IsFound self.old start 0 v.items) }
         ensures linked { IfOk result (λ v. IsChain (store_of self.old) start 0 v.items) }
+        ensures free { IfOk result (λ v. AreFree self.old v.items) }
         ensures marks { IfOk result (λ v. self.new ≡ marked self.old v.items) }
         ensures refused { IfErr result (MayRefuse self.old start 0) }
+        ensures there { (ns : List ℕ) → IsChain (store_of self.old) start 0 ns → AreFree self.old ns → IfErr result (λ e. e ≡ NoMemory) }
         ensures kept { OnErr result (self.new ≡ self.old) }
     {
-        Err(ChainFault::NoMemory)
+        let chain = self.walk(alloc, start)?;
+        self.mark(&chain);
+        Ok(chain)
     }
 
     /// The bytes of the sectors, one after another.
@@ -72,7 +149,14 @@ impl<'a> Fat<'a> {
         ensures bytes { IfOk result (λ v. v.items ≡ joined (store_of self.now).piece sectors.now) }
         ensures refused { IfErr result (λ e. e ≡ NoMemory) }
     {
-        Err(ChainFault::NoMemory)
+        let bytes = join_blocks(
+            alloc,
+            self.pieces.width(),
+            self.pieces.bytes(),
+            self.pieces.start(),
+            sectors,
+        )?;
+        Ok(bytes)
     }
 
     /// The first `len` bytes of the chain from a sector on, whose sectors it marks. Where `len` is 0 there is no chain,
@@ -82,9 +166,14 @@ impl<'a> Fat<'a> {
     pub fn bytes(&mut self, alloc: Global, start: u32, len: u32) -> Result<Vec<u8>, ChainFault>
         ensures found { IfOk result (λ v. (ns : List ℕ) × IsFound self.old start len ns × (v.items ≡ take len (joined (store_of self.old).piece ns)) × (self.new ≡ marked self.old ns)) }
         ensures refused { IfErr result (MayRefuse self.old start len) }
+        ensures there { (ns : List ℕ) → IsFound self.old start len ns → IfErr result (λ e. e ≡ NoMemory) }
         ensures kept { OnErr result (self.new ≡ self.old) }
     {
-        Err(ChainFault::NoMemory)
+        let sectors = self.find(alloc, start, len as u64)?;
+        let mut bytes = self.join(alloc, &sectors)?;
+        bytes.truncate(len as usize);
+        self.mark(&sectors);
+        Ok(bytes)
     }
 
     /// The table of the mini stream of `size` bytes that begins at `start`, with the mini FAT that the header names. The
@@ -103,8 +192,152 @@ impl<'a> Fat<'a> {
             × IsMiniTable self.old (take header.now.mini_fat_count mini_fat) mini_stream size m
             × (self.new ≡ marked self.old (mini_fat ++ mini_stream))) }
         ensures refused { IfErr result (MayRefuseMini self.old header.now start size) }
+        ensures there { (mini_fat : List ℕ) → (mini_stream : List ℕ)
+            → IsMiniFound self.old header.now.first_mini_fat header.now.mini_fat_count start size mini_fat mini_stream
+            → IfErr result (λ e. e ≡ NoMemory) }
         ensures kept { OnErr result (self.new ≡ self.old) }
     {
-        Err(ChainFault::NoMemory)
+        let count = header.mini_fat_count() as usize;
+        let mini_fat = self.find(
+            alloc,
+            header.first_mini_fat(),
+            512 * header.mini_fat_count() as u64,
+        )?;
+        self.mark(&mini_fat);
+        match self.mini_table(alloc, &mini_fat[..count], start, size) {
+            Ok(mini) => Ok(mini),
+            Err(fault) => {
+                self.clear(&mini_fat);
+                Err(fault)
+            }
+        }
+    }
+
+    /// The table of the mini stream of `size` bytes that begins at `start`, whose mini FAT lies in these sectors. The mini
+    /// stream's sectors are marked.
+    fn mini_table(
+        &mut self,
+        alloc: Global,
+        mini_fat: &[u32],
+        start: u32,
+        size: u32,
+    ) -> Result<Fat<'a>, ChainFault>
+        requires present { All (λ n. n < length self.old.table) mini_fat.now }
+        requires few { length mini_fat.now < 2 ^ 32 }
+        ensures found { IfOk result (λ m. (mini_stream : List ℕ) × IsFound self.old start size mini_stream
+            × IsMiniTable self.old mini_fat.now mini_stream size m
+            × (self.new ≡ marked self.old mini_stream)) }
+        ensures refused { IfErr result (MayRefuse self.old start size) }
+        ensures there { (ns : List ℕ) → IsFound self.old start size ns → IfErr result (λ e. e ≡ NoMemory) }
+        ensures kept { OnErr result (self.new ≡ self.old) }
+    {
+        let mini_stream = self.find(alloc, start, size as u64)?;
+        let bytes = self.join(alloc, &mini_stream)?;
+        let entries = self.join(alloc, mini_fat)?;
+        let count = (128 * mini_fat.len()).min((size as usize + 63) / 64);
+        let next = numbers(alloc, &entries, count)?;
+        let used = vec![in alloc; false; count]?;
+        self.mark(&mini_stream);
+        Ok(Fat {
+            pieces: Pieces::MiniSectors(bytes),
+            next,
+            used,
+        })
+    }
+
+    /// The least sector that is free: in the table, not marked, and with the value of a sector that isn't used.
+    pub fn free_sector(&self) -> Option<u32>
+        ensures found { IfSome result (λ n. IsFree self.now n × (slice_index self.now.table n ≡ FREE_SECTOR)) }
+        ensures least { IfSome result (λ n. (k : ℕ) → k < n → IsFree self.now k → slice_index self.now.table k ≢ FREE_SECTOR) }
+        ensures none { IfNone result ((k : ℕ) → IsFree self.now k → slice_index self.now.table k ≢ FREE_SECTOR) }
+    {
+        for n in 0..self.next.len() {
+            if self.next[n] == FREE_SECTOR && !self.used[n] {
+                return Some(n as u32);
+            }
+        }
+        None
+    }
+
+    /// The chain from a sector on with room for `len` bytes, or none where `len` is 0, marking nothing.
+    fn find(&self, alloc: Global, start: u32, len: u64) -> Result<Vec<u32>, ChainFault>
+        ensures found { IfOk result (λ v. IsFound self.now start len v.items) }
+        ensures refused { IfErr result (MayRefuse self.now start len) }
+        ensures there { (ns : List ℕ) → IsFound self.now start len ns → IfErr result (λ e. e ≡ NoMemory) }
+        ensures either { (self.now.width ≡ 512) ⊎ (self.now.width ≡ 64) }
+    {
+        let width = self.pieces.width();
+        if len == 0 {
+            return Ok(Vec::new(alloc));
+        }
+        let sectors = self.walk(alloc, start)?;
+        if ((width * sectors.len()) as u64) < len {
+            return Err(ChainFault::ShortChain);
+        }
+        Ok(sectors)
+    }
+
+    /// The chain from a sector on, marking nothing.
+    fn walk(&self, alloc: Global, start: u32) -> Result<Vec<u32>, ChainFault>
+        ensures linked { IfOk result (λ v. IsChain (store_of self.now) start 0 v.items) }
+        ensures free { IfOk result (λ v. AreFree self.now v.items) }
+        ensures refused { IfErr result (MayRefuse self.now start 0) }
+        ensures few { length self.now.table ≤ 0xFFFFFFF9 }
+        ensures short { IfOk result (λ v. length v.items ≤ length self.now.table) }
+    {
+        let mut sectors = Vec::new(alloc);
+        let mut at = start;
+        while at != END_OF_CHAIN {
+            let n = at as usize;
+            if n >= self.next.len() {
+                return Err(ChainFault::OutOfFile);
+            }
+            if self.used[n] {
+                return Err(ChainFault::CrossLinked);
+            }
+            if sectors.len() >= self.next.len() {
+                return Err(ChainFault::Cycle);
+            }
+            sectors.push(at)?;
+            at = self.next[n];
+        }
+        Ok(sectors)
+    }
+
+    /// Marks sectors as used, of which none may be used before.
+    fn mark_apart(&mut self, sectors: &[u32]) -> Result<(), ChainFault>
+        requires { All (λ n. n < length self.old.table) sectors.now }
+        ensures marks { OnOk result (self.new ≡ marked self.old sectors.now) }
+        ensures free { OnOk result (AreFree self.old sectors.now) }
+        ensures refused { IfErr result (λ e. (e ≡ CrossLinked) × (AreFree self.old sectors.now → ⊥)) }
+    {
+        for n in sectors {
+            let sector = *n as usize;
+            if self.used[sector] {
+                return Err(ChainFault::CrossLinked);
+            }
+            self.used[sector] = true;
+        }
+        Ok(())
+    }
+
+    /// Marks sectors as used.
+    fn mark(&mut self, sectors: &[u32])
+        requires { All (λ n. n < length self.old.table) sectors.now }
+        ensures { self.new ≡ marked self.old sectors.now }
+    {
+        for n in sectors {
+            self.used[*n as usize] = true;
+        }
+    }
+
+    /// Takes back marks.
+    fn clear(&mut self, sectors: &[u32])
+        requires { All (λ n. n < length self.old.table) sectors.now }
+        ensures { (f : FatValue) → self.old ≡ marked f sectors.now → AreFree f sectors.now → self.new ≡ f }
+    {
+        for n in sectors {
+            self.used[*n as usize] = false;
+        }
     }
 }

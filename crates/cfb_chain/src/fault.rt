@@ -1,5 +1,8 @@
 //! Why a compound file is refused, as far as its header and its chains go.
 
+ghost use Rattle.cfb_chain.specs.Fault.{name_of};
+ghost use Rattle.std.specs.Prelude.{◌≡◌};
+
 use std::alloc::{AllocError, AllocFailed};
 use thiserror::Error;
 
@@ -37,7 +40,9 @@ pub enum ChainFault {
 
 impl ChainFault {
     /// The fault's name, as it is printed.
-    pub fn name(&self) -> &'static str {
+    pub fn name(&self) -> &'static str
+        ensures { result.now ≡ name_of self.now }
+    {
         match self {
             ChainFault::Truncated => "Truncated",
             ChainFault::BadSignature => "BadSignature",

@@ -1,14 +1,44 @@
 //! The header of a compound file, its first 512 bytes (MS-CFB 2.2).
 
-ghost use Rattle.cfb_chain.specs.Header.{header_bytes, header_read};
+ghost use Rattle.cfb_chain.specs.Header.{FitsHeader, HeaderValue, header_bytes, header_read};
 ghost use Rattle.cfb_chain.specs.declared.fault.ChainFault.TheVariants.{TooBig};
-ghost use Rattle.std.specs.Prelude.{◌<◌, ◌≡◌, IfErr, IfOk, length};
+ghost use Rattle.cfb_chain.specs.Header.{IsHeader};
+ghost use Rattle.cfb_chain.specs.Bytes.{u32_at};
+ghost use Rattle.std.specs.Int.{to_le_bytes, w32};
+ghost use Rattle.std.specs.List.{flat_map};
+ghost use Rattle.std.specs.Prelude.{◌*◌, ◌+◌, ◌++◌, ◌-◌, ◌<◌, ◌≡◌, ◌≤◌, ◌↔◌, IfErr, IfOk, IsOk, List, length, replicate, slice_index, take, ℕ};
 
+use crate::bytes::{read_u16, read_u32, write_u16, write_u32};
+use crate::fat::END_OF_CHAIN;
 use crate::fault::ChainFault;
+use byteorder::{ByteOrder, LittleEndian};
 use std::marker::Model;
 
 /// How many FAT sectors the header can name.
 pub const LISTED: usize = 109;
+
+const SIGNATURE: [u8; 8] = [0xd0, 0xcf, 0x11, 0xe0, 0xa1, 0xb1, 0x1a, 0xe1];
+
+/// The numbers of the header's list.
+fn read_listed(bytes: &[u8]) -> [u32; 109]
+    requires { 512 ≤ length bytes.now }
+    ensures { (k : ℕ) → k < 109 → slice_index result k ≡ u32_at bytes.now (76 + 4 * k) }
+{
+    let mut fat = [0; LISTED];
+    for k in 0..LISTED {
+        fat[k] = read_u32(bytes, 76 + 4 * k);
+    }
+    fat
+}
+
+/// Writes the FAT's sectors, behind which the entries are free.
+fn write_listed(entries: &mut [u8], fat: &[u32])
+    requires { 4 * length fat.now ≤ length entries.old }
+    ensures { entries.new ≡ flat_map (to_le_bytes w32) fat.now ++ replicate (length entries.old - 4 * length fat.now) 255 }
+{
+    entries.fill(0xff);
+    LittleEndian::write_u32_into(fat, &mut entries[..4 * fat.len()]);
+}
 
 /// What a header says: the FAT's sectors, the directory's first one, the mini FAT's first one and their number.
 #[derive(Drop)]
@@ -58,11 +88,85 @@ impl Header {
         })
     }
 
+    /// The header of a file, from its first 512 bytes. The fields that MS-CFB 2.2 leaves to the writer are not looked at.
+    ///
+    /// Refused, in this order: `Truncated` for fewer than 512 bytes, `BadSignature` for other first eight bytes,
+    /// `Unsupported` with the field's offset where the major version (26) isn't 3, the byte order (28) isn't 0xFFFE, the
+    /// sector shift (30) isn't 9, the mini sector shift (32) isn't 6 or the cutoff (56) isn't 4096, `TooBig` for more than
+    /// 109 FAT sectors or any DIFAT sector.
+    pub fn read(bytes: &[u8]) -> Result<Header, ChainFault>
+        ensures read { result ≡ header_read bytes.now }
+        ensures whole { IsOk result ↔ IsHeader bytes.now }
+    {
+        if bytes.len() < 512 {
+            return Err(ChainFault::Truncated);
+        }
+        if !bytes.starts_with(&SIGNATURE) {
+            return Err(ChainFault::BadSignature);
+        }
+        if read_u16(bytes, 26) != 3 {
+            return Err(ChainFault::Unsupported(26));
+        }
+        if read_u16(bytes, 28) != 0xfffe {
+            return Err(ChainFault::Unsupported(28));
+        }
+        if read_u16(bytes, 30) != 9 {
+            return Err(ChainFault::Unsupported(30));
+        }
+        if read_u16(bytes, 32) != 6 {
+            return Err(ChainFault::Unsupported(32));
+        }
+        if read_u32(bytes, 56) != 4096 {
+            return Err(ChainFault::Unsupported(56));
+        }
+        let fat_count = read_u32(bytes, 44);
+        if fat_count > 109 || read_u32(bytes, 72) != 0 {
+            return Err(ChainFault::TooBig);
+        }
+        Ok(Header {
+            fat_count,
+            fat: read_listed(bytes),
+            first_directory: read_u32(bytes, 48),
+            first_mini_fat: read_u32(bytes, 60),
+            mini_fat_count: read_u32(bytes, 64),
+        })
+    }
+
+    /// The bytes of the header: no class id, minor version 0x3E, no transactions, no DIFAT, and unused entries of the list
+    /// free.
+    pub fn write(&self) -> [u8; 512]
+        ensures { result ≡ header_bytes self.now }
+    {
+        let mut bytes = [0; 512];
+        bytes[..8].copy_from_slice(&SIGNATURE);
+        write_u16(&mut bytes, 24, 0x3e);
+        write_u16(&mut bytes, 26, 3);
+        write_u16(&mut bytes, 28, 0xfffe);
+        write_u16(&mut bytes, 30, 9);
+        write_u16(&mut bytes, 32, 6);
+        write_u32(&mut bytes, 44, self.fat_count);
+        write_u32(&mut bytes, 48, self.first_directory);
+        write_u32(&mut bytes, 56, 4096);
+        write_u32(&mut bytes, 60, self.first_mini_fat);
+        write_u32(&mut bytes, 64, self.mini_fat_count);
+        write_u32(&mut bytes, 68, END_OF_CHAIN);
+        write_listed(&mut bytes[76..], self.fat());
+        bytes
+    }
+
     /// The sectors of the FAT, in order.
     pub fn fat(&self) -> &[u32]
         ensures { result.now ≡ self.now.fat }
     {
         &self.fat[..self.fat_count as usize]
+    }
+
+    /// How many sectors the FAT has.
+    pub(crate) fn fat_count(&self) -> usize
+        ensures count { result ≡ length self.now.fat }
+        ensures few { result ≤ 109 }
+    {
+        self.fat_count as usize
     }
 
     /// The first sector of the directory.
@@ -86,3 +190,9 @@ impl Header {
         self.mini_fat_count
     }
 }
+
+/// What was written is read again, whatever bytes follow.
+pub fn written_is_read()
+    ensures whole { (h : HeaderValue) → (rest : List ℕ) → FitsHeader h → IsHeader (header_bytes h ++ rest) }
+    ensures read { (h : HeaderValue) → (rest : List ℕ) → FitsHeader h → header_read (header_bytes h ++ rest) ≡ Ok h }
+{}

@@ -1,5 +1,5 @@
 -- Entries that links reach.
-use Rattle.std.proofs.Common.{◌≡◌, ◌≢◌, ◌<◌, ◌+◌, ◌*◌, ℕ, zero, suc, List, [], ◌∷◌, ◌++◌, length, refl, sym, ◌∙◌, ap, subst, arith, append_assoc, append-nil}
+use Rattle.std.proofs.Common.{◌≡◌, ◌≢◌, ◌<◌, ◌*◌, ℕ, List, [], ◌∷◌, ◌++◌, length, refl, sym, ◌∙◌, ap, subst, append_assoc, append-nil}
 use Rattle.cfb_directory.specs.Entries.{AreLinked, nobody, around, NO_STREAM, Reaches, here, by_left, by_right, entry_at, left, right}
 
 module _ (d : List ℕ) where

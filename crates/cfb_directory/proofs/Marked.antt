@@ -1,18 +1,18 @@
 -- Which entries are marked, over loads and walks.
-use Rattle.std.proofs.Common.{◌≡◌, ◌≢◌, ◌<◌, ◌≤◌, ◌+◌, ◌-◌, ◌*◌, ◌/◌, ℕ, zero, suc, Bool, true, false, ◌⊎◌, inl, inr, List, [], ◌∷◌, ◌++◌, length, get_or, set, replicate, refl, sym, ◌∙◌, ap, subst, arith, length-append, nat_le}
+use Rattle.std.proofs.Common.{◌≡◌, ◌≢◌, ◌<◌, ◌≤◌, ◌+◌, ◌-◌, ◌*◌, ◌/◌, ℕ, zero, suc, Bool, true, false, ◌⊎◌, inl, inr, List, [], ◌∷◌, ◌++◌, length, get_or, replicate, refl, sym, ◌∙◌, ap, subst, arith, length-append, nat_le}
 use Rattle.std.proofs.lemmas.Bool.{cases_Bool, cases_lt, le-leb}
 use Rattle.std.proofs.lemmas.Bool.Decides.{eqb_tells}
 use Rattle.std.proofs.lemmas.List.Elements.{All-append, All-push, Contains-append_left, Contains-append_right}
 use Rattle.std.proofs.lemmas.List.{get_or-append-add, get_or_default, length-replicate}
-use Rattle.std.proofs.Math.ListN.{length-set, get_or-append}
+use Rattle.std.proofs.Math.ListN.{get_or-append}
 use Rattle.std.specs.List.{All, Contains, list_any}
 use Rattle.cfb_directory.proofs.Reading.{list_any-at}
 use Rattle.cfb_chain.specs.Chain.{AreDistinct}
-use Rattle.cfb_directory.specs.Entries.{EntriesValue, IsFree, AreFree, AreLinked, MayRefuseChildren, MayRefuseEntry, MayRefuseLinked, IsKindOf, IsNameOf, IsNamed, NO_STREAM, Reaches, here, by_left, by_right, child, entry_at, kind, left, right, marked, name_length, name_of, set_all}
+use Rattle.cfb_directory.specs.Entries.{EntriesValue, IsFree, AreFree, AreLinked, MayRefuseChildren, MayRefuseEntry, MayRefuseLinked, IsKindOf, IsNamed, NO_STREAM, Reaches, here, by_left, by_right, child, entry_at, kind, left, right, marked, set_all}
 use Rattle.cfb_directory.specs.Names.{IsName, is_forbidden}
 use Rattle.cfb_directory.specs.declared.fault.DirFault.{DirFault}
 use Rattle.cfb_directory.specs.declared.fault.DirFault.TheVariants.{NameEmpty, NameTooLong, NameNotAscii, NameForbidden, DuplicateName, BadEntry, TreeCycle, TooNested, NoMemory}
-use Rattle.cfb_directory.proofs.Linked.{Around, around_of, linked_unique}
+use Rattle.cfb_directory.proofs.Linked.{Around, around_of}
 use Rattle.cfb_directory.proofs.Marks.{free_below, length-set_all, set_all-there, set_all-else, set_all-stays}
 
 -- numbers of two lists

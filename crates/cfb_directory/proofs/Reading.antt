@@ -1,13 +1,13 @@
 -- Reading names.
-use Rattle.std.proofs.Common.{◌≡◌, ◌≢◌, ◌<◌, ◌≤◌, ◌+◌, ◌-◌, ◌*◌, ◌/◌, ◌%◌, ℕ, zero, suc, Bool, true, false, cond, ◌⊎◌, inl, inr, List, [], ◌∷◌, length, map, take, get_or, nat_le, nat_lt, nat_eq, Result, Ok, Err, IfOk, IfErr, refl, sym, ◌∙◌, ap, subst, arith, ◌||◌}
+use Rattle.std.proofs.Common.{◌≡◌, ◌≢◌, ◌<◌, ◌≤◌, ◌+◌, ◌-◌, ◌*◌, ◌/◌, ◌%◌, ℕ, zero, suc, Bool, true, false, cond, inl, inr, List, [], ◌∷◌, length, map, take, get_or, nat_le, nat_lt, nat_eq, Result, IfOk, IfErr, refl, sym, ◌∙◌, ap, subst, arith, ◌||◌}
 use Rattle.std.proofs.lemmas.Bool.{cases_Bool, eqb-true, leb-true, ltb-true}
-use Rattle.std.proofs.lemmas.Grind.{common_steps, same_number_lists}
+use Rattle.std.proofs.lemmas.Grind.{same_number_lists}
 use Rattle.std.proofs.lemmas.List.FromFn.{get_or-map-range_with_len, length-map-range_with_len}
 use Rattle.std.proofs.lemmas.List.{get_or-take, length-take-le}
 use Rattle.std.specs.List.{Contains, list_any, range_with_len}
 use Rattle.cfb_chain.specs.Bytes.{u16_at}
-use Rattle.cfb_directory.specs.Names.{IsName, is_forbidden, name_read}
-use Rattle.cfb_directory.specs.Entries.{IsKindOf, IsNamed, MayRefuseEntry, entry_at, kind, name_length, name_of}
+use Rattle.cfb_directory.specs.Names.{is_forbidden, name_read}
+use Rattle.cfb_directory.specs.Entries.{IsNamed, MayRefuseEntry, entry_at, name_length, name_of}
 use Rattle.cfb_directory.specs.Walk.{MayRefuseName}
 use Rattle.cfb_directory.specs.declared.fault.DirFault.{DirFault}
 use Rattle.cfb_directory.specs.declared.fault.DirFault.TheVariants.{NameEmpty, NameTooLong, NameNotAscii, NameForbidden, DuplicateName, BadEntry, TreeCycle, TooNested, NoMemory}

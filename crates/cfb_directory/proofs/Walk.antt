@@ -1,6 +1,6 @@
 -- Steps of a walk over linked entries.
-use Rattle.std.proofs.Common.{◌≡◌, ◌≢◌, ◌<◌, ◌≤◌, ◌+◌, ◌*◌, ℕ, true, false, List, [], ◌∷◌, ◌++◌, length, get_or, refl, sym, ◌∙◌, ap, subst, arith}
-use Rattle.cfb_directory.specs.Entries.{EntriesValue, IsFree, AreFree, AreLinked, MayRefuseLinked, NO_STREAM, Reaches, marked}
+use Rattle.std.proofs.Common.{◌≡◌, ◌≢◌, ℕ, true, List, [], ◌∷◌, ◌++◌, length, get_or, sym, ◌∙◌, ap, subst, arith}
+use Rattle.cfb_directory.specs.Entries.{EntriesValue, IsFree, AreFree, MayRefuseLinked, NO_STREAM, Reaches, marked}
 use Rattle.cfb_directory.specs.Walk.{IsTaken}
 use Rattle.cfb_directory.specs.declared.fault.DirFault.{DirFault}
 use Rattle.cfb_directory.specs.declared.fault.DirFault.TheVariants.{NameEmpty, NameTooLong, NameNotAscii, NameForbidden, DuplicateName, BadEntry, TreeCycle, TooNested, NoMemory}

@@ -1,5 +1,8 @@
 //! Why a directory or a name is refused.
 
+ghost use Rattle.cfb_directory.specs.Faults.{name_of_fault};
+ghost use Rattle.std.specs.Prelude.{◌≡◌};
+
 use std::alloc::{AllocError, AllocFailed};
 use thiserror::Error;
 
@@ -37,7 +40,9 @@ pub enum DirFault {
 
 impl DirFault {
     /// The fault's name, as it is printed.
-    pub fn name(&self) -> &'static str {
+    pub fn name(&self) -> &'static str
+        ensures { result.now ≡ name_of_fault self.now }
+    {
         match self {
             DirFault::NameEmpty => "NameEmpty",
             DirFault::NameTooLong => "NameTooLong",

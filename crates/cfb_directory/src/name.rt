@@ -124,7 +124,7 @@ impl Name {
     pub fn len(&self) -> usize
         ensures { result ≡ length self.now }
     {
-        self.units[0] as usize
+        usize::from(self.units[0])
     }
 
     /// Its characters, as they were written.

@@ -48,13 +48,14 @@ abbrev pub found : {A : Type 0} → Option A → Result A TreeFault
 found None = Err NotFound
 found (Some a) = Ok a
 
--- what stands at a path below something
+-- what stands at a path below something, each name being looked up by its key
 abbrev pub look : List (List ℕ) → Seen → Result Seen TreeFault
 look [] s = Ok s
 look (name ∷ rest) (bytes b) = Err WrongKind
 look (name ∷ rest) (inner (tree class state cs)) = on_ok (λ c. look rest c.1) (found (find (key name) cs))
 
--- The changes of a storage's children, given what stands under the key of a name.
+-- The changes of a storage's children, given what stands under the key of a name: bytes are put into a stream that is
+-- there, which keeps its spelling, or into a new one.
 abbrev pub put_seen : List ℕ → Seen → Result Seen TreeFault
 put_seen new (bytes b) = Ok (bytes new)
 put_seen new (inner t) = Err WrongKind
@@ -63,10 +64,12 @@ abbrev pub putting : List ℕ → List ℕ → Children → Option (List ℕ × 
 putting name new cs None = Ok (place (key name) (name, bytes new) cs)
 putting name new cs (Some c) = map_ok (λ s. place (key name) (c.0, s) cs) (put_seen new c.1)
 
+-- a storage without children is made where nothing stands and where it isn't nested too deep
 abbrev pub making : List ℕ → List ℕ → ℕ → Bool → Children → Option (List ℕ × Seen) → Result Children TreeFault
 making name class state fits cs None = cond fits (Ok (place (key name) (name, inner (tree class state none)) cs)) (Err TooDeep)
 making name class state fits cs (Some c) = Err Exists
 
+-- a child goes, with all that it holds
 abbrev pub removing : List ℕ → Children → Option (List ℕ × Seen) → Result Children TreeFault
 removing name cs None = Err NotFound
 removing name cs (Some c) = Ok (without (key name) cs)
@@ -76,17 +79,20 @@ abbrev pub moving : List ℕ → List ℕ → Children → Seen → Option (List
 moving name new cs s None = Ok (place (key new) (new, s) (without (key name) cs))
 moving name new cs s (Some c) = Err Exists
 
+-- a child's own name, spelled otherwise, is the new spelling
 abbrev pub renaming : List ℕ → List ℕ → Children → Option (List ℕ × Seen) → Result Children TreeFault
 renaming name new cs None = Err NotFound
 renaming name new cs (Some c) = cond (key_eq (key new) (key name)) (Ok (place (key name) (new, c.1) cs)) (moving name new cs c.1 (find (key new) cs))
 
+-- a change under a name
 abbrev pub edited : Edit → List ℕ → Children → Result Children TreeFault
 edited (Put new) name cs = putting name new cs (find (key name) cs)
 edited (Make class state fits) name cs = making name class state fits cs (find (key name) cs)
 edited Remove name cs = removing name cs (find (key name) cs)
 edited (Rename new) name cs = renaming name new cs (find (key name) cs)
 
--- The change of what stands at a path below something.
+-- The change of what stands at a path below something. The empty path, and one that a stream stands on, are of the
+-- wrong kind.
 abbrev pub change : Edit → List (List ℕ) → Seen → Result Seen TreeFault
 change e path (bytes b) = Err WrongKind
 change e [] (inner t) = Err WrongKind
@@ -94,8 +100,13 @@ change e (name ∷ []) (inner (tree class state cs)) = map_ok (λ x. inner (tree
 change e (name ∷ next ∷ rest) (inner (tree class state cs)) =
     on_ok (λ c. map_ok (λ s. inner (tree class state (place (key name) (c.0, s) cs))) (change e (next ∷ rest) c.1)) (found (find (key name) cs))
 
--- what a call did, given what it is to do
+-- What a call did, given what it is to do: it did this, or refused for this fault and changed nothing. Only what could
+-- be done is refused for want of memory.
 abbrev pub Outcome : {A : Type 0} → Result (Unit {0}) TreeFault → Result A TreeFault → A → A → Type 0
 Outcome (Ok u) told old new = told ≡ Ok new
 Outcome (Err NoMemory) told old new = IsOk told × (new ≡ old)
 Outcome (Err fault) told old new = (told ≡ Err fault) × (new ≡ old)
+
+-- what a call did that is to change what stands at a path
+abbrev pub Changes : Result (Unit {0}) TreeFault → Edit → List (List ℕ) → Seen → Seen → Type 0
+Changes result e path old new = Outcome result (change e path old) old new

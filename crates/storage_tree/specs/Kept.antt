@@ -17,6 +17,7 @@ pub record Kept : Type 0 where
 abbrev pub kept : declared.Tree → Kept
 kept t = record { now = view t.root; saved = reverse (map view t.saved.items) }
 
+-- the root after a change, which leaves it a storage
 abbrev pub tree_of : Seen → Tree → Tree
 tree_of (bytes b) t = t
 tree_of (inner t) old = t

@@ -27,8 +27,13 @@ pub enum TreeFault {
 }
 
 impl TreeFault {
+    ghost use Rattle.std.specs.Prelude.{◌≡◌};
+    ghost use Rattle.storage_tree.specs.FaultNames.{fault_name};
+
     /// The fault's name, as it is printed.
-    pub fn name(&self) -> &'static str {
+    pub fn name(&self) -> &'static str
+        ensures { result.now ≡ fault_name self.now }
+    {
         match self {
             TreeFault::NotFound => "NotFound",
             TreeFault::Exists => "Exists",
@@ -59,5 +64,42 @@ impl<T: Drop> From<AllocFailed<T>> for TreeFault {
 
     fn from(_: AllocFailed<T>) -> Self {
         TreeFault::NoMemory
+    }
+}
+
+/// Why a stream isn't put to the end of a list of streams.
+#[derive(Debug, Clone, Copy, PartialEq, Eq, Error)]
+pub enum StreamsFault {
+    /// Its name isn't greater than the last one.
+    #[error("a stream's name is out of order")]
+    OutOfOrder,
+    /// No memory was left.
+    #[error("no memory is left")]
+    NoMemory,
+}
+
+impl StreamsFault {
+    ghost use Rattle.std.specs.Prelude.{◌≡◌};
+    ghost use Rattle.storage_tree.specs.FaultNames.{streams_fault_name};
+
+    /// The fault's name, as it is printed.
+    pub fn name(&self) -> &'static str
+        ensures { result.now ≡ streams_fault_name self.now }
+    {
+        match self {
+            StreamsFault::OutOfOrder => "OutOfOrder",
+            StreamsFault::NoMemory => "NoMemory",
+        }
+    }
+}
+
+impl<T: Drop> From<AllocFailed<T>> for StreamsFault {
+    ghost use Rattle.std.specs.Prelude.{◌≡◌};
+    ghost use Rattle.storage_tree.specs.declared.fault.StreamsFault.TheVariants.{NoMemory};
+
+    ghost from_gives = { λ _ e. e ≡ NoMemory };
+
+    fn from(_: AllocFailed<T>) -> Self {
+        StreamsFault::NoMemory
     }
 }

@@ -6,4 +6,6 @@ pub mod class_id;
 pub mod fault;
 pub mod laws;
 pub mod storage;
+pub mod stored;
+pub mod streams;
 pub mod tree;

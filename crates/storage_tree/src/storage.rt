@@ -5,7 +5,7 @@ ghost use Rattle.storage_tree.specs.declared.fault.TreeFault.TheVariants.{NoMemo
 ghost use Rattle.cfb_directory.specs.Names.{IsName, key};
 ghost use Rattle.storage_tree.specs.Laws.{IsNewName, LeavesNames};
 ghost use Rattle.storage_tree.specs.Tree.{child_names, none, tree};
-ghost use Rattle.storage_tree.specs.Change.{inner, change, Outcome, put_seen, look, map_ok};
+ghost use Rattle.storage_tree.specs.Change.{Changes, Outcome, inner, look, map_ok, put_seen};
 ghost use Rattle.storage_tree.specs.View.{found_seen, moved, seen, view};
 
 use crate::bytes::Bytes;
@@ -14,24 +14,6 @@ use crate::fault::TreeFault;
 use cfb_directory::name::Name;
 use std::alloc::{AllocError, Global};
 use std::collections::BTreeMap;
-
-/// A change of what stands under a name of a storage.
-#[derive(Drop)]
-pub enum Edit {
-    Put(Bytes),
-    Make(ClassId, u32, bool),
-    Remove,
-    Rename(Name),
-}
-
-/// The key of a name, and that the name is one that a directory takes, which its characters tell.
-fn key_of(name: &Name) -> [u8; 32]
-    ensures key { result ≡ key name.now }
-    ensures valid { IsName name.now }
-{
-    let _ = name.as_bytes();
-    name.key()
-}
 
 /// A storage: its class id, its state bits and its children.
 #[cycle(storage)]
@@ -49,13 +31,47 @@ pub struct Storage {
 #[cycle(storage)]
 #[derive(Drop)]
 pub enum Node {
+    /// A stream's bytes.
     Stream(Bytes),
+    /// A storage.
     Storage(Storage),
+}
+
+/// What stands at a path.
+#[derive(Drop)]
+pub enum Found<'a> {
+    /// A stream's bytes.
+    Stream(&'a Bytes),
+    /// A storage.
+    Storage(&'a Storage),
+}
+
+/// A change of what stands under a name of a storage.
+#[derive(Drop)]
+pub enum Edit {
+    /// Makes a stream of these bytes, or replaces the bytes of one.
+    Put(Bytes),
+    /// Makes a storage of this class id and these state bits, where it is known to fit.
+    Make(ClassId, u32, bool),
+    /// Removes what stands there.
+    Remove,
+    /// Gives it this name.
+    Rename(Name),
+}
+
+/// The key of a name.
+fn key_of(name: &Name) -> [u8; 32]
+    ensures key { result ≡ key name.now }
+    ensures valid { IsName name.now }
+{
+    // The characters are read for what is promised of them: that the name is valid.
+    let _ = name.as_bytes();
+    name.key()
 }
 
 impl Storage {
     /// A storage without children.
-    pub fn new(alloc: Global, class: ClassId, state: u32) -> Storage
+    pub(crate) fn new(alloc: Global, class: ClassId, state: u32) -> Storage
         ensures { view result ≡ tree class state none }
     {
         Storage {
@@ -64,17 +80,11 @@ impl Storage {
             children: BTreeMap::new(alloc),
         }
     }
-}
 
-/// What stands at a path.
-#[derive(Drop)]
-pub enum Found<'a> {
-    Stream(&'a Bytes),
-    Storage(&'a Storage),
-}
-
-impl Storage {
-    /// What stands at a path.
+    /// What stands at a path from this storage down; the storage itself at the empty one.
+    ///
+    /// Refused: `NotFound` where a name of the path isn't there; `WrongKind` where a stream stands on its way. The first
+    /// name of the path that meets one of these decides.
     #[cycle(gets)]
     pub fn get(&self, path: &[Name]) -> Result<Found<'_>, TreeFault>
         ensures { map_ok found_seen result ≡ look path.now (inner (view self.now)) }
@@ -99,7 +109,7 @@ impl Storage {
         Ok(names)
     }
 
-    /// An equal storage.
+    /// An equal storage, with all that it holds.
     #[cycle(copies)]
     pub fn copy(&self, alloc: Global) -> Result<Storage, AllocError>
         ensures { IfOk result (λ s. view s ≡ view self.now) }
@@ -149,7 +159,7 @@ impl Storage {
     /// Changes what stands at a path.
     #[cycle(edits)]
     pub(crate) fn edit(&mut self, alloc: Global, path: &[Name], edit: Edit) -> Result<(), TreeFault>
-        ensures change { Outcome result (change edit path.now (inner (view self.old))) (inner (view self.old)) (inner (view self.new)) }
+        ensures change { Changes result edit path.now (inner (view self.old)) (inner (view self.new)) }
         ensures names { OnOk result (LeavesNames edit path.now) }
         ensures no_memory { edit ≡ Edit.Remove → result ≢ Err NoMemory }
     {
@@ -167,7 +177,7 @@ impl Storage {
     fn edit_child(&mut self, alloc: Global, name: &Name, edit: Edit) -> Result<(), TreeFault>
         ensures names { IsNewName edit name.now }
         ensures no_memory { edit ≡ Edit.Remove → result ≢ Err NoMemory }
-        ensures change { Outcome result (change edit (name.now ∷ []) (inner (view self.old))) (inner (view self.old)) (inner (view self.new)) }
+        ensures change { Changes result edit (name.now ∷ []) (inner (view self.old)) (inner (view self.new)) }
     {
         match edit {
             Edit::Put(bytes) => self.put_child(name, bytes),
@@ -179,7 +189,7 @@ impl Storage {
 
     fn put_child(&mut self, name: &Name, bytes: Bytes) -> Result<(), TreeFault>
         ensures names { IsName name.now }
-        ensures change { Outcome result (change (Edit.Put bytes) (name.now ∷ []) (inner (view self.old))) (inner (view self.old)) (inner (view self.new)) }
+        ensures change { Changes result (Edit.Put bytes) (name.now ∷ []) (inner (view self.old)) (inner (view self.new)) }
     {
         let key = key_of(name);
         match self.children.get_mut(&key) {
@@ -203,7 +213,7 @@ impl Storage {
         fits: bool,
     ) -> Result<(), TreeFault>
         ensures names { IsName name.now }
-        ensures change { Outcome result (change (Edit.Make class state fits) (name.now ∷ []) (inner (view self.old))) (inner (view self.old)) (inner (view self.new)) }
+        ensures change { Changes result (Edit.Make class state fits) (name.now ∷ []) (inner (view self.old)) (inner (view self.new)) }
     {
         let key = key_of(name);
         if self.children.contains_key(&key) {
@@ -224,7 +234,7 @@ impl Storage {
 
     fn rename_child(&mut self, alloc: Global, name: &Name, new: Name) -> Result<(), TreeFault>
         ensures names { IsName new }
-        ensures change { Outcome result (change (Edit.Rename new) (name.now ∷ []) (inner (view self.old))) (inner (view self.old)) (inner (view self.new)) }
+        ensures change { Changes result (Edit.Rename new) (name.now ∷ []) (inner (view self.old)) (inner (view self.new)) }
     {
         let key = name.key();
         let new_key = key_of(&new);
@@ -269,7 +279,7 @@ impl Storage {
 
     fn remove_child(&mut self, name: &Name) -> Result<(), TreeFault>
         ensures no_memory { result ≢ Err NoMemory }
-        ensures change { Outcome result (change Edit.Remove (name.now ∷ []) (inner (view self.old))) (inner (view self.old)) (inner (view self.new)) }
+        ensures change { Changes result Edit.Remove (name.now ∷ []) (inner (view self.old)) (inner (view self.new)) }
     {
         if self.children.remove(&name.key()).is_none() {
             return Err(TreeFault::NotFound);
@@ -282,7 +292,7 @@ impl Node {
     /// The change at a path below.
     #[cycle(edits)]
     fn edit(&mut self, alloc: Global, path: &[Name], edit: Edit) -> Result<(), TreeFault>
-        ensures change { Outcome result (change edit path.now (seen self.old)) (seen self.old) (seen self.new) }
+        ensures change { Changes result edit path.now (seen self.old) (seen self.new) }
         ensures names { OnOk result (LeavesNames edit path.now) }
         ensures no_memory { edit ≡ Edit.Remove → result ≢ Err NoMemory }
     {

@@ -1,4 +1,7 @@
 //! A tree with transactions.
+//!
+//! A path is a list of names, from the root down. Two names that are equal in upper case are one name, spelled as
+//! where the child was made (MS-CFB 2.6.4). The empty path is the root, which only `get` takes.
 
 ghost use Rattle.std.specs.Prelude.{◌≡◌, ◌≢◌, [], map, Err};
 ghost use Rattle.storage_tree.specs.declared.fault.TreeFault.TheVariants.{NoMemory};
@@ -15,7 +18,16 @@ use crate::storage::{Edit, Found, Storage};
 use cfb_directory::name::Name;
 use std::alloc::Global;
 
+/// How many storages may stand inside one another below the root.
+const DEEPEST: usize = 32;
+
+/// How many transactions may be open.
+const MOST_OPEN: usize = 8;
+
 /// A tree: its root, and the trees that open transactions began with, the newest last.
+///
+/// It is whole at any time: names are valid, children stand in name order and no two have one name, and at most 32
+/// storages stand inside one another below the root.
 #[derive(Drop)]
 pub struct Tree {
     alloc: Global,
@@ -27,7 +39,8 @@ pub struct Tree {
 impl Tree {
     ghost use Rattle.storage_tree.specs.Kept.{beginning, committing, reverting, changing, kept, put, made, removed, renamed};
 
-    /// A root without children, outside transactions.
+    /// A root without children, with this class id and these state bits, outside transactions. What later calls take
+    /// comes from this allocator.
     pub fn new(alloc: Global, class: ClassId, state: u32) -> Tree
         ensures { kept result ≡ record { now = tree class state none; saved = [] } }
     {
@@ -46,21 +59,31 @@ impl Tree {
         &self.root
     }
 
-    /// What stands at a path.
+    /// What stands at a path; the root at the empty one.
+    ///
+    /// Refused: `NotFound` where a name of the path isn't there; `WrongKind` where a stream stands on its way. The first
+    /// name of the path that meets one of these decides.
     pub fn get(&self, path: &[Name]) -> Result<Found<'_>, TreeFault>
         ensures { map_ok found_seen result ≡ look path.now (inner (kept self.now).now) }
     {
         self.root.get(path)
     }
 
-    /// Makes or replaces the stream at a path.
+    /// Makes the stream at a path, or replaces its bytes, with its old spelling.
+    ///
+    /// Refused: `NotFound` where a storage on the way isn't there; `WrongKind` for the empty path, a stream on the way
+    /// or a storage at the path; then `NoMemory`. A refusal changes nothing.
     pub fn put_stream(&mut self, path: &[Name], bytes: Bytes) -> Result<(), TreeFault>
         ensures { Outcome result (put path.now bytes (kept self.old)) (kept self.old) (kept self.new) }
     {
         self.root.edit(self.alloc, path, Edit::Put(bytes))
     }
 
-    /// Makes a storage at a path.
+    /// Makes a storage without children at a path.
+    ///
+    /// Refused: `NotFound` where a storage on the way isn't there; `WrongKind` for the empty path or a stream on the way;
+    /// `Exists` where something stands at the path; `TooDeep` for a path of more than 32 names; then `NoMemory`. A
+    /// refusal changes nothing.
     pub fn make_storage(
         &mut self,
         path: &[Name],
@@ -69,12 +92,14 @@ impl Tree {
     ) -> Result<(), TreeFault>
         ensures { Outcome result (made path.now class state (kept self.old)) (kept self.old) (kept self.new) }
     {
-        let fits = path.len() <= 32;
+        let fits = path.len() <= DEEPEST;
         self.root
             .edit(self.alloc, path, Edit::Make(class, state, fits))
     }
 
-    /// Removes what stands at a path.
+    /// Removes what stands at a path, a storage with all that it holds. It takes no memory.
+    ///
+    /// Refused: `NotFound`; `WrongKind` for the empty path or a stream on the way. A refusal changes nothing.
     pub fn remove(&mut self, path: &[Name]) -> Result<(), TreeFault>
         ensures change { Outcome result (removed path.now (kept self.old)) (kept self.old) (kept self.new) }
         ensures no_memory { result ≢ Err NoMemory }
@@ -82,18 +107,23 @@ impl Tree {
         self.root.edit(self.alloc, path, Edit::Remove)
     }
 
-    /// Gives what stands at a path another name.
+    /// Gives what stands at a path another name in its storage; its own name, spelled otherwise, changes the spelling.
+    ///
+    /// Refused: `NotFound`; `WrongKind` for the empty path or a stream on the way; `Exists` where a sibling has the name;
+    /// then `NoMemory`. A refusal changes nothing.
     pub fn rename(&mut self, path: &[Name], name: Name) -> Result<(), TreeFault>
         ensures { Outcome result (renamed path.now name (kept self.old)) (kept self.old) (kept self.new) }
     {
         self.root.edit(self.alloc, path, Edit::Rename(name))
     }
 
-    /// Begins a transaction.
+    /// Begins a transaction, inside those that are open.
+    ///
+    /// Refused: `TooDeep` where eight are open; then `NoMemory`. A refusal changes nothing.
     pub fn begin(&mut self) -> Result<(), TreeFault>
         ensures { Outcome result (beginning (kept self.old)) (kept self.old) (kept self.new) }
     {
-        if self.saved.len() >= 8 {
+        if self.saved.len() >= MOST_OPEN {
             return Err(TreeFault::TooDeep);
         }
         let Ok(copy) = self.root.copy(self.alloc) else {
@@ -105,7 +135,9 @@ impl Tree {
         }
     }
 
-    /// Ends the newest transaction with its changes.
+    /// Ends the newest open transaction and keeps its changes. It takes no memory.
+    ///
+    /// Refused: `NoTransaction` where none is open.
     pub fn commit(&mut self) -> Result<(), TreeFault>
         ensures change { Outcome result (committing (kept self.old)) (kept self.old) (kept self.new) }
         ensures no_memory { result ≢ Err NoMemory }
@@ -116,7 +148,10 @@ impl Tree {
         }
     }
 
-    /// Ends the newest transaction with the tree that it began with.
+    /// Ends the newest open transaction and takes back its changes: the tree is again as its `begin` found it. It takes
+    /// no memory.
+    ///
+    /// Refused: `NoTransaction` where none is open.
     pub fn revert(&mut self) -> Result<(), TreeFault>
         ensures change { Outcome result (reverting (kept self.old)) (kept self.old) (kept self.new) }
         ensures no_memory { result ≢ Err NoMemory }
@@ -130,3 +165,6 @@ impl Tree {
         }
     }
 }
+
+#[cfg(test)]
+mod tests;

@@ -18,3 +18,10 @@ pub mod ContentsAll
 pub mod ContentsBalanced
 pub mod ContentsWalk
 pub mod ContentsFamily
+pub mod Tables
+pub mod PlacedParts
+pub mod Placed
+pub mod Balanced
+pub mod Refused
+pub mod Listed
+pub mod Denoted

@@ -1,14 +1,13 @@
 -- Bytes denote at most one tree.
-use Rattle.std.proofs.Common.{◌≡◌, ◌≢◌, ◌↔◌, ◌<◌, ◌≤◌, ◌+◌, ◌*◌, ℕ, zero, suc, cond, nat_lt, List, [], ◌∷◌, ◌++◌, length, take, map, refl, sym, ◌∙◌, ap, subst, arith}
-use Rattle.std.proofs.lemmas.Grind.{same_number_lists}
-use Rattle.std.proofs.lemmas.Cmp.{on_total, nat_list_cmp_total}
+use Rattle.std.proofs.Common.{◌≡◌, ◌*◌, ℕ, zero, suc, List, [], ◌∷◌, take, refl, sym, ◌∙◌, ap, subst, arith}
+use Rattle.std.proofs.lemmas.Cmp.{nat_list_cmp_total}
 use Rattle.std.specs.List.{All, Contains}
-use Rattle.cfb_chain.specs.Bytes.{u16_at, u32_at, joined, sector}
+use Rattle.cfb_chain.specs.Bytes.{joined, sector}
 use Rattle.cfb_chain.specs.Chain.{Store, IsPresent, IsChain, IsChainOf, Leads, END_OF_CHAIN}
 use Rattle.cfb_chain.specs.Header.{first_directory, first_mini_fat, mini_fat_count}
 use Rattle.cfb_chain.specs.Fat.{sectors_of}
 use Rattle.cfb_directory.specs.Names.{key, key_cmp}
-use Rattle.cfb_directory.specs.Entries.{AreLinked, nobody, around, entry_at, left, right, first_of, size_of, kind, child, name_of, NO_STREAM}
+use Rattle.cfb_directory.specs.Entries.{AreLinked, nobody, around, entry_at, left, right, first_of, size_of, child, name_of}
 use Rattle.storage_tree.specs.Tree.{Tree, Children, tree, none, stream, storage}
 use Rattle.stream_io.specs.Denotes.{Layout, IsLaidOut, directory_of, root_of, sectors, Denotes, Holds, HoldsEach, HoldsBytes, AreChildren, Used, entry, store_for}
 use Rattle.stream_io.proofs.Lists.{sorted_unique}

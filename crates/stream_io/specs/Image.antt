@@ -1,6 +1,6 @@
 -- How files are laid out: the FAT first, then the directory, the mini FAT and the mini stream, each in one run of
 -- sectors (MS-CFB 2; the order is this project's own).
-use Rattle.std.specs.Prelude.{◌≡◌, ◌≢◌, ◌≤◌, ◌<◌, ◌+◌, ◌-◌, ◌*◌, ◌/◌, ℕ, zero, suc, List, [], ◌∷◌, ◌++◌, length, map, replicate, slice_index}
+use Rattle.std.specs.Prelude.{◌+◌, ◌-◌, ◌*◌, ℕ, zero, suc, List, [], ◌∷◌, ◌++◌, length, replicate}
 use Rattle.std.specs.List.{flat_map, range_with_len, sum}
 use Rattle.std.specs.Int.{w32, to_le_bytes}
 use Rattle.cfb_chain.specs.Chain.{END_OF_CHAIN, FREE_SECTOR, FAT_SECTOR}

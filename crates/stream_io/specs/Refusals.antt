@@ -1,5 +1,5 @@
 -- Which trees are not written yet.
-use Rattle.std.specs.Prelude.{◌≡◌, ℕ, List, Bool, true, false, ◌||◌, length, nat_le, nat_lt, cond, Result, Ok, Err, IsOk}
+use Rattle.std.specs.Prelude.{◌≡◌, Bool, true, false, ◌||◌, length, nat_le, nat_lt, cond, Result, Ok, Err, IsOk}
 use Rattle.storage_tree.specs.Tree.{Tree, Children, tree, none, stream, storage}
 use Rattle.stream_io.specs.Need.{fat_sectors, data_sectors}
 use Rattle.stream_io.specs.declared.fault.WriteFault.{WriteFault}

@@ -4,3 +4,4 @@
 pub mod entries;
 pub mod fault;
 pub mod law;
+pub mod write;

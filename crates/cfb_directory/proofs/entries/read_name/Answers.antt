@@ -1,4 +1,4 @@
-use Rattle.std.proofs.Common.{◌≡◌, ◌<◌, ◌≤◌, ◌-◌, ◌*◌, ◌/◌, ◌%◌, ℕ, length, get_or, take, ◌∙◌, ap, sym, subst, arith}
+use Rattle.std.proofs.Common.{◌≡◌, ◌<◌, ◌≤◌, ◌-◌, ◌*◌, ◌/◌, ◌%◌, take, ◌∙◌, ap, sym, arith}
 use Rattle.cfb_chain.specs.Bytes.{u16_at}
 use Rattle.cfb_directory.specs.Entries.{name_length}
 use Rattle.cfb_directory.specs.Names.{name_read}

@@ -1,4 +1,4 @@
-use Rattle.std.proofs.Common.{◌≡◌, ◌<◌, ◌≤◌, ◌*◌, ℕ, get_or, length}
+use Rattle.std.proofs.Common.{◌≡◌, ◌<◌, ◌*◌, ℕ, get_or, length}
 use Rattle.cfb_chain.specs.Bytes.{u16_at}
 use Rattle.cfb_directory.proofs.entries.read_name.Given as goal
 

@@ -1,4 +1,4 @@
-use Rattle.std.proofs.Common.{◌≡◌, ℕ, sym, subst, arith, ◌<◌, ◌≤◌, length}
+use Rattle.std.proofs.Common.{ℕ, subst, arith, ◌<◌, ◌≤◌, length}
 use Rattle.cfb_directory.specs.Entries.{NO_STREAM}
 use Rattle.cfb_directory.specs.SearchTree.{IsSearchTree, empty}
 use Rattle.cfb_directory.proofs.Trees.{tree_joined}

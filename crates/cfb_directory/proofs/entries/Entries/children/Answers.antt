@@ -1,4 +1,4 @@
-use Rattle.std.proofs.Common.{◌≡◌, ◌<◌, ℕ, length, get_or, ◌∙◌, ap, sym, arith}
+use Rattle.std.proofs.Common.{length, ◌∙◌, ap, arith}
 use Rattle.cfb_directory.proofs.Marks.{marked-inside, unmarked-all}
 use Rattle.cfb_directory.proofs.entries.Entries.children.Goals as goal
 

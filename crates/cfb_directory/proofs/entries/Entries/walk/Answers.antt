@@ -1,8 +1,8 @@
-use Rattle.std.proofs.Common.{◌≡◌, ◌≢◌, ◌<◌, ◌+◌, ◌*◌, ℕ, List, [], ◌∷◌, ◌++◌, true, false, length, get_or, sym, ◌∙◌, ap, subst, arith, length-append}
+use Rattle.std.proofs.Common.{◌≡◌, ◌<◌, ◌*◌, ℕ, List, [], ◌∷◌, ◌++◌, length, sym, ◌∙◌, ap, subst, arith, length-append}
 use Rattle.std.proofs.lemmas.List.{nil_from_length}
 use Rattle.std.proofs.lemmas.List.Elements.{All-push}
 use Rattle.std.specs.List.{All}
-use Rattle.cfb_directory.specs.Entries.{AreFree, AreLinked, EntriesValue, IsFree, NO_STREAM, Reaches, here, left, right, entry_at, marked}
+use Rattle.cfb_directory.specs.Entries.{AreFree, EntriesValue, IsFree, Reaches, here, left, right, entry_at, marked}
 use Rattle.cfb_directory.proofs.Linked.{Completes, Completes-start, Completes-nobody, Completes-step, Completes-end, reaches_left, reaches_right}
 use Rattle.cfb_directory.proofs.Marks.{All-front, All-last, AreFree-none, AreFree-push, marked-push, unused, unused-set}
 use Rattle.cfb_directory.proofs.Walk.{taken_refused}

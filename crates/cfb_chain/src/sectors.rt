@@ -1,0 +1,75 @@
+//! The bytes of sectors, and the numbers in them.
+
+ghost use Rattle.cfb_chain.specs.Bytes.{block, joined, u32_at};
+ghost use Rattle.std.specs.Prelude.{◌*◌, ◌+◌, ◌++◌, ◌<◌, ◌≡◌, ◌≤◌, IfOk, OnOk, length, slice_index, ◌^◌, ℕ};
+
+use crate::bytes::read_u32;
+use std::alloc::{AllocError, Global};
+
+/// The size of a sector.
+pub(crate) const SECTOR: usize = 512;
+
+/// Adds the bytes of a sector, zero bytes standing for those past the end.
+
+pub(crate) fn push_block(
+    out: &mut Vec<u8>,
+    width: usize,
+    bytes: &[u8],
+    at: usize,
+) -> Result<(), AllocError>
+    requires { width ≤ 512 }
+    ensures { OnOk result (out.new.items ≡ out.old.items ++ block width bytes.now at) }
+{
+    let rest = &bytes[at.min(bytes.len())..];
+    let end = out.len() + width;
+    out.extend_from_slice(&rest[..width.min(rest.len())])?;
+    out.resize(end, 0)?;
+    Ok(())
+}
+
+/// The bytes of sectors, one after another, the first of which stands at `start`.
+pub(crate) fn join_blocks(
+    alloc: Global,
+    width: usize,
+    bytes: &[u8],
+    start: usize,
+    sectors: &[u32],
+) -> Result<Vec<u8>, AllocError>
+    requires wide { width ≤ 512 }
+    requires near { start ≤ 512 }
+    ensures { IfOk result (λ v. v.items ≡ joined (λ n. block width bytes.now (start + width * n)) sectors.now) }
+{
+    let mut out = Vec::new(alloc);
+    for n in sectors {
+        push_block(&mut out, width, bytes, start + width * *n as usize)?;
+    }
+    Ok(out)
+}
+
+/// Number k of four bytes each, 0 past the end.
+#[tactic(auto, using(crate::proofs::Blocks::u32_at_past))]
+fn number(bytes: &[u8], k: usize) -> u32
+    requires whole { (m : ℕ) × (length bytes.now ≡ 4 * m) }
+    requires fits { k < 2 ^ 60 }
+    ensures { result ≡ u32_at bytes.now (4 * k) }
+{
+    if 4 * k < bytes.len() {
+        read_u32(bytes, 4 * k)
+    } else {
+        0
+    }
+}
+
+/// So many numbers of four bytes each, 0 for those past the end.
+pub(crate) fn numbers(alloc: Global, bytes: &[u8], count: usize) -> Result<Vec<u32>, AllocError>
+    requires whole { (m : ℕ) × (length bytes.now ≡ 4 * m) }
+    requires fits { count < 2 ^ 60 }
+    ensures count { IfOk result (λ v. length v.items ≡ count) }
+    ensures each { IfOk result (λ v. (k : ℕ) → k < count → slice_index v.items k ≡ u32_at bytes.now (4 * k)) }
+{
+    let mut numbers = Vec::with_capacity(alloc, count)?;
+    for k in 0..count {
+        numbers.push(number(bytes, k))?;
+    }
+    Ok(numbers)
+}
