@@ -25,3 +25,4 @@ pub mod Balanced
 pub mod Refused
 pub mod Listed
 pub mod Denoted
+pub mod ContentsPush

@@ -5,7 +5,7 @@ use Rattle.cfb_directory.specs.SearchTree.{IsSearchTree}
 use Rattle.cfb_directory.specs.Written.{entry_bytes}
 use Rattle.storage_tree.specs.Tree.{Children}
 use Rattle.storage_tree.specs.Change.{Seen, bytes, inner}
-use Rattle.stream_io.specs.Need.{mini_sectors, long_sectors, short_pieces, long_pieces}
+use Rattle.stream_io.specs.Need.{entries_of, over_streams_of, mini_sectors, long_sectors, short_pieces, long_pieces}
 use Rattle.stream_io.specs.Directory.{ids_from, entries_with, stream_says, storage_says, entries_below, each_entry, balanced}
 use Rattle.stream_io.specs.declared.entries.Family.{Family}
 use Rattle.stream_io.specs.declared.entries.Cursor.{Cursor}
@@ -37,6 +37,10 @@ sectors_with (inner t) = long_sectors t
 -- where the next entry, mini sector and sector stand behind a child
 abbrev pub past : Cursor → Seen → Cursor
 past at s = record { id = at.id + entries_with s; mini = at.mini + minis_with s; sector = at.sector + sectors_with s }
+
+-- and behind siblings
+abbrev pub past_all : Cursor → Children → Cursor
+past_all at cs = record { id = at.id + entries_of cs; mini = at.mini + over_streams_of short_pieces cs; sector = at.sector + over_streams_of long_pieces cs }
 
 -- all of them are below a bound
 pub record IsBelow (at : Cursor) (bound : ℕ) : Type 0 where

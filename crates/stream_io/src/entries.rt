@@ -1,17 +1,19 @@
 //! The entries of a tree, as they are written (MS-CFB 2.6).
 
-ghost use Rattle.std.specs.Prelude.{◌≡◌, ◌<◌, ◌+◌, ◌^◌, ℕ, IfOk, length, min};
+ghost use Rattle.std.specs.Prelude.{◌≡◌, ◌<◌, ◌+◌, ◌^◌, ◌++◌, ℕ, IfOk, OnOk, length, min};
 ghost use Rattle.std.specs.Vec.{vec_len};
 ghost use Rattle.storage_tree.specs.View.{seen, view};
 ghost use Rattle.stream_io.specs.Need.{entries};
-ghost use Rattle.stream_io.specs.Family.{IsFamily, IsJoined};
+ghost use Rattle.stream_io.specs.Family.{IsBelow, IsFamily, IsJoined, child_entries, past, past_all, sibling_entries};
+ghost use Rattle.storage_tree.specs.Change.{bytes as seen_bytes};
 ghost use Rattle.stream_io.specs.Image.{start};
 ghost use Rattle.stream_io.specs.Directory.{balanced as balanced_links, children_in, entries_with, first_of_stream, ids_from, storage_says, stream_says};
 
 use cfb_chain::fat::END_OF_CHAIN;
 use cfb_directory::entries::{EntryKind, NO_STREAM};
 use cfb_directory::links::{Links, balanced};
-use cfb_directory::write::EntryFields;
+use cfb_directory::name::Name;
+use cfb_directory::write::{EntryFields, write_entry};
 use std::alloc::{AllocError, Global};
 use storage_tree::bytes::Bytes;
 use storage_tree::storage::{Node, Storage};
@@ -183,5 +185,74 @@ fn storage_entry(family: &Family, place: usize, storage: &Storage, children: &Fa
         state: storage.state,
         first: 0,
         size: 0,
+    }
+}
+
+impl Cursor {
+    /// Behind a stream.
+    fn past(self, bytes: &Bytes) -> Cursor
+        requires { IsBelow (past self (seen_bytes bytes.now)) 1048576 }
+        ensures { result ≡ past self (seen_bytes bytes.now) }
+    {
+        let len = bytes.len();
+        if len < 4096 {
+            Cursor {
+                id: self.id + 1,
+                mini: self.mini + len.div_ceil(64) as u32,
+                sector: self.sector,
+            }
+        } else {
+            Cursor {
+                id: self.id + 1,
+                mini: self.mini,
+                sector: self.sector + len.div_ceil(512) as u32,
+            }
+        }
+    }
+}
+
+/// Adds the entries below a storage, whose children these are.
+#[cycle(push_entries)]
+fn push_below(alloc: Global, out: &mut Vec<u8>, storage: &Storage, family: &Family, at: Cursor) -> Result<Cursor, AllocError>
+    requires family { IsFamily family.now at.id (children_in (view storage.now)) }
+    requires few { IsBelow (past_all at (children_in (view storage.now))) 1048576 }
+    ensures pushed { OnOk result (out.new.items ≡ out.old.items ++ sibling_entries family.now.ids.items 0 at (children_in (view storage.now))) }
+    ensures next { IfOk result (λ next. next ≡ past_all at (children_in (view storage.now))) }
+{
+    let mut next = at;
+    let mut place = 0;
+    for (_, child) in storage.children.iter() {
+        next = push_child(alloc, out, child, family, place, next)?;
+        place += 1;
+    }
+    Ok(next)
+}
+
+/// Adds the entry of a child at a place, and those below it.
+#[cycle(push_entries)]
+fn push_child(alloc: Global, out: &mut Vec<u8>, child: &(Name, Node), family: &Family, place: usize, at: Cursor) -> Result<Cursor, AllocError>
+    requires joined { IsJoined family.now }
+    requires there { place < length family.now.ids.items }
+    requires few { IsBelow (past at (seen child.now.1)) 1048576 }
+    ensures pushed { OnOk result (out.new.items ≡ out.old.items ++ child_entries family.now.ids.items place at child.now.0 (seen child.now.1)) }
+    ensures next { IfOk result (λ next. next ≡ past at (seen child.now.1)) }
+{
+    let name = child.0.as_bytes();
+    match &child.1 {
+        Node::Stream(bytes) => {
+            write_entry(out, name, &stream_entry(family, place, at, bytes))?;
+            Ok(at.past(bytes))
+        }
+        Node::Storage(inner) => {
+            let below = Cursor {
+                id: at.id + 1,
+                mini: at.mini,
+                sector: at.sector,
+            };
+            let children = family_of(alloc, inner, below.id)?;
+            write_entry(out, name, &storage_entry(family, place, inner, &children))?;
+            let next = push_below(alloc, out, inner, &children, below)?;
+            Ok(next)
+        }
     }
 }
