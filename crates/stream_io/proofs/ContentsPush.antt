@@ -11,7 +11,8 @@ use Rattle.storage_tree.specs.declared.storage.Storage.{Storage}
 use Rattle.storage_tree.proofs.Entries.{seen-storage}
 use Rattle.stream_io.specs.Need.{entries_of, over_streams_of, short_pieces, long_pieces}
 use Rattle.stream_io.specs.Directory.{ids_from, children_in, balanced, storage_says, entries_below, each_entry, entries_with}
-use Rattle.stream_io.specs.Family.{IsFamily, minis_with, sectors_with, past, past_all, child_entries, sibling_entries}
+use Rattle.stream_io.specs.Streams.{minis_with, sectors_with}
+use Rattle.stream_io.specs.Family.{IsFamily, past, past_all, child_entries, sibling_entries}
 use Rattle.stream_io.specs.declared.entries.Cursor.{Cursor}
 use Rattle.stream_io.specs.declared.entries.Family.{Family}
 use Rattle.stream_io.proofs.ContentsWalk.{Entries, entries-first, ids-first, minis-first, sectors-first, each-first, below-is}

@@ -5,7 +5,8 @@ use Rattle.cfb_directory.specs.SearchTree.{IsSearchTree}
 use Rattle.cfb_directory.specs.Written.{entry_bytes}
 use Rattle.storage_tree.specs.Tree.{Children}
 use Rattle.storage_tree.specs.Change.{Seen, bytes, inner}
-use Rattle.stream_io.specs.Need.{entries_of, over_streams_of, mini_sectors, long_sectors, short_pieces, long_pieces}
+use Rattle.stream_io.specs.Need.{entries_of, over_streams_of, short_pieces, long_pieces}
+use Rattle.stream_io.specs.Streams.{minis_with, sectors_with}
 use Rattle.stream_io.specs.Directory.{ids_from, entries_with, stream_says, storage_says, entries_below, each_entry, balanced}
 use Rattle.stream_io.specs.declared.entries.Family.{Family}
 use Rattle.stream_io.specs.declared.entries.Cursor.{Cursor}
@@ -24,15 +25,6 @@ pub record IsFamily (family : Family) (first : ℕ) (cs : Children) : Type 0 whe
 -- a link to one of so many siblings, or to nobody
 abbrev pub IsLink : ℕ → ℕ → Type 0
 IsLink count place = (place ≡ NO_STREAM) ⊎ (place < count)
-
--- the mini sectors and sectors of a child
-abbrev pub minis_with : Seen → ℕ
-minis_with (bytes b) = short_pieces b
-minis_with (inner t) = mini_sectors t
-
-abbrev pub sectors_with : Seen → ℕ
-sectors_with (bytes b) = long_pieces b
-sectors_with (inner t) = long_sectors t
 
 -- where the next entry, mini sector and sector stand behind a child
 abbrev pub past : Cursor → Seen → Cursor

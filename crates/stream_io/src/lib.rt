@@ -4,4 +4,5 @@
 pub mod entries;
 pub mod fault;
 pub mod law;
+mod streams;
 pub mod write;
