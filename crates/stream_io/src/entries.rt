@@ -1,19 +1,21 @@
 //! The entries of a tree, as they are written (MS-CFB 2.6).
 
-ghost use Rattle.std.specs.Prelude.{◌≡◌, ◌<◌, ◌+◌, ◌^◌, ◌++◌, ℕ, IfOk, OnOk, length, min};
+ghost use Rattle.std.specs.Prelude.{◌≡◌, ◌<◌, ◌+◌, ◌^◌, ◌++◌, ℕ, IfOk, OnOk, length, min, replicate};
+ghost use Rattle.cfb_directory.specs.Written.{free_entry_bytes};
+ghost use Rattle.std.specs.List.{concat};
 ghost use Rattle.std.specs.Vec.{vec_len};
 ghost use Rattle.storage_tree.specs.View.{seen, view};
-ghost use Rattle.stream_io.specs.Need.{entries};
-ghost use Rattle.stream_io.specs.Family.{IsBelow, IsFamily, IsJoined, child_entries, past, past_all, sibling_entries};
+ghost use Rattle.stream_io.specs.Need.{entries, long_sectors};
+ghost use Rattle.stream_io.specs.Family.{AreCounts, AreSmall, IsBelow, IsFamily, IsJoined, child_entries, past, past_all, sibling_entries};
 ghost use Rattle.storage_tree.specs.Change.{bytes as seen_bytes};
 ghost use Rattle.stream_io.specs.Image.{start};
-ghost use Rattle.stream_io.specs.Directory.{balanced as balanced_links, children_in, entries_with, first_of_stream, ids_from, storage_says, stream_says};
+ghost use Rattle.stream_io.specs.Directory.{balanced as balanced_links, children_in, entries_with, first_of_stream, directory_of_tree, ids_from, long_start, root_says, storage_says, stream_says};
 
 use cfb_chain::fat::END_OF_CHAIN;
 use cfb_directory::entries::{EntryKind, NO_STREAM};
 use cfb_directory::links::{Links, balanced};
 use cfb_directory::name::Name;
-use cfb_directory::write::{EntryFields, write_entry};
+use cfb_directory::write::{EntryFields, write_entry, write_free_entry};
 use std::alloc::{AllocError, Global};
 use storage_tree::bytes::Bytes;
 use storage_tree::storage::{Node, Storage};
@@ -122,10 +124,10 @@ impl Family {
 
 /// Where the next entry, mini sector and sector stand.
 #[derive(Debug, Clone, Copy, PartialEq, Eq)]
-pub struct Cursor {
-    pub id: u32,
-    pub mini: u32,
-    pub sector: u32,
+struct Cursor {
+    id: u32,
+    mini: u32,
+    sector: u32,
 }
 
 /// Where a run of so many sectors starts, which is nowhere where it is empty.
@@ -255,4 +257,88 @@ fn push_child(alloc: Global, out: &mut Vec<u8>, child: &(Name, Node), family: &F
             Ok(next)
         }
     }
+}
+
+/// What the counts of a tree say of its file: how many FAT sectors, entries below the root and mini sectors it has.
+#[derive(Debug, Clone, Copy, PartialEq, Eq)]
+struct Counts {
+    fat: u32,
+    entries: u32,
+    minis: u32,
+}
+
+impl Counts {
+    ghost use Rattle.std.specs.Prelude.{◌≡◌, ◌*◌, ◌+◌};
+    ghost use Rattle.stream_io.specs.Need.{pieces};
+
+    /// The sectors of the directory.
+    fn directory_sectors(self) -> u32
+        requires { AreSmall self }
+        ensures { result ≡ pieces 4 (1 + self.entries) }
+    {
+        (1 + self.entries).div_ceil(4)
+    }
+
+    /// The sectors of the mini FAT.
+    fn mini_fat_sectors(self) -> u32
+        requires { AreSmall self }
+        ensures { result ≡ pieces 128 self.minis }
+    {
+        self.minis.div_ceil(128)
+    }
+
+    /// The sectors of the mini stream.
+    fn mini_stream_sectors(self) -> u32
+        requires { AreSmall self }
+        ensures { result ≡ pieces 512 (64 * self.minis) }
+    {
+        (64 * self.minis).div_ceil(512)
+    }
+}
+
+/// What the root's entry says, whose children these are.
+fn root_entry(root: &Storage, children: &Family, counts: Counts) -> EntryFields
+    requires children { IsFamily children.now 1 (children_in (view root.now)) }
+    requires counts { AreCounts counts (view root.now) }
+    ensures { result ≡ root_says balanced_links counts.fat (view root.now) }
+{
+    let before = counts.fat + counts.directory_sectors() + counts.mini_fat_sectors();
+    EntryFields {
+        kind: EntryKind::Root,
+        left: NO_STREAM,
+        right: NO_STREAM,
+        child: children.top(),
+        class: *root.class.as_bytes(),
+        state: root.state,
+        first: chain_start(before, counts.mini_stream_sectors()),
+        size: 64 * counts.minis,
+    }
+}
+
+/// Adds entries that aren't used.
+fn push_unused(out: &mut Vec<u8>, count: u32) -> Result<(), AllocError>
+    ensures { OnOk result (out.new.items ≡ out.old.items ++ concat (replicate count free_entry_bytes)) }
+{
+    for _ in 0..count {
+        write_free_entry(out)?;
+    }
+    Ok(())
+}
+
+/// Adds the directory of a tree: the root, what is below it, and unused entries up to a whole sector.
+///
+/// Where no memory is left, a part of it may have been added.
+fn push_directory(alloc: Global, out: &mut Vec<u8>, root: &Storage, counts: Counts) -> Result<(), AllocError>
+    requires counts { AreCounts counts (view root.now) }
+    requires few { long_start counts.fat (view root.now) + long_sectors (view root.now) < 1048576 }
+    ensures { OnOk result (out.new.items ≡ out.old.items ++ directory_of_tree balanced_links counts.fat (view root.now)) }
+{
+    let directory = counts.directory_sectors();
+    let sector = counts.fat + directory + counts.mini_fat_sectors() + counts.mini_stream_sectors();
+    let children = family_of(alloc, root, 1)?;
+    let name = Name::root();
+    write_entry(out, name.as_bytes(), &root_entry(root, &children, counts))?;
+    push_below(alloc, out, root, &children, Cursor { id: 1, mini: 0, sector })?;
+    push_unused(out, 4 * directory - (1 + counts.entries))?;
+    Ok(())
 }
