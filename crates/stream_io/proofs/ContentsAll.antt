@@ -11,10 +11,12 @@ use Rattle.cfb_directory.proofs.Fields.{length-entry_bytes}
 use Rattle.storage_tree.specs.Tree.{Tree, Children, tree}
 use Rattle.storage_tree.specs.Whole.{IsTree}
 use Rattle.stream_io.specs.Need.{pieces, entries, mini_sectors, long_sectors, directory_sectors, mini_fat_sectors, mini_stream_sectors, data_sectors}
-use Rattle.stream_io.specs.Image.{Parts, start, runs, padded, directory_count, mini_fat_need, mini_stream_count, mini_stream_start}
-use Rattle.stream_io.specs.Placed.{Fits, IsPlaced}
+use Rattle.stream_io.specs.Image.{Parts, image, start, runs, padded, directory_count, mini_fat_need, mini_stream_count, mini_stream_start}
+use Rattle.stream_io.specs.Placed.{Fits, IsPlaced, layout_of}
 use Rattle.stream_io.specs.Denotes.{Layout, directory_of, root_of, minis, sectors, entry, Denotes}
-use Rattle.stream_io.specs.Directory.{Siblings, AreBalanced, child_of, class_in, state_in, entries_below, root_says, long_start, directory_of_tree, short_streams, long_streams, pieces_of, whole_pieces, parts_of, IsSpelled, IsCovered, ArePlaced, PlacedDenotes}
+use Rattle.stream_io.specs.Directory.{Siblings, AreBalanced, child_of, class_in, state_in, entries_below, root_says, long_start, directory_of_tree, short_streams, long_streams, pieces_of, whole_pieces, parts_of, IsSpelled, IsCovered, ArePlaced, PlacedDenotes, ImageDenotes, balanced}
+use Rattle.stream_io.proofs.Placed.{placed}
+use Rattle.stream_io.proofs.ContentsBalanced.{are-balanced}
 use Rattle.stream_io.proofs.ContentsMini.{length-padded_sector}
 use Rattle.stream_io.proofs.ContentsLists.{distinct_range}
 use Rattle.stream_io.proofs.ContentsRoom.{length-free}
@@ -23,7 +25,7 @@ use Rattle.stream_io.proofs.ContentsNext.{AreNext, shorts-sum, longs-sum}
 use Rattle.stream_io.proofs.ContentsRead.{FieldsFit, Says, Begins, begins-here, begins-behind, begins-front, length-below, said-below, SaidBelow, AreWithin, child-fits, class-spelled, state-spelled, start-fits}
 use Rattle.stream_io.proofs.ContentsTree.{TreeHeld, SaysTree, tree-held}
 
-module _ (links : ℕ → Siblings) (balanced : AreBalanced links) (f : ℕ) (t : Tree) (is : IsCovered f t) where
+module _ (links : ℕ → Siblings) (search : AreBalanced links) (f : ℕ) (t : Tree) (is : IsCovered f t) where
   -- more than any entry, mini sector or sector
   abbrev last : ℕ
   last = 2000000
@@ -59,7 +61,7 @@ module _ (links : ℕ → Siblings) (balanced : AreBalanced links) (f : ℕ) (t 
     class_id = class-spelled t is.spelled;
     to_left = lit< tt;
     to_right = lit< tt;
-    below = child-fits links balanced last small 0 t within.of_ids;
+    below = child-fits links search last small 0 t within.of_ids;
     state_bits = state-spelled t is.spelled;
     starts = start-fits (f + directory_sectors t + mini_fat_sectors t) (mini_stream_sectors t) (omega (arith, is.covered, is.few));
     sized = omega (arith, is.covered, is.few);
@@ -72,7 +74,7 @@ module _ (links : ℕ → Siblings) (balanced : AreBalanced links) (f : ℕ) (t 
   length-directory =
       let a : length p.directory ≡ length root + length (below ++ free) = length-append root (below ++ free) in
       let b : length (below ++ free) ≡ length below + length free = length-append below free in
-      let c : length below ≡ 128 * entries t = length-below links balanced last small 32 0 0 (long_start f t) t is.whole is.spelled in
+      let c : length below ≡ 128 * entries t = length-below links search last small 32 0 0 (long_start f t) t is.whole is.spelled in
       let e : length free ≡ 128 * (4 * directory_sectors t - (1 + entries t)) = length-free (4 * directory_sectors t - (1 + entries t)) in
       omega (arith, length-root)
 
@@ -122,14 +124,14 @@ module _ (links : ℕ → Siblings) (balanced : AreBalanced links) (f : ℕ) (t 
     begins = record { rest = []; is = placed.directory ∙ sym (append-nil p.directory) }
 
     said : SaidBelow links (directory_of file l) 0 0 (long_start f t) t
-    said = said-below links balanced last small (directory_of file l) 32 0 0 (long_start f t) t is.whole is.spelled within
+    said = said-below links search last small (directory_of file l) 32 0 0 (long_start f t) t is.whole is.spelled within
         (begins-front (directory_of file l) 1 below free (begins-behind (directory_of file l) 0 1 root (below ++ free) length-root begins))
 
     mini-store : IsStoreFrom (minis file l) 64 0 (runs 0 p.minis) p.mini_stream (sum p.minis)
     unfolding mini_sectors_of
     mini-store = record {
       width = refl;
-      there = omega (arith, placed.mini_count);
+      there = λ some. omega (arith, placed.mini_count);
       few = omega (arith, is.covered, is.few, mini-counted);
       piece = λ m lt. let e : 0 + m ≡ m = omega arith in ap (minis file l).piece e ∙ placed.mini_piece m lt;
       next = λ m lt. let e : 0 + m ≡ m = omega arith in ap (minis file l).next e ∙ placed.mini_next m lt;
@@ -171,10 +173,10 @@ module _ (links : ℕ → Siblings) (balanced : AreBalanced links) (f : ℕ) (t 
       };
     })
 
-    held : TreeHeld file l links balanced (1 + entries t) (omega (arith, ap length placed.directory, length-directory)) (omega (arith, is.covered, is.few))
+    held : TreeHeld file l links search (1 + entries t) (omega (arith, ap length placed.directory, length-directory)) (omega (arith, is.covered, is.few))
         (runs 0 p.minis) p.mini_stream (sum p.minis) mini-store (long_start f t) (runs (long_start f t) (pieces_of 512 (long_streams t)))
         (whole_pieces 512 (long_streams t)) (sum (pieces_of 512 (long_streams t))) store 0 0 (long_start f t) t
-    held = tree-held file l links balanced (1 + entries t) (omega (arith, ap length placed.directory, length-directory)) (omega (arith, is.covered, is.few))
+    held = tree-held file l links search (1 + entries t) (omega (arith, ap length placed.directory, length-directory)) (omega (arith, is.covered, is.few))
         (runs 0 p.minis) p.mini_stream (sum p.minis) mini-store (long_start f t) (runs (long_start f t) (pieces_of 512 (long_streams t)))
         (whole_pieces 512 (long_streams t)) (sum (pieces_of 512 (long_streams t))) store 32 0 0 (long_start f t) t [] [] is.whole said
         (record { class_id = says-root.class_id; state_bits = says-root.state_bits; below = says-root.below }) (omega arith) first-mini first-sector
@@ -195,4 +197,20 @@ module _ (links : ℕ → Siblings) (balanced : AreBalanced links) (f : ℕ) (t 
     }
 
 pub placed-denotes : PlacedDenotes
-placed-denotes links f t file l balanced is placed longs = denotes-tree links balanced f t is file l placed longs
+placed-denotes links f t file l search is placed longs = denotes-tree links search f t is file l placed longs
+
+none-placed : (file : List ℕ) (l : Layout) (base : ℕ) (bs : List (List ℕ)) → bs ≡ [] → AreDistinct (l.fat ++ l.directory ++ l.mini_fat ++ l.mini_stream ++ [])
+    → ArePlaced file l base bs
+none-placed file l base [] e apart = record {
+  there = λ some. absurd (omega arith);
+  piece = λ m lt. absurd (omega arith);
+  next = λ m lt. absurd (omega arith);
+  apart = apart;
+}
+none-placed file l base (b ∷ bs) e apart = absurd (cc)
+
+pub image-denotes : ImageDenotes
+image-denotes f t is none =
+    let p : Parts = parts_of balanced f t in
+    let at : IsPlaced (image f p) p (layout_of f p) = placed f p (omega (arith, is.covered)) (fits-tree balanced are-balanced f t is) in
+    placed-denotes balanced f t (image f p) (layout_of f p) are-balanced is at (none-placed (image f p) (layout_of f p) (long_start f t) (long_streams t) none at.apart)

@@ -12,7 +12,7 @@ use Rattle.storage_tree.specs.Tree.{Tree, Children, tree, none, stream, storage}
 use Rattle.storage_tree.specs.Change.{Seen, bytes, inner}
 use Rattle.storage_tree.specs.Whole.{IsTree}
 use Rattle.stream_io.specs.Need.{pieces, entries, entries_of, mini_sectors, long_sectors, short_pieces, long_pieces, directory_sectors, mini_fat_sectors, mini_stream_sectors, data_sectors}
-use Rattle.stream_io.specs.Image.{Parts, start, padded, runs}
+use Rattle.stream_io.specs.Image.{Parts, start, padded, runs, image}
 use Rattle.stream_io.specs.Placed.{IsPlaced}
 use Rattle.stream_io.specs.Denotes.{Layout, sectors, Denotes}
 
@@ -185,7 +185,7 @@ abbrev mutual
 
 -- The long streams lie one after another from a sector on, each in whole sectors that name the next.
 pub record ArePlaced (file : List ℕ) (l : Layout) (base : ℕ) (bs : List (List ℕ)) : Type 0 where
-  pub there : base + sum (pieces_of 512 bs) ≤ (sectors file l).count
+  pub there : 0 < sum (pieces_of 512 bs) → base + sum (pieces_of 512 bs) ≤ (sectors file l).count
   pub piece : (m : ℕ) → m < sum (pieces_of 512 bs) → (sectors file l).piece (base + m) ≡ block 512 (whole_pieces 512 bs) (512 * m)
   pub next : (m : ℕ) → m < sum (pieces_of 512 bs) → (sectors file l).next (base + m) ≡ slice_index (runs base (pieces_of 512 bs)) m
   pub apart : AreDistinct (l.fat ++ l.directory ++ l.mini_fat ++ l.mini_stream ++ range_with_len base (sum (pieces_of 512 bs)))
@@ -201,3 +201,7 @@ pub record IsCovered (f : ℕ) (t : Tree) : Type 0 where
 abbrev pub PlacedDenotes : Type 0
 PlacedDenotes = (links : ℕ → Siblings) (f : ℕ) (t : Tree) (file : List ℕ) (l : Layout) → AreBalanced links → IsCovered f t
     → IsPlaced file (parts_of links f t) l → ArePlaced file l (long_start f t) (long_streams t) → Denotes file t
+
+-- a file laid out of the parts of a tree without long streams denotes the tree
+abbrev pub ImageDenotes : Type 0
+ImageDenotes = (f : ℕ) (t : Tree) → IsCovered f t → long_streams t ≡ [] → Denotes (image f (parts_of balanced f t)) t

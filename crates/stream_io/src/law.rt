@@ -3,7 +3,7 @@
 ghost use Rattle.std.specs.Prelude.{List, ℕ, ◌≡◌};
 ghost use Rattle.storage_tree.specs.Tree.{Tree};
 ghost use Rattle.stream_io.specs.Denotes.{Denotes};
-ghost use Rattle.stream_io.specs.Directory.{PlacedDenotes};
+ghost use Rattle.stream_io.specs.Directory.{ImageDenotes, PlacedDenotes};
 ghost use Rattle.stream_io.specs.Need.{LeastFat};
 
 /// Bytes denote at most one tree.
@@ -20,4 +20,9 @@ pub fn least_fat()
 /// the mini stream and its long ones in sectors behind the other parts, both in the order of their entries.
 pub fn placed_denotes()
     ensures { PlacedDenotes }
+{}
+
+/// A file laid out of the parts of a tree without long streams, with as many FAT sectors as cover it, denotes the tree.
+pub fn image_denotes()
+    ensures { ImageDenotes }
 {}
