@@ -1,18 +1,18 @@
 -- A step of pushing the entries of siblings.
-use Rattle.std.proofs.Common.{◌≡◌, ◌+◌, ℕ, List, [], ◌∷◌, ◌++◌, length, refl, sym, ◌∙◌, ap, arith, append_assoc}
+use Rattle.std.proofs.Common.{◌≡◌, ◌+◌, ℕ, List, [], ◌∷◌, ◌++◌, length, refl, sym, ◌∙◌, ap, subst, arith, append_assoc, ◌<◌, ◌^◌}
 use Rattle.cfb_directory.specs.Written.{entry_bytes}
 use Rattle.cfb_directory.specs.declared.write.EntryFields.{EntryFields}
-use Rattle.storage_tree.specs.Tree.{Tree, Children}
-use Rattle.storage_tree.specs.Change.{Seen, bytes, inner}
+use Rattle.storage_tree.specs.Tree.{Tree, Children, tree}
+use Rattle.storage_tree.specs.Change.{Seen, bytes, inner, child}
 use Rattle.storage_tree.specs.View.{view, seen, children}
 use Rattle.storage_tree.specs.declared.storage.Node.{Node}
 use Rattle.storage_tree.specs.declared.storage.Node.TheVariants as variant
 use Rattle.storage_tree.specs.declared.storage.Storage.{Storage}
-use Rattle.storage_tree.proofs.Entries.{seen-storage}
+use Rattle.storage_tree.proofs.Entries.{seen-storage, view-out}
 use Rattle.stream_io.specs.Need.{entries_of, over_streams_of, short_pieces, long_pieces}
-use Rattle.stream_io.specs.Directory.{ids_from, children_in, balanced, storage_says, entries_below, each_entry, entries_with}
+use Rattle.stream_io.specs.Directory.{IsSpelled, AreSpelled, class_in, state_in, ids_from, children_in, balanced, storage_says, entries_below, each_entry, entries_with}
 use Rattle.stream_io.specs.Streams.{minis_with, sectors_with}
-use Rattle.stream_io.specs.Family.{IsFamily, past, past_all, child_entries, sibling_entries}
+use Rattle.stream_io.specs.Family.{IsFamily, IsChildSpelled, past, past_all, child_entries, sibling_entries}
 use Rattle.stream_io.specs.declared.entries.Cursor.{Cursor}
 use Rattle.stream_io.specs.declared.entries.Family.{Family}
 use Rattle.stream_io.proofs.ContentsWalk.{Entries, entries-first, ids-first, minis-first, sectors-first, each-first, below-is}
@@ -52,3 +52,21 @@ storage-pushed ids place at name name' node s family e old mid new is named has 
     let b : sibling_entries family.ids.items 0 (record { id = at.id + 1; mini = at.mini; sector = at.sector }) (children_in t) ≡ more =
       ap (λ xs. each_entry balanced xs 0 (at.id + 1) at.mini at.sector (children_in t)) has.ids ∙ sym (below-is at.id at.mini at.sector t) in
     rest ∙ (λ i. a i ++ b i) ∙ append_assoc old one more ∙ ap (λ x. old ++ child_entries ids place at name x) (sym (ap seen is ∙ seen-storage s))
+
+spelled-child : (k n : List ℕ) (s : Seen) (cs : Children) → IsChildSpelled s → AreSpelled cs → AreSpelled (child k (n, s) cs)
+spelled-child k n (bytes b) cs h i = (h, i)
+spelled-child k n (inner t) cs h i = (h, i)
+
+pub step-spelled : (rest es : Entries) (k : List ℕ) (v : List ℕ × Node) → rest ≡ (k, v) ∷ es → IsChildSpelled (seen v.1) → AreSpelled (children es) → AreSpelled (children rest)
+step-spelled rest es k v e h i = subst (λ (r : Entries). AreSpelled (children r)) (sym e) (spelled-child k v.0 (seen v.1) (children es) h i)
+
+spelled-tree : (t : Tree) → length (class_in t) ≡ 16 → state_in t < 2 ^ 32 → AreSpelled (children_in t) → IsSpelled t
+spelled-tree (tree class state cs) c s h = (c, s, h)
+
+pub spelled-storage : (s : Storage) → length s.class ≡ 16 → s.state < 2 ^ 32 → AreSpelled (children_in (view s)) → IsSpelled (view s)
+spelled-storage s c b h =
+    let out : view s ≡ tree s.class s.state (children s.children.entries) = view-out s in
+    spelled-tree (view s) (ap (λ t. length (class_in t)) out ∙ c) (let e : state_in (view s) ≡ s.state = ap state_in out in omega arith) h
+
+pub child-spelled : (node : Node) (s : Storage) → node ≡ variant.Storage s → IsSpelled (view s) → IsChildSpelled (seen node)
+child-spelled node s e h = subst IsChildSpelled (sym (ap seen e ∙ seen-storage s)) h

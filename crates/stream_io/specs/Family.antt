@@ -1,5 +1,5 @@
 -- The entries of siblings as the writer keeps them.
-use Rattle.std.specs.Prelude.{◌≡◌, ◌<◌, ◌≤◌, ◌+◌, ◌⊎◌, ◌++◌, ℕ, List, length}
+use Rattle.std.specs.Prelude.{◌≡◌, ◌<◌, ◌≤◌, ◌^◌, ◌+◌, ◌⊎◌, ◌++◌, ℕ, List, length}
 use Rattle.cfb_directory.specs.Entries.{NO_STREAM}
 use Rattle.cfb_directory.specs.SearchTree.{IsSearchTree}
 use Rattle.cfb_directory.specs.Written.{entry_bytes}
@@ -7,7 +7,7 @@ use Rattle.storage_tree.specs.Tree.{Tree, Children}
 use Rattle.storage_tree.specs.Change.{Seen, bytes, inner}
 use Rattle.stream_io.specs.Need.{entries, mini_sectors, entries_of, over_streams_of, short_pieces, long_pieces}
 use Rattle.stream_io.specs.Streams.{minis_with, sectors_with}
-use Rattle.stream_io.specs.Directory.{ids_from, entries_with, stream_says, storage_says, entries_below, each_entry, balanced}
+use Rattle.stream_io.specs.Directory.{IsSpelled, ids_from, entries_with, stream_says, storage_says, entries_below, each_entry, balanced}
 use Rattle.stream_io.specs.declared.entries.Family.{Family}
 use Rattle.stream_io.specs.declared.entries.Counts.{Counts}
 use Rattle.stream_io.specs.declared.entries.Cursor.{Cursor}
@@ -60,3 +60,8 @@ pub record AreCounts (counts : Counts) (t : Tree) : Type 0 where
   pub small : AreSmall counts
   pub counted : counts.entries ≡ entries t
   pub minis_counted : counts.minis ≡ mini_sectors t
+
+-- a child whose class ids have 16 bytes and whose numbers have four
+abbrev pub IsChildSpelled : Seen → Type 0
+IsChildSpelled (bytes b) = length b < 2 ^ 32
+IsChildSpelled (inner t) = IsSpelled t

@@ -6,10 +6,10 @@ ghost use Rattle.std.specs.List.{concat};
 ghost use Rattle.std.specs.Vec.{vec_len};
 ghost use Rattle.storage_tree.specs.View.{seen, view};
 ghost use Rattle.stream_io.specs.Need.{entries, long_sectors};
-ghost use Rattle.stream_io.specs.Family.{AreCounts, AreSmall, IsBelow, IsFamily, IsJoined, child_entries, past, past_all, sibling_entries};
+ghost use Rattle.stream_io.specs.Family.{AreCounts, AreSmall, IsBelow, IsChildSpelled, IsFamily, IsJoined, child_entries, past, past_all, sibling_entries};
 ghost use Rattle.storage_tree.specs.Change.{bytes as seen_bytes};
 ghost use Rattle.stream_io.specs.Image.{start};
-ghost use Rattle.stream_io.specs.Directory.{balanced as balanced_links, children_in, entries_with, first_of_stream, directory_of_tree, ids_from, long_start, root_says, storage_says, stream_says};
+ghost use Rattle.stream_io.specs.Directory.{AreSpelled, IsSpelled, balanced as balanced_links, children_in, entries_with, first_of_stream, directory_of_tree, ids_from, long_start, root_says, storage_says, stream_says};
 
 use cfb_chain::fat::END_OF_CHAIN;
 use cfb_directory::entries::{EntryKind, NO_STREAM};
@@ -171,20 +171,39 @@ fn stream_entry(family: &Family, place: usize, at: Cursor, bytes: &Bytes) -> Ent
     }
 }
 
+/// The bytes of a class id, of which there are 16.
+fn class_bytes(bytes: &[u8; 16]) -> [u8; 16]
+    ensures same { result ≡ bytes.now }
+    ensures len { length bytes.now ≡ 16 }
+{
+    *bytes
+}
+
+/// State bits, which have four bytes.
+fn state_bits(state: u32) -> u32
+    ensures same { result ≡ state }
+    ensures fits { state < 2 ^ 32 }
+{
+    state
+}
+
 /// What the entry of the storage at a place says, whose children are these.
 fn storage_entry(family: &Family, place: usize, storage: &Storage, children: &Family) -> EntryFields
     requires joined { IsJoined family.now }
     requires there { place < length family.now.ids.items }
     requires below { IsJoined children.now }
-    ensures { (id : ℕ) → IsFamily children.now (id + 1) (children_in (view storage.now)) → result ≡ storage_says balanced_links family.now.ids.items place id (view storage.now) }
+    ensures class_id { length storage.now.class ≡ 16 }
+    ensures state_bits { storage.now.state < 2 ^ 32 }
+    ensures says { (id : ℕ) → IsFamily children.now (id + 1) (children_in (view storage.now)) → result ≡ storage_says balanced_links family.now.ids.items place id (view storage.now) }
 {
+    let state = state_bits(storage.state);
     EntryFields {
         kind: EntryKind::Storage,
         left: family.left(place),
         right: family.right(place),
         child: children.top(),
-        class: *storage.class.as_bytes(),
-        state: storage.state,
+        class: class_bytes(storage.class.as_bytes()),
+        state,
         first: 0,
         size: 0,
     }
@@ -220,6 +239,7 @@ fn push_below(alloc: Global, out: &mut Vec<u8>, storage: &Storage, family: &Fami
     requires few { IsBelow (past_all at (children_in (view storage.now))) 1048576 }
     ensures pushed { OnOk result (out.new.items ≡ out.old.items ++ sibling_entries family.now.ids.items 0 at (children_in (view storage.now))) }
     ensures next { IfOk result (λ next. next ≡ past_all at (children_in (view storage.now))) }
+    ensures spelled { OnOk result (AreSpelled (children_in (view storage.now))) }
 {
     let mut next = at;
     let mut place = 0;
@@ -238,6 +258,7 @@ fn push_child(alloc: Global, out: &mut Vec<u8>, child: &(Name, Node), family: &F
     requires few { IsBelow (past at (seen child.now.1)) 1048576 }
     ensures pushed { OnOk result (out.new.items ≡ out.old.items ++ child_entries family.now.ids.items place at child.now.0 (seen child.now.1)) }
     ensures next { IfOk result (λ next. next ≡ past at (seen child.now.1)) }
+    ensures spelled { OnOk result (IsChildSpelled (seen child.now.1)) }
 {
     let name = child.0.as_bytes();
     match &child.1 {
@@ -300,16 +321,19 @@ impl Counts {
 fn root_entry(root: &Storage, children: &Family, counts: Counts) -> EntryFields
     requires children { IsFamily children.now 1 (children_in (view root.now)) }
     requires counts { AreCounts counts (view root.now) }
-    ensures { result ≡ root_says balanced_links counts.fat (view root.now) }
+    ensures class_id { length root.now.class ≡ 16 }
+    ensures state_bits { root.now.state < 2 ^ 32 }
+    ensures says { result ≡ root_says balanced_links counts.fat (view root.now) }
 {
+    let state = state_bits(root.state);
     let before = counts.fat + counts.directory_sectors() + counts.mini_fat_sectors();
     EntryFields {
         kind: EntryKind::Root,
         left: NO_STREAM,
         right: NO_STREAM,
         child: children.top(),
-        class: *root.class.as_bytes(),
-        state: root.state,
+        class: class_bytes(root.class.as_bytes()),
+        state,
         first: chain_start(before, counts.mini_stream_sectors()),
         size: 64 * counts.minis,
     }
@@ -331,7 +355,8 @@ fn push_unused(out: &mut Vec<u8>, count: u32) -> Result<(), AllocError>
 fn push_directory(alloc: Global, out: &mut Vec<u8>, root: &Storage, counts: Counts) -> Result<(), AllocError>
     requires counts { AreCounts counts (view root.now) }
     requires few { long_start counts.fat (view root.now) + long_sectors (view root.now) < 1048576 }
-    ensures { OnOk result (out.new.items ≡ out.old.items ++ directory_of_tree balanced_links counts.fat (view root.now)) }
+    ensures pushed { OnOk result (out.new.items ≡ out.old.items ++ directory_of_tree balanced_links counts.fat (view root.now)) }
+    ensures spelled { OnOk result (IsSpelled (view root.now)) }
 {
     let directory = counts.directory_sectors();
     let sector = counts.fat + directory + counts.mini_fat_sectors() + counts.mini_stream_sectors();
