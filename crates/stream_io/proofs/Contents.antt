@@ -110,12 +110,12 @@ module _ (f : ℕ) (class : List ℕ) (state : ℕ) (cs : Children) (is : IsFlat
     few = is.few;
     covered = omega (arith, is.covered, directory-counted, table-counted, stream-counted);
     root_first = ap first_of (root-at p.directory refl)
-      ∙ first_of-entry_bytes root_name (root_fields f links t) (lit≤ tt) is.class_id
+        ∙ first_of-entry_bytes root_name (root_fields f links t) (lit≤ tt) is.class_id
         (start-fits (f + directory_sectors t + mini_fat_sectors t) (mini_stream_sectors t) (omega (arith, is.covered, is.few)))
-      ∙ first-said;
+        ∙ first-said;
     root_size = ap size_of (root-at p.directory refl)
-      ∙ size_of-entry_bytes root_name (root_fields f links t) (lit≤ tt) is.class_id (omega (arith, is.covered, is.few))
-      ∙ ap (λ m. 64 * m) mini_counted;
+        ∙ size_of-entry_bytes root_name (root_fields f links t) (lit≤ tt) is.class_id (omega (arith, is.covered, is.few))
+        ∙ ap (λ m. 64 * m) mini_counted;
   }
 
   module _ (file : List ℕ) (l : Layout) (placed : IsPlaced file p l) where
@@ -160,7 +160,7 @@ module _ (f : ℕ) (class : List ℕ) (state : ℕ) (cs : Children) (is : IsFlat
     top-is : child (entry file l 0) ≡ links.top
     top-is = ap child root-is
         ∙ child-entry_bytes root_name (root_fields f links t) (lit≤ tt) is.class_id
-          (top-fits links 0 (length ss) links.top spans (omega (arith, is.covered, is.few, counted)))
+        (top-fits links 0 (length ss) links.top spans (omega (arith, is.covered, is.few, counted)))
 
     children : AreChildren file l 0 (range_with_len 1 (length ss))
     children = record {
@@ -172,9 +172,11 @@ module _ (f : ℕ) (class : List ℕ) (state : ℕ) (cs : Children) (is : IsFlat
     }
 
     holds : Holds file l 0 t held.used
-    holds = (sym (ap class_of root-is ∙ class_of-entry_bytes root_name (root_fields f links t) (lit≤ tt) is.class_id),
+    holds = (
+      sym (ap class_of root-is ∙ class_of-entry_bytes root_name (root_fields f links t) (lit≤ tt) is.class_id),
       sym (ap state_of root-is ∙ state_of-entry_bytes root_name (root_fields f links t) (lit≤ tt) is.class_id is.state_bits),
-      (range_with_len 1 (length ss), children, held.holds))
+      (range_with_len 1 (length ss), children, held.holds),
+    )
 
     -- the file denotes the tree
     pub denotes : Denotes file t

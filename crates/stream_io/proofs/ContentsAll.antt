@@ -163,15 +163,15 @@ module _ (links : ℕ → Siblings) (search : AreBalanced links) (f : ℕ) (t : 
         (long_start f t) (long_streams t ++ [])
     first-sector = subst (λ (bs : List (List ℕ)). AreNext 512 (long_start f t) (runs (long_start f t) (pieces_of 512 (long_streams t))) (whole_pieces 512 (long_streams t))
         (sum (pieces_of 512 (long_streams t))) (long_start f t) bs) (sym (append-nil (long_streams t))) (record {
-      done = 0;
-      is_at = omega arith;
-      left = record {
-        runs_left = let e : long_start f t ≡ long_start f t + 0 = omega arith in ap (λ x. runs x (pieces_of 512 (long_streams t))) e;
-        rest = [];
-        bytes_left = sym (append-nil (whole_pieces 512 (long_streams t)));
-        all = omega arith;
-      };
-    })
+          done = 0;
+          is_at = omega arith;
+          left = record {
+            runs_left = let e : long_start f t ≡ long_start f t + 0 = omega arith in ap (λ x. runs x (pieces_of 512 (long_streams t))) e;
+            rest = [];
+            bytes_left = sym (append-nil (whole_pieces 512 (long_streams t)));
+            all = omega arith;
+          };
+        })
 
     held : TreeHeld file l links search (1 + entries t) (omega (arith, ap length placed.directory, length-directory)) (omega (arith, is.covered, is.few))
         (runs 0 p.minis) p.mini_stream (sum p.minis) mini-store (long_start f t) (runs (long_start f t) (pieces_of 512 (long_streams t)))
@@ -190,7 +190,7 @@ module _ (links : ℕ → Siblings) (search : AreBalanced links) (f : ℕ) (t : 
       root = says-root.held;
       holds = held.holds;
       sectors_apart = subst (λ (ns : List ℕ). AreDistinct (l.fat ++ l.directory ++ l.mini_fat ++ l.mini_stream ++ ns))
-        (ap (range_with_len (long_start f t)) (longs-sum t) ∙ sym held.sectors_used) longs.apart;
+          (ap (range_with_len (long_start f t)) (longs-sum t) ∙ sym held.sectors_used) longs.apart;
       minis_apart = subst AreDistinct (sym held.mini_sectors_used) (distinct_range 0 (mini_sectors t));
       ids_apart = subst AreDistinct (sym (ap (λ ns. 0 ∷ ns) held.ids)) (distinct_range 0 (suc (entries t)));
       is_tree = is.whole;

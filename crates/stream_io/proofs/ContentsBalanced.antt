@@ -25,10 +25,10 @@ length-lefts : (depth lo hi : ℕ) → hi ≤ lo + depth → length (lefts depth
 length-lefts zero lo hi enough = omega arith
 length-lefts (suc depth) lo hi enough = elim (cases_lt lo hi) [
   | inl l ↦
-    let m : ℕ = middle lo hi in
-    let a : length (lefts depth lo m) ≡ m - lo = length-lefts depth lo m (omega arith) in
-    let b : length (lefts depth (m + 1) hi) ≡ hi - (m + 1) = length-lefts depth (m + 1) hi (omega arith) in
-    ap length (lefts-some depth lo hi l) ∙ omega (arith, length-append (lefts depth lo m) (top_between lo m ∷ lefts depth (m + 1) hi))
+      let m : ℕ = middle lo hi in
+      let a : length (lefts depth lo m) ≡ m - lo = length-lefts depth lo m (omega arith) in
+      let b : length (lefts depth (m + 1) hi) ≡ hi - (m + 1) = length-lefts depth (m + 1) hi (omega arith) in
+      ap length (lefts-some depth lo hi l) ∙ omega (arith, length-append (lefts depth lo m) (top_between lo m ∷ lefts depth (m + 1) hi))
   | inr g ↦ ap length (lefts-none (suc depth) lo hi g) ∙ omega arith
 ]
 
@@ -36,10 +36,10 @@ length-rights : (depth lo hi : ℕ) → hi ≤ lo + depth → length (rights dep
 length-rights zero lo hi enough = omega arith
 length-rights (suc depth) lo hi enough = elim (cases_lt lo hi) [
   | inl l ↦
-    let m : ℕ = middle lo hi in
-    let a : length (rights depth lo m) ≡ m - lo = length-rights depth lo m (omega arith) in
-    let b : length (rights depth (m + 1) hi) ≡ hi - (m + 1) = length-rights depth (m + 1) hi (omega arith) in
-    ap length (rights-some depth lo hi l) ∙ omega (arith, length-append (rights depth lo m) (top_between (m + 1) hi ∷ rights depth (m + 1) hi))
+      let m : ℕ = middle lo hi in
+      let a : length (rights depth lo m) ≡ m - lo = length-rights depth lo m (omega arith) in
+      let b : length (rights depth (m + 1) hi) ≡ hi - (m + 1) = length-rights depth (m + 1) hi (omega arith) in
+      ap length (rights-some depth lo hi l) ∙ omega (arith, length-append (rights depth lo m) (top_between (m + 1) hi ∷ rights depth (m + 1) hi))
   | inr g ↦ ap length (rights-none (suc depth) lo hi g) ∙ omega arith
 ]
 
@@ -68,25 +68,25 @@ searches zero lo hi xs ys enough order h i =
     subst (IsSearchTree xs ys lo hi) t (subst (λ (z : ℕ). IsSearchTree xs ys lo z NO_STREAM) e (empty lo))
 searches (suc depth) lo hi xs ys enough order h i = elim (cases_lt lo hi) [
   | inl l ↦
-    let m : ℕ = middle lo hi in
-    let ls : List ℕ = lefts depth lo m in
-    let rs : List ℕ = rights depth lo m in
-    let h' : Has xs lo (ls ++ top_between lo m ∷ lefts depth (m + 1) hi) = subst (Has xs lo) (lefts-some depth lo hi l) h in
-    let i' : Has ys lo (rs ++ top_between (m + 1) hi ∷ rights depth (m + 1) hi) = subst (Has ys lo) (rights-some depth lo hi l) i in
-    let el : lo + length ls ≡ m = omega (arith, length-lefts depth lo m (omega arith)) in
-    let er : lo + length rs ≡ m = omega (arith, length-rights depth lo m (omega arith)) in
-    let a : IsSearchTree xs ys lo m (top_between lo m) = searches depth lo m xs ys (omega arith) (omega arith)
+      let m : ℕ = middle lo hi in
+      let ls : List ℕ = lefts depth lo m in
+      let rs : List ℕ = rights depth lo m in
+      let h' : Has xs lo (ls ++ top_between lo m ∷ lefts depth (m + 1) hi) = subst (Has xs lo) (lefts-some depth lo hi l) h in
+      let i' : Has ys lo (rs ++ top_between (m + 1) hi ∷ rights depth (m + 1) hi) = subst (Has ys lo) (rights-some depth lo hi l) i in
+      let el : lo + length ls ≡ m = omega (arith, length-lefts depth lo m (omega arith)) in
+      let er : lo + length rs ≡ m = omega (arith, length-rights depth lo m (omega arith)) in
+      let a : IsSearchTree xs ys lo m (top_between lo m) = searches depth lo m xs ys (omega arith) (omega arith)
       (has-front xs lo ls (top_between lo m) (lefts depth (m + 1) hi) h') (has-front ys lo rs (top_between (m + 1) hi) (rights depth (m + 1) hi) i') in
-    let b : IsSearchTree xs ys (m + 1) hi (top_between (m + 1) hi) = searches depth (m + 1) hi xs ys (omega arith) (omega arith)
+      let b : IsSearchTree xs ys (m + 1) hi (top_between (m + 1) hi) = searches depth (m + 1) hi xs ys (omega arith) (omega arith)
       (has-back xs lo m ls (top_between lo m) (lefts depth (m + 1) hi) el h') (has-back ys lo m rs (top_between (m + 1) hi) (rights depth (m + 1) hi) er i') in
-    let t : m ≡ top_between lo hi = sym (ap (λ b. cond b (middle lo hi) NO_STREAM) (lt-ltb lo hi l)) in
-    subst (IsSearchTree xs ys lo hi) t
+      let t : m ≡ top_between lo hi = sym (ap (λ b. cond b (middle lo hi) NO_STREAM) (lt-ltb lo hi l)) in
+      subst (IsSearchTree xs ys lo hi) t
       (node lo hi l (subst (IsSearchTree xs ys lo m) (sym (has-middle xs lo m ls (top_between lo m) (lefts depth (m + 1) hi) el h')) a)
-        (subst (IsSearchTree xs ys (m + 1) hi) (sym (has-middle ys lo m rs (top_between (m + 1) hi) (rights depth (m + 1) hi) er i')) b))
+      (subst (IsSearchTree xs ys (m + 1) hi) (sym (has-middle ys lo m rs (top_between (m + 1) hi) (rights depth (m + 1) hi) er i')) b))
   | inr g ↦
-    let e : lo ≡ hi = omega arith in
-    let t : NO_STREAM ≡ top_between lo hi = sym (ap (λ b. cond b (middle lo hi) NO_STREAM) (le-ltb lo hi g)) in
-    subst (IsSearchTree xs ys lo hi) t (subst (λ (z : ℕ). IsSearchTree xs ys lo z NO_STREAM) e (empty lo))
+      let e : lo ≡ hi = omega arith in
+      let t : NO_STREAM ≡ top_between lo hi = sym (ap (λ b. cond b (middle lo hi) NO_STREAM) (le-ltb lo hi g)) in
+      subst (IsSearchTree xs ys lo hi) t (subst (λ (z : ℕ). IsSearchTree xs ys lo z NO_STREAM) e (empty lo))
 ]
 
 pub are-balanced : AreBalanced balanced

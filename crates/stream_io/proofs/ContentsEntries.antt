@@ -88,6 +88,7 @@ are-read directory links place at (s ∷ ss) rest room e =
     let is : entry_at directory (place + 1) ≡ one = entry-begins directory one (more ++ rest) (place + 1) wide begins in
     let m : 128 * (place + 1 + 1) ≡ 128 * (place + 1) + 128 = omega arith in
     let behind : drop (128 * (place + 1 + 1)) directory ≡ more ++ rest =
-      ap (λ k. drop k directory) m ∙ sym (drop-drop 128 (128 * (place + 1)) directory) ∙ ap (drop 128) begins ∙ drop_at one (more ++ rest) 128 wide in
-    (subst (IsStreamEntry links place at s) (sym is) (stream-entry links place at s room.0),
-     are-read directory links (place + 1) (at + pieces 64 (length s.bytes)) ss rest room.1 behind)
+    ap (λ k. drop k directory) m ∙ sym (drop-drop 128 (128 * (place + 1)) directory) ∙ ap (drop 128) begins ∙ drop_at one (more ++ rest) 128 wide in (
+      subst (IsStreamEntry links place at s) (sym is) (stream-entry links place at s room.0),
+      are-read directory links (place + 1) (at + pieces 64 (length s.bytes)) ss rest room.1 behind,
+    )

@@ -55,7 +55,7 @@ module _ (file : List ℕ) (l : Layout) (links : Links) where
   keys-read depth place at (stream k n b cs) flat whole read =
       let first : key (name_of (entry file l (place + 1))) ≡ k = ap key (sym read.0.named.units) ∙ sym whole.0.under_key in
       let rest : map (λ n. key (name_of (entry file l n))) (range_with_len (place + 1 + 1) (length (streams cs))) ≡ keys cs =
-        keys-read depth (place + 1) (at + pieces 64 (length b)) cs flat whole.2 read.1 in
+      keys-read depth (place + 1) (at + pieces 64 (length b)) cs flat whole.2 read.1 in
       (λ t. first t ∷ rest t)
   keys-read depth place at (storage k n t cs) flat whole read = absurd (true≢false flat)
 
@@ -76,17 +76,17 @@ module _ (file : List ℕ) (l : Layout) (links : Links) where
         let ns : List ℕ = range_with_len at (pieces 64 (length s.bytes)) in
         let id : ℕ = place + 1 in
         let here : store_for file l (size_of (entry file l id)) ≡ minis file l =
-          ap (store_for file l) e.size ∙ ap (λ b. if b then minis file l else sectors file l) (lt-ltb (length s.bytes) 4096 short) in
+        ap (store_for file l) e.size ∙ ap (λ b. if b then minis file l else sectors file l) (lt-ltb (length s.bytes) 4096 short) in
         let chain : IsChainOf (minis file l) (start at (pieces 64 (length s.bytes))) (length s.bytes) ns = mini_chain (minis file l) is.width at s.bytes lies in
         let content : s.bytes ≡ take (length s.bytes) (joined (minis file l).piece ns) = mini_content (minis file l) is.width at s.bytes lies in
         let sized : IsChainOf (minis file l) (start at (pieces 64 (length s.bytes))) (size_of (entry file l id)) ns =
-          subst (λ (z : ℕ). IsChainOf (minis file l) (start at (pieces 64 (length s.bytes))) z ns) (sym e.size) chain in
+        subst (λ (z : ℕ). IsChainOf (minis file l) (start at (pieces 64 (length s.bytes))) z ns) (sym e.size) chain in
         let starting : IsChainOf (minis file l) (first_of (entry file l id)) (size_of (entry file l id)) ns =
-          subst (λ (z : ℕ). IsChainOf (minis file l) z (size_of (entry file l id)) ns) (sym e.first) sized in
+        subst (λ (z : ℕ). IsChainOf (minis file l) z (size_of (entry file l id)) ns) (sym e.first) sized in
         record {
           chain = subst (λ (z : Store). IsChainOf z (first_of (entry file l id)) (size_of (entry file l id)) ns) (sym here) starting;
           content = content ∙ ap (λ z. take z (joined (minis file l).piece ns)) (sym e.size)
-            ∙ ap (λ z. take (size_of (entry file l id)) (joined z.piece ns)) (sym here);
+              ∙ ap (λ z. take (size_of (entry file l id)) (joined z.piece ns)) (sym here);
         }
 
     taken-short : (id size : ℕ) (ns : List ℕ) → size < 4096 → taken id size ns ≡ record { ids = id ∷ []; sectors = []; minis = ns }
@@ -109,10 +109,13 @@ module _ (file : List ℕ) (l : Layout) (links : Links) where
         let is_one : one ≡ record { ids = id ∷ []; sectors = []; minis = ns } = taken-short id (size_of (entry file l id)) ns (omega (arith, read.0.size)) in
         record {
           used = both one rest.used;
-          holds = (read.0.held, record { named = read.0.named; under_key = whole.0.under_key },
-            (ns, rest.used, holds-bytes place at s (streams cs) short read.0 are, refl, rest.holds));
+          holds = (
+            read.0.held,
+            record { named = read.0.named; under_key = whole.0.under_key },
+            (ns, rest.used, holds-bytes place at s (streams cs) short read.0 are, refl, rest.holds),
+          );
           no_sectors = ap (λ u. u.sectors ++ rest.used.sectors) is_one ∙ rest.no_sectors;
           ids = ap (λ u. u.ids ++ rest.used.ids) is_one ∙ ap (λ xs. id ∷ xs) rest.ids;
           mini_sectors = ap (λ u. u.minis ++ rest.used.minis) is_one ∙ ap (λ xs. ns ++ xs) rest.mini_sectors
-            ∙ sym (range-append at m (sum (minis_of (streams cs)))) ∙ ap (range_with_len at) (sym (sum-cons m (minis_of (streams cs))));
+              ∙ sym (range-append at m (sum (minis_of (streams cs)))) ∙ ap (range_with_len at) (sym (sum-cons m (minis_of (streams cs))));
         }

@@ -62,14 +62,14 @@ links-at lefts rights lo hi top (node from' to' some before after) p from to =
     let m : ℕ = middle lo hi in
     elim (cases_order m p) [
       | inl e ↦ subst (LinksAt lefts rights hi) e (record {
-          to_left = wider m hi (slice_index lefts m) (omega arith) (top-link lefts rights lo m (slice_index lefts m) before);
-          to_right = top-link lefts rights (m + 1) hi (slice_index rights m) after;
-        })
+        to_left = wider m hi (slice_index lefts m) (omega arith) (top-link lefts rights lo m (slice_index lefts m) before);
+        to_right = top-link lefts rights (m + 1) hi (slice_index rights m) after;
+      })
       | inr d ↦ elim d [
         | inl more ↦ links-at lefts rights (m + 1) hi (slice_index rights m) after p (omega arith) to
         | inr less ↦
-          let r : LinksAt lefts rights m p = links-at lefts rights lo m (slice_index lefts m) before p from less in
-          record { to_left = wider m hi (slice_index lefts p) (omega arith) r.to_left; to_right = wider m hi (slice_index rights p) (omega arith) r.to_right }
+            let r : LinksAt lefts rights m p = links-at lefts rights lo m (slice_index lefts m) before p from less in
+            record { to_left = wider m hi (slice_index lefts p) (omega arith) r.to_left; to_right = wider m hi (slice_index rights p) (omega arith) r.to_right }
       ]
     ]
 
@@ -78,11 +78,11 @@ linked-fits ids place small link =
     elim (eqb_tells place NO_STREAM) [
       | inl same ↦ let e : linked ids place ≡ NO_STREAM = ap (λ b. if b then NO_STREAM else slice_index ids place) same.0 in omega (arith, e)
       | inr other ↦
-        let e : linked ids place ≡ slice_index ids place = ap (λ b. if b then NO_STREAM else slice_index ids place) other.0 in
-        elim link [
-          | inl none_there ↦ absurd (omega (arith, other.1, none_there))
-          | inr l ↦ omega (arith, e, small place l)
-        ]
+          let e : linked ids place ≡ slice_index ids place = ap (λ b. if b then NO_STREAM else slice_index ids place) other.0 in
+          elim link [
+            | inl none_there ↦ absurd (omega (arith, other.1, none_there))
+            | inr l ↦ omega (arith, e, small place l)
+          ]
     ]
 
 module _ (links : ℕ → Siblings) (balanced : AreBalanced links) (ids : List ℕ) (small : (k : ℕ) → k < length ids → get_or ids k 0 < 2 ^ 32) where
@@ -102,8 +102,9 @@ module _ (links : ℕ → Siblings) (balanced : AreBalanced links) (ids : List �
 
 -- what is reached is just the siblings
 pub reached-same : (d ids : List ℕ) (top : ℕ) (r : Reached d (slice_index ids) 0 (length ids) top) (z : ℕ) → Contains r.ids z ↔ Contains ids z
-reached-same d ids top r z =
-    (λ c. let o : (k : ℕ) × (0 ≤ k) × (k < length ids) × (slice_index ids k ≡ z) = r.only z c in
+reached-same d ids top r z = (
+  λ c. let o : (k : ℕ) × (0 ≤ k) × (k < length ids) × (slice_index ids k ≡ z) = r.only z c in
       (o.0, o.2, get_or_default_zero ids o.0 z o.2 ∙ o.3),
-     λ c. let e : slice_index ids c.0 ≡ z = sym (get_or_default_zero ids c.0 z c.1) ∙ c.2 in
-      subst (λ (y : ℕ). Contains r.ids y) e (r.there c.0 (omega arith) c.1))
+  λ c. let e : slice_index ids c.0 ≡ z = sym (get_or_default_zero ids c.0 z c.1) ∙ c.2 in
+      subst (λ (y : ℕ). Contains r.ids y) e (r.there c.0 (omega arith) c.1),
+)

@@ -38,7 +38,7 @@ module _ (directory : List ℕ) (links : Links) (count : ℕ) (read : LinksRead 
       let id : ℕ = place + 1 in
       let all : List ℕ = l.reached ++ r.reached in
       let apart : (z : ℕ) → Contains l.reached z → Contains r.reached z → ⊥ =
-        λ z a b. let p : _ = (l.same z).0 a in let q : _ = (r.same z).0 b in omega (arith, p.1, q.0) in
+      λ z a b. let p : _ = (l.same z).0 a in let q : _ = (r.same z).0 b in omega (arith, p.1, q.0) in
       let here : Contains all id → ⊥ = λ c. elim (Contains-append_cases l.reached r.reached id c) [
         | inl a ↦ let p : _ = (l.same id).0 a in omega (arith, p.1)
         | inr b ↦ let q : _ = (r.same id).0 b in omega (arith, q.0)
@@ -46,11 +46,11 @@ module _ (directory : List ℕ) (links : Links) (count : ℕ) (read : LinksRead 
       record {
         reached = id ∷ all;
         linked = around id l.reached r.reached (λ e. omega (arith, read.few)) (omega (arith, read.inside))
-          (subst (λ (z : ℕ). AreLinked directory z l.reached) (sym (read.to_left place (omega arith))) l.linked)
-          (subst (λ (z : ℕ). AreLinked directory z r.reached) (sym (read.to_right place (omega arith))) r.linked);
+            (subst (λ (z : ℕ). AreLinked directory z l.reached) (sym (read.to_left place (omega arith))) l.linked)
+            (subst (λ (z : ℕ). AreLinked directory z r.reached) (sym (read.to_right place (omega arith))) r.linked);
         once = distinct-cons id all here (distinct-append l.reached r.reached l.once r.once apart);
-        same = λ z.
-          (λ c. elim (Contains-cons_cases id all z c) [
+        same = λ z. (
+          λ c. elim (Contains-cons_cases id all z c) [
             | inl e ↦ (omega arith, omega arith)
             | inr d ↦ elim (Contains-append_cases l.reached r.reached z d) [
               | inl a ↦ let p : _ = (l.same z).0 a in (p.0, omega (arith, p.1))
@@ -63,7 +63,8 @@ module _ (directory : List ℕ) (links : Links) (count : ℕ) (read : LinksRead 
               | inl more ↦ Contains-behind id all z (Contains-append_right l.reached r.reached z ((r.same z).1 (omega arith, w.1)))
               | inr less ↦ Contains-behind id all z (Contains-append_left l.reached r.reached z ((l.same z).1 (w.0, omega arith)))
             ]
-          ]);
+          ],
+        );
       }
 
   pub reaches-span : (lo hi id : ℕ) → Spans links lo hi id → hi ≤ count → ReachesSpan directory lo hi id
@@ -102,15 +103,16 @@ pub links-read : (directory : List ℕ) (links : Links) (ss : List NamedBytes) �
     → 128 * (length ss + 1) ≤ length directory → length ss < NO_STREAM → LinksRead directory links (length ss)
 links-read directory links ss read inside few = record {
   to_left = λ place lt. let e : 0 + place ≡ place = omega arith in
-    sym (ap (λ z. left (entry_at directory (z + 1))) e) ∙ left-read directory links 0 0 ss read place lt ∙ ap links.left e;
+      sym (ap (λ z. left (entry_at directory (z + 1))) e) ∙ left-read directory links 0 0 ss read place lt ∙ ap links.left e;
   to_right = λ place lt. let e : 0 + place ≡ place = omega arith in
-    sym (ap (λ z. right (entry_at directory (z + 1))) e) ∙ right-read directory links 0 0 ss read place lt ∙ ap links.right e;
+      sym (ap (λ z. right (entry_at directory (z + 1))) e) ∙ right-read directory links 0 0 ss read place lt ∙ ap links.right e;
   inside = inside;
   few = few;
 }
 
 -- what is reached, as the children's ids in order
 pub same-range : (directory : List ℕ) (count id : ℕ) (r : ReachesSpan directory 0 count id) (z : ℕ) → Contains r.reached z ↔ Contains (range_with_len 1 count) z
-same-range directory count id r z =
-    (λ c. let w : _ = (r.same z).0 c in (contains_range 1 count z).1 (omega (arith, w.0), omega (arith, w.1)),
-     λ c. let w : _ = (contains_range 1 count z).0 c in (r.same z).1 (omega (arith, w.0), omega (arith, w.1)))
+same-range directory count id r z = (
+  λ c. let w : _ = (r.same z).0 c in (contains_range 1 count z).1 (omega (arith, w.0), omega (arith, w.1)),
+  λ c. let w : _ = (contains_range 1 count z).0 c in (r.same z).1 (omega (arith, w.0), omega (arith, w.1)),
+)

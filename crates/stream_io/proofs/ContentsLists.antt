@@ -41,15 +41,16 @@ distinct-append (x ∷ xs) ys h i apart =
 pub contains_range : (at n z : ℕ) → Contains (range_with_len at n) z ↔ ((at ≤ z) × (z < at + n))
 contains_range at zero z = (λ c. absurd (omega (arith, c.1)), λ w. absurd (omega arith))
 contains_range at (suc n) z =
-    let rest : _ = contains_range (at + 1) n z in
-    (λ c. elim (Contains-cons_cases at (range_with_len (at + 1) n) z c) [
-      | inl e ↦ (omega arith, omega arith)
-      | inr d ↦ (omega (arith, (rest.0 d).0), omega (arith, (rest.0 d).1))
-    ],
-    λ w. elim (eq-or-lt_of_le {n = at} {m = z} w.0) [
-      | inl e ↦ let P : ℕ → Type 0 = λ y. Contains (range_with_len at (suc n)) y in subst P e (Contains-front at (range_with_len (at + 1) n))
-      | inr l ↦ Contains-behind at (range_with_len (at + 1) n) z (rest.1 (omega arith, omega (arith, w.1)))
-    ])
+    let rest : _ = contains_range (at + 1) n z in (
+      λ c. elim (Contains-cons_cases at (range_with_len (at + 1) n) z c) [
+        | inl e ↦ (omega arith, omega arith)
+        | inr d ↦ (omega (arith, (rest.0 d).0), omega (arith, (rest.0 d).1))
+      ],
+      λ w. elim (eq-or-lt_of_le {n = at} {m = z} w.0) [
+        | inl e ↦ let P : ℕ → Type 0 = λ y. Contains (range_with_len at (suc n)) y in subst P e (Contains-front at (range_with_len (at + 1) n))
+        | inr l ↦ Contains-behind at (range_with_len (at + 1) n) z (rest.1 (omega arith, omega (arith, w.1)))
+      ],
+    )
 
 pub distinct_range : (at n : ℕ) → AreDistinct (range_with_len at n)
 distinct_range at zero = distinct-nil

@@ -42,10 +42,10 @@ joined_blocks w f bytes at (suc n) h each =
     let a : at + 0 ≡ at = omega arith in
     let first : f at ≡ take w bytes = sym (ap f a) ∙ each 0 (omega arith) ∙ ap (block w bytes) z ∙ block-take w bytes (omega arith) in
     let rest : flat_map f (range_with_len (at + 1) n) ≡ drop w bytes =
-      joined_blocks w f (drop w bytes) (at + 1) n (omega (arith, length-drop w bytes))
-      (λ k l. let b : at + 1 + k ≡ at + suc k = omega arith in
-        let c : w * suc k ≡ w + w * k = omega arith in
-        ap f b ∙ each (suc k) (omega arith) ∙ ap (block w bytes) c ∙ block-drop w w (w * k) bytes) in
+    joined_blocks w f (drop w bytes) (at + 1) n (omega (arith, length-drop w bytes))
+    (λ k l. let b : at + 1 + k ≡ at + suc k = omega arith in
+    let c : w * suc k ≡ w + w * k = omega arith in
+    ap f b ∙ each (suc k) (omega arith) ∙ ap (block w bytes) c ∙ block-drop w w (w * k) bytes) in
     (λ t. first t ++ rest t) ∙ take-append-drop w bytes
 
 -- bytes in whole mini sectors
@@ -118,5 +118,5 @@ module _ (s : Store) (wide : s.width ≡ 64) (at : ℕ) (bytes : List ℕ) (lies
   pub mini_content : bytes ≡ take (length bytes) (joined s.piece (range_with_len at (pieces 64 (length bytes))))
   mini_content =
       let e : joined s.piece (range_with_len at (pieces 64 (length bytes))) ≡ padded 64 bytes =
-        joined_blocks 64 s.piece (padded 64 bytes) at (pieces 64 (length bytes)) (length-padded_mini bytes) lies.piece in
+      joined_blocks 64 s.piece (padded 64 bytes) at (pieces 64 (length bytes)) (length-padded_mini bytes) lies.piece in
       sym (take-padded 64 bytes) ∙ ap (take (length bytes)) (sym e)

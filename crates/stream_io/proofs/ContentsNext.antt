@@ -109,11 +109,11 @@ module _ (base : ℕ) (table bytes : List ℕ) (count at : ℕ) (more : List (Li
       let rest : List (List ℕ) = short_streams_of cs ++ more in
       elim (cases_lt (length b) 4096) [
         | inl l ↦
-          let here : AreNext 64 base table bytes count at (b ∷ rest) = next-list 64 width base table bytes count at (short_streams_of (stream k n b cs) ++ more) (b ∷ rest) (ap (λ bs. bs ++ more) (shorts-with k n b cs l)) r in
-          next-at 64 width base table bytes count (at + pieces 64 (length b)) (at + short_pieces b) rest (ap (λ m. at + m) (sym (short-is b l))) (next-step 64 width base table bytes count at b rest here)
+            let here : AreNext 64 base table bytes count at (b ∷ rest) = next-list 64 width base table bytes count at (short_streams_of (stream k n b cs) ++ more) (b ∷ rest) (ap (λ bs. bs ++ more) (shorts-with k n b cs l)) r in
+            next-at 64 width base table bytes count (at + pieces 64 (length b)) (at + short_pieces b) rest (ap (λ m. at + m) (sym (short-is b l))) (next-step 64 width base table bytes count at b rest here)
         | inr g ↦
-          let here : AreNext 64 base table bytes count at rest = next-list 64 width base table bytes count at (short_streams_of (stream k n b cs) ++ more) rest (ap (λ bs. bs ++ more) (shorts-without k n b cs g)) r in
-          next-at 64 width base table bytes count at (at + short_pieces b) rest (omega (arith, short-none b g)) here
+            let here : AreNext 64 base table bytes count at rest = next-list 64 width base table bytes count at (short_streams_of (stream k n b cs) ++ more) rest (ap (λ bs. bs ++ more) (shorts-without k n b cs g)) r in
+            next-at 64 width base table bytes count at (at + short_pieces b) rest (omega (arith, short-none b g)) here
       ]
 
   pub sectors-past : (width : IsWidth 512) (k n b : List ℕ) (cs : Children) → AreNext 512 base table bytes count at (long_streams_of (stream k n b cs) ++ more)
@@ -122,11 +122,11 @@ module _ (base : ℕ) (table bytes : List ℕ) (count at : ℕ) (more : List (Li
       let rest : List (List ℕ) = long_streams_of cs ++ more in
       elim (cases_lt (length b) 4096) [
         | inl l ↦
-          let here : AreNext 512 base table bytes count at rest = next-list 512 width base table bytes count at (long_streams_of (stream k n b cs) ++ more) rest (ap (λ bs. bs ++ more) (longs-without k n b cs l)) r in
-          next-at 512 width base table bytes count at (at + long_pieces b) rest (omega (arith, long-none b l)) here
+            let here : AreNext 512 base table bytes count at rest = next-list 512 width base table bytes count at (long_streams_of (stream k n b cs) ++ more) rest (ap (λ bs. bs ++ more) (longs-without k n b cs l)) r in
+            next-at 512 width base table bytes count at (at + long_pieces b) rest (omega (arith, long-none b l)) here
         | inr g ↦
-          let here : AreNext 512 base table bytes count at (b ∷ rest) = next-list 512 width base table bytes count at (long_streams_of (stream k n b cs) ++ more) (b ∷ rest) (ap (λ bs. bs ++ more) (longs-with k n b cs g)) r in
-          next-at 512 width base table bytes count (at + pieces 512 (length b)) (at + long_pieces b) rest (ap (λ m. at + m) (sym (long-is b g))) (next-step 512 width base table bytes count at b rest here)
+            let here : AreNext 512 base table bytes count at (b ∷ rest) = next-list 512 width base table bytes count at (long_streams_of (stream k n b cs) ++ more) (b ∷ rest) (ap (λ bs. bs ++ more) (longs-with k n b cs g)) r in
+            next-at 512 width base table bytes count (at + pieces 512 (length b)) (at + long_pieces b) rest (ap (λ m. at + m) (sym (long-is b g))) (next-step 512 width base table bytes count at b rest here)
       ]
 
   pub minis-within : (width : IsWidth 64) (t : Tree) (cs : Children) → AreNext 64 base table bytes count at ((short_streams t ++ short_streams_of cs) ++ more)

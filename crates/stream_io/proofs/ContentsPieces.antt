@@ -65,8 +65,8 @@ module _ (w : ℕ) (width : IsWidth w) where
     linked = leads_run s.next at (suc n) next (omega arith);
     present = present_range s at (suc n) (there (omega arith)) few;
     enough = let r : suc size ≤ w * pieces w (suc size) = width.roomy (suc size) in
-      let l : length (range_with_len at (suc n)) ≡ suc n = length-range_with_len at (suc n) in
-      rw wide (omega (arith, ap (λ x. w * x) e, ap (λ x. w * x) l));
+        let l : length (range_with_len at (suc n)) ≡ suc n = length-range_with_len at (suc n) in
+        rw wide (omega (arith, ap (λ x. w * x) e, ap (λ x. w * x) l));
   }
 
   module _ (base : ℕ) (table bytes : List ℕ) (count done : ℕ) (b : List ℕ) (bs : List (List ℕ)) (are : AreLeft w base table bytes count done (b ∷ bs)) where
@@ -82,12 +82,12 @@ module _ (w : ℕ) (width : IsWidth w) where
     pub left-step : AreLeft w base table bytes count (done + n) bs
     left-step = record {
       runs_left = sym (drop-drop n done table) ∙ ap (drop n) are.runs_left
-        ∙ drop_at (run (base + done) n) (runs (base + done + n) (pieces_of w bs)) n (length-run (base + done) n)
-        ∙ (let e : base + done + n ≡ base + (done + n) = omega arith in ap (λ x. runs x (pieces_of w bs)) e);
+          ∙ drop_at (run (base + done) n) (runs (base + done + n) (pieces_of w bs)) n (length-run (base + done) n)
+          ∙ (let e : base + done + n ≡ base + (done + n) = omega arith in ap (λ x. runs x (pieces_of w bs)) e);
       rest = are.rest;
       bytes_left = let m : w * (done + n) ≡ w * done + w * n = omega arith in
-        ap (λ k. drop k bytes) m ∙ sym (drop-drop (w * n) (w * done) bytes) ∙ ap (drop (w * n)) behind
-        ∙ drop_at (padded w b) (whole_pieces w bs ++ are.rest) (w * n) (length-padded b);
+          ap (λ k. drop k bytes) m ∙ sym (drop-drop (w * n) (w * done) bytes) ∙ ap (drop (w * n)) behind
+          ∙ drop_at (padded w b) (whole_pieces w bs ++ are.rest) (w * n) (length-padded b);
       all = counted;
     }
 
@@ -106,12 +106,12 @@ module _ (w : ℕ) (width : IsWidth w) where
           let inside : w * k + w ≤ length (padded w b) = within k l in
           ap s.piece e ∙ is.piece (done + k) (omega (arith, counted)) ∙ ap (block w bytes) m ∙ block-drop w (w * done) (w * k) bytes
           ∙ ap (λ t. block w t (w * k)) behind ∙ block-append w (padded w b) (whole_pieces w bs ++ are.rest) (w * k) inside
-          where
-            within : (k : ℕ) → k < n → w * k + w ≤ length (padded w b)
-            within k l =
-                let u : w * (k + 1) ≡ w * k + w = omega arith in
-                let m : w * (k + 1) ≤ w * n = mul-le-mul_left w (let h : k + 1 ≤ n = omega arith in h) in
-                omega (arith, length-padded b)
+        where
+          within : (k : ℕ) → k < n → w * k + w ≤ length (padded w b)
+          within k l =
+              let u : w * (k + 1) ≡ w * k + w = omega arith in
+              let m : w * (k + 1) ≤ w * n = mul-le-mul_left w (let h : k + 1 ≤ n = omega arith in h) in
+              omega (arith, length-padded b)
 
       pub left-chain : IsChainOf s (start (base + done) n) (length b) (range_with_len (base + done) n)
       left-chain = chain_within s (base + done) (length b) n is.width refl next-is (λ some. omega (arith, is.there (omega (arith, counted)), counted)) (omega (arith, is.few, counted))

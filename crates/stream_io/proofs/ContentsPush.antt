@@ -50,7 +50,7 @@ storage-pushed ids place at name name' node s family e old mid new is named has 
     let more : List ℕ = entries_below balanced at.id at.mini at.sector t in
     let a : mid ≡ old ++ one = first ∙ (λ i. old ++ entry_bytes (named i) (says i)) in
     let b : sibling_entries family.ids.items 0 (record { id = at.id + 1; mini = at.mini; sector = at.sector }) (children_in t) ≡ more =
-      ap (λ xs. each_entry balanced xs 0 (at.id + 1) at.mini at.sector (children_in t)) has.ids ∙ sym (below-is at.id at.mini at.sector t) in
+    ap (λ xs. each_entry balanced xs 0 (at.id + 1) at.mini at.sector (children_in t)) has.ids ∙ sym (below-is at.id at.mini at.sector t) in
     rest ∙ (λ i. a i ++ b i) ∙ append_assoc old one more ∙ ap (λ x. old ++ child_entries ids place at name x) (sym (ap seen is ∙ seen-storage s))
 
 spelled-child : (k n : List ℕ) (s : Seen) (cs : Children) → IsChildSpelled s → AreSpelled cs → AreSpelled (child k (n, s) cs)

@@ -66,8 +66,8 @@ pub begins-behind : (directory : List ℕ) (id n : ℕ) (front more : List ℕ) 
 begins-behind directory id n front more wide b = record {
   rest = b.rest;
   is = let m : 128 * (id + n) ≡ 128 * id + 128 * n = omega arith in
-    ap (λ k. drop k directory) m ∙ sym (drop-drop (128 * n) (128 * id) directory) ∙ ap (drop (128 * n)) (b.is ∙ append_assoc front more b.rest)
-    ∙ drop_at front (more ++ b.rest) (128 * n) wide;
+      ap (λ k. drop k directory) m ∙ sym (drop-drop (128 * n) (128 * id) directory) ∙ ap (drop (128 * n)) (b.is ∙ append_assoc front more b.rest)
+      ∙ drop_at front (more ++ b.rest) (128 * n) wide;
 }
 
 pub begins-front : (directory : List ℕ) (id : ℕ) (front more : List ℕ) → Begins directory id (front ++ more) → Begins directory id front
@@ -184,22 +184,24 @@ module _ (links : ℕ → Siblings) (balanced : AreBalanced links) (last : ℕ) 
       said-each depth ids small place id mini sector (stream k n bytes cs) whole spelled within at b =
           let e : EntryFields = stream_says links ids place mini sector (length bytes) in
           let more : List ℕ = each_entry links ids (place + 1) (id + 1) (mini + short_pieces bytes) (sector + long_pieces bytes) cs in
-          let fit : FieldsFit n e = stream-fits ids small place mini sector n bytes (omega arith) whole.0.valid.short (omega (arith, within.of_minis)) (omega (arith, within.of_sectors)) spelled.0 in
-          (begins-here directory id n e more fit b,
-           said-each depth ids small (place + 1) (id + 1) (mini + short_pieces bytes) (sector + long_pieces bytes) cs whole.2 spelled.1
-           (record { of_ids = omega (arith, within.of_ids); of_minis = omega (arith, within.of_minis); of_sectors = omega (arith, within.of_sectors) })
-           (omega arith) (begins-behind directory id 1 (entry_bytes n e) more (length-entry_bytes n e fit.short fit.class_id) b))
+          let fit : FieldsFit n e = stream-fits ids small place mini sector n bytes (omega arith) whole.0.valid.short (omega (arith, within.of_minis)) (omega (arith, within.of_sectors)) spelled.0 in (
+            begins-here directory id n e more fit b,
+            said-each depth ids small (place + 1) (id + 1) (mini + short_pieces bytes) (sector + long_pieces bytes) cs whole.2 spelled.1
+                (record { of_ids = omega (arith, within.of_ids); of_minis = omega (arith, within.of_minis); of_sectors = omega (arith, within.of_sectors) })
+                (omega arith) (begins-behind directory id 1 (entry_bytes n e) more (length-entry_bytes n e fit.short fit.class_id) b),
+          )
       said-each zero ids small place id mini sector (storage k n t cs) whole spelled within at b = absurd whole
       said-each (suc depth) ids small place id mini sector (storage k n t cs) whole spelled within at b =
           let e : EntryFields = storage_says links ids place id t in
           let inner : List ℕ = entries_below links id mini sector t in
           let more : List ℕ = each_entry links ids (place + 1) (id + 1 + entries t) (mini + mini_sectors t) (sector + long_sectors t) cs in
           let fit : FieldsFit n e = storage-fits ids small place id n t (omega arith) whole.0.valid.short (omega (arith, within.of_ids)) (class-spelled t spelled.0) (state-spelled t spelled.0) in
-          let behind : Begins directory (id + 1) (inner ++ more) = begins-behind directory id 1 (entry_bytes n e) (inner ++ more) (length-entry_bytes n e fit.short fit.class_id) b in
-          (begins-here directory id n e (inner ++ more) fit b,
-           said-below depth id mini sector t whole.2 spelled.0
-           (record { of_ids = omega (arith, within.of_ids); of_minis = omega (arith, within.of_minis); of_sectors = omega (arith, within.of_sectors) })
-           (begins-front directory (id + 1) inner more behind),
-           said-each (suc depth) ids small (place + 1) (id + 1 + entries t) (mini + mini_sectors t) (sector + long_sectors t) cs whole.3 spelled.1
-           (record { of_ids = omega (arith, within.of_ids); of_minis = omega (arith, within.of_minis); of_sectors = omega (arith, within.of_sectors) })
-           (omega arith) (begins-behind directory (id + 1) (entries t) inner more (length-below depth id mini sector t whole.2 spelled.0) behind))
+          let behind : Begins directory (id + 1) (inner ++ more) = begins-behind directory id 1 (entry_bytes n e) (inner ++ more) (length-entry_bytes n e fit.short fit.class_id) b in (
+            begins-here directory id n e (inner ++ more) fit b,
+            said-below depth id mini sector t whole.2 spelled.0
+                (record { of_ids = omega (arith, within.of_ids); of_minis = omega (arith, within.of_minis); of_sectors = omega (arith, within.of_sectors) })
+                (begins-front directory (id + 1) inner more behind),
+            said-each (suc depth) ids small (place + 1) (id + 1 + entries t) (mini + mini_sectors t) (sector + long_sectors t) cs whole.3 spelled.1
+                (record { of_ids = omega (arith, within.of_ids); of_minis = omega (arith, within.of_minis); of_sectors = omega (arith, within.of_sectors) })
+                (omega arith) (begins-behind directory (id + 1) (entries t) inner more (length-below depth id mini sector t whole.2 spelled.0) behind),
+          )

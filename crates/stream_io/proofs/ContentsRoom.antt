@@ -51,9 +51,9 @@ links-fit links lo hi id (empty lo') small p from to = absurd (omega arith)
 links-fit links lo hi id (split lo' place hi' above below before after) small p from to =
     elim (cases_order place p) [
       | inl e ↦ subst (LinkFits links) e (record {
-          to_left = top-fits links lo place (links.left place) before (omega arith);
-          to_right = top-fits links (place + 1) hi (links.right place) after small;
-        })
+        to_left = top-fits links lo place (links.left place) before (omega arith);
+        to_right = top-fits links (place + 1) hi (links.right place) after small;
+      })
       | inr d ↦ elim d [
         | inl more ↦ links-fit links (place + 1) hi (links.right place) after small p (omega arith) to
         | inr less ↦ links-fit links lo place (links.left place) before (omega arith) p from less
@@ -69,7 +69,8 @@ all-have-room links depth place at (stream k n b cs) flat small whole fit few =
     let parts : _ = or_parts (nat_le 4096 (length b)) (has_long_in cs) small in
     let short : length b < 4096 = leb-false 4096 (length b) parts.0 in
     let here : LinkFits links place = fit place (omega arith) (omega arith) in
-    let s : sum (minis_of (streams (stream k n b cs))) ≡ pieces 64 (length b) + sum (minis_of (streams cs)) = sum-cons (pieces 64 (length b)) (minis_of (streams cs)) in
-    (record { short = whole.0.valid.short; to_left = here.to_left; to_right = here.to_right; first = omega arith; size = omega arith },
-     all-have-room links depth (place + 1) (at + pieces 64 (length b)) cs flat parts.1 whole.2
-     (λ p from to. fit p (omega arith) (omega arith)) (omega arith))
+    let s : sum (minis_of (streams (stream k n b cs))) ≡ pieces 64 (length b) + sum (minis_of (streams cs)) = sum-cons (pieces 64 (length b)) (minis_of (streams cs)) in (
+      record { short = whole.0.valid.short; to_left = here.to_left; to_right = here.to_right; first = omega arith; size = omega arith },
+      all-have-room links depth (place + 1) (at + pieces 64 (length b)) cs flat parts.1 whole.2
+          (λ p from to. fit p (omega arith) (omega arith)) (omega arith),
+    )

@@ -57,18 +57,18 @@ module _ (table stream : List ℕ) (count at : ℕ) (s : NamedBytes) (ss : List 
     runs_left = sym (drop-drop n at table) ∙ ap (drop n) are.runs_left ∙ drop_at (run at n) (runs (at + n) (minis_of ss)) n (length-run at n);
     rest = are.rest;
     bytes_left = let m : 64 * (at + n) ≡ 64 * at + 64 * n = omega arith in
-      ap (λ k. drop k stream) m ∙ sym (drop-drop (64 * n) (64 * at) stream) ∙ ap (drop (64 * n)) behind
-      ∙ drop_at (padded 64 s.bytes) (whole_minis ss ++ are.rest) (64 * n) (length-padded_mini s.bytes);
+        ap (λ k. drop k stream) m ∙ sym (drop-drop (64 * n) (64 * at) stream) ∙ ap (drop (64 * n)) behind
+        ∙ drop_at (padded 64 s.bytes) (whole_minis ss ++ are.rest) (64 * n) (length-padded_mini s.bytes);
     all = counted;
   }
 
   pub are-lies : (store : Store) → IsStore store table stream count → LiesAt store at s.bytes
   are-lies store is = record {
     next = λ k l. is.next (at + k) (omega (arith, counted)) ∙ sym (get_or-drop at table k 0) ∙ ap (λ t. get_or t k 0) are.runs_left
-      ∙ get_or-append (run at n) (runs (at + n) (minis_of ss)) 0 k (omega (arith, length-run at n));
+        ∙ get_or-append (run at n) (runs (at + n) (minis_of ss)) 0 k (omega (arith, length-run at n));
     piece = λ k l. let m : 64 * (at + k) ≡ 64 * at + 64 * k = omega arith in
-      is.piece (at + k) (omega (arith, counted)) ∙ ap (block 64 stream) m ∙ block-drop 64 (64 * at) (64 * k) stream
-      ∙ ap (λ t. block 64 t (64 * k)) behind ∙ block-append 64 (padded 64 s.bytes) (whole_minis ss ++ are.rest) (64 * k) (omega (arith, length-padded_mini s.bytes));
+        is.piece (at + k) (omega (arith, counted)) ∙ ap (block 64 stream) m ∙ block-drop 64 (64 * at) (64 * k) stream
+        ∙ ap (λ t. block 64 t (64 * k)) behind ∙ block-append 64 (padded 64 s.bytes) (whole_minis ss ++ are.rest) (64 * k) (omega (arith, length-padded_mini s.bytes));
     there = omega (arith, is.counted, counted);
     few = omega (arith, is.few, counted);
   }

@@ -65,13 +65,13 @@ module _ (file : List ℕ) (l : Layout) (links : ℕ → Siblings) (balanced : A
   keys-said depth ids place id mini sector (stream k n b cs) whole said =
       let first : key (name_of (entry file l id)) ≡ k = ap key (sym said.0.named.units) ∙ sym whole.0.under_key in
       let rest : map (λ n. key (name_of (entry file l n))) (ids_from (id + 1) cs) ≡ keys cs =
-        keys-said depth ids (place + 1) (id + 1) (mini + short_pieces b) (sector + long_pieces b) cs whole.2 said.1 in
+      keys-said depth ids (place + 1) (id + 1) (mini + short_pieces b) (sector + long_pieces b) cs whole.2 said.1 in
       (λ i. first i ∷ rest i)
   keys-said zero ids place id mini sector (storage k n t cs) whole said = absurd whole
   keys-said (suc depth) ids place id mini sector (storage k n t cs) whole said =
       let first : key (name_of (entry file l id)) ≡ k = ap key (sym said.0.named.units) ∙ sym whole.0.under_key in
       let rest : map (λ n. key (name_of (entry file l n))) (ids_from (id + 1 + entries t) cs) ≡ keys cs =
-        keys-said (suc depth) ids (place + 1) (id + 1 + entries t) (mini + mini_sectors t) (sector + long_sectors t) cs whole.3 said.2 in
+      keys-said (suc depth) ids (place + 1) (id + 1 + entries t) (mini + mini_sectors t) (sector + long_sectors t) cs whole.3 said.2 in
       (λ i. first i ∷ rest i)
 
   reached-from : (id mini sector : ℕ) (cs : Children) → AreSaid links d (ids_from id cs) 0 id mini sector cs → id + entries_of cs ≤ many
@@ -147,9 +147,9 @@ module _ (file : List ℕ) (l : Layout) (links : ℕ → Siblings) (balanced : A
         record {
           ns = ns;
           holds = holds-in (minis file l) id (start mini m) ns b (ap (λ c. if c then minis file l else sectors file l) (lt-ltb (length b) 4096 short))
-            (says.starts ∙ first) says.sized
-            (next-chain 64 width-64 0 mini_table mini_bytes mini_count (minis file l) mini_store mini b rest here)
-            (next-content 64 width-64 0 mini_table mini_bytes mini_count (minis file l) mini_store mini b rest here);
+              (says.starts ∙ first) says.sized
+              (next-chain 64 width-64 0 mini_table mini_bytes mini_count (minis file l) mini_store mini b rest here)
+              (next-content 64 width-64 0 mini_table mini_bytes mini_count (minis file l) mini_store mini b rest here);
           ids = ap (λ u. u.ids) is;
           minis_taken = ap (λ u. u.minis) is ∙ ap (range_with_len mini) (sym (short-is b short));
           sectors_taken = ap (λ u. u.sectors) is ∙ ap (range_with_len sector) (sym (long-none b short));
@@ -168,9 +168,9 @@ module _ (file : List ℕ) (l : Layout) (links : ℕ → Siblings) (balanced : A
         record {
           ns = ns;
           holds = holds-in (sectors file l) id (start sector m) ns b (ap (λ c. if c then minis file l else sectors file l) (le-ltb (length b) 4096 long))
-            (says.starts ∙ first) says.sized
-            (next-chain 512 width-512 base table bytes count (sectors file l) store sector b rest here)
-            (next-content 512 width-512 base table bytes count (sectors file l) store sector b rest here);
+              (says.starts ∙ first) says.sized
+              (next-chain 512 width-512 base table bytes count (sectors file l) store sector b rest here)
+              (next-content 512 width-512 base table bytes count (sectors file l) store sector b rest here);
           ids = ap (λ u. u.ids) is;
           minis_taken = ap (λ u. u.minis) is ∙ ap (range_with_len mini) (sym (short-none b long));
           sectors_taken = ap (λ u. u.sectors) is ∙ ap (range_with_len sector) (sym (long-is b long));
@@ -221,8 +221,11 @@ module _ (file : List ℕ) (l : Layout) (links : ℕ → Siblings) (balanced : A
           let each : EachHeld (id + 1) mini sector cs = each-held depth (ids_from (id + 1) cs) 0 (id + 1) mini sector cs more more' whole said small next next' in
           record {
             used = each.used;
-            holds = (sym says.class_id, sym says.state_bits,
-              (ids_from (id + 1) cs, children-are depth id (id + 1) mini sector cs whole said small says.below, each.holds));
+            holds = (
+              sym says.class_id,
+              sym says.state_bits,
+              (ids_from (id + 1) cs, children-are depth id (id + 1) mini sector cs whole said small says.below, each.holds),
+            );
             ids = each.ids;
             mini_sectors_used = each.mini_sectors_used;
             sectors_used = each.sectors_used;
@@ -236,9 +239,9 @@ module _ (file : List ℕ) (l : Layout) (links : ℕ → Siblings) (balanced : A
       each-held depth ids place id mini sector (stream k n b cs) more more' whole said small next next' =
           let one : StreamHeld id mini sector b = stream-held ids place id mini sector k n b cs more more' said.0 next next' in
           let rest : EachHeld (id + 1) (mini + short_pieces b) (sector + long_pieces b) cs =
-            each-held depth ids (place + 1) (id + 1) (mini + short_pieces b) (sector + long_pieces b) cs more more' whole.2 said.1 (omega arith)
-            (minis-past 0 mini_table mini_bytes mini_count mini more width-64 k n b cs next)
-            (sectors-past base table bytes count sector more' width-512 k n b cs next') in
+          each-held depth ids (place + 1) (id + 1) (mini + short_pieces b) (sector + long_pieces b) cs more more' whole.2 said.1 (omega arith)
+          (minis-past 0 mini_table mini_bytes mini_count mini more width-64 k n b cs next)
+          (sectors-past base table bytes count sector more' width-512 k n b cs next') in
           let u : Used = taken id (size_of (entry file l id)) one.ns in
           record {
             used = both u rest.used;
@@ -252,12 +255,12 @@ module _ (file : List ℕ) (l : Layout) (links : ℕ → Siblings) (balanced : A
           let next-in : NextMini mini (short_streams t ++ (short_streams_of cs ++ more)) = minis-within 0 mini_table mini_bytes mini_count mini more width-64 t cs next in
           let next-in' : NextSector sector (long_streams t ++ (long_streams_of cs ++ more')) = sectors-within base table bytes count sector more' width-512 t cs next' in
           let inner : TreeHeld id mini sector t =
-            tree-held depth id mini sector t (short_streams_of cs ++ more) (long_streams_of cs ++ more') whole.2 said.1
-            (record { class_id = said.0.class_id; state_bits = said.0.state_bits; below = said.0.below }) (omega arith) next-in next-in' in
+          tree-held depth id mini sector t (short_streams_of cs ++ more) (long_streams_of cs ++ more') whole.2 said.1
+          (record { class_id = said.0.class_id; state_bits = said.0.state_bits; below = said.0.below }) (omega arith) next-in next-in' in
           let rest : EachHeld (id + 1 + entries t) (mini + mini_sectors t) (sector + long_sectors t) cs =
-            each-held (suc depth) ids (place + 1) (id + 1 + entries t) (mini + mini_sectors t) (sector + long_sectors t) cs more more' whole.3 said.2 (omega arith)
-            (minis-behind 0 mini_table mini_bytes mini_count mini more width-64 t (short_streams_of cs ++ more) next-in)
-            (sectors-behind base table bytes count sector more' width-512 t (long_streams_of cs ++ more') next-in') in
+          each-held (suc depth) ids (place + 1) (id + 1 + entries t) (mini + mini_sectors t) (sector + long_sectors t) cs more more' whole.3 said.2 (omega arith)
+          (minis-behind 0 mini_table mini_bytes mini_count mini more width-64 t (short_streams_of cs ++ more) next-in)
+          (sectors-behind base table bytes count sector more' width-512 t (long_streams_of cs ++ more') next-in') in
           record {
             used = both (within id inner.used) rest.used;
             holds = (said.0.held, record { named = said.0.named; under_key = whole.0.under_key }, (inner.used, rest.used, inner.holds, refl, rest.holds));

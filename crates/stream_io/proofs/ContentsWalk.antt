@@ -1,14 +1,15 @@
 -- A walk over the children of a storage.
 use Rattle.std.proofs.Common.{◌≡◌, ◌+◌, ℕ, List, [], ◌∷◌, refl, sym, ◌∙◌, ap, arith, ◌++◌, append_assoc, length, nat_lt, true, false}
 use Rattle.std.specs.Prelude.{if◌then◌else◌}
+use Rattle.std.proofs.lemmas.List.{map-append}
 use Rattle.std.proofs.lemmas.List.Concat.{flat_map-append}
 use Rattle.stream_io.specs.Image.{padded}
 use Rattle.storage_tree.specs.Tree.{Tree, Children, tree, none, stream, storage}
 use Rattle.storage_tree.specs.Change.{Seen, bytes, inner, child}
 use Rattle.storage_tree.specs.View.{view, seen, children}
 use Rattle.storage_tree.specs.declared.storage.Node.{Node}
-use Rattle.stream_io.specs.Need.{entries, entries_of, over_streams_of, short_pieces, long_pieces, mini_sectors, long_sectors}
-use Rattle.stream_io.specs.Directory.{entries_with, ids_from, children_in, balanced, storage_says, entries_below, each_entry, short_streams_of, long_streams_of, whole_pieces}
+use Rattle.stream_io.specs.Need.{entries, pieces, entries_of, over_streams_of, short_pieces, long_pieces, mini_sectors, long_sectors}
+use Rattle.stream_io.specs.Directory.{entries_with, ids_from, children_in, balanced, storage_says, entries_below, each_entry, short_streams_of, long_streams_of, whole_pieces, pieces_of}
 use Rattle.cfb_directory.specs.Written.{entry_bytes}
 use Rattle.stream_io.specs.Streams.{minis_with, sectors_with, short_within, long_within}
 use Rattle.stream_io.specs.Family.{past, child_entries, sibling_entries}
@@ -65,23 +66,3 @@ each-first ids place at rest es k v e = ap (λ r. sibling_entries ids place at (
 
 pub below-is : (id mini sector : ℕ) (t : Tree) → entries_below balanced id mini sector t ≡ each_entry balanced (ids_from (id + 1) (children_in t)) 0 (id + 1) mini sector (children_in t)
 below-is id mini sector (tree class state cs) = refl
-
-shorts-child : (k n : List ℕ) (s : Seen) (cs : Children) → short_streams_of (child k (n, s) cs) ≡ short_within s ++ short_streams_of cs
-shorts-child k n (bytes b) cs =
-    elim (nat_lt (length b) 4096) as (λ c. (if c then b ∷ short_streams_of cs else short_streams_of cs) ≡ (if c then b ∷ [] else []) ++ short_streams_of cs) [ true ↦ refl | false ↦ refl ]
-shorts-child k n (inner t) cs = refl
-
-pub shorts-first : (rest es : Entries) (k : List ℕ) (v : List ℕ × Node) → rest ≡ (k, v) ∷ es
-    → whole_pieces 64 (short_streams_of (children rest)) ≡ whole_pieces 64 (short_within (seen v.1)) ++ whole_pieces 64 (short_streams_of (children es))
-shorts-first rest es k v e = ap (λ r. whole_pieces 64 (short_streams_of (children r))) e ∙ ap (whole_pieces 64) (shorts-child k v.0 (seen v.1) (children es))
-    ∙ flat_map-append (padded 64) (short_within (seen v.1)) (short_streams_of (children es))
-
-longs-child : (k n : List ℕ) (s : Seen) (cs : Children) → long_streams_of (child k (n, s) cs) ≡ long_within s ++ long_streams_of cs
-longs-child k n (bytes b) cs =
-    elim (nat_lt (length b) 4096) as (λ c. (if c then long_streams_of cs else b ∷ long_streams_of cs) ≡ (if c then [] else b ∷ []) ++ long_streams_of cs) [ true ↦ refl | false ↦ refl ]
-longs-child k n (inner t) cs = refl
-
-pub longs-first : (rest es : Entries) (k : List ℕ) (v : List ℕ × Node) → rest ≡ (k, v) ∷ es
-    → whole_pieces 512 (long_streams_of (children rest)) ≡ whole_pieces 512 (long_within (seen v.1)) ++ whole_pieces 512 (long_streams_of (children es))
-longs-first rest es k v e = ap (λ r. whole_pieces 512 (long_streams_of (children r))) e ∙ ap (whole_pieces 512) (longs-child k v.0 (seen v.1) (children es))
-    ∙ flat_map-append (padded 512) (long_within (seen v.1)) (long_streams_of (children es))

@@ -134,11 +134,7 @@ struct Cursor {
 fn chain_start(at: u32, count: u32) -> u32
     ensures { result ≡ start at count }
 {
-    if count == 0 {
-        END_OF_CHAIN
-    } else {
-        at
-    }
+    if count == 0 { END_OF_CHAIN } else { at }
 }
 
 /// Where a stream of so many bytes starts.
@@ -234,7 +230,13 @@ impl Cursor {
 
 /// Adds the entries below a storage, whose children these are.
 #[cycle(push_entries)]
-fn push_below(alloc: Global, out: &mut Vec<u8>, storage: &Storage, family: &Family, at: Cursor) -> Result<Cursor, AllocError>
+fn push_below(
+    alloc: Global,
+    out: &mut Vec<u8>,
+    storage: &Storage,
+    family: &Family,
+    at: Cursor,
+) -> Result<Cursor, AllocError>
     requires family { IsFamily family.now at.id (children_in (view storage.now)) }
     requires few { IsBelow (past_all at (children_in (view storage.now))) 1048576 }
     ensures pushed { OnOk result (out.new.items ≡ out.old.items ++ sibling_entries family.now.ids.items 0 at (children_in (view storage.now))) }
@@ -252,7 +254,14 @@ fn push_below(alloc: Global, out: &mut Vec<u8>, storage: &Storage, family: &Fami
 
 /// Adds the entry of a child at a place, and those below it.
 #[cycle(push_entries)]
-fn push_child(alloc: Global, out: &mut Vec<u8>, child: &(Name, Node), family: &Family, place: usize, at: Cursor) -> Result<Cursor, AllocError>
+fn push_child(
+    alloc: Global,
+    out: &mut Vec<u8>,
+    child: &(Name, Node),
+    family: &Family,
+    place: usize,
+    at: Cursor,
+) -> Result<Cursor, AllocError>
     requires joined { IsJoined family.now }
     requires there { place < length family.now.ids.items }
     requires few { IsBelow (past at (seen child.now.1)) 1048576 }
@@ -352,7 +361,12 @@ fn push_unused(out: &mut Vec<u8>, count: u32) -> Result<(), AllocError>
 /// Adds the directory of a tree: the root, what is below it, and unused entries up to a whole sector.
 ///
 /// Where no memory is left, a part of it may have been added.
-fn push_directory(alloc: Global, out: &mut Vec<u8>, root: &Storage, counts: Counts) -> Result<(), AllocError>
+fn push_directory(
+    alloc: Global,
+    out: &mut Vec<u8>,
+    root: &Storage,
+    counts: Counts,
+) -> Result<(), AllocError>
     requires counts { AreCounts counts (view root.now) }
     requires few { long_start counts.fat (view root.now) + long_sectors (view root.now) < 1048576 }
     ensures pushed { OnOk result (out.new.items ≡ out.old.items ++ directory_of_tree balanced_links counts.fat (view root.now)) }
@@ -363,7 +377,17 @@ fn push_directory(alloc: Global, out: &mut Vec<u8>, root: &Storage, counts: Coun
     let children = family_of(alloc, root, 1)?;
     let name = Name::root();
     write_entry(out, name.as_bytes(), &root_entry(root, &children, counts))?;
-    push_below(alloc, out, root, &children, Cursor { id: 1, mini: 0, sector })?;
+    push_below(
+        alloc,
+        out,
+        root,
+        &children,
+        Cursor {
+            id: 1,
+            mini: 0,
+            sector,
+        },
+    )?;
     push_unused(out, 4 * directory - (1 + counts.entries))?;
     Ok(())
 }

@@ -4,7 +4,7 @@ ghost use Rattle.std.specs.Prelude.{◌≡◌, ◌++◌, ◌<◌, OnOk, min, rep
 ghost use Rattle.storage_tree.specs.View.{seen, view};
 ghost use Rattle.stream_io.specs.Image.{padded};
 ghost use Rattle.stream_io.specs.Need.{long_sectors, mini_sectors};
-ghost use Rattle.stream_io.specs.Directory.{long_streams, short_streams, whole_pieces};
+ghost use Rattle.stream_io.specs.Directory.{long_streams, pieces_of, short_streams, whole_pieces};
 ghost use Rattle.stream_io.specs.Streams.{long_within, minis_with, sectors_with, short_within};
 
 use std::alloc::AllocError;
@@ -154,4 +154,45 @@ fn count_sectors_with(child: &Node) -> usize
         }
         Node::Storage(inner) => count_sectors(inner),
     }
+}
+
+/// Adds the mini stream of a tree, in whole sectors.
+///
+/// Where no memory is left, a part of it may have been added.
+fn push_mini_stream(out: &mut Vec<u8>, root: &Storage) -> Result<(), AllocError>
+    ensures { OnOk result (out.new.items ≡ out.old.items ++ padded 512 (whole_pieces 64 (short_streams (view root.now)))) }
+{
+    let before = out.len();
+    push_short(out, root)?;
+    let len = out.len() - before;
+    push_zeros(out, (512 - len % 512) % 512)?;
+    Ok(())
+}
+
+/// Adds how many mini sectors each stream below a storage takes that is shorter than 4,096 bytes, in the order of their
+/// entries.
+#[cycle(push_mini_counts)]
+fn push_mini_counts(counts: &mut Vec<u32>, storage: &Storage) -> Result<(), AllocError>
+    ensures { OnOk result (counts.new.items ≡ counts.old.items ++ pieces_of 64 (short_streams (view storage.now))) }
+{
+    for (_, child) in storage.children.iter() {
+        push_mini_counts_with(counts, &child.1)?;
+    }
+    Ok(())
+}
+
+/// Adds a child's.
+#[cycle(push_mini_counts)]
+fn push_mini_counts_with(counts: &mut Vec<u32>, child: &Node) -> Result<(), AllocError>
+    ensures { OnOk result (counts.new.items ≡ counts.old.items ++ pieces_of 64 (short_within (seen child.now))) }
+{
+    match child {
+        Node::Stream(bytes) => {
+            if bytes.len() < 4096 {
+                counts.push(bytes.len().div_ceil(64) as u32)?;
+            }
+        }
+        Node::Storage(inner) => push_mini_counts(counts, inner)?,
+    }
+    Ok(())
 }

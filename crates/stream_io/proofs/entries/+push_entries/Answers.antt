@@ -12,13 +12,13 @@ push_child-returns-in_ok-next-in-Storage-clause-pushed t c =
 pub push_below-loop-child-preserved : goal.push_below-loop-child-preserved
 push_below-loop-child-preserved t c = record {
   places = step-places c.loop-child.child-iterator c.next.new.self c.in-Some.field-0-0.now c.in-Some.child.now c.in-Some.ensures.steps c.loop-child.next c.in_ok-next.next c.in_ok-next.ensures.next
-    c.loop-child.place _ c.loop-child.invariant.places;
+      c.loop-child.place _ c.loop-child.invariant.places;
   next = step-next c.loop-child.child-iterator c.next.new.self c.in-Some.field-0-0.now c.in-Some.child.now c.in-Some.ensures.steps c.loop-child.next c.in_ok-next.next c.in_ok-next.ensures.next
-    _ c.loop-child.invariant.next;
+      _ c.loop-child.invariant.next;
   spelled = λ h. c.loop-child.invariant.spelled
-    (step-spelled c.loop-child.child-iterator c.next.new.self c.in-Some.field-0-0.now c.in-Some.child.now c.in-Some.ensures.steps c.in_ok-next.ensures.spelled h);
+      (step-spelled c.loop-child.child-iterator c.next.new.self c.in-Some.field-0-0.now c.in-Some.child.now c.in-Some.ensures.steps c.in_ok-next.ensures.spelled h);
   pushed = step-pushed c.loop-child.child-iterator c.next.new.self c.in-Some.field-0-0.now c.in-Some.child.now c.in-Some.ensures.steps c.loop-child.next c.in_ok-next.next c.in_ok-next.ensures.next
-    c.args.family.now.ids.items c.loop-child.place c.loop-child.out.items c.push_child.new.out.items _ c.in_ok-next.ensures.pushed c.loop-child.invariant.pushed;
+      c.args.family.now.ids.items c.loop-child.place c.loop-child.out.items c.push_child.new.out.items _ c.in_ok-next.ensures.pushed c.loop-child.invariant.pushed;
 }
 
 pub push_child-returns-in_ok-next-in-Storage-clause-spelled : goal.push_child-returns-in_ok-next-in-Storage-clause-spelled

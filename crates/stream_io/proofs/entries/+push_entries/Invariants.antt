@@ -10,5 +10,5 @@ invariant-push_below-loop-child l = record {
   next : past_all l.next (children l.child-iterator) ≡ past_all l.fn.at (children l.storage.children.entries);
   spelled : AreSpelled (children l.child-iterator) → AreSpelled (children l.storage.children.entries);
   pushed : l.out.items ++ sibling_entries l.family.ids.items l.place l.next (children l.child-iterator)
-    ≡ l.initial.out.items ++ sibling_entries l.family.ids.items 0 l.fn.at (children l.storage.children.entries);
+      ≡ l.initial.out.items ++ sibling_entries l.family.ids.items 0 l.fn.at (children l.storage.children.entries);
 }
