@@ -1,29 +1,27 @@
 -- A file in which all parts of a tree lie denotes the tree.
-use Rattle.std.proofs.Common.{◌≡◌, ◌<◌, ◌≤◌, ◌+◌, ◌-◌, ◌*◌, ◌/◌, ◌^◌, ℕ, zero, suc, List, [], ◌∷◌, ◌++◌, length, take, drop, map, replicate, slice_index, refl, sym, ◌∙◌, ap, subst, arith, length-append, lit<, lit≤, append_assoc, append-nil}
-use Rattle.std.proofs.lemmas.List.{length-replicate}
+use Rattle.std.proofs.Common.{◌≡◌, ◌<◌, ◌+◌, ◌-◌, ◌*◌, ◌^◌, ℕ, suc, List, [], ◌∷◌, ◌++◌, length, replicate, refl, sym, ◌∙◌, ap, subst, arith, length-append, lit<, lit≤, append-nil}
 use Rattle.std.specs.List.{concat, range_with_len, sum}
 use Rattle.cfb_chain.specs.Chain.{AreDistinct}
 use Rattle.cfb_chain.specs.Fat.{mini_sectors_of, sectors_of}
-use Rattle.cfb_directory.specs.Entries.{entry_at, kind, child, class_of, state_of, first_of, size_of, root_name, NO_STREAM}
+use Rattle.cfb_directory.specs.Entries.{entry_at, root_name}
 use Rattle.cfb_directory.specs.Written.{entry_bytes, free_entry_bytes}
 use Rattle.cfb_directory.specs.declared.write.EntryFields.{EntryFields}
 use Rattle.cfb_directory.proofs.Fields.{length-entry_bytes}
-use Rattle.storage_tree.specs.Tree.{Tree, Children, tree}
-use Rattle.storage_tree.specs.Whole.{IsTree}
-use Rattle.stream_io.specs.Need.{pieces, entries, mini_sectors, long_sectors, directory_sectors, mini_fat_sectors, mini_stream_sectors, data_sectors}
-use Rattle.stream_io.specs.Image.{Parts, image, start, runs, padded, directory_count, mini_fat_need, mini_stream_count, mini_stream_start}
+use Rattle.storage_tree.specs.Tree.{Tree}
+use Rattle.stream_io.specs.Need.{pieces, entries, mini_sectors, long_sectors, directory_sectors, mini_fat_sectors, mini_stream_sectors}
+use Rattle.stream_io.specs.Image.{Parts, image, start, runs, directory_count, mini_fat_need, mini_stream_count, mini_stream_start}
 use Rattle.stream_io.specs.Placed.{Fits, IsPlaced, layout_of}
-use Rattle.stream_io.specs.Denotes.{Layout, directory_of, root_of, minis, sectors, entry, Denotes}
-use Rattle.stream_io.specs.Directory.{Siblings, AreBalanced, child_of, class_in, state_in, entries_below, root_says, long_start, directory_of_tree, short_streams, long_streams, pieces_of, whole_pieces, parts_of, IsSpelled, IsCovered, ArePlaced, PlacedDenotes, ImageDenotes, balanced}
+use Rattle.stream_io.specs.Denotes.{Layout, directory_of, minis, sectors, entry, Denotes}
+use Rattle.stream_io.specs.Directory.{Siblings, AreBalanced, entries_below, root_says, long_start, short_streams, long_streams, pieces_of, whole_pieces, parts_of, IsCovered, ArePlaced, PlacedDenotes, ImageDenotes, balanced}
 use Rattle.stream_io.proofs.Placed.{placed}
 use Rattle.stream_io.proofs.ContentsBalanced.{are-balanced}
 use Rattle.stream_io.proofs.ContentsMini.{length-padded_sector}
 use Rattle.stream_io.proofs.ContentsLists.{distinct_range}
 use Rattle.stream_io.proofs.ContentsRoom.{length-free}
-use Rattle.stream_io.proofs.ContentsPieces.{IsStoreFrom, AreLeft, width-64, width-512, length-whole}
+use Rattle.stream_io.proofs.ContentsPieces.{IsStoreFrom, width-64, length-whole}
 use Rattle.stream_io.proofs.ContentsNext.{AreNext, shorts-sum, longs-sum}
 use Rattle.stream_io.proofs.ContentsRead.{FieldsFit, Says, Begins, begins-here, begins-behind, begins-front, length-below, said-below, SaidBelow, AreWithin, child-fits, class-spelled, state-spelled, start-fits}
-use Rattle.stream_io.proofs.ContentsTree.{TreeHeld, SaysTree, tree-held}
+use Rattle.stream_io.proofs.ContentsTree.{TreeHeld, tree-held}
 
 module _ (links : ℕ → Siblings) (search : AreBalanced links) (f : ℕ) (t : Tree) (is : IsCovered f t) where
   -- more than any entry, mini sector or sector

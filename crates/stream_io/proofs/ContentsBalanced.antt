@@ -1,11 +1,11 @@
 -- The balanced links of siblings are a search tree, and the only one.
-use Rattle.std.proofs.Common.{◌≡◌, ◌<◌, ◌≤◌, ◌+◌, ◌-◌, ◌*◌, ◌/◌, ◌⊎◌, inl, inr, ℕ, zero, suc, Bool, true, false, cond, nat_lt, List, [], ◌∷◌, ◌++◌, length, get_or, slice_index, refl, sym, ◌∙◌, ap, subst, arith, length-append}
+use Rattle.std.proofs.Common.{◌≡◌, ◌<◌, ◌≤◌, ◌+◌, ◌-◌, inl, inr, ℕ, zero, suc, cond, List, [], ◌∷◌, ◌++◌, length, get_or, slice_index, refl, sym, ◌∙◌, ap, subst, arith, length-append}
 use Rattle.std.proofs.Math.ListN.{get_or-append}
 use Rattle.std.proofs.lemmas.List.{get_or-append-add}
 use Rattle.std.proofs.lemmas.Bool.{cases_lt, cases_order, lt-ltb, le-ltb}
 use Rattle.cfb_directory.specs.Entries.{NO_STREAM}
 use Rattle.cfb_directory.specs.SearchTree.{IsSearchTree, empty, node, middle}
-use Rattle.stream_io.specs.Directory.{Siblings, AreBalanced, top_between, lefts, rights, balanced}
+use Rattle.stream_io.specs.Directory.{AreBalanced, top_between, lefts, rights, balanced}
 
 lefts-some : (depth lo hi : ℕ) → lo < hi → lefts (suc depth) lo hi ≡ lefts depth lo (middle lo hi) ++ top_between lo (middle lo hi) ∷ lefts depth (middle lo hi + 1) hi
 lefts-some depth lo hi l = ap (λ b. cond b (lefts depth lo (middle lo hi) ++ top_between lo (middle lo hi) ∷ lefts depth (middle lo hi + 1) hi) []) (lt-ltb lo hi l)

@@ -1,5 +1,5 @@
 -- The links of siblings as the writer keeps them are the balanced ones.
-use Rattle.std.proofs.Common.{◌≡◌, ◌<◌, ◌≤◌, ℕ, List, length, slice_index, arith}
+use Rattle.std.proofs.Common.{◌≡◌, ◌<◌, ℕ, List, slice_index, arith}
 use Rattle.cfb_directory.specs.SearchTree.{IsSearchTree}
 use Rattle.stream_io.specs.Directory.{balanced}
 use Rattle.stream_io.specs.Family.{IsLink}

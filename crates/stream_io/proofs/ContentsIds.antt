@@ -1,14 +1,14 @@
 -- The ids of siblings, and links between them.
-use Rattle.std.proofs.Common.{◌≡◌, ◌≢◌, ◌<◌, ◌≤◌, ◌+◌, ◌*◌, ◌^◌, ◌↔◌, ◌⊎◌, inl, inr, ℕ, zero, suc, Bool, true, false, nat_eq, List, [], ◌∷◌, ◌++◌, length, drop, get_or, slice_index, refl, sym, ◌∙◌, ap, subst, arith, lit<}
+use Rattle.std.proofs.Common.{◌≡◌, ◌<◌, ◌≤◌, ◌+◌, ◌^◌, ◌↔◌, inl, inr, ℕ, zero, suc, List, length, get_or, slice_index, refl, sym, ◌∙◌, ap, subst, arith}
 use Rattle.std.specs.Prelude.{if◌then◌else◌}
 use Rattle.std.proofs.lemmas.Bool.{cases_order}
 use Rattle.std.proofs.lemmas.Bool.Decides.{eqb_tells}
 use Rattle.std.proofs.lemmas.Grind.{get_or_default_zero}
 use Rattle.std.specs.List.{Contains}
 use Rattle.cfb_directory.specs.Entries.{NO_STREAM}
-use Rattle.cfb_directory.specs.SearchTree.{IsSearchTree, empty, node, middle, link_to}
+use Rattle.cfb_directory.specs.SearchTree.{IsSearchTree, empty, node, middle}
 use Rattle.cfb_directory.proofs.Trees.{Reached}
-use Rattle.storage_tree.specs.Tree.{Tree, Children, tree, none, stream, storage}
+use Rattle.storage_tree.specs.Tree.{Children, none, stream, storage}
 use Rattle.stream_io.specs.Need.{entries, entries_of}
 use Rattle.stream_io.specs.Family.{IsLink}
 use Rattle.stream_io.specs.Directory.{Siblings, AreBalanced, ids_from, linked}

@@ -1,16 +1,14 @@
 -- Where the next streams of a tree lie, in the mini stream and in sectors.
-use Rattle.std.proofs.Common.{◌≡◌, ◌<◌, ◌≤◌, ◌+◌, ◌-◌, ◌*◌, ◌/◌, ◌⊎◌, inl, inr, ℕ, zero, suc, Bool, true, false, nat_lt, List, [], ◌∷◌, ◌++◌, length, take, drop, map, refl, sym, ◌∙◌, ap, subst, arith, append_assoc}
+use Rattle.std.proofs.Common.{◌≡◌, ◌<◌, ◌≤◌, ◌+◌, inl, inr, ℕ, List, [], ◌∷◌, ◌++◌, length, take, refl, sym, ◌∙◌, ap, subst, arith, append_assoc}
 use Rattle.std.proofs.lemmas.Bool.{cases_lt, lt-ltb, le-ltb}
-use Rattle.std.proofs.lemmas.List.{map-append}
-use Rattle.std.proofs.lemmas.List.Sums.{sum_by-append}
 use Rattle.std.specs.Prelude.{if◌then◌else◌}
 use Rattle.std.specs.List.{range_with_len, sum}
 use Rattle.cfb_chain.specs.Bytes.{joined}
 use Rattle.cfb_chain.specs.Chain.{Store, IsChainOf}
 use Rattle.storage_tree.specs.Tree.{Tree, Children, tree, none, stream, storage}
 use Rattle.stream_io.specs.Need.{pieces, over_streams, over_streams_of, short_pieces, long_pieces}
-use Rattle.stream_io.specs.Image.{start, runs}
-use Rattle.stream_io.specs.Directory.{short_streams, short_streams_of, long_streams, long_streams_of, pieces_of, whole_pieces}
+use Rattle.stream_io.specs.Image.{start}
+use Rattle.stream_io.specs.Directory.{short_streams, short_streams_of, long_streams, long_streams_of, pieces_of}
 use Rattle.stream_io.proofs.ContentsStore.{sum-cons}
 use Rattle.stream_io.proofs.ContentsPieces.{IsWidth, IsStoreFrom, AreLeft, left-step, left-chain, left-content}
 

@@ -1,5 +1,5 @@
 -- A step of pushing the entries of siblings.
-use Rattle.std.proofs.Common.{◌≡◌, ◌+◌, ℕ, List, [], ◌∷◌, ◌++◌, length, refl, sym, ◌∙◌, ap, subst, arith, append_assoc, ◌<◌, ◌^◌}
+use Rattle.std.proofs.Common.{◌≡◌, ◌+◌, ℕ, List, ◌∷◌, ◌++◌, length, sym, ◌∙◌, ap, subst, arith, append_assoc, ◌<◌, ◌^◌}
 use Rattle.cfb_directory.specs.Written.{entry_bytes}
 use Rattle.cfb_directory.specs.declared.write.EntryFields.{EntryFields}
 use Rattle.storage_tree.specs.Tree.{Tree, Children, tree}

@@ -1,18 +1,18 @@
 -- What is read back from the entries of a tree.
-use Rattle.std.proofs.Common.{◌≡◌, ◌<◌, ◌≤◌, ◌+◌, ◌-◌, ◌*◌, ◌^◌, ℕ, zero, suc, Bool, true, false, nat_lt, List, [], ◌∷◌, ◌++◌, length, take, drop, get_or, map, replicate, slice_index, refl, sym, ◌∙◌, ap, subst, arith, append_assoc, drop-drop, drop-cons, length-append, lit<}
-use Rattle.std.proofs.lemmas.List.{drop_at, length-replicate}
+use Rattle.std.proofs.Common.{◌≡◌, ◌<◌, ◌≤◌, ◌+◌, ◌*◌, ◌^◌, ℕ, zero, suc, true, false, nat_lt, List, ◌++◌, length, drop, get_or, refl, sym, ◌∙◌, ap, subst, arith, append_assoc, drop-drop, length-append, lit<}
+use Rattle.std.proofs.lemmas.List.{drop_at}
 use Rattle.std.specs.Prelude.{if◌then◌else◌}
-use Rattle.cfb_directory.specs.Entries.{entry_at, kind, kind_number, left, right, child, class_of, state_of, first_of, size_of, IsNamed, NO_STREAM}
+use Rattle.cfb_directory.specs.Entries.{entry_at, kind, kind_number, left, right, child, class_of, state_of, first_of, size_of, IsNamed}
 use Rattle.cfb_directory.specs.Written.{entry_bytes}
 use Rattle.cfb_directory.specs.declared.write.EntryFields.{EntryFields}
 use Rattle.cfb_directory.proofs.Fields.{length-entry_bytes, kind-entry_bytes, left-entry_bytes, right-entry_bytes, child-entry_bytes, class_of-entry_bytes, state_of-entry_bytes, first_of-entry_bytes, size_of-entry_bytes, is_named-entry_bytes}
 use Rattle.storage_tree.specs.Tree.{Tree, Children, tree, none, stream, storage}
 use Rattle.storage_tree.specs.Whole.{AreTrees, IsTree}
-use Rattle.stream_io.specs.Need.{pieces, entries, entries_of, over_streams, over_streams_of, mini_sectors, long_sectors, short_pieces, long_pieces}
+use Rattle.stream_io.specs.Need.{pieces, entries, entries_of, over_streams_of, mini_sectors, long_sectors, short_pieces, long_pieces}
 use Rattle.stream_io.specs.Image.{start}
-use Rattle.stream_io.specs.Directory.{Siblings, AreBalanced, ids_from, linked, first_of_stream, child_of, class_in, state_in, stream_says, storage_says, entries_below, each_entry, IsSpelled, AreSpelled}
+use Rattle.stream_io.specs.Directory.{Siblings, AreBalanced, ids_from, first_of_stream, child_of, class_in, state_in, stream_says, storage_says, entries_below, each_entry, IsSpelled, AreSpelled}
 use Rattle.stream_io.proofs.ContentsEntries.{entry-begins}
-use Rattle.stream_io.proofs.ContentsIds.{ids-below, count-le, top-fits, left-fits, right-fits}
+use Rattle.stream_io.proofs.ContentsIds.{ids-below, top-fits, left-fits, right-fits}
 
 -- numbers that an entry has room for
 pub record FieldsFit (name : List ℕ) (e : EntryFields) : Type 0 where

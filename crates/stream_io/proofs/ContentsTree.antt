@@ -1,22 +1,22 @@
 -- A file in which the entries and streams of a tree lie holds the tree.
-use Rattle.std.proofs.Common.{◌≡◌, ◌≢◌, ◌<◌, ◌≤◌, ◌+◌, ◌-◌, ◌*◌, ◌^◌, ◌⊎◌, inl, inr, ℕ, zero, suc, Bool, true, false, nat_lt, List, [], ◌∷◌, ◌++◌, length, take, map, get_or, slice_index, refl, sym, ◌∙◌, ap, subst, arith, append-nil}
+use Rattle.std.proofs.Common.{◌≡◌, ◌<◌, ◌≤◌, ◌+◌, ◌*◌, inl, inr, ℕ, zero, suc, Bool, true, false, nat_lt, List, [], ◌∷◌, ◌++◌, length, take, map, get_or, slice_index, refl, sym, ◌∙◌, ap, subst, arith}
 use Rattle.std.proofs.lemmas.Bool.{cases_lt, lt-ltb, le-ltb}
 use Rattle.std.specs.Prelude.{if◌then◌else◌}
-use Rattle.std.specs.List.{range_with_len, sum}
+use Rattle.std.specs.List.{range_with_len}
 use Rattle.std.specs.List.Sorted.{IsStrictlySortedBy}
 use Rattle.cfb_chain.specs.Bytes.{joined}
 use Rattle.cfb_chain.specs.Chain.{Store, IsChainOf}
 use Rattle.cfb_directory.specs.Names.{key, key_cmp}
-use Rattle.cfb_directory.specs.Entries.{entry_at, kind, left, right, child, class_of, state_of, first_of, size_of, name_of, AreLinked, NO_STREAM}
+use Rattle.cfb_directory.specs.Entries.{entry_at, left, right, child, class_of, state_of, first_of, size_of, name_of, AreLinked, NO_STREAM}
 use Rattle.cfb_directory.proofs.Trees.{Reached, tree_reaches}
 use Rattle.storage_tree.specs.Tree.{Tree, Children, tree, none, stream, storage, keys}
 use Rattle.storage_tree.specs.Whole.{AreTrees, IsTree}
-use Rattle.stream_io.specs.Need.{pieces, entries, entries_of, over_streams, over_streams_of, mini_sectors, long_sectors, short_pieces, long_pieces}
+use Rattle.stream_io.specs.Need.{pieces, entries, entries_of, over_streams_of, mini_sectors, long_sectors, short_pieces, long_pieces}
 use Rattle.stream_io.specs.Image.{start}
-use Rattle.stream_io.specs.Denotes.{Layout, directory_of, minis, sectors, entry, store_for, HoldsBytes, AreChildren, IsCalled, Holds, HoldsEach, Used, nothing, both, taken, within}
-use Rattle.stream_io.specs.Directory.{Siblings, AreBalanced, ids_from, linked, first_of_stream, child_of, class_in, state_in, stream_says, storage_says, short_streams, short_streams_of, long_streams, long_streams_of}
+use Rattle.stream_io.specs.Denotes.{Layout, directory_of, minis, sectors, entry, store_for, HoldsBytes, AreChildren, Holds, HoldsEach, Used, nothing, both, taken, within}
+use Rattle.stream_io.specs.Directory.{Siblings, AreBalanced, ids_from, linked, first_of_stream, child_of, class_in, state_in, stream_says, short_streams, short_streams_of, long_streams, long_streams_of}
 use Rattle.stream_io.proofs.ContentsHolds.{keys-ordered, range-append}
-use Rattle.stream_io.proofs.ContentsIds.{ids-from, ids-below, ids-increase, count-le, reached-same}
+use Rattle.stream_io.proofs.ContentsIds.{ids-below, ids-increase, count-le, reached-same}
 use Rattle.stream_io.proofs.ContentsRead.{Says, SaidBelow, AreSaid}
 use Rattle.stream_io.proofs.ContentsPieces.{IsStoreFrom, width-64, width-512}
 use Rattle.stream_io.proofs.ContentsNext.{AreNext, next-chain, next-content, next-list, minis-past, sectors-past, minis-within, sectors-within, minis-behind, sectors-behind, short-is, short-none, long-is, long-none, shorts-with, longs-with}

@@ -1,17 +1,13 @@
 -- A walk over the children of a storage.
-use Rattle.std.proofs.Common.{◌≡◌, ◌+◌, ℕ, List, [], ◌∷◌, refl, sym, ◌∙◌, ap, arith, ◌++◌, append_assoc, length, nat_lt, true, false}
-use Rattle.std.specs.Prelude.{if◌then◌else◌}
-use Rattle.std.proofs.lemmas.List.{map-append}
-use Rattle.std.proofs.lemmas.List.Concat.{flat_map-append}
-use Rattle.stream_io.specs.Image.{padded}
-use Rattle.storage_tree.specs.Tree.{Tree, Children, tree, none, stream, storage}
+use Rattle.std.proofs.Common.{◌≡◌, ◌+◌, ℕ, List, ◌∷◌, refl, sym, ◌∙◌, ap, arith, ◌++◌, append_assoc}
+use Rattle.storage_tree.specs.Tree.{Tree, Children, tree}
 use Rattle.storage_tree.specs.Change.{Seen, bytes, inner, child}
-use Rattle.storage_tree.specs.View.{view, seen, children}
+use Rattle.storage_tree.specs.View.{seen, children}
 use Rattle.storage_tree.specs.declared.storage.Node.{Node}
-use Rattle.stream_io.specs.Need.{entries, pieces, entries_of, over_streams_of, short_pieces, long_pieces, mini_sectors, long_sectors}
-use Rattle.stream_io.specs.Directory.{entries_with, ids_from, children_in, balanced, storage_says, entries_below, each_entry, short_streams_of, long_streams_of, whole_pieces, pieces_of}
+use Rattle.stream_io.specs.Need.{entries, entries_of, over_streams_of, short_pieces, long_pieces, mini_sectors, long_sectors}
+use Rattle.stream_io.specs.Directory.{entries_with, ids_from, children_in, balanced, storage_says, entries_below, each_entry}
 use Rattle.cfb_directory.specs.Written.{entry_bytes}
-use Rattle.stream_io.specs.Streams.{minis_with, sectors_with, short_within, long_within}
+use Rattle.stream_io.specs.Streams.{minis_with, sectors_with}
 use Rattle.stream_io.specs.Family.{past, child_entries, sibling_entries}
 use Rattle.stream_io.specs.declared.entries.Cursor.{Cursor}
 

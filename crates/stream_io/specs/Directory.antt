@@ -11,7 +11,7 @@ use Rattle.cfb_directory.specs.declared.entries.EntryKind.TheVariants as kinds
 use Rattle.storage_tree.specs.Tree.{Tree, Children, tree, none, stream, storage}
 use Rattle.storage_tree.specs.Change.{Seen, bytes, inner}
 use Rattle.storage_tree.specs.Whole.{IsTree}
-use Rattle.stream_io.specs.Need.{pieces, entries, entries_of, mini_sectors, long_sectors, short_pieces, long_pieces, directory_sectors, mini_fat_sectors, mini_stream_sectors, data_sectors}
+use Rattle.stream_io.specs.Need.{pieces, entries, mini_sectors, long_sectors, short_pieces, long_pieces, directory_sectors, mini_fat_sectors, mini_stream_sectors, data_sectors}
 use Rattle.stream_io.specs.Image.{Parts, start, padded, runs, image}
 use Rattle.stream_io.specs.Placed.{IsPlaced}
 use Rattle.stream_io.specs.Denotes.{Layout, sectors, Denotes}

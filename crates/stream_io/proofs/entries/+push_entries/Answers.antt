@@ -1,4 +1,3 @@
-use Rattle.std.proofs.Common.{refl}
 use Rattle.stream_io.proofs.ContentsPush.{step-places, step-next, step-pushed, storage-pushed, step-spelled, spelled-storage, child-spelled}
 use Rattle.stream_io.proofs.entries.+push_entries.Goals as goal
 

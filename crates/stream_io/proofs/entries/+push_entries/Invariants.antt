@@ -1,4 +1,4 @@
-use Rattle.std.proofs.Common.{◌≡◌, ◌+◌, ◌≤◌, ◌++◌, length}
+use Rattle.std.proofs.Common.{◌≡◌, ◌+◌, ◌++◌, length}
 use Rattle.storage_tree.specs.View.{children}
 use Rattle.stream_io.specs.Directory.{AreSpelled, ids_from}
 use Rattle.stream_io.specs.Family.{past_all, sibling_entries}

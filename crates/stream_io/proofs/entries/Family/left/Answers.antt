@@ -1,4 +1,4 @@
-use Rattle.std.proofs.Common.{◌<◌, ◌≡◌, sym, ◌∙◌, ap, subst, length, slice_index, ℕ, arith}
+use Rattle.std.proofs.Common.{◌<◌, sym, ◌∙◌, ap, subst, length, ℕ, arith}
 use Rattle.std.proofs.lemmas.Grind.{get_or_default_zero}
 use Rattle.stream_io.specs.Directory.{linked}
 use Rattle.stream_io.specs.Family.{IsLink}
