@@ -34,7 +34,7 @@ pub key-held : (units : List ℕ) → IsHeld units → map to_ascii_uppercase un
 key-held units h = ap (map to_ascii_uppercase) h.spelled ∙ key-units (name_held units) h.name.short
 
 -- two lists that differ alone before a common end
-slice_cmp-same : (xs : List ℕ) → slice_cmp nat_cmp xs xs ≡ Equal
+pub slice_cmp-same : (xs : List ℕ) → slice_cmp nat_cmp xs xs ≡ Equal
 slice_cmp-same [] = refl
 slice_cmp-same (x ∷ xs) = let e : Equal ≡ nat_cmp x x = nat_cmp_is x x Equal refl in rw (← e) (slice_cmp-same xs)
 

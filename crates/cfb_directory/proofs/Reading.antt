@@ -6,8 +6,8 @@ use Rattle.std.proofs.lemmas.List.FromFn.{get_or-map-range_with_len, length-map-
 use Rattle.std.proofs.lemmas.List.{get_or-take, length-take-le}
 use Rattle.std.specs.List.{Contains, list_any, range_with_len}
 use Rattle.cfb_chain.specs.Bytes.{u16_at}
-use Rattle.cfb_directory.specs.Names.{is_forbidden, name_read}
-use Rattle.cfb_directory.specs.Entries.{IsNamed, MayRefuseEntry, entry_at, name_length, name_of}
+use Rattle.cfb_directory.specs.Names.{IsName, is_forbidden, name_read}
+use Rattle.cfb_directory.specs.Entries.{IsNameOf, IsNamed, root_name, MayRefuseEntry, entry_at, name_length, name_of}
 use Rattle.cfb_directory.specs.Walk.{MayRefuseName}
 use Rattle.cfb_directory.specs.declared.fault.DirFault.{DirFault}
 use Rattle.cfb_directory.specs.declared.fault.DirFault.TheVariants.{NameEmpty, NameTooLong, NameNotAscii, NameForbidden, DuplicateName, BadEntry, TreeCycle, TooNested, NoMemory}
@@ -113,3 +113,17 @@ name_refused directory id BadEntry ne h = inr (inr (ne, h))
 name_refused directory id TreeCycle ne h = absurd h
 name_refused directory id TooNested ne h = absurd h
 name_refused directory id NoMemory ne h = absurd h
+
+-- the root's name is one
+pub is_name-root : IsName root_name
+is_name-root = record { some = omega arith; short = omega arith; ascii = refl; allowed = refl }
+
+-- the name of an entry that isn't the root stands in it
+pub named_of : (id : ℕ) (entry name : List ℕ) → id ≢ 0 → IsNameOf id entry name → IsNamed entry name
+named_of zero entry name ne h = absurd (ne refl)
+named_of (suc id) entry name ne h = h
+
+-- and the other way round
+pub name_of-entry : (id : ℕ) (entry name : List ℕ) → id ≢ 0 → IsNamed entry name → IsNameOf id entry name
+name_of-entry zero entry name ne h = absurd (ne refl)
+name_of-entry (suc id) entry name ne h = h

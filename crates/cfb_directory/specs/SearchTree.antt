@@ -1,5 +1,12 @@
 -- Balanced trees of siblings, which stand at the places of a list in name order (MS-CFB 2.6.4).
-use Rattle.std.specs.Prelude.{◌≡◌, ◌<◌, ◌+◌, ◌-◌, ◌/◌, ℕ, List, slice_index, nat_eq, if◌then◌else◌}
+use Rattle.std.specs.Prelude.{◌≡◌, ◌<◌, ◌+◌, ◌-◌, ◌/◌, ℕ, List, [], ◌∷◌, ◌++◌, length, slice_index, slice_index_or, nat_eq, if◌then◌else◌}
+use Rattle.std.specs.List.{AllPairs, range_with_len}
+use Rattle.std.specs.List.Sorted.{IsPermutation}
+use Rattle.std.specs.declared.cmp.Ordering.TheVariants.{Less, Equal}
+use Rattle.cfb_directory.specs.Names.{name_cmp}
+use Rattle.cfb_directory.specs.declared.fault.DirFault.{DirFault}
+use Rattle.cfb_directory.specs.declared.fault.DirFault.TheVariants.{DuplicateName, NoMemory}
+use Rattle.cfb_directory.specs.declared.links.Links.{Links}
 use Rattle.cfb_directory.specs.Entries.{NO_STREAM}
 
 -- the place on top of those from `lo` up to `hi`
@@ -14,6 +21,28 @@ pub data IsSearchTree (lefts rights : List ℕ) : ℕ → ℕ → ℕ → Type 0
       → IsSearchTree lefts rights lo (middle lo hi) (slice_index lefts (middle lo hi))
       → IsSearchTree lefts rights (middle lo hi + 1) hi (slice_index rights (middle lo hi))
       → IsSearchTree lefts rights lo hi (middle lo hi)
+
+-- Siblings that links reach from one: those on its left, itself, those on its right. It stands in their middle.
+pub data IsTree (lefts rights : List ℕ) : ℕ → List ℕ → Type 0 where
+  nobody : IsTree lefts rights NO_STREAM []
+  somebody : (k : ℕ) (before after : List ℕ)
+      → length before ≡ length (before ++ (k ∷ after)) / 2
+      → IsTree lefts rights (slice_index lefts k) before
+      → IsTree lefts rights (slice_index rights k) after
+      → IsTree lefts rights k (before ++ (k ∷ after))
+
+-- links of the siblings with these names, by the places of the names: a balanced search tree of just them
+pub record IsBuilt (names : List (List ℕ)) (l : Links) : Type 0 where
+  pub siblings : List ℕ
+  pub tree : IsTree l.left.items l.right.items l.top siblings
+  pub all : IsPermutation (range_with_len 0 (length names)) siblings
+  pub ordered : AllPairs (λ j k. name_cmp (slice_index_or names j []) (slice_index_or names k []) ≡ Less) siblings
+
+-- when a fault may be answered for names: two of them are equal in upper case
+abbrev pub MayRefuseBuild : List (List ℕ) → DirFault → Type 0
+MayRefuseBuild names DuplicateName = (j : ℕ) × (k : ℕ) × (j < k) × (k < length names) × (name_cmp (slice_index_or names j []) (slice_index_or names k []) ≡ Equal)
+MayRefuseBuild names NoMemory = Unit {0}
+MayRefuseBuild names _ = ⊥
 
 -- the link to the entry that stands for a place, or to nobody
 abbrev pub link_to : (ℕ → ℕ) → ℕ → ℕ

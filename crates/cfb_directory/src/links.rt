@@ -1,9 +1,15 @@
 //! Trees of siblings (MS-CFB 2.6.4).
 
-ghost use Rattle.cfb_directory.specs.SearchTree.{AreKept, IsSearchTree};
-ghost use Rattle.std.specs.Prelude.{◌≡◌, ◌≤◌, IfOk, length};
+ghost use Rattle.cfb_chain.specs.Chain.{AreDistinct};
+ghost use Rattle.cfb_directory.specs.Building.{AllAdjacentApart, HasEqualNeighbours, KeepsOthers, keyed_names, places};
+ghost use Rattle.cfb_directory.specs.SearchTree.{AreKept, IsBuilt, IsSearchTree, IsTree, MayRefuseBuild};
+ghost use Rattle.cfb_directory.specs.declared.fault.DirFault.TheVariants.{NoMemory};
+ghost use Rattle.std.specs.List.{All};
+ghost use Rattle.std.specs.Prelude.{◌≡◌, ◌<◌, ◌≤◌, IfErr, IfOk, false, length, true};
 
 use crate::entries::NO_STREAM;
+use crate::fault::DirFault;
+use crate::name::Name;
 use std::alloc::{AllocError, Global};
 
 /// The links of siblings: which one is on top, and the left and the right one of each. 0xFFFFFFFF stands for nobody.
@@ -25,6 +31,83 @@ pub fn balanced(alloc: Global, count: u32) -> Result<Links, AllocError>
     let mut right = vec![in alloc; NO_STREAM; count as usize]?;
     let top = link(&mut left, &mut right, 0, count);
     Ok(Links { top, left, right })
+}
+
+/// The links of siblings with these names in any order, by the places of the names. They are balanced as those of
+/// `balanced` are.
+///
+/// Refused: `DuplicateName` where two names are equal in upper case.
+pub fn build(alloc: Global, names: &[Name]) -> Result<Links, DirFault>
+    ensures built { IfOk result (IsBuilt names.now) }
+    ensures refused { IfErr result (MayRefuseBuild names.now) }
+{
+    let mut siblings = keyed(alloc, names)?;
+    siblings.sort()?;
+    if !are_apart(&siblings) {
+        return Err(DirFault::DuplicateName);
+    }
+    let order = places(alloc, &siblings)?;
+    let mut left = vec![in alloc; NO_STREAM; names.len()]?;
+    let mut right = vec![in alloc; NO_STREAM; names.len()]?;
+    let top = join(&order, &mut left, &mut right);
+    Ok(Links { top, left, right })
+}
+
+/// The names' keys, each with its place.
+fn keyed(alloc: Global, names: &[Name]) -> Result<Vec<([u8; 32], u32)>, DirFault>
+    ensures keyed { IfOk result (λ v. v.items ≡ keyed_names names.now) }
+    ensures few { IfOk result (λ v. length names.now ≤ 0xFFFFFFFF) }
+    ensures refused { IfErr result (λ e. e ≡ NoMemory) }
+{
+    if names.len() > u32::MAX as usize {
+        return Err(DirFault::NoMemory);
+    }
+    let mut siblings = Vec::new(alloc);
+    for (k, name) in names.iter().enumerate() {
+        siblings.push((name.key(), k as u32))?;
+    }
+    Ok(siblings)
+}
+
+/// Whether no two neighbours have one key.
+fn are_apart(siblings: &[([u8; 32], u32)]) -> bool
+    ensures apart { result ≡ true → AllAdjacentApart siblings.now }
+    ensures equal { result ≡ false → HasEqualNeighbours siblings.now }
+{
+    for k in 1..siblings.len() {
+        if siblings[k - 1].0 == siblings[k].0 {
+            return false;
+        }
+    }
+    true
+}
+
+/// The places of siblings.
+fn places(alloc: Global, siblings: &[([u8; 32], u32)]) -> Result<Vec<u32>, AllocError>
+    ensures { IfOk result (λ v. v.items ≡ places siblings.now) }
+{
+    siblings.iter().map(|sibling| sibling.1).collect(alloc)
+}
+
+/// Links siblings in this order, and gives the one on top.
+fn join(order: &[u32], left: &mut [u32], right: &mut [u32]) -> u32
+    requires in_left { All (λ k. k < length left.old) order.now }
+    requires in_right { All (λ k. k < length right.old) order.now }
+    requires once { AreDistinct order.now }
+    ensures tree { IsTree left.new right.new result order.now }
+    ensures kept_left { KeepsOthers order.now left.old left.new }
+    ensures kept_right { KeepsOthers order.now right.old right.new }
+{
+    if order.is_empty() {
+        return NO_STREAM;
+    }
+    let middle = order.len() / 2;
+    let top = order[middle];
+    let before = join(&order[..middle], left, right);
+    let after = join(&order[middle + 1..], left, right);
+    left[top as usize] = before;
+    right[top as usize] = after;
+    top
 }
 
 /// Links the places from `lo` up to `hi`, and gives the one on top.

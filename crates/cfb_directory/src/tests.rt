@@ -2,7 +2,7 @@
 
 use crate::entries::{Entries, EntryKind, NO_STREAM};
 use crate::fault::DirFault;
-use crate::links::balanced;
+use crate::links::{balanced, build};
 use crate::name::{Name, keys_agree};
 use crate::write::{EntryFields, write_entry, write_free_entry};
 use std::alloc::{AllocError, Global};
@@ -171,5 +171,33 @@ fn siblings_are_balanced(rt: HostRuntime) -> Result<(), Fail> {
         five.right.as_slice(),
         [NO_STREAM, NO_STREAM, 4, NO_STREAM, NO_STREAM].as_slice()
     );
+    Ok(())
+}
+
+#[test]
+fn siblings_are_built(rt: HostRuntime) -> Result<(), Fail> {
+    let names = [
+        Name::new(b"aa")?,
+        Name::new(b"c")?,
+        Name::new(b"B")?,
+        Name::new(b"a")?,
+    ];
+    let links = build(rt.alloc(), &names)?;
+    assert_eq!(rt; links.top, 1);
+    assert_eq!(rt;
+        links.left.as_slice(),
+        [NO_STREAM, 2, 3, NO_STREAM].as_slice()
+    );
+    assert_eq!(rt;
+        links.right.as_slice(),
+        [NO_STREAM, 0, NO_STREAM, NO_STREAM].as_slice()
+    );
+    match build(
+        rt.alloc(),
+        &[Name::new(b"x")?, Name::new(b"y")?, Name::new(b"X")?],
+    ) {
+        Ok(_) => assert!(rt; false, "two names are equal"),
+        Err(fault) => assert_eq!(rt; fault, DirFault::DuplicateName),
+    }
     Ok(())
 }

@@ -1,5 +1,5 @@
 -- The file of a tree's parts denotes the tree.
-use Rattle.std.proofs.Common.{◌≡◌, ◌<◌, ◌≤◌, ◌+◌, ◌*◌, ◌^◌, ℕ, List, false, length, refl, sym, ◌∙◌, ap, subst, arith}
+use Rattle.std.proofs.Common.{◌≡◌, ◌<◌, ◌^◌, ℕ, List, length, sym, ◌∙◌, subst, arith}
 use Rattle.std.proofs.Props.{props}
 use Rattle.storage_tree.specs.Tree.{Tree, Children, tree}
 use Rattle.storage_tree.specs.View.{children, view}
@@ -10,9 +10,7 @@ use Rattle.cfb_directory.specs.SearchTree.{IsSearchTree}
 use Rattle.cfb_directory.specs.declared.links.Links as siblings
 use Rattle.stream_io.specs.Denotes.{Denotes}
 use Rattle.stream_io.specs.Image.{Parts, image}
-use Rattle.stream_io.specs.Need.{data_sectors, entries}
 use Rattle.stream_io.specs.Placed.{Fits, layout_of}
-use Rattle.stream_io.specs.Refusals.{has_long, has_storage}
 use Rattle.stream_io.specs.View.{IsCount, linked}
 use Rattle.stream_io.specs.Written.{parts, streams}
 use Rattle.stream_io.specs.declared.write.Counts.{Counts}

@@ -26,3 +26,13 @@ pub mod Refused
 pub mod Listed
 pub mod Denoted
 pub mod ContentsPush
+pub mod EmptyDocument
+pub mod ReadingLists
+pub mod ReadingRefused
+pub mod ReadingNames
+pub mod ReadingEntries
+pub mod ReadingChildren
+pub mod ReadingSorted
+pub mod ReadingStreams
+pub mod ReadingFile
+pub mod ReadingThere

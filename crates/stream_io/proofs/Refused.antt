@@ -1,6 +1,6 @@
 -- What a root without storages is refused for, by how many children and mini sectors it has.
-use Rattle.std.proofs.Common.{◌≡◌, ◌≤◌, ◌<◌, ◌+◌, ◌*◌, ◌/◌, ◌||◌, min, ℕ, zero, suc, Bool, true, false, nat_le, nat_lt, cond, Result, Ok, Err, List, [], ◌∷◌, length, map, refl, sym, ◌∙◌, ap, arith}
-use Rattle.std.proofs.lemmas.Bool.{leb-false, lt-ltb, le-ltb, ltb-false, or_parts}
+use Rattle.std.proofs.Common.{◌≡◌, ◌≤◌, ◌<◌, ◌+◌, ◌*◌, ◌||◌, min, ℕ, true, false, nat_le, nat_lt, cond, Ok, Err, List, [], ◌∷◌, length, map, refl, sym, ◌∙◌, ap, arith}
+use Rattle.std.proofs.lemmas.Bool.{leb-false, lt-ltb, le-ltb, or_parts}
 use Rattle.std.proofs.lemmas.List.{length-map}
 use Rattle.std.specs.Prelude.{if◌then◌else◌}
 use Rattle.storage_tree.specs.declared.storage.Storage.{Storage}
@@ -9,9 +9,8 @@ use Rattle.storage_tree.specs.declared.storage.Node.{Node}
 use Rattle.storage_tree.specs.Change.{Seen, bytes, inner}
 use Rattle.storage_tree.proofs.Entries.{view-out}
 use Rattle.storage_tree.specs.Tree.{Tree, Children, tree, none, stream, storage}
-use Rattle.stream_io.specs.Need.{pieces, entries, entries_of, over_streams, over_streams_of, short_pieces, long_pieces, mini_sectors, directory_sectors, mini_fat_sectors, mini_stream_sectors, long_sectors, data_sectors, fat_sectors}
+use Rattle.stream_io.specs.Need.{pieces, entries, entries_of, over_streams_of, long_pieces, mini_sectors, data_sectors, fat_sectors}
 use Rattle.stream_io.specs.Refusals.{has_long, has_long_in, has_storage, has_storage_in, writable}
-use Rattle.stream_io.specs.declared.fault.WriteFault.{WriteFault}
 use Rattle.stream_io.specs.declared.fault.WriteFault.TheVariants.{TooBig, WrongKind}
 
 true≢false : true ≡ false → ⊥

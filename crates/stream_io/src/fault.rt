@@ -30,6 +30,45 @@ impl ReadFault {
     }
 }
 
+impl From<ChainFault> for ReadFault {
+    ghost use Rattle.std.specs.Prelude.{◌≡◌};
+    ghost use Rattle.stream_io.specs.Reads.{chain_fault};
+
+    ghost from_gives = { λ fault e. e ≡ chain_fault fault };
+
+    fn from(fault: ChainFault) -> Self {
+        match fault {
+            ChainFault::NoMemory => ReadFault::NoMemory,
+            _ => ReadFault::Chain(fault),
+        }
+    }
+}
+
+impl From<DirFault> for ReadFault {
+    ghost use Rattle.std.specs.Prelude.{◌≡◌};
+    ghost use Rattle.stream_io.specs.Reads.{directory_fault};
+
+    ghost from_gives = { λ fault e. e ≡ directory_fault fault };
+
+    fn from(fault: DirFault) -> Self {
+        match fault {
+            DirFault::NoMemory => ReadFault::NoMemory,
+            _ => ReadFault::Directory(fault),
+        }
+    }
+}
+
+impl From<AllocError> for ReadFault {
+    ghost use Rattle.std.specs.Prelude.{◌≡◌};
+    ghost use Rattle.stream_io.specs.declared.fault.ReadFault.TheVariants.{NoMemory};
+
+    ghost from_gives = { λ _ e. e ≡ NoMemory };
+
+    fn from(_: AllocError) -> Self {
+        ReadFault::NoMemory
+    }
+}
+
 /// Why a tree isn't written.
 #[derive(Debug, Clone, Copy, PartialEq, Eq, Error)]
 pub enum WriteFault {

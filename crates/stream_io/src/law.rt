@@ -4,6 +4,7 @@ ghost use Rattle.std.specs.Prelude.{List, ℕ, ◌≡◌};
 ghost use Rattle.storage_tree.specs.Tree.{Tree};
 ghost use Rattle.stream_io.specs.Denotes.{Denotes};
 ghost use Rattle.stream_io.specs.Directory.{ImageDenotes, PlacedDenotes};
+ghost use Rattle.stream_io.specs.EmptyDocument.{empty_document as empty_bytes, empty_tree};
 ghost use Rattle.stream_io.specs.Need.{LeastFat};
 
 /// Bytes denote at most one tree.
@@ -25,4 +26,9 @@ pub fn placed_denotes()
 /// A file laid out of the parts of a tree without long streams, with as many FAT sectors as cover it, denotes the tree.
 pub fn image_denotes()
     ensures { ImageDenotes }
+{}
+
+/// The empty document's bytes denote a root without children.
+pub fn empty_document()
+    ensures { Denotes empty_bytes empty_tree }
 {}

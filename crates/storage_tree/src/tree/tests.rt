@@ -79,7 +79,6 @@ fn a_renamed_stream_stands_under_its_new_name(rt: HostRuntime) -> Result<(), Fai
         tree.rename(&[name("D")?], name("E")?),
         Err(TreeFault::NotFound)
     );
-    assert_eq!(rt; tree.rename(&[], name("E")?), Err(TreeFault::WrongKind));
     Ok(())
 }
 
@@ -100,18 +99,17 @@ fn a_name_of_its_own_changes_the_spelling(rt: HostRuntime) -> Result<(), Fail> {
     Ok(())
 }
 
-#[test]
-fn storages_hold_streams(rt: HostRuntime) -> Result<(), Fail> {
-    let mut tree = Tree::new(rt.alloc(), class(1), 5);
-    let path = [name("Obj1")?, name("Text")?];
-    assert_eq!(rt;
-        tree.put_stream(&path, Bytes::new(rt.alloc())),
-        Err(TreeFault::NotFound)
-    );
+fn document(alloc: Global) -> Result<Tree, Fail> {
+    let mut tree = Tree::new(alloc, class(1), 5);
     tree.make_storage(&[name("Obj1")?], class(2), 7)?;
-    assert_refused(&rt, &tree, &path, TreeFault::NotFound);
-    tree.put_stream(&path, bytes(rt.alloc(), &[97, 98])?)?;
-    assert_stream(&rt, &tree, &path, &[97, 98]);
+    tree.put_stream(&[name("Obj1")?, name("Text")?], bytes(alloc, &[97, 98])?)?;
+    Ok(tree)
+}
+
+#[test]
+fn a_made_storage_holds_streams(rt: HostRuntime) -> Result<(), Fail> {
+    let tree = document(rt.alloc())?;
+    assert_stream(&rt, &tree, &[name("Obj1")?, name("Text")?], &[97, 98]);
     match tree.get(&[name("OBJ1")?]) {
         Ok(Found::Storage(inner)) => {
             assert_eq!(rt; inner.class, class(2));
@@ -119,6 +117,12 @@ fn storages_hold_streams(rt: HostRuntime) -> Result<(), Fail> {
         }
         _ => panic!(rt; "no storage"),
     }
+    Ok(())
+}
+
+#[test]
+fn the_empty_path_is_the_root(rt: HostRuntime) -> Result<(), Fail> {
+    let mut tree = document(rt.alloc())?;
     match tree.get(&[]) {
         Ok(Found::Storage(root)) => {
             assert_eq!(rt; root.class, class(1));
@@ -127,27 +131,55 @@ fn storages_hold_streams(rt: HostRuntime) -> Result<(), Fail> {
         _ => panic!(rt; "no root"),
     }
     assert_eq!(rt;
-        tree.make_storage(&[name("obj1")?], class(0), 0),
-        Err(TreeFault::Exists)
+        tree.put_stream(&[], Bytes::new(rt.alloc())),
+        Err(TreeFault::WrongKind)
     );
     assert_eq!(rt;
         tree.make_storage(&[], class(0), 0),
         Err(TreeFault::WrongKind)
     );
+    assert_eq!(rt; tree.remove(&[]), Err(TreeFault::WrongKind));
+    assert_eq!(rt; tree.rename(&[], name("E")?), Err(TreeFault::WrongKind));
+    Ok(())
+}
+
+#[test]
+fn a_stream_on_the_way_is_of_the_wrong_kind(rt: HostRuntime) -> Result<(), Fail> {
+    let mut tree = document(rt.alloc())?;
     let below = [name("Obj1")?, name("Text")?, name("X")?];
     assert_refused(&rt, &tree, &below, TreeFault::WrongKind);
     assert_eq!(rt;
         tree.put_stream(&below, Bytes::new(rt.alloc())),
         Err(TreeFault::WrongKind)
     );
+    let storage = [name("Obj1")?];
     assert_eq!(rt;
-        tree.put_stream(&[name("Obj1")?], Bytes::new(rt.alloc())),
+        tree.put_stream(&storage, Bytes::new(rt.alloc())),
         Err(TreeFault::WrongKind)
     );
-    assert_eq!(rt; tree.remove(&[]), Err(TreeFault::WrongKind));
+    Ok(())
+}
+
+#[test]
+fn a_path_leads_through_what_is_there(rt: HostRuntime) -> Result<(), Fail> {
+    let mut tree = document(rt.alloc())?;
+    let path = [name("Obj2")?, name("Text")?];
+    assert_eq!(rt;
+        tree.put_stream(&path, Bytes::new(rt.alloc())),
+        Err(TreeFault::NotFound)
+    );
     assert_eq!(rt; tree.remove(&[name("Obj2")?]), Err(TreeFault::NotFound));
+    assert_eq!(rt;
+        tree.make_storage(&[name("obj1")?], class(0), 0),
+        Err(TreeFault::Exists)
+    );
     tree.remove(&[name("Obj1")?])?;
-    assert_refused(&rt, &tree, &path, TreeFault::NotFound);
+    assert_refused(
+        &rt,
+        &tree,
+        &[name("Obj1")?, name("Text")?],
+        TreeFault::NotFound,
+    );
     Ok(())
 }
 

@@ -1,8 +1,10 @@
 use super::*;
+use crate::read::read_file;
 use cfb_directory::fault::DirFault;
 use std::process::Abort;
 use std::test::Fail;
 use storage_tree::class_id::ClassId;
+use storage_tree::storage::Found;
 
 fn name(text: &str) -> Result<Name, DirFault> {
     Name::new(text.as_bytes())
@@ -80,5 +82,20 @@ fn one_fat_sector_covers_127_others(rt: HostRuntime) -> Result<(), Fail> {
     // 24 mini sectors: 4 + 8 + 115, which is 127
     put(rt.alloc(), &mut tree, "O", &[7; 1536])?;
     assert_eq!(rt; write_file(rt.alloc(), &tree)?.len(), 66_048);
+    Ok(())
+}
+
+#[test]
+fn what_is_written_is_read_again(rt: HostRuntime) -> Result<(), Fail> {
+    let mut tree = empty(rt.alloc());
+    put(rt.alloc(), &mut tree, "A", &[1, 2, 3])?;
+    put(rt.alloc(), &mut tree, "b", &[])?;
+    put(rt.alloc(), &mut tree, "Longer", &[7; 4095])?;
+    let again = read_file(rt.alloc(), &write_file(rt.alloc(), &tree)?)?;
+    assert_eq!(rt; again.root().names(rt.alloc())?.len(), 3);
+    match again.get(&[name("A")?]) {
+        Ok(Found::Stream(bytes)) => assert_eq!(rt; bytes.as_slice(), [1, 2, 3].as_slice()),
+        _ => panic!(rt; "no stream"),
+    }
     Ok(())
 }

@@ -1,8 +1,8 @@
-use Rattle.std.proofs.Common.{rules, arith, ◌≡◌, ◌≤◌, ◌∙◌, ◌+◌, ◌*◌, min, length, ap, sym, false}
+use Rattle.std.proofs.Common.{arith, ◌≡◌, ◌∙◌, sym, false}
 use Rattle.storage_tree.specs.View.{view}
-use Rattle.stream_io.specs.Need.{entries, mini_sectors, pieces}
+use Rattle.stream_io.specs.Need.{entries}
 use Rattle.stream_io.specs.Refusals.{has_long, has_storage}
-use Rattle.stream_io.proofs.Refused.{allowed_room, data_is, root_counted, needed, refused_long, refused_room}
+use Rattle.stream_io.proofs.Refused.{allowed_room, data_is, root_counted, refused_long, refused_room}
 use Rattle.stream_io.proofs.write.count.Goals as goal
 use Rattle.stream_io.proofs.write.count.Goals.{then-survey-via-then-survey, then-survey-via-else-survey+then-data_sectors-gt127}
 

@@ -1,5 +1,5 @@
-use Rattle.std.proofs.Common.{◌≡◌, ◌<◌, ◌∙◌, ◌++◌, ◌+◌, ◌-◌, ◌*◌, ap, sym, ℕ, length, map, replicate, arith, rules}
-use Rattle.std.specs.List.{All, concat}
+use Rattle.std.proofs.Common.{◌≡◌, ◌∙◌, ◌++◌, ◌+◌, ◌-◌, ◌*◌, ap, ℕ, map, replicate, arith, rules}
+use Rattle.std.specs.List.{concat}
 use Rattle.cfb_directory.specs.Entries.{root_name}
 use Rattle.cfb_directory.specs.Written.{entry_bytes, free_entry_bytes}
 use Rattle.storage_tree.specs.Tree.{Tree}

@@ -1,4 +1,4 @@
-use Rattle.std.proofs.Common.{arith, rules, ap, length, ◌≡◌, ◌∙◌}
+use Rattle.std.proofs.Common.{rules, ap, length, ◌≡◌, ◌∙◌}
 use Rattle.std.specs.Vec.{vec_len}
 use Rattle.stream_io.specs.Image.{runs}
 use Rattle.stream_io.proofs.Tables.{length-runs}

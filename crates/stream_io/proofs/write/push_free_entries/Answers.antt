@@ -1,4 +1,4 @@
-use Rattle.std.proofs.Common.{◌≡◌, ◌∙◌, ◌++◌, ◌+◌, ap, sym, append_assoc, replicate, rules}
+use Rattle.std.proofs.Common.{◌≡◌, ◌∙◌, ◌++◌, ap, sym, append_assoc, replicate, rules}
 use Rattle.std.specs.List.{concat}
 use Rattle.cfb_directory.specs.Written.{free_entry_bytes}
 use Rattle.stream_io.proofs.Tables.{concat_more}

@@ -1,0 +1,161 @@
+-- The parts of a file as they are read, and those of a file that denotes a tree.
+use Rattle.std.proofs.Common.{◌≡◌, ◌≢◌, ◌↔◌, ◌<◌, ◌≤◌, ◌+◌, ◌*◌, ◌/◌, ◌⊎◌, inl, inr, ℕ, zero, suc, Bool, true, false, List, [], ◌∷◌, ◌++◌, Result, Ok, Err, IsOk, length, take, get_or, set, replicate, refl, sym, ◌∙◌, ap, subst, arith, map, append_assoc}
+use Rattle.std.proofs.lemmas.List.{length-replicate, get_or-replicate, get_or-set_other, get_or-set_same}
+use Rattle.std.proofs.lemmas.List.Elements.{All-contains, All-take, Contains-append_cases, All-append}
+use Rattle.std.specs.List.{All, Contains}
+use Rattle.cfb_chain.specs.Bytes.{joined, sector}
+use Rattle.cfb_chain.specs.Chain.{AreDistinct, IsChain, IsChainOf, Store}
+use Rattle.cfb_chain.specs.Fat.{AreFree, AreSame, FatValue, IsFat, IsMiniFound, IsMiniTable, IsTableOf, marked, sectors_of, store_of}
+use Rattle.cfb_chain.specs.Header.{HeaderValue, IsHeader, first_directory, first_mini_fat, header_of, header_read, listed, mini_fat_count}
+use Rattle.cfb_chain.specs.declared.fault.ChainFault.{ChainFault}
+use Rattle.cfb_chain.proofs.Blocks.{length_block, length_joined}
+use Rattle.cfb_chain.proofs.Chains.{chain_below, chain_of_same, chain_once, chain_same, joined_same, same_back}
+use Rattle.cfb_chain.proofs.Headers.{read_whole}
+use Rattle.cfb_chain.proofs.Marks.{Marks, distinct_left, free_when, marks_load, marks_more, marks_none}
+use Rattle.cfb_chain.proofs.Tables.{mini_same}
+use Rattle.cfb_directory.specs.Entries.{AreLinked, EntriesValue, around, child, class_of, entry_at, first_of, kind, left, nobody, right, size_of, state_of}
+use Rattle.storage_tree.specs.Kept.{Kept}
+use Rattle.storage_tree.specs.Tree.{Tree, Children, tree, none}
+use Rattle.storage_tree.specs.Whole.{IsTree}
+use Rattle.stream_io.specs.Denotes.{AreChildren, Denotes, Holds, HoldsEach, IsLaidOut, Layout, Used, directory_of, minis, root_of, sectors}
+use Rattle.stream_io.specs.Reads.{AreChildrenRead, AreRead, AreSorted, filled}
+use Rattle.stream_io.specs.Refusals.{has_storage}
+use Rattle.stream_io.proofs.ReadingStreams.{AreHeld, held_ids, held_read, read_held}
+use Rattle.stream_io.proofs.ReadingSorted.{sorted_below, sorted_distinct}
+use Rattle.stream_io.proofs.ReadingEntries.{kind_inside}
+use Rattle.std.specs.List.Sorted.{IsStrictlySortedBy}
+use Rattle.cfb_directory.specs.Names.{key, key_cmp}
+use Rattle.cfb_directory.specs.Entries.{name_of}
+use Rattle.stream_io.proofs.ReadingLists.{distinct-cons}
+use Rattle.stream_io.proofs.Unique.{layout_unique}
+
+header_is : (a b : HeaderValue) → ◌≡◌ {A = Result HeaderValue ChainFault} (Ok a) (Ok b) → a ≡ b
+header_is a b h = cc
+
+-- the header that is read
+pub read_header : (file : List ℕ) (h : HeaderValue) → IsHeader file → Ok h ≡ header_read file → h ≡ header_of file
+read_header file h is read = header_is h (header_of file) (read ∙ read_whole file is)
+
+-- ---- as they are read
+-- the FAT and the directory
+pub record IsOpened (file : List ℕ) (fat : FatValue) (directory bytes : List ℕ) : Type 0 where
+  pub is_fat : IsFat file (listed file)
+  pub same : AreSame (store_of fat) (sectors_of file (listed file))
+  pub marks : Marks fat (listed file ++ directory)
+  pub chain : IsChain (sectors_of file (listed file)) (first_directory file) 0 directory
+  pub bytes_are : bytes ≡ joined (sector file) directory
+
+-- the store of a file's sectors joins them as they stand in the file
+sectors_joined : (file fat ns : List ℕ) → joined (sectors_of file fat).piece ns ≡ joined (sector file) ns
+unfolding sectors_of
+sectors_joined file fat ns = refl
+
+chain_present : (s : Store) (start bytes : ℕ) (ns : List ℕ) → IsChain s start bytes ns → All (λ n. n < s.count) ns
+chain_present s start bytes ns h = λ k d l. (h.present k d l).1
+
+pub opened : (file : List ℕ) (h : HeaderValue) (f fat : FatValue) (directory bytes : List ℕ) → h ≡ header_of file → IsTableOf file h.fat f
+    → IsChain (store_of f) h.first_directory 0 directory → AreFree f directory → fat ≡ marked f directory → bytes ≡ joined (store_of fat).piece directory
+    → IsOpened file fat directory bytes
+opened file h f fat directory bytes is table chain free after joined_are =
+    let table' : IsTableOf file (listed file) f = subst (λ (x : HeaderValue). IsTableOf file x.fat f) is table in
+    let chain' : IsChain (store_of f) (first_directory file) 0 directory = subst (λ (x : HeaderValue). IsChain (store_of f) x.first_directory 0 directory) is chain in
+    let P : FatValue → Type 0 = λ x. bytes ≡ joined (store_of x).piece directory → IsOpened file x directory bytes in
+    subst P (sym after) (λ j. record {
+      is_fat = table'.is_fat;
+      same = table'.sectors;
+      marks = marks_more f (listed file) directory (marks_load file (listed file) f table') free;
+      chain = chain_same (store_of f) (sectors_of file (listed file)) table'.sectors (first_directory file) 0 directory chain';
+      bytes_are = j ∙ joined_same (store_of f) (sectors_of file (listed file)) table'.sectors directory (chain_present (store_of f) (first_directory file) 0 directory chain')
+          ∙ sectors_joined file (listed file) directory;
+    }) joined_are
+
+-- all tables
+pub record IsReady (file : List ℕ) (l : Layout) (fat mini : FatValue) (bytes : List ℕ) : Type 0 where
+  pub laid_out : IsLaidOut file l
+  pub bytes_are : bytes ≡ directory_of file l
+  pub same : AreSame (store_of fat) (sectors file l)
+  pub same_minis : AreSame (store_of mini) (minis file l)
+  pub marks : Marks fat (l.fat ++ l.directory ++ l.mini_fat ++ l.mini_stream)
+  pub mini_marks : Marks mini []
+
+pub ready : (file : List ℕ) (h : HeaderValue) (fat fat' mini : FatValue) (directory bytes : List ℕ) (first size : ℕ) (mini_fat mini_stream : List ℕ)
+    → h ≡ header_of file → IsOpened file fat directory bytes → first ≡ first_of (entry_at bytes 0) → size ≡ size_of (entry_at bytes 0)
+    → IsMiniFound fat h.first_mini_fat h.mini_fat_count first size mini_fat mini_stream → IsMiniTable fat (take h.mini_fat_count mini_fat) mini_stream size mini
+    → fat' ≡ marked fat (mini_fat ++ mini_stream)
+    → IsReady file (record { fat = listed file; directory = directory; mini_fat = mini_fat; mini_stream = mini_stream }) fat' mini bytes
+unfolding directory_of
+ready file h fat fat' mini directory bytes first size mini_fat mini_stream is o f s found table after =
+    let l : Layout = record { fat = listed file; directory = directory; mini_fat = mini_fat; mini_stream = mini_stream } in
+    let bytes_are : bytes ≡ directory_of file l = o.bytes_are in
+    let first_is : first ≡ first_of (root_of file l) = f ∙ ap (λ x. first_of (entry_at x 0)) bytes_are in
+    let size_is : size ≡ size_of (root_of file l) = s ∙ ap (λ x. size_of (entry_at x 0)) bytes_are in
+    let in_fat : IsChainOf (store_of fat) (first_mini_fat file) (512 * mini_fat_count file) mini_fat =
+    subst (λ (x : HeaderValue). IsChainOf (store_of fat) x.first_mini_fat (512 * x.mini_fat_count) mini_fat) is found.table in
+    let in_stream : IsChainOf (store_of fat) (first_of (root_of file l)) (size_of (root_of file l)) mini_stream =
+    subst (λ (x : ℕ). IsChainOf (store_of fat) x (size_of (root_of file l)) mini_stream) first_is
+    (subst (λ (x : ℕ). IsChainOf (store_of fat) first x mini_stream) size_is found.stream) in
+    let below_fat : All (λ n. n < length fat.table) mini_fat = chain_below (store_of fat) (first_mini_fat file) (512 * mini_fat_count file) mini_fat in_fat in
+    let below_stream : All (λ n. n < length fat.table) mini_stream = chain_below (store_of fat) (first_of (root_of file l)) (size_of (root_of file l)) mini_stream in_stream in
+    let table' : IsMiniTable fat (take (mini_fat_count file) mini_fat) mini_stream (size_of (root_of file l)) mini =
+    subst (λ (x : ℕ). IsMiniTable fat (take (mini_fat_count file) mini_fat) mini_stream x mini) size_is
+    (subst (λ (x : HeaderValue). IsMiniTable fat (take x.mini_fat_count mini_fat) mini_stream size mini) is table) in
+    record {
+      laid_out = record {
+        fat_listed = refl;
+        fat_sectors = o.is_fat;
+        directory = o.chain;
+        mini_fat = chain_of_same (store_of fat) (sectors_of file (listed file)) o.same (first_mini_fat file) (512 * mini_fat_count file) mini_fat in_fat;
+        mini_stream = chain_of_same (store_of fat) (sectors_of file (listed file)) o.same (first_of (root_of file l)) (size_of (root_of file l)) mini_stream in_stream;
+      };
+      bytes_are = bytes_are;
+      same = subst (λ (x : FatValue). AreSame (store_of x) (sectors file l)) (sym after) o.same;
+      same_minis = mini_same file (listed file) (take (mini_fat_count file) mini_fat) mini_stream (size_of (root_of file l)) fat mini o.same
+          (All-take (λ n. n < length fat.table) (mini_fat_count file) mini_fat below_fat) below_stream table';
+      marks = subst (λ (x : FatValue). Marks x (l.fat ++ l.directory ++ l.mini_fat ++ l.mini_stream)) (sym after)
+          (subst (Marks (marked fat (mini_fat ++ mini_stream))) (sym (append_assoc (listed file ++ directory) mini_fat mini_stream))
+          (marks_more fat (listed file ++ directory) (mini_fat ++ mini_stream) o.marks found.free));
+      mini_marks = marks_none mini table'.marks;
+    }
+
+-- ---- the tree that is read is denoted
+pub denoted : (file : List ℕ) (l : Layout) (fat mini fat' mini' : FatValue) (e : EntriesValue) (class : List ℕ) (state : ℕ) (old new : Kept)
+    → IsHeader file → IsReady file l fat mini e.directory → get_or e.used 0 true ≡ true → kind (entry_at e.directory 0) ≡ 5
+    → class ≡ class_of (entry_at e.directory 0) → state ≡ state_of (entry_at e.directory 0) → old ≡ record { now = tree class state none; saved = [] }
+    → AreChildrenRead e 0 fat mini old fat' mini' new → IsTree 32 new.now → Denotes file new.now
+denoted file l fat mini fat' mini' e class state old new header r marked root c s is h whole =
+    let dir : e.directory ≡ directory_of file l = r.bytes_are in
+    let read : AreRead (directory_of file l) h.ids h.cs fat mini fat' mini' = subst (λ (x : List ℕ). AreRead x h.ids h.cs fat mini fat' mini') dir h.is_read in
+    let held : AreHeld file l h.ids h.cs fat' mini' (l.fat ++ l.directory ++ l.mini_fat ++ l.mini_stream) [] =
+    read_held file l h.ids h.cs fat mini fat' mini' (l.fat ++ l.directory ++ l.mini_fat ++ l.mini_stream) [] r.same r.same_minis r.marks r.mini_marks read in
+    let now : new.now ≡ tree class state h.cs = ap (λ (k : Kept). k.now) h.tree_is ∙ ap (λ (k : Kept). (filled k h.cs).now) is in
+    let children : AreChildren file l 0 h.ids = record {
+      reached = h.sorted.reached;
+      linked = subst (λ (x : List ℕ). AreLinked x (child (entry_at x 0)) h.sorted.reached) dir h.sorted.linked;
+      once = h.sorted.free.once;
+      same = h.sorted.same;
+      ordered = subst (λ (x : List ℕ). IsStrictlySortedBy key_cmp (map (λ n. key (name_of (entry_at x n))) h.ids)) dir h.sorted.ordered;
+    } in
+    let class_is : class ≡ class_of (root_of file l) = c ∙ ap (λ x. class_of (entry_at x 0)) dir in
+    let state_is : state ≡ state_of (root_of file l) = s ∙ ap (λ x. state_of (entry_at x 0)) dir in
+    let below : All (λ n. n ≢ 0) h.ids = sorted_below e 0 h.ids marked h.sorted in
+    record {
+      layout = l;
+      used = held.used;
+      header = header;
+      laid_out = r.laid_out;
+      root = ap (λ x. kind (entry_at x 0)) (sym dir) ∙ root;
+      holds = subst (λ (t : Tree). Holds file l 0 t held.used) (sym now) (class_is, state_is, (h.ids, children, held.held));
+      sectors_apart = held.marks.once;
+      minis_apart = held.mini_marks.once;
+      ids_apart = subst (λ (xs : List ℕ). AreDistinct (0 ∷ xs)) (sym held.ids_are)
+          (distinct-cons 0 h.ids (λ z. All-contains (λ n. n ≢ 0) h.ids 0 below z refl) (sorted_distinct e.directory h.ids h.sorted.ordered));
+      is_tree = whole;
+    }
+
+-- the same, by what the calls answer
+pub opened_at : (file : List ℕ) (h : HeaderValue) (f fat : FatValue) (start : ℕ) (directory listed_are joined_are bytes : List ℕ) → h ≡ header_of file → IsTableOf file h.fat f
+    → start ≡ h.first_directory → IsChain (store_of f) start 0 directory → AreFree f directory → fat ≡ marked f directory → listed_are ≡ directory
+    → joined_are ≡ joined (store_of fat).piece listed_are → bytes ≡ joined_are → IsOpened file fat directory bytes
+opened_at file h f fat start directory listed_are joined_are bytes is table s chain free after l j b =
+    opened file h f fat directory bytes is table (subst (λ (x : ℕ). IsChain (store_of f) x 0 directory) s chain) free after
+    (b ∙ j ∙ ap (λ (xs : List ℕ). joined (store_of fat).piece xs) l)

@@ -1,0 +1,157 @@
+-- Children in the order of their names, and what refuses them.
+use Rattle.std.proofs.Common.{◌≡◌, ◌≢◌, ◌↔◌, ◌<◌, ◌≤◌, ◌+◌, ◌*◌, ◌⊎◌, inl, inr, ℕ, zero, suc, Bool, true, false, List, [], ◌∷◌, length, get_or, map, refl, sym, ◌∙◌, ap, subst, arith}
+use Rattle.std.proofs.lemmas.Cmp.{nat_list_cmp_total}
+use Rattle.std.proofs.lemmas.List.{length-map, get_or-map, get_or_default}
+use Rattle.std.proofs.lemmas.List.Elements.{All-contains}
+use Rattle.std.proofs.lemmas.Map.Keys.{Less-from_sorted}
+use Rattle.std.specs.List.{All, Contains}
+use Rattle.std.specs.List.Sorted.{IsStrictlySortedBy}
+use Rattle.std.specs.Ordering.{ordering_reverse}
+use Rattle.std.specs.declared.cmp.Ordering.{Ordering}
+use Rattle.std.specs.declared.cmp.Ordering.TheVariants.{Less, Equal, Greater}
+use Rattle.cfb_chain.specs.Chain.{AreDistinct}
+use Rattle.cfb_chain.specs.Fat.{FatValue}
+use Rattle.cfb_directory.specs.Names.{IsName, key_cmp}
+use Rattle.cfb_directory.specs.Entries.{AreFree, AreLinked, EntriesValue, IsFree, IsNamed, MayRefuseChildren, MayRefuseEntry, MayRefuseLinked, NO_STREAM, Reaches, here, by_left, by_right, around, nobody, child, entry_at, kind, left, right}
+use Rattle.cfb_directory.specs.declared.fault.DirFault.{DirFault}
+use Rattle.cfb_directory.specs.declared.fault.DirFault.TheVariants.{NameEmpty, NameTooLong, NameNotAscii, NameForbidden, DuplicateName, BadEntry, TreeCycle, TooNested, NoMemory}
+use Rattle.storage_tree.specs.Tree.{Children}
+use Rattle.stream_io.specs.Reads.{AreRead, AreSorted, MayRefuseNames, key_at}
+use Rattle.stream_io.specs.declared.fault.ReadFault.{ReadFault}
+use Rattle.stream_io.specs.declared.fault.ReadFault.TheVariants as told
+use Rattle.stream_io.proofs.Lists.{sorted_unique}
+use Rattle.stream_io.proofs.Unique.{linked_unique}
+use Rattle.stream_io.proofs.ReadingChildren.{each_read}
+use Rattle.stream_io.proofs.ReadingEntries.{stream_not_refused}
+use Rattle.stream_io.proofs.ReadingLists.{all-from}
+
+-- one order of the children
+pub sorted_same : (e : EntriesValue) (id : ℕ) (ids ids' : List ℕ) → AreSorted e id ids → AreSorted e id ids' → ids ≡ ids'
+sorted_same e id ids ids' h i =
+    let top : ℕ = child (entry_at e.directory id) in
+    let same : h.reached ≡ i.reached = linked_unique e.directory top top h.reached i.reached refl h.linked i.linked in
+    let P : ℕ → List ℕ → Type 0 = λ z xs. Contains xs z in
+    sorted_unique (key_at e.directory) key_cmp nat_list_cmp_total ids ids' h.ordered i.ordered
+    (λ z c. (i.same z).0 (subst (P z) same ((h.same z).1 c)))
+    (λ z c. (h.same z).0 (subst (P z) (sym same) ((i.same z).1 c)))
+
+true_false : {P : Type 0} (b : Bool) → b ≡ true → b ≡ false → P
+true_false b h i = let e : true ≡ false = sym h ∙ i in cc
+
+-- where the root is marked, entries that aren't lie below it
+pub below_root : (e : EntriesValue) (ids : List ℕ) → get_or e.used 0 true ≡ true → AreFree e ids → All (λ n. n ≢ 0) ids
+below_root e ids root h = λ k d lt z. true_false (get_or e.used 0 true) root (subst (λ (n : ℕ). get_or e.used n true ≡ false) z (h.free k d lt).1)
+
+-- ---- links
+linked_inside : (d : List ℕ) (top id : ℕ) (ids : List ℕ) → AreLinked d top ids → Reaches d top id → id ≢ NO_STREAM → length d ≤ 128 * id → ⊥
+linked_inside d top id ids nobody (here n) ne le = ne refl
+linked_inside d top id ids nobody (by_left n to lt other r) ne le = other refl
+linked_inside d top id ids nobody (by_right n to lt other r) ne le = other refl
+linked_inside d top id ids (around n before after other lt l r) (here m) ne le = omega arith
+linked_inside d top id ids (around n before after other lt l r) (by_left m to lt' other' s) ne le = linked_inside d (left (entry_at d top)) id before l s ne le
+linked_inside d top id ids (around n before after other lt l r) (by_right m to lt' other' s) ne le = linked_inside d (right (entry_at d top)) id after r s ne le
+
+pub children_not_refused : (e : EntriesValue) (id : ℕ) (ids : List ℕ) (fault : DirFault) → 128 * id < length e.directory → AreSorted e id ids
+    → MayRefuseChildren e id fault → fault ≡ NoMemory
+children_not_refused e id ids fault lt h (inl r) = absurd (omega (arith, r.0))
+children_not_refused e id ids NameEmpty lt h (inr r) = absurd r
+children_not_refused e id ids NameTooLong lt h (inr r) = absurd r
+children_not_refused e id ids NameNotAscii lt h (inr r) = absurd r
+children_not_refused e id ids NameForbidden lt h (inr r) = absurd r
+children_not_refused e id ids DuplicateName lt h (inr r) = absurd r
+children_not_refused e id ids BadEntry lt h (inr r) = absurd (linked_inside e.directory (child (entry_at e.directory id)) r.0 h.reached h.linked r.1 r.2 r.3)
+children_not_refused e id ids TreeCycle lt h (inr r) = absurd (r h.reached h.linked h.free)
+children_not_refused e id ids TooNested lt h (inr r) = absurd r
+children_not_refused e id ids NoMemory lt h (inr r) = refl
+
+-- ---- names
+not_less : (k : List ℕ) → key_cmp k k ≡ Less → ⊥
+not_less k h =
+    let e : Less ≡ ordering_reverse Less = sym h ∙ nat_list_cmp_total.antisymm k k ∙ ap ordering_reverse h in cc e
+
+places : (i j : ℕ) → (i < j) ⊎ ((j < i) ⊎ (i ≡ j))
+places zero zero = inr (inr refl)
+places zero (suc j) = inl (omega arith)
+places (suc i) zero = inr (inl (omega arith))
+places (suc i) (suc j) =
+    elim (places i j) [
+      | inl lt ↦ inl (omega arith)
+      | inr s ↦ elim s [ inl lt ↦ inr (inl (omega arith)) | inr e ↦ inr (inr (ap suc e)) ]
+    ]
+
+-- entries at two places in order have other keys
+apart_keys : (dir ids : List ℕ) (i j : ℕ) → IsStrictlySortedBy key_cmp (map (key_at dir) ids) → i < j → j < length ids → key_at dir (get_or ids i 0) ≡ key_at dir (get_or ids j 0) → ⊥
+apart_keys dir ids i j sorted lt l e =
+    let ks : List (List ℕ) = map (key_at dir) ids in
+    let less : key_cmp (get_or ks i []) (get_or ks j []) ≡ Less = Less-from_sorted key_cmp ks i j [] sorted lt (omega (arith, l, length-map ids (key_at dir))) in
+    let first : get_or ks i [] ≡ key_at dir (get_or ids i 0) = get_or-map (key_at dir) ids i 0 [] (omega (arith, lt, l)) in
+    let second : get_or ks j [] ≡ key_at dir (get_or ids j 0) = get_or-map (key_at dir) ids j 0 [] l in
+    let same : get_or ks i [] ≡ get_or ks j [] = first ∙ e ∙ sym second in
+    not_less (get_or ks j []) (subst (λ (k : List ℕ). key_cmp k (get_or ks j []) ≡ Less) same less)
+
+two_keys : (dir ids : List ℕ) (m n : ℕ) → IsStrictlySortedBy key_cmp (map (key_at dir) ids) → Contains ids m → Contains ids n → m ≢ n → key_at dir m ≡ key_at dir n → ⊥
+two_keys dir ids m n sorted c d ne e =
+    let at : get_or ids c.0 0 ≡ m = get_or_default ids c.0 0 m c.1 ∙ c.2 in
+    let at' : get_or ids d.0 0 ≡ n = get_or_default ids d.0 0 n d.1 ∙ d.2 in
+    let same : key_at dir (get_or ids c.0 0) ≡ key_at dir (get_or ids d.0 0) = ap (key_at dir) at ∙ e ∙ sym (ap (key_at dir) at') in
+    elim (places c.0 d.0) [
+      | inl lt ↦ apart_keys dir ids c.0 d.0 sorted lt d.1 same
+      | inr s ↦ elim s [
+        | inl lt ↦ apart_keys dir ids d.0 c.0 sorted lt c.1 (sym same)
+        | inr is ↦ ne (sym at ∙ ap (λ k. get_or ids k 0) is ∙ at')
+      ]
+    ]
+
+module _ (e : EntriesValue) (id : ℕ) (ids : List ℕ) (cs : Children) (fat mini fat' mini' : FatValue) (root : get_or e.used 0 true ≡ true)
+    (h : AreSorted e id ids) (r : AreRead e.directory ids cs fat mini fat' mini') where
+  one_name : (n : ℕ) (fault : DirFault) → Contains h.reached n → MayRefuseEntry e.directory n fault → ⊥
+  one_name n fault c refused =
+      let s : (name : List ℕ) × (kind (entry_at e.directory n) ≡ 2) × IsNamed (entry_at e.directory n) name × IsName name =
+      each_read e.directory ids cs fat mini fat' mini' r n ((h.same n).0 c) in
+      stream_not_refused e.directory n s.0 fault s.1 s.2 s.3 (All-contains (λ m. m ≢ 0) h.reached n (below_root e h.reached root h.free) c) refused
+
+  by_names : (fault : ReadFault) → MayRefuseNames e.directory h.reached fault → fault ≡ told.NoMemory
+  by_names told.NoMemory refused = refl
+  by_names (told.Chain fault) refused = absurd refused
+  by_names (told.Directory NameEmpty) refused = absurd (one_name refused.0 NameEmpty refused.1 refused.2)
+  by_names (told.Directory NameTooLong) refused = absurd (one_name refused.0 NameTooLong refused.1 refused.2)
+  by_names (told.Directory NameNotAscii) refused = absurd (one_name refused.0 NameNotAscii refused.1 refused.2)
+  by_names (told.Directory NameForbidden) refused = absurd (one_name refused.0 NameForbidden refused.1 refused.2)
+  by_names (told.Directory DuplicateName) refused =
+      absurd (two_keys e.directory ids refused.0 refused.1 h.ordered ((h.same refused.0).0 refused.2) ((h.same refused.1).0 refused.3) refused.4 refused.5)
+  by_names (told.Directory BadEntry) refused = absurd (one_name refused.0 BadEntry refused.1 refused.2)
+  by_names (told.Directory TreeCycle) refused = absurd (one_name refused.0 TreeCycle refused.1 refused.2)
+  by_names (told.Directory TooNested) refused = absurd (one_name refused.0 TooNested refused.1 refused.2)
+  by_names (told.Directory NoMemory) refused = absurd (one_name refused.0 NoMemory refused.1 refused.2)
+
+pub names_not_refused : (e : EntriesValue) (id : ℕ) (found ids : List ℕ) (cs : Children) (fat mini fat' mini' : FatValue) (fault : ReadFault) → get_or e.used 0 true ≡ true
+    → AreLinked e.directory (child (entry_at e.directory id)) found → AreSorted e id ids → AreRead e.directory ids cs fat mini fat' mini'
+    → MayRefuseNames e.directory found fault → fault ≡ told.NoMemory
+names_not_refused e id found ids cs fat mini fat' mini' fault root l h r refused =
+    let top : ℕ = child (entry_at e.directory id) in
+    let same : found ≡ h.reached = linked_unique e.directory top top found h.reached refl l h.linked in
+    by_names e id ids cs fat mini fat' mini' root h r fault (subst (λ (xs : List ℕ). MayRefuseNames e.directory xs fault) same refused)
+
+-- ---- as they are found
+pub sorted_from : (e : EntriesValue) (id : ℕ) (found listed sorted items dir : List ℕ) → AreLinked e.directory (child (entry_at e.directory id)) found → AreFree e found
+    → listed ≡ found → dir ≡ e.directory → IsStrictlySortedBy key_cmp (map (key_at dir) sorted) → ((n : ℕ) → Contains listed n ↔ Contains sorted n) → items ≡ sorted
+    → AreSorted e id items
+sorted_from e id found listed sorted items dir l f is d o s same = record {
+  reached = found;
+  linked = l;
+  free = f;
+  same = subst (λ (xs : List ℕ). (n : ℕ) → Contains found n ↔ Contains xs n) (sym same) (subst (λ (xs : List ℕ). (n : ℕ) → Contains xs n ↔ Contains sorted n) is s);
+  ordered = subst (λ (xs : List ℕ). IsStrictlySortedBy key_cmp (map (key_at e.directory) xs)) (sym same)
+      (subst (λ (x : List ℕ). IsStrictlySortedBy key_cmp (map (key_at x) sorted)) d o);
+}
+
+-- sorted entries are those found, and lie below the root
+pub sorted_below : (e : EntriesValue) (id : ℕ) (ids : List ℕ) → get_or e.used 0 true ≡ true → AreSorted e id ids → All (λ n. n ≢ 0) ids
+sorted_below e id ids root h = all-from (λ n. n ≢ 0) ids (λ n c. All-contains (λ m. m ≢ 0) h.reached n (below_root e h.reached root h.free) ((h.same n).1 c))
+
+-- sorted entries are distinct
+pub sorted_distinct : (dir ids : List ℕ) → IsStrictlySortedBy key_cmp (map (key_at dir) ids) → AreDistinct ids
+sorted_distinct dir ids sorted = λ i j d lt l e.
+    let at : get_or ids i 0 ≡ get_or ids i d = get_or_default ids i 0 d (omega (arith, lt, l)) in
+    let at' : get_or ids j 0 ≡ get_or ids j d = get_or_default ids j 0 d l in
+    apart_keys dir ids i j sorted lt l (ap (key_at dir) (at ∙ e ∙ sym at'))

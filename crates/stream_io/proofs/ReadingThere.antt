@@ -1,0 +1,200 @@
+-- The parts of a file that denotes a tree are there to be read.
+use Rattle.std.proofs.Common.{◌≡◌, ◌≢◌, ◌<◌, ◌≤◌, ◌+◌, ◌*◌, ◌/◌, ◌⊎◌, inl, inr, ℕ, zero, suc, Bool, true, false, List, [], ◌∷◌, ◌++◌, length, get_or, set, map, replicate, refl, sym, ◌∙◌, ap, subst, arith, append_assoc, get_or-set_other}
+use Rattle.std.proofs.lemmas.List.{get_or-replicate}
+use Rattle.std.proofs.lemmas.List.Elements.{All-append, All-cons, All-contains, All-nil}
+use Rattle.std.specs.List.{All, Contains}
+use Rattle.std.specs.List.Sorted.{IsStrictlySortedBy}
+use Rattle.cfb_chain.specs.Bytes.{joined, sector}
+use Rattle.cfb_chain.specs.Chain.{AreDistinct, IsChain, IsChainOf}
+use Rattle.cfb_chain.specs.Fat.{AreFree, AreSame, FatValue, IsFat, IsMiniFound, IsTableOf, sectors_of, store_of}
+use Rattle.cfb_chain.specs.Header.{HeaderValue, first_directory, first_mini_fat, header_of, listed, mini_fat_count}
+use Rattle.cfb_chain.proofs.Blocks.{length_block, length_joined}
+use Rattle.cfb_chain.proofs.Chains.{chain_below, chain_of_same, chain_same, same_back}
+use Rattle.cfb_chain.proofs.Marks.{distinct_left, free_when, marks_load}
+use Rattle.cfb_directory.specs.Names.{key, key_cmp}
+use Rattle.cfb_directory.specs.Entries.{AreLinked, EntriesValue, IsFree, MayRefuseEntry, MayRefuseLoad, around, child, entry_at, first_of, kind, left, name_of, nobody, right, size_of, set_all}
+use Rattle.cfb_directory.specs.declared.fault.DirFault.{DirFault}
+use Rattle.cfb_directory.specs.declared.fault.DirFault.TheVariants.{NameEmpty, NameTooLong, NameNotAscii, NameForbidden, DuplicateName, BadEntry, TreeCycle, TooNested, NoMemory}
+use Rattle.cfb_directory.proofs.Marks.{set_all-there}
+use Rattle.storage_tree.specs.Tree.{Tree, Children, tree}
+use Rattle.storage_tree.specs.Whole.{IsTree}
+use Rattle.stream_io.specs.Denotes.{Denotes, Holds, IsLaidOut, Layout, Used, directory_of, minis, root_of, sectors}
+use Rattle.stream_io.specs.Reads.{AreRead, AreSorted}
+use Rattle.stream_io.specs.Refusals.{has_storage}
+use Rattle.stream_io.proofs.ReadingEntries.{kind_inside}
+use Rattle.stream_io.proofs.ReadingFile.{IsOpened, IsReady}
+use Rattle.stream_io.proofs.ReadingLists.{all-from, distinct-head}
+use Rattle.stream_io.proofs.ReadingStreams.{held_ids, held_read}
+use Rattle.stream_io.proofs.Unique.{chain_unique, layout_unique}
+
+-- the root of loaded entries is marked
+pub root_marked : (e : EntriesValue) (count : ℕ) → e.used ≡ set_all (replicate count false) (0 ∷ []) → get_or e.used 0 true ≡ true
+root_marked e count is = ap (λ us. get_or us 0 true) is ∙ set_all-there (replicate count false) (0 ∷ []) 0 (0, omega arith, refl)
+
+-- others aren't
+pub others_free : (e : EntriesValue) (n : ℕ) → e.used ≡ set_all (replicate (length e.directory / 128) false) (0 ∷ []) → n ≢ 0 → n < length e.directory / 128
+    → get_or e.used n true ≡ false
+others_free e n is ne lt =
+    let count : ℕ = length e.directory / 128 in
+    ap (λ us. get_or us n true) is ∙ get_or-set_other (replicate count false) 0 n true true ne ∙ get_or-replicate count n false true lt
+
+pub linked_in : (d : List ℕ) (top : ℕ) (ids : List ℕ) → AreLinked d top ids → All (λ n. 128 * n < length d) ids
+linked_in d top ids nobody = All-nil (λ n. 128 * n < length d)
+linked_in d top ids (around id before after ne lt l r) =
+    All-cons (λ n. 128 * n < length d) id (before ++ after) lt
+    (All-append (λ n. 128 * n < length d) before after (linked_in d (left (entry_at d id)) before l) (linked_in d (right (entry_at d id)) after r))
+
+module _ (file : List ℕ) (t : Tree) (d : Denotes file t) where
+  -- the FAT
+  pub fat_there : (h : HeaderValue) → h ≡ header_of file → IsFat file h.fat
+  fat_there h is =
+      let fat : IsFat file (listed file) = subst (IsFat file) d.laid_out.fat_listed d.laid_out.fat_sectors in
+      subst (λ (x : HeaderValue). IsFat file x.fat) (sym is) fat
+
+  chain : IsChain (sectors_of file (listed file)) (first_directory file) 0 d.layout.directory
+  chain = subst (λ (xs : List ℕ). IsChain (sectors_of file xs) (first_directory file) 0 d.layout.directory) d.laid_out.fat_listed d.laid_out.directory
+
+  -- the sectors of the directory, the mini FAT and the mini stream
+  apart : AreDistinct ((listed file ++ d.layout.directory) ++ (d.layout.mini_fat ++ d.layout.mini_stream))
+  apart =
+      let all : AreDistinct (d.layout.fat ++ d.layout.directory ++ d.layout.mini_fat ++ d.layout.mini_stream) =
+      distinct_left (d.layout.fat ++ d.layout.directory ++ d.layout.mini_fat ++ d.layout.mini_stream) d.used.sectors d.sectors_apart in
+      subst (λ (xs : List ℕ). AreDistinct ((xs ++ d.layout.directory) ++ (d.layout.mini_fat ++ d.layout.mini_stream))) d.laid_out.fat_listed
+      (subst AreDistinct (append_assoc (d.layout.fat ++ d.layout.directory) d.layout.mini_fat d.layout.mini_stream) all)
+
+  pub directory_there : (h : HeaderValue) (f : FatValue) → h ≡ header_of file → IsTableOf file h.fat f
+      → (ns : List ℕ) × IsChain (store_of f) h.first_directory 0 ns × AreFree f ns
+  directory_there h f is table =
+      let table' : IsTableOf file (listed file) f = subst (λ (x : HeaderValue). IsTableOf file x.fat f) is table in
+      let here : IsChain (store_of f) (first_directory file) 0 d.layout.directory =
+      chain_same (sectors_of file (listed file)) (store_of f) (same_back table'.sectors) (first_directory file) 0 d.layout.directory chain in
+      let below : All (λ n. n < length f.table) d.layout.directory = λ k x lt. (here.present k x lt).1 in (
+        d.layout.directory,
+        subst (λ (x : HeaderValue). IsChain (store_of f) x.first_directory 0 d.layout.directory) (sym is) here,
+        free_when f (listed file) d.layout.directory (marks_load file (listed file) f table')
+            (distinct_left (listed file ++ d.layout.directory) (d.layout.mini_fat ++ d.layout.mini_stream) apart) below,
+      )
+
+  module _ (fat : FatValue) (directory bytes : List ℕ) (o : IsOpened file fat directory bytes) where
+    same_directory : directory ≡ d.layout.directory
+    same_directory = chain_unique (sectors_of file (listed file)) (first_directory file) 0 directory d.layout.directory o.chain chain
+
+    same_bytes : bytes ≡ directory_of file d.layout
+    unfolding directory_of
+    same_bytes = o.bytes_are ∙ ap (joined (sector file)) same_directory
+
+    root_kind : kind (entry_at bytes 0) ≡ 5
+    root_kind = ap (λ x. kind (entry_at x 0)) same_bytes ∙ d.root
+
+    length_bytes : length bytes ≡ 512 * length directory
+    length_bytes = ap (λ (x : List ℕ). length x) o.bytes_are ∙ length_joined (sector file) 512 directory (λ n. length_block 512 file (512 + 512 * n))
+
+    pub load_not_refused : (fault : DirFault) → MayRefuseLoad bytes fault → fault ≡ NoMemory
+    load_not_refused NameEmpty r = absurd r
+    load_not_refused NameTooLong r = absurd r
+    load_not_refused NameNotAscii r = absurd r
+    load_not_refused NameForbidden r = absurd r
+    load_not_refused DuplicateName r = absurd r
+    load_not_refused BadEntry r = absurd (kind_inside bytes 0 4 root_kind (omega (arith, length_bytes, r)))
+    load_not_refused TreeCycle r = absurd r
+    load_not_refused TooNested r = absurd r
+    load_not_refused NoMemory r = refl
+
+    pub root_not_refused : (fault : DirFault) → MayRefuseEntry bytes 0 fault → ⊥
+    root_not_refused NameEmpty r = r.0 refl
+    root_not_refused NameTooLong r = r.0 refl
+    root_not_refused NameNotAscii r = r.0 refl
+    root_not_refused NameForbidden r = r.0 refl
+    root_not_refused DuplicateName r = r
+    root_not_refused BadEntry (inl le) = kind_inside bytes 0 4 root_kind le
+    root_not_refused BadEntry (inr (inl other)) = other root_kind
+    root_not_refused BadEntry (inr (inr odd)) = odd.0 refl
+    root_not_refused TreeCycle r = r
+    root_not_refused TooNested r = r
+    root_not_refused NoMemory r = r
+
+    pub mini_there : (h : HeaderValue) (first size : ℕ) → h ≡ header_of file → first ≡ first_of (entry_at bytes 0) → size ≡ size_of (entry_at bytes 0)
+        → IsMiniFound fat h.first_mini_fat h.mini_fat_count first size d.layout.mini_fat d.layout.mini_stream
+    mini_there h first size is f s =
+        let first_is : first ≡ first_of (root_of file d.layout) = f ∙ ap (λ x. first_of (entry_at x 0)) same_bytes in
+        let size_is : size ≡ size_of (root_of file d.layout) = s ∙ ap (λ x. size_of (entry_at x 0)) same_bytes in
+        let back : AreSame (sectors_of file (listed file)) (store_of fat) = same_back o.same in
+        let table : IsChainOf (store_of fat) (first_mini_fat file) (512 * mini_fat_count file) d.layout.mini_fat =
+        chain_of_same (sectors_of file (listed file)) (store_of fat) back (first_mini_fat file) (512 * mini_fat_count file) d.layout.mini_fat
+        (subst (λ (xs : List ℕ). IsChainOf (sectors_of file xs) (first_mini_fat file) (512 * mini_fat_count file) d.layout.mini_fat) d.laid_out.fat_listed d.laid_out.mini_fat) in
+        let stream : IsChainOf (store_of fat) first size d.layout.mini_stream =
+        chain_of_same (sectors_of file (listed file)) (store_of fat) back first size d.layout.mini_stream
+        (subst (λ (x : ℕ). IsChainOf (sectors_of file (listed file)) x size d.layout.mini_stream) (sym first_is)
+        (subst (λ (x : ℕ). IsChainOf (sectors_of file (listed file)) (first_of (root_of file d.layout)) x d.layout.mini_stream) (sym size_is)
+        (subst (λ (xs : List ℕ). IsChainOf (sectors_of file xs) (first_of (root_of file d.layout)) (size_of (root_of file d.layout)) d.layout.mini_stream)
+        d.laid_out.fat_listed d.laid_out.mini_stream))) in
+        let below : All (λ n. n < length fat.table) (d.layout.mini_fat ++ d.layout.mini_stream) =
+        All-append (λ n. n < length fat.table) d.layout.mini_fat d.layout.mini_stream
+        (chain_below (store_of fat) (first_mini_fat file) (512 * mini_fat_count file) d.layout.mini_fat table)
+        (chain_below (store_of fat) first size d.layout.mini_stream stream) in
+        record {
+          table = subst (λ (x : HeaderValue). IsChainOf (store_of fat) x.first_mini_fat (512 * x.mini_fat_count) d.layout.mini_fat) (sym is) table;
+          stream = stream;
+          free = free_when fat (listed file ++ directory) (d.layout.mini_fat ++ d.layout.mini_stream) o.marks
+              (subst (λ (xs : List ℕ). AreDistinct ((listed file ++ xs) ++ (d.layout.mini_fat ++ d.layout.mini_stream))) (sym same_directory) apart) below;
+        }
+
+-- the children of the root
+pub record AreThere (e : EntriesValue) (fat mini : FatValue) : Type 0 where
+  pub ids : List ℕ
+  pub cs : Children
+  pub fat_after : FatValue
+  pub mini_after : FatValue
+  pub sorted : AreSorted e 0 ids
+  pub is_read : AreRead e.directory ids cs fat mini fat_after mini_after
+
+module _ (file : List ℕ) (l : Layout) (fat mini : FatValue) (e : EntriesValue) (r : IsReady file l fat mini e.directory)
+    (loaded : e.used ≡ set_all (replicate (length e.directory / 128) false) (0 ∷ [])) where
+  unfolded : length (directory_of file l) ≡ 512 * length l.directory
+  unfolding directory_of
+  unfolded = length_joined (sector file) 512 l.directory (λ n. length_block 512 file (512 + 512 * n))
+
+  long : length e.directory ≡ 512 * length l.directory
+  long = ap (λ (x : List ℕ). length x) r.bytes_are ∙ unfolded
+
+  within : (n : ℕ) → 128 * n < length e.directory → n < length e.directory / 128
+  within n lt = omega (arith, long)
+
+  in_tree : (t : Tree) (used : Used) → Holds file l 0 t used → has_storage t ≡ false → IsTree 32 t
+      → AreDistinct (l.fat ++ l.directory ++ l.mini_fat ++ l.mini_stream ++ used.sectors) → AreDistinct used.minis → AreDistinct (0 ∷ used.ids)
+      → AreThere e fat mini
+  in_tree (tree class state cs) used h flat whole apart minis_apart ids_apart =
+      let ids : List ℕ = h.2.0 in
+      let ids_are : used.ids ≡ ids = held_ids file l ids cs used h.2.2 flat in
+      let more : (fat' : FatValue) × (mini' : FatValue) × AreRead (directory_of file l) ids cs fat mini fat' mini' =
+      held_read file l 32 ids cs used fat mini (l.fat ++ l.directory ++ l.mini_fat ++ l.mini_stream) [] r.same r.same_minis r.marks r.mini_marks h.2.2 flat whole apart minis_apart in
+      let back : directory_of file l ≡ e.directory = sym r.bytes_are in
+      let linked : AreLinked e.directory (child (entry_at e.directory 0)) h.2.1.reached =
+      subst (λ (x : List ℕ). AreLinked x (child (entry_at x 0)) h.2.1.reached) back h.2.1.linked in
+      let below : (n : ℕ) → Contains h.2.1.reached n → n ≢ 0 = λ n c z.
+      distinct-head 0 ids (subst (λ (xs : List ℕ). AreDistinct (0 ∷ xs)) ids_are ids_apart) (subst (Contains ids) z ((h.2.1.same n).0 c)) in
+      record {
+        ids = ids;
+        cs = cs;
+        fat_after = more.0;
+        mini_after = more.1;
+        sorted = record {
+          reached = h.2.1.reached;
+          linked = linked;
+          free = record {
+            free = all-from (IsFree e) h.2.1.reached (λ n c.
+                let lt : 128 * n < length e.directory = All-contains (λ m. 128 * m < length e.directory) h.2.1.reached n (linked_in e.directory (child (entry_at e.directory 0)) h.2.1.reached linked) c in
+                (lt, others_free e n loaded (below n c) (within n lt)));
+            once = h.2.1.once;
+          };
+          same = h.2.1.same;
+          ordered = subst (λ (x : List ℕ). IsStrictlySortedBy key_cmp (map (λ n. key (name_of (entry_at x n))) ids)) back h.2.1.ordered;
+        };
+        is_read = subst (λ (x : List ℕ). AreRead x ids cs fat mini more.0 more.1) back more.2;
+      }
+
+  pub children_there : (t : Tree) → Denotes file t → has_storage t ≡ false → AreThere e fat mini
+  children_there t d flat =
+      let same : d.layout ≡ l = layout_unique file d.layout l d.laid_out r.laid_out in
+      in_tree t d.used (subst (λ (x : Layout). Holds file x 0 t d.used) same d.holds) flat d.is_tree
+      (subst (λ (x : Layout). AreDistinct (x.fat ++ x.directory ++ x.mini_fat ++ x.mini_stream ++ d.used.sectors)) same d.sectors_apart) d.minis_apart d.ids_apart

@@ -1,0 +1,16 @@
+use Rattle.std.proofs.Common.{◌≡◌, List, ℕ, Bool, subst, arith, if◌then◌else◌}
+use Rattle.cfb_chain.specs.Fat.{IsFound}
+use Rattle.stream_io.proofs.ReadingRefused.{below, not_below, chain_memory}
+use Rattle.stream_io.proofs.read.Reader.read_stream.Goals as goal
+
+pub returns-in_err-bytes-clause-there : goal.returns-in_err-bytes-clause-there
+returns-in_err-bytes-clause-there c = λ ns found.
+    let P : Bool → Type 0 = λ b. IsFound (if b then c.args.self.now.mini else c.args.self.now.fat) c.args.first c.args.size ns in
+    chain_memory c.from_residual.result c.in_err-bytes.field-0.0 c.from_residual.ensures.1
+    (c.in_err-bytes.ensures.there ns (subst P (below c.args.size 4096 c.if-size-lt-CUTOFF.true) found))
+
+pub returns-in_err-bytes-2-clause-there : goal.returns-in_err-bytes-2-clause-there
+returns-in_err-bytes-2-clause-there c = λ ns found.
+    let P : Bool → Type 0 = λ b. IsFound (if b then c.args.self.now.mini else c.args.self.now.fat) c.args.first c.args.size ns in
+    chain_memory c.from_residual-in_err-bytes-2.result c.in_err-bytes-2.field-0.0 c.from_residual-in_err-bytes-2.ensures.1
+    (c.in_err-bytes-2.ensures.there ns (subst P (not_below c.args.size 4096 c.if-size-lt-CUTOFF.false) found))
