@@ -1,12 +1,12 @@
 -- A table's entries as they are kept.
-use Rattle.std.proofs.Common.{arith, rules, ◌≡◌, ◌≤◌, ◌<◌, ◌+◌, ◌*◌, ◌/◌, ◌%◌, ◌&&◌, ◌||◌, ◌++◌, ◌∙◌, ℕ, Bool, true, false, cond, nat_lt, nat_le, nat_eq, List, [], ◌∷◌, length, map, refl, ap, sym}
+use Rattle.std.proofs.Common.{arith, ◌≡◌, ◌≤◌, ◌<◌, ◌+◌, ◌*◌, ◌/◌, ◌%◌, ◌&&◌, ◌||◌, ◌++◌, ◌∙◌, ℕ, Bool, true, false, cond, nat_lt, nat_le, nat_eq, List, [], ◌∷◌, length, refl, ap, sym}
 use Rattle.std.specs.Prelude.{Option, Some, None, Result, Ok, Err, filter, not}
 use Rattle.std.specs.Cmp.{nat_cmp_is, unsigned_tied}
 use Rattle.std.specs.Global.{Vec}
 use Rattle.std.specs.List.{list_all, list_any}
 use Rattle.std.specs.Map.{lookup, remove_entry}
 use Rattle.std.specs.Option.{is_some}
-use Rattle.std.specs.Ordering.{nat_cmp, match_ordering, is_eq}
+use Rattle.std.specs.Ordering.{nat_cmp, match_ordering}
 use Rattle.std.specs.declared.cmp.Ordering.TheVariants.{Less, Equal, Greater}
 use Rattle.std.specs.BTreeMap as tree
 use Rattle.std.specs.BTreeMap.{insert_entry}
@@ -52,10 +52,10 @@ with-entry c text (e ∷ es) at =
     let front : Listing = (c, text.items) ∷ entry_at e ∷ entries_at es in
     ap (λ q. cond (nat_lt p q) front (cond (nat_eq p q) ((c, text.items) ∷ entries_at es) (entry_at e ∷ rest))) (place-at e.0)
     ∙ by_order (nat_lt p e.0) (nat_eq p e.0) front ((c, text.items) ∷ entries_at es) (entry_at e ∷ rest)
-        ((p, text) ∷ e ∷ es) ((e.0, text) ∷ es) (e ∷ insert_entry nat_cmp es p text)
-        (ap (λ k. (k, text.items) ∷ entry_at e ∷ entries_at es) (sym at))
-        (λ same. ap (λ k. (k, text.items) ∷ entries_at es) (sym at ∙ ap cell_at (eq_told p e.0 same)))
-        (ap (λ r. entry_at e ∷ r) (with-entry c text es at))
+    ((p, text) ∷ e ∷ es) ((e.0, text) ∷ es) (e ∷ insert_entry nat_cmp es p text)
+    (ap (λ k. (k, text.items) ∷ entry_at e ∷ entries_at es) (sym at))
+    (λ same. ap (λ k. (k, text.items) ∷ entries_at es) (sym at ∙ ap cell_at (eq_told p e.0 same)))
+    (ap (λ r. entry_at e ∷ r) (with-entry c text es at))
 
 -- the same test, of an entry as it is kept
 test-is : (c : Cell) (e : ℕ × Vec ℕ) → is_at c (entry_at e) ≡ tree.is_at (nat_cmp (cell_place c)) e.0
@@ -82,7 +82,7 @@ others c n (e ∷ es) h r =
     ap (λ b. cond (not b) (entry_at e ∷ left) left) (ne_eqb (cell_place c) m differs)
     ∙ ap (λ l. entry_at e ∷ l) (others c m es (omega arith) (second_of_both (nat_lt n m) (is_rising (places (entries_at (e ∷ es)))) r))
 
-pub rising-rest : (n : ℕ) (ns : List ℕ) → is_rising (n ∷ ns) ≡ true → is_rising ns ≡ true
+rising-rest : (n : ℕ) (ns : List ℕ) → is_rising (n ∷ ns) ≡ true → is_rising ns ≡ true
 rising-rest n [] r = refl
 rising-rest n (m ∷ ns) r = second_of_both (nat_lt n m) (is_rising (m ∷ ns)) r
 
@@ -100,10 +100,10 @@ without-entry c (e ∷ es) r =
     let m = cell_place (cell_at e.0) in
     ap (λ b. cond (not b) (entry_at e ∷ left) left) (test-is c e)
     ∙ by_test test (entry_at e ∷ left) left es (e ∷ remove_entry (tree.is_at (nat_cmp (cell_place c))) es)
-        (λ same.
-            let at : cell_place c ≡ m = eq_told (cell_place c) m (test-is c e ∙ same) in
-            others c m es (omega arith) r)
-        (ap (λ l. entry_at e ∷ l) (without-entry c es (rising-rest m (places (entries_at es)) r)))
+    (λ same.
+    let at : cell_place c ≡ m = eq_told (cell_place c) m (test-is c e ∙ same) in
+    others c m es (omega arith) r)
+    (ap (λ l. entry_at e ∷ l) (without-entry c es (rising-rest m (places (entries_at es)) r)))
 
 -- an entry behind all others is put to the end
 pub put-last : (k last : ℕ) (v : Vec ℕ) (es : Entries) → last < k → list_all (λ e. nat_le e.0 last) es ≡ true → insert_entry nat_cmp es k v ≡ es ++ (k, v) ∷ []
@@ -123,9 +123,9 @@ pub record IsPlaced (p : ℕ) (c : Cell) : Type 0 where
 pub placed : (p : ℕ) (c : Cell) → Some p ≡ place_of c → IsPlaced p c
 placed p c h =
     told_cond (λ (told : Option ℕ). Some p ≡ told → IsPlaced p c) (is_cell c) (Some (cell_place c)) None
-        (λ within told. let same : cell_place c ≡ p = cc in record { within = within; place = same })
-        (λ outside told. cc)
-        h
+    (λ within told. let same : cell_place c ≡ p = cc in record { within = within; place = same })
+    (λ outside told. cc)
+    h
 
 pub cell-placed : (p : ℕ) (c : Cell) → Some p ≡ place_of c → cell_at p ≡ c
 cell-placed p c h = let is = placed p c h in ap cell_at (sym is.place) ∙ at-place c is.within
@@ -175,9 +175,9 @@ pub set-stays : (p : ℕ) (c : Cell) (text : List ℕ) (v : Vec ℕ) (es : Entri
 set-stays p c text v es at same some fits printable h =
     let is = placed p c at in
     let entry : is_entry (c, text) ≡ true =
-        both (is_cell c) (is_cell_text text) is.within
-            (both (nat_le 1 (length text) && nat_le (length text) CELL_SIZE) (list_all is_printable text)
-                (both (nat_le 1 (length text)) (nat_le (length text) CELL_SIZE) (le_passes 1 (length text) some) (le_passes (length text) CELL_SIZE fits)) printable) in
+    both (is_cell c) (is_cell_text text) is.within
+    (both (nat_le 1 (length text) && nat_le (length text) CELL_SIZE) (list_all is_printable text)
+    (both (nat_le 1 (length text)) (nat_le (length text) CELL_SIZE) (le_passes 1 (length text) some) (le_passes (length text) CELL_SIZE fits)) printable) in
     ap (λ l. is_content (table l)) (sym (put p c text v es at same)) ∙ table-set c text (entries_at es) entry h
 
 -- what an edit of a cell of a table asks for

@@ -1,5 +1,5 @@
 -- Reading a table's entries.
-use Rattle.std.proofs.Common.{arith, rules, ◌≡◌, ◌≤◌, ◌<◌, ◌&&◌, ◌++◌, ◌∙◌, ℕ, Bool, true, false, cond, nat_lt, nat_le, nat_eq, List, [], ◌∷◌, length, map, refl, ap, sym, subst, append_assoc}
+use Rattle.std.proofs.Common.{arith, ◌≡◌, ◌≤◌, ◌<◌, ◌&&◌, ◌++◌, ◌∙◌, ℕ, Bool, true, false, cond, nat_lt, nat_le, List, [], ◌∷◌, length, refl, ap, sym, subst, append_assoc}
 use Rattle.std.specs.BTreeMap.{insert_entry}
 use Rattle.std.specs.Global.{Vec}
 use Rattle.std.specs.Option.{is_some}
@@ -12,18 +12,16 @@ use Rattle.std.proofs.lemmas.List.Splits.{join_with_byte-slice_split}
 use Rattle.embed_core.specs.Content.{Cell, Content, table, is_content, is_entry, is_cell, is_cell_text, is_rising, cell_place}
 use Rattle.embed_core.specs.Kinds.{Table}
 use Rattle.embed_core.specs.Objects.{load_told}
-use Rattle.embed_core.specs.Reading.{cell_of, content_of, each, entry_in, lines_of, whole_lines}
+use Rattle.embed_core.specs.Reading.{content_of, each, entry_in, lines_of, whole_lines}
 use Rattle.embed_core.specs.Words.{pieces, words}
 use Rattle.embed_core.specs.declared.fault.EmbedFault.{EmbedFault}
 use Rattle.embed_core.specs.declared.fault.EmbedFault.TheVariants.{BadContent}
-use Rattle.embed_core.proofs.Behind.{entry_in-rest}
 use Rattle.embed_core.proofs.Cuts.{pieces-known}
 use Rattle.embed_core.proofs.Staying.{places}
 use Rattle.embed_core.proofs.Passing.{both, first_of_both, second_of_both, told_cond, lt_passes, lt_told, le_passes, le_told}
 use Rattle.embed_table.specs.Listed.{behind, entries_of, sound}
 use Rattle.embed_table.specs.Placed.{cell_at, entry_at, entries_at, place_of}
-use Rattle.embed_table.proofs.Kept.{Entries, Listing, placed, cell-placed, place-at, put-last, rising-rest}
-
+use Rattle.embed_table.proofs.Kept.{Entries, Listing, placed, cell-placed, place-at, put-last}
 
 whole_lines-more : (l m : List ℕ) (more : List (List ℕ)) → whole_lines (l ∷ m ∷ more) ≡ option_map (λ ls. l ∷ ls) (whole_lines (m ∷ more))
 whole_lines-more [] m more = refl
@@ -37,7 +35,7 @@ lines-cut : (bytes l rest : List ℕ) → pieces 10 bytes ≡ l ∷ pieces 10 re
 lines-cut bytes l rest cut =
     ap whole_lines cut
     ∙ pieces-known 10 rest (λ found. whole_lines (l ∷ found)) (option_map (λ found. l ∷ found) (lines_of rest))
-        (λ p ps e. whole_lines-more l p ps ∙ ap (λ found. option_map (λ left. l ∷ left) (whole_lines found)) (sym e))
+    (λ p ps e. whole_lines-more l p ps ∙ ap (λ found. option_map (λ left. l ∷ left) (whole_lines found)) (sym e))
 
 each-first : (l : List ℕ) (o : Option (List (List ℕ))) (e : Cell × List ℕ) → read_in l ≡ Some e
     → option_and_then (each read_in) (option_map (λ ls. l ∷ ls) o) ≡ option_map (λ es. e ∷ es) (option_and_then (each read_in) o)
@@ -70,18 +68,18 @@ behind-unsound : (place : ℕ) (e : Cell × List ℕ) (o : Option Listing) → i
 behind-unsound place e None h = refl
 behind-unsound place e (Some es) h =
     told_cond (λ (told : Option Listing). told ≡ None) (is_rising (place ∷ places (e ∷ es)) && list_all is_entry (e ∷ es)) (Some (e ∷ es)) None
-        (λ passes. let yes = first_of_both (is_entry e) (list_all is_entry es) (second_of_both (is_rising (place ∷ places (e ∷ es))) (list_all is_entry (e ∷ es)) passes) in cc)
-        (λ fails. refl)
+    (λ passes. let yes = first_of_both (is_entry e) (list_all is_entry es) (second_of_both (is_rising (place ∷ places (e ∷ es))) (list_all is_entry (e ∷ es)) passes) in cc)
+    (λ fails. refl)
 
 behind-early : (place : ℕ) (e : Cell × List ℕ) (o : Option Listing) → cell_place e.0 ≤ place → behind place (option_map (λ es. e ∷ es) o) ≡ None
 behind-early place e None h = refl
 behind-early place e (Some es) h =
     told_cond (λ (told : Option Listing). told ≡ None) (is_rising (place ∷ places (e ∷ es)) && list_all is_entry (e ∷ es)) (Some (e ∷ es)) None
-        (λ passes.
-            let less : place < cell_place e.0 = lt_told place (cell_place e.0)
-                (first_of_both (nat_lt place (cell_place e.0)) (is_rising (places (e ∷ es))) (first_of_both (is_rising (place ∷ places (e ∷ es))) (list_all is_entry (e ∷ es)) passes)) in
-            absurd (omega arith))
-        (λ fails. refl)
+    (λ passes.
+    let less : place < cell_place e.0 = lt_told place (cell_place e.0)
+    (first_of_both (nat_lt place (cell_place e.0)) (is_rising (places (e ∷ es))) (first_of_both (is_rising (place ∷ places (e ∷ es))) (list_all is_entry (e ∷ es)) passes)) in
+    absurd (omega arith))
+    (λ fails. refl)
 
 four : (a b c d : Bool) → a ≡ true → c ≡ true → ((a && b) && (c && d)) ≡ (b && d)
 four true b true d s t = refl
@@ -95,7 +93,7 @@ behind-more place e (Some es) h less =
     let b = is_rising (cell_place e.0 ∷ places es) in
     let d = list_all is_entry es in
     let split : (t : Bool) → cond t (Some (e ∷ es)) None ≡ option_map (λ more. e ∷ more) (cond t (Some es) None) =
-        λ t. elim t as (λ t. cond t (Some (e ∷ es)) None ≡ option_map (λ more. e ∷ more) (cond t (Some es) None)) [ true ↦ refl | false ↦ refl ] in
+    λ t. elim t as (λ t. cond t (Some (e ∷ es)) None ≡ option_map (λ more. e ∷ more) (cond t (Some es) None)) [ true ↦ refl | false ↦ refl ] in
     ap (λ (t : Bool). cond t (Some (e ∷ es)) None) (four (nat_lt place (cell_place e.0)) b (is_entry e) d (lt_passes place (cell_place e.0) less) h)
     ∙ split (b && d)
 
@@ -112,8 +110,8 @@ entry-sound p c text o e at fits =
 pub text-unsound : (c : Cell) (text : List ℕ) (o : Option (Cell × List ℕ)) → Some (c, text) ≡ o → is_cell_text text ≡ false → None ≡ sound o
 text-unsound c text o e wrong =
     told_cond (λ (told : Option (Cell × List ℕ)). None ≡ told) (is_entry (c, text)) (Some (c, text)) None
-        (λ passes. let yes = second_of_both (is_cell c) (is_cell_text text) passes in cc)
-        (λ fails. refl)
+    (λ passes. let yes = second_of_both (is_cell c) (is_cell_text text) passes in cc)
+    (λ fails. refl)
     ∙ ap sound e
 
 record IsSound (o : Option (Cell × List ℕ)) (e : Cell × List ℕ) : Type 0 where
@@ -124,9 +122,9 @@ sound-told : (o : Option (Cell × List ℕ)) (e : Cell × List ℕ) → Some e �
 sound-told None e h = cc
 sound-told (Some d) e h =
     told_cond (λ (told : Option (Cell × List ℕ)). Some e ≡ told → IsSound (Some d) e) (is_entry d) (Some d) None
-        (λ passes told. let same : d ≡ e = cc in record { was = ap (λ x. Some x) same; is = ap is_entry (sym same) ∙ passes })
-        (λ fails told. cc)
-        h
+    (λ passes told. let same : d ≡ e = cc in record { was = ap (λ x. Some x) same; is = ap is_entry (sym same) ∙ passes })
+    (λ fails told. cc)
+    h
 
 -- no sound entry stands first
 pub first-bad : (place : ℕ) (bytes l rest : List ℕ) → pieces 10 bytes ≡ l ∷ pieces 10 rest → None ≡ sound (entry_in (words l))
@@ -136,9 +134,9 @@ first-bad place bytes l rest cut wrong =
     let cases : (o : Option (Cell × List ℕ)) → P o = λ o. elim o as P [
       | None ↦ λ none bad. ap (behind place) (entries-bad bytes l rest cut none)
       | Some e ↦ λ some bad.
-        let unsound : is_entry e ≡ false =
-            told_cond (λ (told : Option (Cell × List ℕ)). None ≡ told → is_entry e ≡ false) (is_entry e) (Some e) None (λ passes told. cc) (λ fails told. fails) bad in
-        ap (behind place) (entries-first bytes l rest e cut some) ∙ behind-unsound place e (entries_of rest) unsound
+          let unsound : is_entry e ≡ false =
+          told_cond (λ (told : Option (Cell × List ℕ)). None ≡ told → is_entry e ≡ false) (is_entry e) (Some e) None (λ passes told. cc) (λ fails told. fails) bad in
+          ap (behind place) (entries-first bytes l rest e cut some) ∙ behind-unsound place e (entries_of rest) unsound
     ] in
     cases (read_in l) refl wrong
 
@@ -172,7 +170,7 @@ further_on [] place at h all = refl
 further_on (e ∷ es) place at h all =
     let le : e.0 ≤ place = le_told e.0 place (first_of_both (nat_le e.0 place) (list_all (λ x. nat_le x.0 place) es) all) in
     both (nat_le e.0 at) (list_all (λ x. nat_le x.0 at) es) (le_passes e.0 at (omega arith))
-        (further_on es place at h (second_of_both (nat_le e.0 place) (list_all (λ x. nat_le x.0 place) es) all))
+    (further_on es place at h (second_of_both (nat_le e.0 place) (list_all (λ x. nat_le x.0 place) es) all))
 
 -- an entry is put behind those that were read
 pub collected : (cells new : Entries) (place at : ℕ) (text : List ℕ) (v : Vec ℕ) (o left whole : Option Listing)
@@ -182,7 +180,7 @@ pub collected : (cells new : Entries) (place at : ℕ) (text : List ℕ) (v : Ve
 collected cells new place at text v o left whole all late same is was so_far =
     let put : new ≡ cells ++ (at, v) ∷ [] = is ∙ put-last at place v cells late all in
     let entries : entries_at new ≡ entries_at cells ++ (cell_at at, text) ∷ [] =
-        ap entries_at put ∙ map-append entry_at cells ((at, v) ∷ []) ∙ ap (λ t. entries_at cells ++ (cell_at at, t) ∷ []) same in
+    ap entries_at put ∙ map-append entry_at cells ((at, v) ∷ []) ∙ ap (λ t. entries_at cells ++ (cell_at at, t) ∷ []) same in
     ap (λ l. option_map (λ es. l ++ es) left) entries ∙ moved (entries_at cells) (cell_at at, text) left
     ∙ ap (option_map (λ es. entries_at cells ++ es)) (sym was) ∙ so_far
 
@@ -198,44 +196,26 @@ content-entries : (o : Option (List (List ℕ)))
 content-entries None = refl
 content-entries (Some ls) = refl
 
-loaded-entries : (o : Option Listing) (es : Listing) → behind 0 o ≡ Some es → load_told (option_map table o) ≡ Ok (table es)
-loaded-entries None es h = cc
-loaded-entries (Some ds) es h =
-    let rising = is_rising (0 ∷ places ds) in
-    told_cond (λ (told : Option Listing). told ≡ Some es → load_told (Some (table ds)) ≡ Ok (table es)) (rising && list_all is_entry ds) (Some ds) None
-        (λ passes told.
-            let same : ds ≡ es = cc in
-            let content : is_content (table ds) ≡ true =
-                both (is_rising (places ds)) (list_all is_entry ds) (rising-rest 0 (places ds) (first_of_both rising (list_all is_entry ds) passes))
-                    (second_of_both rising (list_all is_entry ds) passes) in
-            ap (λ (b : Bool). cond {A = Result Content EmbedFault} b (Ok (table ds)) (Err BadContent)) content ∙ ap (λ l. Ok (table l)) same)
-        (λ fails told. cc)
-        h
-
 from_zero : (ds : Listing) → is_rising (places ds) ≡ true → list_all is_entry ds ≡ true → is_rising (0 ∷ places ds) ≡ true
 from_zero [] r h = refl
 from_zero (e ∷ ds) r h =
     let row : 1 ≤ e.0.row = le_told 1 e.0.row
-        (second_of_both (nat_lt e.0.column 26) (nat_le 1 e.0.row)
-            (first_of_both (nat_lt e.0.column 26 && nat_le 1 e.0.row) (nat_le e.0.row 99)
-                (first_of_both (is_cell e.0) (is_cell_text e.1) (first_of_both (is_entry e) (list_all is_entry ds) h)))) in
+    (second_of_both (nat_lt e.0.column 26) (nat_le 1 e.0.row)
+    (first_of_both (nat_lt e.0.column 26 && nat_le 1 e.0.row) (nat_le e.0.row 99)
+    (first_of_both (is_cell e.0) (is_cell_text e.1) (first_of_both (is_entry e) (list_all is_entry ds) h)))) in
     both (nat_lt 0 (cell_place e.0)) (is_rising (places (e ∷ ds))) (lt_passes 0 (cell_place e.0) (omega arith)) r
 
 not-loaded : (o : Option Listing) → is_some (behind 0 o) ≡ false → load_told (option_map table o) ≡ Err BadContent
 not-loaded None h = refl
 not-loaded (Some ds) h =
     told_cond (λ (told : Result Content EmbedFault). told ≡ Err BadContent) (is_content (table ds)) (Ok (table ds)) (Err BadContent)
-        (λ passes.
-            let r = first_of_both (is_rising (places ds)) (list_all is_entry ds) passes in
-            let all = second_of_both (is_rising (places ds)) (list_all is_entry ds) passes in
-            let found : is_some (behind 0 (Some ds)) ≡ true =
-                ap (λ b. is_some (cond b (Some ds) None)) (both (is_rising (0 ∷ places ds)) (list_all is_entry ds) (from_zero ds r all) all) in
-            cc)
-        (λ fails. refl)
-
--- what is loaded from bytes that are entries
-pub loaded : (bytes : List ℕ) (es : Listing) → behind 0 (entries_of bytes) ≡ Some es → load_told (content_of Table bytes) ≡ Ok (table es)
-loaded bytes es h = ap load_told (content-entries (lines_of bytes)) ∙ loaded-entries (entries_of bytes) es h
+    (λ passes.
+    let r = first_of_both (is_rising (places ds)) (list_all is_entry ds) passes in
+    let all = second_of_both (is_rising (places ds)) (list_all is_entry ds) passes in
+    let found : is_some (behind 0 (Some ds)) ≡ true =
+    ap (λ b. is_some (cond b (Some ds) None)) (both (is_rising (0 ∷ places ds)) (list_all is_entry ds) (from_zero ds r all) all) in
+    cc)
+    (λ fails. refl)
 
 -- nothing is loaded from others
 pub unloaded : (bytes : List ℕ) → is_some (behind 0 (entries_of bytes)) ≡ false → load_told (content_of Table bytes) ≡ Err BadContent

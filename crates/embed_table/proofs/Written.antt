@@ -1,9 +1,9 @@
 -- How a table's entries are written.
-use Rattle.std.proofs.Common.{arith, rules, ◌≡◌, ◌≤◌, ◌<◌, ◌+◌, ◌/◌, ◌%◌, ◌^◌, ◌++◌, ◌∙◌, ℕ, zero, suc, List, [], ◌∷◌, map, take, refl, ap, sym, append_assoc, append-nil}
+use Rattle.std.proofs.Common.{arith, ◌≡◌, ◌≤◌, ◌<◌, ◌+◌, ◌/◌, ◌%◌, ◌^◌, ◌++◌, ◌∙◌, ℕ, zero, suc, List, [], ◌∷◌, map, take, refl, ap, sym, append_assoc, append-nil}
 use Rattle.std.specs.Fmt.{decimal}
 use Rattle.std.specs.List.{flat_map}
 use Rattle.std.proofs.lemmas.Fmt.{decimal_digit, decimal_step}
-use Rattle.embed_core.specs.Content.{Cell, cell_bytes, entry_bytes}
+use Rattle.embed_core.specs.Content.{Cell, cell_bytes}
 use Rattle.embed_core.specs.Pictures.{cell_line, ended_line}
 use Rattle.embed_table.specs.Listed.{line_with}
 

@@ -8,9 +8,7 @@ ghost use Rattle.std.specs.Prelude.{[], ◌≡◌, IfErr, Ok, OnErr, OnOk};
 
 use crate::cell_name::CellName;
 use crate::edits::{self, TableEdit};
-use crate::entries;
-use crate::lines;
-use crate::text;
+use crate::{entries, lines, text};
 use embed_core::embedded::Embedded;
 use embed_core::fault::EmbedFault;
 use embed_core::tally::Tally;

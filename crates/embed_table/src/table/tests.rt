@@ -41,7 +41,12 @@ fn edits_change_cells(rt: HostRuntime) -> Result<(), Fail> {
         b"A1 x\nB2 hi\n".as_slice()
     );
     assert_eq!(rt; object.edit(rt.alloc(), b"c C3"), Err(EmbedFault::BadEdit));
-    for edit in [b"s Z99 end".as_slice(), b"s A10 j", b"s Z9  two words ", b"s A1 y"] {
+    for edit in [
+        b"s Z99 end".as_slice(),
+        b"s A10 j",
+        b"s Z9  two words ",
+        b"s A1 y",
+    ] {
         object.edit(rt.alloc(), edit)?;
     }
     assert_eq!(rt;
@@ -89,7 +94,10 @@ fn edits_that_are_none_are_bad(rt: HostRuntime) -> Result<(), Fail> {
     for edit in edits {
         assert_eq!(rt; object.edit(rt.alloc(), edit), Err(EmbedFault::BadEdit));
     }
-    assert_eq!(rt; saved(rt.alloc(), &object)?.as_slice(), b"A1 x\n".as_slice());
+    assert_eq!(rt;
+        saved(rt.alloc(), &object)?.as_slice(),
+        b"A1 x\n".as_slice()
+    );
     Ok(())
 }
 
@@ -167,7 +175,10 @@ fn a_table_takes_no_other_streams(rt: HostRuntime) -> Result<(), Fail> {
             Err(EmbedFault::BadContent)
         );
     }
-    assert_eq!(rt; saved(rt.alloc(), &object)?.as_slice(), b"A1 x\n".as_slice());
+    assert_eq!(rt;
+        saved(rt.alloc(), &object)?.as_slice(),
+        b"A1 x\n".as_slice()
+    );
     Ok(())
 }
 

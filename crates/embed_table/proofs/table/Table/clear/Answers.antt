@@ -12,10 +12,10 @@ invariant_of-self c = rw c.remove.ensures.entries (clear-stays c.in-Some.place (
 pub returns-clause-edited : goal.returns-clause-edited
 returns-clause-edited c = elim c.match-remove.branch [
   | in-Some-remove w ↦ (rw w.result-is
-    (ap (λ l. edited (clear (named c.args.cell)) (table l)) (sym c.self.view_is)
-    ∙ cleared c.in-Some.place (named c.args.cell) c.self.inside.cells.entries w.in-Some-remove.field-0 c.in-Some.ensures c.self.invariant
-        (sym c.remove.ensures.value ∙ w.in-Some-remove.is)
-    ∙ ap (λ es. Ok (table (entries_at es))) (sym c.remove.ensures.entries)))
+      (ap (λ l. edited (clear (named c.args.cell)) (table l)) (sym c.self.view_is)
+      ∙ cleared c.in-Some.place (named c.args.cell) c.self.inside.cells.entries w.in-Some-remove.field-0 c.in-Some.ensures c.self.invariant
+      (sym c.remove.ensures.value ∙ w.in-Some-remove.is)
+      ∙ ap (λ es. Ok (table (entries_at es))) (sym c.remove.ensures.entries)))
   | in-None w ↦ (rw w.result-is tt)
 ]
 
@@ -23,6 +23,6 @@ pub returns-clause-refused : goal.returns-clause-refused
 returns-clause-refused c = elim c.match-remove.branch [
   | in-Some-remove w ↦ (rw w.result-is tt)
   | in-None w ↦ (rw w.result-is
-    (ap (λ l. edited (clear (named c.args.cell)) (table l)) (sym c.self.view_is)
-    ∙ not_cleared c.in-Some.place (named c.args.cell) c.self.inside.cells.entries c.in-Some.ensures (sym c.remove.ensures.value ∙ w.in-None.is)))
+      (ap (λ l. edited (clear (named c.args.cell)) (table l)) (sym c.self.view_is)
+      ∙ not_cleared c.in-Some.place (named c.args.cell) c.self.inside.cells.entries c.in-Some.ensures (sym c.remove.ensures.value ∙ w.in-None.is)))
 ]

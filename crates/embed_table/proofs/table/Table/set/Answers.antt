@@ -13,7 +13,7 @@ invariant_of-self-2 c =
     let fits : length c.args.text.now ≤ CELL_SIZE = omega arith in
     let printable : list_all is_printable c.args.text.now ≡ true = sym c.if-not-is_printable.ensures in
     let stays = set-stays c.in-Some.place (named c.args.cell) c.args.text.now c.in_ok-from_slice.field-0 c.self.inside.cells.entries c.in-Some.ensures
-        c.in_ok-from_slice.ensures.items some fits printable c.self.invariant in
+    c.in_ok-from_slice.ensures.items some fits printable c.self.invariant in
     rw c.in_ok-insert.ensures.entries stays
 
 pub returns-clause-edited : goal.returns-clause-edited
@@ -23,5 +23,5 @@ returns-clause-edited c =
     let printable : list_all is_printable c.args.text.now ≡ true = sym c.if-not-is_printable.ensures in
     ap (λ l. edited (set (named c.args.cell) c.args.text.now) (table l)) (sym c.self.view_is)
     ∙ was_set c.in-Some.place (named c.args.cell) c.args.text.now c.in_ok-from_slice.field-0 c.self.inside.cells.entries c.in-Some.ensures
-        c.in_ok-from_slice.ensures.items some fits printable
+    c.in_ok-from_slice.ensures.items some fits printable
     ∙ ap (λ es. Ok (table (entries_at es))) (sym c.in_ok-insert.ensures.entries)
