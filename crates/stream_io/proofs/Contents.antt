@@ -1,24 +1,22 @@
 -- A file in which the parts of a tree are placed denotes the tree.
-use Rattle.std.proofs.Common.{◌≡◌, ◌<◌, ◌≤◌, ◌+◌, ◌-◌, ◌*◌, ◌/◌, ◌^◌, ◌||◌, ℕ, zero, suc, Bool, true, false, nat_lt, nat_le, cond, Result, Ok, Err, List, [], ◌∷◌, ◌++◌, length, take, drop, map, replicate, refl, sym, ◌∙◌, ap, subst, arith, length-append, lit<, lit≤, append_assoc}
+use Rattle.std.proofs.Common.{◌≡◌, ◌<◌, ◌≤◌, ◌+◌, ◌-◌, ◌*◌, ◌^◌, ℕ, suc, false, List, ◌∷◌, ◌++◌, length, drop, replicate, refl, sym, ◌∙◌, ap, subst, arith, length-append, lit≤, append_assoc}
 use Rattle.std.proofs.lemmas.List.{drop_at}
-use Rattle.std.proofs.lemmas.Bool.{leb-false}
 use Rattle.std.specs.List.Sorted.{IsStrictlySortedBy}
 use Rattle.cfb_directory.specs.Names.{key_cmp}
 use Rattle.std.specs.List.{concat, range_with_len, sum}
-use Rattle.cfb_chain.specs.Chain.{Store, AreDistinct}
+use Rattle.cfb_chain.specs.Chain.{AreDistinct}
 use Rattle.cfb_chain.specs.Fat.{mini_sectors_of}
-use Rattle.cfb_directory.specs.Entries.{entry_at, kind, child, class_of, state_of, first_of, size_of, NO_STREAM, root_name, AreLinked}
+use Rattle.cfb_directory.specs.Entries.{entry_at, kind, child, class_of, state_of, first_of, size_of, root_name, AreLinked}
 use Rattle.cfb_directory.specs.Written.{entry_bytes, free_entry_bytes}
-use Rattle.cfb_directory.specs.declared.write.EntryFields.{EntryFields}
 use Rattle.cfb_directory.proofs.Fields.{length-entry_bytes, kind-entry_bytes, child-entry_bytes, class_of-entry_bytes, state_of-entry_bytes, first_of-entry_bytes, size_of-entry_bytes}
-use Rattle.storage_tree.specs.Tree.{Tree, Children, tree, keys}
-use Rattle.storage_tree.specs.Whole.{IsTree, AreTrees}
-use Rattle.stream_io.specs.Need.{pieces, entries, mini_sectors, directory_sectors, mini_fat_sectors, mini_stream_sectors, data_sectors, fat_sectors}
-use Rattle.stream_io.specs.Image.{Parts, start, runs, padded, directory_count, mini_fat_need, mini_stream_count, mini_stream_start}
+use Rattle.storage_tree.specs.Tree.{Tree, Children, tree}
+use Rattle.storage_tree.specs.Whole.{IsTree}
+use Rattle.stream_io.specs.Need.{pieces, entries, mini_sectors, directory_sectors, mini_fat_sectors, mini_stream_sectors, data_sectors}
+use Rattle.stream_io.specs.Image.{Parts, start, runs, directory_count, mini_fat_need, mini_stream_count, mini_stream_start}
 use Rattle.stream_io.specs.Placed.{Fits, IsPlaced}
 use Rattle.stream_io.specs.Refusals.{has_storage, has_long}
-use Rattle.stream_io.specs.Denotes.{Layout, directory_of, root_of, minis, entry, AreChildren, Holds, Used, Denotes}
-use Rattle.stream_io.specs.Written.{NamedBytes, Links, streams, minis_of, root_fields, stream_entries, directory_bytes, parts}
+use Rattle.stream_io.specs.Denotes.{Layout, directory_of, minis, entry, AreChildren, Holds, Denotes}
+use Rattle.stream_io.specs.Written.{NamedBytes, Links, streams, minis_of, root_fields, stream_entries, parts}
 use Rattle.stream_io.proofs.ContentsMini.{length-padded_sector}
 use Rattle.stream_io.proofs.ContentsStore.{IsStore, AreAt, length-whole_minis, whole_minis}
 use Rattle.stream_io.proofs.ContentsEntries.{AllHaveRoom, AreRead, are-read, entry-begins, length-stream_entries, start-fits}

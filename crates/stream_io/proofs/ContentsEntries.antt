@@ -1,15 +1,14 @@
 -- What is read back from the entries of streams.
-use Rattle.std.proofs.Common.{◌≡◌, ◌<◌, ◌≤◌, ◌+◌, ◌-◌, ◌*◌, ◌/◌, ◌^◌, ℕ, zero, suc, List, [], ◌∷◌, ◌++◌, length, take, drop, map, replicate, refl, sym, ◌∙◌, ap, subst, arith, append_assoc, drop-drop, length-append, length-drop, lit<}
-use Rattle.std.proofs.lemmas.List.{drop_at, take_at, length-replicate}
-use Rattle.std.specs.List.{flat_map, range_with_len, sum}
+use Rattle.std.proofs.Common.{◌≡◌, ◌<◌, ◌≤◌, ◌+◌, ◌*◌, ◌^◌, ℕ, zero, suc, List, [], ◌∷◌, ◌++◌, length, drop, refl, sym, ◌∙◌, ap, subst, arith, append_assoc, drop-drop, length-append, lit<}
+use Rattle.std.proofs.lemmas.List.{drop_at, take_at}
 use Rattle.cfb_chain.specs.Bytes.{block}
-use Rattle.cfb_directory.specs.Entries.{entry_at, kind, left, right, child, class_of, state_of, first_of, size_of, name_of, IsNamed, NO_STREAM}
+use Rattle.cfb_directory.specs.Entries.{entry_at, kind, left, right, first_of, size_of, IsNamed}
 use Rattle.cfb_directory.specs.Written.{entry_bytes}
 use Rattle.cfb_directory.specs.declared.write.EntryFields.{EntryFields}
 use Rattle.cfb_directory.proofs.Fields.{length-entry_bytes, kind-entry_bytes, left-entry_bytes, right-entry_bytes, first_of-entry_bytes, size_of-entry_bytes, is_named-entry_bytes}
 use Rattle.stream_io.specs.Need.{pieces}
 use Rattle.stream_io.specs.Image.{start}
-use Rattle.stream_io.specs.Written.{NamedBytes, Links, stream_fields, stream_entries, minis_of}
+use Rattle.stream_io.specs.Written.{NamedBytes, Links, stream_fields, stream_entries}
 use Rattle.stream_io.proofs.ContentsMini.{block-drop, block-take}
 
 -- the entry at a place of the directory that begins with these bytes

@@ -1,5 +1,5 @@
 -- A file in which the entries and bytes of streams lie holds these streams.
-use Rattle.std.proofs.Common.{◌≡◌, ◌<◌, ◌≤◌, ◌+◌, ◌*◌, ℕ, zero, suc, Bool, true, false, cond, nat_lt, nat_le, ◌||◌, List, [], ◌∷◌, ◌++◌, length, take, map, refl, sym, ◌∙◌, ap, subst, arith}
+use Rattle.std.proofs.Common.{◌≡◌, ◌<◌, ◌+◌, ℕ, zero, suc, true, false, nat_le, List, [], ◌∷◌, ◌++◌, length, take, map, refl, sym, ◌∙◌, ap, subst, arith}
 use Rattle.std.proofs.lemmas.Bool.{leb-false, lt-ltb, or_parts}
 use Rattle.std.specs.Prelude.{if◌then◌else◌}
 use Rattle.std.specs.List.{range_with_len, sum, AllByRecursion}
@@ -8,13 +8,13 @@ use Rattle.std.specs.declared.cmp.Ordering.TheVariants.{Less}
 use Rattle.cfb_chain.specs.Bytes.{joined}
 use Rattle.cfb_chain.specs.Chain.{Store, IsChainOf}
 use Rattle.cfb_directory.specs.Names.{key, key_cmp}
-use Rattle.cfb_directory.specs.Entries.{entry_at, kind, first_of, size_of, name_of}
-use Rattle.storage_tree.specs.Tree.{Tree, Children, tree, none, stream, storage, keys}
+use Rattle.cfb_directory.specs.Entries.{first_of, size_of, name_of}
+use Rattle.storage_tree.specs.Tree.{Children, none, stream, storage, keys}
 use Rattle.storage_tree.specs.Whole.{AreAbove, AreTrees}
 use Rattle.stream_io.specs.Need.{pieces}
 use Rattle.stream_io.specs.Image.{start}
 use Rattle.stream_io.specs.Refusals.{has_storage_in, has_long_in}
-use Rattle.stream_io.specs.Denotes.{Layout, directory_of, minis, sectors, entry, store_for, HoldsBytes, IsCalled, HoldsEach, Used, nothing, both, taken}
+use Rattle.stream_io.specs.Denotes.{Layout, directory_of, minis, sectors, entry, store_for, HoldsBytes, HoldsEach, Used, nothing, both, taken}
 use Rattle.stream_io.specs.Written.{NamedBytes, Links, streams, minis_of}
 use Rattle.stream_io.proofs.ContentsMini.{mini_chain, mini_content}
 use Rattle.stream_io.proofs.ContentsStore.{AreAt, IsStore, are-lies, are-step, sum-cons}

@@ -1,12 +1,12 @@
 -- What the links of a search tree of entries reach.
-use Rattle.std.proofs.Common.{◌≡◌, ◌≢◌, ◌<◌, ◌≤◌, ◌+◌, ◌*◌, ◌↔◌, ◌⊎◌, inl, inr, ℕ, zero, suc, List, [], ◌∷◌, ◌++◌, length, refl, sym, ◌∙◌, ap, subst, arith}
+use Rattle.std.proofs.Common.{◌≡◌, ◌<◌, ◌≤◌, ◌+◌, ◌*◌, ◌↔◌, inl, inr, ℕ, zero, suc, List, [], ◌∷◌, ◌++◌, length, sym, ◌∙◌, ap, subst, arith}
 use Rattle.std.proofs.lemmas.Bool.{cases_order}
 use Rattle.std.proofs.lemmas.List.Elements.{Contains-append_left, Contains-append_right, Contains-append_cases}
 use Rattle.std.specs.List.{Contains, range_with_len}
 use Rattle.cfb_chain.specs.Chain.{AreDistinct}
 use Rattle.cfb_directory.specs.Entries.{AreLinked, nobody, around, entry_at, left, right, NO_STREAM}
 use Rattle.stream_io.specs.Need.{pieces}
-use Rattle.stream_io.specs.Written.{NamedBytes, Links, minis_of}
+use Rattle.stream_io.specs.Written.{NamedBytes, Links}
 use Rattle.stream_io.proofs.Lists.{Contains-cons_cases, Contains-front, Contains-behind}
 use Rattle.stream_io.proofs.ContentsLists.{distinct-nil, distinct-cons, distinct-append, contains_range}
 use Rattle.stream_io.proofs.ContentsEntries.{AreRead}

@@ -1,13 +1,12 @@
 -- Streams in the mini stream.
-use Rattle.std.proofs.Common.{◌≡◌, ◌<◌, ◌≤◌, ◌+◌, ◌-◌, ◌*◌, ◌/◌, ℕ, zero, suc, List, [], ◌∷◌, ◌++◌, length, take, drop, get_or, map, replicate, slice_index, refl, sym, ◌∙◌, ap, subst, arith, append_assoc, append-nil, drop-drop, length-append, length-drop}
-use Rattle.std.proofs.Math.Seq.{drop-append-add}
-use Rattle.std.proofs.lemmas.List.{drop-append-le, take-append-le, take_at, take_all, take-append-drop, length-replicate, length-take-le, drop_at}
+use Rattle.std.proofs.Common.{◌≡◌, ◌<◌, ◌≤◌, ◌+◌, ◌-◌, ◌*◌, ℕ, zero, suc, List, [], ◌∷◌, ◌++◌, length, take, drop, get_or, replicate, refl, sym, ◌∙◌, ap, subst, arith, append-nil, drop-drop, length-append, length-drop}
+use Rattle.std.proofs.lemmas.List.{drop-append-le, take-append-le, take_at, take-append-drop, length-replicate}
 use Rattle.std.proofs.lemmas.List.FromFn.{length-range_with_len, get_or-range_with_len}
-use Rattle.std.specs.List.{flat_map, range_with_len, All, sum}
+use Rattle.std.specs.List.{flat_map, range_with_len, All}
 use Rattle.cfb_chain.specs.Bytes.{block, joined}
-use Rattle.cfb_chain.specs.Chain.{Store, Leads, IsPresent, IsChain, IsChainOf, END_OF_CHAIN}
+use Rattle.cfb_chain.specs.Chain.{Store, Leads, IsPresent, IsChainOf, END_OF_CHAIN}
 use Rattle.stream_io.specs.Need.{pieces}
-use Rattle.stream_io.specs.Image.{run, runs, start, padded}
+use Rattle.stream_io.specs.Image.{run, start, padded}
 
 -- a block is read behind what is dropped
 pub block-drop : (w n m : ℕ) (xs : List ℕ) → block w xs (n + m) ≡ block w (drop n xs) m

@@ -1,10 +1,10 @@
 -- Streams one after another in pieces of one width: mini sectors, or sectors.
-use Rattle.std.proofs.Common.{◌≡◌, ◌<◌, ◌≤◌, ◌+◌, ◌-◌, ◌*◌, ◌/◌, ℕ, zero, suc, List, [], ◌∷◌, ◌++◌, length, take, drop, get_or, map, replicate, slice_index, refl, sym, ◌∙◌, ap, arith, append_assoc, drop-drop, length-append}
+use Rattle.std.proofs.Common.{◌≡◌, ◌<◌, ◌≤◌, ◌+◌, ◌-◌, ◌*◌, ℕ, zero, suc, List, [], ◌∷◌, ◌++◌, length, take, drop, get_or, replicate, slice_index, refl, sym, ◌∙◌, ap, arith, append_assoc, drop-drop, length-append}
 use Rattle.std.proofs.lemmas.List.{drop_at, get_or-drop, length-replicate}
 use Rattle.std.proofs.lemmas.List.FromFn.{length-range_with_len}
 use Rattle.std.proofs.Math.Nat.{mul-le-mul_left}
 use Rattle.std.proofs.Math.ListN.{get_or-append}
-use Rattle.std.specs.List.{flat_map, range_with_len, sum}
+use Rattle.std.specs.List.{range_with_len, sum}
 use Rattle.cfb_chain.specs.Bytes.{block, joined}
 use Rattle.cfb_chain.specs.Chain.{Store, IsChainOf}
 use Rattle.stream_io.specs.Need.{pieces}
@@ -27,7 +27,7 @@ width-512 = record { roomy = λ n. omega arith; empty = refl }
 -- pieces of a store from one on, by their part of its table and their bytes
 pub record IsStoreFrom (s : Store) (w base : ℕ) (table bytes : List ℕ) (count : ℕ) : Type 0 where
   pub width : s.width ≡ w
-  pub there : base + count ≤ s.count
+  pub there : 0 < count → base + count ≤ s.count
   pub few : base + count ≤ 0xFFFFFFFA
   pub piece : (m : ℕ) → m < count → s.piece (base + m) ≡ block w bytes (w * m)
   pub next : (m : ℕ) → m < count → s.next (base + m) ≡ slice_index table m
@@ -56,14 +56,14 @@ module _ (w : ℕ) (width : IsWidth w) where
       e ∙ (λ t. length-padded b t + length-whole bs t) ∙ sym m ∙ ap (λ x. w * x) (sym (sum-cons (pieces w (length b)) (pieces_of w bs)))
 
   chain_within : (s : Store) (at size n : ℕ) → s.width ≡ w → pieces w size ≡ n
-      → ((k : ℕ) → k < n → s.next (at + k) ≡ get_or (run at n) k 0) → at + n ≤ s.count → at + n ≤ 0xFFFFFFFA
+      → ((k : ℕ) → k < n → s.next (at + k) ≡ get_or (run at n) k 0) → (0 < n → at + n ≤ s.count) → at + n ≤ 0xFFFFFFFA
       → IsChainOf s (start at n) size (range_with_len at n)
   chain_within s at zero zero wide e next there few = refl
   chain_within s at zero (suc n) wide e next there few = absurd (omega (arith, width.empty))
   chain_within s at (suc size) zero wide e next there few = absurd (let z : w * 0 ≡ 0 = omega arith in let r : suc size ≤ w * pieces w (suc size) = width.roomy (suc size) in omega (arith, ap (λ x. w * x) e))
   chain_within s at (suc size) (suc n) wide e next there few = record {
     linked = leads_run s.next at (suc n) next (omega arith);
-    present = present_range s at (suc n) there few;
+    present = present_range s at (suc n) (there (omega arith)) few;
     enough = let r : suc size ≤ w * pieces w (suc size) = width.roomy (suc size) in
         let l : length (range_with_len at (suc n)) ≡ suc n = length-range_with_len at (suc n) in
         rw wide (omega (arith, ap (λ x. w * x) e, ap (λ x. w * x) l));
@@ -114,7 +114,7 @@ module _ (w : ℕ) (width : IsWidth w) where
               omega (arith, length-padded b)
 
       pub left-chain : IsChainOf s (start (base + done) n) (length b) (range_with_len (base + done) n)
-      left-chain = chain_within s (base + done) (length b) n is.width refl next-is (omega (arith, is.there, counted)) (omega (arith, is.few, counted))
+      left-chain = chain_within s (base + done) (length b) n is.width refl next-is (λ some. omega (arith, is.there (omega (arith, counted)), counted)) (omega (arith, is.few, counted))
 
       pub left-content : b ≡ take (length b) (joined s.piece (range_with_len (base + done) n))
       left-content =

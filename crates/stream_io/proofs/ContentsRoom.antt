@@ -1,18 +1,17 @@
 -- The numbers of a tree whose streams all lie below its root: how many entries and mini sectors, and that they fit.
-use Rattle.std.proofs.Common.{◌≡◌, ◌<◌, ◌≤◌, ◌+◌, ◌-◌, ◌*◌, ◌/◌, ◌^◌, ◌⊎◌, inl, inr, ℕ, zero, suc, Bool, true, false, nat_lt, nat_le, ◌||◌, List, [], ◌∷◌, ◌++◌, length, map, replicate, refl, sym, ◌∙◌, ap, subst, arith, length-append, lit<}
+use Rattle.std.proofs.Common.{◌≡◌, ◌<◌, ◌≤◌, ◌+◌, ◌*◌, ◌^◌, inl, inr, ℕ, zero, suc, true, false, nat_le, length, replicate, refl, sym, ◌∙◌, ap, subst, arith, length-append, lit<}
 use Rattle.std.proofs.lemmas.Bool.{leb-false, lt-ltb, or_parts, cases_order}
 use Rattle.std.specs.Prelude.{if◌then◌else◌}
 use Rattle.std.specs.List.{concat, sum}
-use Rattle.cfb_directory.specs.Entries.{NO_STREAM}
 use Rattle.cfb_directory.specs.Written.{free_entry_bytes}
 use Rattle.cfb_directory.proofs.Fields.{length-free_entry_bytes}
-use Rattle.storage_tree.specs.Tree.{Tree, Children, tree, none, stream, storage}
+use Rattle.storage_tree.specs.Tree.{Children, none, stream, storage}
 use Rattle.storage_tree.specs.Whole.{AreTrees}
 use Rattle.stream_io.specs.Need.{pieces, entries_of, over_streams_of, short_pieces}
 use Rattle.stream_io.specs.Refusals.{has_storage_in, has_long_in}
-use Rattle.stream_io.specs.Written.{NamedBytes, Links, streams, minis_of}
+use Rattle.stream_io.specs.Written.{Links, streams, minis_of}
 use Rattle.stream_io.proofs.ContentsStore.{sum-cons}
-use Rattle.stream_io.proofs.ContentsEntries.{AllHaveRoom, HaveRoom}
+use Rattle.stream_io.proofs.ContentsEntries.{AllHaveRoom}
 use Rattle.stream_io.proofs.ContentsLinks.{Spans, empty, split}
 
 true≢false : true ≡ false → ⊥

@@ -3,7 +3,6 @@ use Rattle.std.proofs.Common.{◌≡◌, ℕ, zero, suc, List}
 use Rattle.std.proofs.Math.Logic.{∥∥₁_elim}
 use denote.Struct.Props.{props}
 use Rattle.std.specs.Coded.{×_prop, Unit-prop}
-use Rattle.std.specs.declared.cmp.Ordering.{Ordering}
 use Rattle.std.specs.declared.cmp.Ordering.TheVariants.{Less}
 use Rattle.cfb_directory.specs.Names.{key_cmp}
 use Rattle.storage_tree.specs.Tree.{Tree, Children, tree, none, stream, storage}

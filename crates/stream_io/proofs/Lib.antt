@@ -10,6 +10,14 @@ pub mod ContentsRoom
 pub mod Contents
 pub mod ContentsWhole
 pub mod ContentsPieces
+pub mod ContentsIds
+pub mod ContentsRead
+pub mod ContentsNext
+pub mod ContentsTree
+pub mod ContentsAll
+pub mod ContentsBalanced
+pub mod ContentsWalk
+pub mod ContentsFamily
 pub mod Tables
 pub mod PlacedParts
 pub mod Placed
@@ -17,6 +25,7 @@ pub mod Balanced
 pub mod Refused
 pub mod Listed
 pub mod Denoted
+pub mod ContentsPush
 pub mod EmptyDocument
 pub mod ReadingLists
 pub mod ReadingRefused

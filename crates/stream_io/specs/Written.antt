@@ -1,5 +1,5 @@
 -- What is written of a tree whose streams all lie below its root (MS-CFB 2.4, 2.6.3).
-use Rattle.std.specs.Prelude.{◌≡◌, ◌+◌, ◌-◌, ◌*◌, ℕ, List, [], ◌∷◌, ◌++◌, length, map, replicate}
+use Rattle.std.specs.Prelude.{◌+◌, ◌-◌, ◌*◌, ℕ, List, [], ◌∷◌, ◌++◌, length, map, replicate}
 use Rattle.std.specs.List.{concat, flat_map}
 use Rattle.cfb_directory.specs.Entries.{NO_STREAM, root_name}
 use Rattle.cfb_directory.specs.Written.{entry_bytes, free_entry_bytes}

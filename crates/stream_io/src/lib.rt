@@ -1,9 +1,11 @@
 //! Whole compound files.
 #![tactic(auto)]
 
+mod entries;
 pub mod fault;
 pub mod law;
 pub mod read;
 #[cfg(test)]
 mod read_tests;
+mod streams;
 pub mod write;

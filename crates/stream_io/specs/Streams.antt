@@ -1,0 +1,23 @@
+-- What a child of a storage takes in the mini stream and in sectors.
+use Rattle.std.specs.Prelude.{ℕ, List, [], ◌∷◌, length, if◌then◌else◌, nat_lt}
+use Rattle.storage_tree.specs.Change.{Seen, bytes, inner}
+use Rattle.stream_io.specs.Need.{mini_sectors, long_sectors, short_pieces, long_pieces}
+use Rattle.stream_io.specs.Directory.{short_streams, long_streams}
+
+-- the mini sectors and sectors of a child
+abbrev pub minis_with : Seen → ℕ
+minis_with (bytes b) = short_pieces b
+minis_with (inner t) = mini_sectors t
+
+abbrev pub sectors_with : Seen → ℕ
+sectors_with (bytes b) = long_pieces b
+sectors_with (inner t) = long_sectors t
+
+-- a child's streams below 4,096 bytes, and its other ones
+abbrev pub short_within : Seen → List (List ℕ)
+short_within (bytes b) = if nat_lt (length b) 4096 then b ∷ [] else []
+short_within (inner t) = short_streams t
+
+abbrev pub long_within : Seen → List (List ℕ)
+long_within (bytes b) = if nat_lt (length b) 4096 then [] else b ∷ []
+long_within (inner t) = long_streams t
