@@ -21,9 +21,7 @@ pub mod ContentsFamily
 pub mod Tables
 pub mod PlacedParts
 pub mod Placed
-pub mod Balanced
 pub mod Refused
-pub mod Listed
 pub mod Denoted
 pub mod ContentsPush
 pub mod EmptyDocument
