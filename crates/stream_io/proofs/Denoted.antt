@@ -9,7 +9,7 @@ use Rattle.stream_io.specs.Image.{Parts, image}
 use Rattle.stream_io.specs.Placed.{Fits}
 use Rattle.stream_io.specs.View.{AreEnough}
 use Rattle.stream_io.specs.declared.entries.Counts.{Counts}
-use Rattle.stream_io.proofs.ContentsAll.{fits-tree, image-denotes}
+use Rattle.stream_io.proofs.Contents.{fits-tree, image-denotes}
 use Rattle.stream_io.proofs.ContentsBalanced.{are-balanced}
 
 module _ (c : Counts) (t : Tree) (are : AreEnough c t) (spelled : IsSpelled t) (whole : IsTree 32 t) where

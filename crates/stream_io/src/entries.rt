@@ -131,7 +131,7 @@ struct Cursor {
 }
 
 /// Where a run of so many sectors starts, which is nowhere where it is empty.
-fn chain_start(at: u32, count: u32) -> u32
+pub(crate) fn chain_start(at: u32, count: u32) -> u32
     ensures { result ≡ start at count }
 {
     if count == 0 { END_OF_CHAIN } else { at }

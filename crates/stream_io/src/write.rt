@@ -17,7 +17,7 @@ ghost use Rattle.stream_io.specs.Refusals.{Refuses, has_long, has_storage, writa
 ghost use Rattle.stream_io.specs.View.{AreEnough, seen};
 ghost use Rattle.storage_tree.specs.View.{view};
 
-use crate::entries::{Counts, count_below, push_directory};
+use crate::entries::{Counts, chain_start, count_below, push_directory};
 use crate::fault::WriteFault;
 use crate::streams::{count_minis, push_mini_counts, push_mini_stream};
 use cfb_chain::fat::END_OF_CHAIN;
@@ -120,13 +120,6 @@ fn table_sectors(len: usize) -> u32
     len.div_ceil(128) as u32
 }
 
-/// The sector that a run starts in, which is none where it is empty.
-fn start_of(at: u32, count: u32) -> u32
-    ensures { result ≡ start at count }
-{
-    if count == 0 { END_OF_CHAIN } else { at }
-}
-
 /// The parts of a file behind its FAT: the directory and the mini stream, each in whole sectors, and how many mini
 /// sectors each stream takes.
 #[derive(Drop)]
@@ -162,7 +155,7 @@ fn push_header(
 {
     let mut fat = Vec::new(alloc);
     push_range(&mut fat, 0, fat_count)?;
-    let first_mini_fat = start_of(fat_count + directory_count, mini_fat_count);
+    let first_mini_fat = chain_start(fat_count + directory_count, mini_fat_count);
     match Header::new(&fat, fat_count, first_mini_fat, mini_fat_count) {
         Ok(header) => out.extend_from_slice(&header.write())?,
         Err(_) => unreachable!(),
