@@ -1,10 +1,10 @@
 -- Bytes in blocks of one width.
-use Rattle.std.proofs.Common.{◌≡◌, ◌<◌, ◌≤◌, ◌+◌, ◌-◌, ◌*◌, ℕ, zero, suc, List, [], ◌∷◌, ◌++◌, length, take, drop, get_or, replicate, refl, sym, ◌∙◌, ap, subst, arith, append-nil, drop-drop, length-append, length-drop}
-use Rattle.std.proofs.lemmas.List.{drop-append-le, take-append-le, take_at, take-append-drop, length-replicate}
+use Rattle.std.proofs.Common.{◌≡◌, ◌<◌, ◌≤◌, ◌+◌, ◌-◌, ◌*◌, ℕ, zero, suc, List, [], ◌∷◌, ◌++◌, length, take, drop, get_or, replicate, refl, sym, ◌∙◌, ap, arith, append-nil, drop-drop, length-append, length-drop}
+use Rattle.std.proofs.lemmas.List.{drop-append-le, take-append-le, take_at, take-append-drop}
 use Rattle.std.proofs.lemmas.List.FromFn.{length-range_with_len, get_or-range_with_len}
 use Rattle.std.specs.List.{flat_map, range_with_len, All}
-use Rattle.cfb_chain.specs.Bytes.{block, joined}
-use Rattle.cfb_chain.specs.Chain.{Store, Leads, IsPresent, IsChainOf, END_OF_CHAIN}
+use Rattle.cfb_chain.specs.Bytes.{block}
+use Rattle.cfb_chain.specs.Chain.{Store, IsPresent}
 use Rattle.stream_io.specs.Need.{pieces}
 use Rattle.stream_io.specs.Image.{padded}
 

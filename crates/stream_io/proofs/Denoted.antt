@@ -1,5 +1,5 @@
 -- The file of a tree's parts denotes the tree.
-use Rattle.std.proofs.Common.{◌≡◌, ℕ}
+use Rattle.std.proofs.Common.{ℕ}
 use Rattle.std.proofs.Props.{props}
 use Rattle.storage_tree.specs.Tree.{Tree}
 use Rattle.storage_tree.specs.Whole.{IsTree}
