@@ -3,7 +3,6 @@ pub mod Unique
 pub mod ContentsBlocks
 pub mod ContentsKeys
 pub mod ContentsLists
-pub mod ContentsWhole
 pub mod ContentsPieces
 pub mod ContentsIds
 pub mod ContentsRead
