@@ -2,6 +2,7 @@
 use Rattle.std.proofs.Common.{◌≡◌, ◌<◌, ◌≤◌, ◌+◌, ◌-◌, ◌*◌, ℕ, zero, suc, List, [], ◌∷◌, ◌++◌, length, take, drop, get_or, replicate, slice_index, refl, sym, ◌∙◌, ap, arith, append_assoc, drop-drop, length-append}
 use Rattle.std.proofs.lemmas.List.{drop_at, get_or-drop, length-replicate}
 use Rattle.std.proofs.lemmas.List.FromFn.{length-range_with_len}
+use Rattle.std.proofs.lemmas.List.Sums.{sum_by-cons}
 use Rattle.std.proofs.Math.Nat.{mul-le-mul_left}
 use Rattle.std.proofs.Math.ListN.{get_or-append}
 use Rattle.std.specs.List.{range_with_len, sum}
@@ -10,8 +11,11 @@ use Rattle.cfb_chain.specs.Chain.{Store, IsChainOf}
 use Rattle.stream_io.specs.Need.{pieces}
 use Rattle.stream_io.specs.Image.{run, runs, start, padded}
 use Rattle.stream_io.specs.Directory.{pieces_of, whole_pieces}
-use Rattle.stream_io.proofs.ContentsMini.{block-drop, block-append, joined_blocks, take-padded, leads_run, length-run, present_range}
-use Rattle.stream_io.proofs.ContentsStore.{sum-cons}
+use Rattle.stream_io.proofs.ContentsBlocks.{block-drop, block-append, joined_blocks, take-padded, present_range}
+use Rattle.stream_io.proofs.Tables.{leads_run, length-run}
+
+pub sum-cons : (n : ℕ) (ns : List ℕ) → sum (n ∷ ns) ≡ n + sum ns
+sum-cons n ns = sum_by-cons (λ x. x) n ns
 
 -- a width of which so many pieces have room
 pub record IsWidth (w : ℕ) : Type 0 where

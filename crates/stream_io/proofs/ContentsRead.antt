@@ -1,7 +1,8 @@
 -- What is read back from the entries of a tree.
 use Rattle.std.proofs.Common.{◌≡◌, ◌<◌, ◌≤◌, ◌+◌, ◌*◌, ◌^◌, ℕ, zero, suc, true, false, nat_lt, List, ◌++◌, length, drop, get_or, refl, sym, ◌∙◌, ap, subst, arith, append_assoc, drop-drop, length-append, lit<}
-use Rattle.std.proofs.lemmas.List.{drop_at}
+use Rattle.std.proofs.lemmas.List.{drop_at, take_at}
 use Rattle.std.specs.Prelude.{if◌then◌else◌}
+use Rattle.cfb_chain.specs.Bytes.{block}
 use Rattle.cfb_directory.specs.Entries.{entry_at, kind, kind_number, left, right, child, class_of, state_of, first_of, size_of, IsNamed}
 use Rattle.cfb_directory.specs.Written.{entry_bytes}
 use Rattle.cfb_directory.specs.declared.write.EntryFields.{EntryFields}
@@ -11,8 +12,15 @@ use Rattle.storage_tree.specs.Whole.{AreTrees, IsTree}
 use Rattle.stream_io.specs.Need.{pieces, entries, entries_of, over_streams_of, mini_sectors, long_sectors, short_pieces, long_pieces}
 use Rattle.stream_io.specs.Image.{start}
 use Rattle.stream_io.specs.Directory.{Siblings, AreBalanced, ids_from, first_of_stream, child_of, class_in, state_in, stream_says, storage_says, entries_below, each_entry, IsSpelled, AreSpelled}
-use Rattle.stream_io.proofs.ContentsEntries.{entry-begins}
+use Rattle.stream_io.proofs.ContentsBlocks.{block-drop, block-take}
 use Rattle.stream_io.proofs.ContentsIds.{ids-below, top-fits, left-fits, right-fits}
+
+-- the entry at a place of the directory that begins with these bytes
+entry-begins : (directory entry rest : List ℕ) (id : ℕ) → length entry ≡ 128 → drop (128 * id) directory ≡ entry ++ rest → entry_at directory id ≡ entry
+entry-begins directory entry rest id wide e =
+    let z : 128 * id ≡ 128 * id + 0 = omega arith in
+    ap (block 128 directory) z ∙ block-drop 128 (128 * id) 0 directory ∙ ap (λ d. block 128 d 0) e
+    ∙ block-take 128 (entry ++ rest) (omega (arith, length-append entry rest)) ∙ take_at entry rest 128 wide
 
 -- numbers that an entry has room for
 pub record FieldsFit (name : List ℕ) (e : EntryFields) : Type 0 where

@@ -15,7 +15,8 @@ use Rattle.stream_io.specs.Need.{pieces, entries, entries_of, over_streams_of, m
 use Rattle.stream_io.specs.Image.{start}
 use Rattle.stream_io.specs.Denotes.{Layout, directory_of, minis, sectors, entry, store_for, HoldsBytes, AreChildren, Holds, HoldsEach, Used, nothing, both, taken, within}
 use Rattle.stream_io.specs.Directory.{Siblings, AreBalanced, ids_from, linked, first_of_stream, child_of, class_in, state_in, stream_says, short_streams, short_streams_of, long_streams, long_streams_of}
-use Rattle.stream_io.proofs.ContentsHolds.{keys-ordered, range-append}
+use Rattle.stream_io.proofs.Tables.{range-append}
+use Rattle.stream_io.proofs.ContentsKeys.{keys-ordered}
 use Rattle.stream_io.proofs.ContentsIds.{ids-below, ids-increase, count-le, reached-same}
 use Rattle.stream_io.proofs.ContentsRead.{Says, SaidBelow, AreSaid}
 use Rattle.stream_io.proofs.ContentsPieces.{IsStoreFrom, width-64, width-512}
@@ -209,7 +210,7 @@ module _ (file : List ℕ) (l : Layout) (links : ℕ → Siblings) (balanced : A
     ids-after : (id a b : ℕ) → range_with_len id (1 + a + b) ≡ id ∷ (range_with_len (id + 1) a ++ range_with_len (id + 1 + a) b)
     ids-after id a b =
         let e : 1 + a + b ≡ suc (a + b) = omega arith in
-        ap (range_with_len id) e ∙ ap (λ ns. id ∷ ns) (range-append (id + 1) a b)
+        ap (range_with_len id) e ∙ ap (λ ns. id ∷ ns) (sym (range-append (id + 1) a b))
 
     id-after : (id b : ℕ) → range_with_len id (1 + b) ≡ id ∷ range_with_len (id + 1) b
     id-after id b = let e : 1 + b ≡ suc b = omega arith in ap (range_with_len id) e
@@ -247,8 +248,8 @@ module _ (file : List ℕ) (l : Layout) (links : ℕ → Siblings) (balanced : A
             used = both u rest.used;
             holds = (said.0.held, record { named = said.0.named; under_key = whole.0.under_key }, (one.ns, rest.used, one.holds, refl, rest.holds));
             ids = (λ i. one.ids i ++ rest.ids i) ∙ sym (id-after id (entries_of cs));
-            mini_sectors_used = (λ i. one.minis_taken i ++ rest.mini_sectors_used i) ∙ sym (range-append mini (short_pieces b) (over_streams_of short_pieces cs));
-            sectors_used = (λ i. one.sectors_taken i ++ rest.sectors_used i) ∙ sym (range-append sector (long_pieces b) (over_streams_of long_pieces cs));
+            mini_sectors_used = (λ i. one.minis_taken i ++ rest.mini_sectors_used i) ∙ range-append mini (short_pieces b) (over_streams_of short_pieces cs);
+            sectors_used = (λ i. one.sectors_taken i ++ rest.sectors_used i) ∙ range-append sector (long_pieces b) (over_streams_of long_pieces cs);
           }
       each-held zero ids place id mini sector (storage k n t cs) more more' whole said small next next' = absurd whole
       each-held (suc depth) ids place id mini sector (storage k n t cs) more more' whole said small next next' =
@@ -265,6 +266,6 @@ module _ (file : List ℕ) (l : Layout) (links : ℕ → Siblings) (balanced : A
             used = both (within id inner.used) rest.used;
             holds = (said.0.held, record { named = said.0.named; under_key = whole.0.under_key }, (inner.used, rest.used, inner.holds, refl, rest.holds));
             ids = (λ i. id ∷ (inner.ids i ++ rest.ids i)) ∙ sym (ids-after id (entries t) (entries_of cs));
-            mini_sectors_used = (λ i. inner.mini_sectors_used i ++ rest.mini_sectors_used i) ∙ sym (range-append mini (mini_sectors t) (over_streams_of short_pieces cs));
-            sectors_used = (λ i. inner.sectors_used i ++ rest.sectors_used i) ∙ sym (range-append sector (long_sectors t) (over_streams_of long_pieces cs));
+            mini_sectors_used = (λ i. inner.mini_sectors_used i ++ rest.mini_sectors_used i) ∙ range-append mini (mini_sectors t) (over_streams_of short_pieces cs);
+            sectors_used = (λ i. inner.sectors_used i ++ rest.sectors_used i) ∙ range-append sector (long_sectors t) (over_streams_of long_pieces cs);
           }

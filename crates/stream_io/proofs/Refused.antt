@@ -1,15 +1,10 @@
--- What a root without storages is refused for, by how many children and mini sectors it has.
-use Rattle.std.proofs.Common.{◌≡◌, ◌≤◌, ◌<◌, ◌+◌, ◌*◌, ◌||◌, min, ℕ, true, false, nat_le, nat_lt, cond, Ok, Err, List, [], ◌∷◌, length, map, refl, sym, ◌∙◌, ap, arith}
+-- What a root without storages is refused for, by how many entries and mini sectors it has.
+use Rattle.std.proofs.Common.{◌≡◌, ◌≤◌, ◌<◌, ◌+◌, ◌*◌, ◌||◌, min, ℕ, true, false, nat_le, nat_lt, cond, Ok, Err, [], ◌∷◌, length, refl, ◌∙◌, ap, arith}
 use Rattle.std.proofs.lemmas.Bool.{leb-false, lt-ltb, le-ltb, or_parts}
-use Rattle.std.proofs.lemmas.List.{length-map}
 use Rattle.std.specs.Prelude.{if◌then◌else◌}
-use Rattle.storage_tree.specs.declared.storage.Storage.{Storage}
-use Rattle.storage_tree.specs.View.{view, children, children_of, shown}
-use Rattle.storage_tree.specs.declared.storage.Node.{Node}
-use Rattle.storage_tree.specs.Change.{Seen, bytes, inner}
-use Rattle.storage_tree.proofs.Entries.{view-out}
 use Rattle.storage_tree.specs.Tree.{Tree, Children, tree, none, stream, storage}
-use Rattle.stream_io.specs.Need.{pieces, entries, entries_of, over_streams_of, long_pieces, mini_sectors, data_sectors, fat_sectors}
+use Rattle.stream_io.specs.Directory.{long_streams, long_streams_of}
+use Rattle.stream_io.specs.Need.{pieces, entries, over_streams_of, long_pieces, mini_sectors, data_sectors, fat_sectors}
 use Rattle.stream_io.specs.Refusals.{has_long, has_long_in, has_storage, has_storage_in, writable}
 use Rattle.stream_io.specs.declared.fault.WriteFault.TheVariants.{TooBig, WrongKind}
 
@@ -26,9 +21,20 @@ no_long (stream k n b cs) flat short =
     omega (arith, one, no_long cs flat parts.1)
 no_long (storage k n t cs) flat short = absurd (true≢false flat)
 
+no_long_streams : (cs : Children) → has_storage_in cs ≡ false → has_long_in cs ≡ false → long_streams_of cs ≡ []
+no_long_streams none flat short = refl
+no_long_streams (stream k n b cs) flat short =
+    let parts : _ = or_parts (nat_le 4096 (length b)) (has_long_in cs) short in
+    let less : length b < 4096 = leb-false 4096 (length b) parts.0 in
+    ap (λ c. if c then long_streams_of cs else (b ∷ long_streams_of cs)) (lt-ltb (length b) 4096 less) ∙ no_long_streams cs flat parts.1
+no_long_streams (storage k n t cs) flat short = absurd (true≢false flat)
+
+pub all_short : (t : Tree) → has_storage t ≡ false → has_long t ≡ false → long_streams t ≡ []
+all_short (tree class state cs) flat short = no_long_streams cs flat short
+
 -- what one FAT sector is to cover
 abbrev pub needed : ℕ → ℕ → ℕ
-needed children minis = pieces 4 (1 + children) + pieces 128 minis + pieces 512 (64 * minis)
+needed entries minis = pieces 4 (1 + entries) + pieces 128 minis + pieces 512 (64 * minis)
 
 pub data_is : (t : Tree) → has_storage t ≡ false → has_long t ≡ false → data_sectors t ≡ needed (entries t) (mini_sectors t)
 data_is (tree class state cs) flat short = omega (arith, no_long cs flat short)
@@ -47,26 +53,14 @@ room_says t flat short =
     flat_says t flat ∙ ap (λ b. cond (b || nat_lt 1 (fat_sectors (data_sectors t))) (Err TooBig) (Ok tt)) short
     ∙ ap (λ d. cond (nat_lt 1 (fat_sectors d)) (Err TooBig) (Ok tt)) (data_is t flat short)
 
-pub refused_room : (t : Tree) → has_storage t ≡ false → has_long t ≡ false → 127 < needed (min 65536 (entries t)) (min 65536 (mini_sectors t))
+pub refused_room : (t : Tree) → has_storage t ≡ false → has_long t ≡ false → 127 < needed (min 1048576 (entries t)) (min 1048576 (mini_sectors t))
     → writable t ≡ Err TooBig
 refused_room t flat short h =
     let more : 1 < fat_sectors (needed (entries t) (mini_sectors t)) = omega arith in
     room_says t flat short ∙ ap (λ b. cond b (Err TooBig) (Ok tt)) (lt-ltb 1 (fat_sectors (needed (entries t) (mini_sectors t))) more)
 
-pub allowed_room : (t : Tree) → has_storage t ≡ false → has_long t ≡ false → needed (min 65536 (entries t)) (min 65536 (mini_sectors t)) ≤ 127
+pub allowed_room : (t : Tree) → has_storage t ≡ false → has_long t ≡ false → needed (min 1048576 (entries t)) (min 1048576 (mini_sectors t)) ≤ 127
     → writable t ≡ Ok tt
 allowed_room t flat short h =
     let few : fat_sectors (needed (entries t) (mini_sectors t)) ≤ 1 = omega arith in
     room_says t flat short ∙ ap (λ b. cond b (Err TooBig) (Ok tt)) (le-ltb 1 (fat_sectors (needed (entries t) (mini_sectors t))) few)
-
--- each child of a root without storages is one entry
-counted_seen : (xs : List (List ℕ × (List ℕ × Seen))) → has_storage_in (children_of xs) ≡ false → entries_of (children_of xs) ≡ length xs
-counted_seen [] flat = refl
-counted_seen ((k, (n, bytes b)) ∷ xs) flat = omega (arith, counted_seen xs flat)
-counted_seen ((k, (n, inner t)) ∷ xs) flat = absurd (true≢false flat)
-
-entries_counted : (es : List (List ℕ × (List ℕ × Node))) → has_storage_in (children es) ≡ false → entries_of (children es) ≡ length es
-entries_counted es flat = counted_seen (map (λ e. (e.0, shown e.1)) es) flat ∙ length-map es (λ e. (e.0, shown e.1))
-
-pub root_counted : (s : Storage) → has_storage (view s) ≡ false → entries (view s) ≡ length s.children.entries
-root_counted s flat = ap entries (view-out s) ∙ entries_counted s.children.entries (sym (ap has_storage (view-out s)) ∙ flat)

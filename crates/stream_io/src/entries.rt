@@ -6,7 +6,7 @@ ghost use Rattle.std.specs.List.{concat};
 ghost use Rattle.std.specs.Vec.{vec_len};
 ghost use Rattle.storage_tree.specs.View.{seen, view};
 ghost use Rattle.stream_io.specs.Need.{entries, long_sectors};
-ghost use Rattle.stream_io.specs.Family.{AreCounts, AreSmall, IsBelow, IsChildSpelled, IsFamily, IsJoined, child_entries, past, past_all, sibling_entries};
+ghost use Rattle.stream_io.specs.Family.{AreCounts, IsBelow, IsChildSpelled, IsFamily, IsJoined, child_entries, past, past_all, sibling_entries};
 ghost use Rattle.storage_tree.specs.Change.{bytes as seen_bytes};
 ghost use Rattle.stream_io.specs.Image.{start};
 ghost use Rattle.stream_io.specs.Directory.{AreSpelled, IsSpelled, balanced as balanced_links, children_in, entries_with, first_of_stream, directory_of_tree, ids_from, long_start, root_says, storage_says, stream_says};
@@ -25,7 +25,7 @@ const MANY: u32 = 0x10_0000;
 
 /// How many entries a storage has below its own, or the bound where it has more.
 #[cycle(count_entries)]
-fn count_below(storage: &Storage) -> u32
+pub(crate) fn count_below(storage: &Storage) -> u32
     ensures { result ≡ min 1048576 (entries (view storage.now)) }
 {
     let mut count: u32 = 0;
@@ -131,7 +131,7 @@ struct Cursor {
 }
 
 /// Where a run of so many sectors starts, which is nowhere where it is empty.
-fn chain_start(at: u32, count: u32) -> u32
+pub(crate) fn chain_start(at: u32, count: u32) -> u32
     ensures { result ≡ start at count }
 {
     if count == 0 { END_OF_CHAIN } else { at }
@@ -291,19 +291,19 @@ fn push_child(
 
 /// What the counts of a tree say of its file: how many FAT sectors, entries below the root and mini sectors it has.
 #[derive(Debug, Clone, Copy, PartialEq, Eq)]
-struct Counts {
-    fat: u32,
-    entries: u32,
-    minis: u32,
+pub(crate) struct Counts {
+    pub(crate) fat: u32,
+    pub(crate) entries: u32,
+    pub(crate) minis: u32,
 }
 
 impl Counts {
-    ghost use Rattle.std.specs.Prelude.{◌≡◌, ◌*◌, ◌+◌};
+    ghost use Rattle.std.specs.Prelude.{◌≡◌, ◌≤◌, ◌*◌, ◌+◌};
     ghost use Rattle.stream_io.specs.Need.{pieces};
 
     /// The sectors of the directory.
     fn directory_sectors(self) -> u32
-        requires { AreSmall self }
+        requires { self.entries ≤ 1048576 }
         ensures { result ≡ pieces 4 (1 + self.entries) }
     {
         (1 + self.entries).div_ceil(4)
@@ -311,7 +311,7 @@ impl Counts {
 
     /// The sectors of the mini FAT.
     fn mini_fat_sectors(self) -> u32
-        requires { AreSmall self }
+        requires { self.minis ≤ 1048576 }
         ensures { result ≡ pieces 128 self.minis }
     {
         self.minis.div_ceil(128)
@@ -319,10 +319,19 @@ impl Counts {
 
     /// The sectors of the mini stream.
     fn mini_stream_sectors(self) -> u32
-        requires { AreSmall self }
+        requires { self.minis ≤ 1048576 }
         ensures { result ≡ pieces 512 (64 * self.minis) }
     {
         (64 * self.minis).div_ceil(512)
+    }
+
+    /// The sectors of all of these.
+    pub(crate) fn data_sectors(self) -> u32
+        requires few_entries { self.entries ≤ 1048576 }
+        requires few_minis { self.minis ≤ 1048576 }
+        ensures { result ≡ pieces 4 (1 + self.entries) + pieces 128 self.minis + pieces 512 (64 * self.minis) }
+    {
+        self.directory_sectors() + self.mini_fat_sectors() + self.mini_stream_sectors()
     }
 }
 
@@ -361,7 +370,7 @@ fn push_unused(out: &mut Vec<u8>, count: u32) -> Result<(), AllocError>
 /// Adds the directory of a tree: the root, what is below it, and unused entries up to a whole sector.
 ///
 /// Where no memory is left, a part of it may have been added.
-fn push_directory(
+pub(crate) fn push_directory(
     alloc: Global,
     out: &mut Vec<u8>,
     root: &Storage,

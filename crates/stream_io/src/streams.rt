@@ -100,7 +100,7 @@ fn push_long_child(out: &mut Vec<u8>, child: &Node) -> Result<(), AllocError>
 
 /// How many mini sectors the streams below a storage take, or the bound where they take more.
 #[cycle(count_minis)]
-fn count_minis(storage: &Storage) -> usize
+pub(crate) fn count_minis(storage: &Storage) -> usize
     ensures { result ≡ min 1048576 (mini_sectors (view storage.now)) }
 {
     let mut count: usize = 0;
@@ -159,7 +159,7 @@ fn count_sectors_with(child: &Node) -> usize
 /// Adds the mini stream of a tree, in whole sectors.
 ///
 /// Where no memory is left, a part of it may have been added.
-fn push_mini_stream(out: &mut Vec<u8>, root: &Storage) -> Result<(), AllocError>
+pub(crate) fn push_mini_stream(out: &mut Vec<u8>, root: &Storage) -> Result<(), AllocError>
     ensures { OnOk result (out.new.items ≡ out.old.items ++ padded 512 (whole_pieces 64 (short_streams (view root.now)))) }
 {
     let before = out.len();
@@ -172,7 +172,7 @@ fn push_mini_stream(out: &mut Vec<u8>, root: &Storage) -> Result<(), AllocError>
 /// Adds how many mini sectors each stream below a storage takes that is shorter than 4,096 bytes, in the order of their
 /// entries.
 #[cycle(push_mini_counts)]
-fn push_mini_counts(counts: &mut Vec<u32>, storage: &Storage) -> Result<(), AllocError>
+pub(crate) fn push_mini_counts(counts: &mut Vec<u32>, storage: &Storage) -> Result<(), AllocError>
     ensures { OnOk result (counts.new.items ≡ counts.old.items ++ pieces_of 64 (short_streams (view storage.now))) }
 {
     for (_, child) in storage.children.iter() {

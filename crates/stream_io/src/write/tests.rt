@@ -1,8 +1,10 @@
 use super::*;
 use crate::read::read_file;
 use cfb_directory::fault::DirFault;
+use cfb_directory::name::Name;
 use std::process::Abort;
 use std::test::Fail;
+use storage_tree::bytes::Bytes;
 use storage_tree::class_id::ClassId;
 use storage_tree::storage::Found;
 

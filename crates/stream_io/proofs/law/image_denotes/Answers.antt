@@ -1,4 +1,4 @@
-use Rattle.stream_io.proofs.ContentsAll.{image-denotes}
+use Rattle.stream_io.proofs.Contents.{image-denotes}
 use Rattle.stream_io.proofs.law.image_denotes.Goals as goal
 
 pub returns : goal.returns

@@ -1,4 +1,4 @@
-use Rattle.stream_io.proofs.ContentsAll.{placed-denotes}
+use Rattle.stream_io.proofs.Contents.{placed-denotes}
 use Rattle.stream_io.proofs.law.placed_denotes.Goals as goal
 
 pub returns : goal.returns
