@@ -1,0 +1,8 @@
+//! A container: its frames and objects, what it does with commands and messages, and its saves.
+#![tactic(auto)]
+
+pub mod answer;
+pub mod command;
+pub mod container;
+pub mod fault;
+pub mod record;

@@ -1,0 +1,3 @@
+pub mod Server
+pub mod View
+pub mod Laws
