@@ -1,0 +1,25 @@
+-- What an activation does with an operation, where it is open.
+use Rattle.std.specs.Prelude.{◌≡◌, ℕ, Option, Some, None, option_map, Result, Ok, Err}
+use Rattle.object_state.specs.declared.both_states.States.{States}
+use Rattle.storage_tree.specs.declared.stored.Stored.{Stored}
+use Rattle.embed_core.specs.Content.{Content}
+use Rattle.wire_msgs.specs.declared.operation.Operation.{Operation}
+use Rattle.wire_msgs.specs.declared.answer.Answer.{Answer}
+use Rattle.server_core.specs.declared.counted.Counted.{Counted}
+use Rattle.server_core.specs.declared.fault.ServerFault.{ServerFault}
+use Rattle.server_core.specs.declared.fault.ServerFault.TheVariants.{Ignored}
+use Rattle.server_core.specs.Server.{Activation, Acted, does, stored_of}
+
+-- an operation that the tables take
+abbrev pub does_open : Activation → States → Operation → Option Content → Result Acted ServerFault
+does_open a v op None = Err Ignored
+does_open a v op (Some c) = Ok (does a c v op)
+
+-- what is stored of the content
+abbrev pub stored_open : Option Content → Result Stored ServerFault
+stored_open None = Err Ignored
+stored_open (Some c) = Ok (stored_of c)
+
+-- the activation after a call, the answer, and the save that was counted
+abbrev pub Acts : Result Acted ServerFault → Activation → Answer → Option Counted → Type 0
+Acts told after answer counted = told ≡ Ok (record { activation = after; answer = answer; counted = counted })
