@@ -2,7 +2,9 @@
 #![tactic(auto)]
 
 mod activation;
+mod calls;
 pub mod counted;
 pub mod facts;
 pub mod fault;
+pub mod refusal;
 pub mod server;

@@ -1,12 +1,17 @@
 //! A server.
 
-ghost use Rattle.std.specs.Prelude.{◌≡◌, Some, None, []};
+ghost use Rattle.std.specs.Prelude.{◌≡◌, Some, None, [], IfErr, IfOk, MatchOption, OnErr, OnOk};
+ghost use Rattle.wire_msgs.specs.Found.{IsPlace, find};
+ghost use Rattle.embed_core.specs.Kinds.{kind_of};
+ghost use Rattle.embed_core.specs.Objects as object;
+ghost use Rattle.server_core.specs.Server.{Server, begun_content, is_act};
 ghost use Rattle.server_core.specs.View.{seen};
-ghost use Rattle.server_core.specs.Server.{Server};
 
 use crate::facts::Facts;
 use embed_core::embedded::Embedded;
+use embed_core::fault::EmbedFault;
 use std::alloc::Global;
+use wire_msgs::operation::Operation;
 
 /// An object in a server.
 #[derive(Drop)]
@@ -14,7 +19,26 @@ pub struct Seat {
     pub boxed: Box<dyn Embedded>,
 }
 
-/// An activation of an object.
+impl Seat {
+    /// Begins with the content of a Load, or with none.
+    ///
+    /// Refused: `BadContent` where the object doesn't take the content. Then its own is as before.
+    pub(crate) fn begin(&mut self, alloc: Global, operation: &Operation) -> Result<(), EmbedFault>
+        ensures begun { OnOk result (begun_content (kind_of (content self.old.boxed)) operation.now ≡ Ok (content self.new.boxed)) }
+        ensures refused { IfErr result (object.Refuses (begun_content (kind_of (content self.old.boxed)) operation.now)) }
+        ensures kept { OnErr result (content self.new.boxed ≡ content self.old.boxed) }
+    {
+        match operation {
+            Operation::Load(_, content) => self.boxed.load(alloc, &content.streams),
+            _ => {
+                self.boxed.init();
+                Ok(())
+            }
+        }
+    }
+}
+
+/// An activation of an object, open while it has one.
 #[derive(Drop)]
 pub struct Activation {
     pub(crate) facts: Facts,
@@ -24,13 +48,13 @@ pub struct Activation {
 /// A server.
 #[derive(Drop)]
 pub struct ServerCore {
-    inc: u32,
-    numbers: u32,
-    acts: Vec<Activation>,
+    pub(crate) inc: u32,
+    pub(crate) numbers: u32,
+    pub(crate) acts: Vec<Activation>,
 }
 
 impl ServerCore {
-    /// A server without activations.
+    /// A server of this incarnation without activations. It may have so many activations, and each so many writes.
     pub fn new(alloc: Global, inc: u32, numbers: u32) -> ServerCore
         ensures { seen (λ s. content s.boxed) result ≡ record { inc = inc; numbers = numbers; acts = [] } }
     {
@@ -39,5 +63,17 @@ impl ServerCore {
             numbers,
             acts: Vec::new(alloc),
         }
+    }
+
+    // Where an activation stands.
+    pub(crate) fn place(&self, act: u32) -> Option<usize>
+        ensures { MatchOption result (find (is_act act) (seen (λ s. content s.boxed) self.now).acts ≡ None) (IsPlace (is_act act) (seen (λ s. content s.boxed) self.now).acts) }
+    {
+        for (i, activation) in self.acts.iter().enumerate() {
+            if activation.facts.act() == act {
+                return Some(i);
+            }
+        }
+        None
     }
 }

@@ -1,0 +1,97 @@
+//! What a server does with calls.
+
+ghost use Rattle.std.specs.Prelude.{◌≡◌, ◌++◌, ◌∷◌, [], ℕ, Some, None, Option, true, false, IfErr, IfOk, OnErr, Ok, option_map, is_some, vec_capacity, vec_len, ◌<◌};
+ghost use Rattle.wire_msgs.specs.Found.{IsPlace, find};
+ghost use Rattle.embed_core.specs.Kinds.{Kind, kind_of};
+ghost use Rattle.server_core.specs.Server.{Refuses, Takes, after_begun, begins, begun_class, begun_content, begun_states, called, answers, fresh, is_act, on_call, unknown_call, unless_wanted, wanted, wanted_unknown};
+ghost use Rattle.server_core.specs.View.{seen};
+ghost use Rattle.wire_msgs.specs.declared.answer.Answer.TheVariants as answer;
+
+use crate::facts::{Answered, Facts};
+use crate::fault::ServerFault;
+use crate::refusal::{Reaction, Refusal};
+use crate::server::{Activation, Seat, ServerCore};
+use embed_core::embedded::Embedded;
+use embed_core::fault::EmbedFault;
+use object_state::States;
+use std::alloc::Global;
+use storage_tree::class_id::ClassId;
+use wire_msgs::answer::Answer;
+use wire_msgs::message::Message;
+use wire_msgs::operation::Operation;
+use wire_msgs::refusal::Refusal as Why;
+
+// The class that a call begins an activation of, where it is a first one.
+fn begun_class(n: u32, operation: &Operation) -> Option<ClassId>
+    ensures { result ≡ begun_class n operation.now }
+{
+    match operation {
+        Operation::InitNew(class) | Operation::Load(class, _) if n == 1 => Some(*class),
+        _ => None,
+    }
+}
+
+// The states after a first InitNew or Load.
+fn begun_states(operation: &Operation) -> States
+    ensures { result ≡ begun_states operation.now }
+{
+    let loaded = States::new();
+    match loaded.step(operation.op()) {
+        Ok(states) => states,
+        Err(_) => loaded,
+    }
+}
+
+impl ServerCore {
+    // A call of the activation that stands at i.
+    fn known(&mut self, alloc: Global, i: usize, act: u32, n: u32, operation: Operation) -> Result<Answered, ServerFault>
+        requires { IsPlace (is_act act) (seen (λ s. content s.boxed) self.old).acts i }
+        ensures acted { IfOk result (λ t. (box : Option Kind) → called (seen (λ s. content s.boxed) self.old) act n operation box (find (is_act act) (seen (λ s. content s.boxed) self.old).acts) ≡ Ok (record { server = seen (λ s. content s.boxed) self.new; answer = t.answer; counted = t.counted; used = false })) }
+        ensures refused { IfErr result (λ e. (box : Option Kind) → Refuses (called (seen (λ s. content s.boxed) self.old) act n operation box (find (is_act act) (seen (λ s. content s.boxed) self.old).acts)) e) }
+        ensures kept { OnErr result (seen (λ s. content s.boxed) self.new ≡ seen (λ s. content s.boxed) self.old) }
+    {
+        self.acts[i].on_call(alloc, n, operation)
+    }
+
+    // One more activation, into reserved room.
+    #[tactic(auto, using(crate::proofs::Places::seen_push))]
+    fn push(&mut self, facts: Facts, seat: Option<Seat>)
+        requires { vec_len self.old.acts < vec_capacity self.old.acts }
+        ensures { seen (λ s. content s.boxed) self.new ≡ record (seen (λ s. content s.boxed) self.old) { acts = (seen (λ s. content s.boxed) self.old).acts ++ record facts { content = option_map (λ s. content s.boxed) seat } ∷ [] } }
+    {
+        self.acts.push_reserved(Activation { facts, seat });
+    }
+
+    // A first call that the object refused: the activation is closed.
+    fn push_closed(&mut self, act: u32, class: ClassId, refusal: Why) -> Answer
+        requires { vec_len self.old.acts < vec_capacity self.old.acts }
+        ensures pushed { seen (λ s. content s.boxed) self.new ≡ record (seen (λ s. content s.boxed) self.old) { acts = (seen (λ s. content s.boxed) self.old).acts ++ (answers (fresh act class) (answer.Refused refusal)).activation ∷ [] } }
+        ensures answered { result ≡ answer.Refused refusal }
+    {
+        self.push(Facts::closed(act, class, refusal), None);
+        Answer::Refused(refusal)
+    }
+
+    // A first call, with an object of its class.
+    fn begin(&mut self, alloc: Global, act: u32, class: ClassId, operation: &Operation, boxed: Box<dyn Embedded>) -> Result<Answer, Refusal>
+        ensures begun { IfOk result (λ a. after_begun (seen (λ s. content s.boxed) self.old) (begins act class operation.now (begun_content (kind_of (content boxed)) operation.now)) ≡ Ok (record { server = seen (λ s. content s.boxed) self.new; answer = a; counted = None; used = true })) }
+        ensures refused { IfErr result (λ r. r.fault ≡ ServerFault.NoMemory) }
+        ensures handed_back { IfErr result (λ r. option_map (λ b. content b) r.back ≡ Some (content boxed)) }
+        ensures kept { OnErr result (seen (λ s. content s.boxed) self.new ≡ seen (λ s. content s.boxed) self.old) }
+    {
+        if self.acts.reserve(1).is_err() {
+            return Err(Refusal::no_memory(boxed));
+        }
+        let mut seat = Seat { boxed };
+        match seat.begin(alloc, operation) {
+            Ok(()) => {
+                self.push(Facts::opened(act, class, begun_states(operation)), Some(seat));
+                Ok(Answer::Done)
+            }
+            Err(EmbedFault::BadEdit) => Ok(self.push_closed(act, class, Why::BadEdit)),
+            Err(EmbedFault::BadContent) => Ok(self.push_closed(act, class, Why::BadContent)),
+            Err(EmbedFault::TooBig) => Ok(self.push_closed(act, class, Why::TooBig)),
+            Err(EmbedFault::NoMemory) => Err(Refusal::no_memory(seat.boxed)),
+        }
+    }
+}
