@@ -1,5 +1,5 @@
 -- What an activation does with an operation, where it is open.
-use Rattle.std.specs.Prelude.{◌≡◌, ℕ, Option, Some, None, option_map, Result, Ok, Err}
+use Rattle.std.specs.Prelude.{◌≡◌, ℕ, Option, Some, None, option_map, is_some, Result, Ok, Err}
 use Rattle.object_state.specs.declared.both_states.States.{States}
 use Rattle.storage_tree.specs.declared.stored.Stored.{Stored}
 use Rattle.embed_core.specs.Content.{Content}
@@ -8,7 +8,10 @@ use Rattle.wire_msgs.specs.declared.answer.Answer.{Answer}
 use Rattle.server_core.specs.declared.counted.Counted.{Counted}
 use Rattle.server_core.specs.declared.fault.ServerFault.{ServerFault}
 use Rattle.server_core.specs.declared.fault.ServerFault.TheVariants.{Ignored}
-use Rattle.server_core.specs.Server.{Activation, Acted, does, stored_of}
+use Rattle.wire_msgs.specs.declared.message.Message.{Message}
+use Rattle.wire_msgs.specs.declared.message.Message.TheVariants.{Reply}
+use Rattle.embed_core.specs.Kinds.{Kind}
+use Rattle.server_core.specs.Server.{Activation, Acted, Server, called, begun_class, does, stored_of, wanted_unknown}
 
 -- an operation that the tables take
 abbrev pub does_open : Activation → States → Operation → Option Content → Result Acted ServerFault
@@ -23,3 +26,8 @@ stored_open (Some c) = Ok (stored_of c)
 -- the activation after a call, the answer, and the save that was counted
 abbrev pub Acts : Result Acted ServerFault → Activation → Answer → Option Counted → Type 0
 Acts told after answer counted = told ≡ Ok (record { activation = after; answer = answer; counted = counted })
+
+-- a call for this server was taken, where its activation is this one or none
+abbrev pub TakesCall : Server → ℕ → ℕ → Operation → Option Kind → Option Activation → Server → Message → Option Counted → Type 0
+TakesCall v act n op box a after reply counted =
+    (told : Answer) × (called v act n op box a ≡ Ok (record { server = after; answer = told; counted = counted; used = is_some (wanted_unknown v (begun_class n op) a) })) × (reply ≡ Reply v.inc act n told)

@@ -4,6 +4,7 @@ ghost use Rattle.std.specs.Prelude.{◌≡◌, ◌++◌, ◌∷◌, [], ℕ, Som
 ghost use Rattle.wire_msgs.specs.Found.{IsPlace, find};
 ghost use Rattle.embed_core.specs.Kinds.{Kind, kind_of};
 ghost use Rattle.server_core.specs.Server.{Refuses, Takes, after_begun, begins, begun_class, begun_content, begun_states, called, answers, fresh, is_act, on_call, unknown_call, unless_wanted, wanted, wanted_unknown};
+ghost use Rattle.server_core.specs.Opened.{TakesCall};
 ghost use Rattle.server_core.specs.View.{seen};
 ghost use Rattle.wire_msgs.specs.declared.answer.Answer.TheVariants as answer;
 
@@ -92,6 +93,114 @@ impl ServerCore {
             Err(EmbedFault::BadContent) => Ok(self.push_closed(act, class, Why::BadContent)),
             Err(EmbedFault::TooBig) => Ok(self.push_closed(act, class, Why::TooBig)),
             Err(EmbedFault::NoMemory) => Err(Refusal::no_memory(seat.boxed)),
+        }
+    }
+
+    // A call of the activation that stands at i. The object isn't used.
+    fn known_call(&mut self, alloc: Global, i: usize, act: u32, n: u32, operation: Operation, boxed: Option<Box<dyn Embedded>>) -> Result<Reaction, Refusal>
+        requires { IsPlace (is_act act) (seen (λ s. content s.boxed) self.old).acts i }
+        ensures acted { IfOk result (λ r. TakesCall (seen (λ s. content s.boxed) self.old) act n operation (option_map (λ b. kind_of (content b)) boxed) (find (is_act act) (seen (λ s. content s.boxed) self.old).acts) (seen (λ s. content s.boxed) self.new) r.reply r.counted) }
+        ensures back { IfOk result (λ r. r.back ≡ unless_wanted (wanted_unknown (seen (λ s. content s.boxed) self.old) (begun_class n operation) (find (is_act act) (seen (λ s. content s.boxed) self.old).acts)) boxed) }
+        ensures refused { IfErr result (λ r. Refuses (called (seen (λ s. content s.boxed) self.old) act n operation (option_map (λ b. kind_of (content b)) boxed) (find (is_act act) (seen (λ s. content s.boxed) self.old).acts)) r.fault) }
+        ensures handed_back { IfErr result (λ r. option_map (λ b. content b) r.back ≡ option_map (λ b. content b) boxed) }
+        ensures kept { OnErr result (seen (λ s. content s.boxed) self.new ≡ seen (λ s. content s.boxed) self.old) }
+    {
+        match self.known(alloc, i, act, n, operation) {
+            Ok(answered) => Ok(Reaction {
+                reply: Message::Reply {
+                    inc: self.inc,
+                    act,
+                    n,
+                    answer: answered.answer,
+                },
+                counted: answered.counted,
+                back: boxed,
+            }),
+            Err(fault) => Err(Refusal { fault, back: boxed }),
+        }
+    }
+
+    // A call of an activation that isn't known.
+    fn unknown_call(&mut self, alloc: Global, act: u32, n: u32, operation: Operation, boxed: Option<Box<dyn Embedded>>) -> Result<Reaction, Refusal>
+        ensures acted { IfOk result (λ r. TakesCall (seen (λ s. content s.boxed) self.old) act n operation (option_map (λ b. kind_of (content b)) boxed) None (seen (λ s. content s.boxed) self.new) r.reply r.counted) }
+        ensures back { IfOk result (λ r. r.back ≡ unless_wanted (wanted_unknown (seen (λ s. content s.boxed) self.old) (begun_class n operation) None) boxed) }
+        ensures refused { IfErr result (λ r. Refuses (called (seen (λ s. content s.boxed) self.old) act n operation (option_map (λ b. kind_of (content b)) boxed) None) r.fault) }
+        ensures handed_back { IfErr result (λ r. option_map (λ b. content b) r.back ≡ option_map (λ b. content b) boxed) }
+        ensures kept { OnErr result (seen (λ s. content s.boxed) self.new ≡ seen (λ s. content s.boxed) self.old) }
+    {
+        let Some(class) = begun_class(n, &operation) else {
+            return Err(Refusal {
+                fault: ServerFault::Ignored,
+                back: boxed,
+            });
+        };
+        if self.acts.len() >= self.numbers as usize {
+            return Err(Refusal {
+                fault: ServerFault::NumbersSpent,
+                back: boxed,
+            });
+        }
+        let Some(boxed) = boxed else {
+            return Err(Refusal {
+                fault: ServerFault::NeedObject,
+                back: None,
+            });
+        };
+        if boxed.class() != class {
+            return Err(Refusal {
+                fault: ServerFault::WrongClass,
+                back: Some(boxed),
+            });
+        }
+        let answer = self.begin(alloc, act, class, &operation, boxed)?;
+        Ok(Reaction {
+            reply: Message::Reply {
+                inc: self.inc,
+                act,
+                n,
+                answer,
+            },
+            counted: None,
+            back: None,
+        })
+    }
+
+    /// What a message does, with an object handed in for an activation that it makes, or none. The activation's next
+    /// call acts, its last is answered again.
+    ///
+    /// Refused: `WrongIncarnation` a call for another incarnation; `Ignored` what isn't a call, a call of an unknown
+    /// activation but for a first InitNew or Load, a call of a known one that is neither the last nor the next, or the
+    /// next of a closed one; `NumbersSpent` where the server has as many activations as it may have; `NeedObject`
+    /// where there is none to make the activation with; `WrongClass` where it is of another class; then `NoMemory`.
+    /// Then nothing changes, and the object comes back with its content.
+    pub fn on_call(&mut self, alloc: Global, message: Message, boxed: Option<Box<dyn Embedded>>) -> Result<Reaction, Refusal>
+        ensures acted { IfOk result (λ r. Takes (seen (λ s. content s.boxed) self.old) message (option_map (λ b. kind_of (content b)) boxed) (seen (λ s. content s.boxed) self.new) r.reply r.counted) }
+        ensures back { IfOk result (λ r. r.back ≡ unless_wanted (wanted (seen (λ s. content s.boxed) self.old) message) boxed) }
+        ensures refused { IfErr result (λ r. Refuses (on_call (seen (λ s. content s.boxed) self.old) message (option_map (λ b. kind_of (content b)) boxed)) r.fault) }
+        ensures handed_back { IfErr result (λ r. option_map (λ b. content b) r.back ≡ option_map (λ b. content b) boxed) }
+        ensures kept { OnErr result (seen (λ s. content s.boxed) self.new ≡ seen (λ s. content s.boxed) self.old) }
+    {
+        let Message::Call {
+            inc,
+            act,
+            n,
+            operation,
+        } = message
+        else {
+            return Err(Refusal {
+                fault: ServerFault::Ignored,
+                back: boxed,
+            });
+        };
+        if inc != self.inc {
+            return Err(Refusal {
+                fault: ServerFault::WrongIncarnation,
+                back: boxed,
+            });
+        }
+        match self.place(act) {
+            Some(i) => self.known_call(alloc, i, act, n, operation, boxed),
+            None => self.unknown_call(alloc, act, n, operation, boxed),
         }
     }
 }
