@@ -1,5 +1,5 @@
 -- What an activation does with an operation, where it is open.
-use Rattle.std.specs.Prelude.{◌≡◌, ℕ, Option, Some, None, option_map, is_some, Result, Ok, Err}
+use Rattle.std.specs.Prelude.{◌≡◌, ℕ, Option, Some, None, option_map, is_some, Result, Ok, Err, List, length, cond, nat_le}
 use Rattle.object_state.specs.declared.both_states.States.{States}
 use Rattle.storage_tree.specs.declared.stored.Stored.{Stored}
 use Rattle.embed_core.specs.Content.{Content}
@@ -7,7 +7,7 @@ use Rattle.wire_msgs.specs.declared.operation.Operation.{Operation}
 use Rattle.wire_msgs.specs.declared.answer.Answer.{Answer}
 use Rattle.server_core.specs.declared.counted.Counted.{Counted}
 use Rattle.server_core.specs.declared.fault.ServerFault.{ServerFault}
-use Rattle.server_core.specs.declared.fault.ServerFault.TheVariants.{Ignored}
+use Rattle.server_core.specs.declared.fault.ServerFault.TheVariants.{Ignored, NumbersSpent}
 use Rattle.wire_msgs.specs.declared.message.Message.{Message}
 use Rattle.wire_msgs.specs.declared.message.Message.TheVariants.{Reply}
 use Rattle.embed_core.specs.Kinds.{Kind}
@@ -31,3 +31,8 @@ Acts told after answer counted = told ≡ Ok (record { activation = after; answe
 abbrev pub TakesCall : Server → ℕ → ℕ → Operation → Option Kind → Option Activation → Server → Message → Option Counted → Type 0
 TakesCall v act n op box a after reply counted =
     (told : Answer) × (called v act n op box a ≡ Ok (record { server = after; answer = told; counted = counted; used = is_some (wanted_unknown v (begun_class n op) a) })) × (reply ≡ Reply v.inc act n told)
+
+-- the class that a call begins an activation of, where the server may have one more
+abbrev pub first_class : Server → Option (List ℕ) → Result (List ℕ) ServerFault
+first_class v None = Err Ignored
+first_class v (Some class) = cond (nat_le v.numbers (length v.acts)) (Err NumbersSpent) (Ok class)

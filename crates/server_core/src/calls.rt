@@ -3,8 +3,8 @@
 ghost use Rattle.std.specs.Prelude.{◌≡◌, ◌++◌, ◌∷◌, [], ℕ, Some, None, Option, true, false, IfErr, IfOk, OnErr, Ok, option_map, is_some, vec_capacity, vec_len, ◌<◌};
 ghost use Rattle.wire_msgs.specs.Found.{IsPlace, find};
 ghost use Rattle.embed_core.specs.Kinds.{Kind, kind_of};
-ghost use Rattle.server_core.specs.Server.{Refuses, Takes, after_begun, begins, begun_class, begun_content, begun_states, called, answers, fresh, is_act, on_call, unknown_call, unless_wanted, wanted, wanted_unknown};
-ghost use Rattle.server_core.specs.Opened.{TakesCall};
+ghost use Rattle.server_core.specs.Server.{Refuses, Takes, after_begun, begins, begun_class, begun_content, begun_states, called, answers, fresh, offered, is_act, on_call, unknown_call, unless_wanted, wanted, wanted_unknown};
+ghost use Rattle.server_core.specs.Opened.{TakesCall, first_class};
 ghost use Rattle.server_core.specs.View.{seen};
 ghost use Rattle.wire_msgs.specs.declared.answer.Answer.TheVariants as answer;
 
@@ -105,10 +105,11 @@ impl ServerCore {
         ensures handed_back { IfErr result (λ r. option_map (λ b. content b) r.back ≡ option_map (λ b. content b) boxed) }
         ensures kept { OnErr result (seen (λ s. content s.boxed) self.new ≡ seen (λ s. content s.boxed) self.old) }
     {
+        let inc = self.inc;
         match self.known(alloc, i, act, n, operation) {
             Ok(answered) => Ok(Reaction {
                 reply: Message::Reply {
-                    inc: self.inc,
+                    inc,
                     act,
                     n,
                     answer: answered.answer,
@@ -120,26 +121,26 @@ impl ServerCore {
         }
     }
 
-    // A call of an activation that isn't known.
-    fn unknown_call(&mut self, alloc: Global, act: u32, n: u32, operation: Operation, boxed: Option<Box<dyn Embedded>>) -> Result<Reaction, Refusal>
-        ensures acted { IfOk result (λ r. TakesCall (seen (λ s. content s.boxed) self.old) act n operation (option_map (λ b. kind_of (content b)) boxed) None (seen (λ s. content s.boxed) self.new) r.reply r.counted) }
-        ensures back { IfOk result (λ r. r.back ≡ unless_wanted (wanted_unknown (seen (λ s. content s.boxed) self.old) (begun_class n operation) None) boxed) }
-        ensures refused { IfErr result (λ r. Refuses (called (seen (λ s. content s.boxed) self.old) act n operation (option_map (λ b. kind_of (content b)) boxed) None) r.fault) }
+    // The class that a call begins an activation of, where the server may have one more.
+    fn first_class(&self, n: u32, operation: &Operation) -> Result<ClassId, ServerFault>
+        ensures { result ≡ first_class (seen (λ s. content s.boxed) self.now) (begun_class n operation.now) }
+    {
+        let Some(class) = begun_class(n, operation) else {
+            return Err(ServerFault::Ignored);
+        };
+        if self.acts.len() >= self.numbers as usize {
+            return Err(ServerFault::NumbersSpent);
+        }
+        Ok(class)
+    }
+
+    // A first call, with the object that was handed in.
+    fn offered(&mut self, alloc: Global, act: u32, class: ClassId, operation: &Operation, boxed: Option<Box<dyn Embedded>>) -> Result<Answer, Refusal>
+        ensures acted { IfOk result (λ a. offered (seen (λ s. content s.boxed) self.old) act class operation.now (option_map (λ b. kind_of (content b)) boxed) ≡ Ok (record { server = seen (λ s. content s.boxed) self.new; answer = a; counted = None; used = true })) }
+        ensures refused { IfErr result (λ r. Refuses (offered (seen (λ s. content s.boxed) self.old) act class operation.now (option_map (λ b. kind_of (content b)) boxed)) r.fault) }
         ensures handed_back { IfErr result (λ r. option_map (λ b. content b) r.back ≡ option_map (λ b. content b) boxed) }
         ensures kept { OnErr result (seen (λ s. content s.boxed) self.new ≡ seen (λ s. content s.boxed) self.old) }
     {
-        let Some(class) = begun_class(n, &operation) else {
-            return Err(Refusal {
-                fault: ServerFault::Ignored,
-                back: boxed,
-            });
-        };
-        if self.acts.len() >= self.numbers as usize {
-            return Err(Refusal {
-                fault: ServerFault::NumbersSpent,
-                back: boxed,
-            });
-        }
         let Some(boxed) = boxed else {
             return Err(Refusal {
                 fault: ServerFault::NeedObject,
@@ -152,17 +153,35 @@ impl ServerCore {
                 back: Some(boxed),
             });
         }
-        let answer = self.begin(alloc, act, class, &operation, boxed)?;
-        Ok(Reaction {
-            reply: Message::Reply {
-                inc: self.inc,
-                act,
-                n,
-                answer,
-            },
-            counted: None,
-            back: None,
-        })
+        self.begin(alloc, act, class, operation, boxed)
+    }
+
+    // A call of an activation that isn't known.
+    fn unknown_call(&mut self, alloc: Global, act: u32, n: u32, operation: Operation, boxed: Option<Box<dyn Embedded>>) -> Result<Reaction, Refusal>
+        ensures acted { IfOk result (λ r. TakesCall (seen (λ s. content s.boxed) self.old) act n operation (option_map (λ b. kind_of (content b)) boxed) None (seen (λ s. content s.boxed) self.new) r.reply r.counted) }
+        ensures back { IfOk result (λ r. r.back ≡ unless_wanted (wanted_unknown (seen (λ s. content s.boxed) self.old) (begun_class n operation) None) boxed) }
+        ensures refused { IfErr result (λ r. Refuses (called (seen (λ s. content s.boxed) self.old) act n operation (option_map (λ b. kind_of (content b)) boxed) None) r.fault) }
+        ensures handed_back { IfErr result (λ r. option_map (λ b. content b) r.back ≡ option_map (λ b. content b) boxed) }
+        ensures kept { OnErr result (seen (λ s. content s.boxed) self.new ≡ seen (λ s. content s.boxed) self.old) }
+    {
+        let class = match self.first_class(n, &operation) {
+            Ok(class) => class,
+            Err(fault) => return Err(Refusal { fault, back: boxed }),
+        };
+        let inc = self.inc;
+        match self.offered(alloc, act, class, &operation, boxed) {
+            Ok(answer) => Ok(Reaction {
+                reply: Message::Reply {
+                    inc,
+                    act,
+                    n,
+                    answer,
+                },
+                counted: None,
+                back: None,
+            }),
+            Err(refusal) => Err(refusal),
+        }
     }
 
     /// What a message does, with an object handed in for an activation that it makes, or none. The activation's next
