@@ -24,6 +24,7 @@ use Rattle.wire_msgs.specs.declared.answer.Answer.TheVariants as answer
 use Rattle.wire_msgs.specs.declared.message.Message.{Message}
 use Rattle.wire_msgs.specs.declared.message.Message.TheVariants.{Call, Reply, Write, Ask}
 use Rattle.wire_msgs.specs.Found.{find, put}
+use Rattle.server_core.specs.declared.activation_view.ActivationView.{ActivationView}
 pub use Rattle.server_core.specs.declared.counted.Counted.{Counted}
 use Rattle.server_core.specs.declared.fault.ServerFault.{ServerFault}
 use Rattle.server_core.specs.declared.fault.ServerFault.TheVariants.{WrongIncarnation, Ignored, NumbersSpent, NeedObject, WrongClass, NoMemory}
@@ -250,3 +251,7 @@ kept_reply v a = Reply v.inc a.act a.last a.reply
 
 abbrev pub last_reply : Server → ℕ → Option Message
 last_reply v act = option_map (kept_reply v) (find (is_act act) v.acts)
+
+-- what is seen of an activation, but for its content
+abbrev pub view_of : Activation → ActivationView
+view_of a = record { opened = is_some a.content; states = a.states; s = a.s; last = a.last; g = a.g; w = a.w }

@@ -4,7 +4,7 @@ ghost use Rattle.std.specs.Prelude.{◌≡◌, ◌+◌, Some, None, IfErr, IfOk,
 ghost use Rattle.object_state.specs.Both as both;
 ghost use Rattle.wire_msgs.specs.Operations.{op_of};
 ghost use Rattle.wire_msgs.specs.declared.operation.Operation.TheVariants as op;
-ghost use Rattle.server_core.specs.Opened.{Acts, does_open, stored_open};
+ghost use Rattle.server_core.specs.Opened.{Acts, Writes, does_open, stored_open, write_open};
 ghost use Rattle.server_core.specs.Server.{Refuses, known_call, next_call, refuses};
 ghost use Rattle.server_core.specs.View.{seen_activation};
 
@@ -17,6 +17,7 @@ use std::alloc::Global;
 use storage_tree::bytes::Bytes;
 use storage_tree::stored::Stored;
 use wire_msgs::answer::Answer;
+use wire_msgs::message::Message;
 use wire_msgs::operation::Operation;
 use wire_msgs::refusal::Refusal;
 
@@ -197,5 +198,24 @@ impl Activation {
             return Err(ServerFault::Ignored);
         }
         self.next(alloc, n, operation)
+    }
+
+    /// A write of its own accord, of the content that it has now.
+    ///
+    /// Refused: `Ignored` where it is closed or may not write; `NumbersSpent` where it made so many writes; then
+    /// `NoMemory`. Then nothing changes.
+    pub(crate) fn write(&mut self, alloc: Global, inc: u32, numbers: u32) -> Result<Message, ServerFault>
+        ensures written { IfOk result (λ m. Writes (write_open inc numbers (seen_activation (λ s. content s.boxed) self.old) (seen_activation (λ s. content s.boxed) self.old).content) (seen_activation (λ s. content s.boxed) self.new) m) }
+        ensures refused { IfErr result (Refuses (write_open inc numbers (seen_activation (λ s. content s.boxed) self.old) (seen_activation (λ s. content s.boxed) self.old).content)) }
+        ensures kept { OnErr result (seen_activation (λ s. content s.boxed) self.new ≡ seen_activation (λ s. content s.boxed) self.old) }
+    {
+        if self.seat.is_none() || !self.facts.may_write() {
+            return Err(ServerFault::Ignored);
+        }
+        if self.facts.writes() >= numbers {
+            return Err(ServerFault::NumbersSpent);
+        }
+        let content = self.stored(alloc)?;
+        Ok(self.facts.write(inc, content))
     }
 }

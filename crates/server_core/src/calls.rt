@@ -184,6 +184,28 @@ impl ServerCore {
         }
     }
 
+    /// The class of the object that a message needs, where it makes an activation: none for a message that makes none.
+    pub fn wants(&self, message: &Message) -> Option<ClassId>
+        ensures { result ≡ wanted (seen (λ s. content s.boxed) self.now) message.now }
+    {
+        let Message::Call {
+            inc,
+            act,
+            n,
+            operation,
+        } = message
+        else {
+            return None;
+        };
+        if *inc != self.inc || self.place(*act).is_some() {
+            return None;
+        }
+        match self.first_class(*n, operation) {
+            Ok(class) => Some(class),
+            Err(_) => None,
+        }
+    }
+
     /// What a message does, with an object handed in for an activation that it makes, or none. The activation's next
     /// call acts, its last is answered again.
     ///

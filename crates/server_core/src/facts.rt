@@ -1,11 +1,14 @@
 //! What a server keeps of an activation, but for its object.
 
-ghost use Rattle.std.specs.Prelude.{◌≡◌, ◌+◌, ◌∷◌, [], Some, None, IfOk, option_map, IsTrue, ◌↔◌};
+ghost use Rattle.std.specs.Prelude.{◌≡◌, ◌+◌, ◌<◌, ◌^◌, Some, None, IfOk, option_map, IsTrue, ◌↔◌};
 ghost use Rattle.object_state.specs.Both as both;
 ghost use Rattle.wire_msgs.specs.Operations.{op_of};
-ghost use Rattle.server_core.specs.Server.{answers, fresh, kept_reply};
+ghost use Rattle.server_core.specs.Server.{fresh};
 ghost use Rattle.wire_msgs.specs.declared.answer.Answer.TheVariants as answer;
+ghost use Rattle.wire_msgs.specs.declared.message.Message.TheVariants as message;
+ghost use Rattle.object_state.specs.Persists.{may_write};
 
+use crate::activation_view::ActivationView;
 use crate::counted::Counted;
 use object_state::{Menus, Op, StateFault, States};
 use std::alloc::{AllocError, Global};
@@ -13,6 +16,7 @@ use std::marker::Model;
 use storage_tree::class_id::ClassId;
 use storage_tree::stored::Stored;
 use wire_msgs::answer::Answer;
+use wire_msgs::message::Message;
 use wire_msgs::refusal::Refusal;
 
 /// An answer, and the save that was counted with it.
@@ -247,5 +251,75 @@ impl Facts {
         self.last = n;
         self.reply = Answer::Refused(refusal);
         Answered::alone(Answer::Refused(refusal))
+    }
+
+    /// Whether it may write into its storage.
+    pub fn may_write(&self) -> bool
+        ensures { result ≡ may_write self.now.states.persist.state }
+    {
+        self.states.persist.state.may_write()
+    }
+
+    /// How many writes it made.
+    pub fn writes(&self) -> u32
+        ensures { result ≡ self.now.w }
+    {
+        self.w
+    }
+
+    /// The next write, of this content.
+    pub fn write(&mut self, inc: u32, content: Stored) -> Message
+        requires { self.old.w + 1 < 2 ^ 32 }
+        ensures counted { self.new ≡ record self.old { w = self.old.w + 1 } }
+        ensures written { result ≡ message.Write inc self.old.act self.old.s (self.old.w + 1) content }
+    {
+        self.w += 1;
+        Message::Write {
+            inc,
+            act: self.act,
+            s: self.s,
+            w: self.w,
+            content,
+        }
+    }
+
+    /// The message that asks to be relieved of its grant, where it has one.
+    pub fn ask(&self, inc: u32) -> Option<Message>
+        ensures { result ≡ option_map (message.Ask inc self.now.act) self.now.g }
+    {
+        match self.g {
+            Some(g) => Some(Message::Ask {
+                inc,
+                act: self.act,
+                g,
+            }),
+            None => None,
+        }
+    }
+
+    /// The reply to its last call.
+    pub fn last_reply(&self, alloc: Global, inc: u32) -> Result<Message, AllocError>
+        ensures { IfOk result (λ m. m ≡ message.Reply inc self.now.act self.now.last self.now.reply) }
+    {
+        Ok(Message::Reply {
+            inc,
+            act: self.act,
+            n: self.last,
+            answer: self.reply.copy(alloc)?,
+        })
+    }
+
+    /// What is seen of it.
+    pub fn view(&self, opened: bool) -> ActivationView
+        ensures { result ≡ record { opened = opened; states = self.now.states; s = self.now.s; last = self.now.last; g = self.now.g; w = self.now.w } }
+    {
+        ActivationView {
+            opened,
+            states: self.states,
+            s: self.s,
+            last: self.last,
+            g: self.g,
+            w: self.w,
+        }
     }
 }

@@ -1,16 +1,18 @@
 //! A server.
 
-ghost use Rattle.std.specs.Prelude.{◌≡◌, Some, None, [], IfErr, IfOk, MatchOption, OnErr, OnOk};
+ghost use Rattle.std.specs.Prelude.{◌≡◌, Some, None, [], IfErr, IfOk, MatchOption, OnErr, OnOk, option_map};
 ghost use Rattle.wire_msgs.specs.Found.{IsPlace, find};
 ghost use Rattle.embed_core.specs.Kinds.{kind_of};
 ghost use Rattle.embed_core.specs.Objects as object;
-ghost use Rattle.server_core.specs.Server.{Server, begun_content, is_act};
-ghost use Rattle.server_core.specs.View.{seen};
+ghost use Rattle.server_core.specs.Server.{Server, begun_content, is_act, last_reply, view_of};
+ghost use Rattle.server_core.specs.View.{seen, seen_activation};
 
+use crate::activation_view::ActivationView;
 use crate::facts::Facts;
 use embed_core::embedded::Embedded;
 use embed_core::fault::EmbedFault;
-use std::alloc::Global;
+use std::alloc::{AllocError, Global};
+use wire_msgs::message::Message;
 use wire_msgs::operation::Operation;
 
 /// An object in a server.
@@ -75,5 +77,37 @@ impl ServerCore {
             }
         }
         None
+    }
+
+    // The activation of this number.
+    pub(crate) fn activation_of(&self, act: u32) -> Option<&Activation>
+        ensures { option_map (λ a. seen_activation (λ s. content s.boxed) a.now) result ≡ find (is_act act) (seen (λ s. content s.boxed) self.now).acts }
+    {
+        match self.place(act) {
+            Some(i) => Some(&self.acts[i]),
+            None => None,
+        }
+    }
+
+    /// What is seen of an activation, none where it isn't known.
+    pub fn activation(&self, act: u32) -> Option<ActivationView>
+        ensures { result ≡ option_map view_of (find (is_act act) (seen (λ s. content s.boxed) self.now).acts) }
+    {
+        match self.activation_of(act) {
+            Some(activation) => Some(activation.facts.view(activation.seat.is_some())),
+            None => None,
+        }
+    }
+
+    /// The reply to an activation's last call, none where it isn't known.
+    ///
+    /// Refused for want of memory alone.
+    pub fn last_reply(&self, alloc: Global, act: u32) -> Result<Option<Message>, AllocError>
+        ensures { IfOk result (λ r. r ≡ last_reply (seen (λ s. content s.boxed) self.now) act) }
+    {
+        match self.activation_of(act) {
+            Some(activation) => Ok(Some(activation.facts.last_reply(alloc, self.inc)?)),
+            None => Ok(None),
+        }
     }
 }
