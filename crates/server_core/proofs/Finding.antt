@@ -7,16 +7,16 @@ module _ {A : Type 0} (test : A → Bool) where
   find-more [] ys x e = cc
   find-more (z ∷ zs) ys x e =
       elim (test z) as (λ b. (if b then Some z else find test zs) ≡ Some x → (if b then Some z else find test (zs ++ ys)) ≡ Some x) [
-        true ↦ λ h. h
-      | false ↦ λ h. find-more zs ys x h
+        | true ↦ λ h. h
+        | false ↦ λ h. find-more zs ys x h
       ] e
 
   pub find-last : (xs : List A) (y : A) → find test xs ≡ None → test y ≡ true → find test (xs ++ y ∷ []) ≡ Some y
   find-last [] y e t = rw t refl
   find-last (z ∷ zs) y e t =
       elim (test z) as (λ b. (if b then Some z else find test zs) ≡ None → (if b then Some z else find test (zs ++ y ∷ [])) ≡ Some y) [
-        true ↦ λ h. cc
-      | false ↦ λ h. find-last zs y h t
+        | true ↦ λ h. cc
+        | false ↦ λ h. find-last zs y h t
       ] e
 
   pub find-past : (xs : List A) (y : A) → test y ≡ false → find test (xs ++ y ∷ []) ≡ find test xs
@@ -27,16 +27,16 @@ module _ {A : Type 0} (test : A → Bool) where
   find-put [] x y e t = cc
   find-put (z ∷ zs) x y e t =
       elim (test z) as (λ b. test z ≡ b → (if b then Some z else find test zs) ≡ Some x → find test (if b then y ∷ zs else z ∷ put test y zs) ≡ Some y) [
-        true ↦ λ s h. rw t refl
-      | false ↦ λ s h. rw s (find-put zs x y h t)
+        | true ↦ λ s h. rw t refl
+        | false ↦ λ s h. rw s (find-put zs x y h t)
       ] refl e
 
   pub put-found : (xs : List A) (x : A) → find test xs ≡ Some x → put test x xs ≡ xs
   put-found [] x e = refl
   put-found (z ∷ zs) x e =
       elim (test z) as (λ b. (if b then Some z else find test zs) ≡ Some x → (if b then x ∷ zs else z ∷ put test x zs) ≡ z ∷ zs) [
-        true ↦ λ h. (let same : z ≡ x = cc in ap (λ w. w ∷ zs) (sym same))
-      | false ↦ λ h. ap (λ ws. z ∷ ws) (put-found zs x h)
+        | true ↦ λ h. (let same : z ≡ x = cc in ap (λ w. w ∷ zs) (sym same))
+        | false ↦ λ h. ap (λ ws. z ∷ ws) (put-found zs x h)
       ] e
 
   -- another item takes its place
@@ -44,6 +44,6 @@ module _ {A : Type 0} (test : A → Bool) where
   put-other other [] y apart t = refl
   put-other other (z ∷ zs) y apart t =
       elim (other z) as (λ b. other z ≡ b → find test (if b then y ∷ zs else z ∷ put other y zs) ≡ (if test z then Some z else find test zs)) [
-        true ↦ λ s. rw (apart y t, apart z s) refl
-      | false ↦ λ s. ap (λ (r : Option A). if test z then Some z else r) (put-other other zs y apart t)
+        | true ↦ λ s. rw (apart y t, apart z s) refl
+        | false ↦ λ s. ap (λ (r : Option A). if test z then Some z else r) (put-other other zs y apart t)
       ] refl

@@ -95,12 +95,12 @@ next_kept a n op (Some c) b number content e =
 known_kept : (a : Activation) (n : ℕ) (op : Operation) (b : Acted) → known_call a n op ≡ Ok b → Kept a n b.activation
 known_kept a n op b e =
     elim (nat_eq n a.last) as (λ t. nat_eq n a.last ≡ t → cond t (Ok (record { activation = a; answer = a.reply; counted = None })) (cond (nat_eq n (a.last + 1)) (next_call a op a.content) (Err Ignored)) ≡ Ok b → Kept a n b.activation) [
-      true ↦ λ t h. (let same : a ≡ b.activation = cc in let number = eqb-true n a.last t in subst (Kept a n) same (record { act = refl; last = omega arith; number = omega (arith, number); closed = λ none. refl }))
-    | false ↦ λ t h.
-        (elim (nat_eq n (a.last + 1)) as (λ u. nat_eq n (a.last + 1) ≡ u → cond u (next_call a op a.content) (Err Ignored) ≡ Ok b → Kept a n b.activation) [
-          true ↦ λ u g. next_kept a n op a.content b (eqb-true n (a.last + 1) u) refl g
-        | false ↦ λ u g. cc
-        ]) refl h
+      | true ↦ λ t h. (let same : a ≡ b.activation = cc in let number = eqb-true n a.last t in subst (Kept a n) same (record { act = refl; last = omega arith; number = omega (arith, number); closed = λ none. refl }))
+      | false ↦ λ t h.
+          (elim (nat_eq n (a.last + 1)) as (λ u. nat_eq n (a.last + 1) ≡ u → cond u (next_call a op a.content) (Err Ignored) ≡ Ok b → Kept a n b.activation) [
+            | true ↦ λ u g. next_kept a n op a.content b (eqb-true n (a.last + 1) u) refl g
+            | false ↦ λ u g. cc
+          ]) refl h
     ] refl e
 
 -- A first call begins an activation of its number, and is its last.
@@ -116,8 +116,8 @@ begins_last act class op (Err fault) = refl
 first_number : (n : ℕ) (class given : List ℕ) → cond (nat_eq n 1) (Some class) None ≡ Some given → n ≡ 1
 first_number n class given e =
     elim (nat_eq n 1) as (λ b. nat_eq n 1 ≡ b → cond b (Some class) None ≡ Some given → n ≡ 1) [
-      true ↦ λ s h. eqb-true n 1 s
-    | false ↦ λ s h. cc
+      | true ↦ λ s h. eqb-true n 1 s
+      | false ↦ λ s h. cc
     ] refl e
 
 begun_number : (n : ℕ) (op : Operation) (given : List ℕ) → begun_class n op ≡ Some given → n ≡ 1
@@ -140,20 +140,20 @@ first_cases : (P : Result Served ServerFault → Type 0) (v : Server) (act n : �
     → ((class : List ℕ) (kind : Kind) → begun_class n op ≡ Some class → P (after_begun v (begins act class op (begun_content kind op)))) → P (unknown_call v act op box (begun_class n op))
 first_cases P v act n op box fails begun =
     elim (begun_class n op) as (λ r. begun_class n op ≡ r → P (unknown_call v act op box r)) [
-      None ↦ λ s. fails Ignored
-    | Some class ↦ λ s.
-        (elim (nat_le v.numbers (length v.acts)) as (λ b. P (cond b (Err NumbersSpent) (offered v act class op box))) [
-          true ↦ fails NumbersSpent
-        | false ↦
-            (elim box as (λ x. P (offered v act class op x)) [
-              None ↦ fails NeedObject
-            | Some kind ↦
-                (elim (is_class kind class) as (λ b. P (cond b (after_begun v (begins act class op (begun_content kind op))) (Err WrongClass))) [
-                  true ↦ begun class kind s
-                | false ↦ fails WrongClass
+      | None ↦ λ s. fails Ignored
+      | Some class ↦ λ s.
+          (elim (nat_le v.numbers (length v.acts)) as (λ b. P (cond b (Err NumbersSpent) (offered v act class op box))) [
+            | true ↦ fails NumbersSpent
+            | false ↦
+                (elim box as (λ x. P (offered v act class op x)) [
+                  | None ↦ fails NeedObject
+                  | Some kind ↦
+                      (elim (is_class kind class) as (λ b. P (cond b (after_begun v (begins act class op (begun_content kind op))) (Err WrongClass))) [
+                        | true ↦ begun class kind s
+                        | false ↦ fails WrongClass
+                      ])
                 ])
-            ])
-        ])
+          ])
     ] refl
 
 -- A known call leaves the server, or puts the activation that it leaves.
@@ -161,8 +161,8 @@ known_cases : (P : Result Served ServerFault → Type 0) (v : Server) (act n : �
     → ((b : Acted) → Kept a n b.activation → P (after_known v act (Ok b))) → P (after_known v act (known_call a n op))
 known_cases P v act n op a fails takes =
     elim (known_call a n op) as (λ r. known_call a n op ≡ r → P (after_known v act r)) [
-      Ok b ↦ λ s. takes b (known_kept a n op b s)
-    | Err fault ↦ λ s. fails fault
+      | Ok b ↦ λ s. takes b (known_kept a n op b s)
+      | Err fault ↦ λ s. fails fault
     ] refl
 
 -- a call of another number leaves an activation
@@ -176,8 +176,8 @@ call_leaves : (v : Server) (act other n : ℕ) (op : Operation) (box : Option Ki
 call_leaves v act other n op box None differ e =
     first_cases (Leaves other v) v act n op box (λ fault. refl)
     (λ class kind s.
-      let b = begins act class op (begun_content kind op) in
-      find-past (is_act other) v.acts b.activation (apart act other differ b.activation (eq-eqb _ _ (begins_act act class op (begun_content kind op)))))
+    let b = begins act class op (begun_content kind op) in
+    find-past (is_act other) v.acts b.activation (apart act other differ b.activation (eq-eqb _ _ (begins_act act class op (begun_content kind op)))))
 call_leaves v act other n op box (Some a) differ e =
     known_cases (Leaves other v) v act n op a (λ fault. refl)
     (λ b k. put-other (is_act other) (is_act act) v.acts b.activation (apart act other differ) (eq-eqb _ _ (k.act ∙ eqb-true a.act act (found_passes (is_act act) v.acts a e))))
@@ -213,10 +213,10 @@ own_stays v act n op box a e =
 call_stays : (v : Server) (act by n : ℕ) (op : Operation) (box : Option Kind) (a : Activation) → activation act v ≡ Some a → Stays act a (after v (called v by n op box (find (is_act by) v.acts)))
 call_stays v act by n op box a e =
     elim (nat_eq by act) as (λ b. nat_eq by act ≡ b → Stays act a (after v (called v by n op box (find (is_act by) v.acts)))) [
-      true ↦ λ s.
-        subst (λ m. Stays act a (after v (called v m n op box (find (is_act m) v.acts)))) (sym (eqb-true by act s))
-        (subst (λ r. Stays act a (after v (called v act n op box r))) (sym e) (own_stays v act n op box a e))
-    | false ↦ λ s. stays_same act a _ (call_leaves v by act n op box (find (is_act by) v.acts) (λ same. eqb-false by act s same) refl ∙ e)
+      | true ↦ λ s.
+          subst (λ m. Stays act a (after v (called v m n op box (find (is_act m) v.acts)))) (sym (eqb-true by act s))
+          (subst (λ r. Stays act a (after v (called v act n op box r))) (sym e) (own_stays v act n op box a e))
+      | false ↦ λ s. stays_same act a _ (call_leaves v by act n op box (find (is_act by) v.acts) (λ same. eqb-false by act s same) refl ∙ e)
     ] refl
 
 inc_stays : (b : Bool) (act : ℕ) (a : Activation) (v : Server) (r : Result Served ServerFault) → activation act v ≡ Some a → Stays act a (after v r) → Stays act a (after v (cond b r (Err WrongIncarnation)))
@@ -260,24 +260,24 @@ call_taken : (v : Server) (act n : ℕ) (op : Operation) (box : Option Kind) (a 
 call_taken v act n op box None e =
     first_cases (Taken act n) v act n op box (λ fault told h. cc)
     (λ class kind s told h.
-      let b = begins act class op (begun_content kind op) in
-      let server : record v { acts = v.acts ++ b.activation ∷ [] } ≡ told.server = cc in
-      let first : n ≡ 1 = begun_number n op class s in
-      let last : b.activation.last ≡ 1 = begins_last act class op (begun_content kind op) in
-      subst (Reaches act n) server (record {
-        now = b.activation;
-        is = find-last (is_act act) v.acts b.activation e (eq-eqb _ _ (begins_act act class op (begun_content kind op)));
-        last = omega (arith, first, last);
-      }))
+    let b = begins act class op (begun_content kind op) in
+    let server : record v { acts = v.acts ++ b.activation ∷ [] } ≡ told.server = cc in
+    let first : n ≡ 1 = begun_number n op class s in
+    let last : b.activation.last ≡ 1 = begins_last act class op (begun_content kind op) in
+    subst (Reaches act n) server (record {
+      now = b.activation;
+      is = find-last (is_act act) v.acts b.activation e (eq-eqb _ _ (begins_act act class op (begun_content kind op)));
+      last = omega (arith, first, last);
+    }))
 call_taken v act n op box (Some a) e =
     known_cases (Taken act n) v act n op a (λ fault told h. cc)
     (λ b k told h.
-      let server : record v { acts = put (is_act act) b.activation v.acts } ≡ told.server = cc in
-      subst (Reaches act n) server (record {
-        now = b.activation;
-        is = find-put (is_act act) v.acts a b.activation e (eq-eqb _ _ (k.act ∙ eqb-true a.act act (found_passes (is_act act) v.acts a e)));
-        last = k.number;
-      }))
+    let server : record v { acts = put (is_act act) b.activation v.acts } ≡ told.server = cc in
+    subst (Reaches act n) server (record {
+      now = b.activation;
+      is = find-put (is_act act) v.acts a b.activation e (eq-eqb _ _ (k.act ∙ eqb-true a.act act (found_passes (is_act act) v.acts a e)));
+      last = k.number;
+    }))
 
 inc_taken : (b : Bool) (act n : ℕ) (r : Result Served ServerFault) → Taken act n r → Taken act n (cond b r (Err WrongIncarnation))
 inc_taken true act n r h = h
@@ -290,11 +290,11 @@ Again v r = (told : Served) → r ≡ Ok told → told.server ≡ v
 known_again : (v : Server) (act n : ℕ) (op : Operation) (a : Activation) → activation act v ≡ Some a → n ≤ a.last → Again v (after_known v act (known_call a n op))
 known_again v act n op a e le =
     elim (nat_eq n a.last) as (λ b. Again v (after_known v act (cond b (Ok (record { activation = a; answer = a.reply; counted = None })) (cond (nat_eq n (a.last + 1)) (next_call a op a.content) (Err Ignored))))) [
-      true ↦ λ told h.
-        (let server : record v { acts = put (is_act act) a v.acts } ≡ told.server = cc in
-        sym server ∙ ap (λ (acts : List Activation). record v { acts = acts }) (put-found (is_act act) v.acts a e))
-    | false ↦
-        rw (ne_eqb n (a.last + 1) (λ same. absurd (omega (arith, le, same)))) (λ told h. cc)
+      | true ↦ λ told h.
+          (let server : record v { acts = put (is_act act) a v.acts } ≡ told.server = cc in
+          sym server ∙ ap (λ (acts : List Activation). record v { acts = acts }) (put-found (is_act act) v.acts a e))
+      | false ↦
+          rw (ne_eqb n (a.last + 1) (λ same. absurd (omega (arith, le, same)))) (λ told h. cc)
     ]
 
 inc_again : (b : Bool) (v : Server) (r : Result Served ServerFault) → Again v r → Again v (cond b r (Err WrongIncarnation))

@@ -11,6 +11,5 @@ pub mod laws;
 mod own_accord;
 pub mod refusal;
 pub mod server;
-
-
-
+#[cfg(test)]
+mod tests;
