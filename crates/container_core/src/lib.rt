@@ -5,4 +5,5 @@ pub mod answer;
 pub mod command;
 pub mod container;
 pub mod fault;
+mod lookups;
 pub mod record;
