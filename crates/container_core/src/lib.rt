@@ -7,3 +7,4 @@ pub mod container;
 pub mod fault;
 mod lookups;
 pub mod record;
+mod servers;
