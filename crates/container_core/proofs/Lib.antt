@@ -1,2 +1,4 @@
 pub mod LookupPlaces
 pub mod ServersCounted
+pub mod AskingAll
+pub mod AskingCallers

@@ -5,3 +5,4 @@ pub mod Messages
 pub mod Commands
 pub mod Room
 pub mod Numbered
+pub mod Asking

@@ -2,6 +2,7 @@
 #![tactic(auto)]
 
 pub mod answer;
+mod asking;
 pub mod command;
 pub mod container;
 pub mod fault;
