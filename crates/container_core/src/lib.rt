@@ -5,5 +5,6 @@ pub mod answer;
 pub mod command;
 pub mod container;
 pub mod fault;
+mod lookups;
 pub mod record;
 mod settling;
