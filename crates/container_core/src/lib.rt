@@ -7,4 +7,5 @@ pub mod container;
 pub mod fault;
 mod lookups;
 pub mod record;
+mod replies;
 mod settling;
