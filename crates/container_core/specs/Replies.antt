@@ -1,7 +1,5 @@
 -- What a reply makes of a link, with what is sent next.
 use Rattle.std.specs.Prelude.{◌≡◌, ◌+◌, ◌≤◌, ℕ, List, [], ◌∷◌, length, Option, Some, None, Result, Ok, Err}
-use Rattle.object_state.specs.declared.both_states.States.{States}
-use Rattle.object_state.specs.declared.faults.StateFault.{StateFault}
 use Rattle.wire_msgs.specs.declared.refusal.Refusal.{Refusal}
 use Rattle.wire_msgs.specs.declared.message.Message.TheVariants.{Call}
 use Rattle.wire_msgs.specs.declared.operation.Operation.{Operation}
@@ -9,7 +7,6 @@ use Rattle.container_core.specs.declared.record.Link.{Link}
 use Rattle.container_core.specs.declared.answer.Action.{Action}
 use Rattle.container_core.specs.declared.answer.Action.TheVariants.{Send}
 use Rattle.container_core.specs.declared.fault.ContainerFault.{ContainerFault}
-use Rattle.container_core.specs.declared.fault.ContainerFault.TheVariants.{BadAnswer}
 use Rattle.container_core.specs.Record.{sends}
 use Rattle.container_core.specs.Messages.{Replied, next_link, next_sent}
 
@@ -26,8 +23,3 @@ went (Ok replied) = Ok (record { link = next_link replied.link; refused = replie
 abbrev pub first_call : Link → List Operation → Option Action
 first_call l [] = None
 first_call l (op ∷ ops) = Some (Send (Call l.inc l.act (l.last + 1) op))
-
--- an operation that was done, with the states and the storage grant after it
-abbrev pub stepped : Link → ℕ → Result States StateFault → Result Replied ContainerFault
-stepped l s (Err fault) = Err BadAnswer
-stepped l s (Ok v) = Ok (record { link = Some (record l { pending = None; states = v; s = s }); refused = None })

@@ -3,8 +3,8 @@
 ghost use Rattle.std.specs.Prelude.{◌≡◌, ◌+◌, ◌≤◌, [], ◌∷◌, IfErr, IfOk, OnErr, OnOk, Ok, Some, None, length, vec_len, vec_capacity};
 ghost use Rattle.object_state.specs.Both as both;
 ghost use Rattle.container_core.specs.Record.{Refuses, sends};
-ghost use Rattle.container_core.specs.Messages.{next_at, noted, reply_link, saved_link};
-ghost use Rattle.container_core.specs.Replies.{first_call, stepped, went};
+ghost use Rattle.container_core.specs.Messages.{done_link, lost, next_at, noted, reply_link, saved_link};
+ghost use Rattle.container_core.specs.Replies.{first_call, went};
 ghost use Rattle.container_core.specs.Room.{IfLinked, IsRoomy};
 
 use crate::answer::Action;
@@ -73,13 +73,13 @@ fn next_actions(alloc: Global, link: &Link, more: usize) -> Result<Vec<Action>, 
 }
 
 // An operation was done, with this storage grant after it.
-fn done(alloc: Global, link: &mut Link, op: Op, s: u32, more: usize) -> Result<Vec<Action>, ContainerFault>
+fn done(alloc: Global, link: &mut Link, op: Op, s: u32, more: usize) -> Result<Replied, ContainerFault>
     requires numbers { link.old.last + length link.old.waiting ≤ 1000000 }
     requires few { more ≤ 1000000 }
-    ensures taken { IfOk result (λ v. went (stepped link.old s (both.step link.old.states op)) ≡ Ok (record { link = Some link.new; refused = None; actions = v.items })) }
-    ensures few { IfOk result (λ v. vec_len v ≤ 1) }
-    ensures room { IfOk result (λ v. vec_len v + more ≤ vec_capacity v) }
-    ensures refused { IfErr result (Refuses (stepped link.old s (both.step link.old.states op))) }
+    ensures taken { IfOk result (λ t. went (done_link link.old s (both.step link.old.states op)) ≡ Ok (record { link = Some link.new; refused = t.refused; actions = t.actions.items })) }
+    ensures few { IfOk result (λ t. vec_len t.actions ≤ 1) }
+    ensures room { IfOk result (λ t. vec_len t.actions + more ≤ vec_capacity t.actions) }
+    ensures refused { IfErr result (Refuses (done_link link.old s (both.step link.old.states op))) }
     ensures kept { OnErr result (link.new ≡ link.old) }
 {
     let Ok(states) = link.states.step(op) else {
@@ -91,44 +91,103 @@ fn done(alloc: Global, link: &mut Link, op: Op, s: u32, more: usize) -> Result<V
     go_on(link);
     link.states = states;
     link.s = s;
-    Ok(actions)
+    Ok(Replied {
+        refused: None,
+        actions,
+    })
 }
 
 // An operation was done and answered the content.
-fn saved(alloc: Global, link: &mut Link, op: Op, content: Stored, more: usize) -> Result<Vec<Action>, ContainerFault>
+fn saved(alloc: Global, link: &mut Link, op: Op, content: Stored, more: usize) -> Result<Replied, ContainerFault>
     requires numbers { link.old.last + length link.old.waiting ≤ 1000000 }
     requires few { more ≤ 1000000 }
-    ensures taken { IfOk result (λ v. went (saved_link content (stepped link.old link.old.s (both.step link.old.states op))) ≡ Ok (record { link = Some link.new; refused = None; actions = v.items })) }
-    ensures few { IfOk result (λ v. vec_len v ≤ 1) }
-    ensures room { IfOk result (λ v. vec_len v + more ≤ vec_capacity v) }
-    ensures refused { IfErr result (Refuses (saved_link content (stepped link.old link.old.s (both.step link.old.states op)))) }
+    ensures taken { IfOk result (λ t. went (saved_link content (done_link link.old link.old.s (both.step link.old.states op))) ≡ Ok (record { link = Some link.new; refused = t.refused; actions = t.actions.items })) }
+    ensures few { IfOk result (λ t. vec_len t.actions ≤ 1) }
+    ensures room { IfOk result (λ t. vec_len t.actions + more ≤ vec_capacity t.actions) }
+    ensures refused { IfErr result (Refuses (saved_link content (done_link link.old link.old.s (both.step link.old.states op)))) }
     ensures kept { OnErr result (link.new ≡ link.old) }
 {
     let s = link.s;
     match done(alloc, link, op, s, more) {
-        Ok(actions) => {
+        Ok(replied) => {
             link.saved = Some(content);
-            Ok(actions)
+            Ok(replied)
         }
         Err(fault) => Err(fault),
     }
 }
 
 // The refusal of an operation is noted, and all else stays.
-fn noted(alloc: Global, link: &mut Link, why: Refusal, more: usize) -> Result<Vec<Action>, ContainerFault>
+fn noted(alloc: Global, link: &mut Link, why: Refusal, more: usize) -> Result<Replied, ContainerFault>
     requires numbers { link.old.last + length link.old.waiting ≤ 1000000 }
     requires few { more ≤ 1000000 }
-    ensures taken { IfOk result (λ v. went (noted link.old why) ≡ Ok (record { link = Some link.new; refused = Some why; actions = v.items })) }
-    ensures few { IfOk result (λ v. vec_len v ≤ 1) }
-    ensures room { IfOk result (λ v. vec_len v + more ≤ vec_capacity v) }
-    ensures refused { IfErr result (λ e. e ≡ ContainerFault.NoMemory) }
+    ensures taken { IfOk result (λ t. went (noted link.old why) ≡ Ok (record { link = Some link.new; refused = t.refused; actions = t.actions.items })) }
+    ensures few { IfOk result (λ t. vec_len t.actions ≤ 1) }
+    ensures room { IfOk result (λ t. vec_len t.actions + more ≤ vec_capacity t.actions) }
+    ensures refused { IfErr result (Refuses (noted link.old why)) }
     ensures kept { OnErr result (link.new ≡ link.old) }
 {
-    match next_actions(alloc, link, more) {
-        Ok(actions) => {
-            go_on(link);
-            Ok(actions)
-        }
-        Err(_) => Err(ContainerFault::NoMemory),
+    let Ok(actions) = next_actions(alloc, link, more) else {
+        return Err(ContainerFault::NoMemory);
+    };
+    go_on(link);
+    Ok(Replied {
+        refused: Some(why),
+        actions,
+    })
+}
+
+// The object is passive again.
+fn lost(alloc: Global, link: &mut Option<Link>, why: Refusal, more: usize) -> Result<Replied, ContainerFault>
+    requires { more ≤ 1000000 }
+    ensures taken { IfOk result (λ t. went (lost why) ≡ Ok (record { link = link.new; refused = t.refused; actions = t.actions.items })) }
+    ensures few { IfOk result (λ t. vec_len t.actions ≤ 1) }
+    ensures room { IfOk result (λ t. vec_len t.actions + more ≤ vec_capacity t.actions) }
+    ensures refused { IfErr result (Refuses (lost why)) }
+    ensures kept { OnErr result (link.new ≡ link.old) }
+{
+    let Ok(actions) = Vec::with_capacity(alloc, more) else {
+        return Err(ContainerFault::NoMemory);
+    };
+    *link = None;
+    Ok(Replied {
+        refused: Some(why),
+        actions,
+    })
+}
+
+/// The answer to the call of this number; then the first operation that waits is called. The actions have room for so
+/// many more.
+///
+/// Refused as stale unless the call is pending, as a bad answer if it doesn't fit the operation or its states, and last
+/// for want of memory. Then nothing changes.
+pub(crate) fn told(alloc: Global, link: &mut Option<Link>, n: u32, answer: Answer, more: usize) -> Result<Replied, ContainerFault>
+    requires numbers { IfLinked (IsRoomy 1000000 0) link.old }
+    requires few { more ≤ 1000000 }
+    ensures taken { IfOk result (λ t. went (reply_link n answer link.old) ≡ Ok (record { link = link.new; refused = t.refused; actions = t.actions.items })) }
+    ensures few { IfOk result (λ t. vec_len t.actions ≤ 1) }
+    ensures room { IfOk result (λ t. vec_len t.actions + more ≤ vec_capacity t.actions) }
+    ensures refused { IfErr result (Refuses (reply_link n answer link.old)) }
+    ensures kept { OnErr result (link.new ≡ link.old) }
+{
+    let Some(l) = link else {
+        return Err(ContainerFault::Stale);
+    };
+    let Some(operation) = &l.pending else {
+        return Err(ContainerFault::Stale);
+    };
+    if n != l.last {
+        return Err(ContainerFault::Stale);
+    }
+    let op = operation.op();
+    let s = l.s;
+    match (operation, answer) {
+        (Operation::InitNew(_) | Operation::Load(_, _), Answer::Done) => done(alloc, l, op, 1, more),
+        (Operation::InitNew(_) | Operation::Load(_, _), Answer::Refused(why)) => lost(alloc, link, why, more),
+        (Operation::Edit(_), Answer::Done) => done(alloc, l, op, s, more),
+        (Operation::Edit(_), Answer::Refused(why)) => noted(alloc, l, why, more),
+        (Operation::Save(_), Answer::Content(content)) => saved(alloc, l, op, content, more),
+        (Operation::SaveCompleted { .. }, Answer::Done) => done(alloc, l, op, s + 1, more),
+        _ => Err(ContainerFault::BadAnswer),
     }
 }
