@@ -1,1 +1,2 @@
 pub mod LookupPlaces
+pub mod ServersCounted

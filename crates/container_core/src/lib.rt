@@ -9,3 +9,4 @@ mod lookups;
 pub mod record;
 mod replies;
 mod settling;
+mod servers;
