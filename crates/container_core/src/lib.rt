@@ -8,4 +8,6 @@ pub mod container;
 pub mod fault;
 mod lookups;
 pub mod record;
+mod replies;
+mod settling;
 mod servers;
