@@ -3,6 +3,7 @@
 
 pub mod answer;
 mod asking;
+mod checks;
 pub mod command;
 pub mod container;
 pub mod fault;
