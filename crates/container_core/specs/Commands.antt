@@ -85,15 +85,19 @@ insert_made r f kind area = record {
 abbrev pub is_empty_area : Area → Bool
 is_empty_area area = (area.w == 0) || (area.h == 0)
 
+abbrev pub insert_into : Record → ℕ → Kind → Area → Result Took ContainerFault
+insert_into r f kind area =
+    unless (nat_le MOST_OBJECTS (count_objects f r.objects)) Full
+    (unless (nat_le r.numbers r.last_object) NumbersSpent
+    (Ok (insert_made r f kind area)))
+
 abbrev pub insert_at : Record → ℕ → Kind → Area → Option Frame → Result Took ContainerFault
 insert_at r f kind area None = Err NoSuch
 insert_at r f kind area (Some frame) =
     unless (is_doubtful frame.phase) InDoubt
     (unless (is_saving frame.phase) Busy
     (unless (is_empty_area area) WrongState
-    (unless (nat_le MOST_OBJECTS (count_objects f r.objects)) Full
-    (unless (nat_le r.numbers r.last_object) NumbersSpent
-    (Ok (insert_made r f kind area))))))
+    (insert_into r f kind area)))
 
 abbrev pub insert : Record → ℕ → Kind → Area → Result Took ContainerFault
 insert r f kind area = insert_at r f kind area (nth r.frames f)
@@ -130,16 +134,20 @@ run_made r o inc =
 abbrev pub is_known_class : List ℕ → Bool
 is_known_class class = bytes_eq class (class_of Note) || bytes_eq class (class_of Table) || bytes_eq class (class_of Drawing)
 
+abbrev pub run_object : Record → Object → ℕ → Result Took ContainerFault
+run_object r o inc =
+    unless (is_some o.link) WrongState
+    (unless (not (is_known_class o.class)) UnknownClass
+    (unless (nat_lt r.numbers MARGIN || nat_le r.numbers r.last_act) NumbersSpent
+    (Ok (run_made r o inc))))
+
 abbrev pub run_in : Record → Object → ℕ → Option Frame → Result Took ContainerFault
 run_in r o inc None = Err NoSuch
 run_in r o inc (Some frame) =
     unless (not (is_alive r inc)) NoSuch
     (unless (is_doubtful frame.phase) InDoubt
     (unless (is_saving frame.phase || is_busy frame.ui.state o) Busy
-    (unless (is_some o.link) WrongState
-    (unless (not (is_known_class o.class)) UnknownClass
-    (unless (nat_lt r.numbers MARGIN || nat_le r.numbers r.last_act) NumbersSpent
-    (Ok (run_made r o inc)))))))
+    (run_object r o inc)))
 
 abbrev pub run_at : Record → ℕ → Option Object → Result Took ContainerFault
 run_at r inc None = Err NoSuch

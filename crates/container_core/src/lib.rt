@@ -5,6 +5,7 @@ pub mod answer;
 mod asking;
 mod checks;
 pub mod command;
+mod commands;
 pub mod container;
 pub mod fault;
 mod lookups;
