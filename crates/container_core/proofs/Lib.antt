@@ -1,2 +1,3 @@
 pub mod LookupPlaces
+pub mod MessageReplies
 pub mod ServersCounted
