@@ -1,3 +1,4 @@
 pub mod LookupPlaces
 pub mod MessageReplies
+pub mod MessageSound
 pub mod ServersCounted

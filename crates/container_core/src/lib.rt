@@ -6,6 +6,7 @@ pub mod command;
 pub mod container;
 pub mod fault;
 mod lookups;
+mod messages;
 pub mod record;
 mod replies;
 mod settling;
