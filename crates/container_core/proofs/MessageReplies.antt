@@ -1,5 +1,5 @@
 -- Replies to a pending call.
-use Rattle.std.proofs.Common.{◌≡◌, ℕ, List, [], ◌∷◌, Option, Some, None, Result, Ok, Err, IfErr, refl, ap, sym, ◌∙◌, eq-eqb, subst, ◌==◌, ◌+◌, Bool, true}
+use Rattle.std.proofs.Common.{◌≡◌, ℕ, List, [], ◌∷◌, ◌++◌, Option, Some, None, Result, Ok, Err, IfErr, refl, ap, sym, ◌∙◌, eq-eqb, subst, ◌==◌, ◌+◌, Bool, true}
 use Rattle.wire_msgs.specs.declared.answer.Answer.{Answer}
 use Rattle.wire_msgs.specs.declared.message.Message.{Message}
 use Rattle.wire_msgs.specs.declared.operation.Operation.{Operation}
@@ -15,8 +15,13 @@ use Rattle.storage_tree.specs.declared.stored.Stored.{Stored}
 use Rattle.container_core.specs.declared.record.Link.{Link}
 use Rattle.container_core.specs.declared.answer.Action.{Action}
 use Rattle.container_core.specs.declared.fault.ContainerFault.{ContainerFault}
-use Rattle.container_core.specs.Record.{Refuses, sends}
-use Rattle.container_core.specs.Messages.{Replied, done_link, next_at, replied, reply_link, saved_link}
+use Rattle.container_core.specs.declared.answer.Answer as told_answer
+use Rattle.container_core.specs.declared.record.Frame.{Frame}
+use Rattle.container_core.specs.declared.record.Object.{Object}
+use Rattle.wire_msgs.specs.Found.{find, put}
+use Rattle.container_core.specs.Saves.{settle, settled_actions, settled_frames}
+use Rattle.container_core.specs.Record.{Record, Refuses, is_linked, quiet_answer, sends}
+use Rattle.container_core.specs.Messages.{Replied, done_link, next_at, replied, reply_link, saved_link, next_link, next_sent, reply_found, reply_taken}
 use Rattle.container_core.specs.Replies.{Went, went}
 
 -- a refusal of what is equal
@@ -37,7 +42,7 @@ next_same : (content : Stored) (l : Link) (ops : List Operation) → (next_at (r
 next_same content l [] = refl
 next_same content l (op ∷ ops) = refl
 
-abbrev link_in : Result Went ContainerFault → Option Link
+abbrev pub link_in : Result Went ContainerFault → Option Link
 link_in (Ok w) = w.link
 link_in (Err fault) = None
 
@@ -87,3 +92,17 @@ module _ {A : Type 0} (result : Result A ContainerFault) (n : ℕ) (answer : Ans
   pub refused_save : (content : Stored) → answer ≡ told.Content content → (k : ℕ) → op ≡ operation.Save k → IfErr result (Refuses (saved_link content (done_link l l.s (both.step l.states o)))) → IfErr result (Refuses (reply_link n answer link))
   refused_save content a k e h =
     refused_reply (saved_link content (done_link l l.s (both.step l.states o))) (rw (known, a, e) refl) h
+
+went_found : (r : Record) (inc act : ℕ) (o : Object) (R : Result Replied ContainerFault) (w : Went) → went R ≡ Ok w → reply_taken r inc act o R ≡ Ok (record { rec = settle (record r { objects = put (is_linked inc act) (record o { link = w.link }) r.objects }); answer = record quiet_answer { refused = w.refused; actions = w.actions ++ settled_actions 1 (put (is_linked inc act) (record o { link = w.link }) r.objects) r.frames } })
+went_found r inc act o (Err fault) w e = cc
+went_found r inc act o (Ok x) w e =
+    let m : next_link x.link ≡ w.link = ap link_in e in
+    let s : sends (next_sent x.link) ≡ w.actions = ap actions_in e in
+    let y : x.refused ≡ w.refused = ap refused_in e in
+    rw (m, s, y) refl
+
+-- what a reply makes of the record
+pub reply_made : (r : Record) (inc act n : ℕ) (answer : Answer) (o next : Object) (w : Went) (objects : List Object) (frames : List Frame) (actions : List Action) (told : told_answer.Answer) → find (is_linked inc act) r.objects ≡ Some o → went (reply_link n answer o.link) ≡ Ok w → next ≡ record o { link = w.link } → put (is_linked inc act) next r.objects ≡ objects → frames ≡ settled_frames 1 objects r.frames → actions ≡ w.actions ++ settled_actions 1 objects r.frames → told ≡ record quiet_answer { refused = w.refused; actions = actions } → reply_found r inc act n answer (find (is_linked inc act) r.objects) ≡ Ok (record { rec = record r { frames = frames; objects = objects }; answer = told })
+reply_made r inc act n answer o next w objects frames actions told found e same puts settled asked answered =
+    let p : put (is_linked inc act) (record o { link = w.link }) r.objects ≡ objects = rw (← same) puts in
+    rw (found, went_found r inc act o (reply_link n answer o.link) w e, p, answered, asked, settled) refl

@@ -1,5 +1,5 @@
 -- What messages and the ends of servers keep of a record's room.
-use Rattle.std.proofs.Common.{◌≡◌, ◌+◌, ◌≤◌, ℕ, zero, suc, Bool, true, false, List, [], ◌∷◌, ◌++◌, length, map, Option, Some, None, Result, Ok, Err, refl, ap, sym, ◌∙◌, arith, All, slice_get, subst, if◌then◌else◌, ◌==◌}
+use Rattle.std.proofs.Common.{◌≡◌, ◌+◌, ◌≤◌, ℕ, zero, suc, Bool, true, false, List, [], ◌∷◌, ◌++◌, length, map, Option, Some, None, Result, Ok, Err, refl, ap, sym, ◌∙◌, arith, All, IfOk, slice_get, subst, if◌then◌else◌, ◌==◌}
 use Rattle.std.proofs.lemmas.List.Elements.{All-nil, All-cons, All-head, All-map, All-tail, All-weaker}
 use Rattle.std.proofs.lemmas.List.{length-set}
 use Rattle.wire_msgs.specs.Found.{find, put, nth, set_nth}
@@ -8,10 +8,23 @@ use Rattle.container_core.specs.declared.record.Object.{Object}
 use Rattle.container_core.specs.declared.record.Frame.{Frame}
 use Rattle.container_core.specs.declared.record.Phase.{Phase}
 use Rattle.container_core.specs.declared.record.Phase.TheVariants.{Idle, Saving, HandingOff, Committing, InDoubt}
-use Rattle.container_core.specs.Record.{Record}
-use Rattle.container_core.specs.Room.{HasRoom, IfLinked, IsRoomy, IsSound, debt, debt_in}
+use Rattle.container_core.specs.declared.fault.ContainerFault.{ContainerFault}
+use Rattle.container_core.specs.declared.fault.ContainerFault.TheVariants.{Stale}
+use Rattle.container_core.specs.Record.{Record, is_linked}
+use Rattle.container_core.specs.Replies.{Went, went}
+use Rattle.container_core.proofs.MessageReplies.{link_in}
+use Rattle.object_state.specs.Both as both
+use Rattle.object_state.specs.declared.operations.Op.TheVariants as op
+use Rattle.object_state.specs.declared.both_states.States.{States}
+use Rattle.object_state.specs.declared.faults.StateFault.{StateFault}
+use Rattle.storage_tree.specs.declared.stored.Stored.{Stored}
+use Rattle.wire_msgs.specs.declared.answer.Answer.{Answer}
+use Rattle.wire_msgs.specs.declared.answer.Answer.TheVariants as told
+use Rattle.wire_msgs.specs.declared.operation.Operation.{Operation}
+use Rattle.wire_msgs.specs.declared.operation.Operation.TheVariants as operation
+use Rattle.container_core.specs.Room.{HasRoom, count_pending, IfLinked, IsRoomy, IsSound, debt, debt_in}
 use Rattle.container_core.specs.Saves.{is_ready, is_ready_at, kept, awaits, settle, settled_frame, settled_frames}
-use Rattle.container_core.specs.Messages.{reaped, reaped_object}
+use Rattle.container_core.specs.Messages.{Replied, done_link, next_at, next_link, reaped, reaped_object, replied, reply_link, reply_pending, saved_link}
 
 pub found_all : {A : Type 0} (P : A → Type 0) (test : A → Bool) (xs : List A) (x : A) → find test xs ≡ Some x → All P xs → P x
 found_all P test [] x e h = cc
@@ -99,3 +112,103 @@ reaped_sound r inc h = record {
   objects = h.objects;
   acts = h.acts;
   }
+
+-- a link after its pending call was answered, before what waits is called
+record Grown (l next : Link) : Type 0 where
+  pending : next.pending ≡ None
+  last : next.last ≡ l.last
+  waiting : next.waiting ≡ l.waiting
+  s : next.s ≤ l.s + 1
+
+abbrev IsFine : Link → Result Replied ContainerFault → Type 0
+IsFine l R = IfOk R (λ x. IfLinked (Grown l) x.link)
+
+done_fine : (l : Link) (s : ℕ) (R : Result States StateFault) → s ≤ l.s + 1 → IsFine l (done_link l s R)
+done_fine l s (Err fault) h = tt
+done_fine l s (Ok v) h = record { pending = refl; last = refl; waiting = refl; s = h }
+
+saved_link_fine : (l : Link) (content : Stored) (link : Option Link) → IfLinked (Grown l) link → IfLinked (Grown l) (elim link [ None ↦ None | Some x ↦ Some (record x { saved = Some content }) ])
+saved_link_fine l content None h = tt
+saved_link_fine l content (Some x) h = record { pending = h.pending; last = h.last; waiting = h.waiting; s = h.s }
+
+saved_fine : (l : Link) (content : Stored) (R : Result Replied ContainerFault) → IsFine l R → IsFine l (saved_link content R)
+saved_fine l content (Err fault) h = tt
+saved_fine l content (Ok x) h = saved_link_fine l content x.link h
+
+replied_fine : (l : Link) (op : Operation) (answer : Answer) → IsFine l (replied l op answer)
+replied_fine l (operation.InitNew class) told.Done = done_fine l 1 (both.step l.states op.InitNew) (omega arith)
+replied_fine l (operation.InitNew class) (told.Refused why) = tt
+replied_fine l (operation.InitNew class) (told.Content kept) = tt
+replied_fine l (operation.InitNew class) (told.Tools menus border) = tt
+replied_fine l (operation.Load class content) told.Done = done_fine l 1 (both.step l.states op.Load) (omega arith)
+replied_fine l (operation.Load class content) (told.Refused why) = tt
+replied_fine l (operation.Load class content) (told.Content kept) = tt
+replied_fine l (operation.Load class content) (told.Tools menus border) = tt
+replied_fine l operation.InPlace answer = tt
+replied_fine l (operation.UiActivate grant) answer = tt
+replied_fine l operation.UiDeactivate answer = tt
+replied_fine l operation.InPlaceDeactivate answer = tt
+replied_fine l operation.OpenWindow answer = tt
+replied_fine l (operation.Edit bytes) told.Done = done_fine l l.s (both.step l.states op.Edit) (omega arith)
+replied_fine l (operation.Edit bytes) (told.Refused why) = record { pending = refl; last = refl; waiting = refl; s = omega arith }
+replied_fine l (operation.Edit bytes) (told.Content kept) = tt
+replied_fine l (operation.Edit bytes) (told.Tools menus border) = tt
+replied_fine l (operation.Save k) told.Done = tt
+replied_fine l (operation.Save k) (told.Refused why) = tt
+replied_fine l (operation.Save k) (told.Content kept) = saved_fine l kept (done_link l l.s (both.step l.states (op.Save k))) (done_fine l l.s (both.step l.states (op.Save k)) (omega arith))
+replied_fine l (operation.Save k) (told.Tools menus border) = tt
+replied_fine l operation.HandsOff answer = tt
+replied_fine l (operation.SaveCompleted k storage) told.Done = done_fine l (l.s + 1) (both.step l.states (op.SaveCompleted k storage)) (omega arith)
+replied_fine l (operation.SaveCompleted k storage) (told.Refused why) = tt
+replied_fine l (operation.SaveCompleted k storage) (told.Content kept) = tt
+replied_fine l (operation.SaveCompleted k storage) (told.Tools menus border) = tt
+replied_fine l (operation.SaveDropped k) answer = tt
+replied_fine l (operation.Close option) answer = tt
+
+next_roomy : (numbers more : ℕ) (l next : Link) (op : Operation) (ops : List Operation) → IsRoomy numbers more l → l.pending ≡ Some op → Grown l next → length next.waiting ≡ length ops → IsRoomy numbers more (next_at next ops).link
+next_roomy numbers more l next op [] h p g k =
+    let one : count_pending l ≡ 1 = rw p refl in
+    let none : count_pending next ≡ 0 = rw g.pending refl in
+    let same : length next.waiting ≡ length l.waiting = ap length g.waiting in
+    record { calls = omega arith; grants = omega arith }
+next_roomy numbers more l next op (q ∷ ops) h p g k =
+    let one : count_pending l ≡ 1 = rw p refl in
+    let same : length next.waiting ≡ length l.waiting = ap length g.waiting in
+    record { calls = omega arith; grants = omega arith }
+
+link_roomy : (numbers more : ℕ) (l : Link) (op : Operation) (link : Option Link) → IsRoomy numbers more l → l.pending ≡ Some op → IfLinked (Grown l) link → IfLinked (IsRoomy numbers more) (next_link link)
+link_roomy numbers more l op None h p g = tt
+link_roomy numbers more l op (Some next) h p g = next_roomy numbers more l next op next.waiting h p g refl
+
+fine_roomy : (numbers more : ℕ) (l : Link) (op : Operation) (R : Result Replied ContainerFault) (w : Went) → IsRoomy numbers more l → l.pending ≡ Some op → IsFine l R → went R ≡ Ok w → IfLinked (IsRoomy numbers more) w.link
+fine_roomy numbers more l op (Err fault) w h p g e = cc
+fine_roomy numbers more l op (Ok x) w h p g e =
+    subst (IfLinked (IsRoomy numbers more)) (ap link_in e) (link_roomy numbers more l op x.link h p g)
+
+pending_roomy : (numbers more : ℕ) (n : ℕ) (answer : Answer) (l : Link) (pending : Option Operation) (w : Went) → IsRoomy numbers more l → l.pending ≡ pending → went (reply_pending l n answer pending) ≡ Ok w → IfLinked (IsRoomy numbers more) w.link
+pending_roomy numbers more n answer l None w h p e = cc
+pending_roomy numbers more n answer l (Some op) w h p e = elim (n == l.last) as (λ b. went (if b then replied l op answer else Err Stale) ≡ Ok w → IfLinked (IsRoomy numbers more) w.link) [
+    true ↦ λ t. fine_roomy numbers more l op (replied l op answer) w h p (replied_fine l op answer) t
+  | false ↦ λ t. cc
+  ] e
+
+-- a link has room after a reply
+pub went_roomy : (numbers more : ℕ) (n : ℕ) (answer : Answer) (link : Option Link) (w : Went) → IfLinked (IsRoomy numbers more) link → went (reply_link n answer link) ≡ Ok w → IfLinked (IsRoomy numbers more) w.link
+went_roomy numbers more n answer None w h e = cc
+went_roomy numbers more n answer (Some l) w h e = pending_roomy numbers more n answer l l.pending w h refl e
+
+-- the record after a reply has room
+pub reply_sound : (r : Record) (inc act n : ℕ) (answer : Answer) (o next : Object) (w : Went) → IsSound r → find (is_linked inc act) r.objects ≡ Some o → went (reply_link n answer o.link) ≡ Ok w → next ≡ record o { link = w.link } → IsSound (record r { objects = put (is_linked inc act) next r.objects })
+reply_sound r inc act n answer o next w h found e same =
+    let P = HasRoom r.numbers r.frames in
+    let old : P o = found_all P (is_linked inc act) r.objects o found h.room in
+    let new : P (record o { link = w.link }) = went_roomy r.numbers (debt_in (nth r.frames o.frame)) n answer o.link w old e in
+    record {
+      limit = h.limit;
+      room = put_all P (is_linked inc act) next r.objects (rw same new) h.room;
+      saves = h.saves;
+      frames = h.frames;
+      servers = h.servers;
+      objects = h.objects;
+      acts = h.acts;
+    }

@@ -88,3 +88,100 @@ fn reap_all(inc: u32, objects: &mut Vec<Object>)
 {
     reap_slice(inc, objects);
 }
+
+impl ContainerCore {
+    ghost use Rattle.std.specs.Prelude.{◌≡◌, ◌+◌, ◌≤◌, IfErr, IfOk, OnErr, Ok, length};
+    ghost use Rattle.wire_msgs.specs.Found.{find, IsPlace};
+    ghost use Rattle.container_core.specs.Record.{Refuses, is_linked};
+    ghost use Rattle.container_core.specs.Messages.{on_message, on_reap, on_reply, reply_found};
+
+    /// A message on the link of a server. The answer has what is sent and which files are to be committed.
+    ///
+    /// Refused as a wrong link if it isn't one of this link, as stale if it answers no pending call of an object, as a
+    /// bad answer if it doesn't fit the call, and last for want of memory. Then nothing changes.
+    pub fn on_message(&mut self, alloc: Global, link: u32, message: Message) -> Result<Answer, ContainerFault>
+        ensures taken { IfOk result (λ a. on_message self.old link message ≡ Ok (record { rec = self.new; answer = a })) }
+        ensures few { IfOk result (λ a. length a.actions ≤ length self.old.objects + length self.old.frames + 1) }
+        ensures refused { IfErr result (Refuses (on_message self.old link message)) }
+        ensures kept { OnErr result (self.new ≡ self.old) }
+    {
+        match message {
+            Message::Call { .. } => Err(ContainerFault::WrongLink),
+            Message::Reply {
+                inc,
+                act,
+                n,
+                answer,
+            } => {
+                if inc != link {
+                    return Err(ContainerFault::WrongLink);
+                }
+                self.on_reply(alloc, inc, act, n, answer)
+            }
+            Message::Write { inc, .. } | Message::Ask { inc, .. } => {
+                if inc != link {
+                    return Err(ContainerFault::WrongLink);
+                }
+                Err(ContainerFault::Stale)
+            }
+        }
+    }
+
+    // A reply of a server.
+    fn on_reply(&mut self, alloc: Global, inc: u32, act: u32, n: u32, answer: reply::Answer) -> Result<Answer, ContainerFault>
+        ensures taken { IfOk result (λ a. on_reply self.old inc act n answer ≡ Ok (record { rec = self.new; answer = a })) }
+        ensures few { IfOk result (λ a. length a.actions ≤ length self.old.objects + length self.old.frames + 1) }
+        ensures refused { IfErr result (Refuses (on_reply self.old inc act n answer)) }
+        ensures kept { OnErr result (self.new ≡ self.old) }
+    {
+        if !self.servers.is_alive(inc) {
+            return Err(ContainerFault::Stale);
+        }
+        let Some(place) = place_linked(&self.objects, inc, act) else {
+            return Err(ContainerFault::Stale);
+        };
+        self.reply_at(alloc, place, inc, act, n, answer)
+    }
+
+    // A reply to the object that stands here.
+    fn reply_at(&mut self, alloc: Global, place: usize, inc: u32, act: u32, n: u32, answer: reply::Answer) -> Result<Answer, ContainerFault>
+        requires { IsPlace (is_linked inc act) self.old.objects place }
+        ensures taken { IfOk result (λ a. reply_found self.old inc act n answer (find (is_linked inc act) self.old.objects) ≡ Ok (record { rec = self.new; answer = a })) }
+        ensures few { IfOk result (λ a. length a.actions ≤ length self.old.objects + length self.old.frames + 1) }
+        ensures refused { IfErr result (Refuses (reply_found self.old inc act n answer (find (is_linked inc act) self.old.objects))) }
+        ensures kept { OnErr result (self.new ≡ self.old) }
+    {
+        let more = self.frames.len();
+        let Replied {
+            refused,
+            mut actions,
+        } = match told_object(alloc, &mut self.objects[place], n, answer, more) {
+            Ok(replied) => replied,
+            Err(fault) => return Err(fault),
+        };
+        settle_into(&mut actions, &mut self.frames, &self.objects);
+        Ok(answered(alloc, refused, actions))
+    }
+
+    /// The end of a server: its objects are passive, each with the content that it answered in the present save, if any.
+    /// The answer has which files are to be committed.
+    ///
+    /// Refused if there is no such server that isn't reaped, and last for want of memory. Then nothing changes.
+    pub fn on_reap(&mut self, alloc: Global, inc: u32) -> Result<Answer, ContainerFault>
+        ensures taken { IfOk result (λ a. on_reap self.old inc ≡ Ok (record { rec = self.new; answer = a })) }
+        ensures few { IfOk result (λ a. length a.actions ≤ length self.old.objects + length self.old.frames + 1) }
+        ensures refused { IfErr result (Refuses (on_reap self.old inc)) }
+        ensures kept { OnErr result (self.new ≡ self.old) }
+    {
+        if !self.servers.is_alive(inc) {
+            return Err(ContainerFault::NoSuch);
+        }
+        let Ok(mut actions) = Vec::with_capacity(alloc, self.frames.len()) else {
+            return Err(ContainerFault::NoMemory);
+        };
+        reap_all(inc, &mut self.objects);
+        self.servers.reap(inc);
+        settle_into(&mut actions, &mut self.frames, &self.objects);
+        Ok(answered(alloc, None, actions))
+    }
+}
