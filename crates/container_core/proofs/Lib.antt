@@ -1,4 +1,5 @@
 pub mod LookupPlaces
+pub mod MessageLaws
 pub mod MessageReplies
 pub mod MessageSound
 pub mod ServersCounted

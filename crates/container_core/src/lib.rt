@@ -5,6 +5,7 @@ pub mod answer;
 pub mod command;
 pub mod container;
 pub mod fault;
+pub mod laws;
 mod lookups;
 mod messages;
 pub mod record;
