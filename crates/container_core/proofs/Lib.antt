@@ -3,3 +3,5 @@ pub mod MessageLaws
 pub mod MessageReplies
 pub mod MessageSound
 pub mod ServersCounted
+pub mod AskingAll
+pub mod AskingCallers

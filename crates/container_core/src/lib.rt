@@ -2,6 +2,8 @@
 #![tactic(auto)]
 
 pub mod answer;
+mod asking;
+mod checks;
 pub mod command;
 pub mod container;
 pub mod fault;
