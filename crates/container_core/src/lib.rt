@@ -4,5 +4,6 @@
 pub mod answer;
 pub mod command;
 pub mod container;
+mod documents;
 pub mod fault;
 pub mod record;
