@@ -6,4 +6,6 @@ pub mod command;
 pub mod container;
 mod documents;
 pub mod fault;
+mod lookups;
 pub mod record;
+mod settling;
