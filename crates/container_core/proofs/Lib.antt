@@ -1,3 +1,4 @@
 pub mod LookupPlaces
 pub mod DocumentsTree
 pub mod DocumentsRoom
+pub mod CommitsRoom

@@ -4,6 +4,7 @@
 pub mod answer;
 pub mod command;
 pub mod container;
+mod commits;
 mod documents;
 pub mod fault;
 mod lookups;
