@@ -2,3 +2,5 @@ pub mod LookupPlaces
 pub mod DocumentsTree
 pub mod DocumentsRoom
 pub mod CommitsRoom
+pub mod CommitsObjects
+pub mod CommitsDone
