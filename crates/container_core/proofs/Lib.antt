@@ -4,3 +4,6 @@ pub mod DocumentsRoom
 pub mod CommitsRoom
 pub mod CommitsObjects
 pub mod CommitsDone
+pub mod ServersCounted
+pub mod AskingAll
+pub mod AskingCallers

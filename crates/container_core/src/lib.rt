@@ -2,6 +2,7 @@
 #![tactic(auto)]
 
 pub mod answer;
+mod asking;
 pub mod command;
 pub mod container;
 mod commits;
@@ -9,4 +10,6 @@ mod documents;
 pub mod fault;
 mod lookups;
 pub mod record;
+mod replies;
 mod settling;
+mod servers;

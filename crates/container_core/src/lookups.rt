@@ -1,14 +1,14 @@
-//! Where frames, servers and objects stand.
+//! Where frames and objects stand.
 
 ghost use Rattle.std.specs.Prelude.{◌≡◌, ◌&&◌, ◌==◌, MatchOption, None};
 ghost use Rattle.wire_msgs.specs.Found.{find, nth, IsPlace};
-ghost use Rattle.container_core.specs.Record.{is_linked, is_object, is_unreaped};
+ghost use Rattle.container_core.specs.Record.{is_linked, is_object};
 ghost use Rattle.container_core.specs.Numbered.{IsNth};
 
 use crate::record::{Frame, Object};
 
-// Where the item of this number stands.
-fn place<T>(items: &[T], number: u32) -> Option<usize>
+/// Where the item of this number stands.
+pub(crate) fn place<T>(items: &[T], number: u32) -> Option<usize>
     ensures { MatchOption result (nth items.now number ≡ None) (IsNth number items.now) }
 {
     if number == 0 {
@@ -27,23 +27,6 @@ pub(crate) fn frame_place(frames: &[Frame], number: u32) -> Option<usize>
     ensures { MatchOption result (nth frames.now number ≡ None) (IsNth number frames.now) }
 {
     place(frames, number)
-}
-
-/// Where the server of this incarnation stands, reaped or not.
-pub(crate) fn server_place(servers: &[bool], inc: u32) -> Option<usize>
-    ensures { MatchOption result (nth servers.now inc ≡ None) (IsNth inc servers.now) }
-{
-    place(servers, inc)
-}
-
-/// Whether the server of this incarnation was started and isn't reaped.
-pub(crate) fn is_alive(servers: &[bool], inc: u32) -> bool
-    ensures { result ≡ is_unreaped (nth servers.now inc) }
-{
-    match server_place(servers, inc) {
-        Some(place) => !servers[place],
-        None => false,
-    }
 }
 
 /// Where the object of this number stands.

@@ -1,4 +1,4 @@
-use Rattle.std.proofs.Common.{sym, ◌∙◌, arith, eq-eqb}
+use Rattle.std.proofs.Common.{arith, eq-eqb}
 use Rattle.std.proofs.lemmas.Bool.{ne_eqb}
 use Rattle.container_core.proofs.LookupPlaces.{past_none, past_more, past_here, past_all}
 use Rattle.container_core.proofs.lookups.place_object.Goals as goal
