@@ -14,7 +14,7 @@ use Rattle.container_core.proofs.container.ContainerCore.commit_done.Goals as go
 
 pub invariant_of-self : goal.invariant_of-self
 invariant_of-self c =
-    let r : Record = record { frames = c.self.inside.frames.items; objects = c.self.inside.objects.items; servers = c.self.inside.servers.items; last_object = c.self.inside.last_object; last_act = c.self.inside.last_act; numbers = c.self.inside.numbers } in
+    let r : Record = record { frames = c.self.inside.frames.items; objects = c.self.inside.objects.items; servers = c.self.inside.servers; last_object = c.self.inside.last_object; last_act = c.self.inside.last_act; numbers = c.self.inside.numbers } in
     let view : r ≡ c.args.self.now = c.self.view_is in
     let f : ℕ = c.args.f in
     let frame : Frame = c.index.result.now in
@@ -30,7 +30,7 @@ invariant_of-self c =
 
 pub returns-clause-taken : goal.returns-clause-taken
 returns-clause-taken c =
-    let r : Record = record { frames = c.self.inside.frames.items; objects = c.self.inside.objects.items; servers = c.self.inside.servers.items; last_object = c.self.inside.last_object; last_act = c.self.inside.last_act; numbers = c.self.inside.numbers } in
+    let r : Record = record { frames = c.self.inside.frames.items; objects = c.self.inside.objects.items; servers = c.self.inside.servers; last_object = c.self.inside.last_object; last_act = c.self.inside.last_act; numbers = c.self.inside.numbers } in
     let view : r ≡ c.args.self.now = c.self.view_is in
     let f : ℕ = c.args.f in
     let frame : Frame = c.index.result.now in
