@@ -7,3 +7,4 @@ pub mod CommitsDone
 pub mod ServersCounted
 pub mod AskingAll
 pub mod AskingCallers
+pub mod CommitsLaws

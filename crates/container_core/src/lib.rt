@@ -5,6 +5,7 @@ pub mod answer;
 mod asking;
 pub mod command;
 pub mod container;
+pub mod commit_laws;
 mod commits;
 mod documents;
 pub mod fault;
