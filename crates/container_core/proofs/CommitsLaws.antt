@@ -112,7 +112,7 @@ tells_all : (f : ℕ) (frame : Frame) (os : List Object) → sends (asked_all f 
 tells_all f frame [] = refl
 tells_all f frame (o ∷ os) =
     elim (o.frame == f) as (λ b. sends (if b then asked_sent (completion frame) o.link ++ asked_all f (completion frame) os else asked_all f (completion frame) os)
-        ≡ map (telling frame) (if b then free_link o.link ++ free_links f os else free_links f os)) [
+    ≡ map (telling frame) (if b then free_link o.link ++ free_links f os else free_links f os)) [
       | true ↦ simp map-append (rw (tells_link frame o.link, tells_all f frame os) refl)
       | false ↦ tells_all f frame os
     ]

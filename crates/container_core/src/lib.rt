@@ -4,13 +4,15 @@
 pub mod answer;
 mod asking;
 pub mod command;
-pub mod container;
 pub mod commit_laws;
 mod commits;
+#[cfg(test)]
+mod commits_tests;
+pub mod container;
 mod documents;
 pub mod fault;
 mod lookups;
 pub mod record;
 mod replies;
-mod settling;
 mod servers;
+mod settling;

@@ -13,6 +13,6 @@ install-requires-clause-numbers c =
 pub returns : goal.returns
 returns c = λ frame takes.
     c.install.ensures c.args.f (completion frame)
-      (takes ∙ sym (prepared_all c.args.f (completion frame) c.args.objects.now.items) ∙ sym (ap (map (prepared c.args.f (completion frame))) c.count_all.ensures.items))
+    (takes ∙ sym (prepared_all c.args.f (completion frame) c.args.objects.now.items) ∙ sym (ap (map (prepared c.args.f (completion frame))) c.count_all.ensures.items))
     ∙ ap (map (asked_object c.args.f (completion frame))) c.count_all.ensures.items
     ∙ completed_all c.args.f (completion frame) c.args.objects.now.items
