@@ -4,6 +4,8 @@ pub mod DocumentsRoom
 pub mod CommitsRoom
 pub mod CommitsObjects
 pub mod CommitsDone
+pub mod MessageReplies
+pub mod MessageSound
 pub mod ServersCounted
 pub mod AskingAll
 pub mod AskingCallers

@@ -12,6 +12,7 @@ pub mod container;
 mod documents;
 pub mod fault;
 mod lookups;
+mod messages;
 pub mod record;
 mod replies;
 mod servers;
