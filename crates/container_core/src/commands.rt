@@ -1,12 +1,17 @@
 //! What a container does with a command of a user.
 
-ghost use Rattle.std.specs.Prelude.{◌+◌, ◌≡◌, ◌≤◌, IfErr, IfOk, Ok, OnErr, [], ◌∷◌, length};
-ghost use Rattle.container_core.specs.Commands.{begun_link, first_operation, kind_of, new_object, user_type};
+ghost use Rattle.std.specs.Prelude.{◌++◌, ◌+◌, ◌<◌, ◌≡◌, ◌≤◌, IfErr, IfOk, Ok, OnErr, OnOk, [], ◌∷◌, List, length, vec_capacity, vec_len};
+ghost use Rattle.container_core.specs.Asking.{HasNumber};
+ghost use Rattle.container_core.specs.Record.{Record, Refuses, acts, asked_link, asked_sent, sends, with_object};
+ghost use Rattle.container_core.specs.Room.{HasRoom, IfLinked};
+ghost use Rattle.container_core.specs.Commands.{begun_link, edit_fault, edit_linked, first_operation, kind_of, new_object, user_type};
 ghost use Rattle.embed_core.specs.Kinds.{class_of};
 ghost use Rattle.wire_msgs.specs.declared.message.Message.TheVariants.{Call};
+ghost use Rattle.container_core.specs.declared.record.Frame.{Frame};
 ghost use Rattle.container_core.specs.declared.answer.Action.TheVariants.{Send};
 
 use crate::answer::{Action, Answer};
+use crate::asking::ask;
 use crate::checks;
 use crate::command::{Command, ObjectKind};
 use crate::container::ContainerCore;
@@ -28,12 +33,14 @@ use wire_msgs::operation::Operation;
 const MOST_FRAMES: usize = 1;
 const MOST_OBJECTS: usize = 1;
 const MOST_SERVERS: usize = 1;
+// How many bytes an edit may have.
+const MOST_EDIT: usize = 65_536;
 
 impl ContainerCore {
-    ghost use Rattle.std.specs.Prelude.{◌+◌, ◌≡◌, ◌≤◌, IfErr, IfOk, IfSome, Ok, OnErr, length};
-    ghost use Rattle.container_core.specs.Commands.{edit, insert, insert_into, kind_of, new, run, run_object, start};
-    ghost use Rattle.container_core.specs.Record.{Refuses, is_object};
-    ghost use Rattle.wire_msgs.specs.Found.{find, IsPlace};
+    ghost use Rattle.std.specs.Prelude.{◌+◌, ◌≡◌, ◌≤◌, IfErr, IfOk, IfSome, Ok, OnErr, length, slice_get};
+    ghost use Rattle.container_core.specs.Commands.{edit, edit_linked, insert, insert_into, kind_of, new, run, run_object, start};
+    ghost use Rattle.container_core.specs.Record.{Refuses};
+    ghost use Rattle.container_core.specs.Numbered.{IsObjectAt};
 
     // A new frame.
     fn new_frame(&mut self, alloc: Global, name: Bytes, w: u16, h: u16) -> Result<Answer, ContainerFault>
@@ -170,15 +177,15 @@ impl ContainerCore {
         if checks::is_saving(self.frames[at].phase) || checks::is_busy(&state, &self.objects[i]) {
             return Err(ContainerFault::Busy);
         }
-        self.run_object(alloc, object, i, inc)
+        self.run_object(alloc, i, inc)
     }
 
     // A new activation of the object that stands there.
-    fn run_object(&mut self, alloc: Global, object: u32, i: usize, inc: u32) -> Result<Answer, ContainerFault>
-        requires { IsPlace (is_object object) self.old.objects i }
-        ensures taken { IfOk result (λ a. IfSome (find (is_object object) self.old.objects) (λ o. run_object self.old o inc ≡ Ok (record { rec = self.new; answer = a }))) }
+    fn run_object(&mut self, alloc: Global, i: usize, inc: u32) -> Result<Answer, ContainerFault>
+        requires { IsObjectAt self.old.objects i }
+        ensures taken { IfOk result (λ a. IfSome (slice_get self.old.objects i) (λ o. run_object self.old o inc ≡ Ok (record { rec = self.new; answer = a }))) }
         ensures few { IfOk result (λ a. length a.actions ≤ 1) }
-        ensures refused { IfErr result (λ e. IfSome (find (is_object object) self.old.objects) (λ o. Refuses (run_object self.old o inc) e)) }
+        ensures refused { IfErr result (λ e. IfSome (slice_get self.old.objects i) (λ o. Refuses (run_object self.old o inc) e)) }
         ensures kept { OnErr result (self.new ≡ self.old) }
     {
         if self.objects[i].link.is_some() {
@@ -196,6 +203,44 @@ impl ContainerCore {
         };
         self.last_act = act;
         begin(&mut self.objects[i], link);
+        Ok(Answer::acts(alloc, actions))
+    }
+
+    // A running object is asked for an edit.
+    fn edit(&mut self, alloc: Global, object: u32, bytes: Bytes) -> Result<Answer, ContainerFault>
+        ensures taken { IfOk result (λ a. edit self.old object bytes ≡ Ok (record { rec = self.new; answer = a })) }
+        ensures few { IfOk result (λ a. length a.actions ≤ 1) }
+        ensures refused { IfErr result (Refuses (edit self.old object bytes)) }
+        ensures kept { OnErr result (self.new ≡ self.old) }
+    {
+        let Some(i) = place_object(self.objects.as_slice(), object) else {
+            return Err(ContainerFault::NoSuch);
+        };
+        let Some(at) = place(self.frames.as_slice(), self.objects[i].frame) else {
+            return Err(ContainerFault::NoSuch);
+        };
+        if checks::is_doubtful(self.frames[at].phase) {
+            return Err(ContainerFault::InDoubt);
+        }
+        let state = self.frames[at].ui.state();
+        if checks::is_saving(self.frames[at].phase) || checks::is_busy(&state, &self.objects[i]) {
+            return Err(ContainerFault::Busy);
+        }
+        self.edit_object(alloc, i, bytes)
+    }
+
+    // The object that stands there is asked for an edit.
+    fn edit_object(&mut self, alloc: Global, i: usize, bytes: Bytes) -> Result<Answer, ContainerFault>
+        requires { IsObjectAt self.old.objects i }
+        ensures taken { IfOk result (λ a. IfSome (slice_get self.old.objects i) (λ o. edit_linked self.old o bytes o.link ≡ Ok (record { rec = self.new; answer = a }))) }
+        ensures few { IfOk result (λ a. length a.actions ≤ 1) }
+        ensures refused { IfErr result (λ e. IfSome (slice_get self.old.objects i) (λ o. Refuses (edit_linked self.old o bytes o.link) e)) }
+        ensures kept { OnErr result (self.new ≡ self.old) }
+    {
+        let actions = match edit_one(alloc, self.numbers, &mut self.objects[i], bytes) {
+            Ok(actions) => actions,
+            Err(fault) => return Err(fault),
+        };
         Ok(Answer::acts(alloc, actions))
     }
 }
@@ -282,4 +327,83 @@ fn begin(object: &mut Object, link: Link)
     ensures { object.new ≡ record object.old { link = Some link } }
 {
     object.link = Some(link);
+}
+
+// Why an activation isn't asked for an edit of so many bytes.
+fn edit_fault(numbers: u32, link: &Option<Link>, size: usize) -> Option<ContainerFault>
+    requires { IfLinked (λ l. l.last + length l.waiting ≤ 1000000) link.now }
+    ensures { result ≡ edit_fault numbers size link.now }
+{
+    match link {
+        None => Some(ContainerFault::NotRunning),
+        Some(link) => {
+            if size > MOST_EDIT {
+                Some(ContainerFault::WrongState)
+            } else if checks::has_numbers(numbers, link) {
+                None
+            } else {
+                Some(ContainerFault::NumbersSpent)
+            }
+        }
+    }
+}
+
+// An object is asked for an edit, if its activation takes one. What is to be done for it.
+fn edit_one(alloc: Global, numbers: u32, object: &mut Object, bytes: Bytes) -> Result<Items<Action>, ContainerFault>
+    requires { HasNumber object.old }
+    ensures taken { IfOk result (λ actions. (r : Record) → r.numbers ≡ numbers → edit_linked r object.old bytes object.old.link ≡ Ok (record { rec = with_object r object.new; answer = acts actions })) }
+    ensures few { IfOk result (λ actions. length actions ≤ 1) }
+    ensures refused { IfErr result (λ e. (r : Record) → r.numbers ≡ numbers → Refuses (edit_linked r object.old bytes object.old.link) e) }
+    ensures same { object.new.number ≡ object.old.number }
+    ensures room { (frames : List Frame) → HasRoom numbers frames object.old → HasRoom numbers frames object.new }
+    ensures kept { OnErr result (object.new ≡ object.old) }
+{
+    if let Some(fault) = edit_fault(numbers, &object.link, bytes.len()) {
+        return Err(fault);
+    }
+    match ask_object(alloc, object, Operation::Edit(bytes)) {
+        Ok(actions) => Ok(actions),
+        Err(_) => Err(ContainerFault::NoMemory),
+    }
+}
+
+// An object is asked. What is to be done for it.
+fn ask_object(alloc: Global, object: &mut Object, operation: Operation) -> Result<Items<Action>, AllocError>
+    requires { HasNumber object.old }
+    ensures asked { OnOk result (object.new ≡ record object.old { link = asked_link operation object.old.link }) }
+    ensures sent { IfOk result (λ a. a ≡ sends (asked_sent operation object.old.link)) }
+    ensures few { IfOk result (λ a. length a ≤ 1) }
+    ensures kept { OnErr result (object.new ≡ object.old) }
+{
+    ask_link(alloc, &mut object.link, operation)
+}
+
+// The same for what the object has as its activation.
+fn ask_link(alloc: Global, link: &mut Option<Link>, operation: Operation) -> Result<Items<Action>, AllocError>
+    requires { IfLinked (λ l. l.last + length l.waiting ≤ 1000000) link.old }
+    ensures asked { OnOk result (link.new ≡ asked_link operation link.old) }
+    ensures sent { IfOk result (λ a. a ≡ sends (asked_sent operation link.old)) }
+    ensures few { IfOk result (λ a. length a ≤ 1) }
+    ensures kept { OnErr result (link.new ≡ link.old) }
+{
+    let mut actions = Vec::with_capacity(alloc, 1)?;
+    match link {
+        None => {}
+        Some(link) => match ask(alloc, link, operation)? {
+            None => {}
+            Some(message) => add(&mut actions, message),
+        },
+    }
+    Ok(Items::from_vec(actions))
+}
+
+// Adds a message that room was taken for.
+fn add(actions: &mut Vec<Action>, message: Message)
+    requires { vec_len actions.old < vec_capacity actions.old }
+    ensures { actions.new.items ≡ actions.old.items ++ Send message ∷ [] }
+{
+    match actions.push(Action::Send(message)) {
+        Ok(()) => {}
+        Err(_) => unreachable!(),
+    }
 }
