@@ -1,8 +1,7 @@
 -- What a container does with a command of a user.
-use Rattle.std.specs.Prelude.{◌≡◌, ◌+◌, ◌==◌, ◌&&◌, ◌||◌, ◌++◌, ℕ, Bool, true, false, not, List, [], ◌∷◌, length, map, Option, Some, None, is_some, Result, Ok, Err, if◌then◌else◌, nat_le, nat_lt, codes}
+use Rattle.std.specs.Prelude.{◌+◌, ◌==◌, ◌&&◌, ◌||◌, ◌++◌, ℕ, Bool, true, false, not, List, [], ◌∷◌, length, map, Option, Some, None, is_some, Result, Ok, Err, if◌then◌else◌, nat_le, nat_lt, codes}
 use Rattle.std.specs.Str.{bytes_eq}
 use Rattle.wire_msgs.specs.Found.{find, put, nth, set_nth}
-use Rattle.wire_msgs.specs.declared.message.Message.{Message}
 use Rattle.wire_msgs.specs.declared.message.Message.TheVariants.{Call}
 use Rattle.wire_msgs.specs.declared.operation.Operation.{Operation}
 use Rattle.wire_msgs.specs.declared.operation.Operation.TheVariants.{InitNew, Load, Edit, Save}
@@ -16,17 +15,15 @@ use Rattle.container_core.specs.declared.record.Area.{Area}
 use Rattle.container_core.specs.declared.record.Link.{Link}
 use Rattle.container_core.specs.declared.record.Object.{Object}
 use Rattle.container_core.specs.declared.record.Frame.{Frame}
-use Rattle.container_core.specs.declared.record.Phase.{Phase}
 use Rattle.container_core.specs.declared.record.Phase.TheVariants.{Idle, Saving}
 use Rattle.container_core.specs.declared.command.ObjectKind.{ObjectKind}
 use Rattle.container_core.specs.declared.command.ObjectKind.TheVariants as chosen
 use Rattle.container_core.specs.declared.command.Command.{Command}
 use Rattle.container_core.specs.declared.command.Command.TheVariants as command
-use Rattle.container_core.specs.declared.answer.Action.{Action}
-use Rattle.container_core.specs.declared.answer.Action.TheVariants.{Send, Start}
+use Rattle.container_core.specs.declared.answer.Action.TheVariants.{Start}
 use Rattle.container_core.specs.declared.fault.ContainerFault.{ContainerFault}
 use Rattle.container_core.specs.declared.fault.ContainerFault.TheVariants.{NoSuch, Busy, NotRunning, InDoubt, Full, NumbersSpent, WrongState, UnknownClass}
-use Rattle.container_core.specs.Record.{Record, Took, MOST_FRAMES, MOST_OBJECTS, MOST_SERVERS, MARGIN, quiet_answer, acts, sends, Asked, ask, is_object, is_alive, is_busy, is_moving, is_saving, is_doubtful, count_alive, count_objects, has_numbers, asked_link, asked_object, asked_all, with_object}
+use Rattle.container_core.specs.Record.{Record, Took, MOST_FRAMES, MOST_OBJECTS, MOST_SERVERS, MARGIN, quiet_answer, acts, sends, is_object, is_alive, is_busy, is_moving, is_saving, is_doubtful, count_alive, count_objects, has_numbers, asked_link, asked_sent, asked_object, asked_all, with_object}
 use Rattle.container_core.specs.Saves.{settle, settle_actions}
 
 -- checks, in their order
@@ -50,9 +47,9 @@ new_frame name w h = record { name = name; asked = None; k = 0; ui = fresh w h; 
 
 abbrev pub new_made : Record → List ℕ → ℕ → ℕ → Took
 new_made r name w h = record {
-    rec = record r { frames = r.frames ++ new_frame name w h ∷ [] };
-    answer = record quiet_answer { frame = Some (length r.frames + 1) };
-  }
+  rec = record r { frames = r.frames ++ new_frame name w h ∷ [] };
+  answer = record quiet_answer { frame = Some (length r.frames + 1) };
+}
 
 abbrev pub new : Record → List ℕ → ℕ → ℕ → Result Took ContainerFault
 new r name w h =
@@ -81,12 +78,18 @@ new_object number f kind area = record { number = number; frame = f; class = cla
 
 abbrev pub insert_made : Record → ℕ → Kind → Area → Took
 insert_made r f kind area = record {
-    rec = record r { objects = r.objects ++ new_object (r.last_object + 1) f kind area ∷ []; last_object = r.last_object + 1 };
-    answer = record quiet_answer { objects = (r.last_object + 1) ∷ [] };
-  }
+  rec = record r { objects = r.objects ++ new_object (r.last_object + 1) f kind area ∷ []; last_object = r.last_object + 1 };
+  answer = record quiet_answer { objects = (r.last_object + 1) ∷ [] };
+}
 
 abbrev pub is_empty_area : Area → Bool
 is_empty_area area = (area.w == 0) || (area.h == 0)
+
+abbrev pub insert_into : Record → ℕ → Kind → Area → Result Took ContainerFault
+insert_into r f kind area =
+    unless (nat_le MOST_OBJECTS (count_objects f r.objects)) Full
+    (unless (nat_le r.numbers r.last_object) NumbersSpent
+    (Ok (insert_made r f kind area)))
 
 abbrev pub insert_at : Record → ℕ → Kind → Area → Option Frame → Result Took ContainerFault
 insert_at r f kind area None = Err NoSuch
@@ -94,9 +97,7 @@ insert_at r f kind area (Some frame) =
     unless (is_doubtful frame.phase) InDoubt
     (unless (is_saving frame.phase) Busy
     (unless (is_empty_area area) WrongState
-    (unless (nat_le MOST_OBJECTS (count_objects f r.objects)) Full
-    (unless (nat_le r.numbers r.last_object) NumbersSpent
-    (Ok (insert_made r f kind area))))))
+    (insert_into r f kind area)))
 
 abbrev pub insert : Record → ℕ → Kind → Area → Result Took ContainerFault
 insert r f kind area = insert_at r f kind area (nth r.frames f)
@@ -104,9 +105,9 @@ insert r f kind area = insert_at r f kind area (nth r.frames f)
 -- Start: a new server.
 abbrev pub start_made : Record → Took
 start_made r = record {
-    rec = record r { servers = r.servers ++ false ∷ [] };
-    answer = record quiet_answer { server = Some (length r.servers + 1); actions = Start (length r.servers + 1) ∷ [] };
-  }
+  rec = record r { servers = r.servers ++ false ∷ [] };
+  answer = record quiet_answer { server = Some (length r.servers + 1); actions = Start (length r.servers + 1) ∷ [] };
+}
 
 abbrev pub start : Record → Result Took ContainerFault
 start r =
@@ -133,16 +134,20 @@ run_made r o inc =
 abbrev pub is_known_class : List ℕ → Bool
 is_known_class class = bytes_eq class (class_of Note) || bytes_eq class (class_of Table) || bytes_eq class (class_of Drawing)
 
+abbrev pub run_object : Record → Object → ℕ → Result Took ContainerFault
+run_object r o inc =
+    unless (is_some o.link) WrongState
+    (unless (not (is_known_class o.class)) UnknownClass
+    (unless (nat_lt r.numbers MARGIN || nat_le r.numbers r.last_act) NumbersSpent
+    (Ok (run_made r o inc))))
+
 abbrev pub run_in : Record → Object → ℕ → Option Frame → Result Took ContainerFault
 run_in r o inc None = Err NoSuch
 run_in r o inc (Some frame) =
     unless (not (is_alive r inc)) NoSuch
     (unless (is_doubtful frame.phase) InDoubt
     (unless (is_saving frame.phase || is_busy frame.ui.state o) Busy
-    (unless (is_some o.link) WrongState
-    (unless (not (is_known_class o.class)) UnknownClass
-    (unless (nat_lt r.numbers MARGIN || nat_le r.numbers r.last_act) NumbersSpent
-    (Ok (run_made r o inc)))))))
+    (run_object r o inc)))
 
 abbrev pub run_at : Record → ℕ → Option Object → Result Took ContainerFault
 run_at r inc None = Err NoSuch
@@ -155,18 +160,26 @@ run r o inc = run_at r inc (find (is_object o) r.objects)
 abbrev pub MOST_EDIT : ℕ
 MOST_EDIT = 65536
 
-abbrev pub edit_made : Record → Object → Link → List ℕ → Took
-edit_made r o l bytes = record {
-    rec = with_object r (record o { link = Some (ask l (Edit bytes)).link });
-    answer = acts (sends (ask l (Edit bytes)).sent);
+abbrev pub edit_made : Record → Object → List ℕ → Took
+edit_made r o bytes = record {
+    rec = with_object r (record o { link = asked_link (Edit bytes) o.link });
+    answer = acts (sends (asked_sent (Edit bytes) o.link));
   }
 
+-- why an activation isn't asked for an edit of so many bytes
+abbrev pub edit_fault : ℕ → ℕ → Option Link → Option ContainerFault
+edit_fault numbers size None = Some NotRunning
+edit_fault numbers size (Some l) =
+    if nat_lt MOST_EDIT size then Some WrongState
+    else if has_numbers numbers l then None
+    else Some NumbersSpent
+
+abbrev pub edit_unless : Record → Object → List ℕ → Option ContainerFault → Result Took ContainerFault
+edit_unless r o bytes (Some fault) = Err fault
+edit_unless r o bytes None = Ok (edit_made r o bytes)
+
 abbrev pub edit_linked : Record → Object → List ℕ → Option Link → Result Took ContainerFault
-edit_linked r o bytes None = Err NotRunning
-edit_linked r o bytes (Some l) =
-    unless (nat_lt MOST_EDIT (length bytes)) WrongState
-    (unless (not (has_numbers r.numbers l)) NumbersSpent
-    (Ok (edit_made r o l bytes)))
+edit_linked r o bytes link = edit_unless r o bytes (edit_fault r.numbers (length bytes) link)
 
 abbrev pub edit_in : Record → Object → List ℕ → Option Frame → Result Took ContainerFault
 edit_in r o bytes None = Err NoSuch
@@ -203,9 +216,9 @@ saving r f frame = record r { frames = set_nth r.frames f (saving_frame frame); 
 
 abbrev pub save_made : Record → ℕ → Frame → Took
 save_made r f frame = record {
-    rec = settle (saving r f frame);
-    answer = acts (sends (asked_all f (Save (frame.k + 1)) r.objects) ++ settle_actions (saving r f frame));
-  }
+  rec = settle (saving r f frame);
+  answer = acts (sends (asked_all f (Save (frame.k + 1)) r.objects) ++ settle_actions (saving r f frame));
+}
 
 abbrev pub save_at : Record → ℕ → Option Frame → Result Took ContainerFault
 save_at r f None = Err NoSuch

@@ -2,7 +2,21 @@
 #![tactic(auto)]
 
 pub mod answer;
+mod asking;
+mod checks;
 pub mod command;
+mod commands;
+pub mod commit_laws;
+mod commits;
+#[cfg(test)]
+mod commits_tests;
 pub mod container;
+mod documents;
 pub mod fault;
+pub mod laws;
+mod lookups;
+mod messages;
 pub mod record;
+mod replies;
+mod servers;
+mod settling;
