@@ -113,16 +113,18 @@ impl ContainerCore {
                 n,
                 answer,
             } => {
-                if inc != link {
-                    return Err(ContainerFault::WrongLink);
+                if inc == link {
+                    self.on_reply(alloc, inc, act, n, answer)
+                } else {
+                    Err(ContainerFault::WrongLink)
                 }
-                self.on_reply(alloc, inc, act, n, answer)
             }
             Message::Write { inc, .. } | Message::Ask { inc, .. } => {
                 if inc != link {
-                    return Err(ContainerFault::WrongLink);
+                    Err(ContainerFault::WrongLink)
+                } else {
+                    Err(ContainerFault::Stale)
                 }
-                Err(ContainerFault::Stale)
             }
         }
     }
