@@ -8,3 +8,4 @@ pub mod Commands
 pub mod Room
 pub mod Numbered
 pub mod Asking
+pub mod CommitLaws
