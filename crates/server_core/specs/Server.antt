@@ -227,3 +227,12 @@ ask_deactivate v act = asked v (find (is_act act) v.acts)
 abbrev pub Refuses : {A : Type 0} → Result A ServerFault → ServerFault → Type 0
 Refuses told NoMemory = IsOk told
 Refuses told fault = told ≡ Err fault
+
+-- The class of the object that a call needs, where it makes an activation.
+abbrev pub wanted_unknown : Server → Option (List ℕ) → Option Activation → Option (List ℕ)
+wanted_unknown v class (Some a) = None
+wanted_unknown v class None = cond (nat_le v.numbers (length v.acts)) None class
+
+abbrev pub wanted : Server → Message → Option (List ℕ)
+wanted v (Call inc act n op) = cond (nat_eq inc v.inc) (wanted_unknown v (begun_class n op) (find (is_act act) v.acts)) None
+wanted v m = None
