@@ -1,1 +1,2 @@
 pub mod SteadyLookups
+pub mod SteadyQueues
