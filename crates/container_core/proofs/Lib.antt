@@ -1,2 +1,3 @@
 pub mod SteadyLookups
 pub mod SteadyQueues
+pub mod SteadyLinks

@@ -212,3 +212,14 @@ none_asked_again k content P (Edit bytes ∷ ops) v s h t =
     let kept : r.0.persist.state ≡ NoScribble = edit_scribbling v.persist r.0.persist s j.0 in
     (tt, none_asked_again k content P ops r.0 kept r.2 t.1)
 none_asked_again k content P (_ ∷ ops) v s h t = absurd t.0
+
+-- after a content was answered
+save_scribbles_at : (s : PersistState) (last : Option ℕ) (o : ObjectState) (k : ℕ) (w : States) → both.step (record { persist = record { state = s; last_save = last }; object = o }) (op.Save k) ≡ Ok w → w.persist.state ≡ NoScribble
+save_scribbles_at Normal last o k w e = (let j = joined_ok (persist.step (record { state = Normal; last_save = last }) (op.Save k)) (object.step o (op.Save k)) w e in
+    let j0 = j.0 in
+    let at : record { state = NoScribble; last_save = Some k } ≡ w.persist = cc in
+    sym (ap (λ (z : Persist). z.state) at))
+save_scribbles_at _ last o k w e = cc
+
+pub save_scribbles : (v w : States) (k : ℕ) → both.step v (op.Save k) ≡ Ok w → w.persist.state ≡ NoScribble
+save_scribbles v w k e = save_scribbles_at v.persist.state v.persist.last_save v.object k w e
