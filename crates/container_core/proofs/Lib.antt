@@ -1,3 +1,4 @@
 pub mod SteadyLookups
 pub mod SteadyQueues
 pub mod SteadyLinks
+pub mod SteadyRecords

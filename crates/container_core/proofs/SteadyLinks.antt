@@ -1,6 +1,6 @@
 -- Activations that go on: by an answer, a question, and a save of their frame.
 use Rattle.std.proofs.Common.{◌≡◌, ◌≤◌, ◌⊎◌, inl, inr, ℕ, ◌+◌, Bool, true, false, List, [], ◌∷◌, ◌++◌, Option, Some, None, Result, Ok, Err, refl, sym, ap, ◌∙◌, arith, rules, subst}
-use Rattle.std.specs.Prelude.{IsSomeAnd, IsOkAnd, IfSome, is_some}
+use Rattle.std.specs.Prelude.{IsSomeAnd, IsOkAnd, IsOk, IfSome, is_some, is_ok}
 use Rattle.std.specs.List.{AllByRecursion}
 use Rattle.wire_msgs.specs.Found.{nth}
 use Rattle.wire_msgs.specs.Operations.{op_of}
@@ -20,7 +20,7 @@ use Rattle.container_core.specs.declared.record.Phase.{Phase}
 use Rattle.container_core.specs.declared.record.Phase.TheVariants.{Idle, Saving, HandingOff, Committing, InDoubt}
 use Rattle.container_core.specs.Record.{is_unreaped, ask_at, ask}
 use Rattle.container_core.specs.Messages.{Replied, next_at, next_link, next_s, done, done_link, saved_link, lost, noted, replied}
-use Rattle.container_core.specs.Steady.{queue_of, queue, stepped, ended, IsRunning, HasStorage, storage_in, IsOfSave, EndsWell, AtFirstCall, PastFirstCall, WaitsBehind, IsTimely, IsSavedIn, SteadyLink, Fits}
+use Rattle.container_core.specs.Steady.{queue_of, queue, stepped, ended, IsRunning, HasStorage, storage_in, IsOfSave, EndsWell, IsBeginning, AtFirstCall, PastFirstCall, WaitsBehind, IsTimely, IsSavedIn, SteadyLink, Fits}
 use Rattle.container_core.proofs.SteadyLookups.{each_weaker, each_append}
 use Rattle.container_core.proofs.SteadyQueues.{ended_append, taken, done_past, edit_taken, save_begins, save_ends, ends_set, past_if_saving, past_if_quiet, none_asked_again, save_scribbles}
 
@@ -162,3 +162,76 @@ module _ (servers : List Bool) (last_act : ℕ) (phase : Phase) (k : ℕ) (l : L
       let is = sym (done_is op t.0 t.1) ∙ g in
       let at : record { link = Some (record l { pending = None; states = t.0; s = next_s op l.s }); refused = None } ≡ re = cc in
       subst Goes at (next_steady servers last_act phase k l t.0 (next_s op l.s) l.saved l.waiting h.acts_drawn h.servers_told (done_past phase l.saved op l.states t.0 ops.0 t.1) t.2 ops.1 h.saved_known)
+
+  -- past its first call it is, where an edit is pending
+  edit_past : (op : Operation) → l.pending ≡ Some op → (IsBeginning op → ⊥) → PastFirstCall l.states
+  edit_past op e none = elim h.first_call [
+      inl first ↦ absurd (none (subst (λ (p : Option Operation). IsSomeAnd p IsBeginning) e first.pending))
+    | inr past ↦ past
+    ]
+
+  save_goes : (j : ℕ) (content : Stored) (re : Replied) → l.pending ≡ Some (Save j) → saved_link content (done l (Save j)) ≡ Ok re → Goes re
+  save_goes j content re e g =
+      let t = taken (EndsWell phase k) l.states (Save j) l.waiting (runs (Save j) e) in
+      let ops = timely (Save j) e in
+      let is = sym (ap (saved_link content) (done_is (Save j) t.0 t.1)) ∙ g in
+      let at : record { link = Some (record l { pending = None; states = t.0; s = l.s; saved = Some content }); refused = None } ≡ re = cc in
+      let rest : AllByRecursion (IsTimely Saving None) l.waiting = subst (λ (p : Phase). AllByRecursion (IsTimely p None) l.waiting) ops.0.0 (subst (λ (z : Option Stored). AllByRecursion (IsTimely phase z) l.waiting) ops.0.1 ops.1) in
+      let again = none_asked_again j content (EndsWell phase k) l.waiting t.0 (save_scribbles l.states t.0 j t.1) t.2 rest in
+      subst Goes at (next_steady servers last_act phase k l t.0 l.s (Some content) l.waiting h.acts_drawn h.servers_told (done_past phase l.saved (Save j) l.states t.0 ops.0 t.1) t.2
+        (subst (λ (p : Phase). AllByRecursion (IsTimely p (Some content)) l.waiting) (sym ops.0.0) again)
+        (subst (λ (p : Phase). IsSavedIn p (Some content)) (sym ops.0.0) tt))
+
+  lost_goes : (why : Refusal) (re : Replied) → lost why ≡ Ok re → Goes re
+  lost_goes why re g = (let at : record { link = None; refused = Some why } ≡ re = cc in subst Goes at tt)
+
+  noted_goes : (bytes : List ℕ) (why : Refusal) (re : Replied) → l.pending ≡ Some (Edit bytes) → noted l why ≡ Ok re → Goes re
+  noted_goes bytes why re e g =
+      let t = taken (EndsWell phase k) l.states (Edit bytes) l.waiting (runs (Edit bytes) e) in
+      let past = edit_past (Edit bytes) e (λ b. b) in
+      let same = sym (edit_taken l.states past.storage past.running) ∙ t.1 in
+      let v : l.states ≡ t.0 = cc in
+      let at : record { link = Some (record l { pending = None }); refused = Some why } ≡ re = cc in
+      subst Goes at (next_steady servers last_act phase k l l.states l.s l.saved l.waiting h.acts_drawn h.servers_told past
+        (subst (λ (z : States). IsOkAnd (ended (Ok z) l.waiting) (EndsWell phase k)) (sym v) t.2) (timely (Edit bytes) e).1 h.saved_known)
+
+  -- what an answer makes of it
+  pub replied_goes : (op : Operation) (answer : Answer) (re : Replied) → l.pending ≡ Some op → replied l op answer ≡ Ok re → Goes re
+  replied_goes (InitNew class) Done re e g = done_goes (InitNew class) re e g
+  replied_goes (InitNew class) (Refused why) re e g = lost_goes why re g
+  replied_goes (InitNew class) _ re e g = cc
+  replied_goes (Load class content) Done re e g = done_goes (Load class content) re e g
+  replied_goes (Load class content) (Refused why) re e g = lost_goes why re g
+  replied_goes (Load class content) _ re e g = cc
+  replied_goes (Edit bytes) Done re e g = done_goes (Edit bytes) re e g
+  replied_goes (Edit bytes) (Refused why) re e g = noted_goes bytes why re e g
+  replied_goes (Edit bytes) _ re e g = cc
+  replied_goes (Save j) (Content content) re e g = save_goes j content re e g
+  replied_goes (Save j) _ re e g = cc
+  replied_goes (SaveCompleted j storage) Done re e g = done_goes (SaveCompleted j storage) re e g
+  replied_goes (SaveCompleted j storage) _ re e g = cc
+  replied_goes _ _ re e g = cc
+
+  -- no answer that fits is refused
+  done_taken : (op : Operation) → l.pending ≡ Some op → IsOk (done l op)
+  done_taken op e = (let t = taken (EndsWell phase k) l.states op l.waiting (runs op e) in ap (λ (o : Result Replied ContainerFault). is_ok o) (done_is op t.0 t.1))
+
+  saved_taken : (content : Stored) (r : Result Replied ContainerFault) → IsOk r → IsOk (saved_link content r)
+  saved_taken content (Ok re) o = refl
+  saved_taken content (Err refusal) o = o
+
+  pub fitting_taken : (op : Operation) (answer : Answer) → l.pending ≡ Some op → Fits op answer → IsOk (replied l op answer)
+  fitting_taken (InitNew class) Done e f = done_taken (InitNew class) e
+  fitting_taken (InitNew class) (Refused why) e f = refl
+  fitting_taken (InitNew class) _ e f = absurd f
+  fitting_taken (Load class content) Done e f = done_taken (Load class content) e
+  fitting_taken (Load class content) (Refused why) e f = refl
+  fitting_taken (Load class content) _ e f = absurd f
+  fitting_taken (Edit bytes) Done e f = done_taken (Edit bytes) e
+  fitting_taken (Edit bytes) (Refused why) e f = refl
+  fitting_taken (Edit bytes) _ e f = absurd f
+  fitting_taken (Save j) (Content content) e f = saved_taken content (done l (Save j)) (done_taken (Save j) e)
+  fitting_taken (Save j) _ e f = absurd f
+  fitting_taken (SaveCompleted j storage) Done e f = done_taken (SaveCompleted j storage) e
+  fitting_taken (SaveCompleted j storage) _ e f = absurd f
+  fitting_taken _ _ e f = absurd f
