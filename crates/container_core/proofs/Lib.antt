@@ -2,3 +2,4 @@ pub mod SteadyLookups
 pub mod SteadyQueues
 pub mod SteadyLinks
 pub mod SteadyRecords
+pub mod SteadyCommands
