@@ -3,3 +3,4 @@ pub mod SteadyQueues
 pub mod SteadyLinks
 pub mod SteadyRecords
 pub mod SteadyCommands
+pub mod SteadyMessages

@@ -1,6 +1,6 @@
 -- Records: what keeps each object steady.
 use Rattle.std.proofs.Common.{◌≡◌, ◌≤◌, ◌<◌, ◌⊎◌, inl, inr, ℕ, zero, suc, ◌+◌, Bool, true, false, not, List, [], ◌∷◌, ◌++◌, Option, Some, None, Result, Ok, Err, refl, sym, ap, ◌∙◌, arith, rules, subst, map, ◌==◌, if◌then◌else◌}
-use Rattle.std.specs.Prelude.{IsSomeAnd, IfSome, is_some}
+use Rattle.std.specs.Prelude.{◌||◌, IsSomeAnd, IfSome, is_some}
 use Rattle.std.specs.List.{AllByRecursion}
 use Rattle.wire_msgs.specs.Found.{find, put, nth, set_nth}
 use Rattle.container_core.specs.declared.record.Link.{Link}
@@ -24,7 +24,7 @@ pub unless_ok : {A : Type 0} (b : Bool) (fault : ContainerFault) (next : Result 
 unless_ok true fault next t e = cc
 unless_ok false fault next t e = (refl, e)
 
-pub or_false : (a b : Bool) → (if a then true else b) ≡ false → (a ≡ false) × (b ≡ false)
+pub or_false : (a b : Bool) → (a || b) ≡ false → (a ≡ false) × (b ≡ false)
 or_false true b e = absurd (cc)
 or_false false b e = (refl, e)
 
