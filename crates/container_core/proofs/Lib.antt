@@ -4,3 +4,4 @@ pub mod SteadyLinks
 pub mod SteadyRecords
 pub mod SteadyCommands
 pub mod SteadyMessages
+pub mod SteadyCommits

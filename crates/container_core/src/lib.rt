@@ -6,3 +6,4 @@ pub mod command;
 pub mod container;
 pub mod fault;
 pub mod record;
+pub mod steady_laws;
