@@ -1,34 +1,29 @@
 -- Commands keep a record steady.
-use Rattle.std.proofs.Common.{◌≡◌, ◌≤◌, ◌<◌, ◌⊎◌, inl, inr, ℕ, zero, suc, ◌+◌, Bool, true, false, not, List, [], ◌∷◌, ◌++◌, length, Option, Some, None, Result, Ok, Err, refl, sym, ap, ◌∙◌, arith, rules, subst, map, ◌==◌, if◌then◌else◌}
+use Rattle.std.proofs.Common.{◌≡◌, ◌≤◌, inl, ℕ, zero, suc, ◌+◌, Bool, true, false, not, List, [], ◌∷◌, ◌++◌, length, Option, Some, None, Ok, refl, sym, ap, ◌∙◌, arith, subst, ◌==◌, if◌then◌else◌}
 use Rattle.std.proofs.lemmas.Bool.{eqb-true, eqb-false}
-use Rattle.std.specs.Prelude.{IsSomeAnd, IfSome, is_some, nat_lt, nat_le, ◌||◌, slice_get}
-use Rattle.std.specs.List.{AllByRecursion}
+use Rattle.std.specs.Prelude.{IfSome, is_some, nat_lt, nat_le, ◌||◌, slice_get}
 use Rattle.wire_msgs.specs.Found.{find, put, nth, set_nth}
 use Rattle.wire_msgs.specs.declared.operation.Operation.{Operation}
 use Rattle.wire_msgs.specs.declared.operation.Operation.TheVariants.{InitNew, Load, Edit, Save}
 use Rattle.grant_core.specs.declared.grant_states.GrantState.{GrantState}
 use Rattle.storage_tree.specs.declared.streams.NamedStream.{NamedStream}
 use Rattle.embed_core.specs.Kinds.{Kind}
-use Rattle.object_state.specs.Both.{loaded}
 use Rattle.container_core.specs.declared.record.Area.{Area}
 use Rattle.container_core.specs.declared.record.Link.{Link}
 use Rattle.container_core.specs.declared.record.Object.{Object}
 use Rattle.container_core.specs.declared.record.Frame.{Frame}
 use Rattle.container_core.specs.declared.record.Phase.{Phase}
-use Rattle.container_core.specs.declared.record.Phase.TheVariants.{Idle, Saving, HandingOff, Committing, InDoubt}
-use Rattle.container_core.specs.declared.command.Command.{Command}
+use Rattle.container_core.specs.declared.record.Phase.TheVariants.{Idle, Saving, InDoubt}
 use Rattle.container_core.specs.declared.command.Command.TheVariants as command
-use Rattle.container_core.specs.declared.fault.ContainerFault.{ContainerFault}
-use Rattle.container_core.specs.declared.fault.ContainerFault.TheVariants.{NoSuch, Busy, NotRunning, InDoubt as Doubtful, Full, NumbersSpent, WrongState, UnknownClass}
+use Rattle.container_core.specs.declared.fault.ContainerFault.TheVariants.{NoSuch, Busy, InDoubt as Doubtful, Full, NumbersSpent, WrongState, UnknownClass}
 use Rattle.container_core.specs.Record.{Record, Took, MOST_FRAMES, MOST_OBJECTS, MOST_SERVERS, MARGIN, is_object, is_alive, is_asked, is_busy, is_claim, is_moving, is_saving, is_doubtful, count_alive, count_objects, has_numbers, is_unreaped, ask, ask_at, asked_link, asked_object}
 use Rattle.grant_core.specs.Grants.{waiting}
-use Rattle.container_core.specs.Saves.{settle}
 use Rattle.container_core.specs.Commands
-use Rattle.container_core.specs.Steady.{SteadyLink, SteadyObject, SteadyFrame, InOrder, EachPair, Steady, SteadyAfterCommands, IsBeginning, EndsWell, IsTimely}
+use Rattle.container_core.specs.Steady.{SteadyLink, SteadyObject, SteadyFrame, InOrder, Steady, SteadyAfterCommands, IsBeginning}
 use Rattle.container_core.proofs.SteadyLookups.{each_found, each_weaker, each_both, each_put, each_map, each_append, each_set, each_nth, pairs_put, pairs_map, pairs_append, nth_append, nth-set_same, nth-set_other, none_busy}
 use Rattle.container_core.proofs.SteadyQueues.{past_if_quiet}
 use Rattle.container_core.proofs.SteadyLinks.{link_moved, edit_asked, save_asked}
-use Rattle.container_core.proofs.SteadyRecords.{if_told, unless_ok, or_false, some_and, and_some, at_some, if_weaker, if_at, Held, Follows, Apart, apart_none, TookPlace, order_right, order_left, order_both, put_steady, settle_steady}
+use Rattle.container_core.proofs.SteadyRecords.{if_told, unless_ok, or_false, some_and, and_some, at_some, if_weaker, if_at, Held, Follows, Apart, apart_none, TookPlace, order_both, put_steady, settle_steady}
 
 -- a new frame
 framed : (r : Record) (frame : Frame) (o : Object) → SteadyObject r o → SteadyObject (record r { frames = r.frames ++ frame ∷ [] }) o
@@ -36,10 +31,10 @@ framed r frame o h = record { drawn = h.drawn; linked = nth_append (Held r o.lin
 
 frame_steady : (r : Record) (frame : Frame) → Steady r → SteadyFrame frame → Steady (record r { frames = r.frames ++ frame ∷ [] })
 frame_steady r frame h f = record {
-    frames = each_append SteadyFrame r.frames frame h.frames f;
-    objects = each_weaker (SteadyObject r) (SteadyObject (record r { frames = r.frames ++ frame ∷ [] })) r.objects (framed r frame) h.objects;
-    order = h.order;
-  }
+  frames = each_append SteadyFrame r.frames frame h.frames f;
+  objects = each_weaker (SteadyObject r) (SteadyObject (record r { frames = r.frames ++ frame ∷ [] })) r.objects (framed r frame) h.objects;
+  order = h.order;
+}
 
 new_keeps : (r : Record) (name : List ℕ) (w h : ℕ) (t : Took) → Steady r → Commands.new r name w h ≡ Ok t → Steady t.rec
 new_keeps r name w h t s e =
@@ -61,9 +56,9 @@ object_steady r a frame s n l f =
     record {
       frames = s.frames;
       objects = each_append (SteadyObject after) r.objects a (each_weaker (SteadyObject r) (SteadyObject after) r.objects (λ o h. drawn_more r o a h) s.objects)
-        (record { drawn = omega arith; linked = and_some (Held r a.link) (nth r.frames a.frame) frame f (subst (λ (z : Option Link). Held r z frame) (sym l) tt) });
+          (record { drawn = omega arith; linked = and_some (Held r a.link) (nth r.frames a.frame) frame f (subst (λ (z : Option Link). Held r z frame) (sym l) tt) });
       order = pairs_append InOrder r.objects a s.order (each_weaker (SteadyObject r) (λ (o : Object). InOrder o a) r.objects
-        (λ o h. record { rising = (let d = h.drawn in omega arith); apart = subst (λ (z : Option Link). Apart o.link z) (sym l) (apart_none o.link) }) s.objects);
+          (λ o h. record { rising = (let d = h.drawn in omega arith); apart = subst (λ (z : Option Link). Apart o.link z) (sym l) (apart_none o.link) }) s.objects);
     }
 
 insert_at_keeps : (r : Record) (f : ℕ) (kind : Kind) (area : Area) (found : Option Frame) (t : Took) → nth r.frames f ≡ found → Steady r → Commands.insert_at r f kind area found ≡ Ok t → Steady t.rec
@@ -147,13 +142,23 @@ found_numbered n os o e = (let same : n ≡ o.number = sym (eqb-true o.number n 
 -- a passive object begins
 begun_steady : (servers : List Bool) (last_act k inc act : ℕ) (op : Operation) → act ≤ last_act → is_unreaped (nth servers inc) ≡ true → IsBeginning op → SteadyLink servers last_act Idle k (Commands.begun_link inc act op)
 begun_steady servers last_act k inc act (InitNew class) a s b = record {
-    acts_drawn = a; servers_told = s; first_call = inl (record { states = refl; last = refl; alone = refl; pending = tt }); waits_behind = tt;
-    queue_runs = record { storage = refl; last_save = tt; running = tt }; save_in_queue = (tt, tt); saved_known = refl;
-  }
+  acts_drawn = a;
+  servers_told = s;
+  first_call = inl (record { states = refl; last = refl; alone = refl; pending = tt });
+  waits_behind = tt;
+  queue_runs = record { storage = refl; last_save = tt; running = tt };
+  save_in_queue = (tt, tt);
+  saved_known = refl;
+}
 begun_steady servers last_act k inc act (Load class content) a s b = record {
-    acts_drawn = a; servers_told = s; first_call = inl (record { states = refl; last = refl; alone = refl; pending = tt }); waits_behind = tt;
-    queue_runs = record { storage = refl; last_save = tt; running = tt }; save_in_queue = (tt, tt); saved_known = refl;
-  }
+  acts_drawn = a;
+  servers_told = s;
+  first_call = inl (record { states = refl; last = refl; alone = refl; pending = tt });
+  waits_behind = tt;
+  queue_runs = record { storage = refl; last_save = tt; running = tt };
+  save_in_queue = (tt, tt);
+  saved_known = refl;
+}
 begun_steady servers last_act k inc act _ a s b = absurd b
 
 first_begins : (o : Object) (streams : List NamedStream) → IsBeginning (Commands.first_operation o streams)
@@ -175,7 +180,7 @@ module _ (r : Record) (o : Object) (inc : ℕ) (op : Operation) (frame : Frame) 
   raised : (x : Object) → SteadyObject r x → SteadyObject after x
   raised x h = moved_object r after x refl (omega arith)
       (λ f held. if_weaker (SteadyLink r.servers r.last_act f.phase f.k) (SteadyLink r.servers (r.last_act + 1) f.phase f.k) x.link
-        (λ l k. link_moved r.servers r.servers r.last_act (r.last_act + 1) f.phase f.k l (let a = k.acts_drawn in omega arith) k.servers_told k) held) h
+      (λ l k. link_moved r.servers r.servers r.last_act (r.last_act + 1) f.phase f.k l (let a = k.acts_drawn in omega arith) k.servers_told k) held) h
 
   here : SteadyObject after begun
   here =
@@ -183,19 +188,19 @@ module _ (r : Record) (o : Object) (inc : ℕ) (op : Operation) (frame : Frame) 
       record {
         drawn = drawn;
         linked = and_some (Held after begun.link) (nth r.frames o.frame) frame at
-          (subst (λ (p : Phase). SteadyLink r.servers (r.last_act + 1) p frame.k (Commands.begun_link inc (r.last_act + 1) op)) (sym idle)
+            (subst (λ (p : Phase). SteadyLink r.servers (r.last_act + 1) p frame.k (Commands.begun_link inc (r.last_act + 1) op)) (sym idle)
             (begun_steady r.servers (r.last_act + 1) frame.k inc (r.last_act + 1) op (omega arith) alive begins));
       }
 
   pub run_steady : Steady after
   run_steady = record {
-      frames = s.frames;
-      objects = each_put (SteadyObject after) (is_object o.number) begun r.objects (each_weaker (SteadyObject r) (SteadyObject after) r.objects raised s.objects) here;
-      order = pairs_put InOrder (SteadyObject r) (is_object o.number) begun o r.objects
+    frames = s.frames;
+    objects = each_put (SteadyObject after) (is_object o.number) begun r.objects (each_weaker (SteadyObject r) (SteadyObject after) r.objects raised s.objects) here;
+    order = pairs_put InOrder (SteadyObject r) (is_object o.number) begun o r.objects
         (λ y p k. record { rising = k.rising; apart = if_weaker (λ (l : Link). l.act ≤ r.last_act) (λ (l : Link). l.act ≡ r.last_act + 1 → ⊥) y.link (λ l a e. absurd (omega arith)) (old_act r y p) })
         (λ y p k. record { rising = k.rising; apart = if_weaker (λ (l : Link). l.act ≤ r.last_act) (λ (l : Link). r.last_act + 1 ≡ l.act → ⊥) y.link (λ l a e. absurd (omega arith)) (old_act r y p) })
         s.order s.objects found;
-    }
+  }
 
 run_in_keeps : (r : Record) (o : Object) (inc : ℕ) (f : Option Frame) (t : Took) → Steady r → find (is_object o.number) r.objects ≡ Some o → nth r.frames o.frame ≡ f → Commands.run_in r o inc f ≡ Ok t → Steady t.rec
 run_in_keeps r o inc None t s found at e = cc
@@ -236,8 +241,8 @@ edit_linked_keeps r o bytes frame (Some l) t s found at quiet is e =
     let past = past_if_quiet r.servers r.last_act frame.phase frame.k l held (none_of l.pending quiet) in
     let x : Object = record o { link = Some (ask l (Edit bytes)).link } in
     subst (λ (z : Took). Steady z.rec) same (put_steady r (is_object o.number) o x s found
-      (record { number = refl; link = λ m e'. let f = asked_follows (Edit bytes) (Some l) m e' in (f.0, is ∙ f.1, f.2) })
-      (record { drawn = h.drawn; linked = and_some (Held r x.link) (nth r.frames o.frame) frame at (edit_asked r.servers r.last_act frame.phase frame.k l held bytes past) }))
+    (record { number = refl; link = λ m e'. let f = asked_follows (Edit bytes) (Some l) m e' in (f.0, is ∙ f.1, f.2) })
+    (record { drawn = h.drawn; linked = and_some (Held r x.link) (nth r.frames o.frame) frame at (edit_asked r.servers r.last_act frame.phase frame.k l held bytes past) }))
 
 edit_in_keeps : (r : Record) (o : Object) (bytes : List ℕ) (f : Option Frame) (t : Took) → Steady r → find (is_object o.number) r.objects ≡ Some o → nth r.frames o.frame ≡ f → Commands.edit_in r o bytes f ≡ Ok t → Steady t.rec
 edit_in_keeps r o bytes None t s found at e = cc
@@ -283,7 +288,7 @@ unset_object r u f frame' o changed other last servers act h =
     record {
       drawn = (let d = h.drawn in omega arith);
       linked = and_some (Held u o.link) (nth u.frames o.frame) s.0 (ap (λ (fs : List Frame). nth fs o.frame) changed ∙ (nth-set_other r.frames f o.frame frame' (λ e. other (sym e)) ∙ s.1))
-        (subst (λ (ss : List Bool). IfSome o.link (SteadyLink ss u.last_act s.0.phase s.0.k)) (sym servers)
+          (subst (λ (ss : List Bool). IfSome o.link (SteadyLink ss u.last_act s.0.phase s.0.k)) (sym servers)
           (subst (λ (n : ℕ). IfSome o.link (SteadyLink r.servers n s.0.phase s.0.k)) (sym act) s.2));
     }
 
@@ -294,18 +299,18 @@ module _ (r : Record) (f : ℕ) (frame : Frame) (s : Steady r) (at : nth r.frame
   saved_object : (o : Object) → SteadyObject r o → (o.frame ≡ f → is_busy state o ≡ false) → SteadyObject saving_now (asked_object f (Save (frame.k + 1)) o)
   saved_object o h q = if_told (SteadyObject saving_now) (o.frame == f) (record o { link = asked_link (Save (frame.k + 1)) o.link }) o
       (λ e. let here = eqb-true o.frame f e in
-          let still = or_false (is_asked o.link) (is_claim o.number (waiting state)) (q here) in
-          set_object r saving_now f frame (Commands.saving_frame frame) o (record o { link = asked_link (Save (frame.k + 1)) o.link }) at refl here refl refl refl h
-          (save_held r.servers r.last_act frame.k (frame.k + 1) frame.phase o.link idle still.0))
+      let still = or_false (is_asked o.link) (is_claim o.number (waiting state)) (q here) in
+      set_object r saving_now f frame (Commands.saving_frame frame) o (record o { link = asked_link (Save (frame.k + 1)) o.link }) at refl here refl refl refl h
+      (save_held r.servers r.last_act frame.k (frame.k + 1) frame.phase o.link idle still.0))
       (λ e. unset_object r saving_now f (Commands.saving_frame frame) o refl (eqb-false o.frame f e) refl refl refl h)
 
   pub saving_steady : Steady saving_now
   saving_steady = record {
-      frames = each_set SteadyFrame r.frames f (Commands.saving_frame frame) s.frames (record { asked = (each_nth SteadyFrame r.frames f frame s.frames at).asked; phase = tt });
-      objects = each_map (λ o. SteadyObject r o × (o.frame ≡ f → is_busy state o ≡ false)) (SteadyObject saving_now) (asked_object f (Save (frame.k + 1))) r.objects (λ o k. saved_object o k.0 k.1)
+    frames = each_set SteadyFrame r.frames f (Commands.saving_frame frame) s.frames (record { asked = (each_nth SteadyFrame r.frames f frame s.frames at).asked; phase = tt });
+    objects = each_map (λ o. SteadyObject r o × (o.frame ≡ f → is_busy state o ≡ false)) (SteadyObject saving_now) (asked_object f (Save (frame.k + 1))) r.objects (λ o k. saved_object o k.0 k.1)
         (each_both (SteadyObject r) (λ (o : Object). o.frame ≡ f → is_busy state o ≡ false) r.objects s.objects (none_busy f state r.objects quiet));
-      order = pairs_map InOrder (asked_object f (Save (frame.k + 1))) r.objects (order_both (asked_object f (Save (frame.k + 1))) (asked_took f (Save (frame.k + 1)))) s.order;
-    }
+    order = pairs_map InOrder (asked_object f (Save (frame.k + 1))) r.objects (order_both (asked_object f (Save (frame.k + 1))) (asked_took f (Save (frame.k + 1)))) s.order;
+  }
 
 save_at_keeps : (r : Record) (f : ℕ) (found : Option Frame) (t : Took) → Steady r → nth r.frames f ≡ found → Commands.save_at r f found ≡ Ok t → Steady t.rec
 save_at_keeps r f None t s at e = cc

@@ -1,26 +1,24 @@
 -- A commit that is done keeps a record steady, and what it wrote.
-use Rattle.std.proofs.Common.{◌≡◌, ◌≤◌, ◌<◌, ◌⊎◌, inl, inr, ℕ, zero, suc, ◌+◌, Bool, true, false, not, List, [], ◌∷◌, ◌++◌, Option, Some, None, Result, Ok, Err, refl, sym, ap, ◌∙◌, arith, rules, subst, map, ◌==◌, if◌then◌else◌}
+use Rattle.std.proofs.Common.{◌≡◌, ℕ, Bool, true, false, List, Option, Some, None, Result, Ok, Err, refl, sym, ap, ◌∙◌, subst, ◌==◌, if◌then◌else◌}
 use Rattle.std.proofs.lemmas.Bool.{eqb-true, eqb-false}
-use Rattle.std.specs.Prelude.{IsSomeAnd, IfSome, is_some}
-use Rattle.std.specs.List.{AllByRecursion}
-use Rattle.wire_msgs.specs.Found.{find, put, nth, set_nth}
+use Rattle.std.specs.Prelude.{IfSome, is_some}
+use Rattle.wire_msgs.specs.Found.{nth}
 use Rattle.wire_msgs.specs.declared.operation.Operation.{Operation}
 use Rattle.wire_msgs.specs.declared.operation.Operation.TheVariants.{SaveCompleted}
-use Rattle.storage_tree.specs.declared.stored.Stored.{Stored}
 use Rattle.container_core.specs.declared.answer.Part.{Part}
 use Rattle.container_core.specs.declared.record.Link.{Link}
 use Rattle.container_core.specs.declared.record.Object.{Object}
 use Rattle.container_core.specs.declared.record.Frame.{Frame}
 use Rattle.container_core.specs.declared.record.Phase.{Phase}
-use Rattle.container_core.specs.declared.record.Phase.TheVariants.{Idle, Saving, HandingOff, Committing, InDoubt}
+use Rattle.container_core.specs.declared.record.Phase.TheVariants.{Idle, Committing}
 use Rattle.container_core.specs.declared.fault.ContainerFault.{ContainerFault}
-use Rattle.container_core.specs.declared.fault.ContainerFault.TheVariants.{NoSuch, WrongState}
-use Rattle.container_core.specs.Record.{Record, Took, is_object, ask, asked_link, asked_object}
-use Rattle.container_core.specs.Saves.{kept, kept_by, kept_in, cleared, counted_object, completion, completed, committed_frame, is_some_name, commit_made, is_committing, commit_fitting, commit_at, commit_done, image}
-use Rattle.container_core.specs.Steady.{SteadyLink, SteadyObject, SteadyFrame, IsSavedIn, InOrder, EachPair, Steady, SteadyAfterCommits, CommitsAnsweredContents}
-use Rattle.container_core.proofs.SteadyLookups.{each_found, each_map, each_set, each_nth, pairs_map}
+use Rattle.container_core.specs.declared.fault.ContainerFault.TheVariants.{WrongState}
+use Rattle.container_core.specs.Record.{Record, Took, is_object, asked_link, asked_object}
+use Rattle.container_core.specs.Saves.{kept, kept_by, kept_in, cleared, completion, completed, committed_frame, is_some_name, commit_made, is_committing, commit_fitting, commit_at, image}
+use Rattle.container_core.specs.Steady.{SteadyLink, SteadyObject, SteadyFrame, IsSavedIn, InOrder, Steady, SteadyAfterCommits, CommitsAnsweredContents}
+use Rattle.container_core.proofs.SteadyLookups.{each_found, each_map, each_set, pairs_map}
 use Rattle.container_core.proofs.SteadyLinks.{completion_asked}
-use Rattle.container_core.proofs.SteadyRecords.{if_told, some_and, and_some, at_some, if_at, Held, Follows, TookPlace, order_both}
+use Rattle.container_core.proofs.SteadyRecords.{if_told, at_some, if_at, Held, Follows, TookPlace, order_both}
 use Rattle.container_core.proofs.SteadyCommands.{asked_follows, set_object, unset_object}
 
 -- an object of the frame is told
@@ -35,9 +33,9 @@ cleared_follows op (Some m) l e = (let f = asked_follows op (Some (record m { sa
 -- what becomes of an object, whether it is of the frame or not
 completed_if : (P : Object → Type 0) (f : ℕ) (frame : Frame) (o : Object) → (o.frame ≡ f → P (record o { work = kept o; link = asked_link (completion frame) (cleared o.link) })) → ((o.frame ≡ f → ⊥) → P o) → P (completed f frame o)
 completed_if P f frame o here other = elim (o.frame == f) as (λ b. (o.frame == f) ≡ b → P (asked_object f (completion frame) (if b then record o { work = kept o; link = cleared o.link } else o))) [
-    true ↦ (λ e. if_told P (o.frame == f) (record o { work = kept o; link = asked_link (completion frame) (cleared o.link) }) (record o { work = kept o; link = cleared o.link }) (λ t. here (eqb-true o.frame f e)) (λ t. absurd (eqb-false o.frame f t (eqb-true o.frame f e))))
+  | true ↦ (λ e. if_told P (o.frame == f) (record o { work = kept o; link = asked_link (completion frame) (cleared o.link) }) (record o { work = kept o; link = cleared o.link }) (λ t. here (eqb-true o.frame f e)) (λ t. absurd (eqb-false o.frame f t (eqb-true o.frame f e))))
   | false ↦ (λ e. if_told P (o.frame == f) (record o { link = asked_link (completion frame) o.link }) o (λ t. absurd (eqb-false o.frame f e (eqb-true o.frame f t))) (λ t. other (eqb-false o.frame f e)))
-  ] refl
+] refl
 
 completed_took : (f : ℕ) (frame : Frame) (o : Object) → TookPlace (completed f frame o) o
 completed_took f frame o = completed_if (λ (z : Object). TookPlace z o) f frame o
@@ -51,15 +49,15 @@ module _ (r : Record) (f : ℕ) (frame : Frame) (s : Steady r) (at : nth r.frame
   completed_steady : (o : Object) → SteadyObject r o → SteadyObject after (completed f frame o)
   completed_steady o h = completed_if (SteadyObject after) f frame o
       (λ here. set_object r after f frame (committed_frame frame) o (record o { work = kept o; link = asked_link (completion frame) (cleared o.link) }) at refl here refl refl refl h
-        (completed_held r.servers r.last_act frame.k (is_some_name frame.asked) frame.phase o.link committing))
+      (completed_held r.servers r.last_act frame.k (is_some_name frame.asked) frame.phase o.link committing))
       (λ other. unset_object r after f (committed_frame frame) o refl other refl refl refl h)
 
   pub commit_steady : Steady after
   commit_steady = record {
-      frames = each_set SteadyFrame r.frames f (committed_frame frame) s.frames (record { asked = refl; phase = tt });
-      objects = each_map (SteadyObject r) (SteadyObject after) (completed f frame) r.objects completed_steady s.objects;
-      order = pairs_map InOrder (completed f frame) r.objects (order_both (completed f frame) (completed_took f frame)) s.order;
-    }
+    frames = each_set SteadyFrame r.frames f (committed_frame frame) s.frames (record { asked = refl; phase = tt });
+    objects = each_map (SteadyObject r) (SteadyObject after) (completed f frame) r.objects completed_steady s.objects;
+    order = pairs_map InOrder (completed f frame) r.objects (order_both (completed f frame) (completed_took f frame)) s.order;
+  }
 
 committing_by : (phase : Phase) → is_committing phase ≡ true → phase ≡ Committing
 committing_by Committing e = refl

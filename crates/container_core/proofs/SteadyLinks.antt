@@ -1,5 +1,5 @@
 -- Activations that go on: by an answer, a question, and a save of their frame.
-use Rattle.std.proofs.Common.{◌≡◌, ◌≤◌, ◌⊎◌, inl, inr, ℕ, ◌+◌, Bool, true, false, List, [], ◌∷◌, ◌++◌, Option, Some, None, Result, Ok, Err, refl, sym, ap, ◌∙◌, arith, rules, subst}
+use Rattle.std.proofs.Common.{◌≡◌, ◌≤◌, inl, inr, ℕ, Bool, true, List, [], ◌∷◌, ◌++◌, Option, Some, None, Result, Ok, Err, refl, sym, ap, ◌∙◌, subst}
 use Rattle.std.specs.Prelude.{IsSomeAnd, IsOkAnd, IsOk, IfSome, is_some, is_ok}
 use Rattle.std.specs.List.{AllByRecursion}
 use Rattle.wire_msgs.specs.Found.{nth}
@@ -12,29 +12,28 @@ use Rattle.wire_msgs.specs.declared.refusal.Refusal.{Refusal}
 use Rattle.object_state.specs.Both as both
 use Rattle.object_state.specs.declared.both_states.States.{States}
 use Rattle.object_state.specs.declared.faults.StateFault.{StateFault}
-use Rattle.object_state.specs.declared.persist_states.PersistState.TheVariants.{Normal, NoScribble}
 use Rattle.storage_tree.specs.declared.stored.Stored.{Stored}
 use Rattle.container_core.specs.declared.fault.ContainerFault.{ContainerFault}
 use Rattle.container_core.specs.declared.record.Link.{Link}
 use Rattle.container_core.specs.declared.record.Phase.{Phase}
-use Rattle.container_core.specs.declared.record.Phase.TheVariants.{Idle, Saving, HandingOff, Committing, InDoubt}
+use Rattle.container_core.specs.declared.record.Phase.TheVariants.{Idle, Saving, Committing}
 use Rattle.container_core.specs.Record.{is_unreaped, ask_at, ask}
 use Rattle.container_core.specs.Messages.{Replied, next_at, next_link, next_s, done, done_link, saved_link, lost, noted, replied}
-use Rattle.container_core.specs.Steady.{queue_of, queue, stepped, ended, IsRunning, HasStorage, storage_in, IsOfSave, EndsWell, IsBeginning, AtFirstCall, PastFirstCall, WaitsBehind, IsTimely, IsSavedIn, SteadyLink, Fits}
+use Rattle.container_core.specs.Steady.{queue_of, queue, stepped, ended, EndsWell, IsBeginning, PastFirstCall, WaitsBehind, IsTimely, IsSavedIn, SteadyLink, Fits}
 use Rattle.container_core.proofs.SteadyLookups.{each_weaker, each_append}
 use Rattle.container_core.proofs.SteadyQueues.{ended_append, taken, done_past, edit_taken, save_begins, save_ends, ends_set, past_if_saving, past_if_quiet, none_asked_again, save_scribbles}
 
 -- in another record
 pub link_moved : (servers servers' : List Bool) (last_act last_act' : ℕ) (phase : Phase) (k : ℕ) (l : Link) → l.act ≤ last_act' → is_unreaped (nth servers' l.inc) ≡ true → SteadyLink servers last_act phase k l → SteadyLink servers' last_act' phase k l
 link_moved servers servers' last_act last_act' phase k l a s h = record {
-    acts_drawn = a;
-    servers_told = s;
-    first_call = h.first_call;
-    waits_behind = h.waits_behind;
-    queue_runs = h.queue_runs;
-    save_in_queue = h.save_in_queue;
-    saved_known = h.saved_known;
-  }
+  acts_drawn = a;
+  servers_told = s;
+  first_call = h.first_call;
+  waits_behind = h.waits_behind;
+  queue_runs = h.queue_runs;
+  save_in_queue = h.save_in_queue;
+  saved_known = h.saved_known;
+}
 
 -- one more operation behind the queue
 queue_asked : (l : Link) (p : Option Operation) (ws : List Operation) (op : Operation) → WaitsBehind p ws → queue (ask_at (record l { pending = p; waiting = ws }) op p).link ≡ queue_of p ws ++ op ∷ []
@@ -55,7 +54,7 @@ module _ (servers : List Bool) (last_act : ℕ) (phase : Phase) (k : ℕ) where
       let same = queue_asked l l.pending l.waiting op w in
       asked_with l l.pending l.waiting op a s past w
       (subst (λ (ops : List Operation). IsOkAnd (ended (Ok l.states) ops) (EndsWell phase k)) (sym same)
-        (subst (λ (o : Result States StateFault). IsOkAnd o (EndsWell phase k)) (sym (ended_append (Ok l.states) (queue l) op)) r))
+      (subst (λ (o : Result States StateFault). IsOkAnd o (EndsWell phase k)) (sym (ended_append (Ok l.states) (queue l) op)) r))
       (subst (λ (ops : List Operation). AllByRecursion (IsTimely phase l.saved) ops) (sym same) (each_append (IsTimely phase l.saved) (queue l) op t top))
       v
 
@@ -79,7 +78,7 @@ module _ (servers : List Bool) (last_act : ℕ) (phase : Phase) (k : ℕ) (l : L
       let step = edit_taken e.0 (ends_set phase k e.0 e.2) e.2.running in
       asked_steady servers last_act phase k l (Edit bytes) h.acts_drawn h.servers_told past h.waits_behind
       (subst (λ (o : Result States StateFault). IsOkAnd (stepped o (Edit bytes)) (EndsWell phase k)) (sym e.1)
-        (subst (λ (o : Result States StateFault). IsOkAnd o (EndsWell phase k)) (sym step) e.2))
+      (subst (λ (o : Result States StateFault). IsOkAnd o (EndsWell phase k)) (sym step) e.2))
       h.save_in_queue tt h.saved_known
 
 -- a save begins where an idle frame's activation has nothing to do
@@ -115,14 +114,14 @@ committing_end k (Err refusal) h = h
 
 pub now_committing : (servers : List Bool) (last_act k : ℕ) (l : Link) → SteadyLink servers last_act Saving k l → is_some l.saved ≡ true → SteadyLink servers last_act Committing k l
 now_committing servers last_act k l h e = record {
-    acts_drawn = h.acts_drawn;
-    servers_told = h.servers_told;
-    first_call = h.first_call;
-    waits_behind = h.waits_behind;
-    queue_runs = committing_end k (ended (Ok l.states) (queue l)) h.queue_runs;
-    save_in_queue = committing_ops l.saved (queue l) e h.save_in_queue;
-    saved_known = e;
-  }
+  acts_drawn = h.acts_drawn;
+  servers_told = h.servers_told;
+  first_call = h.first_call;
+  waits_behind = h.waits_behind;
+  queue_runs = committing_end k (ended (Ok l.states) (queue l)) h.queue_runs;
+  save_in_queue = committing_ops l.saved (queue l) e h.save_in_queue;
+  saved_known = e;
+}
 
 -- a commit is done: the activation is told
 counted_op : (saved : Option Stored) (op : Operation) → IsTimely Committing saved op → IsTimely Idle None op
@@ -166,9 +165,9 @@ module _ (servers : List Bool) (last_act : ℕ) (phase : Phase) (k : ℕ) (l : L
   -- past its first call it is, where an edit is pending
   edit_past : (op : Operation) → l.pending ≡ Some op → (IsBeginning op → ⊥) → PastFirstCall l.states
   edit_past op e none = elim h.first_call [
-      inl first ↦ absurd (none (subst (λ (p : Option Operation). IsSomeAnd p IsBeginning) e first.pending))
+    | inl first ↦ absurd (none (subst (λ (p : Option Operation). IsSomeAnd p IsBeginning) e first.pending))
     | inr past ↦ past
-    ]
+  ]
 
   save_goes : (j : ℕ) (content : Stored) (re : Replied) → l.pending ≡ Some (Save j) → saved_link content (done l (Save j)) ≡ Ok re → Goes re
   save_goes j content re e g =
@@ -179,8 +178,8 @@ module _ (servers : List Bool) (last_act : ℕ) (phase : Phase) (k : ℕ) (l : L
       let rest : AllByRecursion (IsTimely Saving None) l.waiting = subst (λ (p : Phase). AllByRecursion (IsTimely p None) l.waiting) ops.0.0 (subst (λ (z : Option Stored). AllByRecursion (IsTimely phase z) l.waiting) ops.0.1 ops.1) in
       let again = none_asked_again j content (EndsWell phase k) l.waiting t.0 (save_scribbles l.states t.0 j t.1) t.2 rest in
       subst Goes at (next_steady servers last_act phase k l t.0 l.s (Some content) l.waiting h.acts_drawn h.servers_told (done_past phase l.saved (Save j) l.states t.0 ops.0 t.1) t.2
-        (subst (λ (p : Phase). AllByRecursion (IsTimely p (Some content)) l.waiting) (sym ops.0.0) again)
-        (subst (λ (p : Phase). IsSavedIn p (Some content)) (sym ops.0.0) tt))
+      (subst (λ (p : Phase). AllByRecursion (IsTimely p (Some content)) l.waiting) (sym ops.0.0) again)
+      (subst (λ (p : Phase). IsSavedIn p (Some content)) (sym ops.0.0) tt))
 
   lost_goes : (why : Refusal) (re : Replied) → lost why ≡ Ok re → Goes re
   lost_goes why re g = (let at : record { link = None; refused = Some why } ≡ re = cc in subst Goes at tt)
@@ -193,7 +192,7 @@ module _ (servers : List Bool) (last_act : ℕ) (phase : Phase) (k : ℕ) (l : L
       let v : l.states ≡ t.0 = cc in
       let at : record { link = Some (record l { pending = None }); refused = Some why } ≡ re = cc in
       subst Goes at (next_steady servers last_act phase k l l.states l.s l.saved l.waiting h.acts_drawn h.servers_told past
-        (subst (λ (z : States). IsOkAnd (ended (Ok z) l.waiting) (EndsWell phase k)) (sym v) t.2) (timely (Edit bytes) e).1 h.saved_known)
+      (subst (λ (z : States). IsOkAnd (ended (Ok z) l.waiting) (EndsWell phase k)) (sym v) t.2) (timely (Edit bytes) e).1 h.saved_known)
 
   -- what an answer makes of it
   pub replied_goes : (op : Operation) (answer : Answer) (re : Replied) → l.pending ≡ Some op → replied l op answer ≡ Ok re → Goes re

@@ -1,5 +1,5 @@
 -- What stands in a list after a change.
-use Rattle.std.proofs.Common.{◌≡◌, ℕ, zero, suc, ◌+◌, Bool, true, false, List, [], ◌∷◌, ◌++◌, Option, Some, None, refl, sym, ap, ◌∙◌, arith, subst, map, ◌==◌, if◌then◌else◌, eq-eqb}
+use Rattle.std.proofs.Common.{◌≡◌, ℕ, zero, suc, ◌+◌, Bool, true, false, List, [], ◌∷◌, ◌++◌, Some, refl, sym, ap, ◌∙◌, arith, subst, map, ◌==◌, if◌then◌else◌, eq-eqb}
 use Rattle.std.specs.Prelude.{IsSomeAnd, slice_get, slice_set}
 use Rattle.std.specs.List.{AllByRecursion}
 use Rattle.wire_msgs.specs.Found.{find, put, nth, set_nth}
@@ -15,9 +15,9 @@ use Rattle.container_core.specs.Steady.{EachPair}
 pub each_found : {A : Type 0} (P : A → Type 0) (test : A → Bool) (xs : List A) (x : A) → AllByRecursion P xs → find test xs ≡ Some x → P x
 each_found P test [] x h e = cc
 each_found P test (y ∷ ys) x h e = elim (test y) as (λ b. (if b then Some y else find test ys) ≡ Some x → P x) [
-    true ↦ (λ g. let yx : y ≡ x = cc in subst P yx h.0)
+  | true ↦ (λ g. let yx : y ≡ x = cc in subst P yx h.0)
   | false ↦ (λ g. each_found P test ys x h.1 g)
-  ] e
+] e
 
 pub each_weaker : {A : Type 0} (P Q : A → Type 0) (xs : List A) → ((x : A) → P x → Q x) → AllByRecursion P xs → AllByRecursion Q xs
 each_weaker P Q [] k h = tt
@@ -30,9 +30,9 @@ each_both P Q (x ∷ xs) h k = ((h.0, k.0), each_both P Q xs h.1 k.1)
 pub each_put : {A : Type 0} (P : A → Type 0) (test : A → Bool) (a : A) (xs : List A) → AllByRecursion P xs → P a → AllByRecursion P (put test a xs)
 each_put P test a [] h p = tt
 each_put P test a (x ∷ xs) h p = elim (test x) as (λ b. AllByRecursion P (if b then a ∷ xs else x ∷ put test a xs)) [
-    true ↦ (p, h.1)
+  | true ↦ (p, h.1)
   | false ↦ (h.0, each_put P test a xs h.1 p)
-  ]
+]
 
 pub each_map : {A : Type 0} (P Q : A → Type 0) (g : A → A) (xs : List A) → ((x : A) → P x → Q (g x)) → AllByRecursion P xs → AllByRecursion Q (map g xs)
 each_map P Q g [] k h = tt
@@ -65,11 +65,11 @@ pub pairs_put : {A : Type 0} (R : A → A → Type 0) (P : A → Type 0) (test :
     → EachPair R xs → AllByRecursion P xs → find test xs ≡ Some x → EachPair R (put test a xs)
 pairs_put R P test a x [] before behind h p e = cc
 pairs_put R P test a x (y ∷ ys) before behind h p e = elim (test y) as (λ b. (if b then Some y else find test ys) ≡ Some x → EachPair R (if b then a ∷ ys else y ∷ put test a ys)) [
-    true ↦ (λ g. let yx : y ≡ x = cc in
-        let rest : AllByRecursion (R x) ys = subst (λ z. AllByRecursion (R z) ys) yx h.0 in
-        (each_weaker (λ z. P z × R x z) (R a) ys (λ z k. behind z k.0 k.1) (each_both P (R x) ys p.1 rest), h.1))
+  | true ↦ (λ g. let yx : y ≡ x = cc in
+      let rest : AllByRecursion (R x) ys = subst (λ z. AllByRecursion (R z) ys) yx h.0 in
+      (each_weaker (λ z. P z × R x z) (R a) ys (λ z k. behind z k.0 k.1) (each_both P (R x) ys p.1 rest), h.1))
   | false ↦ (λ g. (each_put (R y) test a ys h.0 (before y p.0 (each_found (R y) test ys x h.0 g)), pairs_put R P test a x ys before behind h.1 p.1 g))
-  ] e
+] e
 
 pub pairs_map : {A : Type 0} (R : A → A → Type 0) (g : A → A) (xs : List A) → ((x y : A) → R x y → R (g x) (g y)) → EachPair R xs → EachPair R (map g xs)
 pairs_map R g [] k h = tt
@@ -132,13 +132,13 @@ each_settled P f os (x ∷ xs) k h = (k f x h.0, each_settled P (f + 1) os xs k 
 -- what tests over the objects of a frame tell of each
 tells_none : (f : ℕ) (test rest : Bool) (o : Object) → (if o.frame == f then (if test then true else rest) else rest) ≡ false → (o.frame ≡ f → test ≡ false) × (rest ≡ false)
 tells_none f true rest o e = elim (o.frame == f) as (λ b. (o.frame == f) ≡ b → (if b then true else rest) ≡ false → (o.frame ≡ f → true ≡ false) × (rest ≡ false)) [
-    true ↦ (λ t g. absurd (cc))
+  | true ↦ (λ t g. absurd (cc))
   | false ↦ (λ t g. (λ same. sym (eq-eqb o.frame f same) ∙ t, g))
-  ] refl e
+] refl e
 tells_none f false rest o e = elim (o.frame == f) as (λ b. (if b then rest else rest) ≡ false → (o.frame ≡ f → false ≡ false) × (rest ≡ false)) [
-    true ↦ (λ g. (λ same. refl, g))
+  | true ↦ (λ g. (λ same. refl, g))
   | false ↦ (λ g. (λ same. refl, g))
-  ] e
+] e
 
 pub none_awaited : (f : ℕ) (os : List Object) → awaits f os ≡ false → AllByRecursion (λ (o : Object). o.frame ≡ f → is_awaited_link o.link ≡ false) os
 none_awaited f [] e = tt

@@ -1,9 +1,8 @@
 -- Messages and the end of servers keep a record steady.
-use Rattle.std.proofs.Common.{◌≡◌, ◌≤◌, ◌<◌, ◌⊎◌, inl, inr, ℕ, zero, suc, ◌+◌, Bool, true, false, not, List, [], ◌∷◌, ◌++◌, Option, Some, None, Result, Ok, Err, refl, sym, ap, ◌∙◌, arith, rules, subst, map, ◌==◌, if◌then◌else◌, eq-eqb}
+use Rattle.std.proofs.Common.{◌≡◌, ℕ, Bool, true, false, List, [], ◌∷◌, Option, Some, None, Result, Ok, Err, refl, sym, ap, ◌∙◌, arith, subst, ◌==◌, if◌then◌else◌, eq-eqb}
 use Rattle.std.proofs.lemmas.Bool.{eqb-true, eqb-false}
-use Rattle.std.specs.Prelude.{IsSomeAnd, IfSome, IsOk, is_some, is_ok, ◌&&◌}
-use Rattle.std.specs.List.{AllByRecursion}
-use Rattle.wire_msgs.specs.Found.{find, put, nth, set_nth}
+use Rattle.std.specs.Prelude.{IsOk, ◌&&◌}
+use Rattle.wire_msgs.specs.Found.{find, nth, set_nth}
 use Rattle.wire_msgs.specs.declared.operation.Operation.{Operation}
 use Rattle.wire_msgs.specs.declared.operation.Operation.TheVariants.{InitNew, Load, Edit, Save, SaveCompleted}
 use Rattle.wire_msgs.specs.declared.answer.Answer.{Answer}
@@ -13,21 +12,20 @@ use Rattle.object_state.specs.declared.both_states.States.{States}
 use Rattle.object_state.specs.declared.faults.StateFault.{StateFault}
 use Rattle.wire_msgs.specs.Operations.{op_of}
 use Rattle.storage_tree.specs.declared.stored.Stored.{Stored}
-use Rattle.wire_msgs.specs.declared.message.Message.{Message}
 use Rattle.wire_msgs.specs.declared.message.Message.TheVariants.{Call, Reply, Write, Ask}
 use Rattle.container_core.specs.declared.record.Link.{Link}
 use Rattle.container_core.specs.declared.record.Object.{Object}
 use Rattle.container_core.specs.declared.record.Frame.{Frame}
 use Rattle.container_core.specs.declared.fault.ContainerFault.{ContainerFault}
-use Rattle.container_core.specs.declared.fault.ContainerFault.TheVariants.{NoSuch, WrongLink, Stale, BadAnswer}
+use Rattle.container_core.specs.declared.fault.ContainerFault.TheVariants.{NoSuch, WrongLink, Stale}
 use Rattle.container_core.specs.Record.{Record, Took, is_link, is_linked, is_alive, is_unreaped}
 use Rattle.container_core.specs.Saves.{settle, kept}
 use Rattle.container_core.specs.Messages
 use Rattle.container_core.specs.Messages.{Replied, next_at, next_link, done_link, saved_link, replied, replied_object, replied_record, reply_pending, reply_link, reply_taken, reply_found, on_reply, on_message, reaped_object, reaped, on_reap}
-use Rattle.container_core.specs.Steady.{SteadyLink, SteadyObject, SteadyFrame, InOrder, EachPair, Steady, SteadyAfterMessages, SteadyAfterReaps, Fits, FittingAnswersTaken}
+use Rattle.container_core.specs.Steady.{SteadyLink, SteadyObject, InOrder, Steady, SteadyAfterMessages, SteadyAfterReaps, FittingAnswersTaken}
 use Rattle.container_core.proofs.SteadyLookups.{each_found, each_map, pairs_map, nth-set_other}
 use Rattle.container_core.proofs.SteadyLinks.{link_moved, replied_goes, fitting_taken}
-use Rattle.container_core.proofs.SteadyRecords.{if_told, some_and, and_some, at_some, if_weaker, if_at, Held, Follows, TookPlace, order_both, put_steady, settle_steady}
+use Rattle.container_core.proofs.SteadyRecords.{if_told, some_and, and_some, if_at, Held, Follows, TookPlace, order_both, put_steady, settle_steady}
 use Rattle.container_core.proofs.SteadyCommands.{find_passes, moved_object}
 
 -- a link goes on under its act
@@ -104,8 +102,8 @@ taken_keeps r inc act n answer o (Ok re) t s found g e =
     let goes = link_goes r at.0 n answer o.link re at.2 g in
     let x = replied_object o re in
     let steady = put_steady r (is_linked inc act) o x s found
-      (record { number = refl; link = next_follows re.link o.link goes.1 })
-      (record { drawn = h.drawn; linked = and_some (Held r x.link) (nth r.frames o.frame) at.0 at.1 goes.0 }) in
+    (record { number = refl; link = next_follows re.link o.link goes.1 })
+    (record { drawn = h.drawn; linked = and_some (Held r x.link) (nth r.frames o.frame) at.0 at.1 goes.0 }) in
     let same : settle (replied_record r inc act o re) ≡ t.rec = ok_rec _ t e in
     subst Steady same (settle_steady (replied_record r inc act o re) steady)
 
@@ -143,11 +141,11 @@ module _ (r : Record) (inc : ℕ) where
   reaped_steady o None e h = moved_object r after o refl (omega arith) (λ frame held. subst (λ (z : Option Link). Held after z frame) (sym e) tt) h
   reaped_steady o (Some l) e h = if_told (SteadyObject after) (l.inc == inc) (record o { work = kept o; link = None }) o
       (λ t. let s = some_and (Held r o.link) (nth r.frames o.frame) h.linked in
-        record { drawn = h.drawn; linked = and_some (Held after None) (nth r.frames o.frame) s.0 s.1 tt })
+      record { drawn = h.drawn; linked = and_some (Held after None) (nth r.frames o.frame) s.0 s.1 tt })
       (λ t. moved_object r after o refl (omega arith)
-        (λ frame held. let k = if_at (SteadyLink r.servers r.last_act frame.phase frame.k) o.link l e held in
-          subst (λ (z : Option Link). Held after z frame) (sym e)
-            (link_moved r.servers (set_nth r.servers inc true) r.last_act r.last_act frame.phase frame.k l k.acts_drawn (others_told l (eqb-false l.inc inc t) k.servers_told) k)) h)
+      (λ frame held. let k = if_at (SteadyLink r.servers r.last_act frame.phase frame.k) o.link l e held in
+      subst (λ (z : Option Link). Held after z frame) (sym e)
+      (link_moved r.servers (set_nth r.servers inc true) r.last_act r.last_act frame.phase frame.k l k.acts_drawn (others_told l (eqb-false l.inc inc t) k.servers_told) k)) h)
 
   reaped_took : (o : Object) (link : Option Link) → o.link ≡ link → TookPlace (reaped_object inc o link) o
   reaped_took o None e = record { number = refl; link = λ l g. (l, g, refl) }
@@ -157,10 +155,10 @@ module _ (r : Record) (inc : ℕ) where
 
   pub server_gone : Steady r → Steady after
   server_gone s = record {
-      frames = s.frames;
-      objects = each_map (SteadyObject r) (SteadyObject after) (λ o. reaped_object inc o o.link) r.objects (λ o h. reaped_steady o o.link refl h) s.objects;
-      order = pairs_map InOrder (λ o. reaped_object inc o o.link) r.objects (order_both (λ o. reaped_object inc o o.link) (λ o. reaped_took o o.link refl)) s.order;
-    }
+    frames = s.frames;
+    objects = each_map (SteadyObject r) (SteadyObject after) (λ o. reaped_object inc o o.link) r.objects (λ o h. reaped_steady o o.link refl h) s.objects;
+    order = pairs_map InOrder (λ o. reaped_object inc o o.link) r.objects (order_both (λ o. reaped_object inc o o.link) (λ o. reaped_took o o.link refl)) s.order;
+  }
 
 pub on_reap_keeps : SteadyAfterReaps
 on_reap_keeps r inc t s e = if_told (λ (z : Result Took ContainerFault). z ≡ Ok t → Steady t.rec) (is_alive r inc) _ (Err NoSuch)

@@ -1,8 +1,7 @@
 -- Queues of operations: what both tables make of them, and activations whose queue goes on.
-use Rattle.std.proofs.Common.{◌≡◌, ◌≤◌, ◌⊎◌, inl, inr, ℕ, ◌+◌, Bool, true, false, List, [], ◌∷◌, ◌++◌, Option, Some, None, Result, Ok, Err, refl, sym, ap, ◌∙◌, arith, rules, subst, ◌==◌, if◌then◌else◌, eq-eqb}
-use Rattle.std.specs.Prelude.{IsSomeAnd, IsOkAnd, IfSome, is_some}
+use Rattle.std.proofs.Common.{◌≡◌, inl, inr, ℕ, Bool, true, false, List, [], ◌∷◌, ◌++◌, Option, Some, None, Result, Ok, Err, refl, sym, ap, subst, if◌then◌else◌, eq-eqb}
+use Rattle.std.specs.Prelude.{IsSomeAnd, IsOkAnd}
 use Rattle.std.specs.List.{AllByRecursion}
-use Rattle.wire_msgs.specs.Found.{nth}
 use Rattle.wire_msgs.specs.Operations.{op_of}
 use Rattle.wire_msgs.specs.declared.operation.Operation.{Operation}
 use Rattle.wire_msgs.specs.declared.operation.Operation.TheVariants.{InitNew, Load, Edit, Save, SaveCompleted}
@@ -19,14 +18,12 @@ use Rattle.object_state.specs.declared.persist_states.PersistState.{PersistState
 use Rattle.object_state.specs.declared.persist_states.PersistState.TheVariants.{Unset, Normal, NoScribble}
 use Rattle.object_state.specs.declared.persist_states.PersistState.TheVariants as state
 use Rattle.object_state.specs.declared.object_states.ObjectState.{ObjectState}
-use Rattle.object_state.specs.declared.object_states.ObjectState.TheVariants.{Passive, Loaded, Running, InPlaceActive, UiActive, Open}
+use Rattle.object_state.specs.declared.object_states.ObjectState.TheVariants.{Passive, Loaded, Running}
 use Rattle.storage_tree.specs.declared.stored.Stored.{Stored}
 use Rattle.container_core.specs.declared.record.Link.{Link}
 use Rattle.container_core.specs.declared.record.Phase.{Phase}
-use Rattle.container_core.specs.declared.record.Phase.TheVariants.{Idle, Saving, HandingOff, Committing, InDoubt}
-use Rattle.container_core.specs.Record.{is_unreaped, ask_at, ask}
-use Rattle.container_core.specs.Messages.{next_at}
-use Rattle.container_core.specs.Steady.{queue_of, queue, stepped, ended, IsRunning, HasStorage, storage_in, IsOfSave, EndsWell, IsBeginning, AtFirstCall, PastFirstCall, WaitsBehind, IsTimely, IsSavedIn, SteadyLink}
+use Rattle.container_core.specs.declared.record.Phase.TheVariants.{Idle, Saving}
+use Rattle.container_core.specs.Steady.{queue_of, stepped, ended, IsRunning, HasStorage, storage_in, EndsWell, IsBeginning, PastFirstCall, IsTimely, SteadyLink}
 
 -- runs of a queue
 pub ended_append : (r : Result States StateFault) (ops : List Operation) (op : Operation) → ended r (ops ++ op ∷ []) ≡ stepped (ended r ops) op
@@ -60,9 +57,9 @@ IsSet (Err refusal) = Unit {0}
 numbered_set : (p q : Persist) (op : Op) (r : Result PersistState StateFault) → IsSet r → persist.numbered p op r ≡ Ok q → HasStorage q.state
 numbered_set p q op (Err refusal) h e = cc
 numbered_set p q op (Ok s) h e = elim (persist.ends_last (persist.ended_save op) p.last_save) as (λ b. ◌≡◌ {A = Result Persist StateFault} (if b then Ok (record { state = s; last_save = persist.save_after p.last_save op }) else Err fault.WrongState) (Ok q) → HasStorage q.state) [
-    true ↦ (λ g. let at : record { state = s; last_save = persist.save_after p.last_save op } ≡ q = cc in subst HasStorage (ap (λ (z : Persist). z.state) at) h)
+  | true ↦ (λ g. let at : record { state = s; last_save = persist.save_after p.last_save op } ≡ q = cc in subst HasStorage (ap (λ (z : Persist). z.state) at) h)
   | false ↦ (λ g. cc)
-  ] e
+] e
 
 row_set : (phase : Phase) (saved : Option Stored) (op : Operation) (s : PersistState) → IsTimely phase saved op → IsSet (persist.table (op_of op) s)
 row_set phase saved (InitNew class) Unset t = tt
@@ -176,15 +173,15 @@ first_idle phase k (Some _) ws v b w e h = absurd b
 -- so where a save is under way, or nothing is pending, the first call is over
 pub past_if_saving : (servers : List Bool) (last_act : ℕ) (phase : Phase) (k : ℕ) (l : Link) → SteadyLink servers last_act phase k l → (phase ≡ Idle → ⊥) → PastFirstCall l.states
 past_if_saving servers last_act phase k l h ne = elim h.first_call [
-    inl first ↦ absurd (ne (first_idle phase k l.pending l.waiting l.states first.pending first.alone first.states h.queue_runs))
+  | inl first ↦ absurd (ne (first_idle phase k l.pending l.waiting l.states first.pending first.alone first.states h.queue_runs))
   | inr past ↦ past
-  ]
+]
 
 pub past_if_quiet : (servers : List Bool) (last_act : ℕ) (phase : Phase) (k : ℕ) (l : Link) → SteadyLink servers last_act phase k l → l.pending ≡ None → PastFirstCall l.states
 past_if_quiet servers last_act phase k l h e = elim h.first_call [
-    inl first ↦ absurd (subst (λ (p : Option Operation). IsSomeAnd p IsBeginning) e first.pending)
+  | inl first ↦ absurd (subst (λ (p : Option Operation). IsSomeAnd p IsBeginning) e first.pending)
   | inr past ↦ past
-  ]
+]
 
 -- once a content was answered, none is asked for in the rest of the queue
 refused_scribbling : (v w : States) (o : Op) (h : (s : PersistState) → s ≡ NoScribble → (refusal : StateFault) × (persist.table o s ≡ Err refusal)) → v.persist.state ≡ NoScribble → both.step v o ≡ Ok w → ⊥

@@ -1,19 +1,19 @@
 -- Records: what keeps each object steady.
-use Rattle.std.proofs.Common.{◌≡◌, ◌≤◌, ◌<◌, ◌⊎◌, inl, inr, ℕ, zero, suc, ◌+◌, Bool, true, false, not, List, [], ◌∷◌, ◌++◌, Option, Some, None, Result, Ok, Err, refl, sym, ap, ◌∙◌, arith, rules, subst, map, ◌==◌, if◌then◌else◌}
+use Rattle.std.proofs.Common.{◌≡◌, ◌<◌, ℕ, Bool, true, false, List, [], ◌∷◌, Option, Some, None, Result, Ok, refl, sym, ◌∙◌, subst, if◌then◌else◌}
 use Rattle.std.specs.Prelude.{◌||◌, IsSomeAnd, IfSome, is_some}
 use Rattle.std.specs.List.{AllByRecursion}
-use Rattle.wire_msgs.specs.Found.{find, put, nth, set_nth}
+use Rattle.wire_msgs.specs.Found.{find, put, nth}
 use Rattle.container_core.specs.declared.record.Link.{Link}
 use Rattle.container_core.specs.declared.record.Object.{Object}
 use Rattle.container_core.specs.declared.record.Frame.{Frame}
 use Rattle.container_core.specs.declared.record.Phase.{Phase}
 use Rattle.container_core.specs.declared.record.Phase.TheVariants.{Idle, Saving, HandingOff, Committing, InDoubt}
 use Rattle.container_core.specs.declared.fault.ContainerFault.{ContainerFault}
-use Rattle.container_core.specs.Record.{Record, empty, is_unreaped}
+use Rattle.container_core.specs.Record.{Record}
 use Rattle.container_core.specs.Saves.{awaits, is_awaited_link, is_ready, is_ready_at, settled_frame, settled_frames, settle}
 use Rattle.container_core.specs.Commands.{unless}
-use Rattle.container_core.specs.Steady.{SteadyLink, SteadyObject, SteadyFrame, IsReached, InOrder, EachPair, Steady, SteadyFromTheStart}
-use Rattle.container_core.proofs.SteadyLookups.{each_found, each_weaker, each_both, each_put, pairs_put, nth_append, nth-settled, each_settled, none_awaited}
+use Rattle.container_core.specs.Steady.{SteadyLink, SteadyObject, SteadyFrame, InOrder, Steady, SteadyFromTheStart}
+use Rattle.container_core.proofs.SteadyLookups.{each_weaker, each_both, each_put, pairs_put, nth-settled, each_settled, none_awaited}
 use Rattle.container_core.proofs.SteadyLinks.{now_committing}
 
 pub if_told : {A : Type 0} (P : A → Type 0) (b : Bool) (x y : A) → (b ≡ true → P x) → (b ≡ false → P y) → P (if b then x else y)
@@ -91,10 +91,10 @@ order_both g t x y h = order_right (g x) y (g y) (t y) (order_left y x (g x) (t 
 -- one object takes another's place
 pub put_steady : (r : Record) (test : Object → Bool) (x a : Object) → Steady r → find test r.objects ≡ Some x → TookPlace a x → SteadyObject r a → Steady (record r { objects = put test a r.objects })
 put_steady r test x a h e t s = record {
-    frames = h.frames;
-    objects = each_weaker (SteadyObject r) (SteadyObject (record r { objects = put test a r.objects })) (put test a r.objects) (λ o k. record { drawn = k.drawn; linked = k.linked }) (each_put (SteadyObject r) test a r.objects h.objects s);
-    order = pairs_put InOrder (SteadyObject r) test a x r.objects (λ y p k. order_right y x a t k) (λ y p k. order_left y x a t k) h.order h.objects e;
-  }
+  frames = h.frames;
+  objects = each_weaker (SteadyObject r) (SteadyObject (record r { objects = put test a r.objects })) (put test a r.objects) (λ o k. record { drawn = k.drawn; linked = k.linked }) (each_put (SteadyObject r) test a r.objects h.objects s);
+  order = pairs_put InOrder (SteadyObject r) test a x r.objects (λ y p k. order_right y x a t k) (λ y p k. order_left y x a t k) h.order h.objects e;
+}
 
 -- saves go on
 ready_at : (phase : Phase) (waits : Bool) → is_ready_at phase waits ≡ true → (phase ≡ Saving) × (waits ≡ false)
@@ -129,16 +129,16 @@ settled_object r o h a =
     record {
       drawn = h.drawn;
       linked = and_some (Held r o.link) (nth (settled_frames 1 r.objects r.frames) o.frame) (settled_frame o.frame r.objects s.0) (nth-settled r.objects r.frames o.frame s.0 s.1)
-        (if_told (Held r o.link) (is_ready o.frame r.objects s.0) (record s.0 { phase = Committing }) s.0
+          (if_told (Held r o.link) (is_ready o.frame r.objects s.0) (record s.0 { phase = Committing }) s.0
           (λ e. let ready = ready_at s.0.phase (awaits o.frame r.objects) e in settled_link r o.link s.0 ready.0 (a o.frame ready.1 refl) s.2)
           (λ e. s.2));
     }
 
 pub settle_steady : (r : Record) → Steady r → Steady (settle r)
 settle_steady r h = record {
-    frames = each_settled SteadyFrame 1 r.objects r.frames (λ n x k. settled_steady n r.objects x k) h.frames;
-    objects = each_weaker (λ o. SteadyObject r o × Answered r.objects o) (SteadyObject (settle r)) r.objects (λ o k. settled_object r o k.0 k.1)
+  frames = each_settled SteadyFrame 1 r.objects r.frames (λ n x k. settled_steady n r.objects x k) h.frames;
+  objects = each_weaker (λ o. SteadyObject r o × Answered r.objects o) (SteadyObject (settle r)) r.objects (λ o k. settled_object r o k.0 k.1)
       (each_both (SteadyObject r) (Answered r.objects) r.objects h.objects
-        (each_forall (λ f. awaits f r.objects ≡ false) (λ f (o : Object). o.frame ≡ f → is_awaited_link o.link ≡ false) r.objects (λ f e. none_awaited f r.objects e)));
-    order = h.order;
-  }
+      (each_forall (λ f. awaits f r.objects ≡ false) (λ f (o : Object). o.frame ≡ f → is_awaited_link o.link ≡ false) r.objects (λ f e. none_awaited f r.objects e)));
+  order = h.order;
+}

@@ -1,5 +1,5 @@
 -- What holds of a container's record by itself, whatever is answered to it.
-use Rattle.std.specs.Prelude.{◌≡◌, ◌≤◌, ◌<◌, ◌⊎◌, ℕ, Bool, true, false, List, [], ◌∷◌, Option, Some, None, Result, Ok, Err, IfSome, IsSomeAnd, IsOkAnd, IsOk, is_some}
+use Rattle.std.specs.Prelude.{◌≡◌, ◌≤◌, ◌<◌, ◌⊎◌, ℕ, Bool, true, List, [], ◌∷◌, Option, Some, None, Result, Ok, Err, IfSome, IsSomeAnd, IsOkAnd, IsOk, is_some}
 use Rattle.std.specs.List.{AllByRecursion}
 use Rattle.wire_msgs.specs.Found.{find, nth}
 use Rattle.wire_msgs.specs.Operations.{op_of}
@@ -21,7 +21,7 @@ use Rattle.container_core.specs.declared.record.Link.{Link}
 use Rattle.container_core.specs.declared.record.Object.{Object}
 use Rattle.container_core.specs.declared.record.Frame.{Frame}
 use Rattle.container_core.specs.declared.record.Phase.{Phase}
-use Rattle.container_core.specs.declared.record.Phase.TheVariants.{Idle, Saving, HandingOff, Committing, InDoubt}
+use Rattle.container_core.specs.declared.record.Phase.TheVariants.{Idle, Saving, Committing}
 use Rattle.container_core.specs.declared.command.Command.{Command}
 use Rattle.container_core.specs.Record.{Record, Took, empty, is_object, is_linked, is_unreaped}
 use Rattle.container_core.specs.Saves.{commit_done, kept}
