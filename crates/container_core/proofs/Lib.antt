@@ -5,3 +5,4 @@ pub mod SteadyRecords
 pub mod SteadyCommands
 pub mod SteadyMessages
 pub mod SteadyCommits
+pub mod SteadyFinds

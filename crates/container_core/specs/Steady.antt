@@ -184,3 +184,7 @@ FittingAnswersTaken = (r : Record) (inc act : ℕ) (answer : Answer) (o : Object
 -- what is committed is, for each object that isn't passive, the content that it answered in this save
 abbrev pub CommitsAnsweredContents : Type 0
 CommitsAnsweredContents = (r : Record) (n : ℕ) (o : Object) (l : Link) (frame : Frame) → Steady r → find (is_object n) r.objects ≡ Some o → o.link ≡ Some l → nth r.frames o.frame ≡ Some frame → frame.phase ≡ Committing → (content : Stored) × (l.saved ≡ Some content) × (kept o ≡ content)
+
+-- an activation is of one object
+abbrev pub OneObjectAnActivation : Type 0
+OneObjectAnActivation = (r : Record) (n m : ℕ) (o p : Object) (l k : Link) → Steady r → find (is_object n) r.objects ≡ Some o → find (is_object m) r.objects ≡ Some p → o.link ≡ Some l → p.link ≡ Some k → l.act ≡ k.act → n ≡ m

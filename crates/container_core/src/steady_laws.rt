@@ -1,5 +1,5 @@
 //! Laws of a container's record. Each function is empty: its contract is the law, which is proved.
-ghost use Rattle.container_core.specs.Steady.{SteadyFromTheStart, SteadyAfterCommands, SteadyAfterMessages, SteadyAfterReaps, SteadyAfterCommits, FittingAnswersTaken, CommitsAnsweredContents};
+ghost use Rattle.container_core.specs.Steady.{SteadyFromTheStart, SteadyAfterCommands, SteadyAfterMessages, SteadyAfterReaps, SteadyAfterCommits, FittingAnswersTaken, CommitsAnsweredContents, OneObjectAnActivation};
 
 /// A container without frames, objects and servers has a steady record.
 pub fn steady_from_the_start()
@@ -34,4 +34,9 @@ pub fn fitting_answers_taken()
 /// Where a record is steady, a commit has of each object that isn't passive the content that it answered in this save.
 pub fn commits_answered_contents()
     ensures { CommitsAnsweredContents }
+{}
+
+/// Where a record is steady, an activation is of one object.
+pub fn one_object_an_activation()
+    ensures { OneObjectAnActivation }
 {}
