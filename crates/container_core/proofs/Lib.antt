@@ -6,3 +6,4 @@ pub mod SteadyCommands
 pub mod SteadyMessages
 pub mod SteadyCommits
 pub mod SteadyFinds
+pub mod SteadyShapes

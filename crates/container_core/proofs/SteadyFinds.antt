@@ -13,10 +13,10 @@ use Rattle.container_core.proofs.SteadyRecords.{if_at}
 use Rattle.container_core.proofs.SteadyCommands.{find_passes}
 
 -- an object that stands further on has another number
-number_apart : (y x : Object) → InOrder y x → (y.number == x.number) ≡ false
+pub number_apart : (y x : Object) → InOrder y x → (y.number == x.number) ≡ false
 number_apart y x h = (let up = h.rising in ne_eqb y.number x.number (λ e. absurd (omega arith)))
 
-here : (n : ℕ) (y : Object) (os : List Object) → n ≡ y.number → find (is_object n) (y ∷ os) ≡ Some y
+pub here : (n : ℕ) (y : Object) (os : List Object) → n ≡ y.number → find (is_object n) (y ∷ os) ≡ Some y
 here n y os e = subst (λ (b : Bool). (if b then Some y else find (is_object n) os) ≡ Some y) (sym (eq-eqb y.number n (sym e))) refl
 
 -- what is found by any test is found by its number
