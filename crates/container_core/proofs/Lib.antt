@@ -7,3 +7,4 @@ pub mod SteadyMessages
 pub mod SteadyCommits
 pub mod SteadyFinds
 pub mod SteadyShapes
+pub mod SteadyMoves

@@ -119,11 +119,11 @@ idle_of Idle d s = refl
 idle_of InDoubt d s = cc
 idle_of _ d s = absurd (cc)
 
-not_false : (b : Bool) → not b ≡ false → b ≡ true
+pub not_false : (b : Bool) → not b ≡ false → b ≡ true
 not_false true e = refl
 not_false false e = absurd (cc)
 
-none_of : {A : Type 0} (o : Option A) → is_some o ≡ false → o ≡ None
+pub none_of : {A : Type 0} (o : Option A) → is_some o ≡ false → o ≡ None
 none_of None e = refl
 none_of (Some x) e = absurd (cc)
 
@@ -161,7 +161,7 @@ begun_steady servers last_act k inc act (Load class content) a s b = record {
 }
 begun_steady servers last_act k inc act _ a s b = absurd b
 
-first_begins : (o : Object) (streams : List NamedStream) → IsBeginning (Commands.first_operation o streams)
+pub first_begins : (o : Object) (streams : List NamedStream) → IsBeginning (Commands.first_operation o streams)
 first_begins o [] = tt
 first_begins o (s ∷ ss) = tt
 

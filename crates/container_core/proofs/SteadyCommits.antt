@@ -31,13 +31,13 @@ cleared_follows op None l e = cc
 cleared_follows op (Some m) l e = (let f = asked_follows op (Some (record m { saved = None })) l e in let q = f.1 in let same : record m { saved = None } ≡ f.0 = cc in (m, refl, f.2 ∙ sym (ap (λ (z : Link). z.act) same)))
 
 -- what becomes of an object, whether it is of the frame or not
-completed_if : (P : Object → Type 0) (f : ℕ) (frame : Frame) (o : Object) → (o.frame ≡ f → P (record o { work = kept o; link = asked_link (completion frame) (cleared o.link) })) → ((o.frame ≡ f → ⊥) → P o) → P (completed f frame o)
+pub completed_if : (P : Object → Type 0) (f : ℕ) (frame : Frame) (o : Object) → (o.frame ≡ f → P (record o { work = kept o; link = asked_link (completion frame) (cleared o.link) })) → ((o.frame ≡ f → ⊥) → P o) → P (completed f frame o)
 completed_if P f frame o here other = elim (o.frame == f) as (λ b. (o.frame == f) ≡ b → P (asked_object f (completion frame) (if b then record o { work = kept o; link = cleared o.link } else o))) [
   | true ↦ (λ e. if_told P (o.frame == f) (record o { work = kept o; link = asked_link (completion frame) (cleared o.link) }) (record o { work = kept o; link = cleared o.link }) (λ t. here (eqb-true o.frame f e)) (λ t. absurd (eqb-false o.frame f t (eqb-true o.frame f e))))
   | false ↦ (λ e. if_told P (o.frame == f) (record o { link = asked_link (completion frame) o.link }) o (λ t. absurd (eqb-false o.frame f e (eqb-true o.frame f t))) (λ t. other (eqb-false o.frame f e)))
 ] refl
 
-completed_took : (f : ℕ) (frame : Frame) (o : Object) → TookPlace (completed f frame o) o
+pub completed_took : (f : ℕ) (frame : Frame) (o : Object) → TookPlace (completed f frame o) o
 completed_took f frame o = completed_if (λ (z : Object). TookPlace z o) f frame o
     (λ e. record { number = refl; link = cleared_follows (completion frame) o.link })
     (λ e. record { number = refl; link = λ l g. (l, g, refl) })

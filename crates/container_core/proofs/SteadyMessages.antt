@@ -147,7 +147,7 @@ module _ (r : Record) (inc : ℕ) where
       subst (λ (z : Option Link). Held after z frame) (sym e)
       (link_moved r.servers (set_nth r.servers inc true) r.last_act r.last_act frame.phase frame.k l k.acts_drawn (others_told l (eqb-false l.inc inc t) k.servers_told) k)) h)
 
-  reaped_took : (o : Object) (link : Option Link) → o.link ≡ link → TookPlace (reaped_object inc o link) o
+  pub reaped_took : (o : Object) (link : Option Link) → o.link ≡ link → TookPlace (reaped_object inc o link) o
   reaped_took o None e = record { number = refl; link = λ l g. (l, g, refl) }
   reaped_took o (Some l) e = if_told (λ (z : Object). TookPlace z o) (l.inc == inc) (record o { work = kept o; link = None }) o
       (λ t. record { number = refl; link = none_follows o.link })
