@@ -8,3 +8,4 @@ pub mod SteadyCommits
 pub mod SteadyFinds
 pub mod SteadyShapes
 pub mod SteadyMoves
+pub mod SteadyRuns

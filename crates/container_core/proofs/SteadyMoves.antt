@@ -1,7 +1,7 @@
 -- Each step of a container moves links by shapes of change, and sends their calls.
 use Rattle.std.proofs.Common.{◌≡◌, ◌≤◌, ◌<◌, ◌⊎◌, inl, inr, ℕ, ◌+◌, Bool, true, false, not, List, [], ◌∷◌, ◌++◌, length, Option, Some, None, Result, Ok, Err, refl, sym, ap, ◌∙◌, arith, subst, map, ◌==◌, if◌then◌else◌, eq-eqb}
 use Rattle.std.proofs.lemmas.Bool.{eqb-true, eqb-false, ne_eqb}
-use Rattle.std.specs.Prelude.{is_some, nat_lt, nat_le, ◌||◌}
+use Rattle.std.specs.Prelude.{is_some, nat_lt, nat_le, ◌||◌, ◌&&◌}
 use Rattle.std.specs.List.{AllByRecursion}
 use Rattle.wire_msgs.specs.Found.{find, put, nth, set_nth}
 use Rattle.wire_msgs.specs.declared.message.Message.{Message}
@@ -19,14 +19,14 @@ use Rattle.container_core.specs.declared.command.Command.{Command}
 use Rattle.container_core.specs.declared.command.Command.TheVariants as command
 use Rattle.container_core.specs.declared.fault.ContainerFault.{ContainerFault}
 use Rattle.container_core.specs.declared.fault.ContainerFault.TheVariants.{NoSuch, Busy, NotRunning, InDoubt as Doubtful, Full, NumbersSpent, WrongState, UnknownClass, WrongLink, Stale}
-use Rattle.container_core.specs.Record.{Record, Took, MOST_FRAMES, MOST_OBJECTS, MOST_SERVERS, MARGIN, is_object, is_linked, is_alive, is_busy, is_moving, is_saving, is_doubtful, count_alive, count_objects, has_numbers, ask, asked_link, asked_sent, asked_object, asked_all, sends}
+use Rattle.container_core.specs.Record.{Record, Took, MOST_FRAMES, MOST_OBJECTS, MOST_SERVERS, MARGIN, is_object, is_link, is_linked, is_alive, is_busy, is_moving, is_saving, is_doubtful, count_alive, count_objects, has_numbers, ask, asked_link, asked_sent, asked_object, asked_all, sends}
 use Rattle.container_core.specs.Saves.{settle, settle_actions, kept, cleared, completion, completed, commit_made, is_committing, commit_fitting, commit_at, commit_done, image}
 use Rattle.container_core.specs.Messages.{Replied, replied, replied_object, replied_record, next_link, next_sent, reply_pending, reply_link, reply_taken, reply_found, on_reply, on_message, reaped_object, reaped, on_reap}
 use Rattle.container_core.specs.Commands
 use Rattle.container_core.specs.Steady.{SteadyObject, InOrder, EachPair, Steady}
 use Rattle.container_core.proofs.SteadyLookups.{each_weaker}
 use Rattle.container_core.proofs.SteadyRecords.{if_told, unless_ok}
-use Rattle.container_core.proofs.SteadyCommands.{found_numbered, not_false, none_of, first_begins, asked_took}
+use Rattle.container_core.proofs.SteadyCommands.{found_numbered, not_false, none_of, first_begins, asked_took, find_passes}
 use Rattle.container_core.proofs.SteadyCommits.{completed_if, completed_took}
 use Rattle.container_core.proofs.SteadyMessages.{reaped_took}
 use Rattle.container_core.proofs.SteadyFinds.{find-append_same, find-append_other}
@@ -207,7 +207,7 @@ on_reap_moves r inc t s e = if_told (λ (z : Result Took ContainerFault). z ≡ 
         (λ m h. absurd (settle_sends (reaped r inc) m h))))
     (λ a g. cc) e
 
--- a reply
+-- a reply that is taken answers the pending call
 record Answers (n : ℕ) (answer : Answer) (link : Option Link) (re : Replied) : Type 0 where
   l : Link
   op : Operation
@@ -255,3 +255,45 @@ on_message_moves r link (Reply inc act n answer) t s e = if_told (λ (z : Result
     (λ a g. cc) e
 on_message_moves r link (Write inc act n w content) t s e = absurd (either_refused (inc == link) t Stale WrongLink e)
 on_message_moves r link (Ask inc act g) t s e = absurd (either_refused (inc == link) t Stale WrongLink e)
+
+-- what a reply that is taken was to, and made
+pub record Settling (r : Record) (inc act n : ℕ) (answer : Answer) (t : Took) : Type 0 where
+  pub o : Object
+  pub l : Link
+  pub op : Operation
+  pub re : Replied
+  pub found : find (is_linked inc act) r.objects ≡ Some o
+  pub is : o.link ≡ Some l
+  pub same_inc : l.inc ≡ inc
+  pub same_act : l.act ≡ act
+  pub pending : l.pending ≡ Some op
+  pub last : n ≡ l.last
+  pub told : replied l op answer ≡ Ok re
+  pub made : settle (replied_record r inc act o re) ≡ t.rec
+
+both_true : (a b : Bool) → (a && b) ≡ true → (a ≡ true) × (b ≡ true)
+both_true true b e = (refl, e)
+both_true false b e = absurd (cc)
+
+settling_taken : (r : Record) (inc act n : ℕ) (answer : Answer) (o : Object) (res : Result Replied ContainerFault) (t : Took) → find (is_linked inc act) r.objects ≡ Some o → reply_link n answer o.link ≡ res → reply_taken r inc act o res ≡ Ok t → Settling r inc act n answer t
+settling_taken r inc act n answer o (Err fault) t found g e = cc
+settling_taken r inc act n answer o (Ok re) t found g e =
+    let a = answers_link n answer o.link re g in
+    let passes : (a.l.inc == inc) && (a.l.act == act) ≡ true = sym (ap (is_link inc act) a.is) ∙ find_passes (is_linked inc act) r.objects o found in
+    let b = both_true (a.l.inc == inc) (a.l.act == act) passes in
+    record {
+      o = o; l = a.l; op = a.op; re = re; found = found; is = a.is;
+      same_inc = eqb-true a.l.inc inc b.0; same_act = eqb-true a.l.act act b.1;
+      pending = a.pending; last = a.last; told = a.told; made = ap (λ (z : Took). z.rec) (took_same _ t e);
+    }
+
+settling_found : (r : Record) (inc act n : ℕ) (answer : Answer) (o : Option Object) (t : Took) → find (is_linked inc act) r.objects ≡ o → reply_found r inc act n answer o ≡ Ok t → Settling r inc act n answer t
+settling_found r inc act n answer None t found e = cc
+settling_found r inc act n answer (Some o) t found e = settling_taken r inc act n answer o (reply_link n answer o.link) t found refl e
+
+pub reply_settles : (r : Record) (link inc act n : ℕ) (answer : Answer) (t : Took) → on_message r link (Reply inc act n answer) ≡ Ok t → (inc ≡ link) × (is_alive r inc ≡ true) × Settling r inc act n answer t
+reply_settles r link inc act n answer t e = if_told (λ (z : Result Took ContainerFault). z ≡ Ok t → (inc ≡ link) × (is_alive r inc ≡ true) × Settling r inc act n answer t) (inc == link) (on_reply r inc act n answer) (Err WrongLink)
+    (λ a g. if_told (λ (z : Result Took ContainerFault). z ≡ Ok t → (inc ≡ link) × (is_alive r inc ≡ true) × Settling r inc act n answer t) (is_alive r inc) (reply_found r inc act n answer (find (is_linked inc act) r.objects)) (Err Stale)
+      (λ b h. (eqb-true inc link a, b, settling_found r inc act n answer (find (is_linked inc act) r.objects) t refl h))
+      (λ b h. cc) g)
+    (λ a g. cc) e

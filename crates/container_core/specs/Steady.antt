@@ -23,6 +23,7 @@ use Rattle.container_core.specs.declared.record.Frame.{Frame}
 use Rattle.container_core.specs.declared.record.Phase.{Phase}
 use Rattle.container_core.specs.declared.record.Phase.TheVariants.{Idle, Saving, Committing}
 use Rattle.container_core.specs.declared.command.Command.{Command}
+use Rattle.container_core.specs.declared.fault.ContainerFault.{ContainerFault}
 use Rattle.container_core.specs.Record.{Record, Took, empty, is_object, is_linked, is_unreaped}
 use Rattle.container_core.specs.Saves.{commit_done, kept}
 use Rattle.container_core.specs.Messages.{on_message, on_reap}
@@ -188,3 +189,23 @@ CommitsAnsweredContents = (r : Record) (n : ℕ) (o : Object) (l : Link) (frame 
 -- an activation is of one object
 abbrev pub OneObjectAnActivation : Type 0
 OneObjectAnActivation = (r : Record) (n m : ℕ) (o p : Object) (l k : Link) → Steady r → find (is_object n) r.objects ≡ Some o → find (is_object m) r.objects ≡ Some p → o.link ≡ Some l → p.link ≡ Some k → l.act ≡ k.act → n ≡ m
+
+-- What may be done with a container, and a whole run of it: each step is taken, one after the other.
+pub data Deed : Type 0 where
+  Ordered : Command → Deed
+  Told : ℕ → Message → Deed
+  Reaped : ℕ → Deed
+  Committed : ℕ → Deed
+
+abbrev pub done : Record → Deed → Result Took ContainerFault
+done r (Deed.Ordered c) = on_command r c
+done r (Deed.Told link m) = on_message r link m
+done r (Deed.Reaped inc) = on_reap r inc
+done r (Deed.Committed f) = commit_done r f
+
+abbrev pub Leads : Record → List Deed → Record → Type 0
+Leads r [] u = r ≡ u
+Leads r (d ∷ ds) u = (t : Took) × (done r d ≡ Ok t) × Leads t.rec ds u
+
+abbrev pub SteadyAlways : Type 0
+SteadyAlways = (numbers : ℕ) (ds : List Deed) (u : Record) → Leads (empty numbers) ds u → Steady u

@@ -1,5 +1,5 @@
 //! Laws of a container's record. Each function is empty: its contract is the law, which is proved.
-ghost use Rattle.container_core.specs.Steady.{SteadyFromTheStart, SteadyAfterCommands, SteadyAfterMessages, SteadyAfterReaps, SteadyAfterCommits, FittingAnswersTaken, CommitsAnsweredContents, OneObjectAnActivation};
+ghost use Rattle.container_core.specs.Steady.{SteadyFromTheStart, SteadyAfterCommands, SteadyAfterMessages, SteadyAfterReaps, SteadyAfterCommits, FittingAnswersTaken, CommitsAnsweredContents, OneObjectAnActivation, SteadyAlways};
 
 /// A container without frames, objects and servers has a steady record.
 pub fn steady_from_the_start()
@@ -24,6 +24,11 @@ pub fn steady_after_reaps()
 /// A commit that is done leaves a steady record steady.
 pub fn steady_after_commits()
     ensures { SteadyAfterCommits }
+{}
+
+/// Whatever is done with a container from the start on, its record is steady.
+pub fn steady_always()
+    ensures { SteadyAlways }
 {}
 
 /// Where a record is steady, the tables of states refuse no answer to a pending call that fits it.
@@ -52,6 +57,7 @@ mod tests {
         steady_after_messages();
         steady_after_reaps();
         steady_after_commits();
+        steady_always();
         fitting_answers_taken();
         commits_answered_contents();
         one_object_an_activation();
