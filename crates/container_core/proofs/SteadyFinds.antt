@@ -1,16 +1,15 @@
 -- Objects of a steady record are found by their numbers, and by their activations, whatever changes.
-use Rattle.std.proofs.Common.{◌≡◌, ◌<◌, ℕ, ◌+◌, Bool, true, false, List, [], ◌∷◌, ◌++◌, Option, Some, None, refl, sym, ap, ◌∙◌, arith, subst, map, ◌==◌, if◌then◌else◌, eq-eqb}
-use Rattle.std.proofs.lemmas.Bool.{eqb-true, eqb-false, ne_eqb}
+use Rattle.std.proofs.Common.{◌≡◌, ◌<◌, ℕ, Bool, true, false, List, [], ◌∷◌, ◌++◌, Option, Some, None, refl, sym, ap, ◌∙◌, arith, subst, map, ◌==◌, if◌then◌else◌, eq-eqb}
+use Rattle.std.proofs.lemmas.Bool.{eqb-true, ne_eqb}
 use Rattle.std.specs.Prelude.{IfSome, ◌&&◌, option_map}
 use Rattle.std.specs.List.{AllByRecursion}
 use Rattle.wire_msgs.specs.Found.{find, put}
 use Rattle.container_core.specs.declared.record.Link.{Link}
 use Rattle.container_core.specs.declared.record.Object.{Object}
-use Rattle.container_core.specs.Record.{Record, is_object, is_link, is_linked}
-use Rattle.container_core.specs.Steady.{InOrder, EachPair, Steady, OneObjectAnActivation}
+use Rattle.container_core.specs.Record.{is_object, is_link, is_linked}
+use Rattle.container_core.specs.Steady.{InOrder, EachPair, OneObjectAnActivation}
 use Rattle.container_core.proofs.SteadyLookups.{each_found}
 use Rattle.container_core.proofs.SteadyRecords.{if_at}
-use Rattle.container_core.proofs.SteadyCommands.{find_passes}
 
 -- an object that stands further on has another number
 pub number_apart : (y x : Object) → InOrder y x → (y.number == x.number) ≡ false

@@ -1,9 +1,9 @@
 -- Each step of a container moves links by shapes of change, and sends their calls.
-use Rattle.std.proofs.Common.{◌≡◌, ◌≤◌, ◌<◌, ◌⊎◌, inl, inr, ℕ, ◌+◌, Bool, true, false, not, List, [], ◌∷◌, ◌++◌, length, Option, Some, None, Result, Ok, Err, refl, sym, ap, ◌∙◌, arith, subst, map, ◌==◌, if◌then◌else◌, eq-eqb}
+use Rattle.std.proofs.Common.{◌≡◌, ◌<◌, inl, inr, ℕ, ◌+◌, Bool, true, false, not, List, [], ◌∷◌, ◌++◌, length, Option, Some, None, Result, Ok, Err, refl, sym, ap, ◌∙◌, arith, subst, ◌==◌, if◌then◌else◌, eq-eqb}
 use Rattle.std.proofs.lemmas.Bool.{eqb-true, eqb-false, ne_eqb}
 use Rattle.std.specs.Prelude.{is_some, nat_lt, nat_le, ◌||◌, ◌&&◌}
 use Rattle.std.specs.List.{AllByRecursion}
-use Rattle.wire_msgs.specs.Found.{find, put, nth, set_nth}
+use Rattle.wire_msgs.specs.Found.{find, nth}
 use Rattle.wire_msgs.specs.declared.message.Message.{Message}
 use Rattle.wire_msgs.specs.declared.message.Message.TheVariants.{Call, Reply, Write, Ask}
 use Rattle.wire_msgs.specs.declared.operation.Operation.{Operation}
@@ -18,19 +18,19 @@ use Rattle.container_core.specs.declared.record.Frame.{Frame}
 use Rattle.container_core.specs.declared.command.Command.{Command}
 use Rattle.container_core.specs.declared.command.Command.TheVariants as command
 use Rattle.container_core.specs.declared.fault.ContainerFault.{ContainerFault}
-use Rattle.container_core.specs.declared.fault.ContainerFault.TheVariants.{NoSuch, Busy, NotRunning, InDoubt as Doubtful, Full, NumbersSpent, WrongState, UnknownClass, WrongLink, Stale}
+use Rattle.container_core.specs.declared.fault.ContainerFault.TheVariants.{NoSuch, Busy, InDoubt as Doubtful, Full, NumbersSpent, WrongState, UnknownClass, WrongLink, Stale}
 use Rattle.container_core.specs.Record.{Record, Took, MOST_FRAMES, MOST_OBJECTS, MOST_SERVERS, MARGIN, is_object, is_link, is_linked, is_alive, is_busy, is_moving, is_saving, is_doubtful, count_alive, count_objects, has_numbers, ask, asked_link, asked_sent, asked_object, asked_all, sends}
 use Rattle.container_core.specs.Saves.{settle, settle_actions, kept, cleared, completion, completed, commit_made, is_committing, commit_fitting, commit_at, commit_done, image}
-use Rattle.container_core.specs.Messages.{Replied, replied, replied_object, replied_record, next_link, next_sent, reply_pending, reply_link, reply_taken, reply_found, on_reply, on_message, reaped_object, reaped, on_reap}
+use Rattle.container_core.specs.Messages.{Replied, replied, replied_object, replied_record, next_sent, reply_pending, reply_link, reply_taken, reply_found, on_reply, on_message, reaped_object, reaped, on_reap}
 use Rattle.container_core.specs.Commands
-use Rattle.container_core.specs.Steady.{SteadyObject, InOrder, EachPair, Steady}
+use Rattle.container_core.specs.Steady.{SteadyObject, Steady}
 use Rattle.container_core.proofs.SteadyLookups.{each_weaker}
 use Rattle.container_core.proofs.SteadyRecords.{if_told, unless_ok}
 use Rattle.container_core.proofs.SteadyCommands.{found_numbered, not_false, none_of, first_begins, asked_took, find_passes}
 use Rattle.container_core.proofs.SteadyCommits.{completed_if, completed_took}
 use Rattle.container_core.proofs.SteadyMessages.{reaped_took}
 use Rattle.container_core.proofs.SteadyFinds.{find-append_same, find-append_other}
-use Rattle.container_core.proofs.SteadyShapes.{link_in, links, Among, Sends, Shape, Moved, sends_join, sends_among, settle_sends, none_moved, put_moved, map_moved, asked_of, call_of}
+use Rattle.container_core.proofs.SteadyShapes.{link_in, links, Shape, Moved, sends_join, sends_among, settle_sends, none_moved, put_moved, map_moved, asked_of, call_of}
 
 -- what a step made
 abbrev MovedTo : Record → Took → Type 0
@@ -55,9 +55,9 @@ inserted_same : (r : Record) (a : Object) (n : ℕ) → Steady r → a.number �
 inserted_same r a n s number none =
     let below : AllByRecursion (λ (o : Object). o.number < a.number) r.objects = each_weaker (SteadyObject r) (λ (o : Object). o.number < a.number) r.objects (λ o h. let d = h.drawn in omega arith) s.objects in
     elim (a.number == n) as (λ b. (a.number == n) ≡ b → link_in (find (is_object n) (r.objects ++ a ∷ [])) ≡ links r n) [
-      true ↦ (λ t. subst (λ (k : ℕ). link_in (find (is_object k) (r.objects ++ a ∷ [])) ≡ links r k) (eqb-true a.number n t)
-        (ap link_in (find-append_same a r.objects below) ∙ (none ∙ sym (ap link_in (unnumbered a.number r.objects below)))))
-    | false ↦ (λ t. ap link_in (find-append_other n a r.objects (eqb-false a.number n t)))
+      | true ↦ (λ t. subst (λ (k : ℕ). link_in (find (is_object k) (r.objects ++ a ∷ [])) ≡ links r k) (eqb-true a.number n t)
+          (ap link_in (find-append_same a r.objects below) ∙ (none ∙ sym (ap link_in (unnumbered a.number r.objects below)))))
+      | false ↦ (λ t. ap link_in (find-append_other n a r.objects (eqb-false a.number n t)))
     ] refl
 
 insert_moved : (r : Record) (f : ℕ) (kind : Kind) (area : Area) (found : Option Frame) (t : Took) → Steady r → Commands.insert_at r f kind area found ≡ Ok t → MovedTo r t
@@ -96,8 +96,8 @@ run_moved r o inc (Some frame) t s found e =
     let x : Object = record o { link = Some (Commands.begun_link inc (r.last_act + 1) op) } in
     let sent : List Message = Call inc (r.last_act + 1) 1 op ∷ [] in
     subst (MovedTo r) at (put_moved r (Commands.run_made r o inc).rec (sends sent) (is_object o.number) o x sent s.order found refl refl
-      (Shape.Begins inc op (none_of o.link d.0) (not_false (is_alive r inc) a.0) (first_begins o o.work.streams) refl refl)
-      (λ m g. sends_among sent m g))
+    (Shape.Begins inc op (none_of o.link d.0) (not_false (is_alive r inc) a.0) (first_begins o o.work.streams) refl refl)
+    (λ m g. sends_among sent m g))
 
 run_at_moved : (r : Record) (n inc : ℕ) (o : Option Object) (t : Took) → Steady r → find (is_object n) r.objects ≡ o → Commands.run_at r inc o ≡ Ok t → MovedTo r t
 run_at_moved r n inc None t s found e = cc
@@ -113,8 +113,8 @@ edit_linked_moved r o bytes (Some l) t s found is e =
     let x : Object = record o { link = Some (ask l (Edit bytes)).link } in
     let sent : List Message = (ask l (Edit bytes)).sent in
     subst (MovedTo r) at (put_moved r (Commands.edit_made r o l bytes).rec (sends sent) (is_object o.number) o x sent s.order found refl refl
-      (Shape.Asked l l.saved (Edit bytes) is refl refl)
-      (λ m g. sends_among sent m g))
+    (Shape.Asked l l.saved (Edit bytes) is refl refl)
+    (λ m g. sends_among sent m g))
 
 edit_moved : (r : Record) (o : Object) (bytes : List ℕ) (f : Option Frame) (t : Took) → Steady r → find (is_object o.number) r.objects ≡ Some o → Commands.edit_in r o bytes f ≡ Ok t → MovedTo r t
 edit_moved r o bytes None t s found e = cc
@@ -134,9 +134,9 @@ asked_shape r op (Some l) = Shape.Asked l l.saved op refl refl refl
 
 asked_object_shape : (r : Record) (f : ℕ) (op : Operation) (o : Object) → Shape r o.link (asked_object f op o).link (asked_of f op o)
 asked_object_shape r f op o = elim (o.frame == f) as (λ b. Shape r o.link (if b then record o { link = asked_link op o.link } else o).link (if b then asked_sent op o.link else [])) [
-    true ↦ asked_shape r op o.link
+  | true ↦ asked_shape r op o.link
   | false ↦ Shape.Same refl refl
-  ]
+]
 
 save_moved : (r : Record) (f : ℕ) (found : Option Frame) (t : Took) → Steady r → Commands.save_at r f found ≡ Ok t → MovedTo r t
 save_moved r f None t s e = cc
@@ -149,10 +149,10 @@ save_moved r f (Some frame) t s e =
     let op : Operation = Save (frame.k + 1) in
     let u : Record = Commands.saving r f frame in
     subst (MovedTo r) at (map_moved r (settle u) (sends (asked_all f op r.objects) ++ settle_actions u) (asked_object f op) (asked_of f op) refl (λ o. (asked_took f op o).number) (asked_object_shape r f op)
-      (λ m g. elim (sends_join (sends (asked_all f op r.objects)) (settle_actions u) m g) [
-          inl h ↦ call_of f op r.objects m s.order (sends_among (asked_all f op r.objects) m h)
-        | inr h ↦ absurd (settle_sends u m h)
-        ]))
+    (λ m g. elim (sends_join (sends (asked_all f op r.objects)) (settle_actions u) m g) [
+      | inl h ↦ call_of f op r.objects m s.order (sends_among (asked_all f op r.objects) m h)
+      | inr h ↦ absurd (settle_sends u m h)
+    ]))
 
 -- each command
 pub on_command_moves : (r : Record) (c : Command) (t : Took) → Steady r → Commands.on_command r c ≡ Ok t → Moved r t.rec t.answer.actions
@@ -203,8 +203,8 @@ took_same u t e = cc
 pub on_reap_moves : (r : Record) (inc : ℕ) (t : Took) → Steady r → on_reap r inc ≡ Ok t → Moved r t.rec t.answer.actions
 on_reap_moves r inc t s e = if_told (λ (z : Result Took ContainerFault). z ≡ Ok t → MovedTo r t) (is_alive r inc) _ (Err NoSuch)
     (λ a g. subst (MovedTo r) (took_same _ t g)
-      (map_moved r (settle (reaped r inc)) (settle_actions (reaped r inc)) (λ o. reaped_object inc o o.link) (λ o. []) refl (λ o. (reaped_took r inc o o.link refl).number) (λ o. reaped_shape r inc o o.link)
-        (λ m h. absurd (settle_sends (reaped r inc) m h))))
+    (map_moved r (settle (reaped r inc)) (settle_actions (reaped r inc)) (λ o. reaped_object inc o o.link) (λ o. []) refl (λ o. (reaped_took r inc o o.link refl).number) (λ o. reaped_shape r inc o o.link)
+    (λ m h. absurd (settle_sends (reaped r inc) m h))))
     (λ a g. cc) e
 
 -- a reply that is taken answers the pending call
@@ -232,8 +232,8 @@ taken_moved r inc act n answer o (Ok re) t s found g e =
     let a = answers_link n answer o.link re g in
     let u : Record = replied_record r inc act o re in
     subst (MovedTo r) (took_same _ t e) (put_moved r (settle u) (sends (next_sent re.link) ++ settle_actions u) (is_linked inc act) o (replied_object o re) (next_sent re.link) s.order found refl refl
-      (Shape.Settled a.l a.op answer re a.is a.pending a.told refl refl)
-      (λ m h. elim (sends_join (sends (next_sent re.link)) (settle_actions u) m h) [ inl k ↦ sends_among (next_sent re.link) m k | inr k ↦ absurd (settle_sends u m k) ]))
+    (Shape.Settled a.l a.op answer re a.is a.pending a.told refl refl)
+    (λ m h. elim (sends_join (sends (next_sent re.link)) (settle_actions u) m h) [ inl k ↦ sends_among (next_sent re.link) m k | inr k ↦ absurd (settle_sends u m k) ]))
 
 found_moved : (r : Record) (inc act n : ℕ) (answer : Answer) (o : Option Object) (t : Took) → Steady r → find (is_linked inc act) r.objects ≡ o → reply_found r inc act n answer o ≡ Ok t → MovedTo r t
 found_moved r inc act n answer None t s found e = cc
@@ -282,9 +282,18 @@ settling_taken r inc act n answer o (Ok re) t found g e =
     let passes : (a.l.inc == inc) && (a.l.act == act) ≡ true = sym (ap (is_link inc act) a.is) ∙ find_passes (is_linked inc act) r.objects o found in
     let b = both_true (a.l.inc == inc) (a.l.act == act) passes in
     record {
-      o = o; l = a.l; op = a.op; re = re; found = found; is = a.is;
-      same_inc = eqb-true a.l.inc inc b.0; same_act = eqb-true a.l.act act b.1;
-      pending = a.pending; last = a.last; told = a.told; made = ap (λ (z : Took). z.rec) (took_same _ t e);
+      o = o;
+      l = a.l;
+      op = a.op;
+      re = re;
+      found = found;
+      is = a.is;
+      same_inc = eqb-true a.l.inc inc b.0;
+      same_act = eqb-true a.l.act act b.1;
+      pending = a.pending;
+      last = a.last;
+      told = a.told;
+      made = ap (λ (z : Took). z.rec) (took_same _ t e);
     }
 
 settling_found : (r : Record) (inc act n : ℕ) (answer : Answer) (o : Option Object) (t : Took) → find (is_linked inc act) r.objects ≡ o → reply_found r inc act n answer o ≡ Ok t → Settling r inc act n answer t
@@ -294,6 +303,6 @@ settling_found r inc act n answer (Some o) t found e = settling_taken r inc act 
 pub reply_settles : (r : Record) (link inc act n : ℕ) (answer : Answer) (t : Took) → on_message r link (Reply inc act n answer) ≡ Ok t → (inc ≡ link) × (is_alive r inc ≡ true) × Settling r inc act n answer t
 reply_settles r link inc act n answer t e = if_told (λ (z : Result Took ContainerFault). z ≡ Ok t → (inc ≡ link) × (is_alive r inc ≡ true) × Settling r inc act n answer t) (inc == link) (on_reply r inc act n answer) (Err WrongLink)
     (λ a g. if_told (λ (z : Result Took ContainerFault). z ≡ Ok t → (inc ≡ link) × (is_alive r inc ≡ true) × Settling r inc act n answer t) (is_alive r inc) (reply_found r inc act n answer (find (is_linked inc act) r.objects)) (Err Stale)
-      (λ b h. (eqb-true inc link a, b, settling_found r inc act n answer (find (is_linked inc act) r.objects) t refl h))
-      (λ b h. cc) g)
+    (λ b h. (eqb-true inc link a, b, settling_found r inc act n answer (find (is_linked inc act) r.objects) t refl h))
+    (λ b h. cc) g)
     (λ a g. cc) e

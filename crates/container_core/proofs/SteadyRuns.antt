@@ -1,5 +1,5 @@
 -- A record is steady whatever was done from the start on.
-use Rattle.std.proofs.Common.{◌≡◌, ℕ, List, [], ◌∷◌, Result, Ok, subst}
+use Rattle.std.proofs.Common.{◌≡◌, List, [], ◌∷◌, Ok, subst}
 use Rattle.container_core.specs.Record.{Record, Took, empty}
 use Rattle.container_core.specs.Steady.{Steady, Deed, done, Leads, SteadyAlways}
 use Rattle.container_core.proofs.SteadyRecords.{empty_steady}

@@ -1,6 +1,6 @@
 -- What a step makes of each object's link, and which calls it sends.
-use Rattle.std.proofs.Common.{◌≡◌, ◌≤◌, ◌⊎◌, inl, inr, ℕ, ◌+◌, Bool, true, false, List, [], ◌∷◌, ◌++◌, Option, Some, None, Result, Ok, Err, refl, sym, ap, ◌∙◌, arith, subst, map, ◌==◌, if◌then◌else◌, eq-eqb}
-use Rattle.std.proofs.lemmas.Bool.{eqb-true, eqb-false, ne_eqb}
+use Rattle.std.proofs.Common.{◌≡◌, ◌⊎◌, inl, inr, ℕ, ◌+◌, Bool, true, List, [], ◌∷◌, ◌++◌, Option, Some, None, Ok, refl, sym, ap, ◌∙◌, subst, map, ◌==◌, if◌then◌else◌, eq-eqb}
+use Rattle.std.proofs.lemmas.Bool.{eqb-true, eqb-false}
 use Rattle.std.specs.Prelude.{option_map}
 use Rattle.wire_msgs.specs.Found.{find, put}
 use Rattle.wire_msgs.specs.declared.message.Message.{Message}
@@ -13,11 +13,11 @@ use Rattle.container_core.specs.declared.answer.Action.TheVariants.{Send, Start,
 use Rattle.container_core.specs.declared.record.Link.{Link}
 use Rattle.container_core.specs.declared.record.Object.{Object}
 use Rattle.container_core.specs.declared.record.Frame.{Frame}
-use Rattle.container_core.specs.Record.{Record, Took, is_object, is_alive, ask, ask_at, asked_link, asked_sent, asked_all, sends}
+use Rattle.container_core.specs.Record.{Record, is_object, is_alive, ask, asked_sent, asked_all, sends}
 use Rattle.container_core.specs.Saves.{settled_action, settled_actions, settle_actions, is_ready}
 use Rattle.container_core.specs.Messages.{Replied, replied, next_link, next_sent}
 use Rattle.container_core.specs.Commands.{begun_link}
-use Rattle.container_core.specs.Steady.{IsBeginning, InOrder, EachPair, Steady}
+use Rattle.container_core.specs.Steady.{IsBeginning, InOrder, EachPair}
 use Rattle.container_core.proofs.SteadyLookups.{each_found}
 use Rattle.container_core.proofs.SteadyRecords.{if_told}
 use Rattle.container_core.proofs.SteadyFinds.{found_by_number, put_by_number, find-put_same, find-put_other, find-map, number_apart, here}
@@ -76,9 +76,9 @@ settled_frame_sends f os frame m = if_told (λ (a : List Action). Sends a m → 
 settled_sends : (f : ℕ) (os : List Object) (frames : List Frame) (m : Message) → Sends (settled_actions f os frames) m → ⊥
 settled_sends f os [] m h = h
 settled_sends f os (frame ∷ frames) m h = elim (sends_join (settled_action f os frame) (settled_actions (f + 1) os frames) m h) [
-    inl g ↦ settled_frame_sends f os frame m g
+  | inl g ↦ settled_frame_sends f os frame m g
   | inr g ↦ settled_sends (f + 1) os frames m g
-  ]
+]
 
 -- saves that go on send nothing
 pub settle_sends : (r : Record) (m : Message) → Sends (settle_actions r) m → ⊥
@@ -92,10 +92,10 @@ among_join (y ∷ xs) ys x (inr h) = elim (among_join xs ys x h) [ inl g ↦ inl
 -- nothing moves
 pub none_moved : (r u : Record) (actions : List Action) → ((n : ℕ) → links u n ≡ links r n) → ((m : Message) → Sends actions m → ⊥) → Moved r u actions
 none_moved r u actions same silent = record {
-    sents = λ n. [];
-    shape = λ n. Shape.Same (same n) refl;
-    calls = λ m h. absurd (silent m h);
-  }
+  sents = λ n. [];
+  shape = λ n. Shape.Same (same n) refl;
+  calls = λ m h. absurd (silent m h);
+}
 
 -- one object takes another's place
 module _ (r u : Record) (actions : List Action) (test : Object → Bool) (x a : Object) (sent : List Message) (order : EachPair InOrder r.objects) (found : find test r.objects ≡ Some x) (objects : u.objects ≡ put test a r.objects) (number : a.number ≡ x.number)
@@ -120,12 +120,12 @@ module _ (r u : Record) (actions : List Action) (test : Object → Bool) (x a : 
 
   pub put_moved : Moved r u actions
   put_moved = record {
-      sents = sent_at;
-      shape = λ n. if_told (Shape r (links r n) (links u n)) (x.number == n) sent []
+    sents = sent_at;
+    shape = λ n. if_told (Shape r (links r n) (links u n)) (x.number == n) sent []
         (λ t. subst (λ (k : ℕ). Shape r (links r k) (links u k) sent) (eqb-true x.number n t) here_shape)
         (λ t. Shape.Same (other_same n (eqb-false x.number n t)) refl);
-      calls = λ m h. (x.number, subst (λ (b : Bool). Among (if b then sent else []) m) (sym (eq-eqb x.number x.number refl)) (calls m h));
-    }
+    calls = λ m h. (x.number, subst (λ (b : Bool). Among (if b then sent else []) m) (sym (eq-eqb x.number x.number refl)) (calls m h));
+  }
 
 -- each object is changed under its number
 module _ (r u : Record) (actions : List Action) (g : Object → Object) (sent_of : Object → List Message) (objects : u.objects ≡ map g r.objects) (number : (o : Object) → (g o).number ≡ o.number)
@@ -140,11 +140,11 @@ module _ (r u : Record) (actions : List Action) (g : Object → Object) (sent_of
 
   pub map_moved : Moved r u actions
   map_moved = record {
-      sents = λ n. sent_in (find (is_object n) r.objects);
-      shape = λ n. subst (λ (z : Option Object). Shape r (links r n) (link_in z) (sent_in (find (is_object n) r.objects)))
+    sents = λ n. sent_in (find (is_object n) r.objects);
+    shape = λ n. subst (λ (z : Option Object). Shape r (links r n) (link_in z) (sent_in (find (is_object n) r.objects)))
         (sym (ap (λ (os : List Object). find (is_object n) os) objects ∙ find-map n g r.objects number)) (shape_in (find (is_object n) r.objects));
-      calls = λ m h. let c = calls m h in (c.0.number, subst (λ (z : Option Object). Among (sent_in z) m) (sym c.1) c.2);
-    }
+    calls = λ m h. let c = calls m h in (c.0.number, subst (λ (z : Option Object). Among (sent_in z) m) (sym c.1) c.2);
+  }
 
 -- which object is asked by a message
 abbrev pub asked_of : ℕ → Operation → Object → List Message
@@ -157,10 +157,10 @@ pub call_of : (f : ℕ) (op : Operation) (os : List Object) (m : Message) → Ea
 call_of f op [] m h a = absurd a
 call_of f op (y ∷ ys) m h a =
     let later : Among (asked_all f op ys) m → (o : Object) × (find (is_object o.number) (y ∷ ys) ≡ Some o) × Among (asked_of f op o) m =
-      λ b. (let c = call_of f op ys m h.1 b in (c.0, there y c.0 ys (each_found (InOrder y) (is_object c.0.number) ys c.0 h.0 c.1) c.1, c.2)) in
+    λ b. (let c = call_of f op ys m h.1 b in (c.0, there y c.0 ys (each_found (InOrder y) (is_object c.0.number) ys c.0 h.0 c.1) c.1, c.2)) in
     if_told (λ (ms : List Message). Among ms m → (o : Object) × (find (is_object o.number) (y ∷ ys) ≡ Some o) × Among (asked_of f op o) m) (y.frame == f) (asked_sent op y.link ++ asked_all f op ys) (asked_all f op ys)
     (λ t b. elim (among_join (asked_sent op y.link) (asked_all f op ys) m b) [
-        inl c ↦ (y, here y.number y ys refl, subst (λ (z : Bool). Among (if z then asked_sent op y.link else []) m) (sym t) c)
+      | inl c ↦ (y, here y.number y ys refl, subst (λ (z : Bool). Among (if z then asked_sent op y.link else []) m) (sym t) c)
       | inr c ↦ later c
-      ])
+    ])
     (λ t b. later b) a
