@@ -9,3 +9,4 @@ pub mod SteadyFinds
 pub mod SteadyShapes
 pub mod SteadyMoves
 pub mod SteadyRuns
+pub mod SteadyFrames

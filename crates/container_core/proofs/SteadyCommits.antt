@@ -59,7 +59,7 @@ module _ (r : Record) (f : ℕ) (frame : Frame) (s : Steady r) (at : nth r.frame
     order = pairs_map InOrder (completed f frame) r.objects (order_both (completed f frame) (completed_took f frame)) s.order;
   }
 
-committing_by : (phase : Phase) → is_committing phase ≡ true → phase ≡ Committing
+pub committing_by : (phase : Phase) → is_committing phase ≡ true → phase ≡ Committing
 committing_by Committing e = refl
 committing_by _ e = absurd (cc)
 

@@ -197,7 +197,7 @@ reaped_shape : (r : Record) (inc : ℕ) (o : Object) (link : Option Link) → Sh
 reaped_shape r inc o None = Shape.Same refl refl
 reaped_shape r inc o (Some l) = if_told (λ (z : Object). Shape r o.link z.link []) (l.inc == inc) (record o { work = kept o; link = None }) o (λ t. Shape.Ended refl refl) (λ t. Shape.Same refl refl)
 
-took_same : (u t : Took) → ◌≡◌ {A = Result Took ContainerFault} (Ok u) (Ok t) → u ≡ t
+pub took_same : (u t : Took) → ◌≡◌ {A = Result Took ContainerFault} (Ok u) (Ok t) → u ≡ t
 took_same u t e = cc
 
 pub on_reap_moves : (r : Record) (inc : ℕ) (t : Took) → Steady r → on_reap r inc ≡ Ok t → Moved r t.rec t.answer.actions
@@ -244,7 +244,7 @@ reply_moved r inc act n answer t s e = if_told (λ (z : Result Took ContainerFau
     (λ a g. found_moved r inc act n answer (find (is_linked inc act) r.objects) t s refl g)
     (λ a g. cc) e
 
-either_refused : (b : Bool) (t : Took) (one two : ContainerFault) → ◌≡◌ {A = Result Took ContainerFault} (if b then Err one else Err two) (Ok t) → ⊥
+pub either_refused : (b : Bool) (t : Took) (one two : ContainerFault) → ◌≡◌ {A = Result Took ContainerFault} (if b then Err one else Err two) (Ok t) → ⊥
 either_refused true t one two e = cc
 either_refused false t one two e = cc
 

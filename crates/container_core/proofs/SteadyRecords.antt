@@ -97,7 +97,7 @@ put_steady r test x a h e t s = record {
 }
 
 -- saves go on
-ready_at : (phase : Phase) (waits : Bool) → is_ready_at phase waits ≡ true → (phase ≡ Saving) × (waits ≡ false)
+pub ready_at : (phase : Phase) (waits : Bool) → is_ready_at phase waits ≡ true → (phase ≡ Saving) × (waits ≡ false)
 ready_at Saving false e = (refl, refl)
 ready_at Saving true e = cc
 ready_at Idle waits e = cc
