@@ -64,13 +64,13 @@ append_moved r u a e n frame at = (frame, ap (λ (fs : List Frame). nth fs n) e 
 
 set_moved : (r u : Record) (f : ℕ) (frame changed : Frame) → nth r.frames f ≡ Some frame → u.frames ≡ set_nth r.frames f changed → FrameShape frame changed → FramesMoved r u
 set_moved r u f frame changed at e shape n x here = elim (f == n) as (λ b. (f == n) ≡ b → (after : Frame) × (nth u.frames n ≡ Some after) × FrameShape x after) [
-    true ↦ (λ t.
+  | true ↦ (λ t.
       let same : f ≡ n = eqb-true f n t in
       let both : Some frame ≡ Some x = sym at ∙ (ap (nth r.frames) same ∙ here) in
       let fx : frame ≡ x = cc in
       (changed, ap (λ (fs : List Frame). nth fs n) e ∙ (ap (nth (set_nth r.frames f changed)) (sym same) ∙ nth-set_same r.frames f frame changed at), subst (λ (z : Frame). FrameShape z changed) fx shape))
   | false ↦ (λ t. (x, ap (λ (fs : List Frame). nth fs n) e ∙ (nth-set_other r.frames f n changed (eqb-false f n t) ∙ here), FrameShape.Still refl))
-  ] refl
+] refl
 
 -- a save begins, and may go on at once
 begins_on : (frame : Frame) (n : ℕ) (os : List Object) → frame.phase ≡ Idle → FrameShape frame (settled_frame n os (Commands.saving_frame frame))
@@ -80,7 +80,7 @@ begins_on frame n os idle = if_told (FrameShape frame) (is_ready n os (Commands.
 
 saving_moved : (r : Record) (f : ℕ) (frame : Frame) → nth r.frames f ≡ Some frame → frame.phase ≡ Idle → FramesMoved r (settle (Commands.saving r f frame))
 saving_moved r f frame at idle n x here = elim (f == n) as (λ b. (f == n) ≡ b → (after : Frame) × (nth (settle (Commands.saving r f frame)).frames n ≡ Some after) × FrameShape x after) [
-    true ↦ (λ t.
+  | true ↦ (λ t.
       let same : f ≡ n = eqb-true f n t in
       let both : Some frame ≡ Some x = sym at ∙ (ap (nth r.frames) same ∙ here) in
       let fx : frame ≡ x = cc in
@@ -90,7 +90,7 @@ saving_moved r f frame at idle n x here = elim (f == n) as (λ b. (f == n) ≡ b
   | false ↦ (λ t.
       let os = (Commands.saving r f frame).objects in
       (settled_frame n os x, nth-settled os (set_nth r.frames f (Commands.saving_frame frame)) n x (nth-set_other r.frames f n (Commands.saving_frame frame) (eqb-false f n t) ∙ here), settled_shape n os x))
-  ] refl
+] refl
 
 -- commands
 abbrev MovedTo : Record → Took → Type 0

@@ -18,7 +18,7 @@ use Rattle.container_core.specs.declared.record.Link.{Link}
 use Rattle.container_core.specs.declared.record.Phase.{Phase}
 use Rattle.container_core.specs.declared.record.Phase.TheVariants.{Idle, Saving, Committing}
 use Rattle.container_core.specs.Record.{is_unreaped, ask_at, ask}
-use Rattle.container_core.specs.Messages.{Replied, next_at, next_link, next_s, done, done_link, saved_link, lost, noted, replied}
+use Rattle.container_core.specs.Messages.{Replied, next_at, next_link, next_s, done, saved_link, lost, noted, replied}
 use Rattle.container_core.specs.Steady.{queue_of, queue, stepped, ended, EndsWell, IsBeginning, PastFirstCall, WaitsBehind, IsTimely, IsSavedIn, SteadyLink, Fits}
 use Rattle.container_core.proofs.SteadyLookups.{each_weaker, each_append}
 use Rattle.container_core.proofs.SteadyQueues.{ended_append, taken, done_past, edit_taken, save_begins, save_ends, ends_set, past_if_saving, past_if_quiet, none_asked_again, save_scribbles}
@@ -146,7 +146,7 @@ module _ (servers : List Bool) (last_act : ℕ) (phase : Phase) (k : ℕ) (l : L
   Goes re = IfSome (next_link re.link) (SteadyLink servers last_act phase k)
 
   done_is : (op : Operation) (w : States) → both.step l.states (op_of op) ≡ Ok w → done l op ≡ Ok (record { link = Some (record l { pending = None; states = w; s = next_s op l.s }); refused = None })
-  done_is op w e = ap (done_link l op) e
+  done_is op w e = rw e refl
 
   runs : (op : Operation) → l.pending ≡ Some op → IsOkAnd (ended (Ok l.states) (op ∷ l.waiting)) (EndsWell phase k)
   runs op e = subst (λ (p : Option Operation). IsOkAnd (ended (Ok l.states) (queue_of p l.waiting)) (EndsWell phase k)) e h.queue_runs

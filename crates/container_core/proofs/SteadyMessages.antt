@@ -17,11 +17,10 @@ use Rattle.container_core.specs.declared.record.Link.{Link}
 use Rattle.container_core.specs.declared.record.Object.{Object}
 use Rattle.container_core.specs.declared.record.Frame.{Frame}
 use Rattle.container_core.specs.declared.fault.ContainerFault.{ContainerFault}
-use Rattle.container_core.specs.declared.fault.ContainerFault.TheVariants.{NoSuch, WrongLink, Stale}
+use Rattle.container_core.specs.declared.fault.ContainerFault.TheVariants.{NoSuch, WrongLink, Stale, BadAnswer}
 use Rattle.container_core.specs.Record.{Record, Took, is_link, is_linked, is_alive, is_unreaped}
 use Rattle.container_core.specs.Saves.{settle, kept}
-use Rattle.container_core.specs.Messages
-use Rattle.container_core.specs.Messages.{Replied, next_at, next_link, done_link, saved_link, replied, replied_object, replied_record, reply_pending, reply_link, reply_taken, reply_found, on_reply, on_message, reaped_object, reaped, on_reap}
+use Rattle.container_core.specs.Messages.{Replied, next_at, next_link, done, next_s, saved_link, replied, replied_object, replied_record, reply_pending, reply_link, reply_taken, reply_found, on_reply, on_message, reaped_object, reaped, on_reap}
 use Rattle.container_core.specs.Steady.{SteadyLink, SteadyObject, InOrder, Steady, SteadyAfterMessages, SteadyAfterReaps, FittingAnswersTaken}
 use Rattle.container_core.proofs.SteadyLookups.{each_found, each_map, pairs_map, nth-set_other}
 use Rattle.container_core.proofs.SteadyLinks.{link_moved, replied_goes, fitting_taken}
@@ -45,9 +44,14 @@ abbrev Keeps : Link → Result Replied ContainerFault → Type 0
 Keeps l (Ok re) = Follows re.link (Some l)
 Keeps l (Err fault) = Unit {0}
 
-done_keeps : (l : Link) (op : Operation) (r : Result States StateFault) → Keeps l (done_link l op r)
-done_keeps l op (Err fault) = tt
-done_keeps l op (Ok v) = λ m e. (let same : record l { pending = None; states = v; s = Messages.next_s op l.s } ≡ m = cc in (l, refl, sym (ap (λ (z : Link). z.act) same)))
+done_keeps : (l : Link) (op : Operation) → Keeps l (done l op)
+done_keeps l op = elim (both.step l.states (op_of op)) as (λ r. both.step l.states (op_of op) ≡ r → Keeps l (done l op)) [
+  | Err fault ↦ (λ e. let is : done l op ≡ Err BadAnswer = rw e refl in subst (Keeps l) (sym is) tt)
+  | Ok v ↦ (λ e.
+      let x : Link = record l { pending = None; states = v; s = next_s op l.s } in
+      let is : done l op ≡ Ok (record { link = Some x; refused = None }) = rw e refl in
+      subst (Keeps l) (sym is) (λ m g. let same : x ≡ m = cc in (l, refl, sym (ap (λ (z : Link). z.act) same))))
+] refl
 
 saved_follows : (content : Stored) (link before : Option Link) → Follows link before → Follows (elim link [ None ↦ None | Some l ↦ Some (record l { saved = Some content }) ]) before
 saved_follows content None before f l e = cc
@@ -61,18 +65,18 @@ none_follows : (before : Option Link) → Follows None before
 none_follows before l e = cc
 
 replied_keeps : (l : Link) (op : Operation) (answer : Answer) → Keeps l (replied l op answer)
-replied_keeps l (InitNew class) Done = done_keeps l (InitNew class) (both.step l.states (op_of (InitNew class)))
+replied_keeps l (InitNew class) Done = done_keeps l (InitNew class)
 replied_keeps l (InitNew class) (Refused why) = none_follows (Some l)
 replied_keeps l (InitNew class) _ = tt
-replied_keeps l (Load class content) Done = done_keeps l (Load class content) (both.step l.states (op_of (Load class content)))
+replied_keeps l (Load class content) Done = done_keeps l (Load class content)
 replied_keeps l (Load class content) (Refused why) = none_follows (Some l)
 replied_keeps l (Load class content) _ = tt
-replied_keeps l (Edit bytes) Done = done_keeps l (Edit bytes) (both.step l.states (op_of (Edit bytes)))
+replied_keeps l (Edit bytes) Done = done_keeps l (Edit bytes)
 replied_keeps l (Edit bytes) (Refused why) = λ m e. (let same : record l { pending = None } ≡ m = cc in (l, refl, sym (ap (λ (z : Link). z.act) same)))
 replied_keeps l (Edit bytes) _ = tt
-replied_keeps l (Save k) (Content content) = saved_keeps l content (Messages.done l (Save k)) (done_keeps l (Save k) (both.step l.states (op_of (Save k))))
+replied_keeps l (Save k) (Content content) = saved_keeps l content (done l (Save k)) (done_keeps l (Save k))
 replied_keeps l (Save k) _ = tt
-replied_keeps l (SaveCompleted k storage) Done = done_keeps l (SaveCompleted k storage) (both.step l.states (op_of (SaveCompleted k storage)))
+replied_keeps l (SaveCompleted k storage) Done = done_keeps l (SaveCompleted k storage)
 replied_keeps l (SaveCompleted k storage) _ = tt
 replied_keeps l _ _ = tt
 
