@@ -1,11 +1,10 @@
 -- Each step of a container moves frames by shapes of change, and leaves each object in its frame.
-use Rattle.std.proofs.Common.{◌≡◌, ◌≤◌, ◌<◌, ◌⊎◌, inl, inr, ℕ, zero, suc, ◌+◌, Bool, true, false, not, List, [], ◌∷◌, ◌++◌, length, Option, Some, None, Result, Ok, Err, refl, sym, ap, ◌∙◌, arith, subst, map, ◌==◌, if◌then◌else◌, eq-eqb}
-use Rattle.std.proofs.lemmas.Bool.{eqb-true, eqb-false, ne_eqb}
+use Rattle.std.proofs.Common.{◌≡◌, ℕ, zero, suc, ◌+◌, true, false, not, List, [], ◌∷◌, ◌++◌, length, Option, Some, None, Result, Ok, Err, refl, sym, ap, ◌∙◌, subst, ◌==◌}
+use Rattle.std.proofs.lemmas.Bool.{eqb-true, eqb-false}
 use Rattle.std.specs.Prelude.{is_some, nat_lt, nat_le, ◌||◌, slice_get}
-use Rattle.wire_msgs.specs.Found.{find, put, nth, set_nth}
+use Rattle.wire_msgs.specs.Found.{find, nth, set_nth}
 use Rattle.wire_msgs.specs.declared.message.Message.{Message}
 use Rattle.wire_msgs.specs.declared.message.Message.TheVariants.{Call, Reply, Write, Ask}
-use Rattle.wire_msgs.specs.declared.answer.Answer.{Answer}
 use Rattle.embed_core.specs.Kinds.{Kind}
 use Rattle.container_core.specs.declared.answer.Part.{Part}
 use Rattle.container_core.specs.declared.record.Area.{Area}
@@ -17,10 +16,10 @@ use Rattle.container_core.specs.declared.record.Phase.TheVariants.{Idle, Saving,
 use Rattle.container_core.specs.declared.command.Command.{Command}
 use Rattle.container_core.specs.declared.command.Command.TheVariants as command
 use Rattle.container_core.specs.declared.fault.ContainerFault.{ContainerFault}
-use Rattle.container_core.specs.declared.fault.ContainerFault.TheVariants.{NoSuch, Busy, NotRunning, InDoubt as Doubtful, Full, NumbersSpent, WrongState, UnknownClass, WrongLink, Stale}
+use Rattle.container_core.specs.declared.fault.ContainerFault.TheVariants.{NoSuch, Busy, InDoubt as Doubtful, Full, NumbersSpent, WrongState, UnknownClass, WrongLink, Stale}
 use Rattle.container_core.specs.Record.{Record, Took, MOST_FRAMES, MOST_OBJECTS, MOST_SERVERS, MARGIN, is_object, is_alive, count_alive, count_objects, has_numbers, is_busy, is_moving, is_saving, is_doubtful}
-use Rattle.container_core.specs.Saves.{settle, settled_frame, settled_frames, is_ready, awaits, committed_frame, commit_made, is_committing, commit_fitting, commit_at, commit_done, image}
-use Rattle.container_core.specs.Messages.{Replied, replied_record, reply_taken, on_message, reaped, on_reap}
+use Rattle.container_core.specs.Saves.{settle, settled_frame, is_ready, awaits, committed_frame, commit_made, is_committing, commit_fitting, commit_at, commit_done, image}
+use Rattle.container_core.specs.Messages.{replied_record, on_message, reaped, on_reap}
 use Rattle.container_core.specs.Commands
 use Rattle.container_core.proofs.SteadyLookups.{nth-set_same, nth-set_other, nth-settled}
 use Rattle.container_core.proofs.SteadyRecords.{if_told, unless_ok, or_false, ready_at}

@@ -8,8 +8,6 @@ use Rattle.wire_msgs.specs.declared.operation.Operation.TheVariants.{InitNew, Lo
 use Rattle.wire_msgs.specs.declared.answer.Answer.{Answer}
 use Rattle.wire_msgs.specs.declared.answer.Answer.TheVariants.{Done, Refused, Content}
 use Rattle.object_state.specs.Both as both
-use Rattle.object_state.specs.declared.both_states.States.{States}
-use Rattle.object_state.specs.declared.faults.StateFault.{StateFault}
 use Rattle.wire_msgs.specs.Operations.{op_of}
 use Rattle.storage_tree.specs.declared.stored.Stored.{Stored}
 use Rattle.wire_msgs.specs.declared.message.Message.TheVariants.{Call, Reply, Write, Ask}
@@ -20,7 +18,7 @@ use Rattle.container_core.specs.declared.fault.ContainerFault.{ContainerFault}
 use Rattle.container_core.specs.declared.fault.ContainerFault.TheVariants.{NoSuch, WrongLink, Stale, BadAnswer}
 use Rattle.container_core.specs.Record.{Record, Took, is_link, is_linked, is_alive, is_unreaped}
 use Rattle.container_core.specs.Saves.{settle, kept}
-use Rattle.container_core.specs.Messages.{Replied, next_at, next_link, done, next_s, saved_link, replied, replied_object, replied_record, reply_pending, reply_link, reply_taken, reply_found, on_reply, on_message, reaped_object, reaped, on_reap}
+use Rattle.container_core.specs.Messages.{Replied, next_at, next_link, done, next_s, saved_link, replied, replied_object, replied_record, reply_pending, reply_link, reply_taken, reply_found, on_reply, reaped_object, reaped}
 use Rattle.container_core.specs.Steady.{SteadyLink, SteadyObject, InOrder, Steady, SteadyAfterMessages, SteadyAfterReaps, FittingAnswersTaken}
 use Rattle.container_core.proofs.SteadyLookups.{each_found, each_map, pairs_map, nth-set_other}
 use Rattle.container_core.proofs.SteadyLinks.{link_moved, replied_goes, fitting_taken}
