@@ -13,3 +13,15 @@ pub mod AskingCallers
 pub mod CommitsLaws
 pub mod CommandsRoom
 pub mod CommandsEdit
+pub mod SteadyLookups
+pub mod SteadyQueues
+pub mod SteadyLinks
+pub mod SteadyRecords
+pub mod SteadyCommands
+pub mod SteadyMessages
+pub mod SteadyCommits
+pub mod SteadyFinds
+pub mod SteadyShapes
+pub mod SteadyMoves
+pub mod SteadyRuns
+pub mod SteadyFrames

@@ -9,3 +9,4 @@ pub mod Room
 pub mod Numbered
 pub mod Asking
 pub mod CommitLaws
+pub mod Steady

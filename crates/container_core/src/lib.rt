@@ -20,3 +20,4 @@ pub mod record;
 mod replies;
 mod servers;
 mod settling;
+pub mod steady_laws;

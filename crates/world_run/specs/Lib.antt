@@ -1,0 +1,3 @@
+pub mod StopNames
+pub mod World
+pub mod View
