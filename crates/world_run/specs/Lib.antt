@@ -2,3 +2,4 @@ pub mod StopNames
 pub mod World
 pub mod View
 pub mod Report
+pub mod Runs

@@ -5,4 +5,5 @@ pub mod event;
 pub mod instance;
 pub mod logs;
 pub mod stock;
+pub mod worked;
 pub mod world;
