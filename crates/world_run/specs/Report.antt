@@ -55,7 +55,7 @@ grant_text (Revoking holder next) = codes "Revoking " ++ decimal holder.object
 abbrev pub file_word : Frame → List ℕ
 file_word frame = if is_doubtful frame.phase then codes "doubt" else if frame.stored then codes "stored" else codes "none"
 
-abbrev pub frame_line : ℕ → Frame → List ℕ
+unfoldable pub frame_line : ℕ → Frame → List ℕ
 frame_line f frame = line (codes "frame" ∷ decimal f ∷ name_text frame.name ∷ grant_text frame.ui.state ∷ codes "k" ∷ decimal frame.k ∷ file_word frame ∷ [])
 
 -- the first of them has number f
@@ -96,11 +96,11 @@ abbrev pub content_text : List NamedStream → List ℕ
 content_text [] = codes "-"
 content_text (s ∷ ss) = stream_text s ++ flat_map further_text ss
 
-abbrev pub object_line : Object → List ℕ
+unfoldable pub object_line : Object → List ℕ
 object_line o = line (codes "object" ∷ decimal o.number ∷ codes "frame" ∷ decimal o.frame ∷ o.user_type ∷ state_text o.link ∷ content_text o.work.streams ∷ [])
 
 -- What was counted: the object and the number of the save.
-abbrev pub done_line : List ℕ → ℕ → ℕ → List ℕ
+unfoldable pub done_line : List ℕ → ℕ → ℕ → List ℕ
 done_line side object k = line (codes "done" ∷ side ∷ decimal object ∷ decimal k ∷ [])
 
 abbrev pub container_line : Done → List ℕ

@@ -4,6 +4,8 @@
 pub mod event;
 pub mod instance;
 pub mod logs;
+pub mod report;
 pub mod stock;
+mod text;
 pub mod worked;
 pub mod world;
