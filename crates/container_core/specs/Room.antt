@@ -1,5 +1,5 @@
 -- Numbers stay within what a message carries: each activation has a number left for what it may be asked without a check.
-use Rattle.std.specs.Prelude.{◌≡◌, ◌+◌, ◌≤◌, ℕ, List, [], ◌∷◌, length, Option, Some, None, All, cond, is_some}
+use Rattle.std.specs.Prelude.{◌+◌, ◌≤◌, ℕ, List, length, Option, Some, None, All, cond, is_some}
 use Rattle.wire_msgs.specs.Found.{nth}
 use Rattle.container_core.specs.declared.record.Link.{Link}
 use Rattle.container_core.specs.declared.record.Object.{Object}

@@ -5,4 +5,6 @@ pub mod answer;
 pub mod command;
 pub mod container;
 pub mod fault;
+mod lookups;
 pub mod record;
+mod servers;
