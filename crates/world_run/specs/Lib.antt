@@ -1,3 +1,4 @@
 pub mod StopNames
 pub mod World
+pub mod Starts
 pub mod View
