@@ -3,6 +3,7 @@
 
 pub mod event;
 pub mod instance;
+pub mod ledger;
 pub mod logs;
 pub mod report;
 pub mod stock;
