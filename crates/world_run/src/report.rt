@@ -337,3 +337,6 @@ fn push_done(
     text.push(b'\n')?;
     Ok(())
 }
+
+#[cfg(test)]
+mod tests;
