@@ -1,5 +1,5 @@
 -- The worked runs, by computing.
-use Rattle.std.proofs.Common.{◌≡◌, refl}
+use Rattle.std.proofs.Common.{refl}
 use Rattle.std.specs.Fmt.{digits}
 use Rattle.world_run.specs.Report.{frame_line, object_line, done_line}
 use Rattle.world_run.specs.Runs.{IsSaved, IsLost, IsKept, IsRepeated, IsReloaded, IsMisedited, IsLimited, IsWorked}

@@ -1,7 +1,7 @@
 -- Worked runs: a note that is made, edited and saved, and what becomes of it where its server crashes.
-use Rattle.std.specs.Prelude.{◌≡◌, ◌++◌, ℕ, true, false, List, [], ◌∷◌, Option, Some, None, Result, Ok, Err, codes}
+use Rattle.std.specs.Prelude.{◌≡◌, ◌++◌, ℕ, List, [], ◌∷◌, Some, Result, Ok, Err, codes}
 use Rattle.std.specs.List.{flat_map}
-use Rattle.embed_core.specs.Kinds.{Kind, Note}
+use Rattle.embed_core.specs.Kinds.{Note}
 use Rattle.container_core.specs.declared.record.Area.{Area}
 use Rattle.container_core.specs.declared.command.Command.TheVariants.{New, Insert, Start, Run, Edit, Save}
 use Rattle.container_core.specs.declared.command.ObjectKind.TheVariants as chosen

@@ -129,10 +129,14 @@ fn push_grant(alloc: Global, text: &mut Vec<u8>, state: GrantState) -> Result<()
 {
     match state {
         GrantState::Free => text.extend_from_slice(b"Free".as_slice())?,
-        GrantState::Granting(claim) => push_numbered(alloc, text, "Granting ", claim.object as usize)?,
-        GrantState::Held { holder, .. } => push_numbered(alloc, text, "Held ", holder.object as usize)?,
+        GrantState::Granting(claim) => {
+            push_numbered(alloc, text, "Granting ", claim.object as usize)?;
+        }
+        GrantState::Held { holder, .. } => {
+            push_numbered(alloc, text, "Held ", holder.object as usize)?;
+        }
         GrantState::Revoking { holder, .. } => {
-            push_numbered(alloc, text, "Revoking ", holder.object as usize)?
+            push_numbered(alloc, text, "Revoking ", holder.object as usize)?;
         }
     }
     Ok(())
@@ -144,13 +148,8 @@ fn file_word(frame: &Frame) -> &'static str
 {
     match frame.phase {
         Phase::InDoubt => "doubt",
-        _ => {
-            if frame.stored {
-                "stored"
-            } else {
-                "none"
-            }
-        }
+        _ if frame.stored => "stored",
+        _ => "none",
     }
 }
 
@@ -204,7 +203,10 @@ fn push_link(alloc: Global, text: &mut Vec<u8>, link: &Link) -> Result<(), Alloc
     ensures { OnOk result (text.new.items ≡ text.old.items ++ linked_text link.now) }
 {
     text.extend_from_slice(object_state_name(link.states.object).as_bytes())?;
-    push_word(text, persist_state_name(link.states.persist.state).as_bytes())?;
+    push_word(
+        text,
+        persist_state_name(link.states.persist.state).as_bytes(),
+    )?;
     push_numbered(alloc, text, " act ", link.act as usize)?;
     push_numbered(alloc, text, " s ", link.s as usize)?;
     Ok(())
@@ -272,11 +274,7 @@ fn push_stream(text: &mut Vec<u8>, stream: &NamedStream) -> Result<(), AllocErro
 }
 
 /// Writes the lines of the contents that the container counted.
-fn push_container_done(
-    alloc: Global,
-    text: &mut Vec<u8>,
-    done: &[Done],
-) -> Result<(), AllocError>
+fn push_container_done(alloc: Global, text: &mut Vec<u8>, done: &[Done]) -> Result<(), AllocError>
     ensures { OnOk result (text.new.items ≡ text.old.items ++ flat_map container_line done.now) }
 {
     for entry in done {
@@ -308,11 +306,7 @@ fn push_server_done(
 }
 
 /// Writes the line of a content that a server counted.
-fn push_server_line(
-    alloc: Global,
-    text: &mut Vec<u8>,
-    entry: &ServerDone,
-) -> Result<(), AllocError>
+fn push_server_line(alloc: Global, text: &mut Vec<u8>, entry: &ServerDone) -> Result<(), AllocError>
     ensures { OnOk result (text.new.items ≡ text.old.items ++ server_line entry.now) }
 {
     push_done(alloc, text, "server", entry.object, entry.k)?;
