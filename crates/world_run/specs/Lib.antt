@@ -1,3 +1,5 @@
 pub mod StopNames
 pub mod World
 pub mod View
+pub mod Safe
+pub mod Keeping

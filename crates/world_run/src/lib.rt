@@ -4,5 +4,6 @@
 pub mod event;
 pub mod instance;
 pub mod logs;
+pub mod safe_laws;
 pub mod stock;
 pub mod world;

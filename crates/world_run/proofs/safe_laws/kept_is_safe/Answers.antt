@@ -1,0 +1,5 @@
+use Rattle.world_run.proofs.Kept.{keeps_run, safe_kept}
+use Rattle.world_run.proofs.safe_laws.kept_is_safe.Goals as goal
+
+pub returns : goal.returns
+returns c = safe_kept
