@@ -4,3 +4,5 @@ pub mod Quiet
 pub mod Books
 pub mod Shelves
 pub mod Kept
+pub mod Serving
+pub mod ServingBooks

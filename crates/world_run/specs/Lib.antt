@@ -3,3 +3,4 @@ pub mod World
 pub mod View
 pub mod Safe
 pub mod Keeping
+pub mod Tying
