@@ -6,3 +6,4 @@ pub mod Shelves
 pub mod Kept
 pub mod Serving
 pub mod ServingBooks
+pub mod Moving

@@ -24,7 +24,7 @@ use Rattle.world_run.proofs.Lookups.{among_join, among_old}
 pub record Makes (a : Activation) (op : Operation) (after : Activation) (r : Answer) (counted : Option Counted) : Type 0 where
   pub last : after.last ≡ a.last + 1
   pub reply : after.reply ≡ r
-  pub ahead : (l : Link) → l.states ≡ a.states → Ahead l op after r
+  pub ahead : Ahead a.states op after r
   pub saved : ((k : ℕ) × (op ≡ Save k)) ⊎ (after.saved ≡ a.saved)
   pub counts : (v : Counted) → counted ≡ Some v → (storage : Bool) × (op ≡ SaveCompleted v.k storage) × (a.saved ≡ Some v.content)
 
@@ -32,7 +32,7 @@ pub record Makes (a : Activation) (op : Operation) (after : Activation) (r : Ans
 pub record Begins (op : Operation) (after : Activation) (r : Answer) : Type 0 where
   pub last : after.last ≡ 1
   pub reply : after.reply ≡ r
-  pub ahead : (l : Link) → l.states ≡ both.loaded → Ahead l op after r
+  pub ahead : Ahead both.loaded op after r
 
 -- the call is the last one again, or the next one of an open activation, or a first one
 pub data How (acts : Acts) (inc act m : ℕ) (op : Operation) (after : Activation) (r : Answer) (counted : Option Counted) : Type 0 where
@@ -89,26 +89,26 @@ module _ (links : Links) (acts after : Acts) (lives : Lives) (sent : List Messag
     where
       is_call : Among sent (Call inc l.act m op)
       is_call = subst (λ x. Among sent (Call inc x m op)) (sym ea) call
-      at_next : (p : Option Operation) → l.pending ≡ p → AtPending l b p → AtPending l a p
+      at_next : (p : Option Operation) → l.pending ≡ p → AtPending l.last l.states b p → AtPending l.last l.states a p
       at_next None f (q, v) = (let le : m ≤ l.last = (hc.bounded n inc m op l e is_call).1 in let q' : b.last ≡ l.last = q in absurd (omega arith))
       at_next (Some p) f (inl (q, v)) =
           let ml : m ≡ l.last = em ∙ q in
           let same : op ≡ p = hc.pending n inc op p l e f (subst (λ x. Among sent (Call inc l.act x op)) ml is_call) in
-          inr (k.last ∙ q, subst (λ x. Ahead l p a x) (sym k.reply) (subst (λ x. Ahead l x a r) same (k.ahead l (sym v))))
+          inr (k.last ∙ q, subst (λ x. Ahead l.states p a x) (sym k.reply) (subst (λ x. Ahead l.states x a r) same (subst (λ x. Ahead x op a r) v k.ahead)))
       at_next (Some p) f (inr (q, v)) = (let le : m ≤ l.last = (hc.bounded n inc m op l e is_call).1 in let q' : b.last ≡ l.last = q in absurd (omega arith))
   ahead_of n l e ei ea (begun at em k ec) s = at_first l.pending refl (subst (InStep l) at s)
     where
       is_call : Among sent (Call inc l.act m op)
       is_call = subst (λ x. Among sent (Call inc x m op)) (sym ea) call
-      at_first : (p : Option Operation) → l.pending ≡ p → (l.last ≡ 1) × (l.states ≡ both.loaded) × IsPending p → AtPending l a p
+      at_first : (p : Option Operation) → l.pending ≡ p → (l.last ≡ 1) × (l.states ≡ both.loaded) × IsPending p → AtPending l.last l.states a p
       at_first None f s' = absurd s'.2
       at_first (Some p) f s' =
           let ml : m ≡ l.last = em ∙ sym s'.0 in
           let same : op ≡ p = hc.pending n inc op p l e f (subst (λ x. Among sent (Call inc l.act x op)) ml is_call) in
-          inr (k.last ∙ sym s'.0, subst (λ x. Ahead l p a x) (sym k.reply) (subst (λ x. Ahead l x a r) same (k.ahead l s'.1)))
+          inr (k.last ∙ sym s'.0, subst (λ x. Ahead l.states p a x) (sym k.reply) (subst (λ x. Ahead l.states x a r) same (subst (λ x. Ahead x op a r) (sym s'.1) k.ahead)))
 
   -- the link of the activation waits for the call, and the call is its last one
-  pub pending_next : (n : ℕ) (l : Link) (b : Activation) → links n ≡ Some l → l.act ≡ act → m ≡ b.last + 1 → (p : Option Operation) → l.pending ≡ p → AtPending l b p → (l.pending ≡ Some op) × (m ≡ l.last)
+  pub pending_next : (n : ℕ) (l : Link) (b : Activation) → links n ≡ Some l → l.act ≡ act → m ≡ b.last + 1 → (p : Option Operation) → l.pending ≡ p → AtPending l.last l.states b p → (l.pending ≡ Some op) × (m ≡ l.last)
   pending_next n l b e ea em None f (q, v) = (let le : m ≤ l.last = (hc.bounded n inc m op l e (subst (λ x. Among sent (Call inc x m op)) (sym ea) call)).1 in let q' : b.last ≡ l.last = q in absurd (omega arith))
   pending_next n l b e ea em (Some p) f (inl (q, v)) =
       let ml : m ≡ l.last = em ∙ q in

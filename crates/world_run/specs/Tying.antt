@@ -10,6 +10,7 @@ use Rattle.wire_msgs.specs.declared.operation.Operation.TheVariants.{InitNew, Lo
 use Rattle.wire_msgs.specs.declared.answer.Answer.{Answer}
 use Rattle.wire_msgs.specs.declared.answer.Answer.TheVariants as told
 use Rattle.object_state.specs.Both as both
+use Rattle.object_state.specs.declared.both_states.States.{States}
 use Rattle.storage_tree.specs.declared.stored.Stored.{Stored}
 use Rattle.server_core.specs.Server.{Activation, is_act}
 use Rattle.container_core.specs.Record.{Record, is_object}
@@ -65,26 +66,29 @@ IsPending None = ⊥
 IsPending (Some op) = ⊤
 
 -- What a server's answer to the pending operation made of its activation; what the container takes no answer of is free.
-abbrev pub Ahead : Link → Operation → Activation → Answer → Type 0
-Ahead l (InitNew class) a told.Done = both.step l.states (op_of (InitNew class)) ≡ Ok a.states
-Ahead l (InitNew class) a (told.Refused why) = a.content ≡ None
-Ahead l (Load class content) a told.Done = both.step l.states (op_of (Load class content)) ≡ Ok a.states
-Ahead l (Load class content) a (told.Refused why) = a.content ≡ None
-Ahead l (Edit bytes) a told.Done = both.step l.states (op_of (Edit bytes)) ≡ Ok a.states
-Ahead l (Edit bytes) a (told.Refused why) = a.states ≡ l.states
-Ahead l (Save k) a (told.Content c) = (both.step l.states (op_of (Save k)) ≡ Ok a.states) × (a.saved ≡ Some c)
-Ahead l (SaveCompleted k storage) a told.Done = both.step l.states (op_of (SaveCompleted k storage)) ≡ Ok a.states
-Ahead l op a answer = ⊤
+abbrev pub Ahead : States → Operation → Activation → Answer → Type 0
+Ahead v (InitNew class) a told.Done = both.step v (op_of (InitNew class)) ≡ Ok a.states
+Ahead v (InitNew class) a (told.Refused why) = a.content ≡ None
+Ahead v (Load class content) a told.Done = both.step v (op_of (Load class content)) ≡ Ok a.states
+Ahead v (Load class content) a (told.Refused why) = a.content ≡ None
+Ahead v (Edit bytes) a told.Done = both.step v (op_of (Edit bytes)) ≡ Ok a.states
+Ahead v (Edit bytes) a (told.Refused why) = a.states ≡ v
+Ahead v (Save k) a (told.Content c) = (both.step v (op_of (Save k)) ≡ Ok a.states) × (a.saved ≡ Some c)
+Ahead v (SaveCompleted k storage) a told.Done = both.step v (op_of (SaveCompleted k storage)) ≡ Ok a.states
+Ahead v op a answer = ⊤
 
 -- An activation is level with its link, or behind the call that is pending, or ahead of its reply.
-abbrev pub AtPending : Link → Activation → Option Operation → Type 0
-AtPending l a None = (a.last ≡ l.last) × (a.states ≡ l.states)
-AtPending l a (Some op) = ((a.last + 1 ≡ l.last) × (a.states ≡ l.states)) ⊎ ((a.last ≡ l.last) × Ahead l op a a.reply)
+abbrev pub AtPending : ℕ → States → Activation → Option Operation → Type 0
+AtPending last v a None = (a.last ≡ last) × (a.states ≡ v)
+AtPending last v a (Some op) = ((a.last + 1 ≡ last) × (a.states ≡ v)) ⊎ ((a.last ≡ last) × Ahead v op a a.reply)
 
 -- before its first call an activation isn't there
+abbrev pub InStepAt : ℕ → States → Option Operation → Option Activation → Type 0
+InStepAt last v pending None = (last ≡ 1) × (v ≡ both.loaded) × IsPending pending
+InStepAt last v pending (Some a) = AtPending last v a pending
+
 abbrev pub InStep : Link → Option Activation → Type 0
-InStep l None = (l.last ≡ 1) × (l.states ≡ both.loaded) × IsPending l.pending
-InStep l (Some a) = AtPending l a l.pending
+InStep l a = InStepAt l.last l.states l.pending a
 
 abbrev pub HasSaved : Stored → Option Activation → Type 0
 HasSaved c None = ⊥
