@@ -7,3 +7,4 @@ pub mod Kept
 pub mod Serving
 pub mod ServingBooks
 pub mod Moving
+pub mod Finding

@@ -119,3 +119,7 @@ nth_set_apart xs (suc i) (suc j) a x e = elim (slice_get_set xs i j a x e) [ inl
 
 pub nth_set_other : {A : Type 0} (xs : List A) (n m : ℕ) (a x : A) → m ≢ n → nth (set_nth xs n a) m ≡ Some x → nth xs m ≡ Some x
 nth_set_other xs n m a x ne e = elim (nth_set xs n m a x e) [ inl g ↦ absurd (ne g.0) | inr g ↦ g ]
+
+pub nth_bound : {A : Type 0} (xs : List A) (n : ℕ) (x : A) → nth xs n ≡ Some x → n ≤ length xs
+nth_bound xs zero x e = cc
+nth_bound xs (suc i) x e = (let h = slice_get_within xs i x e in omega arith)

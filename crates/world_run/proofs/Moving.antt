@@ -17,7 +17,7 @@ use Rattle.world_run.specs.declared.logs.Done.{Done}
 use Rattle.world_run.specs.declared.logs.ServerDone.{ServerDone}
 use Rattle.world_run.specs.Safe.{Among}
 use Rattle.world_run.specs.Tying.{Links, Acts, Lives, AtPending, InStep, InStepAt, HasSaved, IsClosed, Linked, IsPending, Drawn, Calls, Steps, Ended, Replies, IsCounted, Books}
-use Rattle.world_run.proofs.Lookups.{among_join, among_old, among_new, nth_old}
+use Rattle.world_run.proofs.Lookups.{among_join, among_old, among_new, nth_old, nth_bound}
 
 -- a link with the same activation, whose save is as it was or over
 pub record IsSame (l after : Link) : Type 0 where
@@ -28,12 +28,12 @@ pub record IsSame (l after : Link) : Type 0 where
   pub waiting : after.waiting ≡ l.waiting
 
 -- How the link of object n came to be: it is an old one; it is asked for something; a reply settled it; it is new.
-pub data Came (links : Links) (acts : Acts) (last n : ℕ) (after : Link) : Type 0 where
-  same : (l : Link) → links n ≡ Some l → IsSame l after → after.last ≡ l.last → after.pending ≡ l.pending → Came links acts last n after
-  asked : (l : Link) (op : Operation) → links n ≡ Some l → IsSame l after → l.pending ≡ None → after.last ≡ l.last + 1 → after.pending ≡ Some op → Came links acts last n after
+pub data Came (links : Links) (acts : Acts) (lives : Lives) (owners : List ℕ) (last n : ℕ) (after : Link) : Type 0 where
+  same : (l : Link) → links n ≡ Some l → IsSame l after → after.last ≡ l.last → after.pending ≡ l.pending → Came links acts lives owners last n after
+  asked : (l : Link) (op : Operation) → links n ≡ Some l → IsSame l after → l.pending ≡ None → after.last ≡ l.last + 1 → after.pending ≡ Some op → Came links acts lives owners last n after
   settled : (l : Link) → links n ≡ Some l → after.inc ≡ l.inc → after.act ≡ l.act → after.last ≡ l.last → after.pending ≡ None → InStep after (acts after.inc after.act)
-      → ((c : Stored) → after.saved ≡ Some c → HasSaved c (acts after.inc after.act)) → after.waiting ≡ [] → Came links acts last n after
-  fresh : after.act ≡ last + 1 → after.last ≡ 1 → after.states ≡ both.loaded → IsPending after.pending → after.saved ≡ None → after.waiting ≡ [] → Came links acts last n after
+      → ((c : Stored) → after.saved ≡ Some c → HasSaved c (acts after.inc after.act)) → after.waiting ≡ [] → Came links acts lives owners last n after
+  fresh : after.act ≡ last + 1 → after.last ≡ 1 → after.states ≡ both.loaded → IsPending after.pending → after.saved ≡ None → after.waiting ≡ [] → nth owners after.act ≡ Some n → (life : Life) × (lives after.inc ≡ Some life) → Came links acts lives owners last n after
 
 -- a message is the pending call of a link
 pub record IsCallOf (links : Links) (m : Message) : Type 0 where
@@ -50,16 +50,34 @@ Goes acts lives l = IsClosed (acts l.inc l.act) ⊎ (lives l.inc ≢ Some Runnin
 
 module _ (links after : Links) (acts : Acts) (lives : Lives) (sent more : List Message) (owners extra : List ℕ) (last next : ℕ)
     (hd : Drawn links acts lives sent owners last) (hc : Calls links sent) (hs : Steps links acts) (he : Ended links acts lives sent) (hr : Replies acts sent)
-    (came : (n : ℕ) (l : Link) → after n ≡ Some l → Came links acts last n l)
+    (came : (n : ℕ) (l : Link) → after n ≡ Some l → Came links acts lives (owners ++ extra) last n l)
     (sends : (m : Message) → Among more m → IsCallOf after m)
-    (named : (n : ℕ) (l : Link) → after n ≡ Some l → nth (owners ++ extra) l.act ≡ Some n)
     (many : length (owners ++ extra) ≡ next) (grows : last ≤ next)
-    (inside : (n : ℕ) (l : Link) → after n ≡ Some l → l.act ≤ next)
-    (stays : (n : ℕ) (l : Link) → links n ≡ Some l → ((l' : Link) × (after n ≡ Some l') × (l'.act ≡ l.act)) ⊎ Goes acts lives l)
-    (started : (n : ℕ) (l : Link) → after n ≡ Some l → (life : Life) × (lives l.inc ≡ Some life)) where
+    (stays : (n : ℕ) (l : Link) → links n ≡ Some l → ((l' : Link) × (after n ≡ Some l') × (l'.act ≡ l.act)) ⊎ Goes acts lives l) where
 
   abbrev pub all : List Message
   all = sent ++ more
+
+  named_by : (n : ℕ) (l : Link) → Came links acts lives (owners ++ extra) last n l → nth (owners ++ extra) l.act ≡ Some n
+  named_by n l (same b at s el ep) = nth_old owners extra l.act n (ap (nth owners) s.act ∙ hd.named n b at)
+  named_by n l (asked b o at s en el ep) = nth_old owners extra l.act n (ap (nth owners) s.act ∙ hd.named n b at)
+  named_by n l (settled b at ei ea el ep st sv w) = nth_old owners extra l.act n (ap (nth owners) ea ∙ hd.named n b at)
+  named_by n l (fresh ea el es ep sv w nm ho) = nm
+
+  named : (n : ℕ) (l : Link) → after n ≡ Some l → nth (owners ++ extra) l.act ≡ Some n
+  named n l e = named_by n l (came n l e)
+
+  hosted_by : (n : ℕ) (l : Link) → Came links acts lives (owners ++ extra) last n l → (life : Life) × (lives l.inc ≡ Some life)
+  hosted_by n l (same b at s el ep) = (let h = hd.hosted n b at in (h.0, ap lives s.inc ∙ h.1))
+  hosted_by n l (asked b o at s en el ep) = (let h = hd.hosted n b at in (h.0, ap lives s.inc ∙ h.1))
+  hosted_by n l (settled b at ei ea el ep st sv w) = (let h = hd.hosted n b at in (h.0, ap lives ei ∙ h.1))
+  hosted_by n l (fresh ea el es ep sv w nm ho) = ho
+
+  started : (n : ℕ) (l : Link) → after n ≡ Some l → (life : Life) × (lives l.inc ≡ Some life)
+  started n l e = hosted_by n l (came n l e)
+
+  inside : (n : ℕ) (l : Link) → after n ≡ Some l → l.act ≤ next
+  inside n l e = (let h = nth_bound (owners ++ extra) l.act n (named n l e) in let q = many in omega arith)
 
   -- two links of one activation are one
   apart : (n n' : ℕ) (l l' : Link) → after n ≡ Some l → after n' ≡ Some l' → l.act ≡ l'.act → l ≡ l'
@@ -78,23 +96,23 @@ module _ (links after : Links) (acts : Acts) (lives : Lives) (sent more : List M
       let qo : op ≡ c.op = cc in
       (qi ∙ ap (λ (x : Link). x.inc) is, ql ∙ ap (λ (x : Link). x.last) is, ap (λ (x : Link). x.pending) (sym is) ∙ (c.pending ∙ ap Some (sym qo))))
 
-  bounded_old : (inc m : ℕ) (op : Operation) (n : ℕ) (l : Link) → Came links acts last n l → Among sent (Call inc l.act m op) → (inc ≡ l.inc) × (m ≤ l.last)
+  bounded_old : (inc m : ℕ) (op : Operation) (n : ℕ) (l : Link) → Came links acts lives (owners ++ extra) last n l → Among sent (Call inc l.act m op) → (inc ≡ l.inc) × (m ≤ l.last)
   bounded_old inc m op n l (same b at s el ep) h = (let q = hc.bounded n inc m op b at (subst (λ x. Among sent (Call inc x m op)) s.act h) in let le : m ≤ b.last = q.1 in (q.0 ∙ sym s.inc, omega arith))
   bounded_old inc m op n l (asked b o at s en el ep) h = (let q = hc.bounded n inc m op b at (subst (λ x. Among sent (Call inc x m op)) s.act h) in let le : m ≤ b.last = q.1 in (q.0 ∙ sym s.inc, omega arith))
   bounded_old inc m op n l (settled b at ei ea el ep st sv w) h = (let q = hc.bounded n inc m op b at (subst (λ x. Among sent (Call inc x m op)) ea h) in let le : m ≤ b.last = q.1 in (q.0 ∙ sym ei, omega arith))
-  bounded_old inc m op n l (fresh ea el es ep sv w) h = (let le : l.act ≤ last = hd.called inc l.act m op h in absurd (omega arith))
+  bounded_old inc m op n l (fresh ea el es ep sv w nm ho) h = (let le : l.act ≤ last = hd.called inc l.act m op h in absurd (omega arith))
 
-  pending_old : (inc : ℕ) (op p : Operation) (n : ℕ) (l : Link) → Came links acts last n l → l.pending ≡ Some p → Among sent (Call inc l.act l.last op) → op ≡ p
+  pending_old : (inc : ℕ) (op p : Operation) (n : ℕ) (l : Link) → Came links acts lives (owners ++ extra) last n l → l.pending ≡ Some p → Among sent (Call inc l.act l.last op) → op ≡ p
   pending_old inc op p n l (same b at s el ep) f h = hc.pending n inc op p b at (sym ep ∙ f) (subst (λ x. Among sent (Call inc b.act x op)) el (subst (λ x. Among sent (Call inc x l.last op)) s.act h))
   pending_old inc op p n l (asked b o at s en el ep) f h = (let q = hc.bounded n inc l.last op b at (subst (λ x. Among sent (Call inc x l.last op)) s.act h) in let le : l.last ≤ b.last = q.1 in absurd (omega arith))
   pending_old inc op p n l (settled b at ei ea el ep st sv w) f h = absurd (let z : None ≡ Some p = sym ep ∙ f in cc)
-  pending_old inc op p n l (fresh ea el es ep sv w) f h = (let le : l.act ≤ last = hd.called inc l.act l.last op h in absurd (omega arith))
+  pending_old inc op p n l (fresh ea el es ep sv w nm ho) f h = (let le : l.act ≤ last = hd.called inc l.act l.last op h in absurd (omega arith))
 
-  waiting_of : (n : ℕ) (l : Link) → Came links acts last n l → l.waiting ≡ []
+  waiting_of : (n : ℕ) (l : Link) → Came links acts lives (owners ++ extra) last n l → l.waiting ≡ []
   waiting_of n l (same b at s el ep) = s.waiting ∙ hc.waiting n b at
   waiting_of n l (asked b o at s en el ep) = s.waiting ∙ hc.waiting n b at
   waiting_of n l (settled b at ei ea el ep st sv w) = w
-  waiting_of n l (fresh ea el es ep sv w) = w
+  waiting_of n l (fresh ea el es ep sv w nm ho) = w
 
   pub calls_moved : Calls after all
   calls_moved = record {
@@ -113,6 +131,7 @@ module _ (links after : Links) (acts : Acts) (lives : Lives) (sent more : List M
   drawn_moved = record {
       many = many;
       named = named;
+      hosted = started;
       called = λ inc act m op h. elim (among_join sent more (Call inc act m op) h) [
           inl g ↦ (let le : act ≤ last = hd.called inc act m op g in omega arith)
         | inr g ↦ (let c = sends (Call inc act m op) g in let q = c.call in let ea : act ≡ c.l.act = cc in let le : c.l.act ≤ next = inside c.n c.l c.at in omega arith)
@@ -133,7 +152,7 @@ module _ (links after : Links) (acts : Acts) (lives : Lives) (sent more : List M
   absent inc act None e lt = refl
   absent inc act (Some a) e lt = (let le : act ≤ last = hd.known inc act a e in absurd (omega arith))
 
-  step_of : (n : ℕ) (l : Link) → Came links acts last n l → InStep l (acts l.inc l.act)
+  step_of : (n : ℕ) (l : Link) → Came links acts lives (owners ++ extra) last n l → InStep l (acts l.inc l.act)
   step_of n l (same b at s el ep) =
       let was : InStep b (acts b.inc b.act) = hs.step n b at in
       let a1 : InStep b (acts l.inc l.act) = subst (λ x. InStep b (acts x l.act)) (sym s.inc) (subst (λ x. InStep b (acts b.inc x)) (sym s.act) was) in
@@ -145,7 +164,7 @@ module _ (links after : Links) (acts : Acts) (lives : Lives) (sent more : List M
       let a3 : InStepAt (b.last + 1) b.states (Some o) (acts l.inc l.act) = behind b.last b.states (acts l.inc l.act) o a2 in
       subst (λ x. InStepAt x l.states l.pending (acts l.inc l.act)) (sym el) (subst (λ x. InStepAt (b.last + 1) x l.pending (acts l.inc l.act)) (sym s.states) (subst (λ x. InStepAt (b.last + 1) b.states x (acts l.inc l.act)) (sym ep) a3))
   step_of n l (settled b at ei ea el ep st sv w) = st
-  step_of n l (fresh ea el es ep sv w) = subst (InStep l) (sym (absent l.inc l.act (acts l.inc l.act) refl (omega arith))) (el, es, ep)
+  step_of n l (fresh ea el es ep sv w nm ho) = subst (InStep l) (sym (absent l.inc l.act (acts l.inc l.act) refl (omega arith))) (el, es, ep)
 
   saved_same : (n : ℕ) (b l : Link) (c : Stored) → links n ≡ Some b → IsSame b l → l.saved ≡ Some c → HasSaved c (acts l.inc l.act)
   saved_same n b l c at s g = elim s.saved [
@@ -153,11 +172,11 @@ module _ (links after : Links) (acts : Acts) (lives : Lives) (sent more : List M
     | inr e ↦ absurd (let z : None ≡ Some c = sym e ∙ g in cc)
     ]
 
-  saved_of : (n : ℕ) (l : Link) (c : Stored) → Came links acts last n l → l.saved ≡ Some c → HasSaved c (acts l.inc l.act)
+  saved_of : (n : ℕ) (l : Link) (c : Stored) → Came links acts lives (owners ++ extra) last n l → l.saved ≡ Some c → HasSaved c (acts l.inc l.act)
   saved_of n l c (same b at s el ep) g = saved_same n b l c at s g
   saved_of n l c (asked b o at s en el ep) g = saved_same n b l c at s g
   saved_of n l c (settled b at ei ea el ep st sv w) g = sv c g
-  saved_of n l c (fresh ea el es ep sv w) g = absurd (let z : None ≡ Some c = sym sv ∙ g in cc)
+  saved_of n l c (fresh ea el es ep sv w nm ho) g = absurd (let z : None ≡ Some c = sym sv ∙ g in cc)
 
   pub steps_moved : Steps after acts
   steps_moved = record { step = λ n l e. step_of n l (came n l e); saved = λ n l c e g. saved_of n l c (came n l e) g }

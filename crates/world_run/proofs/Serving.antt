@@ -67,6 +67,7 @@ module _ (links : Links) (acts after : Acts) (lives : Lives) (sent : List Messag
   drawn_served = record {
       many = hd.many;
       named = hd.named;
+      hosted = hd.hosted;
       called = λ i x n p h. hd.called i x n p (old_call i x n p h);
       known = λ i x b e. elim (same_act i x inc act) [
           inl s ↦ (let le : act ≤ last = hd.called inc act m op call in let q : x ≡ act = s.1 in omega arith)

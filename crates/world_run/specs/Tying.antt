@@ -105,6 +105,7 @@ Linked links act = (n : ℕ) × (l : Link) × (links n ≡ Some l) × (l.act ≡
 pub record Drawn (links : Links) (acts : Acts) (lives : Lives) (sent : List Message) (owners : List ℕ) (last : ℕ) : Type 0 where
   pub many : length owners ≡ last
   pub named : (n : ℕ) (l : Link) → links n ≡ Some l → nth owners l.act ≡ Some n
+  pub hosted : (n : ℕ) (l : Link) → links n ≡ Some l → (life : Life) × (lives l.inc ≡ Some life)
   pub called : (inc act m : ℕ) (op : Operation) → Among sent (Call inc act m op) → act ≤ last
   pub known : (inc act : ℕ) (a : Activation) → acts inc act ≡ Some a → act ≤ last
   pub started : (inc act m : ℕ) (op : Operation) → Among sent (Call inc act m op) → (life : Life) × (lives inc ≡ Some life)

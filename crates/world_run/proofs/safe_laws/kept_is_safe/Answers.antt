@@ -2,6 +2,7 @@ use Rattle.world_run.proofs.Kept.{keeps_run, safe_kept}
 use Rattle.world_run.proofs.Serving.{calls_served}
 use Rattle.world_run.proofs.ServingBooks.{books_served}
 use Rattle.world_run.proofs.Moving.{calls_moved}
+use Rattle.world_run.proofs.Finding.{asked_of}
 use Rattle.world_run.proofs.safe_laws.kept_is_safe.Goals as goal
 
 pub returns : goal.returns
