@@ -8,3 +8,6 @@ pub mod Serving
 pub mod ServingBooks
 pub mod Moving
 pub mod Finding
+pub mod Phases
+pub mod Replying
+pub mod Steps1
