@@ -11,3 +11,4 @@ pub mod Finding
 pub mod Phases
 pub mod Replying
 pub mod Steps1
+pub mod Steps2

@@ -6,6 +6,7 @@ use Rattle.world_run.proofs.Finding.{asked_of}
 use Rattle.world_run.proofs.Phases.{phased_settled}
 use Rattle.world_run.proofs.Replying.{reply_ends}
 use Rattle.world_run.proofs.Steps1.{edit_moves}
+use Rattle.world_run.proofs.Steps2.{save_moves}
 use Rattle.world_run.proofs.safe_laws.kept_is_safe.Goals as goal
 
 pub returns : goal.returns
