@@ -12,3 +12,4 @@ pub mod Phases
 pub mod Replying
 pub mod Steps1
 pub mod Steps2
+pub mod Steps3

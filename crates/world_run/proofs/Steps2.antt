@@ -40,11 +40,11 @@ use Rattle.world_run.proofs.Finding.{found_number, find_number, found_put, find_
 use Rattle.world_run.proofs.Moving.{IsSame, Came, same, asked, settled, fresh, IsCallOf, Goes}
 use Rattle.world_run.proofs.Steps1.{Moves, same_link, idle_phase, or_left, or_right, unasked}
 
-no_start : (numbers : ℕ) (ms : List Message) (rest : List Action) → started_by numbers rest ≡ [] → started_by numbers (sends ms ++ rest) ≡ []
+pub no_start : (numbers : ℕ) (ms : List Message) (rest : List Action) → started_by numbers rest ≡ [] → started_by numbers (sends ms ++ rest) ≡ []
 no_start numbers [] rest h = h
 no_start numbers (m ∷ ms) rest h = no_start numbers ms rest h
 
-no_start_settled : (numbers f : ℕ) (os : List Object) (frames : List Frame) → started_by numbers (settled_actions f os frames) ≡ []
+pub no_start_settled : (numbers f : ℕ) (os : List Object) (frames : List Frame) → started_by numbers (settled_actions f os frames) ≡ []
 no_start_settled numbers f os [] = refl
 no_start_settled numbers f os (frame ∷ frames) =
     elim (is_ready f os frame) as (λ b. started_by numbers ((if b then Commit f ∷ [] else []) ++ settled_actions (f + 1) os frames) ≡ []) [
@@ -53,7 +53,7 @@ no_start_settled numbers f os (frame ∷ frames) =
     ]
 
 -- the messages of an answer that sends some and goes on with saves
-sent_of : (ms : List Message) (f : ℕ) (os : List Object) (frames : List Frame) → messages_of (sends ms ++ settled_actions f os frames) ≡ ms
+pub sent_of : (ms : List Message) (f : ℕ) (os : List Object) (frames : List Frame) → messages_of (sends ms ++ settled_actions f os frames) ≡ ms
 sent_of ms f os frames = messages_join (sends ms) (settled_actions f os frames) ∙ (ap (λ v. messages_of (sends ms) ++ v) (messages_settled f os frames) ∙ (append-nil (messages_of (sends ms)) ∙ messages_sends ms))
 
 -- All objects of a frame are asked, none of which has a pending operation.
@@ -167,10 +167,10 @@ module _ (r : Record) (f : ℕ) (frame : Frame) where
       rest true false e z = z
       rest false c e z = z
 
-plain_link : (o : Object) (l : Link) → o.link ≡ Some l → (b : Link) × (o.link ≡ Some b) × IsSame b l × (l.last ≡ b.last) × (l.pending ≡ b.pending)
+pub plain_link : (o : Object) (l : Link) → o.link ≡ Some l → (b : Link) × (o.link ≡ Some b) × IsSame b l × (l.last ≡ b.last) × (l.pending ≡ b.pending)
 plain_link o l q = (l, q, same_link l, refl, refl)
 
-plain_there : (o : Object) (b : Link) → o.link ≡ Some b → (l : Link) × (o.link ≡ Some l) × (l.act ≡ b.act)
+pub plain_there : (o : Object) (b : Link) → o.link ≡ Some b → (l : Link) × (o.link ≡ Some l) × (l.act ≡ b.act)
 plain_there o b q = (b, q, refl)
 
 save_moves_in : (r : Record) (acts0 : Acts) (lives : Lives) (owners : List ℕ) (f : ℕ) (frame : Option Frame) (t : Took) → Distinct (map id_of r.objects) → nth r.frames f ≡ frame → save_at r f frame ≡ Ok t → AllPhased r
