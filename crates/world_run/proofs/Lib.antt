@@ -13,3 +13,4 @@ pub mod Replying
 pub mod Steps1
 pub mod Steps2
 pub mod Steps3
+pub mod Answering

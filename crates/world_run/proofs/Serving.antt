@@ -10,7 +10,8 @@ use Rattle.wire_msgs.specs.declared.operation.Operation.TheVariants.{Save, SaveC
 use Rattle.wire_msgs.specs.declared.answer.Answer.{Answer}
 use Rattle.object_state.specs.Both as both
 use Rattle.storage_tree.specs.declared.stored.Stored.{Stored}
-use Rattle.server_core.specs.Server.{Activation, Counted}
+use Rattle.server_core.specs.Server.{Activation}
+use Rattle.server_core.specs.declared.counted.Counted.{Counted}
 use Rattle.container_core.specs.declared.record.Link.{Link}
 use Rattle.world_run.specs.declared.instance.Life.{Life}
 use Rattle.world_run.specs.declared.instance.Life.TheVariants.{Running}

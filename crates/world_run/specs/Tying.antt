@@ -169,13 +169,16 @@ Phased InDoubt l = ⊥
 abbrev pub AllPhased : Record → Type 0
 AllPhased r = (n : ℕ) (o : Object) (l : Link) (frame : Frame) → find (is_object n) r.objects ≡ Some o → o.link ≡ Some l → nth r.frames o.frame ≡ Some frame → Phased frame.phase l
 
-pub record Ties (w : World) : Type 0 where
-  pub servers : length w.rec.servers ≡ length w.instances
-  pub phased : AllPhased w.rec
-  pub drawn : Drawn (links_of w.rec.objects) (acts_of w.instances) (lives_of w.instances) (messages w.sent) w.owners w.rec.last_act
-  pub calls : Calls (links_of w.rec.objects) (messages w.sent)
-  pub steps : Steps (links_of w.rec.objects) (acts_of w.instances)
-  pub ended : Ended (links_of w.rec.objects) (acts_of w.instances) (lives_of w.instances) (messages w.sent)
-  pub replies : Replies (acts_of w.instances) (messages w.sent)
-  pub books : Books (acts_of w.instances) (messages w.sent) w.owners w.container_done w.server_done
-  pub once : ServedOnce w.server_done
+pub record Ties (rec : Record) (instances : List Instance) (sent : List Sent) (owners : List ℕ) (dones : List Done) (served : List ServerDone) : Type 0 where
+  pub servers : length rec.servers ≡ length instances
+  pub phased : AllPhased rec
+  pub drawn : Drawn (links_of rec.objects) (acts_of instances) (lives_of instances) (messages sent) owners rec.last_act
+  pub calls : Calls (links_of rec.objects) (messages sent)
+  pub steps : Steps (links_of rec.objects) (acts_of instances)
+  pub ended : Ended (links_of rec.objects) (acts_of instances) (lives_of instances) (messages sent)
+  pub replies : Replies (acts_of instances) (messages sent)
+  pub books : Books (acts_of instances) (messages sent) owners dones served
+  pub once : ServedOnce served
+
+abbrev pub Tied : World → Type 0
+Tied w = Ties w.rec w.instances w.sent w.owners w.container_done w.server_done
