@@ -1,5 +1,6 @@
 -- What a server's answer to a call does to its activations.
-use Rattle.std.proofs.Common.{◌≡◌, ◌≢◌, ◌⊎◌, ◌==◌, ℕ, zero, suc, ◌+◌, ◌<◌, ◌≤◌, Bool, true, false, List, [], ◌∷◌, ◌++◌, length, Option, Some, None, Result, Ok, Err, refl, sym, ap, ◌∙◌, inl, inr, arith, subst, nat_eq, nat_le, if◌then◌else◌, eq-eqb, cond}
+use Rattle.std.proofs.Common.{◌≡◌, ◌≢◌, ◌⊎◌, ◌==◌, ℕ, zero, suc, ◌+◌, ◌<◌, ◌≤◌, Bool, true, false, List, [], ◌∷◌, ◌++◌, length, Option, Some, None, Result, Ok, Err, refl, sym, ap, ◌∙◌, inl, inr, arith, subst, nat_eq, nat_le, slice_get, slice_set, if◌then◌else◌, eq-eqb}
+use Rattle.std.specs.Prelude.{cond}
 use Rattle.std.proofs.lemmas.Bool.{eqb-true, ne_eqb}
 use Rattle.std.proofs.lemmas.Bool.Decides.{eqb_tells}
 use Rattle.std.specs.Prelude.{⊤}
@@ -131,3 +132,197 @@ does_made a c v (Close option) e = closes_made a v c option
 acted_made : (a : Activation) (c : Content) (op : Operation) (r : Result States StateFault) → both.step a.states (op_of op) ≡ r → IsMade a op (acted a c op r)
 acted_made a c op (Err fault) e = refuses_made a op (of_state fault)
 acted_made a c op (Ok v) e = does_made a c v op e
+
+-- activations by number, where one was put in its place or added
+find_act_put : (xs : List Activation) (act x : ℕ) (a b : Activation) → find (is_act act) xs ≡ Some a → b.act ≡ act → find (is_act x) (put (is_act act) b xs) ≡ (if act == x then Some b else find (is_act x) xs)
+find_act_put [] act x a b e eb = cc
+find_act_put (z ∷ zs) act x a b e eb =
+    elim (nat_eq z.act act) as (λ t. nat_eq z.act act ≡ t → (if t then Some z else find (is_act act) zs) ≡ Some a → find (is_act x) (if t then b ∷ zs else z ∷ put (is_act act) b zs) ≡ (if act == x then Some b else find (is_act x) (z ∷ zs))) [
+      true ↦ (λ t g. let za : z.act ≡ act = eqb-true z.act act t in elim (eqb_tells act x) [
+          inl s ↦ rw (s.0, eq-eqb b.act x (eb ∙ s.1)) refl
+        | inr s ↦ rw (s.0, ne_eqb b.act x (λ q. s.1 (sym eb ∙ q)), ne_eqb z.act x (λ q. s.1 (sym za ∙ q))) refl
+        ])
+    | false ↦ (λ t g. elim (eqb_tells z.act x) [
+          inl s ↦ rw (s.0, ne_eqb act x (λ q. absurd (let n : nat_eq z.act act ≡ true = eq-eqb z.act act (s.1 ∙ sym q) in let w : true ≡ false = sym n ∙ t in cc))) refl
+        | inr s ↦ rw s.0 (find_act_put zs act x a b g eb)
+        ])
+    ] refl e
+
+find_act_more : (xs : List Activation) (act x : ℕ) (b : Activation) → find (is_act act) xs ≡ None → b.act ≡ act → find (is_act x) (xs ++ b ∷ []) ≡ (if act == x then Some b else find (is_act x) xs)
+find_act_more [] act x b e eb = elim (eqb_tells act x) [
+    inl s ↦ rw (s.0, eq-eqb b.act x (eb ∙ s.1)) refl
+  | inr s ↦ rw (s.0, ne_eqb b.act x (λ q. s.1 (sym eb ∙ q))) refl
+  ]
+find_act_more (z ∷ zs) act x b e eb =
+    elim (nat_eq z.act act) as (λ t. nat_eq z.act act ≡ t → (if t then Some z else find (is_act act) zs) ≡ None → find (is_act x) (z ∷ (zs ++ b ∷ [])) ≡ (if act == x then Some b else find (is_act x) (z ∷ zs))) [
+      true ↦ (λ t g. cc)
+    | false ↦ (λ t g. elim (eqb_tells z.act x) [
+          inl s ↦ rw (s.0, ne_eqb act x (λ q. absurd (let n : nat_eq z.act act ≡ true = eq-eqb z.act act (s.1 ∙ sym q) in let w : true ≡ false = sym n ∙ t in cc))) refl
+        | inr s ↦ rw s.0 (find_act_more zs act x b g eb)
+        ])
+    ] refl e
+
+-- instances by number
+set_same : (is : List Instance) (inc : ℕ) (i j : Instance) → nth is inc ≡ Some i → nth (set_nth is inc j) inc ≡ Some j
+set_same is zero i j e = cc
+set_same is (suc k) i j e = at is k i e
+  where
+    at : (xs : List Instance) (k : ℕ) (i : Instance) → slice_get xs k ≡ Some i → slice_get (slice_set xs k j) k ≡ Some j
+    at [] k i e = cc
+    at (x ∷ xs) zero i e = refl
+    at (x ∷ xs) (suc k) i e = at xs k i e
+
+set_other : (is : List Instance) (inc k : ℕ) (j : Instance) → k ≢ inc → nth (set_nth is inc j) k ≡ nth is k
+set_other is zero k j ne = refl
+set_other is (suc m) zero j ne = refl
+set_other is (suc m) (suc k) j ne = at is m k (λ q. ne (ap suc q))
+  where
+    at : (xs : List Instance) (m k : ℕ) → k ≢ m → slice_get (slice_set xs m j) k ≡ slice_get xs k
+    at [] m k ne = refl
+    at (x ∷ xs) zero zero ne = absurd (ne refl)
+    at (x ∷ xs) zero (suc k) ne = refl
+    at (x ∷ xs) (suc m) zero ne = refl
+    at (x ∷ xs) (suc m) (suc k) ne = at xs m k (λ q. ne (ap suc q))
+
+pub nth_same : (is : List Instance) (inc : ℕ) (i j : Instance) → nth is inc ≡ Some i → nth (set_nth is inc j) inc ≡ Some j
+nth_same = set_same
+
+pub nth_other : (is : List Instance) (inc k : ℕ) (j : Instance) → k ≢ inc → nth (set_nth is inc j) k ≡ nth is k
+nth_other = set_other
+
+-- What a call that is taken does: one activation changed, and how.
+pub record IsTaken (is : List Instance) (inc act m : ℕ) (op : Operation) (i : Instance) (told : Served) : Type 0 where
+  pub after : Activation
+  pub changed : Changed (acts_of is) inc act after (acts_of (set_nth is inc (record i { core = told.server })))
+  pub how : How (acts_of is) inc act m op after told.answer told.counted
+  pub of : (v : Counted) → told.counted ≡ Some v → v.act ≡ act
+
+module _ (is : List Instance) (inc act m : ℕ) (op : Operation) (i : Instance) (at : nth is inc ≡ Some i) where
+
+  -- one activation of the instance changed
+  changes : (v : Server) (b : Activation) → ((x : ℕ) → find (is_act x) v.acts ≡ (if act == x then Some b else find (is_act x) i.core.acts)) → Changed (acts_of is) inc act b (acts_of (set_nth is inc (record i { core = v })))
+  changes v b f = record {
+      here = ap (act_at act) (set_same is inc i (record i { core = v }) at) ∙ (f act ∙ rw (eq-eqb act act refl) refl);
+      other = λ k x ne. elim (eqb_tells k inc) [
+          inl s ↦ (let nx : (act == x) ≡ false = ne_eqb act x (λ q. ne s.1 (sym q)) in
+            ap (act_at x) (ap (nth (set_nth is inc (record i { core = v }))) s.1 ∙ set_same is inc i (record i { core = v }) at)
+            ∙ ((f x ∙ rw nx refl) ∙ sym (ap (act_at x) (ap (nth is) s.1 ∙ at))))
+        | inr s ↦ ap (act_at x) (set_other is inc k (record i { core = v }) s.1)
+        ];
+    }
+
+  known : (a : Activation) (r : Result Acted ServerFault) (told : Served) → find (is_act act) i.core.acts ≡ Some a → known_call a m op ≡ r → after_known i.core act r ≡ Ok told → IsTaken is inc act m op i told
+  known a (Err fault) told f k e = cc
+  known a (Ok b) told f k e =
+      let made : Served = record { server = record i.core { acts = put (is_act act) b.activation i.core.acts }; answer = b.answer; counted = b.counted; used = false } in
+      let isd : made ≡ told = cc in
+      let here : acts_of is inc act ≡ Some a = ap (act_at act) at ∙ f in
+      let aa : a.act ≡ act = eqb-true a.act act (find_passes (is_act act) i.core.acts a f) in
+      let h = how_of here aa (nat_eq m a.last) refl k in
+      subst (IsTaken is inc act m op i) isd (record {
+        after = b.activation;
+        changed = changes (record i.core { acts = put (is_act act) b.activation i.core.acts }) b.activation (λ x. find_act_put i.core.acts act x a b.activation f h.1);
+        how = h.0;
+        of = h.2;
+      })
+    where
+      how_of : acts_of is inc act ≡ Some a → a.act ≡ act → (t : Bool) → nat_eq m a.last ≡ t
+          → cond t (Ok (record { activation = a; answer = a.reply; counted = None })) (cond (nat_eq m (a.last + 1)) (next_call a op a.content) (Err Ignored)) ≡ Ok b
+          → How (acts_of is) inc act m op b.activation b.answer b.counted × (b.activation.act ≡ act) × ((v : Counted) → b.counted ≡ Some v → v.act ≡ act)
+      how_of here aa true t g =
+          let q : record { activation = a; answer = a.reply; counted = None } ≡ b = cc in
+          subst (λ (y : Acted). How (acts_of is) inc act m op y.activation y.answer y.counted × (y.activation.act ≡ act) × ((v : Counted) → y.counted ≡ Some v → v.act ≡ act)) q
+            (again here (eqb-true m a.last t) refl refl, aa, (λ v z. cc))
+      how_of here aa false t g = next_of (nat_eq m (a.last + 1)) refl g
+        where
+          next_of : (u : Bool) → nat_eq m (a.last + 1) ≡ u → cond u (next_call a op a.content) (Err Ignored) ≡ Ok b
+              → How (acts_of is) inc act m op b.activation b.answer b.counted × (b.activation.act ≡ act) × ((v : Counted) → b.counted ≡ Some v → v.act ≡ act)
+          next_of false u g = cc
+          next_of true u g = open_of a.content refl g
+            where
+              open_of : (c : Option Content) → a.content ≡ c → next_call a op c ≡ Ok b
+                  → How (acts_of is) inc act m op b.activation b.answer b.counted × (b.activation.act ≡ act) × ((v : Counted) → b.counted ≡ Some v → v.act ≡ act)
+              open_of None q g = cc
+              open_of (Some c) q g =
+                  let y = acted_made a c op (both.step a.states (op_of op)) refl in
+                  let z : acted a c op (both.step a.states (op_of op)) ≡ b = cc in
+                  let mb : IsMade a op b = subst (IsMade a op) z y in
+                  (next a here (eqb-true m (a.last + 1) u) (λ n. (let w : Some c ≡ None = sym q ∙ n in cc)) mb.makes, mb.act ∙ aa, (λ v e. mb.of v e ∙ aa))
+
+  -- a first call
+  first_op : (class : List ℕ) (o : Operation) → begun_class m o ≡ Some class → (m ≡ 1) × ((o ≡ InitNew class) ⊎ ((content : Stored) × (o ≡ Load class content)))
+  first_op class (InitNew c) e = at_one (nat_eq m 1) refl e
+    where
+      at_one : (t : Bool) → nat_eq m 1 ≡ t → cond t (Some c) None ≡ Some class → (m ≡ 1) × ((InitNew c ≡ InitNew class) ⊎ ((content : Stored) × (InitNew c ≡ Load class content)))
+      at_one true t g = (eqb-true m 1 t, inl (let q : c ≡ class = cc in ap InitNew q))
+      at_one false t g = cc
+  first_op class (Load c content) e = at_one (nat_eq m 1) refl e
+    where
+      at_one : (t : Bool) → nat_eq m 1 ≡ t → cond t (Some c) None ≡ Some class → (m ≡ 1) × ((Load c content ≡ InitNew class) ⊎ ((d : Stored) × (Load c content ≡ Load class d)))
+      at_one true t g = (eqb-true m 1 t, inr (content, (let q : c ≡ class = cc in ap (λ x. Load x content) q)))
+      at_one false t g = cc
+  first_op class InPlace e = cc
+  first_op class (UiActivate g) e = cc
+  first_op class UiDeactivate e = cc
+  first_op class InPlaceDeactivate e = cc
+  first_op class OpenWindow e = cc
+  first_op class (Edit bytes) e = cc
+  first_op class (Save k) e = cc
+  first_op class HandsOff e = cc
+  first_op class (SaveCompleted k storage) e = cc
+  first_op class (SaveDropped k) e = cc
+  first_op class (Close option) e = cc
+
+  begins_init : (class : List ℕ) (r : Result Content EmbedFault) → Begins (InitNew class) (begins act class (InitNew class) r).activation (begins act class (InitNew class) r).answer
+  begins_init class (Err fault) = record { last = refl; reply = refl; ahead = refl }
+  begins_init class (Ok c) = record { last = refl; reply = refl; ahead = refl }
+
+  begins_load : (class : List ℕ) (content : Stored) (r : Result Content EmbedFault) → Begins (Load class content) (begins act class (Load class content) r).activation (begins act class (Load class content) r).answer
+  begins_load class content (Err fault) = record { last = refl; reply = refl; ahead = refl }
+  begins_load class content (Ok c) = record { last = refl; reply = refl; ahead = refl }
+
+  begins_act : (class : List ℕ) (o : Operation) (r : Result Content EmbedFault) → ((begins act class o r).activation.act ≡ act) × ((begins act class o r).counted ≡ None)
+  begins_act class o (Err fault) = (refl, refl)
+  begins_act class o (Ok c) = (refl, refl)
+
+  begun_as : (class : List ℕ) (r : Result Content EmbedFault) → ((op ≡ InitNew class) ⊎ ((content : Stored) × (op ≡ Load class content))) → Begins op (begins act class op r).activation (begins act class op r).answer
+  begun_as class r (inl e) = subst (λ o. Begins o (begins act class o r).activation (begins act class o r).answer) (sym e) (begins_init class r)
+  begun_as class r (inr e) = subst (λ o. Begins o (begins act class o r).activation (begins act class o r).answer) (sym e.1) (begins_load class e.0 r)
+
+  added : (class : List ℕ) (r : Result Content EmbedFault) (told : Served) → find (is_act act) i.core.acts ≡ None → begun_class m op ≡ Some class → after_begun i.core (begins act class op r) ≡ Ok told → IsTaken is inc act m op i told
+  added class r told f bc e =
+      let b = begins act class op r in
+      let made : Served = record { server = record i.core { acts = i.core.acts ++ b.activation ∷ [] }; answer = b.answer; counted = None; used = true } in
+      let isd : made ≡ told = cc in
+      let o = first_op class op bc in
+      let ba = begins_act class op r in
+      subst (IsTaken is inc act m op i) isd (record {
+        after = b.activation;
+        changed = changes (record i.core { acts = i.core.acts ++ b.activation ∷ [] }) b.activation (λ x. find_act_more i.core.acts act x b.activation f ba.0);
+        how = begun (ap (act_at act) at ∙ f) o.0 (begun_as class r o.1) refl;
+        of = λ v z. cc;
+      })
+
+  unknown : (box : Option Kind) (class : Option (List ℕ)) (told : Served) → find (is_act act) i.core.acts ≡ None → begun_class m op ≡ class → unknown_call i.core act op box class ≡ Ok told → IsTaken is inc act m op i told
+  unknown box None told f bc e = cc
+  unknown box (Some class) told f bc e = room (nat_le i.core.numbers (length i.core.acts)) box e
+    where
+      room : (t : Bool) (b : Option Kind) → cond t (Err NumbersSpent) (offered i.core act class op b) ≡ Ok told → IsTaken is inc act m op i told
+      room true b g = cc
+      room false None g = cc
+      room false (Some kind) g = kind_of (is_class kind class) g
+        where
+          kind_of : (u : Bool) → cond u (after_begun i.core (begins act class op (begun_content kind op))) (Err WrongClass) ≡ Ok told → IsTaken is inc act m op i told
+          kind_of true h = added class (begun_content kind op) told f bc h
+          kind_of false h = cc
+
+  called_taken : (box : Option Kind) (a : Option Activation) (told : Served) → find (is_act act) i.core.acts ≡ a → called i.core act m op box a ≡ Ok told → IsTaken is inc act m op i told
+  called_taken box None told f e = unknown box (begun_class m op) told f refl e
+  called_taken box (Some a) told f e = known a (known_call a m op) told f refl e
+
+  pub call_taken : (box : Option Kind) (told : Served) → on_call i.core (Call inc act m op) box ≡ Ok told → IsTaken is inc act m op i told
+  call_taken box told e = mine (nat_eq inc i.core.inc) e
+    where
+      mine : (t : Bool) → cond t (called i.core act m op box (find (is_act act) i.core.acts)) (Err WrongIncarnation) ≡ Ok told → IsTaken is inc act m op i told
+      mine true g = called_taken box (find (is_act act) i.core.acts) told refl g
+      mine false g = cc
