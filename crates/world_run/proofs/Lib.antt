@@ -14,3 +14,4 @@ pub mod Steps1
 pub mod Steps2
 pub mod Steps3
 pub mod Answering
+pub mod Tied

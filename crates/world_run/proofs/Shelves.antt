@@ -68,7 +68,7 @@ bears_new : (name other : List ℕ) (w h : ℕ) → Bears (new_frame name w h) o
 bears_new name other w h (inl e) = e
 bears_new name other w h (inr e) = cc
 
-length_more : {A : Type 0} (xs : List A) (y : A) → length (xs ++ y ∷ []) ≡ suc (length xs)
+pub length_more : {A : Type 0} (xs : List A) (y : A) → length (xs ++ y ∷ []) ≡ suc (length xs)
 length_more [] y = refl
 length_more (x ∷ xs) y = ap suc (length_more xs y)
 
