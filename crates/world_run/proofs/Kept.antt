@@ -188,7 +188,7 @@ fitting_is : (parts got : List Part) (told : Result (Unit {0}) WriteFault) → f
 fitting_is parts got (Ok u) e = cc
 fitting_is parts got (Err fault) e = cc
 
-image_is_at : (r : Record) (f : ℕ) (frame : Frame) (got : List Part) → image_at r f (Some frame) ≡ Ok got → parts_in f r.objects ≡ got
+pub image_is_at : (r : Record) (f : ℕ) (frame : Frame) (got : List Part) → image_at r f (Some frame) ≡ Ok got → parts_in f r.objects ≡ got
 image_is_at r f frame got e = elim (has_image frame.phase) as (λ b. (if b then fitting (parts_in f r.objects) (writable (document_tree (parts_in f r.objects))) else Err WrongState) ≡ Ok got → parts_in f r.objects ≡ got) [
     true ↦ (λ g. fitting_is (parts_in f r.objects) got _ g)
   | false ↦ (λ g. cc)
@@ -198,7 +198,7 @@ fitting_commit : (r : Record) (f : ℕ) (frame : Frame) (told : Result (List Par
 fitting_commit r f frame (Err fault) t e = cc
 fitting_commit r f frame (Ok parts) t e = cc
 
-commit_is_at : (r : Record) (f : ℕ) (frame : Frame) (t : Took) → commit_at r f (Some frame) ≡ Ok t → (is_committing frame.phase ≡ true) × (commit_made r f frame ≡ t)
+pub commit_is_at : (r : Record) (f : ℕ) (frame : Frame) (t : Took) → commit_at r f (Some frame) ≡ Ok t → (is_committing frame.phase ≡ true) × (commit_made r f frame ≡ t)
 commit_is_at r f frame t e = elim (is_committing frame.phase) as (λ b. is_committing frame.phase ≡ b → (if b then commit_fitting r f frame (image r f) else Err WrongState) ≡ Ok t → (is_committing frame.phase ≡ true) × (commit_made r f frame ≡ t)) [
     true ↦ (λ h g. (h, fitting_commit r f frame (image r f) t g))
   | false ↦ (λ h g. cc)
@@ -234,14 +234,14 @@ keeps_done_in : (w : World) (f : ℕ) (bytes : List ℕ) (frame : Option Frame) 
 keeps_done_in w f bytes None v k at den e = cc
 keeps_done_in w f bytes (Some frame) v k at den e = keeps_imaged w f bytes frame (image w.rec f) v k at refl den e
 
-keeps_happened : (w : World) (bytes : List ℕ) (e : Event) (v : World) → Keeps w → IsImage w bytes e → happened w bytes e ≡ Ok v → Keeps v
+pub keeps_happened : (w : World) (bytes : List ℕ) (e : Event) (v : World) → Keeps w → IsImage w bytes e → happened w bytes e ≡ Ok v → Keeps v
 keeps_happened w bytes (event.Command c) v k im e = subst Keeps (ok_is _ v e) (keeps_commanded w c (on_command w.rec c) k (λ t g. keeps_command w c t k g))
 keeps_happened w bytes (event.Deliver p) v k im e = keeps_deliver w (nth w.sent p) v k e
 keeps_happened w bytes (event.Crash inc) v k im e = keeps_crash w inc (nth w.instances inc) v k e
 keeps_happened w bytes (event.Reap inc) v k im e = keeps_reap w inc (nth w.instances inc) v k e
 keeps_happened w bytes (event.Done f) v k im e = keeps_done_in w f bytes (nth w.rec.frames f) v k refl im e
 
-limited_ok : (w : World) (told : Result World Stop) (v : World) → limited w told ≡ Ok v → told ≡ Ok v
+pub limited_ok : (w : World) (told : Result World Stop) (v : World) → limited w told ≡ Ok v → told ≡ Ok v
 limited_ok w (Err stop) v e = cc
 limited_ok w (Ok u) v e = elim (nat_le MOST_EVENTS (length w.answers)) as (λ b. ◌≡◌ {A = Result World Stop} (if b then Err EventLimit else Ok u) (Ok v) → ◌≡◌ {A = Result World Stop} (Ok u) (Ok v)) [ true ↦ (λ g. cc) | false ↦ (λ g. g) ] e
 

@@ -15,3 +15,4 @@ pub mod Steps2
 pub mod Steps3
 pub mod Answering
 pub mod Tied
+pub mod TiedEvents

@@ -5,7 +5,7 @@ use Rattle.wire_msgs.specs.Found.{find, put, nth, set_nth}
 use Rattle.wire_msgs.specs.declared.message.Message.{Message}
 use Rattle.wire_msgs.specs.declared.message.Message.TheVariants.{Call}
 use Rattle.wire_msgs.specs.declared.operation.Operation.{Operation}
-use Rattle.wire_msgs.specs.declared.operation.Operation.TheVariants.{InitNew, Load, Edit, Save}
+use Rattle.wire_msgs.specs.declared.operation.Operation.TheVariants.{InitNew, Load, Edit, Save, SaveCompleted}
 use Rattle.storage_tree.specs.declared.stored.Stored.{Stored}
 use Rattle.storage_tree.specs.declared.streams.NamedStream.{NamedStream}
 use Rattle.container_core.specs.declared.record.Link.{Link}
@@ -36,6 +36,10 @@ pub record Moves (r : Record) (acts : Acts) (lives : Lives) (owners : List ℕ) 
   pub phased : AllPhased t.rec
   pub servers : length t.rec.servers ≡ length r.servers
   pub starts : (numbers : ℕ) → started_by numbers t.answer.actions ≡ []
+
+-- no save is told of
+abbrev pub NoCompletion : Took → Type 0
+NoCompletion t = (inc act m k : ℕ) (storage : Bool) → Among (messages_of t.answer.actions) (Call inc act m (SaveCompleted k storage)) → ⊥
 
 pub same_link : (l : Link) → IsSame l l
 same_link l = record { inc = refl; act = refl; states = refl; saved = inl refl; waiting = refl }
@@ -104,7 +108,7 @@ module _ (r : Record) (acts : Acts) (lives : Lives) (owners : List ℕ) (n : ℕ
 -- Run
 run_moves_in : (r : Record) (acts : Acts) (lives : Lives) (owners : List ℕ) (n inc : ℕ) (x : Object) (frame : Option Frame) (t : Took) → Distinct (map id_of r.objects) → find (is_object n) r.objects ≡ Some x
     → nth r.frames x.frame ≡ frame → run_in r x inc frame ≡ Ok t → AllPhased r → nth owners (r.last_act + 1) ≡ Some n → (is_alive r inc ≡ true → (life : Life) × (lives inc ≡ Some life))
-    → Moves r acts lives owners t × (t.rec.last_act ≡ r.last_act + 1)
+    → Moves r acts lives owners t × (t.rec.last_act ≡ r.last_act + 1) × NoCompletion t
 run_moves_in r acts lives owners n inc x None t d f at e ph ow ho = cc
 run_moves_in r acts lives owners n inc x (Some frame) t d f at e ph ow ho =
     let a1 = unless_ok (not (is_alive r inc)) NoSuch _ t e in
@@ -120,7 +124,7 @@ run_moves_in r acts lives owners n inc x (Some frame) t d f at e ph ow ho =
     let idle : frame.phase ≡ Idle = idle_phase frame.phase a2.0 (or_left (is_saving frame.phase) (is_busy frame.ui.state x) a3.0) in
     let host = ho (not_false (is_alive r inc) a1.0) in
     let passive : (l : Link) → x.link ≡ Some l → ⊥ = (λ l q. let z : true ≡ false = ap is_some (sym q) ∙ a4.0 in cc) in
-    subst (λ (v : Took). Moves r acts lives owners v × (v.rec.last_act ≡ r.last_act + 1)) is
+    subst (λ (v : Took). Moves r acts lives owners v × (v.rec.last_act ≡ r.last_act + 1) × NoCompletion v) is
       (record {
         came = λ k l q. elim (which_link r acts lives owners n x new d f k l q) [
             inl s ↦ subst (λ v. Came (links_of r.objects) acts lives owners r.last_act k v) (sym s.1)
@@ -138,25 +142,28 @@ run_moves_in r acts lives owners n inc x (Some frame) t d f at e ph ow ho =
             subst (λ (v : Frame). Phased v.phase new) y (subst (λ v. Phased v new) (sym idle) (refl, no_save x x.work.streams))));
         servers = refl;
         starts = λ numbers. refl;
-      }, refl)
+      }, refl, (λ i a m k s h. elim h [ inl q ↦ not_first x x.work.streams k s (let z : SaveCompleted k s ≡ op = cc in z) | inr z ↦ absurd z ]))
   where
+    not_first : (o : Object) (ss : List NamedStream) (k : ℕ) (s : Bool) → SaveCompleted k s ≡ first_operation o ss → ⊥
+    not_first o [] k s h = cc
+    not_first o (y ∷ ys) k s h = cc
     no_save : (o : Object) (ss : List NamedStream) → IsSave (Some (first_operation o ss)) → ⊥
     no_save o [] h = h
     no_save o (s ∷ ss) h = h
 
 run_moves_at : (r : Record) (acts : Acts) (lives : Lives) (owners : List ℕ) (n inc : ℕ) (x : Option Object) (t : Took) → Distinct (map id_of r.objects) → find (is_object n) r.objects ≡ x
     → run_at r inc x ≡ Ok t → AllPhased r → nth owners (r.last_act + 1) ≡ Some n → (is_alive r inc ≡ true → (life : Life) × (lives inc ≡ Some life))
-    → Moves r acts lives owners t × (t.rec.last_act ≡ r.last_act + 1)
+    → Moves r acts lives owners t × (t.rec.last_act ≡ r.last_act + 1) × NoCompletion t
 run_moves_at r acts lives owners n inc None t d f e ph ow ho = cc
 run_moves_at r acts lives owners n inc (Some x) t d f e ph ow ho = run_moves_in r acts lives owners n inc x (nth r.frames x.frame) t d f refl e ph ow ho
 
 pub run_moves : (r : Record) (acts : Acts) (lives : Lives) (owners : List ℕ) (n inc : ℕ) (t : Took) → Distinct (map id_of r.objects) → run r n inc ≡ Ok t → AllPhased r → nth owners (r.last_act + 1) ≡ Some n
-    → (is_alive r inc ≡ true → (life : Life) × (lives inc ≡ Some life)) → Moves r acts lives owners t × (t.rec.last_act ≡ r.last_act + 1)
+    → (is_alive r inc ≡ true → (life : Life) × (lives inc ≡ Some life)) → Moves r acts lives owners t × (t.rec.last_act ≡ r.last_act + 1) × NoCompletion t
 run_moves r acts lives owners n inc t d e ph ow ho = run_moves_at r acts lives owners n inc (find (is_object n) r.objects) t d refl e ph ow ho
 
 -- Edit
 edit_moves_linked : (r : Record) (acts : Acts) (lives : Lives) (owners : List ℕ) (n : ℕ) (bytes : List ℕ) (x : Object) (frame : Frame) (l0 : Option Link) (t : Took) → Distinct (map id_of r.objects) → find (is_object n) r.objects ≡ Some x
-    → nth r.frames x.frame ≡ Some frame → frame.phase ≡ Idle → is_asked x.link ≡ false → x.link ≡ l0 → edit_linked r x bytes l0 ≡ Ok t → AllPhased r → Moves r acts lives owners t × (t.rec.last_act ≡ r.last_act)
+    → nth r.frames x.frame ≡ Some frame → frame.phase ≡ Idle → is_asked x.link ≡ false → x.link ≡ l0 → edit_linked r x bytes l0 ≡ Ok t → AllPhased r → Moves r acts lives owners t × (t.rec.last_act ≡ r.last_act) × NoCompletion t
 edit_moves_linked r acts lives owners n bytes x frame None t d f at idle un xl e ph = cc
 edit_moves_linked r acts lives owners n bytes x frame (Some l0) t d f at idle un xl e ph =
     let a = unless_ok (nat_lt MOST_EDIT (length bytes)) WrongState _ t e in
@@ -169,7 +176,7 @@ edit_moves_linked r acts lives owners n bytes x frame (Some l0) t d f at idle un
     let made : Took = record { rec = with_object r (record x { link = Some new }); answer = (edit_made r x l0 bytes).answer } in
     let at_made : made ≡ edit_made r x l0 bytes = rw asks refl in
     let was : Phased Idle l0 = subst (λ v. Phased v l0) idle (ph n x l0 frame f xl at) in
-    subst (λ (v : Took). Moves r acts lives owners v × (v.rec.last_act ≡ r.last_act)) (at_made ∙ is)
+    subst (λ (v : Took). Moves r acts lives owners v × (v.rec.last_act ≡ r.last_act) × NoCompletion v) (at_made ∙ is)
       (record {
         came = λ k l q. elim (which_link r acts lives owners n x new d f k l q) [
             inl s ↦ subst (λ v. Came (links_of r.objects) acts lives owners r.last_act k v) (sym s.1)
@@ -185,8 +192,12 @@ edit_moves_linked r acts lives owners n bytes x frame (Some l0) t d f at idle un
             subst (λ (v : Frame). Phased v.phase new) y (subst (λ v. Phased v new) (sym idle) (was.0, (λ z. z)))));
         servers = refl;
         starts = λ numbers. no_start numbers (ask l0 op).sent;
-      }, refl)
+      }, refl, (λ i a m k s h. (let h' : Among (Call l0.inc l0.act (l0.last + 1) op ∷ []) (Call i a m (SaveCompleted k s)) = subst (λ v. Among v (Call i a m (SaveCompleted k s))) (messages_sends (ask l0 op).sent ∙ ap (λ (v : _). v.sent) asks) h in
+          elim h' [ inl q ↦ (let z : SaveCompleted k s ≡ op = cc in not_edit k s z) | inr z ↦ absurd z ])))
   where
+    not_edit : (k : ℕ) (s : Bool) → SaveCompleted k s ≡ Edit bytes → ⊥
+    not_edit k s h = cc
+
     no_start : (numbers : ℕ) (ms : List Message) → started_by numbers (sends ms) ≡ []
     no_start numbers [] = refl
     no_start numbers (m ∷ ms) = no_start numbers ms
@@ -206,7 +217,7 @@ edit_moves_linked r acts lives owners n bytes x frame (Some l0) t d f at idle un
       ]
 
 edit_moves_in : (r : Record) (acts : Acts) (lives : Lives) (owners : List ℕ) (n : ℕ) (bytes : List ℕ) (x : Object) (frame : Option Frame) (t : Took) → Distinct (map id_of r.objects) → find (is_object n) r.objects ≡ Some x
-    → nth r.frames x.frame ≡ frame → edit_in r x bytes frame ≡ Ok t → AllPhased r → Moves r acts lives owners t × (t.rec.last_act ≡ r.last_act)
+    → nth r.frames x.frame ≡ frame → edit_in r x bytes frame ≡ Ok t → AllPhased r → Moves r acts lives owners t × (t.rec.last_act ≡ r.last_act) × NoCompletion t
 edit_moves_in r acts lives owners n bytes x None t d f at e ph = cc
 edit_moves_in r acts lives owners n bytes x (Some frame) t d f at e ph =
     let a = unless_ok (is_doubtful frame.phase) Doubtful _ t e in
@@ -217,9 +228,9 @@ edit_moves_in r acts lives owners n bytes x (Some frame) t d f at e ph =
       (or_left (is_asked x.link) (is_claim x.number (waiting frame.ui.state)) busy) refl b.1 ph
 
 edit_moves_at : (r : Record) (acts : Acts) (lives : Lives) (owners : List ℕ) (n : ℕ) (bytes : List ℕ) (x : Option Object) (t : Took) → Distinct (map id_of r.objects) → find (is_object n) r.objects ≡ x
-    → edit_at r bytes x ≡ Ok t → AllPhased r → Moves r acts lives owners t × (t.rec.last_act ≡ r.last_act)
+    → edit_at r bytes x ≡ Ok t → AllPhased r → Moves r acts lives owners t × (t.rec.last_act ≡ r.last_act) × NoCompletion t
 edit_moves_at r acts lives owners n bytes None t d f e ph = cc
 edit_moves_at r acts lives owners n bytes (Some x) t d f e ph = edit_moves_in r acts lives owners n bytes x (nth r.frames x.frame) t d f refl e ph
 
-pub edit_moves : (r : Record) (acts : Acts) (lives : Lives) (owners : List ℕ) (n : ℕ) (bytes : List ℕ) (t : Took) → Distinct (map id_of r.objects) → edit r n bytes ≡ Ok t → AllPhased r → Moves r acts lives owners t × (t.rec.last_act ≡ r.last_act)
+pub edit_moves : (r : Record) (acts : Acts) (lives : Lives) (owners : List ℕ) (n : ℕ) (bytes : List ℕ) (t : Took) → Distinct (map id_of r.objects) → edit r n bytes ≡ Ok t → AllPhased r → Moves r acts lives owners t × (t.rec.last_act ≡ r.last_act) × NoCompletion t
 edit_moves r acts lives owners n bytes t d e ph = edit_moves_at r acts lives owners n bytes (find (is_object n) r.objects) t d refl e ph

@@ -38,7 +38,7 @@ use Rattle.world_run.proofs.Phases.{phased_settled}
 use Rattle.world_run.proofs.Replying.{Settles, Ends, settles, gone, reply_ends}
 use Rattle.world_run.proofs.Finding.{found_number, find_number, found_put, find_put_here, find_put_there, found_mapped, find_mapped, linked_object, link_found, messages_sends, messages_join, messages_settled, asked_of}
 use Rattle.world_run.proofs.Moving.{IsSame, Came, same, asked, settled, fresh, IsCallOf, Goes}
-use Rattle.world_run.proofs.Steps1.{Moves, same_link, idle_phase, or_left, or_right, unasked}
+use Rattle.world_run.proofs.Steps1.{Moves, NoCompletion, same_link, idle_phase, or_left, or_right, unasked}
 
 pub no_start : (numbers : ℕ) (ms : List Message) (rest : List Action) → started_by numbers rest ≡ [] → started_by numbers (sends ms ++ rest) ≡ []
 no_start numbers [] rest h = h
@@ -174,7 +174,7 @@ pub plain_there : (o : Object) (b : Link) → o.link ≡ Some b → (l : Link) �
 plain_there o b q = (b, q, refl)
 
 save_moves_in : (r : Record) (acts0 : Acts) (lives : Lives) (owners : List ℕ) (f : ℕ) (frame : Option Frame) (t : Took) → Distinct (map id_of r.objects) → nth r.frames f ≡ frame → save_at r f frame ≡ Ok t → AllPhased r
-    → Moves r acts0 lives owners t × (t.rec.last_act ≡ r.last_act)
+    → Moves r acts0 lives owners t × (t.rec.last_act ≡ r.last_act) × NoCompletion t
 save_moves_in r acts0 lives owners f None t d at e ph = cc
 save_moves_in r acts0 lives owners f (Some frame) t d at e ph =
     let a = unless_ok (is_doubtful frame.phase) Doubtful _ t e in
@@ -188,7 +188,7 @@ save_moves_in r acts0 lives owners f (Some frame) t d at e ph =
     let pl = plain_link in
     let pt = plain_there in
     let v = saving r f frame in
-    subst (λ (x : Took). Moves r acts0 lives owners x × (x.rec.last_act ≡ r.last_act)) is
+    subst (λ (x : Took). Moves r acts0 lives owners x × (x.rec.last_act ≡ r.last_act) × NoCompletion x) is
       (record {
         came = came_asked r acts0 lives owners f op (λ o. o) d (λ o. refl) (λ o. refl) pl pt free;
         sends = λ m h. (let g : Among (asked_all f op r.objects) m = subst (λ x. Among x m) (sent_of (asked_all f op r.objects) 1 v.objects v.frames) h in
@@ -198,8 +198,14 @@ save_moves_in r acts0 lives owners f (Some frame) t d at e ph =
         phased = phased_settled v (saved_phase idle free);
         servers = refl;
         starts = λ numbers. no_start numbers (asked_all f op r.objects) (settle_actions v) (no_start_settled numbers 1 v.objects v.frames);
-      }, refl)
+      }, refl, (λ i a m k s h. (let g : Among (asked_all f op r.objects) (Call i a m (SaveCompleted k s)) = subst (λ x. Among x (Call i a m (SaveCompleted k s))) (sent_of (asked_all f op r.objects) 1 v.objects v.frames) h in
+          let o = asked_of f op r.objects (Call i a m (SaveCompleted k s)) g in
+          let y = sent_asked r acts0 lives owners f op (λ o. o) d (λ o. refl) (λ o. refl) pl pt free (Call i a m (SaveCompleted k s)) o.0 o.1 o.2 o.3 in
+          let q = y.2 in
+          let z : SaveCompleted k s ≡ op = cc in not_save k s z)))
   where
+    not_save : (k : ℕ) (s : Bool) → SaveCompleted k s ≡ Save (frame.k + 1) → ⊥
+    not_save k s h = cc
     op1 : Operation
     op1 = Save (frame.k + 1)
     num : (o : Object) → (asked_object f (Save (frame.k + 1)) o).number ≡ o.number
@@ -232,7 +238,7 @@ save_moves_in r acts0 lives owners f (Some frame) t d at e ph =
             let was : Phased Idle b = subst (λ v. Phased v b) idle (ph n x b frame fx q (ap (nth r.frames) of ∙ at)) in
             ap (λ (z : Link). z.saved) (sym made) ∙ (saved_at b b.pending ∙ was.0)
 
-pub save_moves : (r : Record) (acts0 : Acts) (lives : Lives) (owners : List ℕ) (f : ℕ) (t : Took) → Distinct (map id_of r.objects) → save r f ≡ Ok t → AllPhased r → Moves r acts0 lives owners t × (t.rec.last_act ≡ r.last_act)
+pub save_moves : (r : Record) (acts0 : Acts) (lives : Lives) (owners : List ℕ) (f : ℕ) (t : Took) → Distinct (map id_of r.objects) → save r f ≡ Ok t → AllPhased r → Moves r acts0 lives owners t × (t.rec.last_act ≡ r.last_act) × NoCompletion t
 save_moves r acts0 lives owners f t d e ph = save_moves_in r acts0 lives owners f (nth r.frames f) t d refl e ph
 
 -- Replies
@@ -374,22 +380,25 @@ module _ (r : Record) (acts0 : Acts) (lives : Lives) (owners : List ℕ) (sent :
         starts = λ numbers. no_start numbers (next_sent p.link) (settle_actions (replied_record r inc act x p)) (no_start_settled numbers 1 objects r.frames);
       }
 
-  reply_taken_moves : (x : Object) (q : Result Replied ContainerFault) (t : Took) → find (is_linked inc act) r.objects ≡ Some x → reply_link n answer x.link ≡ q → reply_taken r inc act x q ≡ Ok t → Moves r acts0 lives owners t × (t.rec.last_act ≡ r.last_act)
+    pub reply_quiet : (i a m k : ℕ) (s : Bool) → Among (messages_of (sends (next_sent p.link) ++ settle_actions (replied_record r inc act x p))) (Call i a m (SaveCompleted k s)) → ⊥
+    reply_quiet i a m k s h = (let g : Among (next_sent p.link) (Call i a m (SaveCompleted k s)) = subst (λ v. Among v (Call i a m (SaveCompleted k s))) (sent_of (next_sent p.link) 1 objects r.frames) h in subst (λ v. Among v (Call i a m (SaveCompleted k s))) no_next g)
+
+  reply_taken_moves : (x : Object) (q : Result Replied ContainerFault) (t : Took) → find (is_linked inc act) r.objects ≡ Some x → reply_link n answer x.link ≡ q → reply_taken r inc act x q ≡ Ok t → Moves r acts0 lives owners t × (t.rec.last_act ≡ r.last_act) × NoCompletion t
   reply_taken_moves x (Err fault) t f g e = cc
   reply_taken_moves x (Ok p) t f g e =
       let k = passed_link n x.link answer p g in
       let made : Took = record { rec = settle (replied_record r inc act x p); answer = record quiet_answer { refused = p.refused; actions = sends (next_sent p.link) ++ settle_actions (replied_record r inc act x p) } } in
       let is : made ≡ t = cc in
-      subst (λ v. Moves r acts0 lives owners v × (v.rec.last_act ≡ r.last_act)) is (reply_made x p k.0 k.1 f k.2 k.3 k.4 k.5, refl)
+      subst (λ v. Moves r acts0 lives owners v × (v.rec.last_act ≡ r.last_act) × NoCompletion v) is (reply_made x p k.0 k.1 f k.2 k.3 k.4 k.5, refl, reply_quiet x p k.0 k.1 f k.2 k.3 k.4 k.5)
 
-  pub reply_moves_found : (x : Option Object) (t : Took) → find (is_linked inc act) r.objects ≡ x → reply_found r inc act n answer x ≡ Ok t → Moves r acts0 lives owners t × (t.rec.last_act ≡ r.last_act)
+  pub reply_moves_found : (x : Option Object) (t : Took) → find (is_linked inc act) r.objects ≡ x → reply_found r inc act n answer x ≡ Ok t → Moves r acts0 lives owners t × (t.rec.last_act ≡ r.last_act) × NoCompletion t
   reply_moves_found None t f e = cc
   reply_moves_found (Some x) t f e = reply_taken_moves x (reply_link n answer x.link) t f refl e
 
-  pub reply_moves : (t : Took) → on_message r inc (Reply inc act n answer) ≡ Ok t → Moves r acts0 lives owners t × (t.rec.last_act ≡ r.last_act)
+  pub reply_moves : (t : Took) → on_message r inc (Reply inc act n answer) ≡ Ok t → Moves r acts0 lives owners t × (t.rec.last_act ≡ r.last_act) × NoCompletion t
   reply_moves t e = at (inc == inc) (is_alive r inc) e
     where
-      at : (a b : Bool) → ◌≡◌ {A = Result Took ContainerFault} (if a then (if b then reply_found r inc act n answer (find (is_linked inc act) r.objects) else Err Stale) else Err WrongLink) (Ok t) → Moves r acts0 lives owners t × (t.rec.last_act ≡ r.last_act)
+      at : (a b : Bool) → ◌≡◌ {A = Result Took ContainerFault} (if a then (if b then reply_found r inc act n answer (find (is_linked inc act) r.objects) else Err Stale) else Err WrongLink) (Ok t) → Moves r acts0 lives owners t × (t.rec.last_act ≡ r.last_act) × NoCompletion t
       at true true g = reply_moves_found (find (is_linked inc act) r.objects) t refl g
       at true false g = cc
       at false b g = cc

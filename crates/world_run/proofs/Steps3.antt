@@ -36,19 +36,19 @@ use Rattle.world_run.proofs.Quiet.{unless_ok}
 use Rattle.world_run.proofs.Phases.{phased_settled}
 use Rattle.world_run.proofs.Finding.{found_number, find_number, found_mapped, find_mapped, linked_object, link_found, messages_sends, messages_settled, asked_of}
 use Rattle.world_run.proofs.Moving.{IsSame, Came, same, IsCallOf, Goes}
-use Rattle.world_run.proofs.Steps1.{Moves, same_link}
+use Rattle.world_run.proofs.Steps1.{Moves, NoCompletion, same_link}
 use Rattle.world_run.proofs.Steps2.{no_start, no_start_settled, came_asked, stays_all, sent_asked}
 
 -- New
 pub new_moves : (r : Record) (acts0 : Acts) (lives : Lives) (owners : List ℕ) (name : List ℕ) (w h : ℕ) (t : Took) → ((x : Id) → Among (map id_of r.objects) x → (frame : Frame) × (nth r.frames x.frame ≡ Some frame))
-    → new r name w h ≡ Ok t → AllPhased r → Moves r acts0 lives owners t × (t.rec.last_act ≡ r.last_act)
+    → new r name w h ≡ Ok t → AllPhased r → Moves r acts0 lives owners t × (t.rec.last_act ≡ r.last_act) × NoCompletion t
 new_moves r acts0 lives owners name w h t placed e ph =
     let a = unless_ok (is_named name r.frames) Busy _ t e in
     let b = unless_ok (not (is_size w h)) WrongState _ t a.1 in
     let c = unless_ok (nat_le MOST_FRAMES (length r.frames)) Full _ t b.1 in
     let g : Ok (new_made r name w h) ≡ Ok t = (unless_ok (nat_le r.numbers (length r.frames)) NumbersSpent _ t c.1).1 in
     let is : new_made r name w h ≡ t = cc in
-    subst (λ v. Moves r acts0 lives owners v × (v.rec.last_act ≡ r.last_act)) is
+    subst (λ v. Moves r acts0 lives owners v × (v.rec.last_act ≡ r.last_act) × NoCompletion v) is
       (record {
         came = λ n l q. same l q (same_link l) refl refl;
         sends = λ m z. absurd z;
@@ -59,7 +59,7 @@ new_moves r acts0 lives owners name w h t placed e ph =
             subst (λ (v : Frame). Phased v.phase l) y (ph n o l p.0 fo ol p.1));
         servers = refl;
         starts = λ numbers. refl;
-      }, refl)
+      }, refl, (λ i a m k s z. z))
 
 -- Insert
 find_more : (test : Object → Bool) (os : List Object) (y x : Object) → find test os ≡ Some x → find test (os ++ y ∷ []) ≡ Some x
@@ -79,7 +79,7 @@ old_link os y n l none1 e = (let o = linked_object (os ++ y ∷ []) n l e in eli
 more_link : (os : List Object) (y : Object) (n : ℕ) (l : Link) → links_of os n ≡ Some l → links_of (os ++ y ∷ []) n ≡ Some l
 more_link os y n l e = (let o = linked_object os n l e in link_found (os ++ y ∷ []) n o.0 l (find_more (is_object n) os y o.0 o.1) o.2)
 
-insert_moves_in : (r : Record) (acts0 : Acts) (lives : Lives) (owners : List ℕ) (f : ℕ) (kind : Kind) (area : Area) (frame : Option Frame) (t : Took) → insert_at r f kind area frame ≡ Ok t → AllPhased r → Moves r acts0 lives owners t × (t.rec.last_act ≡ r.last_act)
+insert_moves_in : (r : Record) (acts0 : Acts) (lives : Lives) (owners : List ℕ) (f : ℕ) (kind : Kind) (area : Area) (frame : Option Frame) (t : Took) → insert_at r f kind area frame ≡ Ok t → AllPhased r → Moves r acts0 lives owners t × (t.rec.last_act ≡ r.last_act) × NoCompletion t
 insert_moves_in r acts0 lives owners f kind area None t e ph = cc
 insert_moves_in r acts0 lives owners f kind area (Some frame) t e ph =
     let a = unless_ok (is_doubtful frame.phase) Doubtful _ t e in
@@ -89,7 +89,7 @@ insert_moves_in r acts0 lives owners f kind area (Some frame) t e ph =
     let g : Ok (insert_made r f kind area) ≡ Ok t = (unless_ok (nat_le r.numbers r.last_object) NumbersSpent _ t d.1).1 in
     let is : insert_made r f kind area ≡ t = cc in
     let y = new_object (r.last_object + 1) f kind area in
-    subst (λ v. Moves r acts0 lives owners v × (v.rec.last_act ≡ r.last_act)) is
+    subst (λ v. Moves r acts0 lives owners v × (v.rec.last_act ≡ r.last_act) × NoCompletion v) is
       (record {
         came = λ n l q. same l (old_link r.objects y n l refl q) (same_link l) refl refl;
         sends = λ m z. absurd z;
@@ -100,18 +100,18 @@ insert_moves_in r acts0 lives owners f kind area (Some frame) t e ph =
           ];
         servers = refl;
         starts = λ numbers. refl;
-      }, refl)
+      }, refl, (λ i a m k s z. z))
 
-pub insert_moves : (r : Record) (acts0 : Acts) (lives : Lives) (owners : List ℕ) (f : ℕ) (kind : Kind) (area : Area) (t : Took) → insert r f kind area ≡ Ok t → AllPhased r → Moves r acts0 lives owners t × (t.rec.last_act ≡ r.last_act)
+pub insert_moves : (r : Record) (acts0 : Acts) (lives : Lives) (owners : List ℕ) (f : ℕ) (kind : Kind) (area : Area) (t : Took) → insert r f kind area ≡ Ok t → AllPhased r → Moves r acts0 lives owners t × (t.rec.last_act ≡ r.last_act) × NoCompletion t
 insert_moves r acts0 lives owners f kind area t e ph = insert_moves_in r acts0 lives owners f kind area (nth r.frames f) t e ph
 
 -- the end of a server that doesn't run any more
-pub reap_moves : (r : Record) (acts0 : Acts) (lives : Lives) (owners : List ℕ) (inc : ℕ) (t : Took) → on_reap r inc ≡ Ok t → AllPhased r → (lives inc ≡ Some Running → ⊥) → Moves r acts0 lives owners t × (t.rec.last_act ≡ r.last_act)
+pub reap_moves : (r : Record) (acts0 : Acts) (lives : Lives) (owners : List ℕ) (inc : ℕ) (t : Took) → on_reap r inc ≡ Ok t → AllPhased r → (lives inc ≡ Some Running → ⊥) → Moves r acts0 lives owners t × (t.rec.last_act ≡ r.last_act) × NoCompletion t
 reap_moves r acts0 lives owners inc t e ph stopped =
     let v = reaped r inc in
     let made : Took = record { rec = settle v; answer = acts (settle_actions v) } in
     let is : made ≡ t = passed (is_alive r inc) made e in
-    subst (λ x. Moves r acts0 lives owners x × (x.rec.last_act ≡ r.last_act)) is
+    subst (λ x. Moves r acts0 lives owners x × (x.rec.last_act ≡ r.last_act) × NoCompletion x) is
       (record {
         came = λ n l q. (let o = linked_object v.objects n l q in
             let p = found_mapped ended r.objects n o.0 number o.1 in
@@ -130,7 +130,7 @@ reap_moves r acts0 lives owners inc t e ph stopped =
             ph n p.0 l frame p.1 k (ap (nth r.frames) (sym fr) ∙ at)));
         servers = length_set_nth r.servers inc true;
         starts = λ numbers. no_start_settled numbers 1 v.objects v.frames;
-      }, refl)
+      }, refl, (λ i a m k s h. subst (λ x. Among x (Call i a m (SaveCompleted k s))) (messages_settled 1 v.objects v.frames) h))
   where
     passed : (b : Bool) (m : Took) → ◌≡◌ {A = Result Took ContainerFault} (if b then Ok m else Err NoSuch) (Ok t) → m ≡ t
     passed true m g = cc

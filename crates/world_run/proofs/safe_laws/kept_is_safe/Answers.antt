@@ -10,6 +10,7 @@ use Rattle.world_run.proofs.Steps2.{save_moves}
 use Rattle.world_run.proofs.Steps3.{commit_moves}
 use Rattle.world_run.proofs.Answering.{IsMade}
 use Rattle.world_run.proofs.Tied.{moved_quiet}
+use Rattle.world_run.proofs.TiedEvents.{tied_run}
 use Rattle.world_run.proofs.safe_laws.kept_is_safe.Goals as goal
 
 pub returns : goal.returns
