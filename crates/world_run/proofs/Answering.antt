@@ -37,7 +37,8 @@ use Rattle.server_core.specs.declared.fault.ServerFault.TheVariants.{WrongIncarn
 use Rattle.server_core.specs.Server.{stored_of, Server, Activation, Acted, Served, is_act, answers, counts, refuses, edits, closes, does, acted, next_call, known_call, begun_class, begun_content, begun_states, begins, fresh, after_known, after_begun, is_class, offered, unknown_call, called, on_call}
 use Rattle.server_core.specs.declared.counted.Counted.{Counted}
 use Rattle.world_run.specs.World.{Instance}
-use Rattle.world_run.specs.Tying.{Acts, Ahead, act_at, acts_of}
+use Rattle.world_run.specs.Tying.{Acts, Ahead}
+use Rattle.world_run.specs.Safe.{act_at, acts_of}
 use Rattle.world_run.proofs.Lookups.{find_passes, nth_bound}
 use Rattle.world_run.proofs.Serving.{Makes, Begins, How, again, next, begun, Changed, same_act}
 

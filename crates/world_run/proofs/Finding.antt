@@ -14,9 +14,9 @@ use Rattle.container_core.specs.declared.record.Link.{Link}
 use Rattle.container_core.specs.declared.record.Object.{Object}
 use Rattle.world_run.specs.World.{messages_of, of_container}
 use Rattle.world_run.specs.declared.logs.Sent.{Sent}
-use Rattle.world_run.specs.Safe.{Among}
+use Rattle.world_run.specs.Safe.{Among, link_at, links_of, messages}
 use Rattle.world_run.specs.Keeping.{Id, id_of, Distinct}
-use Rattle.world_run.specs.Tying.{Links, link_at, links_of, messages}
+use Rattle.world_run.specs.Tying.{Links}
 use Rattle.world_run.proofs.Lookups.{among_join, among_map, find_passes, find_among}
 
 -- the object that stands in the list is found by its number

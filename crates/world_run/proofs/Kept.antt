@@ -35,7 +35,7 @@ use Rattle.world_run.specs.declared.event.Event.TheVariants as event
 use Rattle.world_run.specs.declared.event.Stop.{Stop}
 use Rattle.world_run.specs.declared.event.Stop.TheVariants.{EventLimit}
 use Rattle.world_run.specs.World.{World, Instance, empty_world, joined, took, commanded, served, stocked, called_wanting, called_in, called, delivered, deliver, crashed, crash, ended, reap, kept_commit, done_taken, done_imaged, done_in, done, happened, limited, step, IsImage, Run, is_of, frame_file, frame_file_in, file_bytes, is_file, MOST_EVENTS}
-use Rattle.world_run.specs.Safe.{Among, IsKept, Safe}
+use Rattle.world_run.specs.Safe.{Among, IsKept}
 use Rattle.world_run.specs.Keeping.{Id, id_of, Book, Shelf, Keeps, AreSameFrames}
 use Rattle.world_run.proofs.Lookups.{map_map_same, nth_aligned}
 use Rattle.world_run.proofs.Quiet.{IsQuiet, unless_ok, start_quiet, run_quiet, edit_quiet, save_quiet, message_quiet, reap_quiet, id_asked}
@@ -249,16 +249,14 @@ pub keeps_run : (w : World) (es : List Event) (v : World) → Keeps w → Run w 
 keeps_run w [] v k r = subst Keeps (sym r) k
 keeps_run w (e ∷ es) v k r = keeps_run r.1 es v (keeps_happened w r.0 e r.1 k r.2 (limited_ok w (happened w r.0 e) r.1 r.3)) r.4
 
--- what keeps its files and its book is safe
-pub safe_kept : (w : World) → Keeps w → Safe w
-safe_kept w k = record {
-    once = k.book.once;
-    files = λ f document c. (let p = nth_aligned w.counted w.rec.frames f (Some document) k.shelf.aligned c in
-      let s = k.shelf.filed f document p.0 c p.1 in
-      record {
-        bytes = s.file.bytes;
-        file = ap (frame_file_in w) p.1 ∙ rw (s.stored, s.found) refl;
-        denotes = s.denotes;
-        counted = s.counted;
-      });
-  }
+-- the files of a world that keeps them
+pub files_kept : (w : World) → Keeps w → (f : ℕ) (document : Document) → nth w.counted f ≡ Some (Some document) → IsKept w f document
+files_kept w k f document c =
+    let p = nth_aligned w.counted w.rec.frames f (Some document) k.shelf.aligned c in
+    let s = k.shelf.filed f document p.0 c p.1 in
+    record {
+      bytes = s.file.bytes;
+      file = ap (frame_file_in w) p.1 ∙ rw (s.stored, s.found) refl;
+      denotes = s.denotes;
+      counted = s.counted;
+    }

@@ -16,3 +16,4 @@ pub mod Steps3
 pub mod Answering
 pub mod Tied
 pub mod TiedEvents
+pub mod Held

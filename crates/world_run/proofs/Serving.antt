@@ -17,8 +17,8 @@ use Rattle.world_run.specs.declared.instance.Life.{Life}
 use Rattle.world_run.specs.declared.instance.Life.TheVariants.{Running}
 use Rattle.world_run.specs.declared.logs.Done.{Done}
 use Rattle.world_run.specs.declared.logs.ServerDone.{ServerDone}
-use Rattle.world_run.specs.Safe.{Among}
-use Rattle.world_run.specs.Tying.{Links, Acts, Lives, Ahead, AtPending, InStep, HasSaved, IsClosed, Linked, IsPending, Drawn, Calls, Steps, Ended, Replies, IsCounted, Books, IsOther, ServedOnce}
+use Rattle.world_run.specs.Safe.{Among, IsOther, ServedOnce}
+use Rattle.world_run.specs.Tying.{Links, Acts, Lives, Ahead, AtPending, InStep, HasSaved, IsClosed, Linked, IsPending, Drawn, Calls, Steps, Ended, Replies, IsCounted, Books}
 use Rattle.world_run.proofs.Lookups.{among_join, among_old}
 
 -- What a call does to the activation a, with the answer r and perhaps a save that is counted.

@@ -16,8 +16,8 @@ use Rattle.world_run.specs.declared.instance.Life.TheVariants.{Running}
 use Rattle.world_run.specs.declared.logs.Done.{Done}
 use Rattle.world_run.specs.declared.logs.ServerDone.{ServerDone}
 use Rattle.world_run.specs.World.{nth_or_zero}
-use Rattle.world_run.specs.Safe.{Among}
-use Rattle.world_run.specs.Tying.{Links, Acts, Lives, AtPending, InStep, IsClosed, Linked, Drawn, Calls, Steps, Ended, Replies, IsCounted, Books, IsOther, ServedOnce}
+use Rattle.world_run.specs.Safe.{Among, IsOther, ServedOnce}
+use Rattle.world_run.specs.Tying.{Links, Acts, Lives, AtPending, InStep, IsClosed, Linked, Drawn, Calls, Steps, Ended, Replies, IsCounted, Books}
 use Rattle.world_run.proofs.Lookups.{among_join, among_old, among_new}
 use Rattle.world_run.proofs.Serving.{Makes, Begins, How, again, next, begun, Changed, same_act, pending_next, old_call}
 

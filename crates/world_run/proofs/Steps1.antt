@@ -20,9 +20,9 @@ use Rattle.container_core.specs.Commands.{unless, MOST_EDIT, is_known_class, run
 use Rattle.grant_core.specs.Grants.{waiting}
 use Rattle.world_run.specs.declared.instance.Life.{Life}
 use Rattle.world_run.specs.World.{messages_of, started_by}
-use Rattle.world_run.specs.Safe.{Among}
+use Rattle.world_run.specs.Safe.{Among, link_at, links_of}
 use Rattle.world_run.specs.Keeping.{id_of, Distinct}
-use Rattle.world_run.specs.Tying.{Links, Acts, Lives, link_at, links_of, IsPending, IsSave, Phased, AllPhased}
+use Rattle.world_run.specs.Tying.{Links, Acts, Lives, IsPending, IsSave, Phased, AllPhased}
 use Rattle.world_run.proofs.Lookups.{find_among}
 use Rattle.world_run.proofs.Quiet.{unless_ok}
 use Rattle.world_run.proofs.Finding.{found_number, find_number, found_put, find_put_here, find_put_there, linked_object, link_found, messages_sends}

@@ -29,9 +29,9 @@ use Rattle.container_core.specs.Messages.{Replied, replied, next_at, next_link, 
 use Rattle.world_run.specs.declared.instance.Life.{Life}
 use Rattle.world_run.specs.declared.instance.Life.TheVariants.{Running}
 use Rattle.world_run.specs.World.{messages_of, started_by}
-use Rattle.world_run.specs.Safe.{Among}
+use Rattle.world_run.specs.Safe.{Among, link_at, links_of}
 use Rattle.world_run.specs.Keeping.{id_of, Distinct}
-use Rattle.world_run.specs.Tying.{Links, Acts, Lives, link_at, links_of, IsPending, IsSave, HasContent, HasSaved, IsClosed, Phased, AllPhased, Calls, Steps, Replies, InStep, InStepAt, AtPending, Ahead}
+use Rattle.world_run.specs.Tying.{Links, Acts, Lives, IsPending, IsSave, HasContent, HasSaved, IsClosed, Phased, AllPhased, Calls, Steps, Replies, InStep, InStepAt, AtPending, Ahead}
 use Rattle.world_run.proofs.Lookups.{find_among, find_passes, nth_set_apart, length_set_nth}
 use Rattle.world_run.proofs.Quiet.{unless_ok}
 use Rattle.world_run.proofs.Phases.{phased_settled}

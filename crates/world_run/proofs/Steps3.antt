@@ -28,9 +28,9 @@ use Rattle.world_run.specs.declared.instance.Life.{Life}
 use Rattle.world_run.specs.declared.instance.Life.TheVariants.{Running}
 use Rattle.world_run.specs.declared.logs.Done.{Done}
 use Rattle.world_run.specs.World.{messages_of, started_by, done_entry}
-use Rattle.world_run.specs.Safe.{Among}
+use Rattle.world_run.specs.Safe.{Among, link_at, links_of}
 use Rattle.world_run.specs.Keeping.{Id, id_of, Distinct, Book}
-use Rattle.world_run.specs.Tying.{Links, Acts, Lives, link_at, links_of, IsSave, HasContent, HasSaved, Phased, AllPhased, Steps, IsCounted}
+use Rattle.world_run.specs.Tying.{Links, Acts, Lives, IsSave, HasContent, HasSaved, Phased, AllPhased, Steps, IsCounted}
 use Rattle.world_run.proofs.Lookups.{find_among, among_map, nth_old, nth_set_apart, length_set_nth}
 use Rattle.world_run.proofs.Quiet.{unless_ok}
 use Rattle.world_run.proofs.Phases.{phased_settled}

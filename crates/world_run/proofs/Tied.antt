@@ -35,9 +35,9 @@ use Rattle.world_run.specs.declared.logs.ServerDone.{ServerDone}
 use Rattle.world_run.specs.declared.instance.Life.{Life}
 use Rattle.world_run.specs.declared.instance.Life.TheVariants.{Running, Ended, Reaped}
 use Rattle.world_run.specs.World.{World, Instance, empty_world, fresh, messages_of, of_container, started_by, done_entry, owner, nth_or_zero, counted_by}
-use Rattle.world_run.specs.Safe.{Among}
+use Rattle.world_run.specs.Safe.{Among, link_at, links_of, act_at, acts_of, messages, ServedOnce}
 use Rattle.world_run.specs.Keeping.{Id, id_of, Distinct, Book, Keeps}
-use Rattle.world_run.specs.Tying.{Links, Acts, Lives, link_at, links_of, act_at, acts_of, life_at, lives_of, messages, InStep, HasSaved, IsClosed, Linked, IsSave, Phased, AllPhased, Drawn, Calls, Steps, Ended as Ends, Replies, IsCounted, Books, ServedOnce, Ties, Tied}
+use Rattle.world_run.specs.Tying.{Links, Acts, Lives, life_at, lives_of, InStep, HasSaved, IsClosed, Linked, IsSave, Phased, AllPhased, Drawn, Calls, Steps, Ended as Ends, Replies, IsCounted, Books, Ties, Tied}
 use Rattle.world_run.proofs.Lookups.{among_map, among_join, find_among, nth_old, nth_one, nth_aligned, nth_bound, length_set_nth}
 use Rattle.world_run.proofs.Shelves.{length_more}
 use Rattle.world_run.proofs.Quiet.{unless_ok}

@@ -32,9 +32,9 @@ use Rattle.world_run.specs.declared.event.Event.{Event}
 use Rattle.world_run.specs.declared.event.Event.TheVariants as event
 use Rattle.world_run.specs.declared.event.Stop.{Stop}
 use Rattle.world_run.specs.World.{World, Instance, fresh, messages_of, of_container, started_by, done_entry, joined, took, commanded, owners_by, served, stocked, called_wanting, called_in, called, delivered, deliver, crashed, crash, ended, reap, kept_commit, done_taken, done_imaged, done_in, done, happened, limited, IsImage, Run, is_of}
-use Rattle.world_run.specs.Safe.{Among}
+use Rattle.world_run.specs.Safe.{Among, links_of, act_at, acts_of, messages}
 use Rattle.world_run.specs.Keeping.{Id, id_of, Keeps}
-use Rattle.world_run.specs.Tying.{links_of, act_at, acts_of, life_at, lives_of, messages, Books, IsCounted, Ties, Tied}
+use Rattle.world_run.specs.Tying.{life_at, lives_of, Books, IsCounted, Ties, Tied}
 use Rattle.world_run.proofs.Lookups.{among_map, nth_old, nth_one, nth_aligned, length_set_nth}
 use Rattle.world_run.proofs.Shelves.{length_more}
 use Rattle.world_run.proofs.Quiet.{unless_ok}

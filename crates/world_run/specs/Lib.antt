@@ -4,3 +4,4 @@ pub mod View
 pub mod Safe
 pub mod Keeping
 pub mod Tying
+pub mod Holding

@@ -25,7 +25,7 @@ use Rattle.world_run.specs.declared.logs.Sent.{Sent}
 use Rattle.world_run.specs.declared.logs.Done.{Done}
 use Rattle.world_run.specs.declared.logs.ServerDone.{ServerDone}
 use Rattle.world_run.specs.World.{World, Instance}
-use Rattle.world_run.specs.Safe.{Among}
+use Rattle.world_run.specs.Safe.{Among, link_at, links_of, act_at, acts_of, messages, IsOther, ServedOnce}
 
 -- Lookups: links by the numbers of their objects, activations by incarnation and number, lives by incarnation.
 abbrev pub Links : Type 0
@@ -37,29 +37,12 @@ Acts = ℕ → ℕ → Option Activation
 abbrev pub Lives : Type 0
 Lives = ℕ → Option Life
 
-abbrev pub link_at : Option Object → Option Link
-link_at None = None
-link_at (Some o) = o.link
-
-abbrev pub links_of : List Object → Links
-links_of os n = link_at (find (is_object n) os)
-
-abbrev pub act_at : ℕ → Option Instance → Option Activation
-act_at act None = None
-act_at act (Some i) = find (is_act act) i.core.acts
-
-abbrev pub acts_of : List Instance → Acts
-acts_of is inc act = act_at act (nth is inc)
-
 abbrev pub life_at : Option Instance → Option Life
 life_at None = None
 life_at (Some i) = Some i.life
 
 abbrev pub lives_of : List Instance → Lives
 lives_of is inc = life_at (nth is inc)
-
-abbrev pub messages : List Sent → List Message
-messages xs = map (λ (x : Sent). x.message) xs
 
 abbrev pub IsPending : Option Operation → Type 0
 IsPending None = ⊥
@@ -142,13 +125,6 @@ pub record Books (acts : Acts) (sent : List Message) (owners : List ℕ) (dones 
   pub acted : (e : ServerDone) → Among served e → (act : ℕ) × (m : ℕ) × (storage : Bool) × (a : Activation) × Among sent (Call e.inc act m (SaveCompleted e.k storage))
       × (nth owners act ≡ Some e.object) × (acts e.inc act ≡ Some a) × (m ≤ a.last)
   pub same : (e : ServerDone) → Among served e → Among dones (record { object = e.object; k = e.k; content = e.content })
-
-abbrev pub IsOther : ServerDone → ServerDone → Type 0
-IsOther d e = d.object ≡ e.object → d.k ≢ e.k
-
-abbrev pub ServedOnce : List ServerDone → Type 0
-ServedOnce [] = ⊤
-ServedOnce (d ∷ ds) = ((e : ServerDone) → Among ds e → IsOther d e) × ServedOnce ds
 
 -- how far a link of a frame is in its save
 abbrev pub IsSave : Option Operation → Type 0
