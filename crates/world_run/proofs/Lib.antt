@@ -17,3 +17,4 @@ pub mod Answering
 pub mod Tied
 pub mod TiedEvents
 pub mod Held
+pub mod Alike
