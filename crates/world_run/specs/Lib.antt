@@ -4,3 +4,7 @@ pub mod Starts
 pub mod View
 pub mod Report
 pub mod Runs
+pub mod Safe
+pub mod Keeping
+pub mod Tying
+pub mod Holding

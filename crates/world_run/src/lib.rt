@@ -6,6 +6,7 @@ pub mod instance;
 pub mod ledger;
 pub mod logs;
 pub mod report;
+pub mod safe_laws;
 pub mod stock;
 mod text;
 pub mod worked;

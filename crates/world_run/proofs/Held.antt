@@ -1,0 +1,38 @@
+-- Every world that a run reaches is safe.
+use Rattle.std.proofs.Common.{◌≡◌, ◌⊎◌, ◌≤◌, ℕ, Bool, List, [], ◌∷◌, Option, Some, None, refl, sym, ap, ◌∙◌, arith}
+use Rattle.embed_core.specs.Kinds.{Kind}
+use Rattle.storage_tree.specs.declared.stored.Stored.{Stored}
+use Rattle.server_core.specs.Server.{Activation}
+use Rattle.container_core.specs.declared.record.Link.{Link}
+use Rattle.world_run.specs.declared.event.Event.{Event}
+use Rattle.world_run.specs.World.{World, empty_world, Run}
+use Rattle.world_run.specs.Safe.{Safe, acts_of, links_of}
+use Rattle.world_run.specs.Keeping.{Keeps}
+use Rattle.world_run.specs.Tying.{HasSaved, Tied}
+use Rattle.world_run.specs.Holding.{Holds}
+use Rattle.world_run.proofs.Kept.{empty_keeps, keeps_run, files_kept}
+use Rattle.world_run.proofs.Tied.{empty_tied}
+use Rattle.world_run.proofs.TiedEvents.{tied_run}
+
+has_saved : (a : Option Activation) (c : Stored) → HasSaved c a → (b : Activation) × (a ≡ Some b) × (b.saved ≡ Some c)
+has_saved None c h = absurd h
+has_saved (Some b) c h = (b, refl, h)
+
+pub safe_held : (w : World) → Holds w → Safe w
+safe_held w h = record {
+    one_reply = h.tied.replies.one;
+    kept_reply = λ inc act a r e g. (let k = h.tied.replies.known inc act a.last r g in
+      let is : a ≡ k.0 = (let z : Some a ≡ Some k.0 = sym e ∙ k.1 in cc) in
+      k.3 (ap (λ (x : Activation). x.last) is) ∙ ap (λ (x : Activation). x.reply) (sym is));
+    answered = λ n l content e s. has_saved (acts_of w.instances l.inc l.act) content (h.tied.steps.saved n l content e s);
+    container_once = h.keeps.book.once;
+    server_once = h.tied.once;
+    agreed = h.tied.books.same;
+    files = files_kept w h.keeps;
+  }
+
+pub empty_held : (numbers : ℕ) (stock : List Kind) → Holds (empty_world numbers stock)
+empty_held numbers stock = record { keeps = empty_keeps numbers stock; tied = empty_tied numbers stock }
+
+pub held_run : (w : World) (es : List Event) (after : World) → Holds w → Run w es after → Holds after
+held_run w es after h r = record { keeps = keeps_run w es after h.keeps r; tied = tied_run w es after h.keeps h.tied r }
