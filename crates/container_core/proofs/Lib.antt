@@ -13,6 +13,7 @@ pub mod AskingCallers
 pub mod CommitsLaws
 pub mod CommandsRoom
 pub mod CommandsEdit
+pub mod EditsTaken
 pub mod SteadyLookups
 pub mod SteadyQueues
 pub mod SteadyLinks

@@ -16,6 +16,7 @@ use Rattle.container_core.specs.declared.record.Phase.{Phase}
 use Rattle.container_core.specs.declared.record.Phase.TheVariants.{Idle, Saving, InDoubt}
 use Rattle.container_core.specs.declared.command.Command.TheVariants as command
 use Rattle.container_core.specs.declared.fault.ContainerFault.TheVariants.{NoSuch, Busy, InDoubt as Doubtful, Full, NumbersSpent, WrongState, UnknownClass}
+use Rattle.container_core.proofs.EditsTaken.{edited, edit_taken}
 use Rattle.container_core.specs.Record.{Record, Took, MOST_FRAMES, MOST_OBJECTS, MOST_SERVERS, MARGIN, is_object, is_alive, is_asked, is_busy, is_claim, is_moving, is_saving, is_doubtful, count_alive, count_objects, has_numbers, is_unreaped, ask, ask_at, asked_link, asked_object}
 use Rattle.grant_core.specs.Grants.{waiting}
 use Rattle.container_core.specs.Commands
@@ -232,10 +233,7 @@ asked_follows op (Some m) l e = (let same : (ask m op).link ≡ l = cc in (m, re
 edit_linked_keeps : (r : Record) (o : Object) (bytes : List ℕ) (frame : Frame) (link : Option Link) (t : Took) → Steady r → find (is_object o.number) r.objects ≡ Some o → nth r.frames o.frame ≡ Some frame → is_asked link ≡ false → o.link ≡ link → Commands.edit_linked r o bytes link ≡ Ok t → Steady t.rec
 edit_linked_keeps r o bytes frame None t s found at quiet is e = cc
 edit_linked_keeps r o bytes frame (Some l) t s found at quiet is e =
-    let a = unless_ok (nat_lt Commands.MOST_EDIT (length bytes)) WrongState _ t e in
-    let b = unless_ok (not (has_numbers r.numbers l)) NumbersSpent _ t a.1 in
-    let made = b.1 in
-    let same : Commands.edit_made r o l bytes ≡ t = cc in
+    let same : edited r o l bytes ≡ t = edit_taken r o bytes l t is e in
     let h = each_found (SteadyObject r) (is_object o.number) r.objects o s.objects found in
     let held = if_at (SteadyLink r.servers r.last_act frame.phase frame.k) o.link l is (at_some (Held r o.link) (nth r.frames o.frame) frame at h.linked) in
     let past = past_if_quiet r.servers r.last_act frame.phase frame.k l held (none_of l.pending quiet) in

@@ -17,6 +17,7 @@ use Rattle.container_core.specs.declared.command.Command.{Command}
 use Rattle.container_core.specs.declared.command.Command.TheVariants as command
 use Rattle.container_core.specs.declared.fault.ContainerFault.{ContainerFault}
 use Rattle.container_core.specs.declared.fault.ContainerFault.TheVariants.{NoSuch, Busy, InDoubt as Doubtful, Full, NumbersSpent, WrongState, UnknownClass, WrongLink, Stale}
+use Rattle.container_core.proofs.EditsTaken.{edited, edit_taken}
 use Rattle.container_core.specs.Record.{Record, Took, MOST_FRAMES, MOST_OBJECTS, MOST_SERVERS, MARGIN, is_object, is_alive, count_alive, count_objects, has_numbers, is_busy, is_moving, is_saving, is_doubtful}
 use Rattle.container_core.specs.Saves.{settle, settled_frame, is_ready, awaits, committed_frame, commit_made, is_committing, commit_fitting, commit_at, commit_done, image}
 use Rattle.container_core.specs.Messages.{replied_record, on_message, reaped, on_reap}
@@ -142,21 +143,18 @@ run_at_moved : (r : Record) (inc : ℕ) (o : Option Object) (t : Took) → Comma
 run_at_moved r inc None t e = cc
 run_at_moved r inc (Some o) t e = run_moved r o inc (nth r.frames o.frame) t e
 
-edit_linked_moved : (r : Record) (o : Object) (bytes : List ℕ) (link : Option Link) (t : Took) → Commands.edit_linked r o bytes link ≡ Ok t → MovedTo r t
-edit_linked_moved r o bytes None t e = cc
-edit_linked_moved r o bytes (Some l) t e =
-    let a = unless_ok (nat_lt Commands.MOST_EDIT (length bytes)) WrongState _ t e in
-    let b = unless_ok (not (has_numbers r.numbers l)) NumbersSpent _ t a.1 in
-    let made = b.1 in
-    let at : Commands.edit_made r o l bytes ≡ t = cc in
-    subst (MovedTo r) at (still_moved r (Commands.edit_made r o l bytes).rec refl)
+edit_linked_moved : (r : Record) (o : Object) (bytes : List ℕ) (link : Option Link) (t : Took) → o.link ≡ link → Commands.edit_linked r o bytes link ≡ Ok t → MovedTo r t
+edit_linked_moved r o bytes None t is e = cc
+edit_linked_moved r o bytes (Some l) t is e =
+    let at : edited r o l bytes ≡ t = edit_taken r o bytes l t is e in
+    subst (MovedTo r) at (still_moved r (edited r o l bytes).rec refl)
 
 edit_moved : (r : Record) (o : Object) (bytes : List ℕ) (f : Option Frame) (t : Took) → Commands.edit_in r o bytes f ≡ Ok t → MovedTo r t
 edit_moved r o bytes None t e = cc
 edit_moved r o bytes (Some frame) t e =
     let a = unless_ok (is_doubtful frame.phase) Doubtful _ t e in
     let b = unless_ok (is_saving frame.phase || is_busy frame.ui.state o) Busy _ t a.1 in
-    edit_linked_moved r o bytes o.link t b.1
+    edit_linked_moved r o bytes o.link t refl b.1
 
 edit_at_moved : (r : Record) (bytes : List ℕ) (o : Option Object) (t : Took) → Commands.edit_at r bytes o ≡ Ok t → MovedTo r t
 edit_at_moved r bytes None t e = cc

@@ -19,6 +19,7 @@ use Rattle.container_core.specs.declared.command.Command.{Command}
 use Rattle.container_core.specs.declared.command.Command.TheVariants as command
 use Rattle.container_core.specs.declared.fault.ContainerFault.{ContainerFault}
 use Rattle.container_core.specs.declared.fault.ContainerFault.TheVariants.{NoSuch, Busy, InDoubt as Doubtful, Full, NumbersSpent, WrongState, UnknownClass, WrongLink, Stale}
+use Rattle.container_core.proofs.EditsTaken.{edited, edit_taken}
 use Rattle.container_core.specs.Record.{Record, Took, MOST_FRAMES, MOST_OBJECTS, MOST_SERVERS, MARGIN, is_object, is_link, is_linked, is_alive, is_busy, is_moving, is_saving, is_doubtful, count_alive, count_objects, has_numbers, ask, asked_link, asked_sent, asked_object, asked_all, sends}
 use Rattle.container_core.specs.Saves.{settle, settle_actions, kept, cleared, completion, completed, commit_made, is_committing, commit_fitting, commit_at, commit_done, image}
 use Rattle.container_core.specs.Messages.{Replied, replied, replied_object, replied_record, next_sent, reply_pending, reply_link, reply_taken, reply_found, on_reply, on_message, reaped_object, reaped, on_reap}
@@ -106,13 +107,10 @@ run_at_moved r n inc (Some o) t s found e = run_moved r o inc (nth r.frames o.fr
 edit_linked_moved : (r : Record) (o : Object) (bytes : List ℕ) (link : Option Link) (t : Took) → Steady r → find (is_object o.number) r.objects ≡ Some o → o.link ≡ link → Commands.edit_linked r o bytes link ≡ Ok t → MovedTo r t
 edit_linked_moved r o bytes None t s found is e = cc
 edit_linked_moved r o bytes (Some l) t s found is e =
-    let a = unless_ok (nat_lt Commands.MOST_EDIT (length bytes)) WrongState _ t e in
-    let b = unless_ok (not (has_numbers r.numbers l)) NumbersSpent _ t a.1 in
-    let made = b.1 in
-    let at : Commands.edit_made r o l bytes ≡ t = cc in
+    let at : edited r o l bytes ≡ t = edit_taken r o bytes l t is e in
     let x : Object = record o { link = Some (ask l (Edit bytes)).link } in
     let sent : List Message = (ask l (Edit bytes)).sent in
-    subst (MovedTo r) at (put_moved r (Commands.edit_made r o l bytes).rec (sends sent) (is_object o.number) o x sent s.order found refl refl
+    subst (MovedTo r) at (put_moved r (edited r o l bytes).rec (sends sent) (is_object o.number) o x sent s.order found refl refl
     (Shape.Asked l l.saved (Edit bytes) is refl refl)
     (λ m g. sends_among sent m g))
 
