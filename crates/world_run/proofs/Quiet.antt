@@ -12,10 +12,11 @@ use Rattle.container_core.specs.declared.record.Object.{Object}
 use Rattle.container_core.specs.declared.record.Frame.{Frame}
 use Rattle.container_core.specs.declared.fault.ContainerFault.{ContainerFault}
 use Rattle.container_core.specs.declared.fault.ContainerFault.TheVariants.{WrongLink, Stale, NoSuch, Busy, InDoubt, Full, NumbersSpent, WrongState, UnknownClass}
+use Rattle.container_core.proofs.EditsTaken.{edited, edit_taken}
 use Rattle.container_core.specs.Record.{Record, Took, MOST_SERVERS, MARGIN, quiet_answer, acts, sends, count_alive, is_doubtful, is_saving, is_busy, is_moving, has_numbers, is_object, is_linked, is_alive, ask, asked_link, asked_object, asked_all, with_object}
 use Rattle.container_core.specs.Saves.{settle, settle_actions, settled_frames, kept}
 use Rattle.container_core.specs.Messages.{Replied, replied, reply_link, reply_found, reply_taken, replied_object, replied_record, next_sent, on_reply, on_message, on_reap, reaped, reaped_object, next_link}
-use Rattle.container_core.specs.Commands.{unless, MOST_EDIT, is_known_class, any_busy, all_have_numbers, start, start_made, run, run_at, run_in, run_made, edit, edit_at, edit_in, edit_linked, edit_made, save, save_at, save_made, saving, saving_frame}
+use Rattle.container_core.specs.Commands.{unless, is_known_class, any_busy, all_have_numbers, start, start_made, run, run_at, run_in, run_object, run_made, edit, edit_at, edit_in, edit_linked, save, save_at, save_made, saving, saving_frame}
 use Rattle.world_run.specs.Keeping.{Id, id_of, AreSameFrames, IsSameFrame}
 use Rattle.world_run.proofs.Lookups.{map_put, map_map_same, find_passes}
 use Rattle.world_run.proofs.Frames.{same_frames, same_frames_after, settled_same, saving_same, set_same}
@@ -61,20 +62,16 @@ run_found r n inc (Some x) t f e = run_framed r n inc x (nth r.frames x.frame) t
 pub run_quiet : (r : Record) (n inc : ℕ) (t : Took) → run r n inc ≡ Ok t → IsQuiet r t
 run_quiet r n inc t e = run_found r n inc (find (is_object n) r.objects) t refl e
 
-edit_quiet_linked : (r : Record) (n : ℕ) (bytes : List ℕ) (x : Object) (l : Option Link) (t : Took) → find (is_object n) r.objects ≡ Some x → edit_linked r x bytes l ≡ Ok t → IsQuiet r t
-edit_quiet_linked r n bytes x None t f e = cc
-edit_quiet_linked r n bytes x (Some l) t f e =
-    let a = (unless_ok (nat_lt MOST_EDIT (length bytes)) WrongState _ t e).1 in
-    let b : Ok (edit_made r x l bytes) ≡ Ok t = (unless_ok (not (has_numbers r.numbers l)) NumbersSpent _ t a).1 in
-    let at : edit_made r x l bytes ≡ t = cc in
-    subst (IsQuiet r) at (record { frames = same_frames r.frames; ids = ids_linked r n x _ f refl; last = refl; frame = refl })
+edit_quiet_linked : (r : Record) (n : ℕ) (bytes : List ℕ) (x : Object) (l : Option Link) (t : Took) → find (is_object n) r.objects ≡ Some x → x.link ≡ l → edit_linked r x bytes l ≡ Ok t → IsQuiet r t
+edit_quiet_linked r n bytes x None t f xl e = cc
+edit_quiet_linked r n bytes x (Some l) t f xl e = subst (IsQuiet r) (edit_taken r x bytes l t xl e) (record { frames = same_frames r.frames; ids = ids_linked r n x _ f refl; last = refl; frame = refl })
 
 edit_framed : (r : Record) (n : ℕ) (bytes : List ℕ) (x : Object) (frame : Option Frame) (t : Took) → find (is_object n) r.objects ≡ Some x → edit_in r x bytes frame ≡ Ok t → IsQuiet r t
 edit_framed r n bytes x None t f e = cc
 edit_framed r n bytes x (Some frame) t f e =
     let a = (unless_ok (is_doubtful frame.phase) InDoubt _ t e).1 in
     let b = (unless_ok (is_saving frame.phase || is_busy frame.ui.state x) Busy _ t a).1 in
-    edit_quiet_linked r n bytes x x.link t f b
+    edit_quiet_linked r n bytes x x.link t f refl b
 
 edit_found : (r : Record) (n : ℕ) (bytes : List ℕ) (x : Option Object) (t : Took) → find (is_object n) r.objects ≡ x → edit_at r bytes x ≡ Ok t → IsQuiet r t
 edit_found r n bytes None t f e = cc

@@ -32,7 +32,7 @@ pub data Ends (l : Link) (op : Operation) (a : Activation) (p : Replied) : Type 
   gone : p.link ≡ None → a.content ≡ None → Ends l op a p
 
 done_is : (l : Link) (op : Operation) (v : States) (p : Replied) → both.step l.states (op_of op) ≡ Ok v → done l op ≡ Ok p → p.link ≡ Some (record l { pending = None; states = v; s = next_s op l.s })
-done_is l op v p e h = (let z : done_link l op (Ok v) ≡ Ok p = ap (done_link l op) (sym e) ∙ h in
+done_is l op v p e h = (let z : done_link l (next_s op l.s) (Ok v) ≡ Ok p = ap (done_link l (next_s op l.s)) (sym e) ∙ h in
     let q : record { link = Some (record l { pending = None; states = v; s = next_s op l.s }); refused = None } ≡ p = cc in
     ap (λ (x : Replied). x.link) (sym q))
 
@@ -42,7 +42,7 @@ done_settles l op a p e h = settles (record l { pending = None; states = a.state
 
 saved_settles : (l : Link) (k : ℕ) (content : Stored) (a : Activation) (p : Replied) → both.step l.states (op_of (Save k)) ≡ Ok a.states → a.saved ≡ Some content → saved_link content (done l (Save k)) ≡ Ok p → Ends l (Save k) a p
 saved_settles l k content a p e s h =
-    let z : saved_link content (done_link l (Save k) (Ok a.states)) ≡ Ok p = ap (λ x. saved_link content (done_link l (Save k) x)) (sym e) ∙ h in
+    let z : saved_link content (done_link l (next_s (Save k) l.s) (Ok a.states)) ≡ Ok p = ap (λ x. saved_link content (done_link l (next_s (Save k) l.s) x)) (sym e) ∙ h in
     let new : Link = record l { pending = None; states = a.states; s = next_s (Save k) l.s; saved = Some content } in
     let q : record { link = Some new; refused = None } ≡ p = cc in
     settles new (ap (λ (x : Replied). x.link) (sym q)) (record { inc = refl; act = refl; last = refl; pending = refl; waiting = refl; states = refl; saved = inr (tt, (content, refl, s)) })

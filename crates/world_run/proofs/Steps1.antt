@@ -15,8 +15,9 @@ use Rattle.container_core.specs.declared.record.Phase.{Phase}
 use Rattle.container_core.specs.declared.record.Phase.TheVariants.{Idle, Saving, HandingOff, Committing, InDoubt}
 use Rattle.container_core.specs.declared.fault.ContainerFault.{ContainerFault}
 use Rattle.container_core.specs.declared.fault.ContainerFault.TheVariants.{NoSuch, Busy, InDoubt as Doubtful, Full, NumbersSpent, WrongState, UnknownClass}
+use Rattle.container_core.proofs.EditsTaken.{edited, edit_taken}
 use Rattle.container_core.specs.Record.{Record, Took, MARGIN, is_object, is_alive, is_asked, is_busy, is_claim, is_saving, is_doubtful, has_numbers, ask, ask_at, sends, with_object}
-use Rattle.container_core.specs.Commands.{unless, MOST_EDIT, is_known_class, run, run_at, run_in, run_made, first_operation, begun_link, edit, edit_at, edit_in, edit_linked, edit_made}
+use Rattle.container_core.specs.Commands.{unless, is_known_class, run, run_at, run_in, run_made, first_operation, begun_link, edit, edit_at, edit_in, edit_linked}
 use Rattle.grant_core.specs.Grants.{waiting}
 use Rattle.world_run.specs.declared.instance.Life.{Life}
 use Rattle.world_run.specs.World.{messages_of, started_by}
@@ -166,15 +167,13 @@ edit_moves_linked : (r : Record) (acts : Acts) (lives : Lives) (owners : List �
     → nth r.frames x.frame ≡ Some frame → frame.phase ≡ Idle → is_asked x.link ≡ false → x.link ≡ l0 → edit_linked r x bytes l0 ≡ Ok t → AllPhased r → Moves r acts lives owners t × (t.rec.last_act ≡ r.last_act) × NoCompletion t
 edit_moves_linked r acts lives owners n bytes x frame None t d f at idle un xl e ph = cc
 edit_moves_linked r acts lives owners n bytes x frame (Some l0) t d f at idle un xl e ph =
-    let a = unless_ok (nat_lt MOST_EDIT (length bytes)) WrongState _ t e in
-    let b : Ok (edit_made r x l0 bytes) ≡ Ok t = (unless_ok (not (has_numbers r.numbers l0)) NumbersSpent _ t a.1).1 in
-    let is : edit_made r x l0 bytes ≡ t = cc in
+    let is : edited r x l0 bytes ≡ t = edit_taken r x bytes l0 t xl e in
     let op = Edit bytes in
     let free : l0.pending ≡ None = unasked l0 (ap is_asked (sym xl) ∙ un) in
     let new : Link = record l0 { last = l0.last + 1; pending = Some op } in
     let asks : ask l0 op ≡ record { link = new; sent = Call l0.inc l0.act (l0.last + 1) op ∷ [] } = ap (ask_at l0 op) free in
-    let made : Took = record { rec = with_object r (record x { link = Some new }); answer = (edit_made r x l0 bytes).answer } in
-    let at_made : made ≡ edit_made r x l0 bytes = rw asks refl in
+    let made : Took = record { rec = with_object r (record x { link = Some new }); answer = (edited r x l0 bytes).answer } in
+    let at_made : made ≡ edited r x l0 bytes = rw asks refl in
     let was : Phased Idle l0 = subst (λ v. Phased v l0) idle (ph n x l0 frame f xl at) in
     subst (λ (v : Took). Moves r acts lives owners v × (v.rec.last_act ≡ r.last_act) × NoCompletion v) (at_made ∙ is)
       (record {
