@@ -93,9 +93,9 @@ put_keeps test a (y ∷ ys) zero x e f =
     let g : test y ≡ false = rw s f in
     rw g e
 put_keeps test a (y ∷ ys) (suc i) x e f = elim (test y) as (λ b. slice_get (if b then a ∷ ys else y ∷ put test a ys) (suc i) ≡ Some x) [
-    true ↦ e
+  | true ↦ e
   | false ↦ put_keeps test a ys i x e f
-  ]
+]
 
 found_keeps : (r : Record) (inc act n : ℕ) (answer : Answer) (o : Option Object) (t : Took) → reply_found r inc act n answer o ≡ Ok t → (i : ℕ) (x : Object) → slice_get r.objects i ≡ Some x → is_linked inc act x ≡ false → slice_get t.rec.objects i ≡ Some x
 found_keeps r inc act n answer None t e i x at apart = cc
