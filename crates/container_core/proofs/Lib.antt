@@ -26,3 +26,4 @@ pub mod SteadyShapes
 pub mod SteadyMoves
 pub mod SteadyRuns
 pub mod SteadyFrames
+pub mod CommandsSave
