@@ -42,32 +42,6 @@ pub asked_room : (numbers more : ℕ) (op : Operation) (link : Option Link) → 
 asked_room numbers more op None h few r = tt
 asked_room numbers more op (Some l) h few r = asked_room_at numbers more l op l.pending refl (has_room_left numbers more l h few) r
 
--- an activation that may be edited has numbers left
-unfaulted_at : (long has : Bool) (x y : ContainerFault) → (if long then Some x else if has then None else Some y) ≡ None → has ≡ true
-unfaulted_at true has x y e = absurd (cc)
-unfaulted_at false true x y e = refl
-unfaulted_at false false x y e = absurd (cc)
-
-pub unfaulted : (numbers size : ℕ) (link : Option Link) → edit_fault numbers size link ≡ None → link_has_numbers numbers link ≡ true
-unfaulted numbers size None e = refl
-unfaulted numbers size (Some l) e = unfaulted_at (nat_lt MOST_EDIT size) (has_numbers numbers l) WrongState NumbersSpent e
-
-less_linked : (numbers more : ℕ) (link : Option Link) → IfLinked (IsRoomy numbers more) link → IfLinked (IsRoomy numbers 0) link
+pub less_linked : (numbers more : ℕ) (link : Option Link) → IfLinked (IsRoomy numbers more) link → IfLinked (IsRoomy numbers 0) link
 less_linked numbers more None r = tt
 less_linked numbers more (Some l) r = less_owed numbers more l r
-
--- ---- one object is asked
-pub sound_asked : (r : Record) (i : ℕ) (x y : Object) (op : Operation) → IsSound r → i < length r.objects → x ≡ get_or r.objects i x → link_has_numbers r.numbers x.link ≡ true
-    → y ≡ record x { link = asked_link op x.link } → IsSound (record r { objects = set r.objects i y })
-sound_asked r i x y op s lt at has is =
-    let old : HasRoom r.numbers r.frames x = rw at (s.room i x lt) in
-    let next : HasRoom r.numbers r.frames y = rw is (asked_room r.numbers (debt_in (nth r.frames x.frame)) op x.link has (debt_in_few (nth r.frames x.frame)) (less_linked r.numbers (debt_in (nth r.frames x.frame)) x.link old)) in
-    record {
-      limit = s.limit;
-      room = All-set (HasRoom r.numbers r.frames) r.objects i y next s.room;
-      saves = s.saves;
-      frames = s.frames;
-      servers = s.servers;
-      objects = s.objects;
-      acts = s.acts;
-    }

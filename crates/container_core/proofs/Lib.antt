@@ -13,3 +13,4 @@ pub mod AskingCallers
 pub mod CommitsLaws
 pub mod CommandsRoom
 pub mod CommandsEdit
+pub mod CommandsSave

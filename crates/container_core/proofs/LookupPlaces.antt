@@ -59,6 +59,6 @@ if_some P (Some x) h = h x refl
 
 pub own_place : (n : ℕ) (os : List Object) (i : ℕ) → IsPlace (is_object n) os i → IsObjectAt os i
 own_place n os i p = record {
-    fits = p.fits;
-    own = if_some (λ o. IsPlace (is_object o.number) os i) (slice_get os i) (λ o e. let h : o.number ≡ n = found_number n os o (p.found ∙ e) in rw h p);
-  }
+  fits = p.fits;
+  own = if_some (λ o. IsPlace (is_object o.number) os i) (slice_get os i) (λ o e. let h : o.number ≡ n = found_number n os o (p.found ∙ e) in rw h p);
+}

@@ -162,9 +162,9 @@ MOST_EDIT = 65536
 
 abbrev pub edit_made : Record → Object → List ℕ → Took
 edit_made r o bytes = record {
-    rec = with_object r (record o { link = asked_link (Edit bytes) o.link });
-    answer = acts (sends (asked_sent (Edit bytes) o.link));
-  }
+  rec = with_object r (record o { link = asked_link (Edit bytes) o.link });
+  answer = acts (sends (asked_sent (Edit bytes) o.link));
+}
 
 -- why an activation isn't asked for an edit of so many bytes
 abbrev pub edit_fault : ℕ → ℕ → Option Link → Option ContainerFault
@@ -220,13 +220,17 @@ save_made r f frame = record {
   answer = acts (sends (asked_all f (Save (frame.k + 1)) r.objects) ++ settle_actions (saving r f frame));
 }
 
+abbrev pub save_numbered : Record → ℕ → Frame → Result Took ContainerFault
+save_numbered r f frame =
+    unless (nat_le r.numbers frame.k || not (all_have_numbers f r.numbers r.objects)) NumbersSpent
+    (Ok (save_made r f frame))
+
 abbrev pub save_at : Record → ℕ → Option Frame → Result Took ContainerFault
 save_at r f None = Err NoSuch
 save_at r f (Some frame) =
     unless (is_doubtful frame.phase) InDoubt
     (unless (is_saving frame.phase || is_moving frame.ui.state || any_busy f frame.ui.state r.objects) Busy
-    (unless (nat_le r.numbers frame.k || not (all_have_numbers f r.numbers r.objects)) NumbersSpent
-    (Ok (save_made r f frame))))
+    (save_numbered r f frame))
 
 abbrev pub save : Record → ℕ → Result Took ContainerFault
 save r f = save_at r f (nth r.frames f)
