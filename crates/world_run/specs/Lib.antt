@@ -1,4 +1,6 @@
 pub mod StopNames
 pub mod World
 pub mod Starts
+pub mod Rooms
+pub mod Files
 pub mod View

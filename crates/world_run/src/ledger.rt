@@ -1,14 +1,24 @@
 //! What a world keeps besides its servers and its stock.
 
-ghost use Rattle.std.specs.Prelude.{[], ◌∷◌, ◌++◌, ◌+◌, ◌≤◌, ◌<◌, ◌^◌, ◌≡◌, length, map, vec_len, vec_capacity};
+ghost use Rattle.std.specs.Prelude.{[], ◌∷◌, ◌++◌, ◌+◌, ◌≤◌, ◌<◌, ◌^◌, ◌≡◌, IfErr, IfOk, OnErr, OnOk, Ok, length, map, nat_le, vec_len, vec_capacity};
 ghost use Rattle.std.specs.List.{range_with_len};
-ghost use Rattle.world_run.specs.World.{messages_of, commits_of, of_container, joined};
+ghost use Rattle.container_core.specs.Commands.{on_command};
+ghost use Rattle.container_core.specs.Messages.{on_message, on_reap};
+ghost use Rattle.world_run.specs.World.{messages_of, commits_of, of_container, joined, uncounted, took, limited, commanded, owners_by, empty_world, Refuses, MOST_EVENTS};
 ghost use Rattle.world_run.specs.Starts.{starts_of};
+ghost use Rattle.world_run.specs.Rooms.{HasLogRoom, IsRoom, most};
+ghost use Rattle.world_run.specs.View.{bare, started};
 
+use crate::event::Stop;
 use crate::logs::{Document, Done, EventAnswer, File, Outcome, Sent, ServerDone};
+use crate::standin::{commit_done, on_command, on_message, on_reap};
 use container_core::answer::{Action, Answer};
-use container_core::container::ContainerCore;
+use container_core::command::Command;
+use container_core::container::{ContainerCore, Limits};
+use container_core::fault::ContainerFault;
+use std::alloc::{AllocError, Global};
 use wire_msgs::items::Items;
+use wire_msgs::message::Message;
 
 /// What a world keeps besides its servers and its stock: the container, the files and the logs.
 #[derive(Drop)]
@@ -24,7 +34,7 @@ pub struct Ledger {
 }
 
 // Adds what room was taken for.
-fn add<T: Drop>(items: &mut Vec<T>, item: T)
+pub(crate) fn add<T: Drop>(items: &mut Vec<T>, item: T)
     requires { vec_len items.old < vec_capacity items.old }
     ensures added { items.new.items ≡ items.old.items ++ item ∷ [] }
     ensures len { vec_len items.new ≡ vec_len items.old + 1 }
@@ -36,10 +46,21 @@ fn add<T: Drop>(items: &mut Vec<T>, item: T)
     }
 }
 
+// Adds all of a list.
+pub(crate) fn add_all<T: Drop>(items: &mut Vec<T>, mut more: Vec<T>)
+    requires { vec_len items.old + vec_len more ≤ vec_capacity items.old }
+    ensures { items.new.items ≡ items.old.items ++ more.items }
+{
+    match items.append(&mut more) {
+        Ok(()) => {}
+        Err(_) => unreachable!(),
+    }
+}
+
 /// Room for what a step of the container may lead to.
 #[derive(Drop)]
-struct Room {
-    starts: Vec<u32>,
+pub(crate) struct Room {
+    pub(crate) starts: Vec<u32>,
     commits: Vec<u32>,
     places: Vec<u32>,
 }
@@ -50,6 +71,8 @@ fn share(actions: Vec<Action>, sent: &mut Vec<Sent>, starts: &mut Vec<u32>, comm
     requires starts_room { vec_len starts.old + vec_len actions ≤ vec_capacity starts.old }
     requires commits_room { vec_len commits.old + vec_len actions ≤ vec_capacity commits.old }
     ensures sent { sent.new.items ≡ sent.old.items ++ map of_container (messages_of actions.items) }
+    ensures count { vec_len sent.new ≡ vec_len sent.old + length (messages_of actions.items) }
+    ensures few { vec_len sent.new ≤ vec_len sent.old + vec_len actions }
     ensures starts { starts.new.items ≡ starts.old.items ++ starts_of actions.items }
     ensures commits { commits.new.items ≡ commits.old.items ++ commits_of actions.items }
 {
@@ -78,5 +101,193 @@ fn number(places: &mut Vec<u32>, before: usize, count: usize)
 {
     for i in 0..count {
         add(places, (before + 1 + i) as u32);
+    }
+}
+
+// A new frame has no counted commit.
+fn add_uncounted(counted: &mut Vec<Option<Document>>, frame: Option<u32>)
+    requires { vec_len counted.old < vec_capacity counted.old }
+    ensures { counted.new.items ≡ counted.old.items ++ uncounted frame }
+{
+    match frame {
+        Some(_) => add(counted, None),
+        None => {}
+    }
+}
+
+// The object of a new activation is kept.
+fn add_owner(owners: &mut Vec<u32>, command: &Command)
+    requires { vec_len owners.old < vec_capacity owners.old }
+    ensures { owners.new.items ≡ owners.old.items ++ owners_by command.now }
+{
+    match command {
+        Command::Run(object, _) => add(owners, *object),
+        _ => {}
+    }
+}
+
+impl Room {
+    // Room for so many actions.
+    pub(crate) fn new(alloc: Global, count: usize) -> Result<Room, AllocError>
+        ensures { IfOk result (λ r. IsRoom count r) }
+    {
+        Ok(Room {
+            starts: Vec::with_capacity(alloc, count)?,
+            commits: Vec::with_capacity(alloc, count)?,
+            places: Vec::with_capacity(alloc, count)?,
+        })
+    }
+}
+
+impl Ledger {
+    /// Nothing has happened.
+    pub(crate) fn new(alloc: Global, limits: Limits) -> Ledger
+        requires { limits.numbers ≤ 1000000 }
+        ensures { bare result ≡ empty_world limits.numbers [] }
+    {
+        Ledger {
+            core: ContainerCore::new(alloc, limits),
+            files: Vec::new(alloc),
+            sent: Vec::new(alloc),
+            owners: Vec::new(alloc),
+            answers: Vec::new(alloc),
+            container_done: Vec::new(alloc),
+            server_done: Vec::new(alloc),
+            counted: Vec::new(alloc),
+        }
+    }
+
+    /// Whether a world takes no more events.
+    pub(crate) fn is_full(&self) -> bool
+        ensures { result ≡ nat_le MOST_EVENTS (length self.now.answers.items) }
+    {
+        self.answers.len() >= 10_000
+    }
+
+    /// No step of the container asks for more actions.
+    pub(crate) fn most(&self) -> usize
+        ensures { result ≡ most self.now.core }
+    {
+        self.core.objects().len() + self.core.frames().len() + 1
+    }
+
+    // Room in the logs for a step with so many actions.
+    pub(crate) fn reserve(&mut self, count: usize) -> Result<(), AllocError>
+        ensures room { OnOk result (HasLogRoom count self.new) }
+        ensures kept { bare self.new ≡ bare self.old }
+    {
+        self.sent.reserve(count)?;
+        self.answers.reserve(1)?;
+        self.counted.reserve(1)?;
+        if self.sent.len() + count >= 0x1_0000_0000 {
+            return Err(AllocError);
+        }
+        Ok(())
+    }
+
+    // Keeps what a step of the container asks for; gives the servers that it starts.
+    pub(crate) fn join(&mut self, answer: Answer, room: Room) -> Vec<u32>
+        requires logs { HasLogRoom (length answer.actions) self.old }
+        requires room { IsRoom (length answer.actions) room }
+        ensures joined { joined (bare self.old) (record { rec = self.old.core; answer = answer }) ≡ started (bare self.new) self.old.core.numbers result.items }
+        ensures few { length result.items ≤ length answer.actions }
+    {
+        let Answer {
+            frame,
+            objects,
+            server,
+            taken,
+            refused,
+            no_tools,
+            actions,
+        } = answer;
+        let Room {
+            mut starts,
+            mut commits,
+            mut places,
+        } = room;
+        let before = self.sent.len();
+        share(actions.into_vec(), &mut self.sent, &mut starts, &mut commits);
+        number(&mut places, before, self.sent.len() - before);
+        add_uncounted(&mut self.counted, frame);
+        let outcome = Outcome {
+            frame,
+            objects,
+            server,
+            taken,
+            refused,
+            no_tools,
+            sent: Items::from_vec(places),
+            commits: Items::from_vec(commits),
+        };
+        add(&mut self.answers, EventAnswer::Took(outcome));
+        starts
+    }
+
+    /// A command of a user. Gives the servers that it starts.
+    ///
+    /// Refused for want of memory alone. Then nothing changes.
+    pub(crate) fn command(&mut self, alloc: Global, command: &Command) -> Result<Vec<u32>, AllocError>
+        ensures taken { IfOk result (λ starts. commanded (bare self.old) command.now (on_command self.old.core command.now) ≡ started (bare self.new) self.new.core.numbers starts.items) }
+        ensures few { IfOk result (λ starts. vec_len starts ≤ most self.old.core) }
+        ensures kept { OnErr result (bare self.new ≡ bare self.old) }
+    {
+        let count = self.most();
+        let room = Room::new(alloc, count)?;
+        self.reserve(count)?;
+        self.owners.reserve(1)?;
+        match on_command(&mut self.core, alloc, command) {
+            Ok(answer) => {
+                add_owner(&mut self.owners, command);
+                Ok(self.join(answer, room))
+            }
+            Err(ContainerFault::NoMemory) => Err(AllocError),
+            Err(fault) => {
+                add(&mut self.answers, EventAnswer::Refused(fault));
+                Ok(room.starts)
+            }
+        }
+    }
+
+    /// A message comes to the container. Gives the servers that it starts.
+    ///
+    /// Refused for want of memory alone. Then nothing changes.
+    pub(crate) fn tell(&mut self, alloc: Global, inc: u32, message: Message) -> Result<Vec<u32>, AllocError>
+        ensures taken { IfOk result (λ starts. took (bare self.old) (on_message self.old.core inc message) ≡ started (bare self.new) self.new.core.numbers starts.items) }
+        ensures few { IfOk result (λ starts. vec_len starts ≤ most self.old.core) }
+        ensures kept { OnErr result (bare self.new ≡ bare self.old) }
+    {
+        let count = self.most();
+        let room = Room::new(alloc, count)?;
+        self.reserve(count)?;
+        match on_message(&mut self.core, alloc, inc, message) {
+            Ok(answer) => Ok(self.join(answer, room)),
+            Err(ContainerFault::NoMemory) => Err(AllocError),
+            Err(fault) => {
+                add(&mut self.answers, EventAnswer::Refused(fault));
+                Ok(room.starts)
+            }
+        }
+    }
+
+    /// The end of a server is told to the container. Gives the servers that it starts.
+    ///
+    /// Refused for want of memory alone. Then nothing changes.
+    pub(crate) fn reap(&mut self, alloc: Global, inc: u32) -> Result<Vec<u32>, AllocError>
+        ensures taken { IfOk result (λ starts. took (bare self.old) (on_reap self.old.core inc) ≡ started (bare self.new) self.new.core.numbers starts.items) }
+        ensures few { IfOk result (λ starts. vec_len starts ≤ most self.old.core) }
+        ensures kept { OnErr result (bare self.new ≡ bare self.old) }
+    {
+        let count = self.most();
+        let room = Room::new(alloc, count)?;
+        self.reserve(count)?;
+        match on_reap(&mut self.core, alloc, inc) {
+            Ok(answer) => Ok(self.join(answer, room)),
+            Err(ContainerFault::NoMemory) => Err(AllocError),
+            Err(fault) => {
+                add(&mut self.answers, EventAnswer::Refused(fault));
+                Ok(room.starts)
+            }
+        }
     }
 }

@@ -5,25 +5,18 @@ ghost use Rattle.world_run.specs.View.{seen, seen_stocked};
 ghost use Rattle.world_run.specs.World.{empty_world, step, Run, StopsAt};
 
 use crate::instance::Instance;
-use crate::logs::{Document, Done, EventAnswer, File, Sent, ServerDone};
+use crate::ledger::Ledger;
 use crate::stock::Stock;
-use container_core::container::{ContainerCore, Limits};
+use container_core::container::Limits;
 use embed_core::embedded::Embedded;
 use std::alloc::Global;
 
 /// A container, its servers, the messages between them, and the files.
 #[derive(Drop)]
 pub struct World {
-    core: ContainerCore,
+    ledger: Ledger,
     instances: Vec<Instance>,
-    files: Vec<File>,
     stock: Stock,
-    sent: Vec<Sent>,
-    owners: Vec<u32>,
-    answers: Vec<EventAnswer>,
-    container_done: Vec<Done>,
-    server_done: Vec<ServerDone>,
-    counted: Vec<Option<Document>>,
 }
 
 impl World {
@@ -33,16 +26,9 @@ impl World {
         ensures { seen (λ s. (⟦<dyn Embedded as Embedded>⟧ s.boxed.vtable).content s.boxed.value) result ≡ empty_world limits.numbers (map (seen_stocked (λ s. (⟦<dyn Embedded as Embedded>⟧ s.boxed.vtable).content s.boxed.value)) stock.boxes.items) }
     {
         World {
-            core: ContainerCore::new(alloc, limits),
+            ledger: Ledger::new(alloc, limits),
             instances: Vec::new(alloc),
-            files: Vec::new(alloc),
             stock,
-            sent: Vec::new(alloc),
-            owners: Vec::new(alloc),
-            answers: Vec::new(alloc),
-            container_done: Vec::new(alloc),
-            server_done: Vec::new(alloc),
-            counted: Vec::new(alloc),
         }
     }
 }
