@@ -39,7 +39,7 @@ place_behind : (s : NamedStream) (ss : List NamedStream) → AreBefore ss s.name
 place_behind s [] before = refl
 place_behind s (t ∷ ss) before =
     ap (λ o. match_ordering o (stream (key s.name) s.name s.bytes (children_of (t ∷ ss))) (stream (key t.name) s.name s.bytes (children_of ss))
-        (stream (key t.name) t.name t.bytes (place (key s.name) (s.name, bytes s.bytes) (children_of ss)))) (behind s.name t.name before.0)
+    (stream (key t.name) t.name t.bytes (place (key s.name) (s.name, bytes s.bytes) (children_of ss)))) (behind s.name t.name before.0)
     ∙ ap (stream (key t.name) t.name t.bytes) (place_behind s ss before.1)
 
 put_last : (s : NamedStream) (ss : List NamedStream) → AreBefore ss s.name

@@ -1,5 +1,12 @@
 pub mod LookupPlaces
-pub mod ServersCounted
 pub mod DocumentsTree
 pub mod DocumentsRoom
 pub mod CommitsRoom
+pub mod CommitsObjects
+pub mod CommitsDone
+pub mod MessageReplies
+pub mod MessageSound
+pub mod ServersCounted
+pub mod AskingAll
+pub mod AskingCallers
+pub mod CommitsLaws

@@ -33,12 +33,12 @@ next_s (SaveCompleted k storage) s = s + 1
 next_s (SaveDropped k) s = s + 1
 next_s op s = s
 
-abbrev pub done_link : Link → Operation → Result States StateFault → Result Replied ContainerFault
-done_link l op (Err fault) = Err BadAnswer
-done_link l op (Ok v) = Ok (record { link = Some (record l { pending = None; states = v; s = next_s op l.s }); refused = None })
+abbrev pub done_link : Link → ℕ → Result States StateFault → Result Replied ContainerFault
+done_link l s (Err fault) = Err BadAnswer
+done_link l s (Ok v) = Ok (record { link = Some (record l { pending = None; states = v; s = s }); refused = None })
 
 abbrev pub done : Link → Operation → Result Replied ContainerFault
-done l op = done_link l op (both.step l.states (op_of op))
+done l op = done_link l (next_s op l.s) (both.step l.states (op_of op))
 
 abbrev pub saved_link : Stored → Result Replied ContainerFault → Result Replied ContainerFault
 saved_link content (Err fault) = Err fault

@@ -1,9 +1,20 @@
 //! Commits that are done.
 
-ghost use Rattle.std.specs.Prelude.{◌≡◌};
-ghost use Rattle.container_core.specs.Saves.{committed_frame, completion, counted_object};
+ghost use Rattle.std.specs.Prelude.{◌≡◌, All, length, map, vec_len, ℕ};
+ghost use Rattle.container_core.specs.Asking.{HasNumber, prepared};
+ghost use Rattle.container_core.specs.Saves.{committed_frame, completed, completion, counted_object, is_committing};
+ghost use Rattle.container_core.specs.Record.{asked_object};
+ghost use Rattle.container_core.specs.declared.record.Frame as declared;
+ghost use Rattle.wire_msgs.specs.declared.operation.Operation as declared_operation;
 
+use crate::answer::Answer;
+use crate::asking::{Prepared, install_all, prepare};
+use crate::container::ContainerCore;
+use crate::fault::ContainerFault;
+use crate::lookups::frame_place;
 use crate::record::{Frame, Object, Phase};
+use std::alloc::Global;
+use wire_msgs::items::Items;
 use wire_msgs::operation::Operation;
 
 /// What the objects of a frame are told once its save is counted.
@@ -38,5 +49,98 @@ fn count_object(f: u32, object: &mut Object)
         if let Some(content) = link.saved.take() {
             object.work = content;
         }
+    }
+}
+
+/// The same in all objects of a frame.
+fn count_objects(f: u32, objects: &mut [Object])
+    ensures { objects.new ≡ map (counted_object f) objects.old }
+{
+    for object in objects.iter_mut() {
+        count_object(f, object);
+    }
+}
+
+fn count_all(f: u32, objects: &mut Vec<Object>)
+    ensures items { objects.new.items ≡ map (counted_object f) objects.old.items }
+{
+    count_objects(f, objects);
+}
+
+fn install(objects: &mut Vec<Object>, takes: Vec<Prepared>)
+    requires numbers { All HasNumber objects.old.items }
+    requires each { vec_len takes ≡ length objects.old.items }
+    ensures { (f : ℕ) (op : declared_operation.Operation) → takes.items ≡ map (prepared f op) objects.old.items → objects.new.items ≡ map (asked_object f op) objects.old.items }
+{
+    install_all(objects, takes);
+}
+
+/// The contents that are counted are work contents, and each object that isn't passive takes up what was prepared.
+fn complete_objects(f: u32, objects: &mut Vec<Object>, takes: Vec<Prepared>)
+    requires numbers { All HasNumber objects.old.items }
+    requires each { vec_len takes ≡ length objects.old.items }
+    ensures { (frame : declared.Frame) → takes.items ≡ map (prepared f (completion frame)) objects.old.items → objects.new.items ≡ map (completed f frame) objects.old.items }
+{
+    count_all(f, objects);
+    install(objects, takes);
+}
+
+/// Whether a frame's commit is asked for.
+fn is_committing(phase: Phase) -> bool
+    ensures { result ≡ is_committing phase }
+{
+    match phase {
+        Phase::Committing => true,
+        Phase::Idle | Phase::Saving | Phase::HandingOff | Phase::InDoubt => false,
+    }
+}
+
+impl ContainerCore {
+    ghost use Rattle.std.specs.Prelude.{◌≡◌, ◌≤◌, ◌+◌, IfErr, IfOk, OnErr, OnOk, Ok, Some, length, true};
+    ghost use Rattle.wire_msgs.specs.Found.{nth};
+    ghost use Rattle.container_core.specs.Numbered.{IsNth};
+    ghost use Rattle.container_core.specs.Record.{Refuses};
+    ghost use Rattle.container_core.specs.Saves.{commit_done, commit_made, is_committing};
+    ghost use Rattle.container_core.specs.declared.record.Frame as declared;
+
+    /// Where the frame stands whose commit may be done.
+    ///
+    /// Refused: as `commit_done`, but for `NoMemory`.
+    fn place_committing(&self, f: u32) -> Result<usize, ContainerFault>
+        ensures place { IfOk result (IsNth f self.now.frames) }
+        ensures told { OnOk result ((frame : declared.Frame) → nth self.now.frames f ≡ Some frame → (is_committing frame.phase ≡ true) × (commit_done self.now f ≡ Ok (commit_made self.now f frame))) }
+        ensures refused { IfErr result (Refuses (commit_done self.now f)) }
+    {
+        let Some(place) = frame_place(self.frames.as_slice(), f) else {
+            return Err(ContainerFault::NoSuch);
+        };
+        if !is_committing(self.frames[place].phase) {
+            return Err(ContainerFault::WrongState);
+        }
+        self.check_image(f)?;
+        Ok(place)
+    }
+
+    /// The file of a frame was committed. The contents that it holds are the objects' work contents, the asked name is
+    /// the frame's, and each object that isn't passive is told that the save is counted.
+    ///
+    /// Refused: `NoSuch` where there is no such frame; `WrongState` where its commit isn't asked for; `Full` where no
+    /// file holds its document; then `NoMemory`. A refusal changes nothing.
+    pub fn commit_done(&mut self, alloc: Global, f: u32) -> Result<Answer, ContainerFault>
+        ensures taken { IfOk result (λ a. commit_done self.old f ≡ Ok (record { rec = self.new; answer = a })) }
+        ensures few { IfOk result (λ a. length a.actions ≤ length self.old.objects + length self.old.frames + 1) }
+        ensures refused { IfErr result (Refuses (commit_done self.old f)) }
+        ensures kept { OnErr result (self.new ≡ self.old) }
+    {
+        let place = self.place_committing(f)?;
+        let operation = completion(&self.frames[place]);
+        let Ok(asking) = prepare(alloc, f, &operation, self.objects.as_slice()) else {
+            return Err(ContainerFault::NoMemory);
+        };
+        commit_frame(&mut self.frames[place]);
+        complete_objects(f, &mut self.objects, asking.takes);
+        let mut answer = Answer::quiet(alloc);
+        answer.actions = Items::from_vec(asking.actions);
+        Ok(answer)
     }
 }

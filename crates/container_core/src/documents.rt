@@ -157,7 +157,7 @@ fn document_tree(alloc: Global, parts: &[Part]) -> Result<Tree, AllocError>
 }
 
 /// The file of a document.
-fn file_of(alloc: Global, parts: &[Part]) -> Result<Vec<u8>, AllocError>
+pub(crate) fn file_of(alloc: Global, parts: &[Part]) -> Result<Vec<u8>, AllocError>
     ensures { IfOk result (λ v. ∥ Denotes v.items (document_tree parts.now) ∥₁) }
 {
     let tree = document_tree(alloc, parts)?;

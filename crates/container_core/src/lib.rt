@@ -2,12 +2,18 @@
 #![tactic(auto)]
 
 pub mod answer;
+mod asking;
 pub mod command;
-pub mod container;
+pub mod commit_laws;
 mod commits;
+#[cfg(test)]
+mod commits_tests;
+pub mod container;
 mod documents;
 pub mod fault;
 mod lookups;
+mod messages;
 pub mod record;
+mod replies;
 mod servers;
 mod settling;

@@ -57,7 +57,8 @@ fn push_commit(actions: &mut Vec<Action>, number: u32, frame: &Frame, objects: &
 fn push_commits(actions: &mut Vec<Action>, frames: &[Frame], objects: &[Object])
     requires room { vec_len actions.old + length frames.now ≤ vec_capacity actions.old }
     requires few { length frames.now ≤ 1000000 }
-    ensures { actions.new.items ≡ actions.old.items ++ settled_actions 1 objects.now frames.now }
+    ensures asked { actions.new.items ≡ actions.old.items ++ settled_actions 1 objects.now frames.now }
+    ensures few { vec_len actions.new ≤ vec_len actions.old + length frames.now }
 {
     for (i, frame) in frames.iter().enumerate() {
         push_commit(actions, i as u32 + 1, frame, objects);
@@ -88,6 +89,7 @@ pub(crate) fn settle_into(actions: &mut Vec<Action>, frames: &mut Vec<Frame>, ob
     requires room { vec_len actions.old + length frames.old.items ≤ vec_capacity actions.old }
     requires few { length frames.old.items ≤ 1000000 }
     ensures asked { actions.new.items ≡ actions.old.items ++ settled_actions 1 objects.now.items frames.old.items }
+    ensures few { vec_len actions.new ≤ vec_len actions.old + length frames.old.items }
     ensures settled { frames.new.items ≡ settled_frames 1 objects.now.items frames.old.items }
 {
     push_commits(actions, frames.as_slice(), objects.as_slice());

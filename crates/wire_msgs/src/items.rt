@@ -1,6 +1,6 @@
 //! Lists of values.
 
-ghost use Rattle.std.specs.Prelude.{[], ◌∷◌, ◌++◌, ◌≡◌, ◌↔◌, IsTrue, OnErr, OnOk, length};
+ghost use Rattle.std.specs.Prelude.{[], ◌∷◌, ◌++◌, ◌≡◌, ◌↔◌, IfNone, IfSome, IsTrue, OnErr, OnOk, length};
 
 use std::alloc::{AllocError, Global};
 use std::marker::Model;
@@ -74,6 +74,18 @@ impl<T: Drop> Items<T> {
         match self.items.push(value) {
             Ok(()) => Ok(()),
             Err(_) => Err(AllocError),
+        }
+    }
+
+    /// Takes the first value out, where there is one. It takes no memory.
+    pub fn take_first(&mut self) -> Option<T>
+        ensures taken { IfSome result (λ x. self.old ≡ x ∷ self.new) }
+        ensures empty { IfNone result ((self.old ≡ []) × (self.new ≡ [])) }
+    {
+        if self.items.is_empty() {
+            None
+        } else {
+            Some(self.items.remove(0))
         }
     }
 }

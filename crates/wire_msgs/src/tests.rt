@@ -41,7 +41,10 @@ fn items_are_kept_in_turn(rt: HostRuntime) -> Result<(), Fail> {
     assert_eq!(rt; items.as_slice(), [4, 7].as_slice());
     let mut vec = items.into_vec();
     vec.push(9)?;
-    assert_eq!(rt; Items::from_vec(vec).as_slice(), [4, 7, 9].as_slice());
+    let mut items = Items::from_vec(vec);
+    assert_eq!(rt; items.as_slice(), [4, 7, 9].as_slice());
+    assert_eq!(rt; items.take_first(), Some(4));
+    assert_eq!(rt; items.as_slice(), [7, 9].as_slice());
     Ok(())
 }
 
