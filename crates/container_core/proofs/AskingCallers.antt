@@ -9,7 +9,7 @@ use Rattle.container_core.specs.Room.{IfLinked, IsRoomy, IsSound}
 use Rattle.container_core.specs.Saves.{cleared, completed, completion, counted_object, kept_by, kept_in}
 
 -- a container's activations have numbers left
-numbered_link : (numbers more : ℕ) (link : Option Link) → numbers ≤ 1000000 → IfLinked (IsRoomy numbers more) link → IfLinked (λ l. l.last ≤ 1000000) link
+numbered_link : (numbers more : ℕ) (link : Option Link) → numbers ≤ 1000000 → IfLinked (IsRoomy numbers more) link → IfLinked (λ l. l.last + length l.waiting ≤ 1000000) link
 numbered_link numbers more None n h = h
 numbered_link numbers more (Some l) n h = let c : l.last + length l.waiting + more ≤ numbers = h.calls in omega arith
 

@@ -4,6 +4,7 @@ pub mod DocumentsRoom
 pub mod CommitsRoom
 pub mod CommitsObjects
 pub mod CommitsDone
+pub mod MessageLaws
 pub mod MessageReplies
 pub mod MessageSound
 pub mod ServersCounted

@@ -11,7 +11,7 @@ use Rattle.container_core.specs.Room.{IfLinked}
 
 -- one more call of an object's activation can be numbered
 abbrev pub HasNumber : Object → Type 0
-HasNumber o = IfLinked (λ l. l.last ≤ 1000000) o.link
+HasNumber o = IfLinked (λ l. l.last + length l.waiting ≤ 1000000) o.link
 
 -- what an object takes up where it is asked: the operation itself, or all that wait from then on
 abbrev pub prepared_at : Operation → Link → Option Operation → Prepared

@@ -3,6 +3,7 @@ pub mod Record
 pub mod Saves
 pub mod Messages
 pub mod Replies
+pub mod Laws
 pub mod Commands
 pub mod Room
 pub mod Numbered

@@ -3,6 +3,7 @@
 
 pub mod answer;
 mod asking;
+mod checks;
 pub mod command;
 pub mod commit_laws;
 mod commits;
@@ -11,6 +12,7 @@ mod commits_tests;
 pub mod container;
 mod documents;
 pub mod fault;
+pub mod laws;
 mod lookups;
 mod messages;
 pub mod record;
