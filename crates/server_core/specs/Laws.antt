@@ -4,7 +4,8 @@ use Rattle.embed_core.specs.Kinds.{Kind}
 use Rattle.wire_msgs.specs.declared.operation.Operation.{Operation}
 use Rattle.wire_msgs.specs.declared.message.Message.{Message}
 use Rattle.wire_msgs.specs.declared.message.Message.TheVariants.{Call}
-use Rattle.server_core.specs.Server.{Activation, Server, Served, find, is_act, on_call}
+use Rattle.wire_msgs.specs.Found.{find}
+use Rattle.server_core.specs.Server.{Activation, Server, Served, is_act, on_call}
 use Rattle.server_core.specs.declared.fault.ServerFault.{ServerFault}
 
 abbrev pub after : Server → Result Served ServerFault → Server

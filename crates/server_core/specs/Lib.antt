@@ -1,3 +1,4 @@
 pub mod Server
 pub mod View
 pub mod Laws
+pub mod Opened

@@ -1,5 +1,5 @@
 -- What a server does with a call.
-use Rattle.std.specs.Prelude.{◌≡◌, ◌+◌, ◌&&◌, ◌||◌, ℕ, Bool, true, false, List, [], ◌∷◌, ◌++◌, length, map, Option, Some, None, is_some, Result, Ok, Err, IsOk, cond, nat_eq, nat_le, codes}
+use Rattle.std.specs.Prelude.{◌≡◌, ◌+◌, ◌&&◌, ◌||◌, ℕ, Bool, true, false, List, [], ◌∷◌, ◌++◌, length, map, Option, Some, None, option_map, is_some, Result, Ok, Err, IsOk, cond, nat_eq, nat_le, codes}
 use Rattle.std.specs.Str.{bytes_eq}
 use Rattle.object_state.specs.Both as both
 use Rattle.object_state.specs.declared.both_states.States.{States}
@@ -23,6 +23,9 @@ use Rattle.wire_msgs.specs.declared.answer.Answer.{Answer}
 use Rattle.wire_msgs.specs.declared.answer.Answer.TheVariants as answer
 use Rattle.wire_msgs.specs.declared.message.Message.{Message}
 use Rattle.wire_msgs.specs.declared.message.Message.TheVariants.{Call, Reply, Write, Ask}
+use Rattle.wire_msgs.specs.Found.{find, put}
+use Rattle.server_core.specs.declared.activation_view.ActivationView.{ActivationView}
+pub use Rattle.server_core.specs.declared.counted.Counted.{Counted}
 use Rattle.server_core.specs.declared.fault.ServerFault.{ServerFault}
 use Rattle.server_core.specs.declared.fault.ServerFault.TheVariants.{WrongIncarnation, Ignored, NumbersSpent, NeedObject, WrongClass, NoMemory}
 
@@ -45,22 +48,8 @@ pub record Server : Type 0 where
   pub numbers : ℕ
   pub acts : List Activation
 
--- a save that a server counts: its number, and the content that was answered for it
-pub record Counted : Type 0 where
-  pub act : ℕ
-  pub k : ℕ
-  pub content : Stored
-
 abbrev pub is_act : ℕ → Activation → Bool
 is_act act a = nat_eq a.act act
-
-abbrev pub find : {A : Type 0} → (A → Bool) → List A → Option A
-find test [] = None
-find test (x ∷ xs) = cond (test x) (Some x) (find test xs)
-
-abbrev pub put : {A : Type 0} → (A → Bool) → A → List A → List A
-put test a [] = []
-put test a (x ∷ xs) = cond (test x) (a ∷ xs) (x ∷ put test a xs)
 
 -- what is stored of a content
 abbrev pub stored_of : Content → Stored
@@ -236,3 +225,33 @@ wanted_unknown v class None = cond (nat_le v.numbers (length v.acts)) None class
 abbrev pub wanted : Server → Message → Option (List ℕ)
 wanted v (Call inc act n op) = cond (nat_eq inc v.inc) (wanted_unknown v (begun_class n op) (find (is_act act) v.acts)) None
 wanted v m = None
+
+-- The reply to a call.
+abbrev pub reply_to : Message → Answer → Message
+reply_to (Call inc act n op) told = Reply inc act n told
+reply_to m told = m
+
+-- A call was taken: the server after it, the reply, and the save that it counted.
+abbrev pub Takes : Server → Message → Option Kind → Server → Message → Option Counted → Type 0
+Takes v m box after reply counted =
+    (told : Answer) × (on_call v m box ≡ Ok (record { server = after; answer = told; counted = counted; used = is_some (wanted v m) })) × (reply ≡ reply_to m told)
+
+-- what comes back of an object that was handed in
+abbrev pub unless_wanted : {A : Type 0} → Option (List ℕ) → Option A → Option A
+unless_wanted None box = box
+unless_wanted (Some class) box = None
+
+-- A message of the server's own accord was told: the server after it, and the message.
+abbrev pub Tells : Result Told ServerFault → Server → Message → Type 0
+Tells told after message = told ≡ Ok (record { server = after; message = message })
+
+-- the reply that is kept of an activation
+abbrev pub kept_reply : Server → Activation → Message
+kept_reply v a = Reply v.inc a.act a.last a.reply
+
+abbrev pub last_reply : Server → ℕ → Option Message
+last_reply v act = option_map (kept_reply v) (find (is_act act) v.acts)
+
+-- what is seen of an activation, but for its content
+abbrev pub view_of : Activation → ActivationView
+view_of a = record { opened = is_some a.content; states = a.states; s = a.s; last = a.last; g = a.g; w = a.w }

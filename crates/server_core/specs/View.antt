@@ -10,7 +10,7 @@ use Rattle.server_core.specs.Server.{Server, Activation}
 module _ {X : Type 0} {V : X → Type 0} (content : Seat X V → Content) where
 
   abbrev pub seen_activation : code.Activation X V → Activation
-  seen_activation a = record { act = a.act; class = a.class; content = option_map content a.seat; last = a.last; reply = a.reply; states = a.states; saved = a.saved; s = a.s; w = a.w; g = a.g }
+  seen_activation a = record a.facts { content = option_map content a.seat }
 
   abbrev pub seen : ServerCore X V → Server
   seen v = record { inc = v.inc; numbers = v.numbers; acts = map seen_activation v.acts.items }

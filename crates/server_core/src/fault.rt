@@ -1,5 +1,6 @@
 //! Why a server takes no message.
 
+use std::alloc::AllocError;
 use thiserror::Error;
 
 /// Why a server takes no message.
@@ -23,4 +24,15 @@ pub enum ServerFault {
     /// No memory was left.
     #[error("no memory is left")]
     NoMemory,
+}
+
+impl From<AllocError> for ServerFault {
+    ghost use Rattle.std.specs.Prelude.{◌≡◌};
+    ghost use Rattle.server_core.specs.declared.fault.ServerFault.TheVariants.{NoMemory};
+
+    ghost from_gives = { λ _ e. e ≡ NoMemory };
+
+    fn from(_: AllocError) -> Self {
+        ServerFault::NoMemory
+    }
 }

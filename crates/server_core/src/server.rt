@@ -1,15 +1,19 @@
 //! A server.
 
-ghost use Rattle.std.specs.Prelude.{◌≡◌, Some, None, []};
-ghost use Rattle.server_core.specs.View.{seen};
-ghost use Rattle.server_core.specs.Server.{Server};
+ghost use Rattle.std.specs.Prelude.{◌≡◌, Some, None, [], IfErr, IfOk, MatchOption, OnErr, OnOk, option_map};
+ghost use Rattle.wire_msgs.specs.Found.{IsPlace, find};
+ghost use Rattle.embed_core.specs.Kinds.{kind_of};
+ghost use Rattle.embed_core.specs.Objects as object;
+ghost use Rattle.server_core.specs.Server.{Server, begun_content, is_act, last_reply, view_of};
+ghost use Rattle.server_core.specs.View.{seen, seen_activation};
 
+use crate::activation_view::ActivationView;
+use crate::facts::Facts;
 use embed_core::embedded::Embedded;
-use object_state::States;
-use std::alloc::Global;
-use storage_tree::class_id::ClassId;
-use storage_tree::stored::Stored;
-use wire_msgs::answer::Answer;
+use embed_core::fault::EmbedFault;
+use std::alloc::{AllocError, Global};
+use wire_msgs::message::Message;
+use wire_msgs::operation::Operation;
 
 /// An object in a server.
 #[derive(Drop)]
@@ -17,33 +21,44 @@ pub struct Seat {
     pub boxed: Box<dyn Embedded>,
 }
 
-/// An activation of an object.
+impl Seat {
+    /// Begins with the content of a Load, or with none.
+    ///
+    /// Refused: `BadContent` where the object doesn't take the content. Then its own is as before.
+    pub(crate) fn begin(&mut self, alloc: Global, operation: &Operation) -> Result<(), EmbedFault>
+        ensures begun { OnOk result (begun_content (kind_of (content self.old.boxed)) operation.now ≡ Ok (content self.new.boxed)) }
+        ensures refused { IfErr result (object.Refuses (begun_content (kind_of (content self.old.boxed)) operation.now)) }
+        ensures kept { OnErr result (content self.new.boxed ≡ content self.old.boxed) }
+    {
+        match operation {
+            Operation::Load(_, content) => self.boxed.load(alloc, &content.streams),
+            _ => {
+                self.boxed.init();
+                Ok(())
+            }
+        }
+    }
+}
+
+/// An activation of an object, open while it has one.
 #[derive(Drop)]
 pub struct Activation {
-    pub act: u32,
-    pub class: ClassId,
-    pub seat: Option<Seat>,
-    pub last: u32,
-    pub reply: Answer,
-    pub states: States,
-    pub saved: Option<Stored>,
-    pub s: u32,
-    pub w: u32,
-    pub g: Option<u32>,
+    pub(crate) facts: Facts,
+    pub(crate) seat: Option<Seat>,
 }
 
 /// A server.
 #[derive(Drop)]
 pub struct ServerCore {
-    inc: u32,
-    numbers: u32,
-    acts: Vec<Activation>,
+    pub(crate) inc: u32,
+    pub(crate) numbers: u32,
+    pub(crate) acts: Vec<Activation>,
 }
 
 impl ServerCore {
-    /// A server without activations.
+    /// A server of this incarnation without activations. It may have so many activations, and each so many writes.
     pub fn new(alloc: Global, inc: u32, numbers: u32) -> ServerCore
-        ensures { seen (λ s. (⟦<dyn Embedded as Embedded>⟧ s.boxed.vtable).content s.boxed.value) result ≡ record { inc = inc; numbers = numbers; acts = [] } }
+        ensures { seen (λ s. content s.boxed) result ≡ record { inc = inc; numbers = numbers; acts = [] } }
     {
         ServerCore {
             inc,
@@ -52,8 +67,47 @@ impl ServerCore {
         }
     }
 
-    fn try_one(&mut self, boxed: Box<dyn Embedded>)
-        ensures { content boxed ≡ content boxed }
+    // Where an activation stands.
+    pub(crate) fn place(&self, act: u32) -> Option<usize>
+        ensures { MatchOption result (find (is_act act) (seen (λ s. content s.boxed) self.now).acts ≡ None) (IsPlace (is_act act) (seen (λ s. content s.boxed) self.now).acts) }
     {
+        for (i, activation) in self.acts.iter().enumerate() {
+            if activation.facts.act() == act {
+                return Some(i);
+            }
+        }
+        None
+    }
+
+    // The activation of this number.
+    pub(crate) fn activation_of(&self, act: u32) -> Option<&Activation>
+        ensures { option_map (λ a. seen_activation (λ s. content s.boxed) a.now) result ≡ find (is_act act) (seen (λ s. content s.boxed) self.now).acts }
+    {
+        match self.place(act) {
+            Some(i) => Some(&self.acts[i]),
+            None => None,
+        }
+    }
+
+    /// What is seen of an activation, none where it isn't known.
+    pub fn activation(&self, act: u32) -> Option<ActivationView>
+        ensures { result ≡ option_map view_of (find (is_act act) (seen (λ s. content s.boxed) self.now).acts) }
+    {
+        match self.activation_of(act) {
+            Some(activation) => Some(activation.facts.view(activation.seat.is_some())),
+            None => None,
+        }
+    }
+
+    /// The reply to an activation's last call, none where it isn't known.
+    ///
+    /// Refused for want of memory alone.
+    pub fn last_reply(&self, alloc: Global, act: u32) -> Result<Option<Message>, AllocError>
+        ensures { IfOk result (λ r. r ≡ last_reply (seen (λ s. content s.boxed) self.now) act) }
+    {
+        match self.activation_of(act) {
+            Some(activation) => Ok(Some(activation.facts.last_reply(alloc, self.inc)?)),
+            None => Ok(None),
+        }
     }
 }

@@ -1,0 +1,247 @@
+//! What a server does with calls.
+
+ghost use Rattle.std.specs.Prelude.{◌≡◌, ◌++◌, ◌∷◌, [], ℕ, Some, None, Option, true, false, IfErr, IfOk, OnErr, Ok, option_map, is_some, vec_capacity, vec_len, ◌<◌};
+ghost use Rattle.wire_msgs.specs.Found.{IsPlace, find};
+ghost use Rattle.embed_core.specs.Kinds.{Kind, kind_of};
+ghost use Rattle.server_core.specs.Server.{Refuses, Takes, after_begun, begins, begun_class, begun_content, begun_states, called, answers, fresh, offered, is_act, on_call, unknown_call, unless_wanted, wanted, wanted_unknown};
+ghost use Rattle.server_core.specs.Opened.{TakesCall, first_class};
+ghost use Rattle.server_core.specs.View.{seen};
+ghost use Rattle.wire_msgs.specs.declared.answer.Answer.TheVariants as answer;
+
+use crate::facts::{Answered, Facts};
+use crate::fault::ServerFault;
+use crate::refusal::{Reaction, Refusal};
+use crate::server::{Activation, Seat, ServerCore};
+use embed_core::embedded::Embedded;
+use embed_core::fault::EmbedFault;
+use object_state::States;
+use std::alloc::Global;
+use storage_tree::class_id::ClassId;
+use wire_msgs::answer::Answer;
+use wire_msgs::message::Message;
+use wire_msgs::operation::Operation;
+use wire_msgs::refusal::Refusal as Why;
+
+// The class that a call begins an activation of, where it is a first one.
+fn begun_class(n: u32, operation: &Operation) -> Option<ClassId>
+    ensures { result ≡ begun_class n operation.now }
+{
+    match operation {
+        Operation::InitNew(class) | Operation::Load(class, _) if n == 1 => Some(*class),
+        _ => None,
+    }
+}
+
+// The states after a first InitNew or Load.
+fn begun_states(operation: &Operation) -> States
+    ensures { result ≡ begun_states operation.now }
+{
+    let loaded = States::new();
+    match loaded.step(operation.op()) {
+        Ok(states) => states,
+        Err(_) => loaded,
+    }
+}
+
+impl ServerCore {
+    // A call of the activation that stands at i.
+    fn known(&mut self, alloc: Global, i: usize, act: u32, n: u32, operation: Operation) -> Result<Answered, ServerFault>
+        requires { IsPlace (is_act act) (seen (λ s. content s.boxed) self.old).acts i }
+        ensures acted { IfOk result (λ t. (box : Option Kind) → called (seen (λ s. content s.boxed) self.old) act n operation box (find (is_act act) (seen (λ s. content s.boxed) self.old).acts) ≡ Ok (record { server = seen (λ s. content s.boxed) self.new; answer = t.answer; counted = t.counted; used = false })) }
+        ensures refused { IfErr result (λ e. (box : Option Kind) → Refuses (called (seen (λ s. content s.boxed) self.old) act n operation box (find (is_act act) (seen (λ s. content s.boxed) self.old).acts)) e) }
+        ensures kept { OnErr result (seen (λ s. content s.boxed) self.new ≡ seen (λ s. content s.boxed) self.old) }
+    {
+        self.acts[i].on_call(alloc, n, operation)
+    }
+
+    // One more activation, into reserved room.
+    #[tactic(auto, using(crate::proofs::Places::seen_push))]
+    fn push(&mut self, facts: Facts, seat: Option<Seat>)
+        requires { vec_len self.old.acts < vec_capacity self.old.acts }
+        ensures { seen (λ s. content s.boxed) self.new ≡ record (seen (λ s. content s.boxed) self.old) { acts = (seen (λ s. content s.boxed) self.old).acts ++ record facts { content = option_map (λ s. content s.boxed) seat } ∷ [] } }
+    {
+        self.acts.push_reserved(Activation { facts, seat });
+    }
+
+    // A first call that the object refused: the activation is closed.
+    fn push_closed(&mut self, act: u32, class: ClassId, refusal: Why) -> Answer
+        requires { vec_len self.old.acts < vec_capacity self.old.acts }
+        ensures pushed { seen (λ s. content s.boxed) self.new ≡ record (seen (λ s. content s.boxed) self.old) { acts = (seen (λ s. content s.boxed) self.old).acts ++ (answers (fresh act class) (answer.Refused refusal)).activation ∷ [] } }
+        ensures answered { result ≡ answer.Refused refusal }
+    {
+        self.push(Facts::closed(act, class, refusal), None);
+        Answer::Refused(refusal)
+    }
+
+    // A first call, with an object of its class.
+    fn begin(&mut self, alloc: Global, act: u32, class: ClassId, operation: &Operation, boxed: Box<dyn Embedded>) -> Result<Answer, Refusal>
+        ensures begun { IfOk result (λ a. after_begun (seen (λ s. content s.boxed) self.old) (begins act class operation.now (begun_content (kind_of (content boxed)) operation.now)) ≡ Ok (record { server = seen (λ s. content s.boxed) self.new; answer = a; counted = None; used = true })) }
+        ensures refused { IfErr result (λ r. r.fault ≡ ServerFault.NoMemory) }
+        ensures handed_back { IfErr result (λ r. option_map (λ b. content b) r.back ≡ Some (content boxed)) }
+        ensures kept { OnErr result (seen (λ s. content s.boxed) self.new ≡ seen (λ s. content s.boxed) self.old) }
+    {
+        if self.acts.reserve(1).is_err() {
+            return Err(Refusal::no_memory(boxed));
+        }
+        let mut seat = Seat { boxed };
+        match seat.begin(alloc, operation) {
+            Ok(()) => {
+                self.push(Facts::opened(act, class, begun_states(operation)), Some(seat));
+                Ok(Answer::Done)
+            }
+            Err(EmbedFault::BadEdit) => Ok(self.push_closed(act, class, Why::BadEdit)),
+            Err(EmbedFault::BadContent) => Ok(self.push_closed(act, class, Why::BadContent)),
+            Err(EmbedFault::TooBig) => Ok(self.push_closed(act, class, Why::TooBig)),
+            Err(EmbedFault::NoMemory) => Err(Refusal::no_memory(seat.boxed)),
+        }
+    }
+
+    // A call of the activation that stands at i. The object isn't used.
+    fn known_call(&mut self, alloc: Global, i: usize, act: u32, n: u32, operation: Operation, boxed: Option<Box<dyn Embedded>>) -> Result<Reaction, Refusal>
+        requires { IsPlace (is_act act) (seen (λ s. content s.boxed) self.old).acts i }
+        ensures acted { IfOk result (λ r. TakesCall (seen (λ s. content s.boxed) self.old) act n operation (option_map (λ b. kind_of (content b)) boxed) (find (is_act act) (seen (λ s. content s.boxed) self.old).acts) (seen (λ s. content s.boxed) self.new) r.reply r.counted) }
+        ensures back { IfOk result (λ r. r.back ≡ unless_wanted (wanted_unknown (seen (λ s. content s.boxed) self.old) (begun_class n operation) (find (is_act act) (seen (λ s. content s.boxed) self.old).acts)) boxed) }
+        ensures refused { IfErr result (λ r. Refuses (called (seen (λ s. content s.boxed) self.old) act n operation (option_map (λ b. kind_of (content b)) boxed) (find (is_act act) (seen (λ s. content s.boxed) self.old).acts)) r.fault) }
+        ensures handed_back { IfErr result (λ r. option_map (λ b. content b) r.back ≡ option_map (λ b. content b) boxed) }
+        ensures kept { OnErr result (seen (λ s. content s.boxed) self.new ≡ seen (λ s. content s.boxed) self.old) }
+    {
+        let inc = self.inc;
+        match self.known(alloc, i, act, n, operation) {
+            Ok(answered) => Ok(Reaction {
+                reply: Message::Reply {
+                    inc,
+                    act,
+                    n,
+                    answer: answered.answer,
+                },
+                counted: answered.counted,
+                back: boxed,
+            }),
+            Err(fault) => Err(Refusal { fault, back: boxed }),
+        }
+    }
+
+    // The class that a call begins an activation of, where the server may have one more.
+    fn first_class(&self, n: u32, operation: &Operation) -> Result<ClassId, ServerFault>
+        ensures { result ≡ first_class (seen (λ s. content s.boxed) self.now) (begun_class n operation.now) }
+    {
+        let Some(class) = begun_class(n, operation) else {
+            return Err(ServerFault::Ignored);
+        };
+        if self.acts.len() >= self.numbers as usize {
+            return Err(ServerFault::NumbersSpent);
+        }
+        Ok(class)
+    }
+
+    // A first call, with the object that was handed in.
+    fn offered(&mut self, alloc: Global, act: u32, class: ClassId, operation: &Operation, boxed: Option<Box<dyn Embedded>>) -> Result<Answer, Refusal>
+        ensures acted { IfOk result (λ a. offered (seen (λ s. content s.boxed) self.old) act class operation.now (option_map (λ b. kind_of (content b)) boxed) ≡ Ok (record { server = seen (λ s. content s.boxed) self.new; answer = a; counted = None; used = true })) }
+        ensures refused { IfErr result (λ r. Refuses (offered (seen (λ s. content s.boxed) self.old) act class operation.now (option_map (λ b. kind_of (content b)) boxed)) r.fault) }
+        ensures handed_back { IfErr result (λ r. option_map (λ b. content b) r.back ≡ option_map (λ b. content b) boxed) }
+        ensures kept { OnErr result (seen (λ s. content s.boxed) self.new ≡ seen (λ s. content s.boxed) self.old) }
+    {
+        let Some(boxed) = boxed else {
+            return Err(Refusal {
+                fault: ServerFault::NeedObject,
+                back: None,
+            });
+        };
+        if boxed.class() != class {
+            return Err(Refusal {
+                fault: ServerFault::WrongClass,
+                back: Some(boxed),
+            });
+        }
+        self.begin(alloc, act, class, operation, boxed)
+    }
+
+    // A call of an activation that isn't known.
+    fn unknown_call(&mut self, alloc: Global, act: u32, n: u32, operation: Operation, boxed: Option<Box<dyn Embedded>>) -> Result<Reaction, Refusal>
+        ensures acted { IfOk result (λ r. TakesCall (seen (λ s. content s.boxed) self.old) act n operation (option_map (λ b. kind_of (content b)) boxed) None (seen (λ s. content s.boxed) self.new) r.reply r.counted) }
+        ensures back { IfOk result (λ r. r.back ≡ unless_wanted (wanted_unknown (seen (λ s. content s.boxed) self.old) (begun_class n operation) None) boxed) }
+        ensures refused { IfErr result (λ r. Refuses (called (seen (λ s. content s.boxed) self.old) act n operation (option_map (λ b. kind_of (content b)) boxed) None) r.fault) }
+        ensures handed_back { IfErr result (λ r. option_map (λ b. content b) r.back ≡ option_map (λ b. content b) boxed) }
+        ensures kept { OnErr result (seen (λ s. content s.boxed) self.new ≡ seen (λ s. content s.boxed) self.old) }
+    {
+        let class = match self.first_class(n, &operation) {
+            Ok(class) => class,
+            Err(fault) => return Err(Refusal { fault, back: boxed }),
+        };
+        let inc = self.inc;
+        match self.offered(alloc, act, class, &operation, boxed) {
+            Ok(answer) => Ok(Reaction {
+                reply: Message::Reply {
+                    inc,
+                    act,
+                    n,
+                    answer,
+                },
+                counted: None,
+                back: None,
+            }),
+            Err(refusal) => Err(refusal),
+        }
+    }
+
+    /// The class of the object that a message needs, where it makes an activation: none for a message that makes none.
+    pub fn wants(&self, message: &Message) -> Option<ClassId>
+        ensures { result ≡ wanted (seen (λ s. content s.boxed) self.now) message.now }
+    {
+        let Message::Call {
+            inc,
+            act,
+            n,
+            operation,
+        } = message
+        else {
+            return None;
+        };
+        if *inc != self.inc || self.place(*act).is_some() {
+            return None;
+        }
+        match self.first_class(*n, operation) {
+            Ok(class) => Some(class),
+            Err(_) => None,
+        }
+    }
+
+    /// What a message does, with an object handed in for an activation that it makes, or none. The activation's next
+    /// call acts, its last is answered again.
+    ///
+    /// Refused: `WrongIncarnation` a call for another incarnation; `Ignored` what isn't a call, a call of an unknown
+    /// activation but for a first InitNew or Load, a call of a known one that is neither the last nor the next, or the
+    /// next of a closed one; `NumbersSpent` where the server has as many activations as it may have; `NeedObject`
+    /// where there is none to make the activation with; `WrongClass` where it is of another class; then `NoMemory`.
+    /// Then nothing changes, and the object comes back with its content.
+    pub fn on_call(&mut self, alloc: Global, message: Message, boxed: Option<Box<dyn Embedded>>) -> Result<Reaction, Refusal>
+        ensures acted { IfOk result (λ r. Takes (seen (λ s. content s.boxed) self.old) message (option_map (λ b. kind_of (content b)) boxed) (seen (λ s. content s.boxed) self.new) r.reply r.counted) }
+        ensures back { IfOk result (λ r. r.back ≡ unless_wanted (wanted (seen (λ s. content s.boxed) self.old) message) boxed) }
+        ensures refused { IfErr result (λ r. Refuses (on_call (seen (λ s. content s.boxed) self.old) message (option_map (λ b. kind_of (content b)) boxed)) r.fault) }
+        ensures handed_back { IfErr result (λ r. option_map (λ b. content b) r.back ≡ option_map (λ b. content b) boxed) }
+        ensures kept { OnErr result (seen (λ s. content s.boxed) self.new ≡ seen (λ s. content s.boxed) self.old) }
+    {
+        let Message::Call {
+            inc,
+            act,
+            n,
+            operation,
+        } = message
+        else {
+            return Err(Refusal {
+                fault: ServerFault::Ignored,
+                back: boxed,
+            });
+        };
+        if inc != self.inc {
+            return Err(Refusal {
+                fault: ServerFault::WrongIncarnation,
+                back: boxed,
+            });
+        }
+        match self.place(act) {
+            Some(i) => self.known_call(alloc, i, act, n, operation, boxed),
+            None => self.unknown_call(alloc, act, n, operation, boxed),
+        }
+    }
+}

@@ -1,0 +1,54 @@
+//! What a server sends of its own accord.
+
+ghost use Rattle.std.specs.Prelude.{◌≡◌, Err, IfErr, IfOk, OnErr};
+ghost use Rattle.wire_msgs.specs.Found.{IsPlace, find};
+ghost use Rattle.server_core.specs.Server.{Refuses, Tells, ask_deactivate, is_act, scribble, scribbled};
+ghost use Rattle.server_core.specs.View.{seen};
+
+use crate::fault::ServerFault;
+use crate::server::ServerCore;
+use std::alloc::Global;
+use wire_msgs::message::Message;
+
+impl ServerCore {
+    // The activation that stands at i writes.
+    fn scribble_at(&mut self, alloc: Global, i: usize, act: u32) -> Result<Message, ServerFault>
+        requires { IsPlace (is_act act) (seen (λ s. content s.boxed) self.old).acts i }
+        ensures told { IfOk result (λ m. Tells (scribbled (seen (λ s. content s.boxed) self.old) (find (is_act act) (seen (λ s. content s.boxed) self.old).acts)) (seen (λ s. content s.boxed) self.new) m) }
+        ensures refused { IfErr result (Refuses (scribbled (seen (λ s. content s.boxed) self.old) (find (is_act act) (seen (λ s. content s.boxed) self.old).acts))) }
+        ensures kept { OnErr result (seen (λ s. content s.boxed) self.new ≡ seen (λ s. content s.boxed) self.old) }
+    {
+        self.acts[i].write(alloc, self.inc, self.numbers)
+    }
+
+    /// An activation writes the content that it has now.
+    ///
+    /// Refused: `Ignored` where it isn't known, is closed or may not write into its storage; `NumbersSpent` where it
+    /// made as many writes as it may; then `NoMemory`. Then nothing changes.
+    pub fn scribble(&mut self, alloc: Global, act: u32) -> Result<Message, ServerFault>
+        ensures told { IfOk result (λ m. Tells (scribble (seen (λ s. content s.boxed) self.old) act) (seen (λ s. content s.boxed) self.new) m) }
+        ensures refused { IfErr result (Refuses (scribble (seen (λ s. content s.boxed) self.old) act)) }
+        ensures kept { OnErr result (seen (λ s. content s.boxed) self.new ≡ seen (λ s. content s.boxed) self.old) }
+    {
+        match self.place(act) {
+            Some(i) => self.scribble_at(alloc, i, act),
+            None => Err(ServerFault::Ignored),
+        }
+    }
+
+    /// An activation asks to be relieved of its frame's menus and border space. The server stays as it is.
+    ///
+    /// Refused: `Ignored` where it isn't known or has no grant.
+    pub fn ask_deactivate(&self, act: u32) -> Result<Message, ServerFault>
+        ensures told { IfOk result (λ m. Tells (ask_deactivate (seen (λ s. content s.boxed) self.now) act) (seen (λ s. content s.boxed) self.now) m) }
+        ensures refused { IfErr result (λ fault. ask_deactivate (seen (λ s. content s.boxed) self.now) act ≡ Err fault) }
+    {
+        let Some(activation) = self.activation_of(act) else {
+            return Err(ServerFault::Ignored);
+        };
+        match activation.facts.ask(self.inc) {
+            Some(message) => Ok(message),
+            None => Err(ServerFault::Ignored),
+        }
+    }
+}
