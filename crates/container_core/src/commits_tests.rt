@@ -1,5 +1,8 @@
 //! Documents, their files, and commits.
 
+ghost use Rattle.std.specs.Prelude.{◌≡◌, ◌≤◌, Some, ℕ};
+ghost use Rattle.container_core.specs.Room.{IsRoomy};
+
 use crate::answer::{Action, Part};
 use crate::container::{ContainerCore, Limits};
 use crate::documents::file_of;
@@ -79,10 +82,13 @@ fn a_container_without_frames_commits_none(rt: HostRuntime) -> Result<(), Fail> 
     Ok(())
 }
 
-/// An object of frame 1.
-fn object(alloc: Global, number: u32, work: Stored, link: Option<Link>) -> Object {
+/// Object 1 of frame 1.
+fn object(alloc: Global, work: Stored, link: Link) -> Object
+    ensures frame { result.frame ≡ 1 }
+    ensures link { result.link ≡ Some link }
+{
     Object {
-        number,
+        number: 1,
         frame: 1,
         class: ClassId::from_bytes([7; 16]),
         user_type: Bytes::new(alloc),
@@ -93,7 +99,38 @@ fn object(alloc: Global, number: u32, work: Stored, link: Option<Link>) -> Objec
             h: 1,
         },
         work,
-        link,
+        link: Some(link),
+    }
+}
+
+/// A frame whose save of number 3 is to be committed.
+fn frame(alloc: Global) -> Frame
+    ensures save { result.k ≡ 3 }
+{
+    Frame {
+        name: Bytes::new(alloc),
+        asked: None,
+        k: 3,
+        ui: FrameUi::new(80, 25),
+        stored: false,
+        phase: Phase::Committing,
+    }
+}
+
+/// An activation that answered this content in the present save.
+fn link(alloc: Global, saved: Stored) -> Link
+    ensures { (more : ℕ) → more ≤ 1 → IsRoomy 100 more result }
+{
+    Link {
+        inc: 1,
+        act: 1,
+        last: 2,
+        pending: None,
+        waiting: Items::new(alloc),
+        states: States::new(),
+        s: 1,
+        w: 0,
+        saved: Some(saved),
     }
 }
 
@@ -104,31 +141,14 @@ fn content(alloc: Global, bytes: &[u8]) -> Result<Stored, Fail> {
     Ok(content)
 }
 
-/// A container whose only frame awaits its commit, with a running object that answered the bytes 5, 6 in this save.
+/// A container whose only frame is to be committed, with a running object that answered the bytes 5, 6.
 fn committing(alloc: Global) -> Result<ContainerCore, Fail> {
     let mut frames = Vec::new(alloc);
-    frames.push(Frame {
-        name: Bytes::new(alloc),
-        asked: None,
-        k: 3,
-        ui: FrameUi::new(80, 25),
-        stored: false,
-        phase: Phase::Committing,
-    })?;
-    let link = Link {
-        inc: 1,
-        act: 1,
-        last: 2,
-        pending: None,
-        waiting: Items::new(alloc),
-        states: States::new(),
-        s: 1,
-        w: 0,
-        saved: Some(content(alloc, &[5, 6])?),
-    };
+    frames.push(frame(alloc))?;
+    let saved = content(alloc, &[5, 6])?;
     let work = content(alloc, &[4])?;
     let mut objects = Vec::new(alloc);
-    objects.push(object(alloc, 1, work, Some(link)))?;
+    objects.push(object(alloc, work, link(alloc, saved)))?;
     Ok(ContainerCore {
         frames,
         objects,
