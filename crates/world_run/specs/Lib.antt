@@ -4,3 +4,4 @@ pub mod Starts
 pub mod Rooms
 pub mod Files
 pub mod View
+pub mod Plans

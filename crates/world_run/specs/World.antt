@@ -9,7 +9,8 @@ use Rattle.wire_msgs.specs.declared.operation.Operation.{Operation}
 use Rattle.storage_tree.specs.declared.stored.Stored.{Stored}
 use Rattle.stream_io.specs.Denotes.{Denotes}
 use Rattle.embed_core.specs.Kinds.{Kind, class_of}
-use Rattle.server_core.specs.Server.{Server, Activation, Served, Counted, on_call, wanted, is_act}
+use Rattle.server_core.specs.Server.{Server, Activation, Served, on_call, wanted, is_act}
+use Rattle.server_core.specs.declared.counted.Counted.{Counted}
 use Rattle.server_core.specs.declared.fault.ServerFault.{ServerFault}
 use Rattle.container_core.specs.Record.{Record, Took, empty, quiet_answer}
 use Rattle.container_core.specs.Commands.{on_command}

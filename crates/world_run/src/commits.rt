@@ -1,6 +1,6 @@
 //! What a commit that is done leaves in a world.
 
-ghost use Rattle.std.specs.Prelude.{◌++◌, ◌∷◌, [], ◌+◌, ◌<◌, ◌≤◌, ◌≡◌, IfOk, IfErr, IfSome, MatchOption, length, OnErr, Ok, Some, None, List, ℕ, map, option_copied, vec_len, vec_capacity};
+ghost use Rattle.std.specs.Prelude.{◌++◌, ◌∷◌, [], ◌+◌, ◌<◌, ◌≤◌, ◌≡◌, IfOk, IfErr, IfSome, MatchOption, length, true, OnErr, OnOk, Ok, Some, None, List, ℕ, map, option_copied, vec_len, vec_capacity};
 ghost use Rattle.wire_msgs.specs.Found.{nth, set_nth, find};
 ghost use Rattle.container_core.specs.Saves.{commit_done, image, document_tree, name_after};
 ghost use Rattle.container_core.specs.declared.record.Phase.TheVariants as phase;
@@ -14,7 +14,6 @@ ghost use Rattle.world_run.specs.View.{bare, started};
 use crate::event::Stop;
 use crate::ledger::{Ledger, Room, add, add_all};
 use crate::logs::{Document, Done, File};
-use crate::standin::commit_done;
 use container_core::answer::Part;
 use container_core::fault::ContainerFault;
 use container_core::record::{Frame, Phase};
@@ -118,7 +117,7 @@ impl Ledger {
         self.reserve(count)?;
         self.files.reserve(1)?;
         self.container_done.reserve(entries.len())?;
-        match commit_done(&mut self.core, alloc, f) {
+        match self.core.commit_done(alloc, f) {
             Ok(answer) => {
                 put_file(&mut self.files, name, Bytes::from_vec(bytes));
                 add_all(&mut self.container_done, entries);
@@ -129,10 +128,12 @@ impl Ledger {
         }
     }
 
-    /// The commit of a frame's file is done: the file denotes its document. Gives the servers that are started.
+    /// The commit of a frame's file is done: the file denotes its document. Gives the servers that are started, for
+    /// which there is room or not.
     ///
     /// Refused: `NotEnabled` where the commit isn't asked for; then `EventLimit`; then `NoMemory`. Then nothing changes.
-    pub(crate) fn done(&mut self, alloc: Global, f: u32) -> Result<Vec<u32>, Stop>
+    pub(crate) fn done(&mut self, alloc: Global, f: u32, room: bool) -> Result<Vec<u32>, Stop>
+        ensures room { OnOk result (room ≡ true) }
         ensures taken { IfOk result (λ starts. (bytes : List ℕ) × IsImage (bare self.old) bytes (event.Done f) × (limited (bare self.old) (done (bare self.old) f bytes) ≡ Ok (started (bare self.new) self.new.core.numbers starts.items))) }
         ensures few { IfOk result (λ starts. vec_len starts ≤ most self.old.core) }
         ensures refused { IfErr result (λ stop. (bytes : List ℕ) → Refuses (limited (bare self.old) (done (bare self.old) f bytes)) stop) }
@@ -145,6 +146,9 @@ impl Ledger {
             Ok((parts, bytes)) => {
                 if self.is_full() {
                     return Err(Stop::EventLimit);
+                }
+                if !room {
+                    return Err(Stop::NoMemory);
                 }
                 match self.commit(alloc, f, parts, bytes) {
                     Ok(starts) => Ok(starts),

@@ -1,21 +1,24 @@
 //! What a world keeps besides its servers and its stock.
 
-ghost use Rattle.std.specs.Prelude.{[], ◌∷◌, ◌++◌, ◌+◌, ◌≤◌, ◌<◌, ◌^◌, ◌≡◌, IfErr, IfOk, OnErr, OnOk, Ok, length, map, nat_le, vec_len, vec_capacity};
+ghost use Rattle.std.specs.Prelude.{[], ◌∷◌, ◌++◌, ◌+◌, ◌≤◌, ◌<◌, ◌^◌, ◌≡◌, IfErr, IfOk, OnErr, OnOk, Ok, length, map, nat_le, false, vec_len, vec_capacity};
 ghost use Rattle.std.specs.List.{range_with_len};
 ghost use Rattle.container_core.specs.Commands.{on_command};
 ghost use Rattle.container_core.specs.Messages.{on_message, on_reap};
-ghost use Rattle.world_run.specs.World.{messages_of, commits_of, of_container, joined, uncounted, took, limited, commanded, owners_by, empty_world, Refuses, MOST_EVENTS};
+ghost use Rattle.world_run.specs.World.{messages_of, commits_of, of_container, joined, uncounted, took, owner, counted_by, quiet_outcome, limited, commanded, owners_by, empty_world, Refuses, MOST_EVENTS};
+ghost use Rattle.world_run.specs.declared.logs.EventAnswer.TheVariants as told;
 ghost use Rattle.world_run.specs.Starts.{starts_of};
-ghost use Rattle.world_run.specs.Rooms.{HasLogRoom, IsRoom, most};
+ghost use Rattle.world_run.specs.Rooms.{HasLogRoom, HasReplyRoom, IsBarred, IsRoom, most, replied};
 ghost use Rattle.world_run.specs.View.{bare, started};
 
 use crate::event::Stop;
-use crate::logs::{Document, Done, EventAnswer, File, Outcome, Sent, ServerDone};
-use crate::standin::{commit_done, on_command, on_message, on_reap};
+use crate::logs::{Document, Done, EventAnswer, File, Outcome, Sent, ServerDone, View};
+use crate::standin::on_command;
 use container_core::answer::{Action, Answer};
 use container_core::command::Command;
 use container_core::container::{ContainerCore, Limits};
 use container_core::fault::ContainerFault;
+use server_core::counted::Counted;
+use server_core::fault::ServerFault;
 use std::alloc::{AllocError, Global};
 use wire_msgs::items::Items;
 use wire_msgs::message::Message;
@@ -260,7 +263,7 @@ impl Ledger {
         let count = self.most();
         let room = Room::new(alloc, count)?;
         self.reserve(count)?;
-        match on_message(&mut self.core, alloc, inc, message) {
+        match self.core.on_message(alloc, inc, message) {
             Ok(answer) => Ok(self.join(answer, room)),
             Err(ContainerFault::NoMemory) => Err(AllocError),
             Err(fault) => {
@@ -281,7 +284,7 @@ impl Ledger {
         let count = self.most();
         let room = Room::new(alloc, count)?;
         self.reserve(count)?;
-        match on_reap(&mut self.core, alloc, inc) {
+        match self.core.on_reap(alloc, inc) {
             Ok(answer) => Ok(self.join(answer, room)),
             Err(ContainerFault::NoMemory) => Err(AllocError),
             Err(fault) => {
@@ -289,5 +292,117 @@ impl Ledger {
                 Ok(room.starts)
             }
         }
+    }
+
+    /// Room for the answer of one event.
+    ///
+    /// Refused: `EventLimit` where a world takes no more events, else `NoMemory`.
+    pub(crate) fn open(&mut self) -> Result<(), Stop>
+        ensures open { OnOk result (nat_le MOST_EVENTS (length self.old.answers.items) ≡ false) }
+        ensures room { OnOk result (vec_len self.new.answers < vec_capacity self.new.answers) }
+        ensures barred { IfErr result (IsBarred (nat_le MOST_EVENTS (length self.old.answers.items))) }
+        ensures kept { bare self.new ≡ bare self.old }
+    {
+        if self.is_full() {
+            return Err(Stop::EventLimit);
+        }
+        match self.answers.reserve(1) {
+            Ok(()) => Ok(()),
+            Err(_) => Err(Stop::NoMemory),
+        }
+    }
+
+    /// An event that led to nothing.
+    pub(crate) fn quiet(&mut self, alloc: Global)
+        requires { vec_len self.old.answers < vec_capacity self.old.answers }
+        ensures { bare self.new ≡ record (bare self.old) { answers = self.old.answers.items ++ told.Took quiet_outcome ∷ [] } }
+    {
+        add(&mut self.answers, EventAnswer::Took(Outcome::quiet(alloc)));
+    }
+
+    /// A message that a server did nothing with.
+    pub(crate) fn unheard(&mut self, fault: ServerFault)
+        requires { vec_len self.old.answers < vec_capacity self.old.answers }
+        ensures { bare self.new ≡ record (bare self.old) { answers = self.old.answers.items ++ told.Unheard fault ∷ [] } }
+    {
+        add(&mut self.answers, EventAnswer::Unheard(fault));
+    }
+
+    // The object that an activation was made for, 0 where there is none.
+    fn owner(&self, act: u32) -> u32
+        ensures { result ≡ owner (bare self.now) act }
+    {
+        if act == 0 {
+            return 0;
+        }
+        let place = (act - 1) as usize;
+        if place < self.owners.len() {
+            self.owners[place]
+        } else {
+            0
+        }
+    }
+
+    /// Room for a reply; gives room for its place.
+    pub(crate) fn reply_room(&mut self, alloc: Global) -> Result<Vec<u32>, AllocError>
+        ensures place { IfOk result (λ v. v.items ≡ []) }
+        ensures place_room { IfOk result (λ v. 1 ≤ vec_capacity v) }
+        ensures room { OnOk result (HasReplyRoom self.new) }
+        ensures answers { vec_len self.old.answers < vec_capacity self.old.answers → vec_len self.new.answers < vec_capacity self.new.answers }
+        ensures kept { bare self.new ≡ bare self.old }
+    {
+        let place = Vec::with_capacity(alloc, 1)?;
+        self.sent.reserve(1)?;
+        self.server_done.reserve(1)?;
+        if self.sent.len() >= 0xffff_ffff {
+            return Err(AllocError);
+        }
+        Ok(place)
+    }
+
+    // What a server counted.
+    fn count(&mut self, inc: u32, counted: Option<Counted>)
+        requires { vec_len self.old.server_done < vec_capacity self.old.server_done }
+        ensures { bare self.new ≡ record (bare self.old) { server_done = self.old.server_done.items ++ counted_by (bare self.old) inc counted } }
+    {
+        match counted {
+            Some(counted) => {
+                let Counted { act, k, content } = counted;
+                let object = self.owner(act);
+                add(
+                    &mut self.server_done,
+                    ServerDone {
+                        inc,
+                        object,
+                        k,
+                        content,
+                    },
+                );
+            }
+            None => {}
+        }
+    }
+
+    /// A reply of a server, its activation's state just before, and what the server counted.
+    pub(crate) fn replied(&mut self, alloc: Global, inc: u32, view: Option<View>, reply: Message, counted: Option<Counted>, place: Vec<u32>)
+        requires place { place.items ≡ [] }
+        requires place_room { 1 ≤ vec_capacity place }
+        requires room { HasReplyRoom self.old }
+        requires answers { vec_len self.old.answers < vec_capacity self.old.answers }
+        ensures { bare self.new ≡ replied (bare self.old) inc view reply counted }
+    {
+        let mut place = place;
+        number(&mut place, self.sent.len(), 1);
+        add(
+            &mut self.sent,
+            Sent {
+                message: reply,
+                view,
+            },
+        );
+        let mut outcome = Outcome::quiet(alloc);
+        outcome.sent = Items::from_vec(place);
+        add(&mut self.answers, EventAnswer::Took(outcome));
+        self.count(inc, counted);
     }
 }

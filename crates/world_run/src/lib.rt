@@ -6,6 +6,7 @@ pub mod event;
 pub mod instance;
 pub mod ledger;
 pub mod logs;
+mod plan;
 mod standin;
 pub mod stock;
 pub mod world;
