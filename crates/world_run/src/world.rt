@@ -1,10 +1,10 @@
 //! A world.
 
-ghost use Rattle.std.specs.Prelude.{◌≡◌, ◌≤◌, ◌<◌, ◌+◌, ◌++◌, [], List, ℕ, IfErr, IfOk, IfSome, MatchOption, None, OnErr, OnOk, Ok, Err, Some, length, map, option_map, slice_get, take, vec_len, vec_capacity};
+ghost use Rattle.std.specs.Prelude.{◌≡◌, ◌≤◌, ◌<◌, ◌+◌, ◌++◌, [], List, ℕ, IfErr, IfOk, IfSome, IsSome, MatchOption, None, OnErr, OnOk, Ok, Err, Some, length, map, option_map, slice_get, take, vec_len, vec_capacity};
 ghost use Rattle.container_core.specs.Commands.{on_command};
 ghost use Rattle.container_core.specs.Messages.{on_message, on_reap};
 ghost use Rattle.container_core.specs.Numbered.{IsNth};
-ghost use Rattle.wire_msgs.specs.Found.{nth};
+ghost use Rattle.wire_msgs.specs.Found.{nth, set_nth};
 ghost use Rattle.embed_core.specs.Kinds.{kind_of};
 ghost use Rattle.world_run.specs.declared.event.Event.{Event};
 ghost use Rattle.world_run.specs.declared.plan.Plan.TheVariants as plan;
@@ -121,21 +121,43 @@ impl World {
         }
     }
 
+    #[tactic(auto, using(crate::proofs::Servers::nth_at, crate::proofs::Servers::set_at))]
+    // How far the life of the server that stands at i is.
+    fn set_life(&mut self, i: usize, inc: u32, life: Life)
+        requires { IsNth inc self.old.instances.items i }
+        ensures set { IfSome (nth (seen (λ s. content s.boxed) self.old).instances inc) (λ x. seen (λ s. content s.boxed) self.new ≡ record (seen (λ s. content s.boxed) self.old) { instances = set_nth (seen (λ s. content s.boxed) self.old).instances inc (record x { life = life }) }) }
+        ensures capacity { vec_capacity self.new.instances ≡ vec_capacity self.old.instances }
+        ensures length { vec_len self.new.instances ≡ vec_len self.old.instances }
+    {
+        self.instances[i].life = life;
+    }
+
+    #[tactic(auto, using(crate::proofs::Servers::nth_at))]
+    // The life of a server of this incarnation, and where it stands.
+    fn life(&self, inc: u32) -> Option<(usize, Life)>
+        ensures { MatchOption result (nth (seen (λ s. content s.boxed) self.now).instances inc ≡ None) (λ r. IsNth inc self.now.instances.items r.0 × IfSome (nth (seen (λ s. content s.boxed) self.now).instances inc) (λ x. x.life ≡ r.1) × IsSome (nth (seen (λ s. content s.boxed) self.now).instances inc)) }
+    {
+        match place(&self.instances, inc) {
+            Some(i) => Some((i, self.instances[i].life)),
+            None => None,
+        }
+    }
+
     // A server crashes.
     fn crash(&mut self, alloc: Global, inc: u32) -> Result<(), Stop>
         ensures taken { OnOk result (limited (seen (λ s. content s.boxed) self.old) (crash (seen (λ s. content s.boxed) self.old) inc (nth (seen (λ s. content s.boxed) self.old).instances inc)) ≡ Ok (seen (λ s. content s.boxed) self.new)) }
         ensures refused { IfErr result (Refuses (limited (seen (λ s. content s.boxed) self.old) (crash (seen (λ s. content s.boxed) self.old) inc (nth (seen (λ s. content s.boxed) self.old).instances inc)))) }
         ensures kept { OnErr result (seen (λ s. content s.boxed) self.new ≡ seen (λ s. content s.boxed) self.old) }
     {
-        let Some(i) = place(&self.instances, inc) else {
+        let Some((i, life)) = self.life(inc) else {
             return Err(Stop::NotEnabled);
         };
-        match self.instances[i].life {
+        match life {
             Life::Running => {}
             Life::Ended | Life::Reaped => return Err(Stop::NotEnabled),
         }
         self.ledger.open()?;
-        self.instances[i].life = Life::Ended;
+        self.set_life(i, inc, Life::Ended);
         self.ledger.quiet(alloc);
         Ok(())
     }
@@ -146,10 +168,10 @@ impl World {
         ensures refused { IfErr result (Refuses (limited (seen (λ s. content s.boxed) self.old) (reap (seen (λ s. content s.boxed) self.old) inc (nth (seen (λ s. content s.boxed) self.old).instances inc)))) }
         ensures kept { OnErr result (seen (λ s. content s.boxed) self.new ≡ seen (λ s. content s.boxed) self.old) }
     {
-        let Some(i) = place(&self.instances, inc) else {
+        let Some((i, life)) = self.life(inc) else {
             return Err(Stop::NotEnabled);
         };
-        match self.instances[i].life {
+        match life {
             Life::Ended => {}
             Life::Running | Life::Reaped => return Err(Stop::NotEnabled),
         }
@@ -159,7 +181,7 @@ impl World {
         }
         match self.ledger.reap(alloc, inc) {
             Ok(starts) => {
-                self.instances[i].life = Life::Reaped;
+                self.set_life(i, inc, Life::Reaped);
                 self.start(alloc, starts);
                 Ok(())
             }
@@ -174,9 +196,13 @@ impl World {
         ensures kept { OnErr result (seen (λ s. content s.boxed) self.new ≡ seen (λ s. content s.boxed) self.old) }
     {
         let room = self.instances.reserve(self.ledger.most()).is_ok();
-        let starts = self.ledger.done(alloc, f, room)?;
-        self.start(alloc, starts);
-        Ok(())
+        match self.ledger.done(alloc, f, room) {
+            Ok(starts) => {
+                self.start(alloc, starts);
+                Ok(())
+            }
+            Err(stop) => Err(stop),
+        }
     }
 
     // The state of an activation of the server that stands at i.
@@ -287,10 +313,10 @@ impl World {
         ensures planned { IfOk result (λ p. (delivered (seen (λ s. content s.boxed) self.now) call.now ≡ carried (seen (λ s. content s.boxed) self.now) call.now p) × Fits (seen (λ s. content s.boxed) self.now) call.now p) }
         ensures refused { IfErr result (λ stop. delivered (seen (λ s. content s.boxed) self.now) call.now ≡ Err stop) }
     {
-        let Some(i) = place(&self.instances, inc) else {
+        let Some((i, life)) = self.life(inc) else {
             return Ok(Plan::Quiet);
         };
-        match self.instances[i].life {
+        match life {
             Life::Running => {}
             Life::Ended | Life::Reaped => return Ok(Plan::Quiet),
         }
