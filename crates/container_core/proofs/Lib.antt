@@ -1,13 +1,16 @@
 pub mod LookupPlaces
+pub mod MessageLaws
 pub mod DocumentsTree
 pub mod DocumentsRoom
 pub mod CommitsRoom
 pub mod CommitsObjects
 pub mod CommitsDone
-pub mod MessageLaws
 pub mod MessageReplies
 pub mod MessageSound
 pub mod ServersCounted
 pub mod AskingAll
 pub mod AskingCallers
 pub mod CommitsLaws
+pub mod CommandsRoom
+pub mod CommandsEdit
+pub mod CommandsSave

@@ -1,10 +1,12 @@
-use Rattle.std.proofs.Common.{◌≡◌, ℕ, ◌+◌, ◌<◌, ◌≤◌, Bool, List, map, zero, suc, [], ◌∷◌, ◌++◌, length, get_or, take, drop, refl, ap, sym, ◌∙◌, append_assoc, Some, None, true, false, arith}
+use Rattle.std.proofs.Common.{◌≡◌, ℕ, ◌+◌, ◌<◌, ◌≤◌, Bool, List, map, zero, suc, [], ◌∷◌, ◌++◌, length, get_or, take, drop, if◌then◌else◌, slice_get, IfSome, ◌==◌, Option, refl, ap, sym, ◌∙◌, append_assoc, Some, None, true, false, arith}
 use Rattle.std.proofs.lemmas.List.{drop_more, take_more, set_split}
 use Rattle.std.proofs.lemmas.Option.{slice_get-get_or}
 use Rattle.std.proofs.Math.ListN.{drop_of_length-le, set}
 use Rattle.std.proofs.Math.Numerals.{add-one}
 use Rattle.wire_msgs.specs.Found.{find, put, IsPlace}
-use Rattle.container_core.specs.Numbered.{IsPast}
+use Rattle.container_core.specs.Numbered.{IsObjectAt, IsPast}
+use Rattle.container_core.specs.Record.{is_object}
+use Rattle.container_core.specs.declared.record.Object.{Object}
 
 pub past_none : {A : Type 0} (test : A → Bool) (xs : List A) → IsPast test xs 0
 past_none test xs = record { found = refl; puts = λ a. refl }
@@ -38,3 +40,25 @@ mapped_suc f (y ∷ ys) (suc i) d lt = ap (λ zs. f y ∷ zs) (mapped_suc f ys i
 -- one more item of a list is changed
 pub mapped_more : {A : Type 0} (f : A → A) (ys zs : List A) (i : ℕ) (d n : A) → zs ≡ map f (take i ys) ++ drop i ys → i < length ys → n ≡ f (get_or zs i d) → set zs i n ≡ map f (take (i + 1) ys) ++ drop (i + 1) ys
 mapped_more f ys zs i d n h lt e = ap (set zs i) e ∙ rw (h, add-one) (mapped_suc f ys i d lt)
+
+eq_from_test : (a b : ℕ) → a == b ≡ true → a ≡ b
+eq_from_test a b e = grind arith
+
+-- the object that is found has the number
+found_first : (n : ℕ) (x : Object) (os : List Object) (o : Object) (b : Bool) → x.number == n ≡ b → (find (is_object n) os ≡ Some o → o.number ≡ n) → (if b then Some x else find (is_object n) os) ≡ Some o → o.number ≡ n
+found_first n x os o true t ih e = sym (ap (λ p. elim p [ None ↦ x.number | Some y ↦ y.number ]) e) ∙ eq_from_test x.number n t
+found_first n x os o false t ih e = ih e
+
+found_number : (n : ℕ) (os : List Object) (o : Object) → find (is_object n) os ≡ Some o → o.number ≡ n
+found_number n [] o e = absurd (grind arith)
+found_number n (x ∷ os) o e = found_first n x os o (x.number == n) refl (found_number n os o) e
+
+if_some : {A : Type 0} (P : A → Type 0) (t : Option A) → ((x : A) → t ≡ Some x → P x) → IfSome t P
+if_some P None h = tt
+if_some P (Some x) h = h x refl
+
+pub own_place : (n : ℕ) (os : List Object) (i : ℕ) → IsPlace (is_object n) os i → IsObjectAt os i
+own_place n os i p = record {
+  fits = p.fits;
+  own = if_some (λ o. IsPlace (is_object o.number) os i) (slice_get os i) (λ o e. let h : o.number ≡ n = found_number n os o (p.found ∙ e) in rw h p);
+}

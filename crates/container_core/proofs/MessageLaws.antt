@@ -1,9 +1,8 @@
 -- The laws of messages and of the end of a server.
-use Rattle.std.proofs.Common.{◌≡◌, ◌≢◌, ◌==◌, ℕ, zero, suc, Bool, true, false, List, [], ◌∷◌, map, Option, Some, None, Ok, Err, Result, slice_get, refl, ap, sym, ◌∙◌, subst, if◌then◌else◌, eq-eqb}
+use Rattle.std.proofs.Common.{◌≡◌, ◌≢◌, ◌==◌, ℕ, zero, suc, Bool, true, false, List, [], ◌∷◌, map, Option, Some, None, Ok, Err, Result, slice_get, refl, ap, sym, if◌then◌else◌, eq-eqb}
 use Rattle.std.proofs.lemmas.Bool.{eqb-true, ne_eqb}
 use Rattle.wire_msgs.specs.Found.{find, put}
 use Rattle.wire_msgs.specs.declared.answer.Answer.{Answer}
-use Rattle.wire_msgs.specs.declared.message.Message.{Message}
 use Rattle.wire_msgs.specs.declared.message.Message.TheVariants.{Call, Reply, Write, Ask}
 use Rattle.wire_msgs.specs.declared.operation.Operation.{Operation}
 use Rattle.container_core.specs.declared.record.Link.{Link}
@@ -12,9 +11,9 @@ use Rattle.container_core.specs.declared.fault.ContainerFault.{ContainerFault}
 use Rattle.container_core.specs.declared.fault.ContainerFault.TheVariants.{NoSuch, Stale, WrongLink}
 use Rattle.container_core.specs.Record.{Record, Took, is_alive, is_linked, quiet_answer}
 use Rattle.container_core.specs.Saves.{kept, settle, settle_actions}
-use Rattle.container_core.specs.Messages.{Replied, on_message, on_reap, on_reply, reaped, reaped_object, replied, replied_object, reply_found, reply_link, reply_pending, reply_taken}
+use Rattle.container_core.specs.Messages.{Replied, on_reap, on_reply, reaped, reaped_object, replied, replied_object, reply_found, reply_link, reply_pending, reply_taken}
 use Rattle.container_core.specs.Replies.{is_of}
-use Rattle.container_core.specs.Laws.{IsPendingReply, MessagesKeepOthers, OnlyPendingReplies, OtherServersAreRefused, OthersAreStale, ReapsEndTheirs, ReapsKeepOthers, is_about, pending_in, pending_number, server_of}
+use Rattle.container_core.specs.Laws.{MessagesKeepOthers, OnlyPendingReplies, OtherServersAreRefused, OthersAreStale, ReapsEndTheirs, ReapsKeepOthers, pending_in, pending_number}
 
 -- what is done on a test that holds, where it is refused otherwise
 taken_if : {A : Type 0} (b : Bool) (next : Result A ContainerFault) (fault : ContainerFault) (t : A) → (if b then next else Err fault) ≡ Ok t → (b ≡ true) × (next ≡ Ok t)
@@ -93,9 +92,9 @@ put_keeps test a (y ∷ ys) zero x e f =
     let g : test y ≡ false = rw s f in
     rw g e
 put_keeps test a (y ∷ ys) (suc i) x e f = elim (test y) as (λ b. slice_get (if b then a ∷ ys else y ∷ put test a ys) (suc i) ≡ Some x) [
-    true ↦ e
+  | true ↦ e
   | false ↦ put_keeps test a ys i x e f
-  ]
+]
 
 found_keeps : (r : Record) (inc act n : ℕ) (answer : Answer) (o : Option Object) (t : Took) → reply_found r inc act n answer o ≡ Ok t → (i : ℕ) (x : Object) → slice_get r.objects i ≡ Some x → is_linked inc act x ≡ false → slice_get t.rec.objects i ≡ Some x
 found_keeps r inc act n answer None t e i x at apart = cc

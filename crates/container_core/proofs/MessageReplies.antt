@@ -1,7 +1,6 @@
 -- Replies to a pending call.
 use Rattle.std.proofs.Common.{◌≡◌, ℕ, List, [], ◌∷◌, ◌++◌, Option, Some, None, Result, Ok, Err, IfErr, refl, ap, sym, ◌∙◌, eq-eqb, subst, ◌==◌, ◌+◌, Bool, true}
 use Rattle.wire_msgs.specs.declared.answer.Answer.{Answer}
-use Rattle.wire_msgs.specs.declared.message.Message.{Message}
 use Rattle.wire_msgs.specs.declared.operation.Operation.{Operation}
 use Rattle.wire_msgs.specs.declared.answer.Answer.TheVariants as told
 use Rattle.wire_msgs.specs.declared.operation.Operation.TheVariants as operation
@@ -75,7 +74,7 @@ module _ {A : Type 0} (result : Result A ContainerFault) (n : ℕ) (answer : Ans
 
   refused_done : answer ≡ told.Done → (s : ℕ) → replied l op told.Done ≡ done_link l s (both.step l.states (op_of op)) → IfErr result (Refuses (done_link l s (both.step l.states o))) → IfErr result (Refuses (reply_link n answer link))
   refused_done a s e h =
-    refused_reply (done_link l s (both.step l.states o)) (ap (replied l op) a ∙ e ∙ ap (λ (x : Op). done_link l s (both.step l.states x)) (sym known)) h
+      refused_reply (done_link l s (both.step l.states o)) (ap (replied l op) a ∙ e ∙ ap (λ (x : Op). done_link l s (both.step l.states x)) (sym known)) h
 
   pub refused_init : answer ≡ told.Done → (class : ClassId) → op ≡ operation.InitNew class → IfErr result (Refuses (done_link l 1 (both.step l.states o))) → IfErr result (Refuses (reply_link n answer link))
   refused_init a class e h = refused_done a 1 (rw e refl) h
@@ -91,7 +90,7 @@ module _ {A : Type 0} (result : Result A ContainerFault) (n : ℕ) (answer : Ans
 
   pub refused_save : (content : Stored) → answer ≡ told.Content content → (k : ℕ) → op ≡ operation.Save k → IfErr result (Refuses (saved_link content (done_link l l.s (both.step l.states o)))) → IfErr result (Refuses (reply_link n answer link))
   refused_save content a k e h =
-    refused_reply (saved_link content (done_link l l.s (both.step l.states o))) (rw (known, a, e) refl) h
+      refused_reply (saved_link content (done_link l l.s (both.step l.states o))) (rw (known, a, e) refl) h
 
 went_found : (r : Record) (inc act : ℕ) (o : Object) (R : Result Replied ContainerFault) (w : Went) → went R ≡ Ok w → reply_taken r inc act o R ≡ Ok (record { rec = settle (record r { objects = put (is_linked inc act) (record o { link = w.link }) r.objects }); answer = record quiet_answer { refused = w.refused; actions = w.actions ++ settled_actions 1 (put (is_linked inc act) (record o { link = w.link }) r.objects) r.frames } })
 went_found r inc act o (Err fault) w e = cc

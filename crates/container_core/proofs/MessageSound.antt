@@ -1,6 +1,6 @@
 -- What messages and the ends of servers keep of a record's room.
-use Rattle.std.proofs.Common.{◌≡◌, ◌+◌, ◌≤◌, ℕ, zero, suc, Bool, true, false, List, [], ◌∷◌, ◌++◌, length, map, Option, Some, None, Result, Ok, Err, refl, ap, sym, ◌∙◌, arith, All, IfOk, slice_get, subst, if◌then◌else◌, ◌==◌}
-use Rattle.std.proofs.lemmas.List.Elements.{All-nil, All-cons, All-head, All-map, All-tail, All-weaker}
+use Rattle.std.proofs.Common.{◌≡◌, ◌+◌, ◌≤◌, ℕ, zero, suc, Bool, true, false, List, [], ◌∷◌, length, Option, Some, None, Result, Ok, Err, refl, ap, sym, ◌∙◌, arith, All, IfOk, slice_get, subst, if◌then◌else◌, ◌==◌}
+use Rattle.std.proofs.lemmas.List.Elements.{All-cons, All-head, All-map, All-tail, All-weaker}
 use Rattle.std.proofs.lemmas.List.{length-set}
 use Rattle.wire_msgs.specs.Found.{find, put, nth, set_nth}
 use Rattle.container_core.specs.declared.record.Link.{Link}
@@ -29,16 +29,16 @@ use Rattle.container_core.specs.Messages.{Replied, done_link, next_at, next_link
 pub found_all : {A : Type 0} (P : A → Type 0) (test : A → Bool) (xs : List A) (x : A) → find test xs ≡ Some x → All P xs → P x
 found_all P test [] x e h = cc
 found_all P test (y ∷ ys) x e h = elim (test y) as (λ b. test y ≡ b → P x) [
-    true ↦ λ t. let s : Some y ≡ Some x = sym (rw t refl) ∙ e in let same : y ≡ x = cc in subst P same (All-head P y ys h)
+  | true ↦ λ t. let s : Some y ≡ Some x = sym (rw t refl) ∙ e in let same : y ≡ x = cc in subst P same (All-head P y ys h)
   | false ↦ λ t. let s : find test ys ≡ Some x = rw t at e in found_all P test ys x s (All-tail P y ys h)
-  ] refl
+] refl
 
 pub put_all : {A : Type 0} (P : A → Type 0) (test : A → Bool) (a : A) (xs : List A) → P a → All P xs → All P (put test a xs)
 put_all P test a [] p h = h
 put_all P test a (x ∷ xs) p h = elim (test x) as (λ b. test x ≡ b → All P (if b then a ∷ xs else x ∷ put test a xs)) [
-    true ↦ λ t. All-cons P a xs p (All-tail P x xs h)
+  | true ↦ λ t. All-cons P a xs p (All-tail P x xs h)
   | false ↦ λ t. All-cons P x (put test a xs) (All-head P x xs h) (put_all P test a xs p (All-tail P x xs h))
-  ] refl
+] refl
 
 -- a frame that goes on to its commit has the same debt
 ready_debt : (phase : Phase) (waits : Bool) → is_ready_at phase waits ≡ true → debt Committing ≡ debt phase
@@ -51,9 +51,9 @@ ready_debt InDoubt waits e = cc
 
 settled_debt : (f : ℕ) (os : List Object) (frame : Frame) → debt (settled_frame f os frame).phase ≡ debt frame.phase
 settled_debt f os frame = elim (is_ready f os frame) as (λ b. is_ready f os frame ≡ b → debt (if b then record frame { phase = Committing } else frame).phase ≡ debt frame.phase) [
-    true ↦ λ t. ready_debt frame.phase (awaits f os) t
+  | true ↦ λ t. ready_debt frame.phase (awaits f os) t
   | false ↦ λ t. refl
-  ] refl
+] refl
 
 settled_k : (f : ℕ) (os : List Object) (frame : Frame) → (settled_frame f os frame).k ≡ frame.k
 settled_k f os frame = elim (is_ready f os frame) as (λ b. (if b then record frame { phase = Committing } else frame).k ≡ frame.k) [ true ↦ refl | false ↦ refl ]
@@ -91,7 +91,7 @@ settled_sound r h = record {
   servers = h.servers;
   objects = h.objects;
   acts = h.acts;
-  }
+}
 
 reaped_room : (numbers : ℕ) (frames : List Frame) (inc : ℕ) (o : Object) (link : Option Link) → o.link ≡ link → HasRoom numbers frames o → HasRoom numbers frames (reaped_object inc o link)
 reaped_room numbers frames inc o None e h = h
@@ -111,7 +111,7 @@ reaped_sound r inc h = record {
   servers = rw (length-set_nth r.servers inc true) h.servers;
   objects = h.objects;
   acts = h.acts;
-  }
+}
 
 -- a link after its pending call was answered, before what waits is called
 record Grown (l next : Link) : Type 0 where
@@ -188,9 +188,9 @@ fine_roomy numbers more l op (Ok x) w h p g e =
 pending_roomy : (numbers more : ℕ) (n : ℕ) (answer : Answer) (l : Link) (pending : Option Operation) (w : Went) → IsRoomy numbers more l → l.pending ≡ pending → went (reply_pending l n answer pending) ≡ Ok w → IfLinked (IsRoomy numbers more) w.link
 pending_roomy numbers more n answer l None w h p e = cc
 pending_roomy numbers more n answer l (Some op) w h p e = elim (n == l.last) as (λ b. went (if b then replied l op answer else Err Stale) ≡ Ok w → IfLinked (IsRoomy numbers more) w.link) [
-    true ↦ λ t. fine_roomy numbers more l op (replied l op answer) w h p (replied_fine l op answer) t
+  | true ↦ λ t. fine_roomy numbers more l op (replied l op answer) w h p (replied_fine l op answer) t
   | false ↦ λ t. cc
-  ] e
+] e
 
 -- a link has room after a reply
 pub went_roomy : (numbers more : ℕ) (n : ℕ) (answer : Answer) (link : Option Link) (w : Went) → IfLinked (IsRoomy numbers more) link → went (reply_link n answer link) ≡ Ok w → IfLinked (IsRoomy numbers more) w.link

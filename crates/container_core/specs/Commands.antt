@@ -23,7 +23,7 @@ use Rattle.container_core.specs.declared.command.Command.TheVariants as command
 use Rattle.container_core.specs.declared.answer.Action.TheVariants.{Start}
 use Rattle.container_core.specs.declared.fault.ContainerFault.{ContainerFault}
 use Rattle.container_core.specs.declared.fault.ContainerFault.TheVariants.{NoSuch, Busy, NotRunning, InDoubt, Full, NumbersSpent, WrongState, UnknownClass}
-use Rattle.container_core.specs.Record.{Record, Took, MOST_FRAMES, MOST_OBJECTS, MOST_SERVERS, MARGIN, quiet_answer, acts, sends, ask, is_object, is_alive, is_busy, is_moving, is_saving, is_doubtful, count_alive, count_objects, has_numbers, asked_object, asked_all, with_object}
+use Rattle.container_core.specs.Record.{Record, Took, MOST_FRAMES, MOST_OBJECTS, MOST_SERVERS, MARGIN, quiet_answer, acts, sends, is_object, is_alive, is_busy, is_moving, is_saving, is_doubtful, count_alive, count_objects, has_numbers, asked_link, asked_sent, asked_object, asked_all, with_object}
 use Rattle.container_core.specs.Saves.{settle, settle_actions}
 
 -- checks, in their order
@@ -85,15 +85,19 @@ insert_made r f kind area = record {
 abbrev pub is_empty_area : Area → Bool
 is_empty_area area = (area.w == 0) || (area.h == 0)
 
+abbrev pub insert_into : Record → ℕ → Kind → Area → Result Took ContainerFault
+insert_into r f kind area =
+    unless (nat_le MOST_OBJECTS (count_objects f r.objects)) Full
+    (unless (nat_le r.numbers r.last_object) NumbersSpent
+    (Ok (insert_made r f kind area)))
+
 abbrev pub insert_at : Record → ℕ → Kind → Area → Option Frame → Result Took ContainerFault
 insert_at r f kind area None = Err NoSuch
 insert_at r f kind area (Some frame) =
     unless (is_doubtful frame.phase) InDoubt
     (unless (is_saving frame.phase) Busy
     (unless (is_empty_area area) WrongState
-    (unless (nat_le MOST_OBJECTS (count_objects f r.objects)) Full
-    (unless (nat_le r.numbers r.last_object) NumbersSpent
-    (Ok (insert_made r f kind area))))))
+    (insert_into r f kind area)))
 
 abbrev pub insert : Record → ℕ → Kind → Area → Result Took ContainerFault
 insert r f kind area = insert_at r f kind area (nth r.frames f)
@@ -130,16 +134,20 @@ run_made r o inc =
 abbrev pub is_known_class : List ℕ → Bool
 is_known_class class = bytes_eq class (class_of Note) || bytes_eq class (class_of Table) || bytes_eq class (class_of Drawing)
 
+abbrev pub run_object : Record → Object → ℕ → Result Took ContainerFault
+run_object r o inc =
+    unless (is_some o.link) WrongState
+    (unless (not (is_known_class o.class)) UnknownClass
+    (unless (nat_lt r.numbers MARGIN || nat_le r.numbers r.last_act) NumbersSpent
+    (Ok (run_made r o inc))))
+
 abbrev pub run_in : Record → Object → ℕ → Option Frame → Result Took ContainerFault
 run_in r o inc None = Err NoSuch
 run_in r o inc (Some frame) =
     unless (not (is_alive r inc)) NoSuch
     (unless (is_doubtful frame.phase) InDoubt
     (unless (is_saving frame.phase || is_busy frame.ui.state o) Busy
-    (unless (is_some o.link) WrongState
-    (unless (not (is_known_class o.class)) UnknownClass
-    (unless (nat_lt r.numbers MARGIN || nat_le r.numbers r.last_act) NumbersSpent
-    (Ok (run_made r o inc)))))))
+    (run_object r o inc)))
 
 abbrev pub run_at : Record → ℕ → Option Object → Result Took ContainerFault
 run_at r inc None = Err NoSuch
@@ -152,18 +160,26 @@ run r o inc = run_at r inc (find (is_object o) r.objects)
 abbrev pub MOST_EDIT : ℕ
 MOST_EDIT = 65536
 
-abbrev pub edit_made : Record → Object → Link → List ℕ → Took
-edit_made r o l bytes = record {
-  rec = with_object r (record o { link = Some (ask l (Edit bytes)).link });
-  answer = acts (sends (ask l (Edit bytes)).sent);
+abbrev pub edit_made : Record → Object → List ℕ → Took
+edit_made r o bytes = record {
+  rec = with_object r (record o { link = asked_link (Edit bytes) o.link });
+  answer = acts (sends (asked_sent (Edit bytes) o.link));
 }
 
+-- why an activation isn't asked for an edit of so many bytes
+abbrev pub edit_fault : ℕ → ℕ → Option Link → Option ContainerFault
+edit_fault numbers size None = Some NotRunning
+edit_fault numbers size (Some l) =
+    if nat_lt MOST_EDIT size then Some WrongState
+    else if has_numbers numbers l then None
+    else Some NumbersSpent
+
+abbrev pub edit_unless : Record → Object → List ℕ → Option ContainerFault → Result Took ContainerFault
+edit_unless r o bytes (Some fault) = Err fault
+edit_unless r o bytes None = Ok (edit_made r o bytes)
+
 abbrev pub edit_linked : Record → Object → List ℕ → Option Link → Result Took ContainerFault
-edit_linked r o bytes None = Err NotRunning
-edit_linked r o bytes (Some l) =
-    unless (nat_lt MOST_EDIT (length bytes)) WrongState
-    (unless (not (has_numbers r.numbers l)) NumbersSpent
-    (Ok (edit_made r o l bytes)))
+edit_linked r o bytes link = edit_unless r o bytes (edit_fault r.numbers (length bytes) link)
 
 abbrev pub edit_in : Record → Object → List ℕ → Option Frame → Result Took ContainerFault
 edit_in r o bytes None = Err NoSuch
@@ -204,13 +220,17 @@ save_made r f frame = record {
   answer = acts (sends (asked_all f (Save (frame.k + 1)) r.objects) ++ settle_actions (saving r f frame));
 }
 
+abbrev pub save_numbered : Record → ℕ → Frame → Result Took ContainerFault
+save_numbered r f frame =
+    unless (nat_le r.numbers frame.k || not (all_have_numbers f r.numbers r.objects)) NumbersSpent
+    (Ok (save_made r f frame))
+
 abbrev pub save_at : Record → ℕ → Option Frame → Result Took ContainerFault
 save_at r f None = Err NoSuch
 save_at r f (Some frame) =
     unless (is_doubtful frame.phase) InDoubt
     (unless (is_saving frame.phase || is_moving frame.ui.state || any_busy f frame.ui.state r.objects) Busy
-    (unless (nat_le r.numbers frame.k || not (all_have_numbers f r.numbers r.objects)) NumbersSpent
-    (Ok (save_made r f frame))))
+    (save_numbered r f frame))
 
 abbrev pub save : Record → ℕ → Result Took ContainerFault
 save r f = save_at r f (nth r.frames f)

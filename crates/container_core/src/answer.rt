@@ -1,7 +1,7 @@
 //! What a container answers and asks for.
 
 ghost use Rattle.std.specs.Prelude.{◌≡◌};
-ghost use Rattle.container_core.specs.Record.{quiet_answer};
+ghost use Rattle.container_core.specs.Record.{acts, quiet_answer};
 
 use crate::record::Area;
 use std::alloc::Global;
@@ -57,6 +57,21 @@ impl Answer {
             refused: None,
             no_tools: false,
             actions: Items::new(alloc),
+        }
+    }
+
+    /// Nothing was made, and this is to be done.
+    pub(crate) fn acts(alloc: Global, actions: Items<Action>) -> Answer
+        ensures { result ≡ acts actions }
+    {
+        Answer {
+            frame: None,
+            objects: Items::new(alloc),
+            server: None,
+            taken: false,
+            refused: None,
+            no_tools: false,
+            actions,
         }
     }
 }

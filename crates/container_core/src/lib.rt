@@ -5,6 +5,7 @@ pub mod answer;
 mod asking;
 mod checks;
 pub mod command;
+mod commands;
 pub mod commit_laws;
 mod commits;
 #[cfg(test)]

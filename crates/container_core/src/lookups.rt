@@ -1,9 +1,9 @@
 //! Where frames and objects stand.
 
-ghost use Rattle.std.specs.Prelude.{◌≡◌, ◌&&◌, ◌==◌, MatchOption, None};
+ghost use Rattle.std.specs.Prelude.{◌≡◌, ◌&&◌, ◌==◌, IfSome, MatchOption, None};
 ghost use Rattle.wire_msgs.specs.Found.{find, nth, IsPlace};
 ghost use Rattle.container_core.specs.Record.{is_linked, is_object};
-ghost use Rattle.container_core.specs.Numbered.{IsNth};
+ghost use Rattle.container_core.specs.Numbered.{IsNth, IsObjectAt};
 
 use crate::record::{Frame, Object};
 
@@ -31,7 +31,8 @@ pub(crate) fn frame_place(frames: &[Frame], number: u32) -> Option<usize>
 
 /// Where the object of this number stands.
 pub(crate) fn place_object(objects: &[Object], number: u32) -> Option<usize>
-    ensures { MatchOption result (find (is_object number) objects.now ≡ None) (IsPlace (is_object number) objects.now) }
+    ensures found { MatchOption result (find (is_object number) objects.now ≡ None) (IsPlace (is_object number) objects.now) }
+    ensures own { IfSome result (IsObjectAt objects.now) }
 {
     for (i, object) in objects.iter().enumerate() {
         if object.number == number {

@@ -21,7 +21,13 @@ use wire_msgs::message::Message;
 use wire_msgs::refusal::Refusal;
 
 // The answer to a call of an object.
-fn told_object(alloc: Global, object: &mut Object, n: u32, answer: reply::Answer, more: usize) -> Result<Replied, ContainerFault>
+fn told_object(
+    alloc: Global,
+    object: &mut Object,
+    n: u32,
+    answer: reply::Answer,
+    more: usize,
+) -> Result<Replied, ContainerFault>
     requires numbers { IfLinked (IsRoomy 1000000 0) object.old.link }
     requires few { more ≤ 1000000 }
     ensures taken { IfOk result (λ t. went (reply_link n answer object.old.link) ≡ Ok (record { link = object.new.link; refused = t.refused; actions = t.actions.items })) }
@@ -99,7 +105,12 @@ impl ContainerCore {
     ///
     /// Refused as a wrong link if it isn't one of this link, as stale if it answers no pending call of an object, as a
     /// bad answer if it doesn't fit the call, and last for want of memory. Then nothing changes.
-    pub fn on_message(&mut self, alloc: Global, link: u32, message: Message) -> Result<Answer, ContainerFault>
+    pub fn on_message(
+        &mut self,
+        alloc: Global,
+        link: u32,
+        message: Message,
+    ) -> Result<Answer, ContainerFault>
         ensures taken { IfOk result (λ a. on_message self.old link message ≡ Ok (record { rec = self.new; answer = a })) }
         ensures few { IfOk result (λ a. length a.actions ≤ length self.old.objects + length self.old.frames + 1) }
         ensures refused { IfErr result (Refuses (on_message self.old link message)) }
@@ -113,22 +124,31 @@ impl ContainerCore {
                 n,
                 answer,
             } => {
-                if inc != link {
-                    return Err(ContainerFault::WrongLink);
+                if inc == link {
+                    self.on_reply(alloc, inc, act, n, answer)
+                } else {
+                    Err(ContainerFault::WrongLink)
                 }
-                self.on_reply(alloc, inc, act, n, answer)
             }
             Message::Write { inc, .. } | Message::Ask { inc, .. } => {
                 if inc != link {
-                    return Err(ContainerFault::WrongLink);
+                    Err(ContainerFault::WrongLink)
+                } else {
+                    Err(ContainerFault::Stale)
                 }
-                Err(ContainerFault::Stale)
             }
         }
     }
 
     // A reply of a server.
-    fn on_reply(&mut self, alloc: Global, inc: u32, act: u32, n: u32, answer: reply::Answer) -> Result<Answer, ContainerFault>
+    fn on_reply(
+        &mut self,
+        alloc: Global,
+        inc: u32,
+        act: u32,
+        n: u32,
+        answer: reply::Answer,
+    ) -> Result<Answer, ContainerFault>
         ensures taken { IfOk result (λ a. on_reply self.old inc act n answer ≡ Ok (record { rec = self.new; answer = a })) }
         ensures few { IfOk result (λ a. length a.actions ≤ length self.old.objects + length self.old.frames + 1) }
         ensures refused { IfErr result (Refuses (on_reply self.old inc act n answer)) }
@@ -144,7 +164,15 @@ impl ContainerCore {
     }
 
     // A reply to the object that stands here.
-    fn reply_at(&mut self, alloc: Global, place: usize, inc: u32, act: u32, n: u32, answer: reply::Answer) -> Result<Answer, ContainerFault>
+    fn reply_at(
+        &mut self,
+        alloc: Global,
+        place: usize,
+        inc: u32,
+        act: u32,
+        n: u32,
+        answer: reply::Answer,
+    ) -> Result<Answer, ContainerFault>
         requires { IsPlace (is_linked inc act) self.old.objects place }
         ensures taken { IfOk result (λ a. reply_found self.old inc act n answer (find (is_linked inc act) self.old.objects) ≡ Ok (record { rec = self.new; answer = a })) }
         ensures few { IfOk result (λ a. length a.actions ≤ length self.old.objects + length self.old.frames + 1) }

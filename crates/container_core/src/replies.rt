@@ -73,7 +73,13 @@ fn next_actions(alloc: Global, link: &Link, more: usize) -> Result<Vec<Action>, 
 }
 
 // An operation was done, with this storage grant after it.
-fn done(alloc: Global, link: &mut Link, op: Op, s: u32, more: usize) -> Result<Replied, ContainerFault>
+fn done(
+    alloc: Global,
+    link: &mut Link,
+    op: Op,
+    s: u32,
+    more: usize,
+) -> Result<Replied, ContainerFault>
     requires numbers { link.old.last + length link.old.waiting ≤ 1000000 }
     requires few { more ≤ 1000000 }
     ensures taken { IfOk result (λ t. went (done_link link.old s (both.step link.old.states op)) ≡ Ok (record { link = Some link.new; refused = t.refused; actions = t.actions.items })) }
@@ -98,7 +104,13 @@ fn done(alloc: Global, link: &mut Link, op: Op, s: u32, more: usize) -> Result<R
 }
 
 // An operation was done and answered the content.
-fn saved(alloc: Global, link: &mut Link, op: Op, content: Stored, more: usize) -> Result<Replied, ContainerFault>
+fn saved(
+    alloc: Global,
+    link: &mut Link,
+    op: Op,
+    content: Stored,
+    more: usize,
+) -> Result<Replied, ContainerFault>
     requires numbers { link.old.last + length link.old.waiting ≤ 1000000 }
     requires few { more ≤ 1000000 }
     ensures taken { IfOk result (λ t. went (saved_link content (done_link link.old link.old.s (both.step link.old.states op))) ≡ Ok (record { link = Some link.new; refused = t.refused; actions = t.actions.items })) }
@@ -118,7 +130,12 @@ fn saved(alloc: Global, link: &mut Link, op: Op, content: Stored, more: usize) -
 }
 
 // The refusal of an operation is noted, and all else stays.
-fn noted(alloc: Global, link: &mut Link, why: Refusal, more: usize) -> Result<Replied, ContainerFault>
+fn noted(
+    alloc: Global,
+    link: &mut Link,
+    why: Refusal,
+    more: usize,
+) -> Result<Replied, ContainerFault>
     requires numbers { link.old.last + length link.old.waiting ≤ 1000000 }
     requires few { more ≤ 1000000 }
     ensures taken { IfOk result (λ t. went (noted link.old why) ≡ Ok (record { link = Some link.new; refused = t.refused; actions = t.actions.items })) }
@@ -138,7 +155,12 @@ fn noted(alloc: Global, link: &mut Link, why: Refusal, more: usize) -> Result<Re
 }
 
 // The object is passive again.
-fn lost(alloc: Global, link: &mut Option<Link>, why: Refusal, more: usize) -> Result<Replied, ContainerFault>
+fn lost(
+    alloc: Global,
+    link: &mut Option<Link>,
+    why: Refusal,
+    more: usize,
+) -> Result<Replied, ContainerFault>
     requires { more ≤ 1000000 }
     ensures taken { IfOk result (λ t. went (lost why) ≡ Ok (record { link = link.new; refused = t.refused; actions = t.actions.items })) }
     ensures few { IfOk result (λ t. vec_len t.actions ≤ 1) }
@@ -161,7 +183,13 @@ fn lost(alloc: Global, link: &mut Option<Link>, why: Refusal, more: usize) -> Re
 ///
 /// Refused as stale unless the call is pending, as a bad answer if it doesn't fit the operation or its states, and last
 /// for want of memory. Then nothing changes.
-pub(crate) fn told(alloc: Global, link: &mut Option<Link>, n: u32, answer: Answer, more: usize) -> Result<Replied, ContainerFault>
+pub(crate) fn told(
+    alloc: Global,
+    link: &mut Option<Link>,
+    n: u32,
+    answer: Answer,
+    more: usize,
+) -> Result<Replied, ContainerFault>
     requires numbers { IfLinked (IsRoomy 1000000 0) link.old }
     requires few { more ≤ 1000000 }
     ensures taken { IfOk result (λ t. went (reply_link n answer link.old) ≡ Ok (record { link = link.new; refused = t.refused; actions = t.actions.items })) }
@@ -182,8 +210,12 @@ pub(crate) fn told(alloc: Global, link: &mut Option<Link>, n: u32, answer: Answe
     let op = operation.op();
     let s = l.s;
     match (operation, answer) {
-        (Operation::InitNew(_) | Operation::Load(_, _), Answer::Done) => done(alloc, l, op, 1, more),
-        (Operation::InitNew(_) | Operation::Load(_, _), Answer::Refused(why)) => lost(alloc, link, why, more),
+        (Operation::InitNew(_) | Operation::Load(_, _), Answer::Done) => done(
+            alloc, l, op, 1, more,
+        ),
+        (Operation::InitNew(_) | Operation::Load(_, _), Answer::Refused(why)) => lost(
+            alloc, link, why, more,
+        ),
         (Operation::Edit(_), Answer::Done) => done(alloc, l, op, s, more),
         (Operation::Edit(_), Answer::Refused(why)) => noted(alloc, l, why, more),
         (Operation::Save(_), Answer::Content(content)) => saved(alloc, l, op, content, more),

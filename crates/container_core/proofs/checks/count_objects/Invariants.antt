@@ -4,6 +4,6 @@ use Rattle.container_core.proofs.checks.count_objects.Given as goal
 
 abbrev pub invariant-loop-object : goal.invariant-loop-object
 invariant-loop-object l = record {
-    few : l.count ≤ l.object-index;
-    counted : l.count + count_objects l.frame (drop l.object-index l.objects) ≡ count_objects l.frame l.objects;
-  }
+  few : l.count ≤ l.object-index;
+  counted : l.count + count_objects l.frame (drop l.object-index l.objects) ≡ count_objects l.frame l.objects;
+}

@@ -6,4 +6,4 @@ abbrev pub invariant-loop-object : goal.invariant-loop-object
 invariant-loop-object l = record {
   same_length : length l.objects ≡ length l.fn.objects;
   same : take l.object-index l.objects ++ map (λ o. reaped_object l.inc o o.link) (drop l.object-index l.objects) ≡ map (λ o. reaped_object l.inc o o.link) l.fn.objects;
-  }
+}

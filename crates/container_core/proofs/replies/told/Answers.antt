@@ -21,12 +21,12 @@ returns-in-Save-Content-clause-refused c =
 pub returns-in-InitNew-Done-clause-refused : goal.returns-in-InitNew-Done-clause-refused
 returns-in-InitNew-Done-clause-refused c =
     elim c.match-operation.branch [
-      in-InitNew-1 w ↦
-        let f : (class : ClassId) × (c.in-Some-pending.operation ≡ operation.InitNew class) = search rules in
-        let h = rw w.l-is at c.done-in-InitNew-Done.ensures.refused in
-        refused_init c.done-in-InitNew-Done.result _ _ _ c.in-Some.l _ _ c.in-Some.is c.in-Some-pending.is c.if-n-l.false c.op-op.ensures c.in-InitNew-Done.is-1 f.0 f.1 h
-    | in-Load-1 w ↦
-        let f : (class : ClassId) × (content : Stored) × (c.in-Some-pending.operation ≡ operation.Load class content) = search rules in
-        let h = rw w.l-is at c.done-in-InitNew-Done.ensures.refused in
-        refused_load c.done-in-InitNew-Done.result _ _ _ c.in-Some.l _ _ c.in-Some.is c.in-Some-pending.is c.if-n-l.false c.op-op.ensures c.in-InitNew-Done.is-1 f.0 f.1 f.2 h
+      | in-InitNew-1 w ↦
+          let f : (class : ClassId) × (c.in-Some-pending.operation ≡ operation.InitNew class) = search rules in
+          let h = rw w.l-is at c.done-in-InitNew-Done.ensures.refused in
+          refused_init c.done-in-InitNew-Done.result _ _ _ c.in-Some.l _ _ c.in-Some.is c.in-Some-pending.is c.if-n-l.false c.op-op.ensures c.in-InitNew-Done.is-1 f.0 f.1 h
+      | in-Load-1 w ↦
+          let f : (class : ClassId) × (content : Stored) × (c.in-Some-pending.operation ≡ operation.Load class content) = search rules in
+          let h = rw w.l-is at c.done-in-InitNew-Done.ensures.refused in
+          refused_load c.done-in-InitNew-Done.result _ _ _ c.in-Some.l _ _ c.in-Some.is c.in-Some-pending.is c.if-n-l.false c.op-op.ensures c.in-InitNew-Done.is-1 f.0 f.1 f.2 h
     ]

@@ -1,4 +1,3 @@
-use Rattle.std.proofs.Common.{sym}
 use Rattle.container_core.proofs.MessageSound.{reaped_sound, settled_sound}
 use Rattle.container_core.specs.Record.{Record}
 use Rattle.container_core.specs.Messages.{reaped}

@@ -1,7 +1,6 @@
-use Rattle.std.proofs.Common.{◌≡◌, Option, Some, slice_get, slice_set, ap, subst, sym, ◌∙◌}
+use Rattle.std.proofs.Common.{◌≡◌, Some, slice_get, slice_set, ap, subst, sym, ◌∙◌}
 use Rattle.std.proofs.lemmas.Option.{slice_get-get_or}
-use Rattle.wire_msgs.specs.Found.{find, put, IsPlace}
-use Rattle.container_core.specs.declared.record.Object.{Object}
+use Rattle.wire_msgs.specs.Found.{IsPlace}
 use Rattle.container_core.specs.Record.{Record, is_linked}
 use Rattle.container_core.specs.Replies.{Went}
 use Rattle.container_core.proofs.MessageReplies.{reply_made}

@@ -1,0 +1,58 @@
+-- An object that is asked for an edit, in its container.
+use Rattle.std.proofs.Common.{◌≡◌, ◌<◌, ℕ, List, length, Option, Some, None, Result, Ok, Err, get_or, set, refl, sym, ◌∙◌, ap, subst, arith, IfSome, slice_get, slice_set}
+use Rattle.std.proofs.lemmas.Option.{slice_get_read}
+use Rattle.std.proofs.lemmas.List.Elements.{All-set}
+use Rattle.wire_msgs.specs.Found.{IsPlace, put}
+use Rattle.container_core.specs.declared.answer.Action.{Action}
+use Rattle.container_core.specs.declared.answer.Answer.{Answer}
+use Rattle.container_core.specs.declared.fault.ContainerFault.{ContainerFault}
+use Rattle.container_core.specs.declared.record.Frame.{Frame}
+use Rattle.container_core.specs.declared.record.Object.{Object}
+use Rattle.container_core.specs.Commands.{edit_linked}
+use Rattle.container_core.specs.Numbered.{IsObjectAt}
+use Rattle.container_core.specs.Record.{Record, Refuses, Took, acts, is_object, with_object}
+use Rattle.container_core.specs.Room.{HasRoom, IsSound}
+
+-- what holds of the object that stands there
+here : (P : Object → Type 0) (s r : Record) (i : ℕ) (x : Object) → s ≡ r → i < length r.objects → x ≡ get_or s.objects i x → P x → IfSome (slice_get r.objects i) P
+here P s r i x e lt at p = let h : slice_get r.objects i ≡ Some x = slice_get_read r.objects (length r.objects) i x refl lt (at ∙ ap (λ t. get_or t.objects i x) e) in rw h p
+
+pub edit_refused : (s r : Record) (i : ℕ) (x : Object) (bytes : List ℕ) (fault : ContainerFault) → s ≡ r → i < length r.objects → x ≡ get_or s.objects i x
+    → ((q : Record) → q.numbers ≡ s.numbers → Refuses (edit_linked q x bytes x.link) fault) → IfSome (slice_get r.objects i) (λ o. Refuses (edit_linked r o bytes o.link) fault)
+edit_refused s r i x bytes fault e lt at h = here (λ o. Refuses (edit_linked r o bytes o.link) fault) s r i x e lt at (h r (ap (λ t. t.numbers) (sym e)))
+
+changed : (s r r2 : Record) (i : ℕ) (x y : Object) → s ≡ r → IsPlace (is_object x.number) r.objects i → y.number ≡ x.number → r2 ≡ record s { objects = set s.objects i y } → with_object r y ≡ r2
+changed s r r2 i x y e p number is =
+    let h : put (is_object y.number) y r.objects ≡ set s.objects i y = ap (λ n. put (is_object n) y r.objects) number ∙ (p.puts y ∙ ap (λ t. set t.objects i y) (sym e)) in
+    let a : with_object r y ≡ record r { objects = set s.objects i y } = ap {A = List Object} (λ os. record r { objects = os }) h in
+    let b : (record r { objects = set s.objects i y }) ≡ (record s { objects = set s.objects i y }) = ap {A = Record} (λ t. record t { objects = set s.objects i y }) (sym e) in
+    a ∙ (b ∙ sym is)
+
+place_of : (s r : Record) (i : ℕ) (x : Object) → s ≡ r → IsObjectAt r.objects i → x ≡ get_or s.objects i x → IsPlace (is_object x.number) r.objects i
+place_of s r i x e p at =
+    let h : slice_get r.objects i ≡ Some x = slice_get_read r.objects (length r.objects) i x refl p.fits (at ∙ ap (λ t. get_or t.objects i x) e) in
+    subst (λ t. IfSome t (λ o. IsPlace (is_object o.number) r.objects i)) h p.own
+
+pub edit_taken : (s r r2 : Record) (i : ℕ) (x y : Object) (bytes : List ℕ) (actions : List Action) (a : Answer) → s ≡ r → IsObjectAt r.objects i → x ≡ get_or s.objects i x
+    → ((q : Record) → q.numbers ≡ s.numbers → edit_linked q x bytes x.link ≡ Ok (record { rec = with_object q y; answer = acts actions }))
+    → y.number ≡ x.number → r2 ≡ record s { objects = set s.objects i y } → a ≡ acts actions
+    → IfSome (slice_get r.objects i) (λ o. edit_linked r o bytes o.link ≡ Ok (record { rec = r2; answer = a }))
+edit_taken s r r2 i x y bytes actions a e p at h number is told =
+    here (λ o. edit_linked r o bytes o.link ≡ Ok (record { rec = r2; answer = a })) s r i x e p.fits at
+    (h r (ap (λ t. t.numbers) (sym e)) ∙ (ap (λ t. Ok (record { rec = t; answer = acts actions })) (changed s r r2 i x y e (place_of s r i x e p at) number is) ∙ ap (λ t. Ok (record { rec = r2; answer = t })) (sym told)))
+
+-- one object that keeps its room is changed
+pub sound_changed : (r t : Record) (i : ℕ) (x y : Object) → r ≡ t → IsSound r → i < length t.objects → x ≡ get_or r.objects i x
+    → ((frames : List Frame) → HasRoom r.numbers frames x → HasRoom r.numbers frames y) → IsSound (record r { objects = set r.objects i y })
+sound_changed r t i x y e s lt0 at h =
+    let lt : i < length r.objects = subst (λ (q : Record). i < length q.objects) (sym e) lt0 in
+    let old : HasRoom r.numbers r.frames x = rw at (s.room i x lt) in
+    record {
+      limit = s.limit;
+      room = All-set (HasRoom r.numbers r.frames) r.objects i y (h r.frames old) s.room;
+      saves = s.saves;
+      frames = s.frames;
+      servers = s.servers;
+      objects = s.objects;
+      acts = s.acts;
+    }
