@@ -19,8 +19,8 @@ pub found_passes : {A : Type 0} (test : A → Bool) (xs : List A) (x : A) → fi
 found_passes test [] x e = cc
 found_passes test (y ∷ ys) x e =
     elim (test y) as (λ b. test y ≡ b → (if b then Some y else find test ys) ≡ Some x → test x ≡ true) [
-      true ↦ λ s h. (let same : y ≡ x = cc in subst (λ z. test z ≡ true) same s)
-    | false ↦ λ s h. found_passes test ys x h
+      | true ↦ λ s h. (let same : y ≡ x = cc in subst (λ z. test z ≡ true) same s)
+      | false ↦ λ s h. found_passes test ys x h
     ] refl e
 
 abbrev after_write : Server → ℕ → Result Written ServerFault → Result Told ServerFault

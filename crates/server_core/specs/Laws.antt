@@ -1,11 +1,11 @@
 -- Laws of servers, in the subject's own words.
 use Rattle.std.specs.Prelude.{◌≡◌, ◌≢◌, ◌≤◌, ◌<◌, ◌+◌, ℕ, Bool, true, false, List, [], ◌∷◌, Option, Some, None, Result, Ok, Err}
-use Rattle.embed_core.specs.Kinds.{Kind}
+use Rattle.embed_core.specs.Kinds.{Kind, class_of}
 use Rattle.wire_msgs.specs.declared.operation.Operation.{Operation}
 use Rattle.wire_msgs.specs.declared.message.Message.{Message}
 use Rattle.wire_msgs.specs.declared.message.Message.TheVariants.{Call}
 use Rattle.wire_msgs.specs.Found.{find}
-use Rattle.server_core.specs.Server.{Activation, Server, Served, is_act, on_call}
+use Rattle.server_core.specs.Server.{Activation, Server, Served, is_act, on_call, wanted}
 use Rattle.server_core.specs.declared.fault.ServerFault.{ServerFault}
 
 abbrev pub after : Server → Result Served ServerFault → Server
@@ -20,10 +20,10 @@ after_all v (m ∷ ms) = after_all (after v (on_call v m.0 m.1)) ms
 abbrev pub activation : ℕ → Server → Option Activation
 activation act v = find (is_act act) v.acts
 
--- a call that acts is the next of its activation, so the same call never acts again, whatever comes between
+-- a call that was taken never acts again, whatever comes between
 abbrev pub ActsOnce : Type 0
-ActsOnce = (v : Server) (inc act n : ℕ) (op other : Operation) (box more : Option Kind) (told : Served) (a : Activation) (ms : List (Message × Option Kind))
-    → on_call v (Call inc act n op) box ≡ Ok told → activation act told.server ≡ Some a → n ≤ a.last
+ActsOnce = (v : Server) (inc act n : ℕ) (op other : Operation) (box more : Option Kind) (told : Served) (ms : List (Message × Option Kind))
+    → on_call v (Call inc act n op) box ≡ Ok told
     → (again : Served) → on_call (after_all told.server ms) (Call inc act n other) more ≡ Ok again
     → again.server ≡ after_all told.server ms
 
@@ -37,3 +37,13 @@ ClosedForGood = (v : Server) (act : ℕ) (a : Activation) (ms : List (Message ×
 abbrev pub OthersStay : Type 0
 OthersStay = (v : Server) (inc act other n : ℕ) (op : Operation) (box : Option Kind)
     → act ≢ other → activation other (after v (on_call v (Call inc act n op) box)) ≡ activation other v
+
+-- a message that wants no object uses none: it does the same with one as without
+abbrev pub UnwantedUnused : Type 0
+UnwantedUnused = (v : Server) (m : Message) (box : Option Kind) → wanted v m ≡ None
+    → (on_call v m box ≡ on_call v m None) × ((told : Served) → on_call v m box ≡ Ok told → told.used ≡ false)
+
+-- a message that wants an object of a class takes one of it, and uses it
+abbrev pub WantedUsed : Type 0
+WantedUsed = (v : Server) (m : Message) (class : List ℕ) (kind : Kind) → wanted v m ≡ Some class → class ≡ class_of kind
+    → (told : Served) × (on_call v m (Some kind) ≡ Ok told) × (told.used ≡ true)

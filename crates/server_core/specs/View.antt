@@ -8,7 +8,6 @@ use Rattle.server_core.specs.Server.{Server, Activation}
 
 -- Objects in boxes: `content` says what the one in a seat contains.
 module _ {X : Type 0} {V : X → Type 0} (content : Seat X V → Content) where
-
   abbrev pub seen_activation : code.Activation X V → Activation
   seen_activation a = record a.facts { content = option_map content a.seat }
 

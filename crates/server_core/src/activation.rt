@@ -39,7 +39,13 @@ impl Activation {
         }
     }
 
-    fn edit(&mut self, alloc: Global, n: u32, states: States, edit: Bytes) -> Result<Answered, ServerFault>
+    fn edit(
+        &mut self,
+        alloc: Global,
+        n: u32,
+        states: States,
+        edit: Bytes,
+    ) -> Result<Answered, ServerFault>
         requires { n ≡ self.old.facts.last + 1 }
         ensures acted { IfOk result (λ t. Acts (does_open (seen_activation (λ s. content s.boxed) self.old) states (op.Edit edit) (seen_activation (λ s. content s.boxed) self.old).content) (seen_activation (λ s. content s.boxed) self.new) t.answer t.counted) }
         ensures refused { IfErr result (Refuses (does_open (seen_activation (λ s. content s.boxed) self.old) states (op.Edit edit) (seen_activation (λ s. content s.boxed) self.old).content)) }
@@ -53,13 +59,21 @@ impl Activation {
         match edited {
             Ok(()) => Ok(self.facts.done(n, states)),
             Err(EmbedFault::BadEdit) => Ok(self.facts.refused_in(n, states, Refusal::BadEdit)),
-            Err(EmbedFault::BadContent) => Ok(self.facts.refused_in(n, states, Refusal::BadContent)),
+            Err(EmbedFault::BadContent) => Ok(
+                self.facts.refused_in(n, states, Refusal::BadContent),
+            ),
             Err(EmbedFault::TooBig) => Ok(self.facts.refused_in(n, states, Refusal::TooBig)),
             Err(EmbedFault::NoMemory) => Err(ServerFault::NoMemory),
         }
     }
 
-    fn save(&mut self, alloc: Global, n: u32, states: States, k: u32) -> Result<Answered, ServerFault>
+    fn save(
+        &mut self,
+        alloc: Global,
+        n: u32,
+        states: States,
+        k: u32,
+    ) -> Result<Answered, ServerFault>
         requires { n ≡ self.old.facts.last + 1 }
         ensures acted { IfOk result (λ t. Acts (does_open (seen_activation (λ s. content s.boxed) self.old) states (op.Save k) (seen_activation (λ s. content s.boxed) self.old).content) (seen_activation (λ s. content s.boxed) self.new) t.answer t.counted) }
         ensures refused { IfErr result (Refuses (does_open (seen_activation (λ s. content s.boxed) self.old) states (op.Save k) (seen_activation (λ s. content s.boxed) self.old).content)) }
@@ -73,7 +87,14 @@ impl Activation {
         Ok(Answered::alone(Answer::Content(told)))
     }
 
-    fn completed(&mut self, alloc: Global, n: u32, states: States, k: u32, storage: bool) -> Result<Answered, ServerFault>
+    fn completed(
+        &mut self,
+        alloc: Global,
+        n: u32,
+        states: States,
+        k: u32,
+        storage: bool,
+    ) -> Result<Answered, ServerFault>
         requires { n ≡ self.old.facts.last + 1 }
         ensures acted { IfOk result (λ t. Acts (does_open (seen_activation (λ s. content s.boxed) self.old) states (op.SaveCompleted k storage) (seen_activation (λ s. content s.boxed) self.old).content) (seen_activation (λ s. content s.boxed) self.new) t.answer t.counted) }
         ensures refused { IfErr result (Refuses (does_open (seen_activation (λ s. content s.boxed) self.old) states (op.SaveCompleted k storage) (seen_activation (λ s. content s.boxed) self.old).content)) }
@@ -103,7 +124,13 @@ impl Activation {
         Ok(self.facts.ui_active(n, states, grant, &menus, border))
     }
 
-    fn close(&mut self, alloc: Global, n: u32, states: States, option: CloseOption) -> Result<Answered, ServerFault>
+    fn close(
+        &mut self,
+        alloc: Global,
+        n: u32,
+        states: States,
+        option: CloseOption,
+    ) -> Result<Answered, ServerFault>
         requires { n ≡ self.old.facts.last + 1 }
         ensures acted { IfOk result (λ t. Acts (does_open (seen_activation (λ s. content s.boxed) self.old) states (op.Close option) (seen_activation (λ s. content s.boxed) self.old).content) (seen_activation (λ s. content s.boxed) self.new) t.answer t.counted) }
         ensures refused { IfErr result (Refuses (does_open (seen_activation (λ s. content s.boxed) self.old) states (op.Close option) (seen_activation (λ s. content s.boxed) self.old).content)) }
@@ -128,7 +155,13 @@ impl Activation {
     }
 
     // An operation that the tables take.
-    fn act(&mut self, alloc: Global, n: u32, states: States, operation: Operation) -> Result<Answered, ServerFault>
+    fn act(
+        &mut self,
+        alloc: Global,
+        n: u32,
+        states: States,
+        operation: Operation,
+    ) -> Result<Answered, ServerFault>
         requires { n ≡ self.old.facts.last + 1 }
         ensures acted { IfOk result (λ t. Acts (does_open (seen_activation (λ s. content s.boxed) self.old) states operation (seen_activation (λ s. content s.boxed) self.old).content) (seen_activation (λ s. content s.boxed) self.new) t.answer t.counted) }
         ensures refused { IfErr result (Refuses (does_open (seen_activation (λ s. content s.boxed) self.old) states operation (seen_activation (λ s. content s.boxed) self.old).content)) }
@@ -142,7 +175,9 @@ impl Activation {
             Operation::UiDeactivate => Ok(self.facts.ui_inactive(n, states)),
             Operation::Edit(edit) => self.edit(alloc, n, states, edit),
             Operation::Save(k) => self.save(alloc, n, states, k),
-            Operation::SaveCompleted { save, storage } => self.completed(alloc, n, states, save, storage),
+            Operation::SaveCompleted { save, storage } => self.completed(
+                alloc, n, states, save, storage,
+            ),
             Operation::SaveDropped(_) => Ok(self.facts.dropped(n, states)),
             Operation::Close(option) => self.close(alloc, n, states, option),
             Operation::InitNew(_)
@@ -185,7 +220,12 @@ impl Activation {
     ///
     /// Refused: `Ignored` any other call, and the next one where the activation is closed; then `NoMemory`. Then
     /// nothing changes.
-    pub(crate) fn on_call(&mut self, alloc: Global, n: u32, operation: Operation) -> Result<Answered, ServerFault>
+    pub(crate) fn on_call(
+        &mut self,
+        alloc: Global,
+        n: u32,
+        operation: Operation,
+    ) -> Result<Answered, ServerFault>
         ensures acted { IfOk result (λ t. Acts (known_call (seen_activation (λ s. content s.boxed) self.old) n operation) (seen_activation (λ s. content s.boxed) self.new) t.answer t.counted) }
         ensures refused { IfErr result (Refuses (known_call (seen_activation (λ s. content s.boxed) self.old) n operation)) }
         ensures kept { OnErr result (seen_activation (λ s. content s.boxed) self.new ≡ seen_activation (λ s. content s.boxed) self.old) }
@@ -204,7 +244,12 @@ impl Activation {
     ///
     /// Refused: `Ignored` where it is closed or may not write; `NumbersSpent` where it made so many writes; then
     /// `NoMemory`. Then nothing changes.
-    pub(crate) fn write(&mut self, alloc: Global, inc: u32, numbers: u32) -> Result<Message, ServerFault>
+    pub(crate) fn write(
+        &mut self,
+        alloc: Global,
+        inc: u32,
+        numbers: u32,
+    ) -> Result<Message, ServerFault>
         ensures written { IfOk result (λ m. Writes (write_open inc numbers (seen_activation (λ s. content s.boxed) self.old) (seen_activation (λ s. content s.boxed) self.old).content) (seen_activation (λ s. content s.boxed) self.new) m) }
         ensures refused { IfErr result (Refuses (write_open inc numbers (seen_activation (λ s. content s.boxed) self.old) (seen_activation (λ s. content s.boxed) self.old).content)) }
         ensures kept { OnErr result (seen_activation (λ s. content s.boxed) self.new ≡ seen_activation (λ s. content s.boxed) self.old) }

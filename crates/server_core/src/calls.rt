@@ -45,7 +45,14 @@ fn begun_states(operation: &Operation) -> States
 
 impl ServerCore {
     // A call of the activation that stands at i.
-    fn known(&mut self, alloc: Global, i: usize, act: u32, n: u32, operation: Operation) -> Result<Answered, ServerFault>
+    fn known(
+        &mut self,
+        alloc: Global,
+        i: usize,
+        act: u32,
+        n: u32,
+        operation: Operation,
+    ) -> Result<Answered, ServerFault>
         requires { IsPlace (is_act act) (seen (λ s. content s.boxed) self.old).acts i }
         ensures acted { IfOk result (λ t. (box : Option Kind) → called (seen (λ s. content s.boxed) self.old) act n operation box (find (is_act act) (seen (λ s. content s.boxed) self.old).acts) ≡ Ok (record { server = seen (λ s. content s.boxed) self.new; answer = t.answer; counted = t.counted; used = false })) }
         ensures refused { IfErr result (λ e. (box : Option Kind) → Refuses (called (seen (λ s. content s.boxed) self.old) act n operation box (find (is_act act) (seen (λ s. content s.boxed) self.old).acts)) e) }
@@ -74,7 +81,14 @@ impl ServerCore {
     }
 
     // A first call, with an object of its class.
-    fn begin(&mut self, alloc: Global, act: u32, class: ClassId, operation: &Operation, boxed: Box<dyn Embedded>) -> Result<Answer, Refusal>
+    fn begin(
+        &mut self,
+        alloc: Global,
+        act: u32,
+        class: ClassId,
+        operation: &Operation,
+        boxed: Box<dyn Embedded>,
+    ) -> Result<Answer, Refusal>
         ensures begun { IfOk result (λ a. after_begun (seen (λ s. content s.boxed) self.old) (begins act class operation.now (begun_content (kind_of (content boxed)) operation.now)) ≡ Ok (record { server = seen (λ s. content s.boxed) self.new; answer = a; counted = None; used = true })) }
         ensures refused { IfErr result (λ r. r.fault ≡ ServerFault.NoMemory) }
         ensures handed_back { IfErr result (λ r. option_map (λ b. content b) r.back ≡ Some (content boxed)) }
@@ -86,7 +100,10 @@ impl ServerCore {
         let mut seat = Seat { boxed };
         match seat.begin(alloc, operation) {
             Ok(()) => {
-                self.push(Facts::opened(act, class, begun_states(operation)), Some(seat));
+                self.push(
+                    Facts::opened(act, class, begun_states(operation)),
+                    Some(seat),
+                );
                 Ok(Answer::Done)
             }
             Err(EmbedFault::BadEdit) => Ok(self.push_closed(act, class, Why::BadEdit)),
@@ -97,7 +114,15 @@ impl ServerCore {
     }
 
     // A call of the activation that stands at i. The object isn't used.
-    fn known_call(&mut self, alloc: Global, i: usize, act: u32, n: u32, operation: Operation, boxed: Option<Box<dyn Embedded>>) -> Result<Reaction, Refusal>
+    fn known_call(
+        &mut self,
+        alloc: Global,
+        i: usize,
+        act: u32,
+        n: u32,
+        operation: Operation,
+        boxed: Option<Box<dyn Embedded>>,
+    ) -> Result<Reaction, Refusal>
         requires { IsPlace (is_act act) (seen (λ s. content s.boxed) self.old).acts i }
         ensures acted { IfOk result (λ r. TakesCall (seen (λ s. content s.boxed) self.old) act n operation (option_map (λ b. kind_of (content b)) boxed) (find (is_act act) (seen (λ s. content s.boxed) self.old).acts) (seen (λ s. content s.boxed) self.new) r.reply r.counted) }
         ensures back { IfOk result (λ r. r.back ≡ unless_wanted (wanted_unknown (seen (λ s. content s.boxed) self.old) (begun_class n operation) (find (is_act act) (seen (λ s. content s.boxed) self.old).acts)) boxed) }
@@ -135,7 +160,14 @@ impl ServerCore {
     }
 
     // A first call, with the object that was handed in.
-    fn offered(&mut self, alloc: Global, act: u32, class: ClassId, operation: &Operation, boxed: Option<Box<dyn Embedded>>) -> Result<Answer, Refusal>
+    fn offered(
+        &mut self,
+        alloc: Global,
+        act: u32,
+        class: ClassId,
+        operation: &Operation,
+        boxed: Option<Box<dyn Embedded>>,
+    ) -> Result<Answer, Refusal>
         ensures acted { IfOk result (λ a. offered (seen (λ s. content s.boxed) self.old) act class operation.now (option_map (λ b. kind_of (content b)) boxed) ≡ Ok (record { server = seen (λ s. content s.boxed) self.new; answer = a; counted = None; used = true })) }
         ensures refused { IfErr result (λ r. Refuses (offered (seen (λ s. content s.boxed) self.old) act class operation.now (option_map (λ b. kind_of (content b)) boxed)) r.fault) }
         ensures handed_back { IfErr result (λ r. option_map (λ b. content b) r.back ≡ option_map (λ b. content b) boxed) }
@@ -157,7 +189,14 @@ impl ServerCore {
     }
 
     // A call of an activation that isn't known.
-    fn unknown_call(&mut self, alloc: Global, act: u32, n: u32, operation: Operation, boxed: Option<Box<dyn Embedded>>) -> Result<Reaction, Refusal>
+    fn unknown_call(
+        &mut self,
+        alloc: Global,
+        act: u32,
+        n: u32,
+        operation: Operation,
+        boxed: Option<Box<dyn Embedded>>,
+    ) -> Result<Reaction, Refusal>
         ensures acted { IfOk result (λ r. TakesCall (seen (λ s. content s.boxed) self.old) act n operation (option_map (λ b. kind_of (content b)) boxed) None (seen (λ s. content s.boxed) self.new) r.reply r.counted) }
         ensures back { IfOk result (λ r. r.back ≡ unless_wanted (wanted_unknown (seen (λ s. content s.boxed) self.old) (begun_class n operation) None) boxed) }
         ensures refused { IfErr result (λ r. Refuses (called (seen (λ s. content s.boxed) self.old) act n operation (option_map (λ b. kind_of (content b)) boxed) None) r.fault) }
@@ -214,7 +253,12 @@ impl ServerCore {
     /// next of a closed one; `NumbersSpent` where the server has as many activations as it may have; `NeedObject`
     /// where there is none to make the activation with; `WrongClass` where it is of another class; then `NoMemory`.
     /// Then nothing changes, and the object comes back with its content.
-    pub fn on_call(&mut self, alloc: Global, message: Message, boxed: Option<Box<dyn Embedded>>) -> Result<Reaction, Refusal>
+    pub fn on_call(
+        &mut self,
+        alloc: Global,
+        message: Message,
+        boxed: Option<Box<dyn Embedded>>,
+    ) -> Result<Reaction, Refusal>
         ensures acted { IfOk result (λ r. Takes (seen (λ s. content s.boxed) self.old) message (option_map (λ b. kind_of (content b)) boxed) (seen (λ s. content s.boxed) self.new) r.reply r.counted) }
         ensures back { IfOk result (λ r. r.back ≡ unless_wanted (wanted (seen (λ s. content s.boxed) self.old) message) boxed) }
         ensures refused { IfErr result (λ r. Refuses (on_call (seen (λ s. content s.boxed) self.old) message (option_map (λ b. kind_of (content b)) boxed)) r.fault) }

@@ -221,7 +221,14 @@ impl Facts {
     }
 
     /// Call n took a grant of the frame, and was answered what the object wants of it.
-    pub fn ui_active(&mut self, n: u32, states: States, grant: u32, menus: &Menus, border: [u16; 4]) -> Answered
+    pub fn ui_active(
+        &mut self,
+        n: u32,
+        states: States,
+        grant: u32,
+        menus: &Menus,
+        border: [u16; 4],
+    ) -> Answered
         requires { n ≡ self.old.last + 1 }
         ensures settled { self.new ≡ record self.old { last = self.old.last + 1; states = states; reply = answer.Tools menus.now border; g = Some grant } }
         ensures answered { result ≡ record { answer = answer.Tools menus.now border; counted = None } }

@@ -5,8 +5,11 @@ mod activation;
 pub mod activation_view;
 mod calls;
 pub mod counted;
-pub mod facts;
+mod facts;
 pub mod fault;
+pub mod laws;
 mod own_accord;
 pub mod refusal;
 pub mod server;
+#[cfg(test)]
+mod tests;
