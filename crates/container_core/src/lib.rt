@@ -6,6 +6,8 @@ mod asking;
 mod checks;
 pub mod command;
 mod commands;
+#[cfg(test)]
+mod commands_tests;
 pub mod commit_laws;
 mod commits;
 #[cfg(test)]
