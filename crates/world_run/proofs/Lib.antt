@@ -21,3 +21,6 @@ pub mod Tied
 pub mod TiedEvents
 pub mod Held
 pub mod Alike
+pub mod Joins
+pub mod Filed
+pub mod Servers

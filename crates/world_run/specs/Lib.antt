@@ -1,6 +1,8 @@
 pub mod StopNames
 pub mod World
 pub mod Starts
+pub mod Rooms
+pub mod Files
 pub mod View
 pub mod Report
 pub mod Runs
@@ -8,3 +10,4 @@ pub mod Safe
 pub mod Keeping
 pub mod Tying
 pub mod Holding
+pub mod Plans

@@ -1,13 +1,33 @@
 -- Worlds as they are seen: the objects in boxes by what they contain.
-use Rattle.std.specs.Prelude.{List, map}
+use Rattle.std.specs.Prelude.{ℕ, List, [], map}
 use Rattle.embed_core.specs.Content.{Content}
 use Rattle.embed_core.specs.Kinds.{Kind, kind_of}
 use Rattle.server_core.specs.declared.server.Seat.{Seat}
 use Rattle.server_core.specs.View as server
 use Rattle.world_run.specs.declared.instance.Instance as code
 use Rattle.world_run.specs.declared.instance.Stocked.{Stocked}
+use Rattle.world_run.specs.declared.ledger.Ledger.{Ledger}
 use Rattle.world_run.specs.declared.world.World as held
-use Rattle.world_run.specs.World.{World, Instance}
+use Rattle.world_run.specs.World.{World, Instance, fresh}
+
+-- a ledger as a world without servers and stock
+abbrev pub bare : Ledger → World
+bare l = record {
+    rec = l.core;
+    instances = [];
+    files = l.files.items;
+    stock = [];
+    sent = l.sent.items;
+    owners = l.owners.items;
+    answers = l.answers.items;
+    container_done = l.container_done.items;
+    server_done = l.server_done.items;
+    counted = l.counted.items;
+  }
+
+-- the same with new servers of these incarnations
+abbrev pub started : World → ℕ → List ℕ → World
+started w numbers starts = record w { instances = map (fresh numbers) starts }
 
 module _ {X : Type 0} {V : X → Type 0} (content : Seat X V → Content) where
 
@@ -18,15 +38,7 @@ module _ {X : Type 0} {V : X → Type 0} (content : Seat X V → Content) where
   seen_stocked s = kind_of (content (record { boxed = s.boxed }))
 
   abbrev pub seen : held.World X V → World
-  seen w = record {
-      rec = w.core;
+  seen w = record (bare w.ledger) {
       instances = map seen_instance w.instances.items;
-      files = w.files.items;
       stock = map seen_stocked w.stock.boxes.items;
-      sent = w.sent.items;
-      owners = w.owners.items;
-      answers = w.answers.items;
-      container_done = w.container_done.items;
-      server_done = w.server_done.items;
-      counted = w.counted.items;
     }

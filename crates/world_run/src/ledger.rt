@@ -1,14 +1,27 @@
 //! What a world keeps besides its servers and its stock.
 
-ghost use Rattle.std.specs.Prelude.{[], ◌∷◌, ◌++◌, ◌+◌, ◌≤◌, ◌<◌, ◌^◌, ◌≡◌, length, map, vec_len, vec_capacity};
+ghost use Rattle.std.specs.Prelude.{[], ◌∷◌, ◌++◌, ◌+◌, ◌≤◌, ◌<◌, ◌^◌, ◌≡◌, IfErr, IfOk, OnErr, OnOk, Ok, length, map, nat_le, false, vec_len, vec_capacity};
 ghost use Rattle.std.specs.List.{range_with_len};
-ghost use Rattle.world_run.specs.World.{messages_of, commits_of, of_container, joined};
+ghost use Rattle.container_core.specs.Commands.{on_command};
+ghost use Rattle.container_core.specs.Messages.{on_message, on_reap};
+ghost use Rattle.world_run.specs.World.{messages_of, commits_of, of_container, joined, uncounted, took, owner, counted_by, quiet_outcome, limited, commanded, owners_by, empty_world, Refuses, MOST_EVENTS};
+ghost use Rattle.world_run.specs.declared.logs.EventAnswer.TheVariants as told;
 ghost use Rattle.world_run.specs.Starts.{starts_of};
+ghost use Rattle.world_run.specs.Rooms.{HasLogRoom, HasReplyRoom, IsBarred, IsRoom, most, replied};
+ghost use Rattle.world_run.specs.View.{bare, started};
 
-use crate::logs::{Document, Done, EventAnswer, File, Outcome, Sent, ServerDone};
+use crate::event::Stop;
+use crate::logs::{Document, Done, EventAnswer, File, Outcome, Sent, ServerDone, View};
+use crate::standin::on_command;
 use container_core::answer::{Action, Answer};
-use container_core::container::ContainerCore;
+use container_core::command::Command;
+use container_core::container::{ContainerCore, Limits};
+use container_core::fault::ContainerFault;
+use server_core::counted::Counted;
+use server_core::fault::ServerFault;
+use std::alloc::{AllocError, Global};
 use wire_msgs::items::Items;
+use wire_msgs::message::Message;
 
 /// What a world keeps besides its servers and its stock: the container, the files and the logs.
 #[derive(Drop)]
@@ -24,7 +37,7 @@ pub struct Ledger {
 }
 
 // Adds what room was taken for.
-fn add<T: Drop>(items: &mut Vec<T>, item: T)
+pub(crate) fn add<T: Drop>(items: &mut Vec<T>, item: T)
     requires { vec_len items.old < vec_capacity items.old }
     ensures added { items.new.items ≡ items.old.items ++ item ∷ [] }
     ensures len { vec_len items.new ≡ vec_len items.old + 1 }
@@ -36,10 +49,21 @@ fn add<T: Drop>(items: &mut Vec<T>, item: T)
     }
 }
 
+// Adds all of a list.
+pub(crate) fn add_all<T: Drop>(items: &mut Vec<T>, mut more: Vec<T>)
+    requires { vec_len items.old + vec_len more ≤ vec_capacity items.old }
+    ensures { items.new.items ≡ items.old.items ++ more.items }
+{
+    match items.append(&mut more) {
+        Ok(()) => {}
+        Err(_) => unreachable!(),
+    }
+}
+
 /// Room for what a step of the container may lead to.
 #[derive(Drop)]
-struct Room {
-    starts: Vec<u32>,
+pub(crate) struct Room {
+    pub(crate) starts: Vec<u32>,
     commits: Vec<u32>,
     places: Vec<u32>,
 }
@@ -50,6 +74,8 @@ fn share(actions: Vec<Action>, sent: &mut Vec<Sent>, starts: &mut Vec<u32>, comm
     requires starts_room { vec_len starts.old + vec_len actions ≤ vec_capacity starts.old }
     requires commits_room { vec_len commits.old + vec_len actions ≤ vec_capacity commits.old }
     ensures sent { sent.new.items ≡ sent.old.items ++ map of_container (messages_of actions.items) }
+    ensures count { vec_len sent.new ≡ vec_len sent.old + length (messages_of actions.items) }
+    ensures few { vec_len sent.new ≤ vec_len sent.old + vec_len actions }
     ensures starts { starts.new.items ≡ starts.old.items ++ starts_of actions.items }
     ensures commits { commits.new.items ≡ commits.old.items ++ commits_of actions.items }
 {
@@ -78,5 +104,305 @@ fn number(places: &mut Vec<u32>, before: usize, count: usize)
 {
     for i in 0..count {
         add(places, (before + 1 + i) as u32);
+    }
+}
+
+// A new frame has no counted commit.
+fn add_uncounted(counted: &mut Vec<Option<Document>>, frame: Option<u32>)
+    requires { vec_len counted.old < vec_capacity counted.old }
+    ensures { counted.new.items ≡ counted.old.items ++ uncounted frame }
+{
+    match frame {
+        Some(_) => add(counted, None),
+        None => {}
+    }
+}
+
+// The object of a new activation is kept.
+fn add_owner(owners: &mut Vec<u32>, command: &Command)
+    requires { vec_len owners.old < vec_capacity owners.old }
+    ensures { owners.new.items ≡ owners.old.items ++ owners_by command.now }
+{
+    match command {
+        Command::Run(object, _) => add(owners, *object),
+        _ => {}
+    }
+}
+
+impl Room {
+    // Room for so many actions.
+    pub(crate) fn new(alloc: Global, count: usize) -> Result<Room, AllocError>
+        ensures { IfOk result (λ r. IsRoom count r) }
+    {
+        Ok(Room {
+            starts: Vec::with_capacity(alloc, count)?,
+            commits: Vec::with_capacity(alloc, count)?,
+            places: Vec::with_capacity(alloc, count)?,
+        })
+    }
+}
+
+impl Ledger {
+    /// Nothing has happened.
+    pub(crate) fn new(alloc: Global, limits: Limits) -> Ledger
+        requires { limits.numbers ≤ 1000000 }
+        ensures { bare result ≡ empty_world limits.numbers [] }
+    {
+        Ledger {
+            core: ContainerCore::new(alloc, limits),
+            files: Vec::new(alloc),
+            sent: Vec::new(alloc),
+            owners: Vec::new(alloc),
+            answers: Vec::new(alloc),
+            container_done: Vec::new(alloc),
+            server_done: Vec::new(alloc),
+            counted: Vec::new(alloc),
+        }
+    }
+
+    /// Whether a world takes no more events.
+    pub(crate) fn is_full(&self) -> bool
+        ensures { result ≡ nat_le MOST_EVENTS (length self.now.answers.items) }
+    {
+        self.answers.len() >= 10_000
+    }
+
+    /// No step of the container asks for more actions.
+    pub(crate) fn most(&self) -> usize
+        ensures { result ≡ most self.now.core }
+    {
+        self.core.objects().len() + self.core.frames().len() + 1
+    }
+
+    // Room in the logs for a step with so many actions.
+    pub(crate) fn reserve(&mut self, count: usize) -> Result<(), AllocError>
+        ensures room { OnOk result (HasLogRoom count self.new) }
+        ensures kept { bare self.new ≡ bare self.old }
+    {
+        self.sent.reserve(count)?;
+        self.answers.reserve(1)?;
+        self.counted.reserve(1)?;
+        if self.sent.len() + count >= 0x1_0000_0000 {
+            return Err(AllocError);
+        }
+        Ok(())
+    }
+
+    // Keeps what a step of the container asks for; gives the servers that it starts.
+    pub(crate) fn join(&mut self, answer: Answer, room: Room) -> Vec<u32>
+        requires logs { HasLogRoom (length answer.actions) self.old }
+        requires room { IsRoom (length answer.actions) room }
+        ensures joined { joined (bare self.old) (record { rec = self.old.core; answer = answer }) ≡ started (bare self.new) self.old.core.numbers result.items }
+        ensures few { length result.items ≤ length answer.actions }
+    {
+        let Answer {
+            frame,
+            objects,
+            server,
+            taken,
+            refused,
+            no_tools,
+            actions,
+        } = answer;
+        let Room {
+            mut starts,
+            mut commits,
+            mut places,
+        } = room;
+        let before = self.sent.len();
+        share(actions.into_vec(), &mut self.sent, &mut starts, &mut commits);
+        number(&mut places, before, self.sent.len() - before);
+        add_uncounted(&mut self.counted, frame);
+        let outcome = Outcome {
+            frame,
+            objects,
+            server,
+            taken,
+            refused,
+            no_tools,
+            sent: Items::from_vec(places),
+            commits: Items::from_vec(commits),
+        };
+        add(&mut self.answers, EventAnswer::Took(outcome));
+        starts
+    }
+
+    /// A command of a user. Gives the servers that it starts.
+    ///
+    /// Refused for want of memory alone. Then nothing changes.
+    pub(crate) fn command(&mut self, alloc: Global, command: &Command) -> Result<Vec<u32>, AllocError>
+        ensures taken { IfOk result (λ starts. commanded (bare self.old) command.now (on_command self.old.core command.now) ≡ started (bare self.new) self.new.core.numbers starts.items) }
+        ensures few { IfOk result (λ starts. vec_len starts ≤ most self.old.core) }
+        ensures kept { OnErr result (bare self.new ≡ bare self.old) }
+    {
+        let count = self.most();
+        let room = Room::new(alloc, count)?;
+        self.reserve(count)?;
+        self.owners.reserve(1)?;
+        match on_command(&mut self.core, alloc, command) {
+            Ok(answer) => {
+                add_owner(&mut self.owners, command);
+                Ok(self.join(answer, room))
+            }
+            Err(ContainerFault::NoMemory) => Err(AllocError),
+            Err(fault) => {
+                add(&mut self.answers, EventAnswer::Refused(fault));
+                Ok(room.starts)
+            }
+        }
+    }
+
+    /// A message comes to the container. Gives the servers that it starts.
+    ///
+    /// Refused for want of memory alone. Then nothing changes.
+    pub(crate) fn tell(&mut self, alloc: Global, inc: u32, message: Message) -> Result<Vec<u32>, AllocError>
+        ensures taken { IfOk result (λ starts. took (bare self.old) (on_message self.old.core inc message) ≡ started (bare self.new) self.new.core.numbers starts.items) }
+        ensures few { IfOk result (λ starts. vec_len starts ≤ most self.old.core) }
+        ensures kept { OnErr result (bare self.new ≡ bare self.old) }
+    {
+        let count = self.most();
+        let room = Room::new(alloc, count)?;
+        self.reserve(count)?;
+        match self.core.on_message(alloc, inc, message) {
+            Ok(answer) => Ok(self.join(answer, room)),
+            Err(ContainerFault::NoMemory) => Err(AllocError),
+            Err(fault) => {
+                add(&mut self.answers, EventAnswer::Refused(fault));
+                Ok(room.starts)
+            }
+        }
+    }
+
+    /// The end of a server is told to the container. Gives the servers that it starts.
+    ///
+    /// Refused for want of memory alone. Then nothing changes.
+    pub(crate) fn reap(&mut self, alloc: Global, inc: u32) -> Result<Vec<u32>, AllocError>
+        ensures taken { IfOk result (λ starts. took (bare self.old) (on_reap self.old.core inc) ≡ started (bare self.new) self.new.core.numbers starts.items) }
+        ensures few { IfOk result (λ starts. vec_len starts ≤ most self.old.core) }
+        ensures kept { OnErr result (bare self.new ≡ bare self.old) }
+    {
+        let count = self.most();
+        let room = Room::new(alloc, count)?;
+        self.reserve(count)?;
+        match self.core.on_reap(alloc, inc) {
+            Ok(answer) => Ok(self.join(answer, room)),
+            Err(ContainerFault::NoMemory) => Err(AllocError),
+            Err(fault) => {
+                add(&mut self.answers, EventAnswer::Refused(fault));
+                Ok(room.starts)
+            }
+        }
+    }
+
+    /// Room for the answer of one event.
+    ///
+    /// Refused: `EventLimit` where a world takes no more events, else `NoMemory`.
+    pub(crate) fn open(&mut self) -> Result<(), Stop>
+        ensures open { OnOk result (nat_le MOST_EVENTS (length self.old.answers.items) ≡ false) }
+        ensures room { OnOk result (vec_len self.new.answers < vec_capacity self.new.answers) }
+        ensures barred { IfErr result (IsBarred (nat_le MOST_EVENTS (length self.old.answers.items))) }
+        ensures kept { bare self.new ≡ bare self.old }
+    {
+        if self.is_full() {
+            return Err(Stop::EventLimit);
+        }
+        match self.answers.reserve(1) {
+            Ok(()) => Ok(()),
+            Err(_) => Err(Stop::NoMemory),
+        }
+    }
+
+    /// An event that led to nothing.
+    pub(crate) fn quiet(&mut self, alloc: Global)
+        requires { vec_len self.old.answers < vec_capacity self.old.answers }
+        ensures { bare self.new ≡ record (bare self.old) { answers = self.old.answers.items ++ told.Took quiet_outcome ∷ [] } }
+    {
+        add(&mut self.answers, EventAnswer::Took(Outcome::quiet(alloc)));
+    }
+
+    /// A message that a server did nothing with.
+    pub(crate) fn unheard(&mut self, fault: ServerFault)
+        requires { vec_len self.old.answers < vec_capacity self.old.answers }
+        ensures { bare self.new ≡ record (bare self.old) { answers = self.old.answers.items ++ told.Unheard fault ∷ [] } }
+    {
+        add(&mut self.answers, EventAnswer::Unheard(fault));
+    }
+
+    // The object that an activation was made for, 0 where there is none.
+    fn owner(&self, act: u32) -> u32
+        ensures { result ≡ owner (bare self.now) act }
+    {
+        if act == 0 {
+            return 0;
+        }
+        let place = (act - 1) as usize;
+        if place < self.owners.len() {
+            self.owners[place]
+        } else {
+            0
+        }
+    }
+
+    /// Room for a reply; gives room for its place.
+    pub(crate) fn reply_room(&mut self, alloc: Global) -> Result<Vec<u32>, AllocError>
+        ensures place { IfOk result (λ v. v.items ≡ []) }
+        ensures place_room { IfOk result (λ v. 1 ≤ vec_capacity v) }
+        ensures room { OnOk result (HasReplyRoom self.new) }
+        ensures answers { vec_len self.old.answers < vec_capacity self.old.answers → vec_len self.new.answers < vec_capacity self.new.answers }
+        ensures kept { bare self.new ≡ bare self.old }
+    {
+        let place = Vec::with_capacity(alloc, 1)?;
+        self.sent.reserve(1)?;
+        self.server_done.reserve(1)?;
+        if self.sent.len() >= 0xffff_ffff {
+            return Err(AllocError);
+        }
+        Ok(place)
+    }
+
+    // What a server counted.
+    fn count(&mut self, inc: u32, counted: Option<Counted>)
+        requires { vec_len self.old.server_done < vec_capacity self.old.server_done }
+        ensures { bare self.new ≡ record (bare self.old) { server_done = self.old.server_done.items ++ counted_by (bare self.old) inc counted } }
+    {
+        match counted {
+            Some(counted) => {
+                let Counted { act, k, content } = counted;
+                let object = self.owner(act);
+                add(
+                    &mut self.server_done,
+                    ServerDone {
+                        inc,
+                        object,
+                        k,
+                        content,
+                    },
+                );
+            }
+            None => {}
+        }
+    }
+
+    /// A reply of a server, its activation's state just before, and what the server counted.
+    pub(crate) fn replied(&mut self, alloc: Global, inc: u32, view: Option<View>, reply: Message, counted: Option<Counted>, place: Vec<u32>)
+        requires place { place.items ≡ [] }
+        requires place_room { 1 ≤ vec_capacity place }
+        requires room { HasReplyRoom self.old }
+        requires answers { vec_len self.old.answers < vec_capacity self.old.answers }
+        ensures { bare self.new ≡ replied (bare self.old) inc view reply counted }
+    {
+        let mut place = place;
+        number(&mut place, self.sent.len(), 1);
+        add(
+            &mut self.sent,
+            Sent {
+                message: reply,
+                view,
+            },
+        );
+        let mut outcome = Outcome::quiet(alloc);
+        outcome.sent = Items::from_vec(place);
+        add(&mut self.answers, EventAnswer::Took(outcome));
+        self.count(inc, counted);
     }
 }

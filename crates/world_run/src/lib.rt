@@ -1,12 +1,15 @@
 //! Worlds: a container, its servers, the messages between them, and what happens.
 #![tactic(auto)]
 
+mod commits;
 pub mod event;
 pub mod instance;
 pub mod ledger;
 pub mod logs;
 pub mod report;
 pub mod safe_laws;
+mod plan;
+mod standin;
 pub mod stock;
 mod text;
 pub mod worked;

@@ -1,9 +1,13 @@
 //! What a world keeps of what happened in it.
 
+ghost use Rattle.std.specs.Prelude.{◌≡◌};
+ghost use Rattle.world_run.specs.World.{quiet_outcome};
+
 use container_core::answer::Part;
 use container_core::fault::ContainerFault;
 use object_state::States;
 use server_core::fault::ServerFault;
+use std::alloc::Global;
 use storage_tree::bytes::Bytes;
 use storage_tree::stored::Stored;
 use wire_msgs::items::Items;
@@ -92,6 +96,24 @@ pub struct Outcome {
     pub sent: Items<u32>,
     /// The frames whose commit is asked.
     pub commits: Items<u32>,
+}
+
+impl Outcome {
+    /// It led to nothing.
+    pub(crate) fn quiet(alloc: Global) -> Outcome
+        ensures { result ≡ quiet_outcome }
+    {
+        Outcome {
+            frame: None,
+            objects: Items::new(alloc),
+            server: None,
+            taken: false,
+            refused: None,
+            no_tools: false,
+            sent: Items::new(alloc),
+            commits: Items::new(alloc),
+        }
+    }
 }
 
 /// What an event is answered.

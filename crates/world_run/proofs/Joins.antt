@@ -1,0 +1,38 @@
+-- What a step of the container gives, put together from its parts.
+use Rattle.std.proofs.Common.{◌≡◌, ℕ, ◌+◌, ◌≤◌, List, Option, [], ◌∷◌, ◌++◌, length, map, refl, ap, arith}
+use Rattle.std.specs.List.{range_with_len}
+use Rattle.container_core.specs.Record.{Record}
+use Rattle.container_core.specs.declared.answer.Action.{Action}
+use Rattle.container_core.specs.declared.answer.Action.TheVariants.{Send, Start, End, Commit}
+use Rattle.container_core.specs.declared.answer.Answer.{Answer}
+use Rattle.world_run.specs.declared.logs.Sent.{Sent}
+use Rattle.world_run.specs.declared.logs.Document.{Document}
+use Rattle.world_run.specs.declared.logs.EventAnswer.{EventAnswer}
+use Rattle.world_run.specs.declared.logs.EventAnswer.TheVariants as told
+use Rattle.world_run.specs.World.{World, joined, started_by, messages_of, commits_of, of_container, uncounted, fresh}
+use Rattle.world_run.specs.Starts.{starts_of}
+use Rattle.world_run.specs.View.{started}
+
+pub started_starts : (n : ℕ) (actions : List Action) → started_by n actions ≡ map (fresh n) (starts_of actions)
+started_starts n [] = refl
+started_starts n (Send m ∷ rest) = started_starts n rest
+started_starts n (Start inc ∷ rest) = ap (λ xs. fresh n inc ∷ xs) (started_starts n rest)
+started_starts n (End inc ∷ rest) = started_starts n rest
+started_starts n (Commit f ∷ rest) = started_starts n rest
+
+pub starts_few : (actions : List Action) → length (starts_of actions) ≤ length actions
+starts_few [] = omega arith
+starts_few (Send m ∷ rest) = omega (arith, starts_few rest)
+starts_few (Start inc ∷ rest) = omega (arith, starts_few rest)
+starts_few (End inc ∷ rest) = omega (arith, starts_few rest)
+starts_few (Commit f ∷ rest) = omega (arith, starts_few rest)
+
+pub joins : (w : World) (a : Answer) (sent : List Sent) (starts places commits : List ℕ) (answers : List EventAnswer) (counted : List (Option Document))
+    → sent ≡ w.sent ++ map of_container (messages_of a.actions)
+    → starts ≡ starts_of a.actions
+    → places ≡ range_with_len (length w.sent + 1) (length (messages_of a.actions))
+    → commits ≡ commits_of a.actions
+    → answers ≡ w.answers ++ told.Took (record { frame = a.frame; objects = a.objects; server = a.server; taken = a.taken; refused = a.refused; no_tools = a.no_tools; sent = places; commits = commits }) ∷ []
+    → counted ≡ w.counted ++ uncounted a.frame
+    → joined (record w { instances = [] }) (record { rec = w.rec; answer = a }) ≡ started (record w { sent = sent; answers = answers; counted = counted }) w.rec.numbers starts
+joins w a sent starts places commits answers counted es et ep ec ea en = rw (started_starts w.rec.numbers a.actions, es, ea, et, ep, ec, en) refl

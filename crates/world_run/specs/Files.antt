@@ -1,0 +1,21 @@
+-- Where a file stands.
+use Rattle.std.specs.Prelude.{◌≡◌, ℕ, Bool, false, List, ◌∷◌, [], ◌++◌, Option, Some, None, slice_get, slice_set}
+use Rattle.wire_msgs.specs.Found.{find}
+use Rattle.container_core.specs.declared.record.Frame.{Frame}
+use Rattle.container_core.specs.Saves.{is_committing}
+use Rattle.world_run.specs.declared.logs.File.{File}
+use Rattle.world_run.specs.World.{is_file, put_file}
+
+-- the file of a name stands at i, or nowhere
+pub record IsFileAt (name : List ℕ) (files : List File) (i : ℕ) : Type 0 where
+  pub found : find (is_file name) files ≡ slice_get files i
+  pub puts : (bytes : List ℕ) → put_file name bytes files ≡ slice_set files i (record { name = name; bytes = bytes })
+
+pub record IsNoFile (name : List ℕ) (files : List File) : Type 0 where
+  pub found : find (is_file name) files ≡ None
+  pub puts : (bytes : List ℕ) → put_file name bytes files ≡ files ++ record { name = name; bytes = bytes } ∷ []
+
+-- a frame whose commit is asked for
+abbrev pub is_committing_in : Option Frame → Bool
+is_committing_in None = false
+is_committing_in (Some frame) = is_committing frame.phase

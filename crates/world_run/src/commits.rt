@@ -1,0 +1,167 @@
+//! What a commit that is done leaves in a world.
+
+ghost use Rattle.std.specs.Prelude.{◌++◌, ◌∷◌, [], ◌+◌, ◌<◌, ◌≤◌, ◌≡◌, IfOk, IfErr, IfSome, MatchOption, length, true, OnErr, OnOk, Ok, Some, None, List, ℕ, map, option_copied, vec_len, vec_capacity};
+ghost use Rattle.wire_msgs.specs.Found.{nth, set_nth, find};
+ghost use Rattle.container_core.specs.Saves.{commit_done, image, document_tree, name_after};
+ghost use Rattle.container_core.specs.declared.record.Phase.TheVariants as phase;
+ghost use Rattle.stream_io.specs.Denotes.{Denotes};
+ghost use Rattle.world_run.specs.World.{IsImage, Refuses, done, done_entry, frame_file, is_file, kept_commit, limited, put_file};
+ghost use Rattle.world_run.specs.declared.event.Event.TheVariants as event;
+ghost use Rattle.world_run.specs.Files.{IsFileAt, IsNoFile, is_committing_in};
+ghost use Rattle.world_run.specs.Rooms.{most};
+ghost use Rattle.world_run.specs.View.{bare, started};
+
+use crate::event::Stop;
+use crate::ledger::{Ledger, Room, add, add_all};
+use crate::logs::{Document, Done, File};
+use container_core::answer::Part;
+use container_core::fault::ContainerFault;
+use container_core::record::{Frame, Phase};
+use std::alloc::{AllocError, Global};
+use storage_tree::bytes::Bytes;
+use wire_msgs::items::Items;
+
+// The name that a frame has once its commit is done.
+fn name_after(alloc: Global, frame: &Frame) -> Result<Bytes, AllocError>
+    ensures { IfOk result (λ b. b ≡ name_after frame.now.name frame.now.asked) }
+{
+    match &frame.asked {
+        Some(name) => name.copy(alloc),
+        None => frame.name.copy(alloc),
+    }
+}
+
+// What the container counts of a document.
+fn entries(alloc: Global, k: u32, parts: &[Part]) -> Result<Vec<Done>, AllocError>
+    ensures { IfOk result (λ v. v.items ≡ map (done_entry k) parts.now) }
+{
+    let mut entries = Vec::new(alloc);
+    for part in parts {
+        entries.push(Done {
+            object: part.object,
+            k,
+            content: part.content.copy(alloc)?,
+        })?;
+    }
+    Ok(entries)
+}
+
+// Where the file of this name stands.
+fn file_place(files: &[File], name: &[u8]) -> Option<usize>
+    ensures fits { IfSome result (λ i. i < length files.now) }
+    ensures place { MatchOption result (IsNoFile name.now files.now) (λ i. IsFileAt name.now files.now i) }
+{
+    for (i, file) in files.iter().enumerate() {
+        if file.name.as_slice() == name {
+            return Some(i);
+        }
+    }
+    None
+}
+
+// These bytes are the file of this name.
+fn put_file(files: &mut Vec<File>, name: Bytes, bytes: Bytes)
+    requires { vec_len files.old < vec_capacity files.old }
+    ensures { files.new.items ≡ put_file name bytes files.old.items }
+{
+    match file_place(files, name.as_slice()) {
+        Some(i) => files[i] = File { name, bytes },
+        None => add(files, File { name, bytes }),
+    }
+}
+
+// The document of a frame's last counted commit.
+fn set_counted(counted: &mut Vec<Option<Document>>, frame: u32, document: Document)
+    ensures set { counted.new.items ≡ set_nth counted.old.items frame (Some document) }
+    ensures len { vec_len counted.new ≡ vec_len counted.old }
+    ensures capacity { vec_capacity counted.new ≡ vec_capacity counted.old }
+{
+    if frame == 0 {
+        return;
+    }
+    let place = (frame - 1) as usize;
+    if place < counted.len() {
+        counted[place] = Some(document);
+    }
+}
+
+impl Ledger {
+    // Whether a commit of the frame is asked for.
+    fn is_committing(&self, f: u32) -> bool
+        ensures { result ≡ is_committing_in (nth self.now.core.frames f) }
+    {
+        match self.core.frame(f) {
+            Some(frame) => match frame.phase {
+                Phase::Committing => true,
+                _ => false,
+            },
+            None => false,
+        }
+    }
+
+    // What a commit that is done leaves: the file, what is counted, and what the container asks for.
+    fn commit(&mut self, alloc: Global, f: u32, parts: Items<Part>, bytes: Vec<u8>) -> Result<Vec<u32>, AllocError>
+        requires image { image self.old.core f ≡ Ok parts }
+        ensures taken { IfOk result (λ starts. done (bare self.old) f bytes.items ≡ Ok (started (bare self.new) self.new.core.numbers starts.items)) }
+        ensures few { IfOk result (λ starts. vec_len starts ≤ most self.old.core) }
+        ensures kept { OnErr result (bare self.new ≡ bare self.old) }
+    {
+        let Some(frame) = self.core.frame(f) else {
+            return Err(AllocError);
+        };
+        let k = frame.k;
+        let name = name_after(alloc, frame)?;
+        let entries = entries(alloc, k, parts.as_slice())?;
+        let count = self.most();
+        let room = Room::new(alloc, count)?;
+        self.reserve(count)?;
+        self.files.reserve(1)?;
+        self.container_done.reserve(entries.len())?;
+        match self.core.commit_done(alloc, f) {
+            Ok(answer) => {
+                put_file(&mut self.files, name, Bytes::from_vec(bytes));
+                add_all(&mut self.container_done, entries);
+                set_counted(&mut self.counted, f, Document { k, parts });
+                Ok(self.join(answer, room))
+            }
+            Err(_) => Err(AllocError),
+        }
+    }
+
+    /// The commit of a frame's file is done: the file denotes its document. Gives the servers that are started, for
+    /// which there is room or not.
+    ///
+    /// Refused: `NotEnabled` where the commit isn't asked for; then `EventLimit`; then `NoMemory`. Then nothing changes.
+    pub(crate) fn done(&mut self, alloc: Global, f: u32, room: bool) -> Result<Vec<u32>, Stop>
+        ensures room { OnOk result (room ≡ true) }
+        ensures taken { IfOk result (λ starts. (bytes : List ℕ) × IsImage (bare self.old) bytes (event.Done f) × (limited (bare self.old) (done (bare self.old) f bytes) ≡ Ok (started (bare self.new) self.new.core.numbers starts.items))) }
+        ensures few { IfOk result (λ starts. vec_len starts ≤ most self.old.core) }
+        ensures refused { IfErr result (λ stop. (bytes : List ℕ) → Refuses (limited (bare self.old) (done (bare self.old) f bytes)) stop) }
+        ensures kept { OnErr result (bare self.new ≡ bare self.old) }
+    {
+        if !self.is_committing(f) {
+            return Err(Stop::NotEnabled);
+        }
+        match self.core.commit_image(alloc, f) {
+            Ok((parts, bytes)) => {
+                if self.is_full() {
+                    return Err(Stop::EventLimit);
+                }
+                if !room {
+                    return Err(Stop::NoMemory);
+                }
+                match self.commit(alloc, f, parts, bytes) {
+                    Ok(starts) => Ok(starts),
+                    Err(_) => Err(Stop::NoMemory),
+                }
+            }
+            Err(ContainerFault::NoMemory) => {
+                if self.is_full() {
+                    return Err(Stop::EventLimit);
+                }
+                Err(Stop::NoMemory)
+            }
+            Err(_) => Err(Stop::NotEnabled),
+        }
+    }
+}
