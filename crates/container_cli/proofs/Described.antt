@@ -2,7 +2,7 @@
 use Rattle.std.proofs.Common.{◌≡◌, ◌≤◌, ◌+◌, ◌++◌, ℕ, List, [], ◌∷◌, Result, Ok, Err, Some, false, cond, length, refl, sym, ap, ◌∙◌, arith, append_assoc, nat_eq}
 use Rattle.std.proofs.lemmas.List.Splits.{length-slice_split}
 use Rattle.std.proofs.lemmas.List.Sums.{count_by-le-length}
-use Rattle.container_cli.specs.Words.{pieces}
+use Rattle.embed_core.specs.Words.{pieces}
 use Rattle.container_cli.specs.Commands.{commands_read, is_skipped, line_read, numbered}
 use Rattle.container_cli.specs.declared.command.Command.{Command}
 use Rattle.container_cli.specs.declared.fault.LineFault.{LineFault}

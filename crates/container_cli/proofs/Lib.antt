@@ -1,4 +1,3 @@
-pub mod Cuts
 pub mod Hex
 pub mod Described
 pub mod Inputs
