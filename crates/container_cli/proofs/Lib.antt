@@ -1,3 +1,4 @@
+pub mod Behind
 pub mod Hex
 pub mod Described
 pub mod Inputs

@@ -28,7 +28,7 @@ pub fn describe(alloc: Global, text: &[u8]) -> Result<Described, (usize, LineFau
 }
 
 /// Whether a line says nothing: it is empty, or it begins with `#`.
-fn is_skipped(line: &[u8]) -> bool
+pub fn is_skipped(line: &[u8]) -> bool
     ensures { result ≡ is_skipped line.now }
 {
     match line {

@@ -1,10 +1,12 @@
 //! The texts that the program reads and writes, and its commands over readers and writers.
 #![tactic(auto)]
 
+mod answers;
 mod building;
 mod command;
 pub mod commands;
 mod description;
+mod events;
 pub mod fault;
 mod input;
 pub mod laws;
