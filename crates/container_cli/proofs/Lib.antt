@@ -7,4 +7,5 @@ pub mod Totals
 pub mod Room
 pub mod Built
 pub mod Spelled
+pub mod Texts
 pub mod Numbers
