@@ -1,6 +1,9 @@
 pub mod Behind
+pub mod Ending
 pub mod Hex
+pub mod Counted
 pub mod Described
+pub mod Lines
 pub mod Inputs
 pub mod Outlines
 pub mod Totals

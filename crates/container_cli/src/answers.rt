@@ -14,7 +14,7 @@ use world_run::logs::{EventAnswer, Outcome};
 pub fn push_answer(
     alloc: Global,
     text: &mut Vec<u8>,
-    event: u32,
+    event: usize,
     answer: &EventAnswer,
 ) -> Result<(), AllocError>
     ensures { OnOk result (text.new.items ≡ text.old.items ++ answer_line event answer.now) }
@@ -29,7 +29,7 @@ pub fn push_answer(
 pub fn push_stop(
     alloc: Global,
     text: &mut Vec<u8>,
-    event: u32,
+    event: usize,
     stop: Stop,
 ) -> Result<(), AllocError>
     ensures { OnOk result (text.new.items ≡ text.old.items ++ stop_line event stop) }
@@ -46,7 +46,7 @@ fn push_numbered(
     alloc: Global,
     text: &mut Vec<u8>,
     word: &str,
-    number: u32,
+    number: usize,
 ) -> Result<(), AllocError>
     ensures { OnOk result (text.new.items ≡ text.old.items ++ numbered word.now number) }
 {
@@ -108,11 +108,11 @@ fn push_made(alloc: Global, text: &mut Vec<u8>, outcome: &Outcome) -> Result<(),
     ensures { OnOk result (text.new.items ≡ text.old.items ++ made_text outcome.now) }
 {
     if let Some(frame) = outcome.frame {
-        push_numbered(alloc, text, " frame ", frame)?;
+        push_numbered(alloc, text, " frame ", frame as usize)?;
     }
     push_objects(alloc, text, outcome.objects.as_slice())?;
     if let Some(server) = outcome.server {
-        push_numbered(alloc, text, " server ", server)?;
+        push_numbered(alloc, text, " server ", server as usize)?;
     }
     Ok(())
 }
@@ -125,7 +125,7 @@ fn push_told(alloc: Global, text: &mut Vec<u8>, outcome: &Outcome) -> Result<(),
         text.extend_from_slice(b" taken".as_slice())?;
     }
     if let Some(refusal) = outcome.refused {
-        push_numbered(alloc, text, " refused ", u32::from(refusal.code()))?;
+        push_numbered(alloc, text, " refused ", usize::from(refusal.code()))?;
     }
     if outcome.no_tools {
         text.extend_from_slice(b" notools".as_slice())?;
@@ -147,7 +147,7 @@ fn push_objects(alloc: Global, text: &mut Vec<u8>, objects: &[u32]) -> Result<()
     ensures { OnOk result (text.new.items ≡ text.old.items ++ flat_map object_text objects.now) }
 {
     for object in objects {
-        push_numbered(alloc, text, " object ", *object)?;
+        push_numbered(alloc, text, " object ", *object as usize)?;
     }
     Ok(())
 }
@@ -157,7 +157,7 @@ fn push_sent(alloc: Global, text: &mut Vec<u8>, places: &[u32]) -> Result<(), Al
     ensures { OnOk result (text.new.items ≡ text.old.items ++ flat_map sent_text places.now) }
 {
     for place in places {
-        push_numbered(alloc, text, " sent ", *place)?;
+        push_numbered(alloc, text, " sent ", *place as usize)?;
     }
     Ok(())
 }
@@ -167,7 +167,7 @@ fn push_commits(alloc: Global, text: &mut Vec<u8>, frames: &[u32]) -> Result<(),
     ensures { OnOk result (text.new.items ≡ text.old.items ++ flat_map commit_text frames.now) }
 {
     for frame in frames {
-        push_numbered(alloc, text, " commit ", *frame)?;
+        push_numbered(alloc, text, " commit ", *frame as usize)?;
     }
     Ok(())
 }

@@ -11,8 +11,10 @@ pub mod fault;
 mod input;
 pub mod laws;
 mod listing;
+mod output;
 mod path;
 pub mod report;
+pub mod simulation;
 #[cfg(test)]
 mod tests;
 mod words;
