@@ -1,8 +1,7 @@
 -- What a container does with a command of a user.
-use Rattle.std.specs.Prelude.{◌≡◌, ◌+◌, ◌==◌, ◌&&◌, ◌||◌, ◌++◌, ℕ, Bool, true, false, not, List, [], ◌∷◌, length, map, Option, Some, None, is_some, Result, Ok, Err, if◌then◌else◌, nat_le, nat_lt, codes}
+use Rattle.std.specs.Prelude.{◌+◌, ◌==◌, ◌&&◌, ◌||◌, ◌++◌, ℕ, Bool, true, false, not, List, [], ◌∷◌, length, map, Option, Some, None, is_some, Result, Ok, Err, if◌then◌else◌, nat_le, nat_lt, codes}
 use Rattle.std.specs.Str.{bytes_eq}
 use Rattle.wire_msgs.specs.Found.{find, put, nth, set_nth}
-use Rattle.wire_msgs.specs.declared.message.Message.{Message}
 use Rattle.wire_msgs.specs.declared.message.Message.TheVariants.{Call}
 use Rattle.wire_msgs.specs.declared.operation.Operation.{Operation}
 use Rattle.wire_msgs.specs.declared.operation.Operation.TheVariants.{InitNew, Load, Edit, Save}
@@ -16,17 +15,15 @@ use Rattle.container_core.specs.declared.record.Area.{Area}
 use Rattle.container_core.specs.declared.record.Link.{Link}
 use Rattle.container_core.specs.declared.record.Object.{Object}
 use Rattle.container_core.specs.declared.record.Frame.{Frame}
-use Rattle.container_core.specs.declared.record.Phase.{Phase}
 use Rattle.container_core.specs.declared.record.Phase.TheVariants.{Idle, Saving}
 use Rattle.container_core.specs.declared.command.ObjectKind.{ObjectKind}
 use Rattle.container_core.specs.declared.command.ObjectKind.TheVariants as chosen
 use Rattle.container_core.specs.declared.command.Command.{Command}
 use Rattle.container_core.specs.declared.command.Command.TheVariants as command
-use Rattle.container_core.specs.declared.answer.Action.{Action}
-use Rattle.container_core.specs.declared.answer.Action.TheVariants.{Send, Start}
+use Rattle.container_core.specs.declared.answer.Action.TheVariants.{Start}
 use Rattle.container_core.specs.declared.fault.ContainerFault.{ContainerFault}
 use Rattle.container_core.specs.declared.fault.ContainerFault.TheVariants.{NoSuch, Busy, NotRunning, InDoubt, Full, NumbersSpent, WrongState, UnknownClass}
-use Rattle.container_core.specs.Record.{Record, Took, MOST_FRAMES, MOST_OBJECTS, MOST_SERVERS, MARGIN, quiet_answer, acts, sends, Asked, ask, is_object, is_alive, is_busy, is_moving, is_saving, is_doubtful, count_alive, count_objects, has_numbers, asked_link, asked_object, asked_all, with_object}
+use Rattle.container_core.specs.Record.{Record, Took, MOST_FRAMES, MOST_OBJECTS, MOST_SERVERS, MARGIN, quiet_answer, acts, sends, ask, is_object, is_alive, is_busy, is_moving, is_saving, is_doubtful, count_alive, count_objects, has_numbers, asked_object, asked_all, with_object}
 use Rattle.container_core.specs.Saves.{settle, settle_actions}
 
 -- checks, in their order
@@ -50,9 +47,9 @@ new_frame name w h = record { name = name; asked = None; k = 0; ui = fresh w h; 
 
 abbrev pub new_made : Record → List ℕ → ℕ → ℕ → Took
 new_made r name w h = record {
-    rec = record r { frames = r.frames ++ new_frame name w h ∷ [] };
-    answer = record quiet_answer { frame = Some (length r.frames + 1) };
-  }
+  rec = record r { frames = r.frames ++ new_frame name w h ∷ [] };
+  answer = record quiet_answer { frame = Some (length r.frames + 1) };
+}
 
 abbrev pub new : Record → List ℕ → ℕ → ℕ → Result Took ContainerFault
 new r name w h =
@@ -81,9 +78,9 @@ new_object number f kind area = record { number = number; frame = f; class = cla
 
 abbrev pub insert_made : Record → ℕ → Kind → Area → Took
 insert_made r f kind area = record {
-    rec = record r { objects = r.objects ++ new_object (r.last_object + 1) f kind area ∷ []; last_object = r.last_object + 1 };
-    answer = record quiet_answer { objects = (r.last_object + 1) ∷ [] };
-  }
+  rec = record r { objects = r.objects ++ new_object (r.last_object + 1) f kind area ∷ []; last_object = r.last_object + 1 };
+  answer = record quiet_answer { objects = (r.last_object + 1) ∷ [] };
+}
 
 abbrev pub is_empty_area : Area → Bool
 is_empty_area area = (area.w == 0) || (area.h == 0)
@@ -104,9 +101,9 @@ insert r f kind area = insert_at r f kind area (nth r.frames f)
 -- Start: a new server.
 abbrev pub start_made : Record → Took
 start_made r = record {
-    rec = record r { servers = r.servers ++ false ∷ [] };
-    answer = record quiet_answer { server = Some (length r.servers + 1); actions = Start (length r.servers + 1) ∷ [] };
-  }
+  rec = record r { servers = r.servers ++ false ∷ [] };
+  answer = record quiet_answer { server = Some (length r.servers + 1); actions = Start (length r.servers + 1) ∷ [] };
+}
 
 abbrev pub start : Record → Result Took ContainerFault
 start r =
@@ -157,9 +154,9 @@ MOST_EDIT = 65536
 
 abbrev pub edit_made : Record → Object → Link → List ℕ → Took
 edit_made r o l bytes = record {
-    rec = with_object r (record o { link = Some (ask l (Edit bytes)).link });
-    answer = acts (sends (ask l (Edit bytes)).sent);
-  }
+  rec = with_object r (record o { link = Some (ask l (Edit bytes)).link });
+  answer = acts (sends (ask l (Edit bytes)).sent);
+}
 
 abbrev pub edit_linked : Record → Object → List ℕ → Option Link → Result Took ContainerFault
 edit_linked r o bytes None = Err NotRunning
@@ -203,9 +200,9 @@ saving r f frame = record r { frames = set_nth r.frames f (saving_frame frame); 
 
 abbrev pub save_made : Record → ℕ → Frame → Took
 save_made r f frame = record {
-    rec = settle (saving r f frame);
-    answer = acts (sends (asked_all f (Save (frame.k + 1)) r.objects) ++ settle_actions (saving r f frame));
-  }
+  rec = settle (saving r f frame);
+  answer = acts (sends (asked_all f (Save (frame.k + 1)) r.objects) ++ settle_actions (saving r f frame));
+}
 
 abbrev pub save_at : Record → ℕ → Option Frame → Result Took ContainerFault
 save_at r f None = Err NoSuch

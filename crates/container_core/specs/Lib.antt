@@ -4,3 +4,4 @@ pub mod Saves
 pub mod Messages
 pub mod Commands
 pub mod Room
+pub mod Numbered

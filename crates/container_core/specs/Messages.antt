@@ -1,12 +1,11 @@
 -- What a container does with a message, and with the end of a server.
-use Rattle.std.specs.Prelude.{◌≡◌, ◌+◌, ◌==◌, ◌++◌, ℕ, Bool, true, false, not, List, [], ◌∷◌, map, Option, Some, None, Result, Ok, Err, if◌then◌else◌}
-use Rattle.wire_msgs.specs.Found.{find, put, nth, set_nth}
+use Rattle.std.specs.Prelude.{◌+◌, ◌==◌, ◌++◌, ℕ, true, List, [], ◌∷◌, map, Option, Some, None, Result, Ok, Err, if◌then◌else◌}
+use Rattle.wire_msgs.specs.Found.{find, put, set_nth}
 use Rattle.wire_msgs.specs.Operations.{op_of}
 use Rattle.wire_msgs.specs.declared.message.Message.{Message}
 use Rattle.wire_msgs.specs.declared.message.Message.TheVariants.{Call, Reply, Write, Ask}
 use Rattle.wire_msgs.specs.declared.operation.Operation.{Operation}
 use Rattle.wire_msgs.specs.declared.operation.Operation.TheVariants.{InitNew, Load, Edit, Save, SaveCompleted, SaveDropped}
-use Rattle.wire_msgs.specs.declared.operation.Operation.TheVariants as operation
 use Rattle.wire_msgs.specs.declared.answer.Answer.{Answer}
 use Rattle.wire_msgs.specs.declared.answer.Answer.TheVariants as told
 use Rattle.wire_msgs.specs.declared.refusal.Refusal.{Refusal}
@@ -16,10 +15,9 @@ use Rattle.object_state.specs.declared.faults.StateFault.{StateFault}
 use Rattle.storage_tree.specs.declared.stored.Stored.{Stored}
 use Rattle.container_core.specs.declared.record.Link.{Link}
 use Rattle.container_core.specs.declared.record.Object.{Object}
-use Rattle.container_core.specs.declared.answer.Action.{Action}
 use Rattle.container_core.specs.declared.fault.ContainerFault.{ContainerFault}
 use Rattle.container_core.specs.declared.fault.ContainerFault.TheVariants.{NoSuch, WrongLink, Stale, BadAnswer}
-use Rattle.container_core.specs.Record.{Record, Took, quiet_answer, acts, sends, is_linked, is_alive, is_unreaped}
+use Rattle.container_core.specs.Record.{Record, Took, quiet_answer, acts, sends, is_linked, is_alive}
 use Rattle.container_core.specs.Saves.{settle, settle_actions, kept}
 
 -- A link after an answer, the reply's content, and why the object refused.
@@ -93,12 +91,12 @@ replied_record r inc act o replied = record r { objects = put (is_linked inc act
 abbrev pub reply_taken : Record → ℕ → ℕ → Object → Result Replied ContainerFault → Result Took ContainerFault
 reply_taken r inc act o (Err fault) = Err fault
 reply_taken r inc act o (Ok replied) = Ok (record {
-    rec = settle (replied_record r inc act o replied);
-    answer = record quiet_answer {
-      refused = replied.refused;
-      actions = sends (next_sent replied.link) ++ settle_actions (replied_record r inc act o replied);
-    };
-  })
+  rec = settle (replied_record r inc act o replied);
+  answer = record quiet_answer {
+    refused = replied.refused;
+    actions = sends (next_sent replied.link) ++ settle_actions (replied_record r inc act o replied);
+  };
+})
 
 -- the answer to call n, which is to be the pending one
 abbrev pub reply_pending : Link → ℕ → Answer → Option Operation → Result Replied ContainerFault

@@ -1,6 +1,6 @@
 -- A container's record, and what a step gives.
-use Rattle.std.specs.Prelude.{◌≡◌, ◌+◌, ◌==◌, ◌&&◌, ◌||◌, ℕ, Bool, true, false, not, List, [], ◌∷◌, ◌++◌, length, map, Option, Some, None, is_some, Result, Ok, Err, IsOk, if◌then◌else◌, nat_lt}
-use Rattle.wire_msgs.specs.Found.{find, put, nth, set_nth}
+use Rattle.std.specs.Prelude.{◌≡◌, ◌+◌, ◌==◌, ◌&&◌, ◌||◌, ℕ, Bool, true, false, not, List, [], ◌∷◌, ◌++◌, length, map, Option, Some, None, is_some, Result, Err, IsOk, if◌then◌else◌, nat_lt}
+use Rattle.wire_msgs.specs.Found.{put, nth, set_nth}
 use Rattle.wire_msgs.specs.declared.message.Message.{Message}
 use Rattle.wire_msgs.specs.declared.message.Message.TheVariants.{Call}
 use Rattle.wire_msgs.specs.declared.operation.Operation.{Operation}
@@ -8,7 +8,6 @@ use Rattle.grant_core.specs.declared.grant_states.GrantState.{GrantState}
 use Rattle.grant_core.specs.declared.grant_states.GrantState.TheVariants.{Granting, Revoking}
 use Rattle.grant_core.specs.declared.grant_states.Claim.{Claim}
 use Rattle.grant_core.specs.Grants.{waiting}
-use Rattle.storage_tree.specs.declared.stored.Stored.{Stored}
 use Rattle.container_core.specs.declared.record.Link.{Link}
 use Rattle.container_core.specs.declared.record.Object.{Object}
 use Rattle.container_core.specs.declared.record.Frame.{Frame}

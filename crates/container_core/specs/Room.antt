@@ -1,5 +1,5 @@
 -- Numbers stay within what a message carries: each activation has a number left for what it may be asked without a check.
-use Rattle.std.specs.Prelude.{◌≡◌, ◌+◌, ◌≤◌, ℕ, List, [], ◌∷◌, length, Option, Some, None, All, cond, is_some}
+use Rattle.std.specs.Prelude.{◌+◌, ◌≤◌, ℕ, List, length, Option, Some, None, All, cond, is_some}
 use Rattle.wire_msgs.specs.Found.{nth}
 use Rattle.container_core.specs.declared.record.Link.{Link}
 use Rattle.container_core.specs.declared.record.Object.{Object}
@@ -39,5 +39,7 @@ pub record IsSound (r : Record) : Type 0 where
   pub limit : r.numbers ≤ 1000000
   pub room : All (HasRoom r.numbers r.frames) r.objects
   pub saves : All (λ (f : Frame). f.k ≤ r.numbers) r.frames
+  pub frames : length r.frames ≤ r.numbers
+  pub servers : length r.servers ≤ r.numbers
   pub objects : r.last_object ≤ r.numbers
   pub acts : r.last_act ≤ r.numbers

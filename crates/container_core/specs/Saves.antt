@@ -1,5 +1,5 @@
 -- How saves go on, and what they count.
-use Rattle.std.specs.Prelude.{◌≡◌, ◌+◌, ◌==◌, ℕ, Bool, true, false, List, [], ◌∷◌, ◌++◌, map, Option, Some, None, Result, Ok, Err, if◌then◌else◌}
+use Rattle.std.specs.Prelude.{◌+◌, ◌==◌, ℕ, Bool, true, false, List, [], ◌∷◌, ◌++◌, map, Option, Some, None, Result, Ok, Err, if◌then◌else◌}
 use Rattle.wire_msgs.specs.Found.{nth, set_nth}
 use Rattle.cfb_directory.specs.Names.{key}
 use Rattle.wire_msgs.specs.declared.operation.Operation.{Operation}
@@ -13,13 +13,13 @@ use Rattle.container_core.specs.declared.record.Link.{Link}
 use Rattle.container_core.specs.declared.record.Object.{Object}
 use Rattle.container_core.specs.declared.record.Frame.{Frame}
 use Rattle.container_core.specs.declared.record.Phase.{Phase}
-use Rattle.container_core.specs.declared.record.Phase.TheVariants.{Idle, Saving, HandingOff, Committing, InDoubt}
+use Rattle.container_core.specs.declared.record.Phase.TheVariants.{Idle, Saving, Committing, InDoubt}
 use Rattle.container_core.specs.declared.answer.Action.{Action}
 use Rattle.container_core.specs.declared.answer.Action.TheVariants.{Commit}
 use Rattle.container_core.specs.declared.answer.Part.{Part}
 use Rattle.container_core.specs.declared.fault.ContainerFault.{ContainerFault}
 use Rattle.container_core.specs.declared.fault.ContainerFault.TheVariants.{NoSuch, WrongState, Full}
-use Rattle.container_core.specs.Record.{Record, Took, acts, sends, asked_object, asked_all, with_frame}
+use Rattle.container_core.specs.Record.{Record, Took, acts, sends, asked_object, asked_all}
 
 -- An object is waited for until it has answered its content in the present save, or is passive.
 abbrev pub is_awaited_link : Option Link → Bool
@@ -139,9 +139,9 @@ completed f frame o = asked_object f (completion frame) (counted_object f o)
 
 abbrev pub commit_made : Record → ℕ → Frame → Took
 commit_made r f frame = record {
-    rec = record r { frames = set_nth r.frames f (committed_frame frame); objects = map (completed f frame) r.objects };
-    answer = acts (sends (asked_all f (completion frame) r.objects));
-  }
+  rec = record r { frames = set_nth r.frames f (committed_frame frame); objects = map (completed f frame) r.objects };
+  answer = acts (sends (asked_all f (completion frame) r.objects));
+}
 
 abbrev pub is_committing : Phase → Bool
 is_committing Committing = true

@@ -3,11 +3,11 @@
 ghost use Rattle.std.specs.Prelude.{◌≡◌};
 ghost use Rattle.container_core.specs.Record.{quiet_answer};
 
+use crate::record::Area;
 use std::alloc::Global;
 use storage_tree::bytes::Bytes;
 use storage_tree::class_id::ClassId;
 use storage_tree::stored::Stored;
-use crate::record::Area;
 use wire_msgs::items::Items;
 use wire_msgs::message::Message;
 use wire_msgs::refusal::Refusal;

@@ -11,7 +11,9 @@ ghost use Rattle.stream_io.specs.Denotes.{Denotes};
 use crate::answer::{Answer, Part};
 use crate::command::Command;
 use crate::fault::ContainerFault;
+use crate::lookups::{place, place_object};
 use crate::record::{Frame, Object};
+use crate::servers::Servers;
 use std::alloc::Global;
 use std::marker::Model;
 use wire_msgs::items::Items;
@@ -29,7 +31,7 @@ pub struct Limits {
 pub struct ContainerCore {
     pub(crate) frames: Vec<Frame>,
     pub(crate) objects: Vec<Object>,
-    pub(crate) servers: Vec<bool>,
+    pub(crate) servers: Servers,
     pub(crate) last_object: u32,
     pub(crate) last_act: u32,
     pub(crate) numbers: u32,
@@ -41,14 +43,15 @@ impl Model for ContainerCore {
 
     ghost Value = { Record };
 
-    ghost view = { λ c. record { frames = c.frames.items; objects = c.objects.items; servers = c.servers.items; last_object = c.last_object; last_act = c.last_act; numbers = c.numbers } };
+    ghost view = { λ c. record { frames = c.frames.items; objects = c.objects.items; servers = c.servers; last_object = c.last_object; last_act = c.last_act; numbers = c.numbers } };
 
-    ghost invariant = { λ c. IsSound (record { frames = c.frames.items; objects = c.objects.items; servers = c.servers.items; last_object = c.last_object; last_act = c.last_act; numbers = c.numbers }) };
+    ghost invariant = { λ c. IsSound (record { frames = c.frames.items; objects = c.objects.items; servers = c.servers; last_object = c.last_object; last_act = c.last_act; numbers = c.numbers }) };
 }
 
 impl ContainerCore {
-    ghost use Rattle.std.specs.Prelude.{◌≡◌, ◌≤◌};
-    ghost use Rattle.container_core.specs.Record.{empty};
+    ghost use Rattle.std.specs.Prelude.{◌≡◌, ◌≤◌, option_copied};
+    ghost use Rattle.wire_msgs.specs.Found.{find, nth};
+    ghost use Rattle.container_core.specs.Record.{empty, is_object};
 
     /// A container without frames, objects and servers.
     pub fn new(alloc: Global, limits: Limits) -> ContainerCore
@@ -58,10 +61,51 @@ impl ContainerCore {
         ContainerCore {
             frames: Vec::new(alloc),
             objects: Vec::new(alloc),
-            servers: Vec::new(alloc),
+            servers: Servers::new(alloc),
             last_object: 0,
             last_act: 0,
             numbers: limits.numbers,
         }
+    }
+
+    /// The frames, by their numbers from 1.
+    pub fn frames(&self) -> &[Frame]
+        ensures { result.now ≡ self.now.frames }
+    {
+        &self.frames
+    }
+
+    /// The objects, in the order in which they were made.
+    pub fn objects(&self) -> &[Object]
+        ensures { result.now ≡ self.now.objects }
+    {
+        &self.objects
+    }
+
+    /// The frame of this number.
+    pub fn frame(&self, frame: u32) -> Option<&Frame>
+        ensures { option_copied result ≡ nth self.now.frames frame }
+    {
+        match place(&self.frames, frame) {
+            Some(place) => Some(&self.frames[place]),
+            None => None,
+        }
+    }
+
+    /// The object of this number.
+    pub fn object(&self, object: u32) -> Option<&Object>
+        ensures { option_copied result ≡ find (is_object object) self.now.objects }
+    {
+        match place_object(&self.objects, object) {
+            Some(place) => Some(&self.objects[place]),
+            None => None,
+        }
+    }
+
+    /// The greatest number that is drawn.
+    pub fn numbers(&self) -> u32
+        ensures { result ≡ self.now.numbers }
+    {
+        self.numbers
     }
 }

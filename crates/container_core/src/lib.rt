@@ -4,5 +4,10 @@
 pub mod answer;
 pub mod command;
 pub mod container;
+mod commits;
+mod documents;
 pub mod fault;
+mod lookups;
 pub mod record;
+mod servers;
+mod settling;

@@ -6,3 +6,5 @@ pub mod items;
 pub mod message;
 pub mod operation;
 pub mod refusal;
+#[cfg(test)]
+mod tests;

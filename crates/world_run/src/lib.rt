@@ -3,6 +3,10 @@
 
 pub mod event;
 pub mod instance;
+pub mod ledger;
 pub mod logs;
+pub mod report;
 pub mod stock;
+mod text;
+pub mod worked;
 pub mod world;

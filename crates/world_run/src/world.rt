@@ -14,16 +14,16 @@ use std::alloc::Global;
 /// A container, its servers, the messages between them, and the files.
 #[derive(Drop)]
 pub struct World {
-    core: ContainerCore,
-    instances: Vec<Instance>,
-    files: Vec<File>,
-    stock: Stock,
-    sent: Vec<Sent>,
-    owners: Vec<u32>,
-    answers: Vec<EventAnswer>,
-    container_done: Vec<Done>,
-    server_done: Vec<ServerDone>,
-    counted: Vec<Option<Document>>,
+    pub(crate) core: ContainerCore,
+    pub(crate) instances: Vec<Instance>,
+    pub(crate) files: Vec<File>,
+    pub(crate) stock: Stock,
+    pub(crate) sent: Vec<Sent>,
+    pub(crate) owners: Vec<u32>,
+    pub(crate) answers: Vec<EventAnswer>,
+    pub(crate) container_done: Vec<Done>,
+    pub(crate) server_done: Vec<ServerDone>,
+    pub(crate) counted: Vec<Option<Document>>,
 }
 
 impl World {

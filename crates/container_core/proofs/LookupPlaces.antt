@@ -1,0 +1,40 @@
+use Rattle.std.proofs.Common.{◌≡◌, ℕ, ◌+◌, ◌<◌, ◌≤◌, Bool, List, map, zero, suc, [], ◌∷◌, ◌++◌, length, get_or, take, drop, refl, ap, sym, ◌∙◌, append_assoc, Some, None, true, false, arith}
+use Rattle.std.proofs.lemmas.List.{drop_more, take_more, set_split}
+use Rattle.std.proofs.lemmas.Option.{slice_get-get_or}
+use Rattle.std.proofs.Math.ListN.{drop_of_length-le, set}
+use Rattle.std.proofs.Math.Numerals.{add-one}
+use Rattle.wire_msgs.specs.Found.{find, put, IsPlace}
+use Rattle.container_core.specs.Numbered.{IsPast}
+
+pub past_none : {A : Type 0} (test : A → Bool) (xs : List A) → IsPast test xs 0
+past_none test xs = record { found = refl; puts = λ a. refl }
+
+pub past_more : {A : Type 0} (test : A → Bool) (xs : List A) (i : ℕ) (x : A) → IsPast test xs i → i < length xs → x ≡ get_or xs i x → test x ≡ false → IsPast test xs (i + 1)
+past_more test xs i x p lt e t =
+    let split : drop i xs ≡ x ∷ drop (i + 1) xs = drop_more xs i x lt ∙ ap (λ y. y ∷ drop (i + 1) xs) (sym e) in
+    let tk : take (i + 1) xs ≡ take i xs ++ x ∷ [] = take_more xs i x lt ∙ ap (λ y. take i xs ++ y ∷ []) (sym e) in
+    record {
+      found = p.found ∙ (ap (find test) split ∙ rw t refl);
+      puts = λ a. p.puts a ∙ (ap (λ ys. take i xs ++ put test a ys) split ∙ (rw t (rw tk (sym (append_assoc (take i xs) (x ∷ []) (put test a (drop (i + 1) xs)))))));
+    }
+
+pub past_here : {A : Type 0} (test : A → Bool) (xs : List A) (i : ℕ) (x : A) → IsPast test xs i → i < length xs → x ≡ get_or xs i x → test x ≡ true → IsPlace test xs i
+past_here test xs i x p lt e t =
+    let split : drop i xs ≡ x ∷ drop (i + 1) xs = drop_more xs i x lt ∙ ap (λ y. y ∷ drop (i + 1) xs) (sym e) in
+    record {
+      fits = lt;
+      found = p.found ∙ (ap (find test) split ∙ (rw t (ap Some e ∙ sym (slice_get-get_or xs i x lt))));
+      puts = λ a. p.puts a ∙ (ap (λ ys. take i xs ++ put test a ys) split ∙ (rw t (sym (rw add-one (set_split xs i a lt)))));
+    }
+
+pub past_all : {A : Type 0} (test : A → Bool) (xs : List A) (i : ℕ) → IsPast test xs i → length xs ≤ i → find test xs ≡ None
+past_all test xs i p h = p.found ∙ ap (find test) (drop_of_length-le xs h)
+
+mapped_suc : {A : Type 0} (f : A → A) (ys : List A) (i : ℕ) (d : A) → i < length ys → set (map f (take i ys) ++ drop i ys) i (f (get_or (map f (take i ys) ++ drop i ys) i d)) ≡ map f (take (suc i) ys) ++ drop (suc i) ys
+mapped_suc f [] i d lt = absurd (omega arith)
+mapped_suc f (y ∷ ys) zero d lt = refl
+mapped_suc f (y ∷ ys) (suc i) d lt = ap (λ zs. f y ∷ zs) (mapped_suc f ys i d (omega arith))
+
+-- one more item of a list is changed
+pub mapped_more : {A : Type 0} (f : A → A) (ys zs : List A) (i : ℕ) (d n : A) → zs ≡ map f (take i ys) ++ drop i ys → i < length ys → n ≡ f (get_or zs i d) → set zs i n ≡ map f (take (i + 1) ys) ++ drop (i + 1) ys
+mapped_more f ys zs i d n h lt e = ap (set zs i) e ∙ rw (h, add-one) (mapped_suc f ys i d lt)

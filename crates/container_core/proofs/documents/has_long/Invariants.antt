@@ -1,0 +1,7 @@
+use Rattle.std.proofs.Common.{◌≡◌, drop}
+use Rattle.container_core.specs.Saves.{children_of}
+use Rattle.stream_io.specs.Refusals.{has_long_in}
+use Rattle.container_core.proofs.documents.has_long.Given as goal
+
+abbrev pub invariant-loop-stream : goal.invariant-loop-stream
+invariant-loop-stream l = has_long_in (children_of (drop l.stream-index l.streams)) ≡ has_long_in (children_of l.streams)

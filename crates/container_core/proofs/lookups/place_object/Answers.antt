@@ -1,0 +1,16 @@
+use Rattle.std.proofs.Common.{arith, eq-eqb}
+use Rattle.std.proofs.lemmas.Bool.{ne_eqb}
+use Rattle.container_core.proofs.LookupPlaces.{past_none, past_more, past_here, past_all}
+use Rattle.container_core.proofs.lookups.place_object.Goals as goal
+
+pub loop-i-init : goal.loop-i-init
+loop-i-init c = past_none _ _
+
+pub returns-then-object-number : goal.returns-then-object-number
+returns-then-object-number c = past_here _ _ _ c.index-objects-i.result c.loop-i.invariant c.loop-i-test.true c.index-objects-i.is (eq-eqb _ _ c.if-object-number.true)
+
+pub loop-i-preserved : goal.loop-i-preserved
+loop-i-preserved c = past_more _ _ _ c.index-objects-i.result c.loop-i.invariant c.loop-i-test.true c.index-objects-i.is (ne_eqb _ _ c.if-object-number.false)
+
+pub returns : goal.returns
+returns c = past_all _ _ c.loop-i.i c.loop-i.invariant (omega arith)

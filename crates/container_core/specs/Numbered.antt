@@ -1,0 +1,15 @@
+-- Where the item of a number stands, and the first item that passes a test.
+use Rattle.std.specs.Prelude.{◌≡◌, ◌+◌, ◌<◌, ◌++◌, ℕ, Bool, List, length, slice_get, slice_set, take, drop}
+use Rattle.wire_msgs.specs.Found.{find, put, nth, set_nth}
+
+-- the item of number n stands at i
+pub record IsNth {A : Type 0} (n : ℕ) (xs : List A) (i : ℕ) : Type 0 where
+  pub fits : i < length xs
+  pub number : n ≡ i + 1
+  pub found : nth xs n ≡ slice_get xs i
+  pub puts : (a : A) → set_nth xs n a ≡ slice_set xs i a
+
+-- no item before i passes
+pub record IsPast {A : Type 0} (test : A → Bool) (xs : List A) (i : ℕ) : Type 0 where
+  pub found : find test xs ≡ find test (drop i xs)
+  pub puts : (a : A) → put test a xs ≡ take i xs ++ put test a (drop i xs)

@@ -1,0 +1,64 @@
+//! Where frames and objects stand.
+
+ghost use Rattle.std.specs.Prelude.{◌≡◌, ◌&&◌, ◌==◌, MatchOption, None};
+ghost use Rattle.wire_msgs.specs.Found.{find, nth, IsPlace};
+ghost use Rattle.container_core.specs.Record.{is_linked, is_object};
+ghost use Rattle.container_core.specs.Numbered.{IsNth};
+
+use crate::record::{Frame, Object};
+
+/// Where the item of this number stands.
+pub(crate) fn place<T>(items: &[T], number: u32) -> Option<usize>
+    ensures { MatchOption result (nth items.now number ≡ None) (IsNth number items.now) }
+{
+    if number == 0 {
+        return None;
+    }
+    let place = (number - 1) as usize;
+    if place < items.len() {
+        Some(place)
+    } else {
+        None
+    }
+}
+
+/// Where the frame of this number stands.
+pub(crate) fn frame_place(frames: &[Frame], number: u32) -> Option<usize>
+    ensures { MatchOption result (nth frames.now number ≡ None) (IsNth number frames.now) }
+{
+    place(frames, number)
+}
+
+/// Where the object of this number stands.
+pub(crate) fn place_object(objects: &[Object], number: u32) -> Option<usize>
+    ensures { MatchOption result (find (is_object number) objects.now ≡ None) (IsPlace (is_object number) objects.now) }
+{
+    for (i, object) in objects.iter().enumerate() {
+        if object.number == number {
+            return Some(i);
+        }
+    }
+    None
+}
+
+/// Where the object of this activation stands.
+pub(crate) fn place_linked(objects: &[Object], inc: u32, act: u32) -> Option<usize>
+    ensures { MatchOption result (find (is_linked inc act) objects.now ≡ None) (IsPlace (is_linked inc act) objects.now) }
+{
+    for (i, object) in objects.iter().enumerate() {
+        if is_linked(object, inc, act) {
+            return Some(i);
+        }
+    }
+    None
+}
+
+// Whether an object has this activation.
+fn is_linked(object: &Object, inc: u32, act: u32) -> bool
+    ensures { result ≡ is_linked inc act object.now }
+{
+    match &object.link {
+        Some(link) => link.inc == inc && link.act == act,
+        None => false,
+    }
+}

@@ -1,0 +1,6 @@
+use Rattle.std.proofs.Common.{◌≡◌, ◌++◌, drop}
+use Rattle.world_run.specs.Report.{hex}
+use Rattle.world_run.proofs.text.push_hex.Given as goal
+
+abbrev pub invariant-loop-byte : goal.invariant-loop-byte
+invariant-loop-byte l = l.text.items ++ hex (drop l.byte-index l.bytes) ≡ l.initial.text.items ++ hex l.bytes
