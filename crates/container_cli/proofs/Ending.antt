@@ -1,7 +1,8 @@
 -- A run from the world in which nothing has happened, and what is written of it.
 use Rattle.std.proofs.Common.{◌≡◌, ◌<◌, ◌++◌, ℕ, zero, suc, List, [], ◌∷◌, Option, Some, None, length, take, drop, slice_get, IfNone, IfSome, refl, ap, ◌∙◌, subst, arith}
 use Rattle.embed_core.specs.Kinds.{Kind}
-use Rattle.world_run.specs.Standin.{report, StopsAt}
+use Rattle.world_run.specs.Report.{report}
+use Rattle.world_run.specs.Standin.{StopsAt}
 use Rattle.world_run.specs.World.{World, Run, empty_world}
 use Rattle.world_run.specs.declared.event.Event.{Event}
 use Rattle.world_run.specs.declared.event.Stop.{Stop}

@@ -4,7 +4,7 @@ ghost use Rattle.container_cli.specs.Answers.{answer_lines};
 ghost use Rattle.container_cli.specs.Input.{most};
 ghost use Rattle.container_cli.specs.Simulation.{IsSimulated, MayRefuseSimulate, Simulates, stop_text};
 ghost use Rattle.std.specs.Prelude.{◌≡◌, ◌≢◌, ◌≤◌, ◌<◌, ◌++◌, IfErr, IfOk, IfSome, OnOk, length, map};
-ghost use Rattle.world_run.specs.Standin.{report};
+ghost use Rattle.world_run.specs.Report.{report};
 ghost use Rattle.world_run.specs.View.{seen, seen_stocked};
 ghost use Rattle.world_run.specs.World.{MOST_EVENTS};
 
