@@ -119,13 +119,13 @@ limited-few w next (Ok after) one is =
     let told : (Bool → Result World Stop) = λ b. cond b (Err EventLimit) (Ok after) in
     let P : Bool → Type 0 = λ b. nat_le MOST_EVENTS (length w.answers) ≡ b → told b ≡ Ok next → length next.answers ≤ MOST_EVENTS in
     let cases : P (nat_le MOST_EVENTS (length w.answers)) =
-        elim (nat_le MOST_EVENTS (length w.answers)) as P [
-          | true ↦ λ over e. absurd (cc)
-          | false ↦ λ under e.
-              let same : after ≡ next = cc in
-              let below : length w.answers < MOST_EVENTS = grind (arith, nat_tests) in
-              omega (arith, one, ap (λ v. length v.answers) same)
-        ] in
+    elim (nat_le MOST_EVENTS (length w.answers)) as P [
+      | true ↦ λ over e. absurd (cc)
+      | false ↦ λ under e.
+          let same : after ≡ next = cc in
+          let below : length w.answers < MOST_EVENTS = grind (arith, nat_tests) in
+          omega (arith, one, ap (λ v. length v.answers) same)
+    ] in
     cases refl is
 
 pub run-few : (es : List Event) (w after : World) → length w.answers ≤ MOST_EVENTS → Run w es after → length after.answers ≤ MOST_EVENTS

@@ -167,8 +167,7 @@ fn new_frame(alloc: Global, rest: &[u8]) -> Result<Option<Event>, AllocError>
     ) else {
         return Ok(None);
     };
-    let (true, Some(width), Some(height)) = (is_file_name(name), short(width), short(height))
-    else {
+    let (true, Some(width), Some(height)) = (is_file_name(name), short(width), short(height)) else {
         return Ok(None);
     };
     let name = Bytes::from_vec(Vec::from_slice(alloc, name)?);
@@ -229,9 +228,11 @@ fn run(rest: &[u8]) -> Option<Event>
     ensures { result ≡ run_read (words rest.now) }
 {
     let mut words = Pieces::new(rest, b' ');
-    let (Some(object), Some(server), None) =
-        (words.next_piece(), words.next_piece(), words.next_piece())
-    else {
+    let (Some(object), Some(server), None) = (
+        words.next_piece(),
+        words.next_piece(),
+        words.next_piece(),
+    ) else {
         return None;
     };
     Some(Event::Command(Command::Run(number(object)?, number(server)?)))

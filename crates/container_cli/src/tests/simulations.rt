@@ -50,7 +50,12 @@ const ANSWERS: [&str; 15] = [
 ];
 
 /// So many texts, and one behind them.
-fn joined(alloc: Global, texts: &[&str; 15], count: usize, last: &str) -> Result<String, AllocError> {
+fn joined(
+    alloc: Global,
+    texts: &[&str; 15],
+    count: usize,
+    last: &str,
+) -> Result<String, AllocError> {
     let mut all = String::new(alloc);
     for text in texts.iter().take(count) {
         all.push_str(text)?;
@@ -86,7 +91,11 @@ fn assert_run(
     let events = joined(alloc, &SAVED, count, others)?;
     let want = joined(alloc, &ANSWERS, count, want)?;
     let mut out = Vec::new(alloc);
-    assert_eq!(rt; run(alloc, &mut events.as_bytes(), &mut out)??, stop, "{others}");
+    assert_eq!(rt;
+        run(alloc, &mut events.as_bytes(), &mut out)??,
+        stop,
+        "{others}"
+    );
     assert_eq!(rt; out.as_slice(), want.as_bytes(), "{others}");
     Ok(())
 }
@@ -103,14 +112,16 @@ fn refusal(alloc: Global, text: &str) -> Result<String, AllocError> {
 
 #[test]
 fn a_note_is_made_edited_and_saved(rt: HostRuntime) -> Result<(), Fail> {
-    let report = "frame 1 a Free k 1 stored\nobject 1 frame 1 Note Running Normal act 1 s 2 Text=6162\ndone container 1 1\ndone server 1 1\n";
+    let report =
+        "frame 1 a Free k 1 stored\nobject 1 frame 1 Note Running Normal act 1 s 2 Text=6162\ndone container 1 1\ndone server 1 1\n";
     assert_run(&rt, rt.alloc(), 15, "", report, None)
 }
 
 #[test]
 fn an_object_whose_server_crashed_before_a_save_is_empty(rt: HostRuntime) -> Result<(), Fail> {
     let others = "# the server ends\n\ncrash 1\nreap 1\nstart\n";
-    let want = "10 ok\n11 ok\n12 server 2\nframe 1 a Free k 0 none\nobject 1 frame 1 Note Passive -\n";
+    let want =
+        "10 ok\n11 ok\n12 server 2\nframe 1 a Free k 0 none\nobject 1 frame 1 Note Passive -\n";
     assert_run(&rt, rt.alloc(), 9, others, want, None)
 }
 
@@ -118,7 +129,8 @@ fn an_object_whose_server_crashed_before_a_save_is_empty(rt: HostRuntime) -> Res
 fn an_object_whose_server_crashed_in_a_commit_has_what_was_saved(
     rt: HostRuntime,
 ) -> Result<(), Fail> {
-    let want = "13 ok\n14 ok\n15 ok\nframe 1 a Free k 1 stored\nobject 1 frame 1 Note Passive Text=6162\ndone container 1 1\n";
+    let want =
+        "13 ok\n14 ok\n15 ok\nframe 1 a Free k 1 stored\nobject 1 frame 1 Note Passive Text=6162\ndone container 1 1\n";
     assert_run(&rt, rt.alloc(), 12, "crash 1\nreap 1\ndone 1\n", want, None)
 }
 
@@ -168,7 +180,11 @@ fn lines_that_spell_no_event_are_told(rt: HostRuntime) -> Result<(), Fail> {
         "reap 1 1",
         "done 01",
     ] {
-        assert_eq!(rt; refusal(rt.alloc(), text)?.as_str(), "line 1: Bad", "{text}");
+        assert_eq!(rt;
+            refusal(rt.alloc(), text)?.as_str(),
+            "line 1: Bad",
+            "{text}"
+        );
     }
     let late = "start\n# skipped\n\nstop\nstart\n";
     assert_eq!(rt; refusal(rt.alloc(), late)?.as_str(), "line 4: Bad");
@@ -209,7 +225,11 @@ fn reads_and_writes_of_a_run_that_fail_are_told(rt: HostRuntime) -> Result<(), F
         }
     }
     assert!(rt; out.is_empty());
-    match run(rt.alloc(), &mut b"start\n".as_slice(), &mut Full { room: 10 })? {
+    match run(
+        rt.alloc(),
+        &mut b"start\n".as_slice(),
+        &mut Full { room: 10 },
+    )? {
         Ok(_) => panic!(rt; "the events are run"),
         Err(fault) => {
             assert_eq!(rt;
@@ -218,7 +238,11 @@ fn reads_and_writes_of_a_run_that_fail_are_told(rt: HostRuntime) -> Result<(), F
             );
         }
     }
-    let whole = run(rt.alloc(), &mut b"start\n".as_slice(), &mut Full { room: 11 })??;
+    let whole = run(
+        rt.alloc(),
+        &mut b"start\n".as_slice(),
+        &mut Full { room: 11 },
+    )??;
     assert_eq!(rt; whole, None);
     Ok(())
 }
