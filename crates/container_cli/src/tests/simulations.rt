@@ -73,7 +73,10 @@ fn run<R: Read, W: Write>(
     let tally = Tally::new(alloc)?;
     let mut stock = Stock::new(alloc);
     for _ in 0..2 {
-        stock.add(Box::new(alloc, Note::new(alloc, tally.share()?))?)?;
+        let note = Box::new(alloc, Note::new(alloc, tally.share()?))?;
+        if stock.add(note).is_err() {
+            return Err(AllocError);
+        }
     }
     let limits = Limits { numbers: 1_000_000 };
     Ok(simulate(alloc, reader, writer, limits, stock))
