@@ -1,10 +1,12 @@
--- Lines of a description, one after another.
+-- Lines of a description or of a text of events, one after another.
 use Rattle.std.proofs.Common.{◌≡◌, ◌≤◌, ◌+◌, ◌++◌, ℕ, List, [], ◌∷◌, Result, Ok, Err, Some, false, cond, length, refl, sym, ap, ◌∙◌, arith, append_assoc, nat_eq}
 use Rattle.std.proofs.lemmas.List.Splits.{length-slice_split}
 use Rattle.std.proofs.lemmas.List.Sums.{count_by-le-length}
-use Rattle.container_cli.specs.Words.{pieces}
+use Rattle.embed_core.specs.Words.{pieces}
 use Rattle.container_cli.specs.Commands.{commands_read, is_skipped, line_read, numbered}
+use Rattle.container_cli.specs.Events.{event_read, events_read, put_first}
 use Rattle.container_cli.specs.declared.command.Command.{Command}
+use Rattle.world_run.specs.declared.event.Event.{Event}
 use Rattle.container_cli.specs.declared.fault.LineFault.{LineFault}
 use Rattle.storage_tree.specs.Change.{Outcome}
 use Rattle.storage_tree.specs.Kept.{Kept}
@@ -35,6 +37,20 @@ commands_read-turn front n line lines command asks is =
     behind-numbered front n command (commands_read (n + 1) lines)
     ∙ ap (λ t. behind front (numbered n t (commands_read (n + 1) lines))) is
     ∙ ap (λ b. behind front (cond b (commands_read (n + 1) lines) (numbered n (line_read line) (commands_read (n + 1) lines)))) (sym asks)
+
+-- one more line that spells an event
+pub behind-put_first : (front : List Event) (n : ℕ) (e : Event) (others : Result (List Event) (ℕ × LineFault))
+    → behind (front ++ e ∷ []) others ≡ behind front (put_first n (Some e) others)
+behind-put_first front n e (Ok others) = ap Ok (append_assoc front (e ∷ []) others)
+behind-put_first front n e (Err fault) = refl
+
+pub events_read-turn : (front : List Event) (n : ℕ) (line : List ℕ) (lines : List (List ℕ)) (e : Event)
+    → is_skipped line ≡ false → Some e ≡ event_read line
+    → behind (front ++ e ∷ []) (events_read (n + 1) lines) ≡ behind front (events_read n (line ∷ lines))
+events_read-turn front n line lines e asks is =
+    behind-put_first front n e (events_read (n + 1) lines)
+    ∙ ap (λ t. behind front (put_first n t (events_read (n + 1) lines))) is
+    ∙ ap (λ b. behind front (cond b (events_read (n + 1) lines) (put_first n (event_read line) (events_read (n + 1) lines)))) (sym asks)
 
 -- there are no more pieces than bytes, and one
 pub length-pieces : (c : ℕ) (text : List ℕ) → length (pieces c text) ≤ length text + 1

@@ -5,7 +5,8 @@ use Rattle.std.specs.List.{AllByRecursion, list_any, All}
 use Rattle.std.proofs.lemmas.List.Elements.{All-cons, All-nil}
 use Rattle.std.proofs.lemmas.List.Splits.{slice_split_at, slice_split_none}
 use Rattle.cfb_directory.specs.Names.{IsName, is_forbidden}
-use Rattle.container_cli.specs.Words.{pieces, lower_digit, onto}
+use Rattle.embed_core.specs.Words.{pieces}
+use Rattle.container_cli.specs.Words.{lower_digit, onto}
 use Rattle.container_cli.specs.Paths.{is_hidden, digit_text, byte_text, name_text, path_text, name_read, names_read, path_read}
 
 digit-read : (n : ℕ) → n < 16 → lower_digit (digit_text n) ≡ Some n

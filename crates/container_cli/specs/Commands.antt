@@ -2,7 +2,8 @@
 use Rattle.std.specs.Prelude.{◌+◌, ℕ, Bool, true, Option, Some, None, List, [], ◌∷◌, nat_eq, cond, codes, Result, Ok, Err}
 use Rattle.std.specs.Option.{option_map}
 use Rattle.std.specs.Str.{bytes_eq}
-use Rattle.container_cli.specs.Words.{words, number_read, byte_read, content_read}
+use Rattle.embed_core.specs.Words.{words, number_read}
+use Rattle.container_cli.specs.Words.{byte_read, content_read}
 use Rattle.container_cli.specs.Paths.{path_read}
 use Rattle.container_cli.specs.declared.command.Command.{Command}
 use Rattle.container_cli.specs.declared.command.Command.TheVariants.{Storage, Stream, Fill}

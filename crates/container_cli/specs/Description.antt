@@ -7,7 +7,7 @@ use Rattle.storage_tree.specs.Change.{inner, look}
 use Rattle.storage_tree.specs.Kept.{Kept, put, made}
 use Rattle.storage_tree.specs.declared.fault.TreeFault.{TreeFault}
 use Rattle.storage_tree.specs.declared.fault.TreeFault.TheVariants.{Exists}
-use Rattle.container_cli.specs.Words.{lines}
+use Rattle.embed_core.specs.Words.{lines}
 use Rattle.container_cli.specs.Commands.{commands_read}
 use Rattle.container_cli.specs.declared.command.Command.{Command}
 use Rattle.container_cli.specs.declared.command.Command.TheVariants.{Storage, Stream, Fill}

@@ -1,7 +1,8 @@
 -- How paths are spelled.
 use Rattle.std.specs.Prelude.{◌+◌, ◌/◌, ◌%◌, ◌||◌, ℕ, Bool, Option, Some, None, List, [], ◌∷◌, nat_le, nat_lt, nat_eq, if◌then◌else◌, map}
 use Rattle.std.specs.List.{flat_map, join_with_byte}
-use Rattle.container_cli.specs.Words.{pieces, lower_digit, pair_value, onto}
+use Rattle.embed_core.specs.Words.{pieces}
+use Rattle.container_cli.specs.Words.{lower_digit, pair_value, onto}
 
 -- a byte up to 32, or 127: one that ends a word or can't be seen
 abbrev pub is_hidden : ℕ → Bool

@@ -4,7 +4,8 @@ ghost use Rattle.container_cli.specs.Commands.{fill_read, line_read, storage_rea
 ghost use Rattle.std.specs.Prelude.{◌≡◌, IfOk};
 
 use crate::path::Path;
-use crate::words::{Pieces, byte, content, number};
+use crate::words::{byte, content};
+use embed_core::words::{Pieces, number};
 use std::alloc::{AllocError, Global};
 use storage_tree::bytes::Bytes;
 

@@ -3,7 +3,6 @@
 ghost use Rattle.container_cli.specs.Building.{IsDescribed};
 ghost use Rattle.container_cli.specs.Input.{most};
 ghost use Rattle.container_cli.specs.Run.{IsMade, Lists, Makes, MayRefuseList, MayRefuseMake};
-ghost use Rattle.std.specs.Io.KnownBytes.{Appends};
 ghost use Rattle.storage_tree.specs.Kept.{Kept, kept};
 ghost use Rattle.stream_io.specs.Refusals.{has_storage, writable};
 ghost use Rattle.std.specs.Prelude.{◌≡◌, Err, ◌≢◌, ◌≤◌, length, IfErr, IfOk, IfSome, OnOk};
@@ -13,8 +12,8 @@ use crate::description::describe;
 use crate::fault::{ListFault, MakeFault};
 use crate::input::read_all;
 use crate::listing::list;
+use crate::output::write_all;
 use std::alloc::Global;
-use std::io;
 use std::io::{Read, Write};
 use storage_tree::storage::Node;
 use storage_tree::tree::Tree;
@@ -115,13 +114,4 @@ pub fn list_file<R: Read, W: Write>(
         Ok(()) => Ok(()),
         Err(_) => Err(ListFault::Unwritable),
     }
-}
-
-/// Writes all bytes through to the writer's end.
-fn write_all<W: Write>(writer: &mut W, bytes: &[u8]) -> io::Result<()>
-    ensures { OnOk result (Appends (W.contents writer.old) (W.contents writer.new) bytes.now) }
-{
-    writer.write_all(bytes)?;
-    writer.flush()?;
-    Ok(())
 }

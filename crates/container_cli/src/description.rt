@@ -3,7 +3,7 @@
 ghost use Rattle.container_cli.specs.Building.{Builds, IsBuilt, IsDescribed};
 ghost use Rattle.container_cli.specs.Commands.{commands_read, is_skipped};
 ghost use Rattle.container_cli.specs.Description.{Refuses, RefusesLine, carried, carried_out, described, named, nothing};
-ghost use Rattle.container_cli.specs.Words.{lines};
+ghost use Rattle.embed_core.specs.Words.{lines};
 ghost use Rattle.std.specs.Prelude.{◌≡◌, ◌<◌, ◌^◌, Err, Ok, length, IfErr, IfOk};
 ghost use Rattle.storage_tree.specs.Kept.{Kept};
 
@@ -11,8 +11,8 @@ use crate::building::{Building, Described};
 use crate::command::Command;
 use crate::fault::LineFault;
 use crate::path::Path;
-use crate::words::Pieces;
 use cfb_directory::name::Name;
+use embed_core::words::Pieces;
 use std::alloc::Global;
 
 /// The tree that a description describes, or its outline where its streams have more bytes than a file.
@@ -28,7 +28,7 @@ pub fn describe(alloc: Global, text: &[u8]) -> Result<Described, (usize, LineFau
 }
 
 /// Whether a line says nothing: it is empty, or it begins with `#`.
-fn is_skipped(line: &[u8]) -> bool
+pub fn is_skipped(line: &[u8]) -> bool
     ensures { result ≡ is_skipped line.now }
 {
     match line {

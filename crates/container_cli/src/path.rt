@@ -4,7 +4,8 @@ ghost use Rattle.container_cli.specs.Paths.{is_hidden, name_read, path_read};
 ghost use Rattle.container_cli.specs.Words.{onto};
 ghost use Rattle.std.specs.Prelude.{◌≡◌, ◌<◌, ℕ, List, Some, None, length, IfNone, IfOk, IfSome};
 
-use crate::words::{Pieces, lower_digit};
+use crate::words::lower_digit;
+use embed_core::words::Pieces;
 use std::alloc::{AllocError, Global};
 use std::marker::Model;
 use storage_tree::bytes::Bytes;

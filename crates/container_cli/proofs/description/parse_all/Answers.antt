@@ -1,6 +1,6 @@
 use Rattle.std.proofs.Common.{◌≡◌, ◌+◌, ◌∷◌, ap, sym, ◌∙◌, length, arith}
 use Rattle.container_cli.specs.Commands.{commands_read}
-use Rattle.container_cli.specs.Words.{lines}
+use Rattle.embed_core.specs.Words.{lines}
 use Rattle.container_cli.proofs.Described.{behind, behind-nothing, commands_read-turn, length-pieces}
 use Rattle.container_cli.proofs.description.parse_all.Goals as goal
 

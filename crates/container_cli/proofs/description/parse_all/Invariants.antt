@@ -1,5 +1,5 @@
 use Rattle.std.proofs.Common.{◌≡◌, ◌≤◌, ◌+◌, length}
-use Rattle.container_cli.specs.Words.{lines}
+use Rattle.embed_core.specs.Words.{lines}
 use Rattle.container_cli.specs.Commands.{commands_read}
 use Rattle.container_cli.proofs.Described.{behind}
 use Rattle.container_cli.proofs.description.parse_all.Given as goal

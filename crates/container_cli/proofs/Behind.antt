@@ -1,0 +1,16 @@
+-- Events read from a line whose first words were cut off.
+use Rattle.std.proofs.Common.{◌≡◌, ℕ, List, ◌∷◌, Option, None, option_map, refl, ap}
+use Rattle.embed_core.specs.Words.{words, number_read}
+use Rattle.embed_core.proofs.Cuts.{pieces-known, pieces-joined}
+use Rattle.container_cli.specs.Events.{edit_of, edit_read, start_read}
+
+pub edit_read-rest : (o rest : List ℕ) → edit_read (o ∷ words rest) ≡ option_map (edit_of rest) (number_read o)
+edit_read-rest o rest =
+    pieces-joined 32 rest (λ ws. edit_read (o ∷ ws)) (option_map (edit_of rest) (number_read o))
+    (λ t ts e. ap (λ (r : List ℕ). option_map (edit_of r) (number_read o)) e)
+
+-- nothing stands behind `start`, not even a space
+pub start_read-rest : (rest : List ℕ) → start_read (words rest) ≡ None
+start_read-rest rest = pieces-known 32 rest start_read None (λ p ps e. refl)
+
+pub ruleset readings = (edit_read-rest, start_read-rest)

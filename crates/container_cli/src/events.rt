@@ -1,0 +1,254 @@
+//! Texts of events.
+
+ghost use Rattle.container_cli.specs.Description.{RefusesLine};
+ghost use Rattle.container_cli.specs.Events.{area_of, edit_read, end_named, event_named, event_read, events_read, insert_read, is_file_name, is_printable, kind_read, new_read, numbers_named, run_read, short_read, sole_number};
+ghost use Rattle.embed_core.specs.Words.{lines, words};
+ghost use Rattle.std.specs.List.{list_all};
+ghost use Rattle.std.specs.Prelude.{◌≡◌, ◌<◌, ◌^◌, [], Ok, length, IfErr, IfOk};
+
+use crate::description::is_skipped;
+use crate::fault::LineFault;
+use container_core::command::{Command, ObjectKind};
+use container_core::record::Area;
+use embed_core::words::{Pieces, cut, number};
+use std::alloc::{AllocError, Global};
+use storage_tree::bytes::Bytes;
+use world_run::event::Event;
+
+/// The most characters that the name of a file has.
+const NAME_SIZE: usize = 64;
+
+/// The events of a text. Empty lines and lines that begin with `#` are skipped.
+///
+/// Refused: the first line that spells no event (`Bad`), with its number from 1.
+pub fn parse_events(alloc: Global, text: &[u8]) -> Result<Vec<Event>, (usize, LineFault)>
+    requires { length text.now < 2 ^ 32 }
+    ensures read { IfOk result (λ events. events_read 1 (lines text.now) ≡ Ok events.items) }
+    ensures refused { IfErr result (RefusesLine (events_read 1 (lines text.now))) }
+{
+    let mut events = Vec::new(alloc);
+    let mut left = Pieces::new(text, b'\n');
+    let mut line_number: usize = 0;
+    while let Some(line) = left.next_piece() {
+        line_number += 1;
+        if is_skipped(line) {
+            continue;
+        }
+        match parse(alloc, line) {
+            Ok(Some(event)) => match events.push(event) {
+                Ok(()) => {}
+                Err(_) => return Err((line_number, LineFault::NoMemory)),
+            },
+            Ok(None) => return Err((line_number, LineFault::Bad)),
+            Err(_) => return Err((line_number, LineFault::NoMemory)),
+        }
+    }
+    Ok(events)
+}
+
+/// The event that a line spells.
+fn parse(alloc: Global, line: &[u8]) -> Result<Option<Event>, AllocError>
+    ensures { IfOk result (λ event. event ≡ event_read line.now) }
+{
+    match cut(line, b' ') {
+        (name, Some(rest)) => parse_with(alloc, name, rest),
+        (name, None) => Ok(parse_alone(name)),
+    }
+}
+
+/// The event that a word alone spells.
+fn parse_alone(name: &[u8]) -> Option<Event>
+    ensures { result ≡ event_named name.now [] }
+{
+    if name == b"start".as_slice() {
+        Some(Event::Command(Command::Start))
+    } else {
+        None
+    }
+}
+
+/// The event that a name and what stands behind its space spell.
+#[tactic(auto, using(crate::proofs::Behind::readings))]
+fn parse_with(alloc: Global, name: &[u8], rest: &[u8]) -> Result<Option<Event>, AllocError>
+    ensures { IfOk result (λ event. event ≡ event_named name.now (words rest.now)) }
+{
+    if name == b"start".as_slice() {
+        Ok(None)
+    } else if name == b"new".as_slice() {
+        new_frame(alloc, rest)
+    } else if name == b"edit".as_slice() {
+        edit(alloc, rest)
+    } else {
+        Ok(parse_numbers(name, rest))
+    }
+}
+
+/// The event that a name and the numbers behind its space spell.
+fn parse_numbers(name: &[u8], rest: &[u8]) -> Option<Event>
+    ensures { result ≡ numbers_named name.now (words rest.now) }
+{
+    if name == b"insert".as_slice() {
+        insert(rest)
+    } else if name == b"run".as_slice() {
+        run(rest)
+    } else if name == b"save".as_slice() {
+        Some(Event::Command(Command::Save(sole_number(rest)?)))
+    } else if name == b"deliver".as_slice() {
+        Some(Event::Deliver(sole_number(rest)?))
+    } else {
+        parse_end(name, rest)
+    }
+}
+
+/// The end of a server, or of a commit, that a name and the number behind its space spell.
+fn parse_end(name: &[u8], rest: &[u8]) -> Option<Event>
+    ensures { result ≡ end_named name.now (words rest.now) }
+{
+    if name == b"crash".as_slice() {
+        Some(Event::Crash(sole_number(rest)?))
+    } else if name == b"reap".as_slice() {
+        Some(Event::Reap(sole_number(rest)?))
+    } else if name == b"done".as_slice() {
+        Some(Event::Done(sole_number(rest)?))
+    } else {
+        None
+    }
+}
+
+/// A number that stands alone.
+fn sole_number(rest: &[u8]) -> Option<u32>
+    ensures { result ≡ sole_number (words rest.now) }
+{
+    let mut words = Pieces::new(rest, b' ');
+    let (Some(word), None) = (words.next_piece(), words.next_piece()) else {
+        return None;
+    };
+    number(word)
+}
+
+/// A number of 16 bits.
+fn short(word: &[u8]) -> Option<u16>
+    ensures { result ≡ short_read word.now }
+{
+    let number = number(word)?;
+    if number > u32::from(u16::MAX) {
+        return None;
+    }
+    Some(number as u16)
+}
+
+/// Whether all characters can be seen.
+fn are_printable(name: &[u8]) -> bool
+    ensures { result ≡ list_all is_printable name.now }
+{
+    name.iter().all(|c| 33 <= *c && *c <= 126)
+}
+
+/// Whether a frame's file may have this name.
+fn is_file_name(name: &[u8]) -> bool
+    ensures { result ≡ is_file_name name.now }
+{
+    !name.is_empty()
+        && name.len() <= NAME_SIZE
+        && are_printable(name)
+        && !name.ends_with(b".journal")
+}
+
+/// The frame that what stands behind `new` spells.
+fn new_frame(alloc: Global, rest: &[u8]) -> Result<Option<Event>, AllocError>
+    ensures { IfOk result (λ event. event ≡ new_read (words rest.now)) }
+{
+    let mut words = Pieces::new(rest, b' ');
+    let (Some(name), Some(width), Some(height), None) = (
+        words.next_piece(),
+        words.next_piece(),
+        words.next_piece(),
+        words.next_piece(),
+    ) else {
+        return Ok(None);
+    };
+    let (true, Some(width), Some(height)) = (is_file_name(name), short(width), short(height)) else {
+        return Ok(None);
+    };
+    let name = Bytes::from_vec(Vec::from_slice(alloc, name)?);
+    Ok(Some(Event::Command(Command::New(name, width, height))))
+}
+
+/// The kind that a word spells.
+fn kind(word: &[u8]) -> Option<ObjectKind>
+    ensures { result ≡ kind_read word.now }
+{
+    if word == b"note".as_slice() {
+        Some(ObjectKind::Note)
+    } else if word == b"table".as_slice() {
+        Some(ObjectKind::Table)
+    } else if word == b"drawing".as_slice() {
+        Some(ObjectKind::Drawing)
+    } else {
+        None
+    }
+}
+
+/// The cells that four words spell.
+fn area(x: &[u8], y: &[u8], w: &[u8], h: &[u8]) -> Option<Area>
+    ensures { result ≡ area_of (short_read x.now) (short_read y.now) (short_read w.now) (short_read h.now) }
+{
+    match (short(x), short(y), short(w), short(h)) {
+        (Some(x), Some(y), Some(w), Some(h)) => Some(Area { x, y, w, h }),
+        _ => None,
+    }
+}
+
+/// The object that what stands behind `insert` spells.
+fn insert(rest: &[u8]) -> Option<Event>
+    ensures { result ≡ insert_read (words rest.now) }
+{
+    let mut words = Pieces::new(rest, b' ');
+    let (Some(frame), Some(chosen), Some(x), Some(y), Some(w), Some(h), None) = (
+        words.next_piece(),
+        words.next_piece(),
+        words.next_piece(),
+        words.next_piece(),
+        words.next_piece(),
+        words.next_piece(),
+        words.next_piece(),
+    ) else {
+        return None;
+    };
+    match (number(frame), kind(chosen), area(x, y, w, h)) {
+        (Some(frame), Some(kind), Some(area)) => {
+            Some(Event::Command(Command::Insert(frame, kind, area)))
+        }
+        _ => None,
+    }
+}
+
+/// The activation that what stands behind `run` spells.
+fn run(rest: &[u8]) -> Option<Event>
+    ensures { result ≡ run_read (words rest.now) }
+{
+    let mut words = Pieces::new(rest, b' ');
+    let (Some(object), Some(server), None) = (
+        words.next_piece(),
+        words.next_piece(),
+        words.next_piece(),
+    ) else {
+        return None;
+    };
+    Some(Event::Command(Command::Run(number(object)?, number(server)?)))
+}
+
+/// The edit that what stands behind `edit` spells.
+#[tactic(auto, using(crate::proofs::Behind::readings))]
+fn edit(alloc: Global, rest: &[u8]) -> Result<Option<Event>, AllocError>
+    ensures { IfOk result (λ event. event ≡ edit_read (words rest.now)) }
+{
+    let (object, Some(bytes)) = cut(rest, b' ') else {
+        return Ok(None);
+    };
+    let Some(object) = number(object) else {
+        return Ok(None);
+    };
+    let bytes = Bytes::from_vec(Vec::from_slice(alloc, bytes)?);
+    Ok(Some(Event::Command(Command::Edit(object, bytes))))
+}
