@@ -37,10 +37,10 @@ impl World {
     {
         let text = match report_text(
             alloc,
-            self.core.frames(),
-            self.core.objects(),
-            &self.container_done,
-            &self.server_done,
+            self.ledger.core.frames(),
+            self.ledger.core.objects(),
+            &self.ledger.container_done,
+            &self.ledger.server_done,
         ) {
             Ok(text) => text,
             Err(_) => return Err(ReportFault::NoMemory),
