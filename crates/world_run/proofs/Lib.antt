@@ -24,3 +24,4 @@ pub mod Alike
 pub mod Joins
 pub mod Filed
 pub mod Servers
+pub mod Lifts

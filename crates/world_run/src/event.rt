@@ -1,6 +1,9 @@
 //! What happens in a world.
 
+ghost use Rattle.std.specs.Prelude.{◌≡◌, IfOk};
+
 use container_core::command::Command;
+use std::alloc::{AllocError, Global};
 
 /// What happens in a world.
 #[derive(Drop)]
@@ -44,5 +47,19 @@ impl Stop {
             Stop::EventLimit => "EventLimit",
             Stop::NoMemory => "NoMemory",
         }
+    }
+}
+
+// An equal command.
+pub(crate) fn copy_command(alloc: Global, command: &Command) -> Result<Command, AllocError>
+    ensures { IfOk result (λ c. c ≡ command.now) }
+{
+    match command {
+        Command::New(name, width, height) => Ok(Command::New(name.copy(alloc)?, *width, *height)),
+        Command::Insert(frame, kind, area) => Ok(Command::Insert(*frame, *kind, *area)),
+        Command::Start => Ok(Command::Start),
+        Command::Run(object, inc) => Ok(Command::Run(*object, *inc)),
+        Command::Edit(object, bytes) => Ok(Command::Edit(*object, bytes.copy(alloc)?)),
+        Command::Save(frame) => Ok(Command::Save(*frame)),
     }
 }

@@ -10,9 +10,8 @@ ghost use Rattle.world_run.specs.Starts.{starts_of};
 ghost use Rattle.world_run.specs.Rooms.{HasLogRoom, HasReplyRoom, IsBarred, IsRoom, most, replied};
 ghost use Rattle.world_run.specs.View.{bare, started};
 
-use crate::event::Stop;
+use crate::event::{Stop, copy_command};
 use crate::logs::{Document, Done, EventAnswer, File, Outcome, Sent, ServerDone, View};
-use crate::standin::on_command;
 use container_core::answer::{Action, Answer};
 use container_core::command::Command;
 use container_core::container::{ContainerCore, Limits};
@@ -239,7 +238,7 @@ impl Ledger {
         let room = Room::new(alloc, count)?;
         self.reserve(count)?;
         self.owners.reserve(1)?;
-        match on_command(&mut self.core, alloc, command) {
+        match self.core.command(alloc, copy_command(alloc, command)?) {
             Ok(answer) => {
                 add_owner(&mut self.owners, command);
                 Ok(self.join(answer, room))

@@ -9,7 +9,6 @@ pub mod logs;
 pub mod report;
 pub mod safe_laws;
 mod plan;
-mod standin;
 pub mod stock;
 mod text;
 pub mod worked;

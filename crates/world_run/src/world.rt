@@ -126,6 +126,7 @@ impl World {
     fn set_life(&mut self, i: usize, inc: u32, life: Life)
         requires { IsNth inc self.old.instances.items i }
         ensures set { IfSome (nth (seen (λ s. content s.boxed) self.old).instances inc) (λ x. seen (λ s. content s.boxed) self.new ≡ record (seen (λ s. content s.boxed) self.old) { instances = set_nth (seen (λ s. content s.boxed) self.old).instances inc (record x { life = life }) }) }
+        ensures ledger { self.new.ledger ≡ self.old.ledger }
         ensures capacity { vec_capacity self.new.instances ≡ vec_capacity self.old.instances }
         ensures length { vec_len self.new.instances ≡ vec_len self.old.instances }
     {
