@@ -1,5 +1,5 @@
 -- Events read from a line whose first words were cut off.
-use Rattle.std.proofs.Common.{◌≡◌, ℕ, List, ◌∷◌, Option, None, option_map, refl, ap}
+use Rattle.std.proofs.Common.{◌≡◌, ℕ, List, ◌∷◌, None, option_map, refl, ap}
 use Rattle.embed_core.specs.Words.{words, number_read}
 use Rattle.embed_core.proofs.Cuts.{pieces-known, pieces-joined}
 use Rattle.container_cli.specs.Events.{edit_of, edit_read, start_read}

@@ -1,5 +1,5 @@
 -- Each event that is taken is answered, and no more of them than a world takes.
-use Rattle.std.proofs.Common.{◌≡◌, ◌≤◌, ◌<◌, ◌+◌, ◌++◌, ℕ, Bool, true, false, List, [], ◌∷◌, Option, Some, None, Result, Ok, Err, length, refl, sym, ap, subst, ◌∙◌, arith, nat_le, cond, length-append}
+use Rattle.std.proofs.Common.{◌≡◌, ◌≤◌, ◌<◌, ◌+◌, ◌++◌, ℕ, Bool, true, false, List, [], ◌∷◌, Option, Some, None, Result, Ok, Err, length, refl, ap, arith, nat_le, cond, length-append}
 use Rattle.std.proofs.lemmas.Bool.Decides.{nat_tests}
 use Rattle.embed_core.specs.Kinds.{Kind}
 use Rattle.wire_msgs.specs.declared.message.Message.{Message}
@@ -16,7 +16,7 @@ use Rattle.container_core.specs.declared.answer.Part.{Part}
 use Rattle.container_core.specs.declared.command.Command.{Command}
 use Rattle.container_core.specs.declared.fault.ContainerFault.{ContainerFault}
 use Rattle.container_core.specs.declared.record.Frame.{Frame}
-use Rattle.world_run.specs.World.{World, Instance, took, commanded, joined, served, stocked, called_wanting, called_in, called, delivered, deliver, crashed, crash, ended, reap, kept_commit, done_taken, done_imaged, done_in, happened, limited, step, Run, MOST_EVENTS, is_of}
+use Rattle.world_run.specs.World.{World, Instance, took, commanded, served, stocked, called_wanting, called_in, called, delivered, deliver, crashed, crash, ended, reap, done_taken, done_imaged, done_in, happened, limited, Run, MOST_EVENTS, is_of}
 use Rattle.world_run.specs.declared.event.Event.{Event}
 use Rattle.world_run.specs.declared.event.Event.TheVariants as event
 use Rattle.world_run.specs.declared.event.Stop.{Stop}

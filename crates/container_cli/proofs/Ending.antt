@@ -1,5 +1,5 @@
 -- A run from the world in which nothing has happened, and what is written of it.
-use Rattle.std.proofs.Common.{◌≡◌, ◌++◌, ℕ, zero, suc, List, [], ◌∷◌, Option, Some, None, length, take, drop, slice_get, MatchOption, refl, ap, ◌∙◌, subst, arith}
+use Rattle.std.proofs.Common.{◌≡◌, ◌++◌, ℕ, zero, suc, List, [], ◌∷◌, Option, Some, None, length, take, drop, slice_get, MatchOption, ap, ◌∙◌, subst, arith}
 use Rattle.embed_core.specs.Kinds.{Kind}
 use Rattle.world_run.specs.Report.{report}
 use Rattle.world_run.specs.Standin.{StopsAt}

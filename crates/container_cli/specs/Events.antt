@@ -1,10 +1,9 @@
 -- The lines of a text of events and the events that they spell.
-use Rattle.std.specs.Prelude.{◌+◌, ◌&&◌, ℕ, Bool, true, false, not, List, [], ◌∷◌, length, nat_le, nat_eq, cond, codes, if◌then◌else◌, Option, Some, None, option_map, Result, Ok, Err}
+use Rattle.std.specs.Prelude.{◌+◌, ◌&&◌, ℕ, Bool, not, List, [], ◌∷◌, length, nat_le, nat_eq, cond, codes, if◌then◌else◌, Option, Some, None, option_map, Result, Ok, Err}
 use Rattle.std.specs.List.{ends_with, join_with_byte, list_all}
 use Rattle.std.specs.Str.{bytes_eq}
 use Rattle.embed_core.specs.Words.{words, number_read}
 use Rattle.container_core.specs.declared.record.Area.{Area}
-use Rattle.container_core.specs.declared.command.Command.{Command}
 use Rattle.container_core.specs.declared.command.Command.TheVariants as command
 use Rattle.container_core.specs.declared.command.ObjectKind.{ObjectKind}
 use Rattle.container_core.specs.declared.command.ObjectKind.TheVariants.{Note, Table, Drawing}

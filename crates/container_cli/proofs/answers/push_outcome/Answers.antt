@@ -1,4 +1,4 @@
-use Rattle.std.proofs.Common.{◌≡◌, length, sym, ◌∙◌, arith}
+use Rattle.std.proofs.Common.{arith}
 use Rattle.container_cli.specs.Answers.{asked_text, made_text, told_text}
 use Rattle.container_cli.proofs.Texts.{or_ok-written}
 use Rattle.container_cli.proofs.answers.push_outcome.Goals as goal
