@@ -6,6 +6,8 @@ mod asking;
 mod checks;
 pub mod command;
 mod commands;
+#[cfg(test)]
+mod commands_tests;
 pub mod commit_laws;
 mod commits;
 #[cfg(test)]
@@ -16,6 +18,8 @@ pub mod fault;
 pub mod laws;
 mod lookups;
 mod messages;
+#[cfg(test)]
+mod messages_tests;
 pub mod record;
 mod replies;
 mod servers;
