@@ -49,15 +49,7 @@ impl Answer {
     pub fn quiet(alloc: Global) -> Answer
         ensures { result ≡ quiet_answer }
     {
-        Answer {
-            frame: None,
-            objects: Items::new(alloc),
-            server: None,
-            taken: false,
-            refused: None,
-            no_tools: false,
-            actions: Items::new(alloc),
-        }
+        Answer::acts(alloc, Items::new(alloc))
     }
 
     /// Nothing was made, and this is to be done.

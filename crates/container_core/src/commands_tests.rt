@@ -20,7 +20,12 @@ fn name(alloc: Global) -> Result<Bytes, Fail> {
 
 /// An area of so many columns, one line high.
 fn area(w: u16) -> Area {
-    Area { x: 0, y: 0, w, h: 1 }
+    Area {
+        x: 0,
+        y: 0,
+        w,
+        h: 1,
+    }
 }
 
 /// A container with one frame, one passive note in it and one server.
@@ -45,7 +50,16 @@ fn done(alloc: Global, n: u32) -> Message {
 /// The number of the only call that is sent to the first activation.
 fn call(answer: &Answer) -> Option<u32> {
     match answer.actions.as_slice() {
-        [Action::Send(Message::Call { inc: 1, act: 1, n, .. })] => Some(*n),
+        [
+            Action::Send(
+                Message::Call {
+                    inc: 1,
+                    act: 1,
+                    n,
+                    ..
+                },
+            ),
+        ] => Some(*n),
         _ => None,
     }
 }
@@ -98,7 +112,16 @@ fn an_object_is_run_edited_and_saved(rt: HostRuntime) -> Result<(), Fail> {
     assert_eq!(rt; call(&edit), Some(2));
     core.on_message(alloc, 1, done(alloc, 2))?;
     let save = core.command(alloc, Command::Save(1))?;
-    assert!(rt; matches!(save.actions.as_slice(), [Action::Send(Message::Call { n: 3, operation: Operation::Save(1), .. })]));
+    assert!(rt;
+        matches!(
+            save.actions.as_slice(),
+            [Action::Send(Message::Call {
+                n: 3,
+                operation: Operation::Save(1),
+                ..
+            })]
+        )
+    );
     let again = core.command(alloc, Command::Save(1));
     assert!(rt; matches!(again, Err(ContainerFault::Busy)));
     Ok(())
