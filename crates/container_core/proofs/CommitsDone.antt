@@ -1,22 +1,20 @@
 -- The record after a commit.
-use Rattle.std.proofs.Common.{◌≡◌, ◌≤◌, ◌<◌, ◌+◌, ℕ, zero, suc, true, List, [], length, map, Option, Some, get_or, set, refl, sym, ◌∙◌, ap, subst, arith}
+use Rattle.std.proofs.Common.{◌≡◌, ◌≤◌, ℕ, zero, suc, true, List, length, map, Some, get_or, set, refl, sym, ◌∙◌, ap, subst, arith}
 use Rattle.std.proofs.lemmas.List.{get_or_default, length-set}
 use Rattle.std.proofs.lemmas.List.Elements.{All-set}
 use Rattle.std.proofs.lemmas.Option.{get_or_from_slice_get, slice_get-get_or, slice_get_within}
-use Rattle.std.specs.List.{All, slice_get}
+use Rattle.std.specs.List.{All}
 use Rattle.wire_msgs.specs.Found.{nth, set_nth}
 use Rattle.container_core.specs.declared.answer.Action.{Action}
 use Rattle.container_core.specs.declared.answer.Answer.{Answer}
-use Rattle.container_core.specs.declared.asking.Prepared.{Prepared}
 use Rattle.container_core.specs.declared.record.Frame.{Frame}
 use Rattle.container_core.specs.declared.record.Object.{Object}
 use Rattle.container_core.specs.declared.record.Phase.{Phase}
 use Rattle.container_core.specs.declared.record.Phase.TheVariants.{Idle, Saving, HandingOff, Committing, InDoubt}
-use Rattle.container_core.specs.Asking.{IsAsking, prepared}
 use Rattle.container_core.specs.Numbered.{IsNth}
-use Rattle.container_core.specs.Record.{Record, Took, acts, asked_all, quiet_answer, sends}
+use Rattle.container_core.specs.Record.{Record, Took, acts, quiet_answer}
 use Rattle.container_core.specs.Room.{IsSound}
-use Rattle.container_core.specs.Saves.{commit_made, committed_frame, completed, completion, is_committing}
+use Rattle.container_core.specs.Saves.{commit_made, committed_frame, completed, is_committing}
 use Rattle.container_core.proofs.CommitsRoom.{room_objects}
 
 committing_from : (phase : Phase) → is_committing phase ≡ true → phase ≡ Committing

@@ -1,5 +1,5 @@
 -- What a commit counts, and whom it tells.
-use Rattle.std.proofs.Common.{◌≡◌, ◌≢◌, ◌==◌, ◌++◌, ℕ, Bool, true, false, List, [], ◌∷◌, map, Option, Some, None, Result, Ok, Err, inl, inr, refl, sym, ◌∙◌, ap, subst, if◌then◌else◌}
+use Rattle.std.proofs.Common.{◌≡◌, ◌==◌, ◌++◌, ℕ, Bool, true, false, List, [], ◌∷◌, map, Option, Some, None, Result, Ok, Err, inl, inr, refl, sym, ◌∙◌, ap, subst, if◌then◌else◌}
 use Rattle.std.proofs.lemmas.Bool.Decides.{eqb_tells}
 use Rattle.std.proofs.lemmas.List.{map-append}
 use Rattle.std.proofs.lemmas.List.Elements.{All-cons, All-nil}
@@ -18,7 +18,7 @@ use Rattle.container_core.specs.declared.answer.Part.{Part}
 use Rattle.container_core.specs.declared.fault.ContainerFault.{ContainerFault}
 use Rattle.container_core.specs.declared.fault.ContainerFault.TheVariants.{WrongState}
 use Rattle.container_core.specs.Record.{Record, Took, ask_at, asked_all, asked_sent, sends}
-use Rattle.container_core.specs.Saves.{awaits, commit_at, commit_done, commit_fitting, commit_made, completed, completion, document_tree, fitting, has_image, image, image_at, is_awaited_link, is_committing, is_ready_at, kept, kept_by, kept_in, part_of, parts_in, settled_frame}
+use Rattle.container_core.specs.Saves.{awaits, commit_at, commit_done, commit_fitting, commit_made, completed, completion, document_tree, fitting, has_image, image, image_at, is_awaited_link, is_committing, is_ready_at, kept_by, kept_in, part_of, parts_in}
 use Rattle.container_core.specs.CommitLaws.{AreParts, CommitCounts, CommitTells, Gives, HasAnswered, IsPart, SaveWaits, free_link, free_links, none, one, other, stored_part, stored_parts, telling}
 use Rattle.container_core.proofs.CommitsRoom.{completed_in, completed_out}
 

@@ -1,18 +1,17 @@
 -- A commit that is done leaves a record sound.
-use Rattle.std.proofs.Common.{◌≡◌, ◌≢◌, ◌≤◌, ◌<◌, ◌+◌, ◌==◌, ◌++◌, ℕ, zero, suc, Bool, true, false, List, [], ◌∷◌, length, map, cond, is_some, Option, Some, None, inl, inr, get_or, set, refl, sym, ◌∙◌, ap, subst, arith}
+use Rattle.std.proofs.Common.{◌≡◌, ◌≢◌, ◌==◌, ℕ, zero, suc, true, false, List, [], ◌∷◌, map, Option, Some, None, inl, inr, set, refl, sym, ◌∙◌, ap, subst, arith}
 use Rattle.std.proofs.lemmas.Bool.Decides.{eqb_tells}
-use Rattle.std.proofs.lemmas.List.{length-append, length-set}
-use Rattle.std.proofs.lemmas.List.Elements.{All-map, All-set, All-weaker}
+use Rattle.std.proofs.lemmas.List.{length-append}
+use Rattle.std.proofs.lemmas.List.Elements.{All-map, All-weaker}
 use Rattle.std.specs.List.{All, slice_get}
 use Rattle.wire_msgs.specs.Found.{nth, set_nth}
 use Rattle.wire_msgs.specs.declared.operation.Operation.{Operation}
 use Rattle.container_core.specs.declared.record.Frame.{Frame}
 use Rattle.container_core.specs.declared.record.Link.{Link}
 use Rattle.container_core.specs.declared.record.Object.{Object}
-use Rattle.container_core.specs.declared.record.Phase.{Phase}
 use Rattle.container_core.specs.declared.record.Phase.TheVariants.{Committing}
-use Rattle.container_core.specs.Record.{Record, ask, ask_at, asked_link}
-use Rattle.container_core.specs.Room.{HasRoom, IfLinked, IsRoomy, IsSound, count_pending, debt, debt_in}
+use Rattle.container_core.specs.Record.{ask, ask_at, asked_link}
+use Rattle.container_core.specs.Room.{HasRoom, IfLinked, IsRoomy, debt, debt_in}
 use Rattle.container_core.specs.Saves.{cleared, committed_frame, completed, completion, kept}
 
 -- ---- items by their numbers

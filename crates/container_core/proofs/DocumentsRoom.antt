@@ -1,5 +1,5 @@
 -- Whether a root of some streams fits into a file.
-use Rattle.std.proofs.Common.{◌≡◌, ◌≤◌, ◌<◌, ◌+◌, ℕ, Bool, true, false, List, [], ◌∷◌, Result, Ok, Err, is_ok, length, min, nat_le, refl, sym, ◌∙◌, ap, arith}
+use Rattle.std.proofs.Common.{◌≡◌, ◌≤◌, ◌<◌, ℕ, Bool, true, false, List, [], ◌∷◌, Result, is_ok, length, min, nat_le, refl, sym, ap, arith}
 use Rattle.std.proofs.lemmas.Bool.{leb-false, leb-true}
 use Rattle.storage_tree.specs.Tree.{Tree, tree}
 use Rattle.storage_tree.specs.declared.streams.NamedStream.{NamedStream}

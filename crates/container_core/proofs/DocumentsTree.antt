@@ -1,7 +1,6 @@
 -- Streams that are put into a root one after another, in the order of their names.
-use Rattle.std.proofs.Common.{◌≡◌, ◌<◌, ◌+◌, ℕ, zero, suc, cond, List, [], ◌∷◌, ◌++◌, Some, None, Result, Ok, length, get_or, take, refl, sym, ◌∙◌, ap, subst, arith, rules}
+use Rattle.std.proofs.Common.{◌≡◌, ◌<◌, ◌+◌, ℕ, zero, suc, cond, List, [], ◌∷◌, ◌++◌, Some, None, Result, Ok, length, get_or, take, refl, sym, ◌∙◌, ap, arith}
 use Rattle.std.proofs.lemmas.List.{take_more}
-use Rattle.std.proofs.Math.Numerals.{add-one}
 use Rattle.std.specs.Cmp.Lexicographic.{nat_list_cmp_total}
 use Rattle.std.specs.Ordering.{is_eq, match_ordering, ordering_reverse}
 use Rattle.std.specs.declared.cmp.Ordering.TheVariants.{Less, Greater}
@@ -10,7 +9,7 @@ use Rattle.cfb_directory.proofs.Keys.{keys_agree}
 use Rattle.storage_tree.specs.Change.{bytes, find, inner, map_ok, place, putting}
 use Rattle.storage_tree.specs.Kept.{Kept, put, tree_of}
 use Rattle.storage_tree.specs.Streams.{AreAfter, AreInOrder}
-use Rattle.storage_tree.specs.Tree.{Children, tree, none, stream}
+use Rattle.storage_tree.specs.Tree.{Children, tree, stream}
 use Rattle.storage_tree.specs.declared.fault.TreeFault.{TreeFault}
 use Rattle.storage_tree.specs.declared.streams.NamedStream.{NamedStream}
 use Rattle.container_core.specs.Saves.{children_of, root_class}

@@ -1,4 +1,4 @@
-use Rattle.std.proofs.Common.{◌≡◌, List, All, ap, sym, ◌∙◌, map, subst}
+use Rattle.std.proofs.Common.{List, All, ap, sym, ◌∙◌, map, subst}
 use Rattle.container_core.specs.Asking.{HasNumber, prepared}
 use Rattle.container_core.specs.Record.{asked_object}
 use Rattle.container_core.specs.Saves.{completion}

@@ -1,4 +1,4 @@
-use Rattle.std.proofs.Common.{◌≡◌, ◌+◌, ℕ, nat_le, sym, ◌∙◌, ap, arith}
+use Rattle.std.proofs.Common.{◌≡◌, ◌+◌, nat_le, sym, ◌∙◌, ap, arith}
 use Rattle.stream_io.proofs.Refused.{needed}
 use Rattle.container_core.proofs.DocumentsRoom.{fits_told}
 use Rattle.container_core.proofs.documents.fits_file.Goals as goal

@@ -1,4 +1,4 @@
-use Rattle.std.proofs.Common.{◌≡◌, ◌+◌, Ok, ◌∷◌, [], get_or, sym, subst}
+use Rattle.std.proofs.Common.{◌≡◌, Ok, ◌∷◌, [], subst}
 use Rattle.storage_tree.specs.Kept.{kept, put}
 use Rattle.storage_tree.specs.declared.streams.NamedStream.{NamedStream}
 use Rattle.container_core.proofs.DocumentsTree.{put_more}

@@ -1,4 +1,4 @@
-use Rattle.std.proofs.Common.{◌≡◌, take, []}
+use Rattle.std.proofs.Common.{◌≡◌, take}
 use Rattle.storage_tree.specs.Kept.{kept}
 use Rattle.container_core.proofs.DocumentsTree.{rooted}
 use Rattle.container_core.proofs.documents.root_with.Given as goal

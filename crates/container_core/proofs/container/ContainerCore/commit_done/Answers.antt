@@ -1,11 +1,11 @@
-use Rattle.std.proofs.Common.{◌≡◌, ℕ, List, true, map, get_or, set, Some, Ok, Result, refl, sym, ◌∙◌, ap, subst}
+use Rattle.std.proofs.Common.{◌≡◌, ℕ, List, map, Some, Ok, Result, sym, ◌∙◌, ap, subst}
 use Rattle.wire_msgs.specs.Found.{nth}
 use Rattle.wire_msgs.specs.declared.operation.Operation.{Operation}
-use Rattle.container_core.specs.Asking.{IsAsking, prepared}
+use Rattle.container_core.specs.Asking.{IsAsking}
 use Rattle.container_core.specs.Numbered.{IsNth}
 use Rattle.container_core.specs.Record.{Record, Took, asked_all, sends}
 use Rattle.container_core.specs.Room.{IsSound}
-use Rattle.container_core.specs.Saves.{commit_done, commit_made, completed, completion, is_committing}
+use Rattle.container_core.specs.Saves.{commit_made, completed, completion}
 use Rattle.container_core.specs.declared.fault.ContainerFault.{ContainerFault}
 use Rattle.container_core.specs.declared.record.Frame.{Frame}
 use Rattle.container_core.specs.declared.record.Object.{Object}
