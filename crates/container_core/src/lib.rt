@@ -18,6 +18,8 @@ pub mod fault;
 pub mod laws;
 mod lookups;
 mod messages;
+#[cfg(test)]
+mod messages_tests;
 pub mod record;
 mod replies;
 mod servers;

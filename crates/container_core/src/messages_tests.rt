@@ -1,0 +1,132 @@
+//! Messages, and the end of a server.
+
+use crate::answer::Action;
+use crate::command::{Command, ObjectKind};
+use crate::container::{ContainerCore, Limits};
+use crate::fault::ContainerFault;
+use crate::record::{Area, Phase};
+use std::alloc::Global;
+use std::test::Fail;
+use storage_tree::bytes::Bytes;
+use storage_tree::stored::Stored;
+use wire_msgs::answer::Answer;
+use wire_msgs::message::Message;
+use wire_msgs::refusal::Refusal;
+
+fn bytes(alloc: Global, bytes: &[u8]) -> Result<Bytes, Fail> {
+    Ok(Bytes::from_vec(Vec::from_slice(alloc, bytes)?))
+}
+
+/// A content with this picture.
+fn content(alloc: Global, picture: &[u8]) -> Result<Stored, Fail> {
+    let mut content = Stored::new(alloc);
+    content.picture = bytes(alloc, picture)?;
+    Ok(content)
+}
+
+/// The answer to a call of the only activation.
+fn reply(n: u32, answer: Answer) -> Message {
+    Message::Reply {
+        inc: 1,
+        act: 1,
+        n,
+        answer,
+    }
+}
+
+/// A container with one object, which server 1 runs.
+fn running(alloc: Global) -> Result<ContainerCore, Fail> {
+    let area = Area {
+        x: 0,
+        y: 0,
+        w: 4,
+        h: 2,
+    };
+    let mut core = ContainerCore::new(alloc, Limits { numbers: 100 });
+    core.command(alloc, Command::New(bytes(alloc, b"a")?, 80, 25))?;
+    core.command(alloc, Command::Insert(1, ObjectKind::Note, area))?;
+    core.command(alloc, Command::Start)?;
+    core.command(alloc, Command::Run(1, 1))?;
+    core.on_message(alloc, 1, reply(1, Answer::Done))?;
+    Ok(core)
+}
+
+fn phase(core: &ContainerCore) -> Option<Phase> {
+    match core.frame(1) {
+        Some(frame) => Some(frame.phase),
+        None => None,
+    }
+}
+
+/// The picture of the object's work content, where the object is passive.
+fn passive(core: &ContainerCore) -> Option<&[u8]> {
+    match core.object(1) {
+        Some(object) if object.link.is_none() => Some(object.work.picture.as_slice()),
+        _ => None,
+    }
+}
+
+#[test]
+fn an_answered_save_goes_on_to_its_commit(rt: HostRuntime) -> Result<(), Fail> {
+    let alloc = rt.alloc();
+    let mut core = running(alloc)?;
+    core.command(alloc, Command::Save(1))?;
+    assert_eq!(rt; phase(&core), Some(Phase::Saving));
+    let answer = core.on_message(alloc, 1, reply(2, Answer::Content(content(alloc, &[5])?)))?;
+    assert!(rt; matches!(answer.actions.as_slice(), [Action::Commit(1)]));
+    assert_eq!(rt; phase(&core), Some(Phase::Committing));
+    Ok(())
+}
+
+#[test]
+fn only_the_pending_reply_on_its_own_link_is_taken(rt: HostRuntime) -> Result<(), Fail> {
+    let alloc = rt.alloc();
+    let mut core = running(alloc)?;
+    core.command(alloc, Command::Save(1))?;
+    let late = core.on_message(alloc, 1, reply(1, Answer::Done));
+    assert!(rt; matches!(late, Err(ContainerFault::Stale)));
+    let foreign = core.on_message(alloc, 2, reply(2, Answer::Done));
+    assert!(rt; matches!(foreign, Err(ContainerFault::WrongLink)));
+    let unfit = core.on_message(alloc, 1, reply(2, Answer::Done));
+    assert!(rt; matches!(unfit, Err(ContainerFault::BadAnswer)));
+    Ok(())
+}
+
+#[test]
+fn a_refused_edit_leaves_the_object_running(rt: HostRuntime) -> Result<(), Fail> {
+    let alloc = rt.alloc();
+    let mut core = running(alloc)?;
+    core.command(alloc, Command::Edit(1, bytes(alloc, b"x")?))?;
+    let answer = core.on_message(alloc, 1, reply(2, Answer::Refused(Refusal::BadEdit)))?;
+    assert_eq!(rt; answer.refused, Some(Refusal::BadEdit));
+    assert!(rt; answer.actions.is_empty());
+    assert_eq!(rt; passive(&core), None);
+    Ok(())
+}
+
+#[test]
+fn a_reaped_server_is_not_waited_for(rt: HostRuntime) -> Result<(), Fail> {
+    let alloc = rt.alloc();
+    let mut core = running(alloc)?;
+    core.command(alloc, Command::Save(1))?;
+    let answer = core.on_reap(alloc, 1)?;
+    assert!(rt; matches!(answer.actions.as_slice(), [Action::Commit(1)]));
+    assert_eq!(rt; passive(&core), Some([].as_slice()));
+    assert!(rt; matches!(core.on_reap(alloc, 1), Err(ContainerFault::NoSuch)));
+    Ok(())
+}
+
+#[test]
+fn a_reaped_object_has_the_content_that_it_answered(rt: HostRuntime) -> Result<(), Fail> {
+    let alloc = rt.alloc();
+    let mut core = running(alloc)?;
+    core.command(alloc, Command::Save(1))?;
+    core.on_message(
+        alloc,
+        1,
+        reply(2, Answer::Content(content(alloc, &[5, 6])?)),
+    )?;
+    core.on_reap(alloc, 1)?;
+    assert_eq!(rt; passive(&core), Some([5, 6].as_slice()));
+    Ok(())
+}
