@@ -5,29 +5,17 @@ use Rattle.wire_msgs.specs.declared.answer.Answer.{Answer}
 use Rattle.wire_msgs.specs.declared.message.Message.TheVariants.{Reply}
 use Rattle.embed_core.specs.Kinds.{Kind}
 use Rattle.server_core.specs.declared.fault.ServerFault.{ServerFault}
-use Rattle.server_core.specs.declared.fault.ServerFault.TheVariants.{Ignored, NumbersSpent}
+use Rattle.server_core.specs.declared.fault.ServerFault.TheVariants.{NumbersSpent}
 use Rattle.server_core.specs.declared.counted.Counted.{Counted}
 use Rattle.server_core.specs.Server.{Activation, Server, Served, Refuses, begun_class, offered, unknown_call, wanted_unknown}
 use Rattle.server_core.specs.Opened.{TakesCall, first_class}
 use Rattle.server_core.proofs.Known.{server}
 
-refused_with : (told : Result Served ServerFault) (fault given : ServerFault) → Refuses told fault → fault ≡ given → Refuses told given
-refused_with told fault given h e = subst (Refuses told) e h
-
-spent_or : (b : Bool) (class : List ℕ) (told : Result Served ServerFault) (fault : ServerFault) → cond b (Err NumbersSpent) (Ok class) ≡ Err fault → Refuses (cond b (Err NumbersSpent) told) fault
-spent_or true class told fault e = refused_with (Err NumbersSpent) NumbersSpent fault refl cc
-spent_or false class told fault e = cc
-
-pub first_refuses : (v : Server) (act : ℕ) (op : Operation) (box : Option Kind) (class : Option (List ℕ)) (fault : ServerFault)
-    → first_class v class ≡ Err fault → Refuses (unknown_call v act op box class) fault
-first_refuses v act op box None fault e = refused_with (Err Ignored) Ignored fault refl cc
-first_refuses v act op box (Some class) fault e = spent_or (nat_le v.numbers (length v.acts)) class (offered v act class op box) fault e
-
 room_for : (b : Bool) (class given : List ℕ) (f : List ℕ → Result Served ServerFault) → cond b (Err NumbersSpent) (Ok class) ≡ Ok given → cond b (Err NumbersSpent) (f class) ≡ f given
 room_for true class given f e = cc
 room_for false class given f e = let s : class ≡ given = cc in ap f s
 
-pub first_offers : (v : Server) (act : ℕ) (op : Operation) (box : Option Kind) (class : Option (List ℕ)) (given : List ℕ)
+first_offers : (v : Server) (act : ℕ) (op : Operation) (box : Option Kind) (class : Option (List ℕ)) (given : List ℕ)
     → first_class v class ≡ Ok given → unknown_call v act op box class ≡ offered v act given op box
 first_offers v act op box None given e = cc
 first_offers v act op box (Some class) given e = room_for (nat_le v.numbers (length v.acts)) class given (λ c. offered v act c op box) e
@@ -36,7 +24,7 @@ wanted_if : (b : Bool) (class given : List ℕ) → cond b (Err NumbersSpent) (O
 wanted_if true class given e = cc
 wanted_if false class given e = cc
 
-pub first_wanted : (v : Server) (class : Option (List ℕ)) (given : List ℕ) → first_class v class ≡ Ok given → wanted_unknown v class None ≡ Some given
+first_wanted : (v : Server) (class : Option (List ℕ)) (given : List ℕ) → first_class v class ≡ Ok given → wanted_unknown v class None ≡ Some given
 first_wanted v None given e = cc
 first_wanted v (Some class) given e = wanted_if (nat_le v.numbers (length v.acts)) class given e
 

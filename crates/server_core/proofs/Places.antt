@@ -11,9 +11,6 @@ pub record IsPast {A : Type 0} (test : A → Bool) (xs : List A) (i : ℕ) : Typ
   pub found : find test xs ≡ find test (drop i xs)
   pub puts : (a : A) → put test a xs ≡ take i xs ++ put test a (drop i xs)
 
-pub past_none : {A : Type 0} (test : A → Bool) (xs : List A) → IsPast test xs 0
-past_none test xs = record { found = refl; puts = λ a. refl }
-
 past_more : {A : Type 0} (test : A → Bool) (xs : List A) (i : ℕ) (x : A) → IsPast test xs i → i < length xs → x ≡ get_or xs i x → test x ≡ false → IsPast test xs (i + 1)
 past_more test xs i x p lt e t =
     let split : drop i xs ≡ x ∷ drop (i + 1) xs = drop_more xs i x lt ∙ ap (λ y. y ∷ drop (i + 1) xs) (sym e) in
@@ -32,10 +29,7 @@ past_here test xs i x p lt e t =
       puts = λ a. p.puts a ∙ (ap (λ ys. take i xs ++ put test a ys) split ∙ (rw t (sym (rw add-one (set_split xs i a lt)))));
     }
 
-pub past_all : {A : Type 0} (test : A → Bool) (xs : List A) (i : ℕ) → IsPast test xs i → length xs ≤ i → find test xs ≡ None
-past_all test xs i p h = p.found ∙ ap (find test) (drop_of_length-le xs h)
-
-pub length_seen : {A B : Type 0} (f : A → B) (xs : List A) → length (map f xs) ≡ length xs
+length_seen : {A B : Type 0} (f : A → B) (xs : List A) → length (map f xs) ≡ length xs
 length_seen f [] = refl
 length_seen f (x ∷ xs) = ap suc (length_seen f xs)
 
@@ -51,14 +45,11 @@ seen_more test f xs i x p lt e t = past_more test (map f xs) i (f x) p (rw (leng
 pub seen_here : {A B : Type 0} (test : B → Bool) (f : A → B) (xs ys : List A) (i : ℕ) (x : A) → xs ≡ ys → IsPast test (map f xs) i → i < length xs → x ≡ get_or xs i x → test (f x) ≡ true → IsPlace test (map f ys) i
 seen_here test f xs ys i x same p lt e t = subst (λ zs. IsPlace test (map f zs) i) same (past_here test (map f xs) i (f x) p (rw (length_seen f xs) lt) (get_seen f xs i x e) t)
 
-pub seen_all : {A B : Type 0} (test : B → Bool) (f : A → B) (xs : List A) (i : ℕ) → IsPast test (map f xs) i → length xs ≤ i → find test (map f xs) ≡ None
-seen_all test f xs i p h = past_all test (map f xs) i p (rw (length_seen f xs) h)
-
 -- what is found, where the item at i is known
 pub seen_at : {A B : Type 0} (test : B → Bool) (f : A → B) (xs : List A) (i : ℕ) (x : A) → IsPlace test (map f xs) i → x ≡ get_or xs i x → find test (map f xs) ≡ Some (f x)
 seen_at test f xs i x p e = p.found ∙ (slice_get-get_or (map f xs) i (f x) p.fits ∙ ap Some (sym (get_seen f xs i x e)))
 
-pub seen_set : {A B : Type 0} (f : A → B) (xs : List A) (i : ℕ) (y : A) → map f (set xs i y) ≡ set (map f xs) i (f y)
+seen_set : {A B : Type 0} (f : A → B) (xs : List A) (i : ℕ) (y : A) → map f (set xs i y) ≡ set (map f xs) i (f y)
 seen_set f [] i y = refl
 seen_set f (x ∷ xs) zero y = refl
 seen_set f (x ∷ xs) (suc i) y = ap (λ zs. f x ∷ zs) (seen_set f xs i y)

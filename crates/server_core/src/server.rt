@@ -18,6 +18,7 @@ use wire_msgs::operation::Operation;
 /// An object in a server.
 #[derive(Drop)]
 pub struct Seat {
+    /// The object.
     pub boxed: Box<dyn Embedded>,
 }
 
