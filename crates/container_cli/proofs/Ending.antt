@@ -2,7 +2,7 @@
 use Rattle.std.proofs.Common.{◌≡◌, ◌++◌, ℕ, zero, suc, List, [], ◌∷◌, Option, Some, None, length, take, drop, slice_get, MatchOption, ap, ◌∙◌, subst, arith}
 use Rattle.embed_core.specs.Kinds.{Kind}
 use Rattle.world_run.specs.Report.{report}
-use Rattle.world_run.specs.Standin.{StopsAt}
+use Rattle.world_run.specs.World.{StopsAt}
 use Rattle.world_run.specs.World.{World, Run, empty_world}
 use Rattle.world_run.specs.declared.event.Event.{Event}
 use Rattle.world_run.specs.declared.event.Stop.{Stop}

@@ -4,7 +4,7 @@ use Rattle.std.specs.Io.KnownBytes.{Appends}
 use Rattle.embed_core.specs.Kinds.{Kind}
 use Rattle.embed_core.specs.Words.{lines}
 use Rattle.world_run.specs.Report.{report}
-use Rattle.world_run.specs.Standin.{StopsAt}
+use Rattle.world_run.specs.World.{StopsAt}
 use Rattle.world_run.specs.World.{World, empty_world, Run}
 use Rattle.world_run.specs.declared.event.Event.{Event}
 use Rattle.world_run.specs.declared.event.Stop.{Stop}
