@@ -2,8 +2,8 @@
 use Rattle.std.proofs.Common.{◌≡◌, ◌++◌, ℕ, zero, suc, List, [], ◌∷◌, Option, Some, None, length, take, drop, slice_get, MatchOption, ap, ◌∙◌, subst, arith}
 use Rattle.embed_core.specs.Kinds.{Kind}
 use Rattle.world_run.specs.Report.{report}
-use Rattle.world_run.specs.World.{StopsAt}
-use Rattle.world_run.specs.World.{World, Run, empty_world}
+use Rattle.world_run.specs.World.{World, Run, StopsAt, empty_world}
+use Rattle.world_run.proofs.Held.{empty_held, held_run, safe_held}
 use Rattle.world_run.specs.declared.event.Event.{Event}
 use Rattle.world_run.specs.declared.event.Stop.{Stop}
 use Rattle.container_cli.specs.Answers.{answer_lines}
@@ -35,10 +35,14 @@ pub simulated : (numbers : ℕ) (stock : List Kind) (events : List Event) (taken
     → start ≡ empty_world numbers stock → Run start (take taken events) w
     → Ended w events taken stop
     → a ≡ [] → b ≡ a ++ answer_lines 1 w.answers → c ≡ b ++ report w → d ≡ c ++ stop_text taken stop → IsSimulated numbers stock events stop d
-simulated numbers stock events taken stop start w a b c d new run ended empty answered reported told = record {
+simulated numbers stock events taken stop start w a b c d new run ended empty answered reported told =
+    let P : World → Type 0 = λ s. Run s (take taken events) w in
+    let reached : Run (empty_world numbers stock) (take taken events) w = subst P new run in
+    record {
   taken = taken;
   w = w;
-  runs = let P : World → Type 0 = λ s. Run s (take taken events) w in subst P new run;
+  runs = reached;
+  safe = safe_held w (held_run (empty_world numbers stock) (take taken events) w (empty_held numbers stock) reached);
   ends = ends w events taken stop ended;
   told = told ∙ ap (λ t. t ++ stop_text taken stop) (reported ∙ ap (λ t. t ++ report w) (answered ∙ ap (λ t. t ++ answer_lines 1 w.answers) empty));
 }

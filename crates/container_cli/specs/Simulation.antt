@@ -4,6 +4,7 @@ use Rattle.std.specs.Io.KnownBytes.{Appends}
 use Rattle.embed_core.specs.Kinds.{Kind}
 use Rattle.embed_core.specs.Words.{lines}
 use Rattle.world_run.specs.Report.{report}
+use Rattle.world_run.specs.Safe.{Safe}
 use Rattle.world_run.specs.World.{StopsAt}
 use Rattle.world_run.specs.World.{World, empty_world, Run}
 use Rattle.world_run.specs.declared.event.Event.{Event}
@@ -30,11 +31,13 @@ stop_text taken (Some stop) = stop_line (taken + 1) stop
 abbrev pub world_text : World → ℕ → Option Stop → List ℕ
 world_text w taken stop = answer_lines 1 w.answers ++ report w ++ stop_text taken stop
 
--- The text of a run of events, from the world in which nothing has happened.
+-- The text of a run of events, from the world in which nothing has happened. The world that it reached is safe: no call
+-- acted twice, no save was counted twice, both sides counted one content, and the files hold what was counted.
 pub record IsSimulated (numbers : ℕ) (stock : List Kind) (events : List Event) (stop : Option Stop) (out : List ℕ) : Type 0 where
   pub taken : ℕ
   pub w : World
   pub runs : Run (empty_world numbers stock) (take taken events) w
+  pub safe : Safe w
   pub ends : Ends w (drop taken events) stop
   pub told : out ≡ world_text w taken stop
 
