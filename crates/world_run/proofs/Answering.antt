@@ -40,7 +40,7 @@ use Rattle.world_run.specs.World.{Instance}
 use Rattle.world_run.specs.Tying.{Acts, Ahead}
 use Rattle.world_run.specs.Safe.{act_at, acts_of}
 use Rattle.world_run.proofs.Lookups.{find_passes, nth_bound}
-use Rattle.world_run.proofs.Serving.{Makes, Begins, How, again, next, begun, Changed, same_act}
+use Rattle.world_run.proofs.CallsServed.{Makes, Begins, How, again, next, begun, Changed, same_act}
 
 -- an edit leaves the states
 edit_states : (v : States) (p : PersistState) (o : ObjectState) (u : States) → v.persist.state ≡ p → v.object ≡ o

@@ -7,7 +7,7 @@ pub mod Quiet
 pub mod Books
 pub mod Shelves
 pub mod Kept
-pub mod Serving
+pub mod CallsServed
 pub mod ServingBooks
 pub mod Moving
 pub mod Finding

@@ -19,7 +19,7 @@ use Rattle.world_run.specs.World.{nth_or_zero}
 use Rattle.world_run.specs.Safe.{Among, IsOther, ServedOnce}
 use Rattle.world_run.specs.Tying.{Links, Acts, Lives, AtPending, InStep, IsClosed, Linked, Drawn, Calls, Steps, Ended, Replies, IsCounted, Books}
 use Rattle.world_run.proofs.Lookups.{among_join, among_old, among_new}
-use Rattle.world_run.proofs.Serving.{Makes, Begins, How, again, next, begun, Changed, same_act, pending_next, old_call}
+use Rattle.world_run.proofs.CallsServed.{Makes, Begins, How, again, next, begun, Changed, same_act, pending_next, old_call}
 
 -- what is counted with a call
 abbrev pub entries_of : ℕ → ℕ → List ℕ → Option Counted → List ServerDone

@@ -42,7 +42,7 @@ use Rattle.world_run.proofs.Lookups.{among_map, among_join, find_among, nth_old,
 use Rattle.world_run.proofs.Shelves.{length_more}
 use Rattle.world_run.proofs.Quiet.{unless_ok}
 use Rattle.world_run.proofs.Books.{parts_of_frame}
-use Rattle.world_run.proofs.Serving.{Changed, How, drawn_served, calls_served, steps_served, ended_served, replies_served}
+use Rattle.world_run.proofs.CallsServed.{Changed, How, drawn_served, calls_served, steps_served, ended_served, replies_served}
 use Rattle.world_run.proofs.ServingBooks.{entries_of, books_served, once_served}
 use Rattle.world_run.proofs.Moving.{Goes, calls_moved, drawn_moved, steps_moved, ended_moved, replies_moved, books_moved, books_counted}
 use Rattle.world_run.proofs.Finding.{linked_object, messages_of_log, messages_told, messages_sends, found_number}
