@@ -24,4 +24,3 @@ pub mod Alike
 pub mod Joins
 pub mod Filed
 pub mod Servers
-pub mod Lifts

@@ -10,4 +10,3 @@ pub mod Safe
 pub mod Keeping
 pub mod Tying
 pub mod Holding
-pub mod Plans

@@ -8,7 +8,6 @@ pub mod ledger;
 pub mod logs;
 pub mod report;
 pub mod safe_laws;
-mod plan;
 pub mod stock;
 mod text;
 pub mod worked;
