@@ -1,5 +1,3 @@
-mod simulations;
-
 use crate::commands::{list_file, make_file};
 use crate::fault::{ListFault, MakeFault};
 use std::alloc::{AllocError, Global};

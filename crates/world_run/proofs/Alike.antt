@@ -107,50 +107,55 @@ pub ties_alike : (rec : Record) (is js : List Instance) (sent : List Sent) (owne
     → length js ≡ length is → ((inc act : ℕ) → Alike (acts_of is inc act) (acts_of js inc act)) → ((inc : ℕ) → lives_of js inc ≡ lives_of is inc)
     → Ties rec is sent owners dones served → Ties rec js sent owners dones served
 ties_alike rec is js sent owners dones served many same lives h = record {
-    servers = h.servers ∙ sym many;
-    phased = h.phased;
-    drawn = record {
-      many = h.drawn.many;
-      named = h.drawn.named;
-      hosted = λ n l e. (let p = h.drawn.hosted n l e in (p.0, lives l.inc ∙ p.1));
-      called = h.drawn.called;
-      known = λ inc act b e. (let p = before_of (acts_of is inc act) b (subst (Alike (acts_of is inc act)) e (same inc act)) in h.drawn.known inc act p.0 p.1);
-      started = λ inc act m op g. (let p = h.drawn.started inc act m op g in (p.0, lives inc ∙ p.1));
-    };
-    calls = h.calls;
-    steps = record {
-      step = λ n l e. step_alike l.last l.states l.pending (acts_of is l.inc l.act) (acts_of js l.inc l.act) (same l.inc l.act) (h.steps.step n l e);
-      saved = λ n l c e f. saved_alike c (acts_of is l.inc l.act) (acts_of js l.inc l.act) (same l.inc l.act) (h.steps.saved n l c e f);
-    };
-    ended = λ inc act m op g lv. elim (h.ended inc act m op g (sym (lives inc) ∙ lv)) [
-        inl k ↦ inl k
-      | inr c ↦ inr (closed_alike (acts_of is inc act) (acts_of js inc act) (same inc act) c)
-      ];
-    replies = record {
-      known = λ inc act m r g. (let k = h.replies.known inc act m r g in
+  servers = h.servers ∙ sym many;
+  phased = h.phased;
+  drawn = record {
+    many = h.drawn.many;
+    named = h.drawn.named;
+    hosted = λ n l e. (let p = h.drawn.hosted n l e in (p.0, lives l.inc ∙ p.1));
+    called = h.drawn.called;
+    known = λ inc act b e. (let p = before_of (acts_of is inc act) b (subst (Alike (acts_of is inc act)) e (same inc act)) in h.drawn.known inc act p.0 p.1);
+    started = λ inc act m op g. (let p = h.drawn.started inc act m op g in (p.0, lives inc ∙ p.1));
+  };
+  calls = h.calls;
+  steps = record {
+    step = λ n l e. step_alike l.last l.states l.pending (acts_of is l.inc l.act) (acts_of js l.inc l.act) (same l.inc l.act) (h.steps.step n l e);
+    saved = λ n l c e f. saved_alike c (acts_of is l.inc l.act) (acts_of js l.inc l.act) (same l.inc l.act) (h.steps.saved n l c e f);
+  };
+  ended = λ inc act m op g lv. elim (h.ended inc act m op g (sym (lives inc) ∙ lv)) [
+    | inl k ↦ inl k
+    | inr c ↦ inr (closed_alike (acts_of is inc act) (acts_of js inc act) (same inc act) c)
+  ];
+  replies = record {
+    known = λ inc act m r g. (let k = h.replies.known inc act m r g in
         let p = after_of k.0 (acts_of js inc act) (subst (λ x. Alike x (acts_of js inc act)) k.1 (same inc act)) in
         let s = p.2 in
         (p.0, p.1, subst (λ n. m ≤ n) (sym s.last) k.2, (λ z. k.3 (z ∙ s.last) ∙ sym s.reply)));
-      one = h.replies.one;
-    };
-    books = record {
-      completed = λ inc act m k s g. (let c = h.books.completed inc act m k s g in (c.0, c.1, c.2, c.3, (λ b e lt.
-        let p = before_of (acts_of is inc act) b (subst (Alike (acts_of is inc act)) e (same inc act)) in
-        let q = p.2 in
-        q.saved ∙ c.4 p.0 p.1 (subst (λ n. n < m) q.last lt))));
-      once = h.books.once;
-      acted = λ e g. (let c = h.books.acted e g in
+    one = h.replies.one;
+  };
+  books = record {
+    completed = λ inc act m k s g. (let c = h.books.completed inc act m k s g in (
+      c.0,
+      c.1,
+      c.2,
+      c.3,
+      (λ b e lt.
+          let p = before_of (acts_of is inc act) b (subst (Alike (acts_of is inc act)) e (same inc act)) in
+          let q = p.2 in
+          q.saved ∙ c.4 p.0 p.1 (subst (λ n. n < m) q.last lt)),
+    ));
+    once = h.books.once;
+    acted = λ e g. (let c = h.books.acted e g in
         let p = after_of c.3 (acts_of js e.inc c.0) (subst (λ x. Alike x (acts_of js e.inc c.0)) c.6 (same e.inc c.0)) in
         let s = p.2 in
         (c.0, c.1, c.2, p.0, c.4, c.5, p.1, subst (λ n. c.1 ≤ n) (sym s.last) c.7));
-      same = h.books.same;
-    };
-    once = h.once;
-  }
+    same = h.books.same;
+  };
+  once = h.once;
+}
 
 -- the same servers, whatever their objects are said to contain
 module _ {X : Type 0} {V : X → Type 0} (c d : Seat X V → Content) where
-
   closed_seen : (s : Option (Seat X V)) → option_map c s ≡ None → option_map d s ≡ None
   closed_seen None e = refl
   closed_seen (Some s) e = cc
@@ -159,8 +164,8 @@ module _ {X : Type 0} {V : X → Type 0} (c d : Seat X V → Content) where
   found_alike act [] = tt
   found_alike act (x ∷ xs) =
       elim (nat_eq (seen_activation c x).act act) as (λ t. Alike (if t then Some (seen_activation c x) else find (is_act act) (map (seen_activation c) xs)) (if t then Some (seen_activation d x) else find (is_act act) (map (seen_activation d) xs))) [
-        true ↦ record { last = refl; reply = refl; states = refl; saved = refl; closed = closed_seen x.seat }
-      | false ↦ found_alike act xs
+        | true ↦ record { last = refl; reply = refl; states = refl; saved = refl; closed = closed_seen x.seat }
+        | false ↦ found_alike act xs
       ]
 
   pub acts_alike : (xs : List (held.Instance X V)) (inc act : ℕ) → Alike (acts_of (map (seen_instance c) xs) inc act) (acts_of (map (seen_instance d) xs) inc act)

@@ -108,12 +108,17 @@ counts_made : (a : Activation) (v : States) (k : ℕ) (storage : Bool) (saved : 
     → IsMade a (SaveCompleted k storage) (counts a k (answers (record a { states = v; s = a.s + 1 }) told.Done) saved)
 counts_made a v k storage None e f = plain a (record a { states = v; s = a.s + 1 }) (SaveCompleted k storage) told.Done refl refl f (inr refl)
 counts_made a v k storage (Some c) e f = record {
-    makes = record { last = refl; reply = refl; ahead = f; saved = inr refl;
-      counts = λ w g. (let q : record { act = a.act; k = k; content = c } ≡ w = cc in
-        (storage, ap (λ (x : Counted). SaveCompleted x.k storage) q, e ∙ ap (λ (x : Counted). Some x.content) q)) };
-    act = refl;
-    of = λ w g. (let q : record { act = a.act; k = k; content = c } ≡ w = cc in ap (λ (x : Counted). x.act) (sym q));
-  }
+  makes = record {
+    last = refl;
+    reply = refl;
+    ahead = f;
+    saved = inr refl;
+    counts = λ w g. (let q : record { act = a.act; k = k; content = c } ≡ w = cc in
+        (storage, ap (λ (x : Counted). SaveCompleted x.k storage) q, e ∙ ap (λ (x : Counted). Some x.content) q));
+  };
+  act = refl;
+  of = λ w g. (let q : record { act = a.act; k = k; content = c } ≡ w = cc in ap (λ (x : Counted). x.act) (sym q));
+}
 
 does_made : (a : Activation) (c : Content) (v : States) (op : Operation) → both.step a.states (op_of op) ≡ Ok v → IsMade a op (does a c v op)
 does_made a c v (InitNew class) e = plain a (record a { states = v }) (InitNew class) _ refl refl e (inr refl)
@@ -139,28 +144,28 @@ find_act_put : (xs : List Activation) (act x : ℕ) (a b : Activation) → find 
 find_act_put [] act x a b e eb = cc
 find_act_put (z ∷ zs) act x a b e eb =
     elim (nat_eq z.act act) as (λ t. nat_eq z.act act ≡ t → (if t then Some z else find (is_act act) zs) ≡ Some a → find (is_act x) (if t then b ∷ zs else z ∷ put (is_act act) b zs) ≡ (if act == x then Some b else find (is_act x) (z ∷ zs))) [
-      true ↦ (λ t g. let za : z.act ≡ act = eqb-true z.act act t in elim (eqb_tells act x) [
-          inl s ↦ rw (s.0, eq-eqb b.act x (eb ∙ s.1)) refl
+      | true ↦ (λ t g. let za : z.act ≡ act = eqb-true z.act act t in elim (eqb_tells act x) [
+        | inl s ↦ rw (s.0, eq-eqb b.act x (eb ∙ s.1)) refl
         | inr s ↦ rw (s.0, ne_eqb b.act x (λ q. s.1 (sym eb ∙ q)), ne_eqb z.act x (λ q. s.1 (sym za ∙ q))) refl
-        ])
-    | false ↦ (λ t g. elim (eqb_tells z.act x) [
-          inl s ↦ rw (s.0, ne_eqb act x (λ q. absurd (let n : nat_eq z.act act ≡ true = eq-eqb z.act act (s.1 ∙ sym q) in let w : true ≡ false = sym n ∙ t in cc))) refl
+      ])
+      | false ↦ (λ t g. elim (eqb_tells z.act x) [
+        | inl s ↦ rw (s.0, ne_eqb act x (λ q. absurd (let n : nat_eq z.act act ≡ true = eq-eqb z.act act (s.1 ∙ sym q) in let w : true ≡ false = sym n ∙ t in cc))) refl
         | inr s ↦ rw s.0 (find_act_put zs act x a b g eb)
-        ])
+      ])
     ] refl e
 
 find_act_more : (xs : List Activation) (act x : ℕ) (b : Activation) → find (is_act act) xs ≡ None → b.act ≡ act → find (is_act x) (xs ++ b ∷ []) ≡ (if act == x then Some b else find (is_act x) xs)
 find_act_more [] act x b e eb = elim (eqb_tells act x) [
-    inl s ↦ rw (s.0, eq-eqb b.act x (eb ∙ s.1)) refl
+  | inl s ↦ rw (s.0, eq-eqb b.act x (eb ∙ s.1)) refl
   | inr s ↦ rw (s.0, ne_eqb b.act x (λ q. s.1 (sym eb ∙ q))) refl
-  ]
+]
 find_act_more (z ∷ zs) act x b e eb =
     elim (nat_eq z.act act) as (λ t. nat_eq z.act act ≡ t → (if t then Some z else find (is_act act) zs) ≡ None → find (is_act x) (z ∷ (zs ++ b ∷ [])) ≡ (if act == x then Some b else find (is_act x) (z ∷ zs))) [
-      true ↦ (λ t g. cc)
-    | false ↦ (λ t g. elim (eqb_tells z.act x) [
-          inl s ↦ rw (s.0, ne_eqb act x (λ q. absurd (let n : nat_eq z.act act ≡ true = eq-eqb z.act act (s.1 ∙ sym q) in let w : true ≡ false = sym n ∙ t in cc))) refl
+      | true ↦ (λ t g. cc)
+      | false ↦ (λ t g. elim (eqb_tells z.act x) [
+        | inl s ↦ rw (s.0, ne_eqb act x (λ q. absurd (let n : nat_eq z.act act ≡ true = eq-eqb z.act act (s.1 ∙ sym q) in let w : true ≡ false = sym n ∙ t in cc))) refl
         | inr s ↦ rw s.0 (find_act_more zs act x b g eb)
-        ])
+      ])
     ] refl e
 
 -- instances by number
@@ -199,18 +204,17 @@ pub record IsTaken (is : List Instance) (inc act m : ℕ) (op : Operation) (i : 
   pub of : (v : Counted) → told.counted ≡ Some v → v.act ≡ act
 
 module _ (is : List Instance) (inc act m : ℕ) (op : Operation) (i : Instance) (at : nth is inc ≡ Some i) where
-
   -- one activation of the instance changed
   changes : (v : Server) (b : Activation) → ((x : ℕ) → find (is_act x) v.acts ≡ (if act == x then Some b else find (is_act x) i.core.acts)) → Changed (acts_of is) inc act b (acts_of (set_nth is inc (record i { core = v })))
   changes v b f = record {
-      here = ap (act_at act) (set_same is inc i (record i { core = v }) at) ∙ (f act ∙ rw (eq-eqb act act refl) refl);
-      other = λ k x ne. elim (eqb_tells k inc) [
-          inl s ↦ (let nx : (act == x) ≡ false = ne_eqb act x (λ q. ne s.1 (sym q)) in
-            ap (act_at x) (ap (nth (set_nth is inc (record i { core = v }))) s.1 ∙ set_same is inc i (record i { core = v }) at)
-            ∙ ((f x ∙ rw nx refl) ∙ sym (ap (act_at x) (ap (nth is) s.1 ∙ at))))
-        | inr s ↦ ap (act_at x) (set_other is inc k (record i { core = v }) s.1)
-        ];
-    }
+    here = ap (act_at act) (set_same is inc i (record i { core = v }) at) ∙ (f act ∙ rw (eq-eqb act act refl) refl);
+    other = λ k x ne. elim (eqb_tells k inc) [
+      | inl s ↦ (let nx : (act == x) ≡ false = ne_eqb act x (λ q. ne s.1 (sym q)) in
+          ap (act_at x) (ap (nth (set_nth is inc (record i { core = v }))) s.1 ∙ set_same is inc i (record i { core = v }) at)
+          ∙ ((f x ∙ rw nx refl) ∙ sym (ap (act_at x) (ap (nth is) s.1 ∙ at))))
+      | inr s ↦ ap (act_at x) (set_other is inc k (record i { core = v }) s.1)
+    ];
+  }
 
   known : (a : Activation) (r : Result Acted ServerFault) (told : Served) → find (is_act act) i.core.acts ≡ Some a → known_call a m op ≡ r → after_known i.core act r ≡ Ok told → IsTaken is inc act m op i told
   known a (Err fault) told f k e = cc
@@ -233,7 +237,7 @@ module _ (is : List Instance) (inc act m : ℕ) (op : Operation) (i : Instance) 
       how_of here aa true t g =
           let q : record { activation = a; answer = a.reply; counted = None } ≡ b = cc in
           subst (λ (y : Acted). How (acts_of is) inc act m op y.activation y.answer y.counted × (y.activation.act ≡ act) × ((v : Counted) → y.counted ≡ Some v → v.act ≡ act)) q
-            (again here (eqb-true m a.last t) refl refl, aa, (λ v z. cc))
+          (again here (eqb-true m a.last t) refl refl, aa, (λ v z. cc))
       how_of here aa false t g = next_of (nat_eq m (a.last + 1)) refl g
         where
           next_of : (u : Bool) → nat_eq m (a.last + 1) ≡ u → cond u (next_call a op a.content) (Err Ignored) ≡ Ok b

@@ -49,15 +49,14 @@ pub record Changed (acts : Acts) (inc act : ℕ) (a : Activation) (after : Acts)
 -- this activation, or another
 pub same_act : (i x inc act : ℕ) → ((i ≡ inc) × (x ≡ act)) ⊎ (i ≡ inc → x ≡ act → ⊥)
 same_act i x inc act = elim (eqb_tells i inc) [
-    inl p ↦ elim (eqb_tells x act) [ inl q ↦ inl (p.1, q.1) | inr q ↦ inr (λ e f. q.1 f) ]
+  | inl p ↦ elim (eqb_tells x act) [ inl q ↦ inl (p.1, q.1) | inr q ↦ inr (λ e f. q.1 f) ]
   | inr p ↦ inr (λ e f. p.1 e)
-  ]
+]
 
 module _ (links : Links) (acts after : Acts) (lives : Lives) (sent : List Message) (owners : List ℕ) (last : ℕ) (inc act m : ℕ) (op : Operation) (a : Activation) (r : Answer) (counted : Option Counted)
     (hd : Drawn links acts lives sent owners last) (hc : Calls links sent) (hs : Steps links acts) (he : Ended links acts lives sent) (hr : Replies acts sent)
     (quiet : (n k : ℕ) (l : Link) → links n ≡ Some l → l.pending ≡ Some (Save k) → l.saved ≡ None)
     (call : Among sent (Call inc act m op)) (runs : lives inc ≡ Some Running) (ch : Changed acts inc act a after) (how : How acts inc act m op a r counted) where
-
   abbrev pub more : List Message
   more = sent ++ Reply inc act m r ∷ []
 
@@ -66,23 +65,23 @@ module _ (links : Links) (acts after : Acts) (lives : Lives) (sent : List Messag
 
   pub drawn_served : Drawn links after lives more owners last
   drawn_served = record {
-      many = hd.many;
-      named = hd.named;
-      hosted = hd.hosted;
-      called = λ i x n p h. hd.called i x n p (old_call i x n p h);
-      known = λ i x b e. elim (same_act i x inc act) [
-          inl s ↦ (let le : act ≤ last = hd.called inc act m op call in let q : x ≡ act = s.1 in omega arith)
-        | inr d ↦ hd.known i x b (sym (ch.other i x d) ∙ e)
-        ];
-      started = λ i x n p h. hd.started i x n p (old_call i x n p h);
-    }
+    many = hd.many;
+    named = hd.named;
+    hosted = hd.hosted;
+    called = λ i x n p h. hd.called i x n p (old_call i x n p h);
+    known = λ i x b e. elim (same_act i x inc act) [
+      | inl s ↦ (let le : act ≤ last = hd.called inc act m op call in let q : x ≡ act = s.1 in omega arith)
+      | inr d ↦ hd.known i x b (sym (ch.other i x d) ∙ e)
+    ];
+    started = λ i x n p h. hd.started i x n p (old_call i x n p h);
+  }
 
   pub calls_served : Calls links more
   calls_served = record {
-      bounded = λ n i k p l e h. hc.bounded n i k p l e (old_call i l.act k p h);
-      pending = λ n i p q l e f h. hc.pending n i p q l e f (old_call i l.act l.last p h);
-      waiting = hc.waiting;
-    }
+    bounded = λ n i k p l e h. hc.bounded n i k p l e (old_call i l.act k p h);
+    pending = λ n i p q l e f h. hc.pending n i p q l e f (old_call i l.act l.last p h);
+    waiting = hc.waiting;
+  }
 
   -- the activation that acts is the one of a link, which waits for this very call
   ahead_of : (n : ℕ) (l : Link) → links n ≡ Some l → l.inc ≡ inc → l.act ≡ act → How acts inc act m op a r counted → InStep l (acts inc act) → InStep l (Some a)
@@ -91,6 +90,7 @@ module _ (links : Links) (acts after : Acts) (lives : Lives) (sent : List Messag
     where
       is_call : Among sent (Call inc l.act m op)
       is_call = subst (λ x. Among sent (Call inc x m op)) (sym ea) call
+
       at_next : (p : Option Operation) → l.pending ≡ p → AtPending l.last l.states b p → AtPending l.last l.states a p
       at_next None f (q, v) = (let le : m ≤ l.last = (hc.bounded n inc m op l e is_call).1 in let q' : b.last ≡ l.last = q in absurd (omega arith))
       at_next (Some p) f (inl (q, v)) =
@@ -102,6 +102,7 @@ module _ (links : Links) (acts after : Acts) (lives : Lives) (sent : List Messag
     where
       is_call : Among sent (Call inc l.act m op)
       is_call = subst (λ x. Among sent (Call inc x m op)) (sym ea) call
+
       at_first : (p : Option Operation) → l.pending ≡ p → (l.last ≡ 1) × (l.states ≡ both.loaded) × IsPending p → AtPending l.last l.states a p
       at_first None f s' = absurd s'.2
       at_first (Some p) f s' =
@@ -129,24 +130,24 @@ module _ (links : Links) (acts after : Acts) (lives : Lives) (sent : List Messag
   kept_saved n l c e g ei ea (again at em er ec) h = subst (HasSaved c) at h
   kept_saved n l c e g ei ea (begun at em k ec) h = absurd (subst (HasSaved c) at h)
   kept_saved n l c e g ei ea (next b at em op1 k) h = elim k.saved [
-      inl sv ↦ (let st : InStep l (Some b) = subst (InStep l) at (at_call n l (InStep l) ei ea (hs.step n l e)) in
+    | inl sv ↦ (let st : InStep l (Some b) = subst (InStep l) at (at_call n l (InStep l) ei ea (hs.step n l e)) in
         let pe : l.pending ≡ Some (Save sv.0) = (pending_next n l b e ea em l.pending refl st).0 ∙ ap Some sv.1 in
         let no : l.saved ≡ None = quiet n sv.0 l e pe in
         absurd (cc))
     | inr same ↦ same ∙ subst (HasSaved c) at h
-    ]
+  ]
 
   pub steps_served : Steps links after
   steps_served = record {
-      step = λ n l e. elim (same_act l.inc l.act inc act) [
-          inl s ↦ at_after n l (InStep l) s.0 s.1 (ahead_of n l e s.0 s.1 how (at_call n l (InStep l) s.0 s.1 (hs.step n l e)))
-        | inr d ↦ subst (InStep l) (sym (ch.other l.inc l.act d)) (hs.step n l e)
-        ];
-      saved = λ n l c e g. elim (same_act l.inc l.act inc act) [
-          inl s ↦ at_after n l (HasSaved c) s.0 s.1 (kept_saved n l c e g s.0 s.1 how (at_call n l (HasSaved c) s.0 s.1 (hs.saved n l c e g)))
-        | inr d ↦ subst (HasSaved c) (sym (ch.other l.inc l.act d)) (hs.saved n l c e g)
-        ];
-    }
+    step = λ n l e. elim (same_act l.inc l.act inc act) [
+      | inl s ↦ at_after n l (InStep l) s.0 s.1 (ahead_of n l e s.0 s.1 how (at_call n l (InStep l) s.0 s.1 (hs.step n l e)))
+      | inr d ↦ subst (InStep l) (sym (ch.other l.inc l.act d)) (hs.step n l e)
+    ];
+    saved = λ n l c e g. elim (same_act l.inc l.act inc act) [
+      | inl s ↦ at_after n l (HasSaved c) s.0 s.1 (kept_saved n l c e g s.0 s.1 how (at_call n l (HasSaved c) s.0 s.1 (hs.saved n l c e g)))
+      | inr d ↦ subst (HasSaved c) (sym (ch.other l.inc l.act d)) (hs.saved n l c e g)
+    ];
+  }
 
   -- a closed activation stays closed
   closed_after : How acts inc act m op a r counted → IsClosed (acts inc act) → IsClosed (Some a)
@@ -156,13 +157,13 @@ module _ (links : Links) (acts after : Acts) (lives : Lives) (sent : List Messag
 
   pub ended_served : Ended links after lives more
   ended_served i x n p h lv = elim (he i x n p (old_call i x n p h) lv) [
-      inl linked ↦ inl linked
+    | inl linked ↦ inl linked
     | inr closed ↦ inr (elim (same_act i x inc act) [
-        inl s ↦ (let was : IsClosed (acts inc act) = subst (λ y. IsClosed (acts inc y)) s.1 (subst (λ y. IsClosed (acts y x)) s.0 closed) in
+      | inl s ↦ (let was : IsClosed (acts inc act) = subst (λ y. IsClosed (acts inc y)) s.1 (subst (λ y. IsClosed (acts y x)) s.0 closed) in
           subst IsClosed (sym (ap (λ y. after y x) s.0 ∙ (ap (after inc) s.1 ∙ ch.here))) (closed_after how was))
       | inr d ↦ subst IsClosed (sym (ch.other i x d)) closed
-      ])
-    ]
+    ])
+  ]
 
   -- how far the activation has come, for a reply that was sent before
   come_before : (n : ℕ) (q : Answer) (b : Activation) → acts inc act ≡ Some b → n ≤ b.last → (n ≡ b.last → q ≡ b.reply) → How acts inc act m op a r counted → (n ≤ a.last) × (n ≡ a.last → q ≡ a.reply) × (n ≡ m → q ≡ r)
@@ -189,11 +190,11 @@ module _ (links : Links) (acts after : Acts) (lives : Lives) (sent : List Messag
 
   replies_known : (i x n : ℕ) (q : Answer) → Among sent (Reply i x n q) → (b : Activation) × (after i x ≡ Some b) × (n ≤ b.last) × (n ≡ b.last → q ≡ b.reply)
   replies_known i x n q h = (let k = hr.known i x n q h in elim (same_act i x inc act) [
-      inl s ↦ (let at : acts inc act ≡ Some k.0 = ap (acts inc) (sym s.1) ∙ (ap (λ y. acts y x) (sym s.0) ∙ k.1) in
+    | inl s ↦ (let at : acts inc act ≡ Some k.0 = ap (acts inc) (sym s.1) ∙ (ap (λ y. acts y x) (sym s.0) ∙ k.1) in
         let c = come_before n q k.0 at k.2 k.3 how in
         (a, ap (λ y. after y x) s.0 ∙ (ap (after inc) s.1 ∙ ch.here), c.0, c.1))
     | inr d ↦ (k.0, ch.other i x d ∙ k.1, k.2, k.3)
-    ])
+  ])
 
   -- an old reply to the same call is the same
   same_reply : (q : Answer) → Among sent (Reply inc act m q) → q ≡ r
@@ -201,19 +202,19 @@ module _ (links : Links) (acts after : Acts) (lives : Lives) (sent : List Messag
 
   pub replies_served : Replies after more
   replies_served = record {
-      known = λ i x n q h. elim (which i x n q h) [
-          inl g ↦ replies_known i x n q g
-        | inr e ↦ (let z = new_reply how in
-            (a, ap (λ y. after y x) e.0 ∙ (ap (after inc) e.1 ∙ ch.here), subst (λ y. y ≤ a.last) (sym e.2) z.0, (λ _. e.3 ∙ z.2)))
-        ];
-      one = λ i x n q p h g. elim (which i x n q h) [
-          inl h' ↦ elim (which i x n p g) [
-            inl g' ↦ hr.one i x n q p h' g'
-          | inr e ↦ same_reply q (subst (λ y. Among sent (Reply y act m q)) e.0 (subst (λ y. Among sent (Reply i y m q)) e.1 (subst (λ y. Among sent (Reply i x y q)) e.2 h'))) ∙ sym e.3
-          ]
-        | inr e ↦ elim (which i x n p g) [
-            inl g' ↦ e.3 ∙ sym (same_reply p (subst (λ y. Among sent (Reply y act m p)) e.0 (subst (λ y. Among sent (Reply i y m p)) e.1 (subst (λ y. Among sent (Reply i x y p)) e.2 g'))))
-          | inr f ↦ e.3 ∙ sym f.3
-          ]
-        ];
-    }
+    known = λ i x n q h. elim (which i x n q h) [
+      | inl g ↦ replies_known i x n q g
+      | inr e ↦ (let z = new_reply how in
+          (a, ap (λ y. after y x) e.0 ∙ (ap (after inc) e.1 ∙ ch.here), subst (λ y. y ≤ a.last) (sym e.2) z.0, (λ _. e.3 ∙ z.2)))
+    ];
+    one = λ i x n q p h g. elim (which i x n q h) [
+      | inl h' ↦ elim (which i x n p g) [
+        | inl g' ↦ hr.one i x n q p h' g'
+        | inr e ↦ same_reply q (subst (λ y. Among sent (Reply y act m q)) e.0 (subst (λ y. Among sent (Reply i y m q)) e.1 (subst (λ y. Among sent (Reply i x y q)) e.2 h'))) ∙ sym e.3
+      ]
+      | inr e ↦ elim (which i x n p g) [
+        | inl g' ↦ e.3 ∙ sym (same_reply p (subst (λ y. Among sent (Reply y act m p)) e.0 (subst (λ y. Among sent (Reply i y m p)) e.1 (subst (λ y. Among sent (Reply i x y p)) e.2 g'))))
+        | inr f ↦ e.3 ∙ sym f.3
+      ]
+    ];
+  }

@@ -34,23 +34,23 @@ pub find_put : (test : Object → Bool) (os : List Object) (x y : Object) (n : �
 find_put test [] x y n d e en = cc
 find_put test (z ∷ os) x y n d e en =
     elim (test z) as (λ b. (if b then Some z else find test os) ≡ Some x → find (is_object n) (if b then y ∷ os else z ∷ put test y os) ≡ (if x.number == n then Some y else find (is_object n) (z ∷ os))) [
-      true ↦ (λ g. let zx : z ≡ x = cc in elim (eqb_tells x.number n) [
-          inl s ↦ rw (s.0, eq-eqb y.number n (en ∙ s.1)) refl
+      | true ↦ (λ g. let zx : z ≡ x = cc in elim (eqb_tells x.number n) [
+        | inl s ↦ rw (s.0, eq-eqb y.number n (en ∙ s.1)) refl
         | inr s ↦ rw (s.0, ne_eqb y.number n (λ q. s.1 (sym en ∙ q)), ne_eqb z.number n (λ q. s.1 (ap (λ (v : Object). v.number) (sym zx) ∙ q))) refl
-        ])
-    | false ↦ (λ g. elim (eqb_tells z.number n) [
-          inl s ↦ (let apart : z.number ≢ x.number = d.0 (id_of x) (among_map id_of os x (find_among test os x g)) in
+      ])
+      | false ↦ (λ g. elim (eqb_tells z.number n) [
+        | inl s ↦ (let apart : z.number ≢ x.number = d.0 (id_of x) (among_map id_of os x (find_among test os x g)) in
             rw (s.0, ne_eqb x.number n (λ q. apart (s.1 ∙ sym q))) refl)
         | inr s ↦ rw s.0 (find_put test os x y n d.1 g en)
-        ])
+      ])
     ] e
 
 pub find_map : (g : Object → Object) (os : List Object) (n : ℕ) → ((o : Object) → (g o).number ≡ o.number) → find (is_object n) (map g os) ≡ option_map g (find (is_object n) os)
 find_map g [] n h = refl
 find_map g (x ∷ os) n h = elim (eqb_tells x.number n) [
-    inl s ↦ rw (s.0, eq-eqb (g x).number n (h x ∙ s.1)) refl
+  | inl s ↦ rw (s.0, eq-eqb (g x).number n (h x ∙ s.1)) refl
   | inr s ↦ rw (s.0, ne_eqb (g x).number n (λ q. s.1 (sym (h x) ∙ q))) (find_map g os n h)
-  ]
+]
 
 -- what is found in a list that was mapped
 pub found_mapped : (g : Object → Object) (os : List Object) (n : ℕ) (z : Object) → ((o : Object) → (g o).number ≡ o.number) → find (is_object n) (map g os) ≡ Some z → (o : Object) × (find (is_object n) os ≡ Some o) × (z ≡ g o)
@@ -79,9 +79,9 @@ link_found os n o l e f = ap link_at e ∙ f
 pub found_put : (test : Object → Bool) (os : List Object) (x y : Object) (n : ℕ) (z : Object) → Distinct (map id_of os) → find test os ≡ Some x → y.number ≡ x.number
     → find (is_object n) (put test y os) ≡ Some z → ((n ≡ x.number) × (z ≡ y)) ⊎ ((n ≢ x.number) × (find (is_object n) os ≡ Some z))
 found_put test os x y n z d e en f = elim (eqb_tells x.number n) [
-    inl s ↦ inl (sym s.1, (let q : Some y ≡ Some z = (let r = find_put test os x y n d e en in sym (r ∙ rw s.0 refl) ∙ f) in let r : y ≡ z = cc in sym r))
+  | inl s ↦ inl (sym s.1, (let q : Some y ≡ Some z = (let r = find_put test os x y n d e en in sym (r ∙ rw s.0 refl) ∙ f) in let r : y ≡ z = cc in sym r))
   | inr s ↦ inr ((λ q. s.1 (sym q)), (let r = find_put test os x y n d e en in sym (r ∙ rw s.0 refl) ∙ f))
-  ]
+]
 
 pub find_put_here : (test : Object → Bool) (os : List Object) (x y : Object) (n : ℕ) → Distinct (map id_of os) → find test os ≡ Some x → y.number ≡ x.number → n ≡ x.number → find (is_object n) (put test y os) ≡ Some y
 find_put_here test os x y n d e en s = find_put test os x y n d e en ∙ rw (eq-eqb x.number n (sym s)) refl
@@ -122,9 +122,9 @@ pub asked_of : (f : ℕ) (op : Operation) (os : List Object) (m : Message) → A
 asked_of f op [] m h = absurd h
 asked_of f op (o ∷ os) m h =
     elim (o.frame == f) as (λ b. (o.frame == f) ≡ b → Among (if b then asked_sent op o.link ++ asked_all f op os else asked_all f op os) m → (x : Object) × Among (o ∷ os) x × (x.frame ≡ f) × Among (asked_sent op x.link) m) [
-      true ↦ (λ t g. elim (among_join (asked_sent op o.link) (asked_all f op os) m g) [
-          inl h' ↦ (o, inl refl, eqb-true o.frame f t, h')
+      | true ↦ (λ t g. elim (among_join (asked_sent op o.link) (asked_all f op os) m g) [
+        | inl h' ↦ (o, inl refl, eqb-true o.frame f t, h')
         | inr h' ↦ (let r = asked_of f op os m h' in (r.0, inr r.1, r.2, r.3))
-        ])
-    | false ↦ (λ t g. let r = asked_of f op os m g in (r.0, inr r.1, r.2, r.3))
+      ])
+      | false ↦ (λ t g. let r = asked_of f op os m g in (r.0, inr r.1, r.2, r.3))
     ] refl h

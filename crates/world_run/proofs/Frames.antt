@@ -21,9 +21,9 @@ same_after a b c p q = record { name = q.name ∙ p.name; asked = q.asked ∙ p.
 
 pub same_frames_after : (xs ys zs : List Frame) → AreSameFrames xs ys → AreSameFrames ys zs → AreSameFrames xs zs
 same_frames_after xs ys zs p q = record {
-    many = q.many ∙ p.many;
-    from = λ f frame e. (let b = q.from f frame e in let a = p.from f b.0 b.1 in (a.0, a.1, same_after a.0 b.0 frame a.2 b.2));
-  }
+  many = q.many ∙ p.many;
+  from = λ f frame e. (let b = q.from f frame e in let a = p.from f b.0 b.1 in (a.0, a.1, same_after a.0 b.0 frame a.2 b.2));
+}
 
 -- a frame that is ready was saving
 ready_saving : (phase : Phase) (w : Bool) → is_ready_at phase w ≡ true → phase ≢ Idle
@@ -36,8 +36,8 @@ ready_saving InDoubt w e = cc
 pub same_settled : (f : ℕ) (os : List Object) (frame : Frame) → IsSameFrame frame (settled_frame f os frame)
 same_settled f os frame =
     elim (is_ready f os frame) as (λ b. is_ready f os frame ≡ b → IsSameFrame frame (if b then record frame { phase = Committing } else frame)) [
-      true ↦ (λ t. record { name = refl; asked = refl; stored = refl; below = λ n h. record { last = h.last; under = λ ne. h.under (ready_saving frame.phase (awaits f os) t) } })
-    | false ↦ (λ t. same_frame frame)
+      | true ↦ (λ t. record { name = refl; asked = refl; stored = refl; below = λ n h. record { last = h.last; under = λ ne. h.under (ready_saving frame.phase (awaits f os) t) } })
+      | false ↦ (λ t. same_frame frame)
     ] refl
 
 settled_at : (n : ℕ) (os : List Object) (frames : List Frame) (i : ℕ) (new : Frame) → slice_get (settled_frames n os frames) i ≡ Some new → (old : Frame) × (slice_get frames i ≡ Some old) × IsSameFrame old new
@@ -63,9 +63,9 @@ saving_same frame = record { name = refl; asked = refl; stored = refl; below = �
 -- one frame changed
 pub set_same : (frames : List Frame) (f : ℕ) (old new : Frame) → nth frames f ≡ Some old → IsSameFrame old new → AreSameFrames frames (set_nth frames f new)
 set_same frames f old new at s = record {
-    many = length_set_nth frames f new;
-    from = λ g frame e. elim (nth_set frames f g new frame e) [
-        inl h ↦ (old, ap (nth frames) h.0 ∙ at, subst (IsSameFrame old) (sym h.1) s)
-      | inr h ↦ (frame, h, same_frame frame)
-      ];
-  }
+  many = length_set_nth frames f new;
+  from = λ g frame e. elim (nth_set frames f g new frame e) [
+    | inl h ↦ (old, ap (nth frames) h.0 ∙ at, subst (IsSameFrame old) (sym h.1) s)
+    | inr h ↦ (frame, h, same_frame frame)
+  ];
+}

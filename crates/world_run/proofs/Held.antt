@@ -20,16 +20,16 @@ has_saved (Some b) c h = (b, refl, h)
 
 pub safe_held : (w : World) → Holds w → Safe w
 safe_held w h = record {
-    one_reply = h.tied.replies.one;
-    kept_reply = λ inc act a r e g. (let k = h.tied.replies.known inc act a.last r g in
+  one_reply = h.tied.replies.one;
+  kept_reply = λ inc act a r e g. (let k = h.tied.replies.known inc act a.last r g in
       let is : a ≡ k.0 = (let z : Some a ≡ Some k.0 = sym e ∙ k.1 in cc) in
       k.3 (ap (λ (x : Activation). x.last) is) ∙ ap (λ (x : Activation). x.reply) (sym is));
-    answered = λ n l content e s. has_saved (acts_of w.instances l.inc l.act) content (h.tied.steps.saved n l content e s);
-    container_once = h.keeps.book.once;
-    server_once = h.tied.once;
-    agreed = h.tied.books.same;
-    files = files_kept w h.keeps;
-  }
+  answered = λ n l content e s. has_saved (acts_of w.instances l.inc l.act) content (h.tied.steps.saved n l content e s);
+  container_once = h.keeps.book.once;
+  server_once = h.tied.once;
+  agreed = h.tied.books.same;
+  files = files_kept w h.keeps;
+}
 
 pub empty_held : (numbers : ℕ) (stock : List Kind) → Holds (empty_world numbers stock)
 empty_held numbers stock = record { keeps = empty_keeps numbers stock; tied = empty_tied numbers stock }

@@ -45,9 +45,9 @@ use Rattle.world_run.proofs.Shelves.{shelf_same, shelf_framed, shelf_committed}
 -- the world in which nothing has happened
 pub empty_keeps : (numbers : ℕ) (stock : List Kind) → Keeps (empty_world numbers stock)
 empty_keeps numbers stock = record {
-    book = record { distinct = tt; drawn = λ x h. absurd h; placed = λ x h. absurd h; counted = λ d h. absurd h; below = λ x d frame h g e at. absurd h; once = tt };
-    shelf = record { aligned = refl; apart = λ f g a b name fa gb x y. none_there f a fa; filed = λ f d frame c at. none_there f frame at };
-  }
+  book = record { distinct = tt; drawn = λ x h. absurd h; placed = λ x h. absurd h; counted = λ d h. absurd h; below = λ x d frame h g e at. absurd h; once = tt };
+  shelf = record { aligned = refl; apart = λ f g a b name fa gb x y. none_there f a fa; filed = λ f d frame c at. none_there f frame at };
+}
   where
     none_there : {B : Type 0} (f : ℕ) (a : Frame) → nth {A = Frame} [] f ≡ Some a → B
     none_there zero a e = cc
@@ -56,12 +56,12 @@ empty_keeps numbers stock = record {
 -- a step that leaves the book and the files alone
 pub keeps_quiet : (w : World) (t : Took) → Keeps w → IsQuiet w.rec t → Keeps (joined w t)
 keeps_quiet w t k q = record {
-    book = subst (λ ids. Book t.rec.frames ids t.rec.last_object w.container_done) (sym q.ids)
-        (subst (λ n. Book t.rec.frames (map id_of w.rec.objects) n w.container_done) (sym q.last)
-          (book_same w.rec.frames t.rec.frames (map id_of w.rec.objects) w.rec.last_object w.container_done q.frames k.book));
-    shelf = rw q.frame (subst (λ cs. Shelf t.rec.frames w.files cs w.container_done) (sym (append-nil w.counted))
-        (shelf_same w.rec.frames t.rec.frames w.files w.counted w.container_done q.frames k.shelf));
-  }
+  book = subst (λ ids. Book t.rec.frames ids t.rec.last_object w.container_done) (sym q.ids)
+      (subst (λ n. Book t.rec.frames (map id_of w.rec.objects) n w.container_done) (sym q.last)
+      (book_same w.rec.frames t.rec.frames (map id_of w.rec.objects) w.rec.last_object w.container_done q.frames k.book));
+  shelf = rw q.frame (subst (λ cs. Shelf t.rec.frames w.files cs w.container_done) (sym (append-nil w.counted))
+      (shelf_same w.rec.frames t.rec.frames w.files w.counted w.container_done q.frames k.shelf));
+}
 
 keeps_took : (w : World) (told : Result Took ContainerFault) → Keeps w → ((t : Took) → told ≡ Ok t → IsQuiet w.rec t) → Keeps (took w told)
 keeps_took w (Err fault) k q = record { book = k.book; shelf = k.shelf }
@@ -190,9 +190,9 @@ fitting_is parts got (Err fault) e = cc
 
 pub image_is_at : (r : Record) (f : ℕ) (frame : Frame) (got : List Part) → image_at r f (Some frame) ≡ Ok got → parts_in f r.objects ≡ got
 image_is_at r f frame got e = elim (has_image frame.phase) as (λ b. (if b then fitting (parts_in f r.objects) (writable (document_tree (parts_in f r.objects))) else Err WrongState) ≡ Ok got → parts_in f r.objects ≡ got) [
-    true ↦ (λ g. fitting_is (parts_in f r.objects) got _ g)
+  | true ↦ (λ g. fitting_is (parts_in f r.objects) got _ g)
   | false ↦ (λ g. cc)
-  ] e
+] e
 
 fitting_commit : (r : Record) (f : ℕ) (frame : Frame) (told : Result (List Part) ContainerFault) (t : Took) → commit_fitting r f frame told ≡ Ok t → commit_made r f frame ≡ t
 fitting_commit r f frame (Err fault) t e = cc
@@ -200,9 +200,9 @@ fitting_commit r f frame (Ok parts) t e = cc
 
 pub commit_is_at : (r : Record) (f : ℕ) (frame : Frame) (t : Took) → commit_at r f (Some frame) ≡ Ok t → (is_committing frame.phase ≡ true) × (commit_made r f frame ≡ t)
 commit_is_at r f frame t e = elim (is_committing frame.phase) as (λ b. is_committing frame.phase ≡ b → (if b then commit_fitting r f frame (image r f) else Err WrongState) ≡ Ok t → (is_committing frame.phase ≡ true) × (commit_made r f frame ≡ t)) [
-    true ↦ (λ h g. (h, fitting_commit r f frame (image r f) t g))
+  | true ↦ (λ h g. (h, fitting_commit r f frame (image r f) t g))
   | false ↦ (λ h g. cc)
-  ] refl e
+] refl e
 
 keeps_done_taken : (w : World) (f : ℕ) (bytes : List ℕ) (frame : Frame) (parts : List Part) (told : Result Took ContainerFault) (v : World) → Keeps w → nth w.rec.frames f ≡ Some frame
     → image w.rec f ≡ Ok parts → commit_done w.rec f ≡ told → ∥ Denotes bytes (document_tree parts) ∥₁ → done_taken w f bytes frame parts told ≡ Ok v → Keeps v

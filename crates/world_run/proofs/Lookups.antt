@@ -31,24 +31,24 @@ pub find_passes : {A : Type 0} (test : A → Bool) (xs : List A) (x : A) → fin
 find_passes test [] x e = cc
 find_passes test (y ∷ ys) x e =
     elim (test y) as (λ b. test y ≡ b → (if b then Some y else find test ys) ≡ Some x → test x ≡ true) [
-      true ↦ (λ t g. let yx : y ≡ x = cc in ap test (sym yx) ∙ t)
-    | false ↦ (λ t g. find_passes test ys x g)
+      | true ↦ (λ t g. let yx : y ≡ x = cc in ap test (sym yx) ∙ t)
+      | false ↦ (λ t g. find_passes test ys x g)
     ] refl e
 
 pub find_among : {A : Type 0} (test : A → Bool) (xs : List A) (x : A) → find test xs ≡ Some x → Among xs x
 find_among test [] x e = cc
 find_among test (y ∷ ys) x e =
     elim (test y) as (λ b. (if b then Some y else find test ys) ≡ Some x → Among (y ∷ ys) x) [
-      true ↦ (λ g. inl (cc))
-    | false ↦ (λ g. inr (find_among test ys x g))
+      | true ↦ (λ g. inl (cc))
+      | false ↦ (λ g. inr (find_among test ys x g))
     ] e
 
 pub map_put : {A B : Type 0} (f : A → B) (test : A → Bool) (a x : A) (xs : List A) → find test xs ≡ Some x → f a ≡ f x → map f (put test a xs) ≡ map f xs
 map_put f test a x [] e h = refl
 map_put f test a x (y ∷ ys) e h =
     elim (test y) as (λ b. (if b then Some y else find test ys) ≡ Some x → map f (if b then a ∷ ys else y ∷ put test a ys) ≡ map f (y ∷ ys)) [
-      true ↦ (λ g. let yx : y ≡ x = cc in ap (λ v. v ∷ map f ys) (h ∙ ap f (sym yx)))
-    | false ↦ (λ g. ap (λ vs. f y ∷ vs) (map_put f test a x ys g h))
+      | true ↦ (λ g. let yx : y ≡ x = cc in ap (λ v. v ∷ map f ys) (h ∙ ap f (sym yx)))
+      | false ↦ (λ g. ap (λ vs. f y ∷ vs) (map_put f test a x ys g h))
     ] e
 
 pub map_map_same : {A B : Type 0} (f : A → B) (g : A → A) (xs : List A) → ((x : A) → f (g x) ≡ f x) → map f (map g xs) ≡ map f xs

@@ -54,7 +54,6 @@ module _ (links after : Links) (acts : Acts) (lives : Lives) (sent more : List M
     (sends : (m : Message) → Among more m → IsCallOf after m)
     (many : length (owners ++ extra) ≡ next) (grows : last ≤ next)
     (stays : (n : ℕ) (l : Link) → links n ≡ Some l → ((l' : Link) × (after n ≡ Some l') × (l'.act ≡ l.act)) ⊎ Goes acts lives l) where
-
   abbrev pub all : List Message
   all = sent ++ more
 
@@ -116,32 +115,32 @@ module _ (links after : Links) (acts : Acts) (lives : Lives) (sent more : List M
 
   pub calls_moved : Calls after all
   calls_moved = record {
-      bounded = λ n inc m op l e h. elim (among_join sent more (Call inc l.act m op) h) [
-          inl g ↦ bounded_old inc m op n l (came n l e) g
-        | inr g ↦ (let q = new_call inc m op n l e g in let ql : m ≡ l.last = q.1 in (q.0, omega arith))
-        ];
-      pending = λ n inc op p l e f h. elim (among_join sent more (Call inc l.act l.last op) h) [
-          inl g ↦ pending_old inc op p n l (came n l e) f g
-        | inr g ↦ (let q = new_call inc l.last op n l e g in let z : Some op ≡ Some p = sym q.2 ∙ f in cc)
-        ];
-      waiting = λ n l e. waiting_of n l (came n l e);
-    }
+    bounded = λ n inc m op l e h. elim (among_join sent more (Call inc l.act m op) h) [
+      | inl g ↦ bounded_old inc m op n l (came n l e) g
+      | inr g ↦ (let q = new_call inc m op n l e g in let ql : m ≡ l.last = q.1 in (q.0, omega arith))
+    ];
+    pending = λ n inc op p l e f h. elim (among_join sent more (Call inc l.act l.last op) h) [
+      | inl g ↦ pending_old inc op p n l (came n l e) f g
+      | inr g ↦ (let q = new_call inc l.last op n l e g in let z : Some op ≡ Some p = sym q.2 ∙ f in cc)
+    ];
+    waiting = λ n l e. waiting_of n l (came n l e);
+  }
 
   pub drawn_moved : Drawn after acts lives all (owners ++ extra) next
   drawn_moved = record {
-      many = many;
-      named = named;
-      hosted = started;
-      called = λ inc act m op h. elim (among_join sent more (Call inc act m op) h) [
-          inl g ↦ (let le : act ≤ last = hd.called inc act m op g in omega arith)
-        | inr g ↦ (let c = sends (Call inc act m op) g in let q = c.call in let ea : act ≡ c.l.act = cc in let le : c.l.act ≤ next = inside c.n c.l c.at in omega arith)
-        ];
-      known = λ inc act a e. (let le : act ≤ last = hd.known inc act a e in omega arith);
-      started = λ inc act m op h. elim (among_join sent more (Call inc act m op) h) [
-          inl g ↦ hd.started inc act m op g
-        | inr g ↦ (let c = sends (Call inc act m op) g in let q = c.call in let ei : inc ≡ c.l.inc = cc in let z = started c.n c.l c.at in (z.0, ap lives ei ∙ z.1))
-        ];
-    }
+    many = many;
+    named = named;
+    hosted = started;
+    called = λ inc act m op h. elim (among_join sent more (Call inc act m op) h) [
+      | inl g ↦ (let le : act ≤ last = hd.called inc act m op g in omega arith)
+      | inr g ↦ (let c = sends (Call inc act m op) g in let q = c.call in let ea : act ≡ c.l.act = cc in let le : c.l.act ≤ next = inside c.n c.l c.at in omega arith)
+    ];
+    known = λ inc act a e. (let le : act ≤ last = hd.known inc act a e in omega arith);
+    started = λ inc act m op h. elim (among_join sent more (Call inc act m op) h) [
+      | inl g ↦ hd.started inc act m op g
+      | inr g ↦ (let c = sends (Call inc act m op) g in let q = c.call in let ei : inc ≡ c.l.inc = cc in let z = started c.n c.l c.at in (z.0, ap lives ei ∙ z.1))
+    ];
+  }
 
   -- an activation that was level is behind once something is asked
   behind : (l : ℕ) (v : States) (a : Option Activation) (op : Operation) → InStepAt l v None a → InStepAt (l + 1) v (Some op) a
@@ -168,9 +167,9 @@ module _ (links after : Links) (acts : Acts) (lives : Lives) (sent more : List M
 
   saved_same : (n : ℕ) (b l : Link) (c : Stored) → links n ≡ Some b → IsSame b l → l.saved ≡ Some c → HasSaved c (acts l.inc l.act)
   saved_same n b l c at s g = elim s.saved [
-      inl e ↦ subst (λ x. HasSaved c (acts x l.act)) (sym s.inc) (subst (λ x. HasSaved c (acts b.inc x)) (sym s.act) (hs.saved n b c at (sym e ∙ g)))
+    | inl e ↦ subst (λ x. HasSaved c (acts x l.act)) (sym s.inc) (subst (λ x. HasSaved c (acts b.inc x)) (sym s.act) (hs.saved n b c at (sym e ∙ g)))
     | inr e ↦ absurd (let z : None ≡ Some c = sym e ∙ g in cc)
-    ]
+  ]
 
   saved_of : (n : ℕ) (l : Link) (c : Stored) → Came links acts lives (owners ++ extra) last n l → l.saved ≡ Some c → HasSaved c (acts l.inc l.act)
   saved_of n l c (same b at s el ep) g = saved_same n b l c at s g
@@ -183,28 +182,28 @@ module _ (links after : Links) (acts : Acts) (lives : Lives) (sent more : List M
 
   pub ended_moved : Ended after acts lives all
   ended_moved inc act m op h lv = elim (among_join sent more (Call inc act m op) h) [
-      inl g ↦ elim (he inc act m op g lv) [
-        inl k ↦ (let ei : inc ≡ k.1.inc = (hc.bounded k.0 inc m op k.1 k.2 (subst (λ x. Among sent (Call inc x m op)) (sym k.3) g)).0 in
+    | inl g ↦ elim (he inc act m op g lv) [
+      | inl k ↦ (let ei : inc ≡ k.1.inc = (hc.bounded k.0 inc m op k.1 k.2 (subst (λ x. Among sent (Call inc x m op)) (sym k.3) g)).0 in
           elim (stays k.0 k.1 k.2) [
-            inl z ↦ inl (k.0, z.0, z.1, z.2 ∙ k.3)
-          | inr z ↦ elim z [
-              inl closed ↦ inr (subst (λ x. IsClosed (acts inc x)) k.3 (subst (λ x. IsClosed (acts x k.1.act)) (sym ei) closed))
-            | inr no1 ↦ absurd (no1 (ap lives (sym ei) ∙ lv))
+            | inl z ↦ inl (k.0, z.0, z.1, z.2 ∙ k.3)
+            | inr z ↦ elim z [
+              | inl closed ↦ inr (subst (λ x. IsClosed (acts inc x)) k.3 (subst (λ x. IsClosed (acts x k.1.act)) (sym ei) closed))
+              | inr no1 ↦ absurd (no1 (ap lives (sym ei) ∙ lv))
             ]
           ])
       | inr closed ↦ inr closed
-      ]
-    | inr g ↦ (let c = sends (Call inc act m op) g in let q = c.call in inl (c.n, c.l, c.at, cc))
     ]
+    | inr g ↦ (let c = sends (Call inc act m op) g in let q = c.call in inl (c.n, c.l, c.at, cc))
+  ]
 
   old_reply : (inc act m : ℕ) (r : Answer) → Among all (Reply inc act m r) → Among sent (Reply inc act m r)
   old_reply inc act m r h = elim (among_join sent more (Reply inc act m r) h) [ inl g ↦ g | inr g ↦ absurd (let c = sends (Reply inc act m r) g in let q = c.call in cc) ]
 
   pub replies_moved : Replies acts all
   replies_moved = record {
-      known = λ inc act m r h. hr.known inc act m r (old_reply inc act m r h);
-      one = λ inc act m r q h g. hr.one inc act m r q (old_reply inc act m r h) (old_reply inc act m q g);
-    }
+    known = λ inc act m r h. hr.known inc act m r (old_reply inc act m r h);
+    one = λ inc act m r q h g. hr.one inc act m r q (old_reply inc act m r h) (old_reply inc act m q g);
+  }
 
   -- what stands in the log of activations stays there
   pub owner_old : (act o : ℕ) → nth owners act ≡ Some o → nth (owners ++ extra) act ≡ Some o
@@ -218,16 +217,16 @@ module _ (links after : Links) (acts : Acts) (lives : Lives) (sent more : List M
   pub books_moved : (dones : List Done) (served : List ServerDone) → Books acts sent owners dones served
       → ((inc act m k : ℕ) (storage : Bool) → Among more (Call inc act m (SaveCompleted k storage)) → ⊥) → Books acts all (owners ++ extra) dones served
   books_moved dones served hb quiet = record {
-      completed = λ inc act m k storage h. (let c = hb.completed inc act m k storage (old inc act m k storage h) in (c.0, c.1, owner_old act c.0.object c.2, c.3, c.4));
-      once = λ inc act m inc' act' m' k o s s' h g e e'. (
-          let h' = old inc act m k s h in
-          let g' = old inc' act' m' k s' g in
-          let c = hb.completed inc act m k s h' in
-          let c' = hb.completed inc' act' m' k s' g' in
-          hb.once inc act m inc' act' m' k o s s' h' g' (owned act o c.0.object c.2 e) (owned act' o c'.0.object c'.2 e'));
-      acted = λ e h. (let c = hb.acted e h in (c.0, c.1, c.2, c.3, among_old sent more (Call e.inc c.0 c.1 (SaveCompleted e.k c.2)) c.4, owner_old c.0 e.object c.5, c.6, c.7));
-      same = hb.same;
-    }
+    completed = λ inc act m k storage h. (let c = hb.completed inc act m k storage (old inc act m k storage h) in (c.0, c.1, owner_old act c.0.object c.2, c.3, c.4));
+    once = λ inc act m inc' act' m' k o s s' h g e e'. (
+        let h' = old inc act m k s h in
+        let g' = old inc' act' m' k s' g in
+        let c = hb.completed inc act m k s h' in
+        let c' = hb.completed inc' act' m' k s' g' in
+        hb.once inc act m inc' act' m' k o s s' h' g' (owned act o c.0.object c.2 e) (owned act' o c'.0.object c'.2 e'));
+    acted = λ e h. (let c = hb.acted e h in (c.0, c.1, c.2, c.3, among_old sent more (Call e.inc c.0 c.1 (SaveCompleted e.k c.2)) c.4, owner_old c.0 e.object c.5, c.6, c.7));
+    same = hb.same;
+  }
     where
       old : (inc act m k : ℕ) (storage : Bool) → Among all (Call inc act m (SaveCompleted k storage)) → Among sent (Call inc act m (SaveCompleted k storage))
       old inc act m k storage h = elim (among_join sent more (Call inc act m (SaveCompleted k storage)) h) [ inl g ↦ g | inr g ↦ absurd (quiet inc act m k storage g) ]
@@ -238,24 +237,24 @@ module _ (links after : Links) (acts : Acts) (lives : Lives) (sent more : List M
       → ((d e : Done) → Among dones d → Among new e → d.object ≡ e.object → d.k ≡ k → ⊥)
       → extra ≡ [] → Books acts all (owners ++ extra) (dones ++ new) served
   books_counted k dones new served hb tells apart_from ex = record {
-      completed = λ inc act m j storage h. elim (among_join sent more (Call inc act m (SaveCompleted j storage)) h) [
-          inl g ↦ (let c = hb.completed inc act m j storage g in (c.0, among_old dones new c.0 c.1, owner_old act c.0.object c.2, c.3, c.4))
-        | inr g ↦ (let c = tells inc act m j storage g in (c.0, among_new dones new c.0 c.1, owner_old act c.0.object c.2, c.3, c.5))
-        ];
-      once = λ inc act m inc' act' m' j o s s' h g e e'. elim (among_join sent more (Call inc act m (SaveCompleted j s)) h) [
-          inl h' ↦ elim (among_join sent more (Call inc' act' m' (SaveCompleted j s')) g) [
-            inl g' ↦ (let c = hb.completed inc act m j s h' in let c' = hb.completed inc' act' m' j s' g' in
-              hb.once inc act m inc' act' m' j o s s' h' g' (owned act o c.0.object c.2 e) (owned act' o c'.0.object c'.2 e'))
-          | inr g' ↦ absurd (clash inc act m inc' act' m' j o s s' h' g' e e')
-          ]
-        | inr h' ↦ elim (among_join sent more (Call inc' act' m' (SaveCompleted j s')) g) [
-            inl g' ↦ absurd (clash inc' act' m' inc act m j o s' s g' h' e' e)
-          | inr g' ↦ both_new inc act m inc' act' m' j o s s' h' g' e e'
-          ]
-        ];
-      acted = λ e h. (let c = hb.acted e h in (c.0, c.1, c.2, c.3, among_old sent more (Call e.inc c.0 c.1 (SaveCompleted e.k c.2)) c.4, owner_old c.0 e.object c.5, c.6, c.7));
-      same = λ e h. among_old dones new _ (hb.same e h);
-    }
+    completed = λ inc act m j storage h. elim (among_join sent more (Call inc act m (SaveCompleted j storage)) h) [
+      | inl g ↦ (let c = hb.completed inc act m j storage g in (c.0, among_old dones new c.0 c.1, owner_old act c.0.object c.2, c.3, c.4))
+      | inr g ↦ (let c = tells inc act m j storage g in (c.0, among_new dones new c.0 c.1, owner_old act c.0.object c.2, c.3, c.5))
+    ];
+    once = λ inc act m inc' act' m' j o s s' h g e e'. elim (among_join sent more (Call inc act m (SaveCompleted j s)) h) [
+      | inl h' ↦ elim (among_join sent more (Call inc' act' m' (SaveCompleted j s')) g) [
+        | inl g' ↦ (let c = hb.completed inc act m j s h' in let c' = hb.completed inc' act' m' j s' g' in
+            hb.once inc act m inc' act' m' j o s s' h' g' (owned act o c.0.object c.2 e) (owned act' o c'.0.object c'.2 e'))
+        | inr g' ↦ absurd (clash inc act m inc' act' m' j o s s' h' g' e e')
+      ]
+      | inr h' ↦ elim (among_join sent more (Call inc' act' m' (SaveCompleted j s')) g) [
+        | inl g' ↦ absurd (clash inc' act' m' inc act m j o s' s g' h' e' e)
+        | inr g' ↦ both_new inc act m inc' act' m' j o s s' h' g' e e'
+      ]
+    ];
+    acted = λ e h. (let c = hb.acted e h in (c.0, c.1, c.2, c.3, among_old sent more (Call e.inc c.0 c.1 (SaveCompleted e.k c.2)) c.4, owner_old c.0 e.object c.5, c.6, c.7));
+    same = λ e h. among_old dones new _ (hb.same e h);
+  }
     where
       clash : (inc act m inc' act' m' j o : ℕ) (s s' : Bool) → Among sent (Call inc act m (SaveCompleted j s)) → Among more (Call inc' act' m' (SaveCompleted j s'))
           → nth (owners ++ extra) act ≡ Some o → nth (owners ++ extra) act' ≡ Some o → ⊥

@@ -60,9 +60,9 @@ phased_settled r h n o l frame fo ol at =
     let was : Phased s.0.phase l = h n o l s.0 fo ol s.1 in
     let f = o.frame in
     subst (λ (x : Frame). Phased x.phase l) (sym s.2)
-      (elim (is_ready f r.objects s.0) as (λ b. is_ready f r.objects s.0 ≡ b → Phased (if b then record s.0 { phase = Committing } else s.0).phase l) [
-        true ↦ (λ t. let p = ready s.0.phase (awaits f r.objects) t in
+    (elim (is_ready f r.objects s.0) as (λ b. is_ready f r.objects s.0 ≡ b → Phased (if b then record s.0 { phase = Committing } else s.0).phase l) [
+      | true ↦ (λ t. let p = ready s.0.phase (awaits f r.objects) t in
           let aw : is_awaited_link (Some l) ≡ false = subst (λ x. is_awaited_link x ≡ false) ol (unawaited f r.objects o p.1 (find_among (is_object n) r.objects o fo) refl) in
           committing_now l (answered l l.saved refl aw) (subst (λ x. Phased x l) p.0 was))
       | false ↦ (λ t. was)
-      ] refl)
+    ] refl)

@@ -24,4 +24,3 @@ nth_at f xs n i x p e = nth_suc (map f xs) n i p.number ∙ seen_at f xs i x p.f
 -- a server that changed, as it is seen
 pub set_at : {A B : Type 0} (f : A → B) (xs : List A) (n i : ℕ) (y : A) → n ≡ i + 1 → map f (set xs i y) ≡ set_nth (map f xs) n (f y)
 set_at f xs n i y e = map-set f xs i y ∙ sym (set_suc (map f xs) n i (f y) e)
-

@@ -28,11 +28,11 @@ bears_same old new name e (inr h) = inr (sym e.asked ∙ h)
 
 pub shelf_same : (frames after : List Frame) (files : List File) (counted : List (Option Document)) (dones : List Done) → AreSameFrames frames after → Shelf frames files counted dones → Shelf after files counted dones
 shelf_same frames after files counted dones s h = record {
-    aligned = h.aligned ∙ sym s.many;
-    apart = λ f g a b name fa gb x y. (let p = s.from f a fa in let q = s.from g b gb in
+  aligned = h.aligned ∙ sym s.many;
+  apart = λ f g a b name fa gb x y. (let p = s.from f a fa in let q = s.from g b gb in
       h.apart f g p.0 q.0 name p.1 q.1 (bears_same p.0 a name p.2 x) (bears_same q.0 b name q.2 y));
-    filed = λ f document frame c at. (let p = s.from f frame at in filed_same files p.0 frame document dones p.2 (h.filed f document p.0 c p.1));
-  }
+  filed = λ f document frame c at. (let p = s.from f frame at in filed_same files p.0 frame document dones p.2 (h.filed f document p.0 c p.1));
+}
 
 -- a name that no frame bears
 unborne_at : (name : List ℕ) (asked : Option (List ℕ)) → is_name name asked ≡ false → asked ≡ Some name → ⊥
@@ -80,22 +80,22 @@ shelf_framed frames name w h files counted dones un s =
     record {
       aligned = length_more counted None ∙ (ap suc s.aligned ∙ sym (length_more frames new));
       apart = λ f g a b other fa gb x y. elim (nth_one frames new f a fa) [
-          inl fo ↦ elim (nth_one frames new g b gb) [
-            inl go ↦ s.apart f g a b other fo go x y
+        | inl fo ↦ elim (nth_one frames new g b gb) [
+          | inl go ↦ s.apart f g a b other fo go x y
           | inr gn ↦ absurd (unborne name frames f a un fo (subst (Bears a) (sym (bears_new name other w h (subst (λ v. Bears v other) gn.0 y))) x))
-          ]
+        ]
         | inr fn ↦ elim (nth_one frames new g b gb) [
-            inl go ↦ absurd (unborne name frames g b un go (subst (Bears b) (sym (bears_new name other w h (subst (λ v. Bears v other) fn.0 x))) y))
+          | inl go ↦ absurd (unborne name frames g b un go (subst (Bears b) (sym (bears_new name other w h (subst (λ v. Bears v other) fn.0 x))) y))
           | inr gn ↦ fn.1 ∙ sym gn.1
-          ]
-        ];
+        ]
+      ];
       filed = λ f document frame c at. elim (nth_one counted None f (Some document) c) [
-          inl old ↦ (let p = nth_aligned counted frames f (Some document) s.aligned old in
+        | inl old ↦ (let p = nth_aligned counted frames f (Some document) s.aligned old in
             let same : Some p.0 ≡ Some frame = sym (nth_old frames (new ∷ []) f p.0 p.1) ∙ at in
             let is : p.0 ≡ frame = cc in
             subst (λ v. IsFiled files v document dones) is (s.filed f document p.0 old p.1))
         | inr none ↦ absurd (let e = none.0 in cc)
-        ];
+      ];
     }
 
 -- files by name
@@ -103,8 +103,8 @@ found_put : (name bytes : List ℕ) (files : List File) → find (is_file name) 
 found_put name bytes [] = rw ((bytes_eq-Decides name name).1 refl) refl
 found_put name bytes (file ∷ files) =
     elim (is_file name file) as (λ b. is_file name file ≡ b → find (is_file name) (if b then record { name = name; bytes = bytes } ∷ files else file ∷ put_file name bytes files) ≡ Some (record { name = name; bytes = bytes })) [
-      true ↦ (λ t. rw ((bytes_eq-Decides name name).1 refl) refl)
-    | false ↦ (λ t. rw t (found_put name bytes files))
+      | true ↦ (λ t. rw ((bytes_eq-Decides name name).1 refl) refl)
+      | false ↦ (λ t. rw t (found_put name bytes files))
     ] refl
 
 not_equal : (a b : List ℕ) → a ≢ b → bytes_eq a b ≡ false
@@ -114,9 +114,9 @@ found_other : (name other bytes : List ℕ) (files : List File) → other ≢ na
 found_other name other bytes [] ne = rw (not_equal name other (λ e. ne (sym e))) refl
 found_other name other bytes (file ∷ files) ne =
     elim (is_file name file) as (λ b. is_file name file ≡ b → find (is_file other) (if b then record { name = name; bytes = bytes } ∷ files else file ∷ put_file name bytes files) ≡ find (is_file other) (file ∷ files)) [
-      true ↦ (λ t. let e : file.name ≡ name = (bytes_eq-Decides file.name name).0 t in
-        rw (not_equal name other (λ q. ne (sym q)), not_equal file.name other (λ q. ne (sym q ∙ e))) refl)
-    | false ↦ (λ t. ap (λ v. if is_file other file then Some file else v) (found_other name other bytes files ne))
+      | true ↦ (λ t. let e : file.name ≡ name = (bytes_eq-Decides file.name name).0 t in
+          rw (not_equal name other (λ q. ne (sym q)), not_equal file.name other (λ q. ne (sym q ∙ e))) refl)
+      | false ↦ (λ t. ap (λ v. if is_file other file then Some file else v) (found_other name other bytes files ne))
     ] refl
 
 -- the name after a commit was the frame's
@@ -127,7 +127,6 @@ bears_after frame name (inr e) = cc
 -- a commit of a frame
 module _ (frames : List Frame) (f : ℕ) (frame : Frame) (files : List File) (counted : List (Option Document)) (dones : List Done) (parts : List Part) (bytes : List ℕ)
     (at : nth frames f ≡ Some frame) (denotes : ∥ Denotes bytes (document_tree parts) ∥₁) (s : Shelf frames files counted dones) where
-
   abbrev pub name : List ℕ
   name = name_after frame.name frame.asked
 
@@ -139,41 +138,41 @@ module _ (frames : List Frame) (f : ℕ) (frame : Frame) (files : List File) (co
 
   here : IsFiled (put_file name bytes files) (committed_frame frame) document (dones ++ entries)
   here = record {
-      stored = refl;
-      file = record { name = name; bytes = bytes };
-      found = found_put name bytes files;
-      denotes = denotes;
-      counted = λ p g. among_new dones entries (done_entry frame.k p) (among_map (done_entry frame.k) parts p g);
-    }
+    stored = refl;
+    file = record { name = name; bytes = bytes };
+    found = found_put name bytes files;
+    denotes = denotes;
+    counted = λ p g. among_new dones entries (done_entry frame.k p) (among_map (done_entry frame.k) parts p g);
+  }
 
   elsewhere : (g : ℕ) (d : Document) (other : Frame) → g ≢ f → nth frames g ≡ Some other → IsFiled files other d dones → IsFiled (put_file name bytes files) other d (dones ++ entries)
   elsewhere g d other ne e h = (let more = filed_more files other d dones entries h in record {
-      stored = more.stored;
-      file = more.file;
-      found = found_other name other.name bytes files (λ q. ne (s.apart g f other frame name e at (inl q) (bears_after frame name (inl refl)))) ∙ more.found;
-      denotes = more.denotes;
-      counted = more.counted;
-    })
+    stored = more.stored;
+    file = more.file;
+    found = found_other name other.name bytes files (λ q. ne (s.apart g f other frame name e at (inl q) (bears_after frame name (inl refl)))) ∙ more.found;
+    denotes = more.denotes;
+    counted = more.counted;
+  })
 
   bears_at : (g : ℕ) (a : Frame) (n : List ℕ) → nth (set_nth frames f (committed_frame frame)) g ≡ Some a → Bears a n → (b : Frame) × (nth frames g ≡ Some b) × Bears b n
   bears_at g a n e x = elim (nth_set_apart frames f g (committed_frame frame) a e) [
-      inl h ↦ (frame, ap (nth frames) h.0 ∙ at, bears_after frame n (subst (λ v. Bears v n) h.1 x))
+    | inl h ↦ (frame, ap (nth frames) h.0 ∙ at, bears_after frame n (subst (λ v. Bears v n) h.1 x))
     | inr h ↦ (a, h.1, x)
-    ]
+  ]
 
   pub shelf_committed : Shelf (set_nth frames f (committed_frame frame)) (put_file name bytes files) (set_nth counted f (Some document)) (dones ++ entries)
   shelf_committed = record {
-      aligned = length_set_nth counted f (Some document) ∙ (s.aligned ∙ sym (length_set_nth frames f (committed_frame frame)));
-      apart = λ g h a b n ga hb x y. (let p = bears_at g a n ga x in let q = bears_at h b n hb y in s.apart g h p.0 q.0 n p.1 q.1 p.2 q.2);
-      filed = λ g d fr c e. elim (nth_set_apart counted f g (Some document) (Some d) c) [
-          inl x ↦ elim (nth_set_apart frames f g (committed_frame frame) fr e) [
-            inl y ↦ (let is : d ≡ document = (let q = x.1 in cc) in
-              subst (λ v. IsFiled (put_file name bytes files) v d (dones ++ entries)) (sym y.1) (subst (λ v. IsFiled (put_file name bytes files) (committed_frame frame) v (dones ++ entries)) (sym is) here))
-          | inr y ↦ absurd (y.0 x.0)
-          ]
-        | inr x ↦ elim (nth_set_apart frames f g (committed_frame frame) fr e) [
-            inl y ↦ absurd (x.0 y.0)
-          | inr y ↦ elsewhere g d fr x.0 y.1 (s.filed g d fr x.1 y.1)
-          ]
-        ];
-    }
+    aligned = length_set_nth counted f (Some document) ∙ (s.aligned ∙ sym (length_set_nth frames f (committed_frame frame)));
+    apart = λ g h a b n ga hb x y. (let p = bears_at g a n ga x in let q = bears_at h b n hb y in s.apart g h p.0 q.0 n p.1 q.1 p.2 q.2);
+    filed = λ g d fr c e. elim (nth_set_apart counted f g (Some document) (Some d) c) [
+      | inl x ↦ elim (nth_set_apart frames f g (committed_frame frame) fr e) [
+        | inl y ↦ (let is : d ≡ document = (let q = x.1 in cc) in
+            subst (λ v. IsFiled (put_file name bytes files) v d (dones ++ entries)) (sym y.1) (subst (λ v. IsFiled (put_file name bytes files) (committed_frame frame) v (dones ++ entries)) (sym is) here))
+        | inr y ↦ absurd (y.0 x.0)
+      ]
+      | inr x ↦ elim (nth_set_apart frames f g (committed_frame frame) fr e) [
+        | inl y ↦ absurd (x.0 y.0)
+        | inr y ↦ elsewhere g d fr x.0 y.1 (s.filed g d fr x.1 y.1)
+      ]
+    ];
+  }

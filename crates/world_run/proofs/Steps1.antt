@@ -74,7 +74,6 @@ unasked l e = at l.pending refl e
 
 -- one object changed its link
 module _ (r : Record) (acts : Acts) (lives : Lives) (owners : List ℕ) (n : ℕ) (x : Object) (link : Link) (d : Distinct (map id_of r.objects)) (found : find (is_object n) r.objects ≡ Some x) where
-
   abbrev pub changed : Object
   changed = record x { link = Some link }
 
@@ -90,9 +89,9 @@ module _ (r : Record) (acts : Acts) (lives : Lives) (owners : List ℕ) (n : ℕ
   -- the link of an object now
   pub which_link : (k : ℕ) (l : Link) → links_of objects k ≡ Some l → ((k ≡ x.number) × (l ≡ link)) ⊎ ((k ≢ x.number) × (links_of r.objects k ≡ Some l))
   which_link k l e = (let o = linked_object objects k l e in elim (found_put (is_object x.number) r.objects x changed k o.0 d here refl o.1) [
-      inl s ↦ inl (s.0, (let q : Some link ≡ Some l = ap (λ (z : Object). z.link) (sym s.1) ∙ o.2 in let z : link ≡ l = cc in sym z))
+    | inl s ↦ inl (s.0, (let q : Some link ≡ Some l = ap (λ (z : Object). z.link) (sym s.1) ∙ o.2 in let z : link ≡ l = cc in sym z))
     | inr s ↦ inr (s.0, link_found r.objects k o.0 l s.1 o.2)
-    ])
+  ])
 
   pub other_link : (k : ℕ) (l : Link) → k ≢ x.number → links_of r.objects k ≡ Some l → links_of objects k ≡ Some l
   other_link k l ne e = (let o = linked_object r.objects k l e in link_found objects k o.0 l (find_put_there (is_object x.number) r.objects x changed o.0 k d here refl ne o.1) o.2)
@@ -101,10 +100,10 @@ module _ (r : Record) (acts : Acts) (lives : Lives) (owners : List ℕ) (n : ℕ
       → ((frame : Frame) → nth frames x.frame ≡ Some frame → Phased frame.phase link)
       → (k : ℕ) (o : Object) (l : Link) (frame : Frame) → find (is_object k) objects ≡ Some o → o.link ≡ Some l → nth frames o.frame ≡ Some frame → Phased frame.phase l
   phased_changed frames h mine k o l frame fo ol at = elim (found_put (is_object x.number) r.objects x changed k o d here refl fo) [
-      inl s ↦ (let q : Some link ≡ Some l = ap (λ (z : Object). z.link) (sym s.1) ∙ ol in let z : link ≡ l = cc in
+    | inl s ↦ (let q : Some link ≡ Some l = ap (λ (z : Object). z.link) (sym s.1) ∙ ol in let z : link ≡ l = cc in
         subst (Phased frame.phase) z (mine frame (ap (λ (v : Object). nth frames v.frame) (sym s.1) ∙ at)))
     | inr s ↦ h k o l frame s.1 ol at
-    ]
+  ]
 
 -- Run
 run_moves_in : (r : Record) (acts : Acts) (lives : Lives) (owners : List ℕ) (n inc : ℕ) (x : Object) (frame : Option Frame) (t : Took) → Distinct (map id_of r.objects) → find (is_object n) r.objects ≡ Some x
@@ -125,29 +124,37 @@ run_moves_in r acts lives owners n inc x (Some frame) t d f at e ph ow ho =
     let idle : frame.phase ≡ Idle = idle_phase frame.phase a2.0 (or_left (is_saving frame.phase) (is_busy frame.ui.state x) a3.0) in
     let host = ho (not_false (is_alive r inc) a1.0) in
     let passive : (l : Link) → x.link ≡ Some l → ⊥ = (λ l q. let z : true ≡ false = ap is_some (sym q) ∙ a4.0 in cc) in
-    subst (λ (v : Took). Moves r acts lives owners v × (v.rec.last_act ≡ r.last_act + 1) × NoCompletion v) is
-      (record {
+    subst (λ (v : Took). Moves r acts lives owners v × (v.rec.last_act ≡ r.last_act + 1) × NoCompletion v) is (
+      record {
         came = λ k l q. elim (which_link r acts lives owners n x new d f k l q) [
-            inl s ↦ subst (λ v. Came (links_of r.objects) acts lives owners r.last_act k v) (sym s.1)
+          | inl s ↦ subst (λ v. Came (links_of r.objects) acts lives owners r.last_act k v) (sym s.1)
               (fresh refl refl refl tt refl refl (ow ∙ ap Some (sym (s.0 ∙ xn))) host)
           | inr s ↦ same l s.1 (same_link l) refl refl
-          ];
+        ];
         sends = λ m h. elim h [
-            inl q ↦ record { n = x.number; l = new; op = op; at = at_here r acts lives owners n x new d f; pending = refl; call = q }
+          | inl q ↦ record { n = x.number; l = new; op = op; at = at_here r acts lives owners n x new d f; pending = refl; call = q }
           | inr z ↦ absurd z
-          ];
-        stays = λ k l q. inl (l, other_link r acts lives owners n x new d f k l (λ s. (let o = linked_object r.objects k l q in
-            let z : Some x ≡ Some o.0 = sym (ap (λ m. find (is_object m) r.objects) xn ∙ f) ∙ (ap (λ m. find (is_object m) r.objects) (sym s) ∙ o.1) in
-            let y : x ≡ o.0 = cc in passive l (ap (λ (v : Object). v.link) y ∙ o.2))) q, refl);
+        ];
+        stays = λ k l q. inl (
+          l,
+          other_link r acts lives owners n x new d f k l (λ s. (let o = linked_object r.objects k l q in
+              let z : Some x ≡ Some o.0 = sym (ap (λ m. find (is_object m) r.objects) xn ∙ f) ∙ (ap (λ m. find (is_object m) r.objects) (sym s) ∙ o.1) in
+              let y : x ≡ o.0 = cc in passive l (ap (λ (v : Object). v.link) y ∙ o.2))) q,
+          refl,
+        );
         phased = phased_changed r acts lives owners n x new d f r.frames ph (λ fr g. (let z : Some frame ≡ Some fr = sym at ∙ g in let y : frame ≡ fr = cc in
             subst (λ (v : Frame). Phased v.phase new) y (subst (λ v. Phased v new) (sym idle) (refl, no_save x x.work.streams))));
         servers = refl;
         starts = λ numbers. refl;
-      }, refl, (λ i a m k s h. elim h [ inl q ↦ not_first x x.work.streams k s (let z : SaveCompleted k s ≡ op = cc in z) | inr z ↦ absurd z ]))
+      },
+      refl,
+      (λ i a m k s h. elim h [ inl q ↦ not_first x x.work.streams k s (let z : SaveCompleted k s ≡ op = cc in z) | inr z ↦ absurd z ]),
+    )
   where
     not_first : (o : Object) (ss : List NamedStream) (k : ℕ) (s : Bool) → SaveCompleted k s ≡ first_operation o ss → ⊥
     not_first o [] k s h = cc
     not_first o (y ∷ ys) k s h = cc
+
     no_save : (o : Object) (ss : List NamedStream) → IsSave (Some (first_operation o ss)) → ⊥
     no_save o [] h = h
     no_save o (s ∷ ss) h = h
@@ -175,24 +182,27 @@ edit_moves_linked r acts lives owners n bytes x frame (Some l0) t d f at idle un
     let made : Took = record { rec = with_object r (record x { link = Some new }); answer = (edited r x l0 bytes).answer } in
     let at_made : made ≡ edited r x l0 bytes = rw asks refl in
     let was : Phased Idle l0 = subst (λ v. Phased v l0) idle (ph n x l0 frame f xl at) in
-    subst (λ (v : Took). Moves r acts lives owners v × (v.rec.last_act ≡ r.last_act) × NoCompletion v) (at_made ∙ is)
-      (record {
+    subst (λ (v : Took). Moves r acts lives owners v × (v.rec.last_act ≡ r.last_act) × NoCompletion v) (at_made ∙ is) (
+      record {
         came = λ k l q. elim (which_link r acts lives owners n x new d f k l q) [
-            inl s ↦ subst (λ v. Came (links_of r.objects) acts lives owners r.last_act k v) (sym s.1)
+          | inl s ↦ subst (λ v. Came (links_of r.objects) acts lives owners r.last_act k v) (sym s.1)
               (asked l0 op (ap (links_of r.objects) (s.0 ∙ found_number r.objects n x f) ∙ link_found r.objects n x l0 f xl) (record { inc = refl; act = refl; states = refl; saved = inl refl; waiting = refl }) free refl refl)
           | inr s ↦ same l s.1 (same_link l) refl refl
-          ];
+        ];
         sends = λ m h. (let h' : Among (Call l0.inc l0.act (l0.last + 1) op ∷ []) m = subst (λ v. Among v m) (messages_sends (ask l0 op).sent ∙ ap (λ (v : _). v.sent) asks) h in elim h' [
-            inl q ↦ record { n = x.number; l = new; op = op; at = at_here r acts lives owners n x new d f; pending = refl; call = q }
+          | inl q ↦ record { n = x.number; l = new; op = op; at = at_here r acts lives owners n x new d f; pending = refl; call = q }
           | inr z ↦ absurd z
-          ]);
+        ]);
         stays = λ k l q. inl (stay k l q);
         phased = phased_changed r acts lives owners n x new d f r.frames ph (λ fr g. (let z : Some frame ≡ Some fr = sym at ∙ g in let y : frame ≡ fr = cc in
             subst (λ (v : Frame). Phased v.phase new) y (subst (λ v. Phased v new) (sym idle) (was.0, (λ z. z)))));
         servers = refl;
         starts = λ numbers. no_start numbers (ask l0 op).sent;
-      }, refl, (λ i a m k s h. (let h' : Among (Call l0.inc l0.act (l0.last + 1) op ∷ []) (Call i a m (SaveCompleted k s)) = subst (λ v. Among v (Call i a m (SaveCompleted k s))) (messages_sends (ask l0 op).sent ∙ ap (λ (v : _). v.sent) asks) h in
-          elim h' [ inl q ↦ (let z : SaveCompleted k s ≡ op = cc in not_edit k s z) | inr z ↦ absurd z ])))
+      },
+      refl,
+      (λ i a m k s h. (let h' : Among (Call l0.inc l0.act (l0.last + 1) op ∷ []) (Call i a m (SaveCompleted k s)) = subst (λ v. Among v (Call i a m (SaveCompleted k s))) (messages_sends (ask l0 op).sent ∙ ap (λ (v : _). v.sent) asks) h in
+          elim h' [ inl q ↦ (let z : SaveCompleted k s ≡ op = cc in not_edit k s z) | inr z ↦ absurd z ])),
+    )
   where
     not_edit : (k : ℕ) (s : Bool) → SaveCompleted k s ≡ Edit bytes → ⊥
     not_edit k s h = cc
@@ -206,14 +216,14 @@ edit_moves_linked r acts lives owners n bytes x frame (Some l0) t d f at idle un
 
     stay : (k : ℕ) (l : Link) → links_of r.objects k ≡ Some l → (l' : Link) × (links_of (put (is_object x.number) (record x { link = Some new_of }) r.objects) k ≡ Some l') × (l'.act ≡ l.act)
     stay k l q = elim (eqb_tells k x.number) [
-        inl s ↦ (let o = linked_object r.objects k l q in
+      | inl s ↦ (let o = linked_object r.objects k l q in
           let z : Some x ≡ Some o.0 = sym f ∙ (ap (λ m. find (is_object m) r.objects) (sym (found_number r.objects n x f) ∙ sym s.1) ∙ o.1) in
           let y : x ≡ o.0 = cc in
           let ll : Some l0 ≡ Some l = sym xl ∙ (ap (λ (v : Object). v.link) y ∙ o.2) in
           let li : l0 ≡ l = cc in
           (new_of, ap (links_of (put (is_object x.number) (record x { link = Some new_of }) r.objects)) s.1 ∙ at_here r acts lives owners n x new_of d f, ap (λ (v : Link). v.act) li))
       | inr s ↦ (l, other_link r acts lives owners n x new_of d f k l s.1 q, refl)
-      ]
+    ]
 
 edit_moves_in : (r : Record) (acts : Acts) (lives : Lives) (owners : List ℕ) (n : ℕ) (bytes : List ℕ) (x : Object) (frame : Option Frame) (t : Took) → Distinct (map id_of r.objects) → find (is_object n) r.objects ≡ Some x
     → nth r.frames x.frame ≡ frame → edit_in r x bytes frame ≡ Ok t → AllPhased r → Moves r acts lives owners t × (t.rec.last_act ≡ r.last_act) × NoCompletion t
@@ -223,8 +233,8 @@ edit_moves_in r acts lives owners n bytes x (Some frame) t d f at e ph =
     let b = unless_ok (is_saving frame.phase || is_busy frame.ui.state x) Busy _ t a.1 in
     let busy : is_busy frame.ui.state x ≡ false = or_right (is_saving frame.phase) (is_busy frame.ui.state x) b.0 in
     edit_moves_linked r acts lives owners n bytes x frame x.link t d f at
-      (idle_phase frame.phase a.0 (or_left (is_saving frame.phase) (is_busy frame.ui.state x) b.0))
-      (or_left (is_asked x.link) (is_claim x.number (waiting frame.ui.state)) busy) refl b.1 ph
+    (idle_phase frame.phase a.0 (or_left (is_saving frame.phase) (is_busy frame.ui.state x) b.0))
+    (or_left (is_asked x.link) (is_claim x.number (waiting frame.ui.state)) busy) refl b.1 ph
 
 edit_moves_at : (r : Record) (acts : Acts) (lives : Lives) (owners : List ℕ) (n : ℕ) (bytes : List ℕ) (x : Option Object) (t : Took) → Distinct (map id_of r.objects) → find (is_object n) r.objects ≡ x
     → edit_at r bytes x ≡ Ok t → AllPhased r → Moves r acts lives owners t × (t.rec.last_act ≡ r.last_act) × NoCompletion t

@@ -48,8 +48,8 @@ pub no_start_settled : (numbers f : ℕ) (os : List Object) (frames : List Frame
 no_start_settled numbers f os [] = refl
 no_start_settled numbers f os (frame ∷ frames) =
     elim (is_ready f os frame) as (λ b. started_by numbers ((if b then Commit f ∷ [] else []) ++ settled_actions (f + 1) os frames) ≡ []) [
-      true ↦ no_start_settled numbers (f + 1) os frames
-    | false ↦ no_start_settled numbers (f + 1) os frames
+      | true ↦ no_start_settled numbers (f + 1) os frames
+      | false ↦ no_start_settled numbers (f + 1) os frames
     ]
 
 -- the messages of an answer that sends some and goes on with saves
@@ -63,7 +63,6 @@ module _ (r : Record) (acts0 : Acts) (lives : Lives) (owners : List ℕ) (f : �
     (pre_link : (o : Object) (l : Link) → (pre o).link ≡ Some l → (b : Link) × (o.link ≡ Some b) × IsSame b l × (l.last ≡ b.last) × (l.pending ≡ b.pending))
     (pre_there : (o : Object) (b : Link) → o.link ≡ Some b → (l : Link) × ((pre o).link ≡ Some l) × (l.act ≡ b.act))
     (free : (o : Object) (b : Link) → Among r.objects o → o.frame ≡ f → o.link ≡ Some b → b.pending ≡ None) where
-
   abbrev pub all_asked : Object → Object
   all_asked o = asked_object f op (pre o)
 
@@ -73,9 +72,9 @@ module _ (r : Record) (acts0 : Acts) (lives : Lives) (owners : List ℕ) (f : �
   -- an object's link after it
   after_link : (o : Object) (l : Link) → Among r.objects o → (all_asked o).link ≡ Some l → Came (links_of r.objects) acts0 lives owners r.last_act o.number l
   after_link o l h e = elim ((pre o).frame == f) as (λ b. ((pre o).frame == f) ≡ b → (if b then record (pre o) { link = asked_link op (pre o).link } else pre o).link ≡ Some l → Came (links_of r.objects) acts0 lives owners r.last_act o.number l) [
-      true ↦ (λ t g. at (pre o).link refl (sym (pre_frame o) ∙ eqb-true (pre o).frame f t) g)
+    | true ↦ (λ t g. at (pre o).link refl (sym (pre_frame o) ∙ eqb-true (pre o).frame f t) g)
     | false ↦ (λ t g. let p = pre_link o l g in same p.0 (link_found r.objects o.number o p.0 (find_number r.objects o d h) p.1) p.2 p.3 p.4)
-    ] refl e
+  ] refl e
     where
       at : (x : Option Link) → (pre o).link ≡ x → o.frame ≡ f → asked_link op x ≡ Some l → Came (links_of r.objects) acts0 lives owners r.last_act o.number l
       at None q of g = cc
@@ -88,16 +87,20 @@ module _ (r : Record) (acts0 : Acts) (lives : Lives) (owners : List ℕ) (f : �
           let s = p.2 in
           let el : b.last ≡ p.0.last = p.3 in
           asked p.0 op (link_found r.objects o.number o p.0 (find_number r.objects o d h) p.1)
-            (record { inc = ap (λ (v : Link). v.inc) (sym new) ∙ s.inc; act = ap (λ (v : Link). v.act) (sym new) ∙ s.act; states = ap (λ (v : Link). v.states) (sym new) ∙ s.states;
-              saved = elim s.saved [ inl v ↦ inl (ap (λ (z : Link). z.saved) (sym new) ∙ v) | inr v ↦ inr (ap (λ (z : Link). z.saved) (sym new) ∙ v) ];
-              waiting = ap (λ (v : Link). v.waiting) (sym new) ∙ s.waiting })
-            (sym p.4 ∙ none1) (ap (λ (v : Link). v.last) (sym new) ∙ ap (λ n. n + 1) el) (ap (λ (v : Link). v.pending) (sym new))
+          (record {
+            inc = ap (λ (v : Link). v.inc) (sym new) ∙ s.inc;
+            act = ap (λ (v : Link). v.act) (sym new) ∙ s.act;
+            states = ap (λ (v : Link). v.states) (sym new) ∙ s.states;
+            saved = elim s.saved [ inl v ↦ inl (ap (λ (z : Link). z.saved) (sym new) ∙ v) | inr v ↦ inr (ap (λ (z : Link). z.saved) (sym new) ∙ v) ];
+            waiting = ap (λ (v : Link). v.waiting) (sym new) ∙ s.waiting;
+          })
+          (sym p.4 ∙ none1) (ap (λ (v : Link). v.last) (sym new) ∙ ap (λ n. n + 1) el) (ap (λ (v : Link). v.pending) (sym new))
 
   pub came_asked : (n : ℕ) (l : Link) → links_of (map all_asked r.objects) n ≡ Some l → Came (links_of r.objects) acts0 lives owners r.last_act n l
   came_asked n l e = (let o = linked_object (map all_asked r.objects) n l e in
       let p = found_mapped all_asked r.objects n o.0 number o.1 in
       subst (λ k. Came (links_of r.objects) acts0 lives owners r.last_act k l) (found_number r.objects n p.0 p.1)
-        (after_link p.0 l (find_among (is_object n) r.objects p.0 p.1) (ap (λ (z : Object). z.link) (sym p.2) ∙ o.2)))
+      (after_link p.0 l (find_among (is_object n) r.objects p.0 p.1) (ap (λ (z : Object). z.link) (sym p.2) ∙ o.2)))
 
   -- a link that was there is still there
   stays_asked : (n : ℕ) (b : Link) → links_of r.objects n ≡ Some b → (l : Link) × (links_of (map all_asked r.objects) n ≡ Some l) × (l.act ≡ b.act)
@@ -105,14 +108,15 @@ module _ (r : Record) (acts0 : Acts) (lives : Lives) (owners : List ℕ) (f : �
       let p = pre_there o.0 b o.2 in
       let fo = find_mapped all_asked r.objects n o.0 number o.1 in
       elim ((pre o.0).frame == f) as (λ c. ((pre o.0).frame == f) ≡ c → (l : Link) × (links_of (map all_asked r.objects) n ≡ Some l) × (l.act ≡ b.act)) [
-        true ↦ (λ t. let q = into (ask p.0 op).link p.0 refl in
-          ((ask p.0 op).link, link_found (map all_asked r.objects) n (all_asked o.0) (ask p.0 op).link fo (rw t (ap (asked_link op) p.1)), q ∙ p.2))
-      | false ↦ (λ t. (p.0, link_found (map all_asked r.objects) n (all_asked o.0) p.0 fo (rw t p.1), p.2))
+        | true ↦ (λ t. let q = into (ask p.0 op).link p.0 refl in
+            ((ask p.0 op).link, link_found (map all_asked r.objects) n (all_asked o.0) (ask p.0 op).link fo (rw t (ap (asked_link op) p.1)), q ∙ p.2))
+        | false ↦ (λ t. (p.0, link_found (map all_asked r.objects) n (all_asked o.0) p.0 fo (rw t p.1), p.2))
       ] refl)
     where
       asked_act : (l : Link) (x : Option Operation) → (ask_at l op x).link.act ≡ l.act
       asked_act l None = refl
       asked_act l (Some q) = refl
+
       into : (l m : Link) → (ask m op).link ≡ l → l.act ≡ m.act
       into l m e = ap (λ (v : Link). v.act) (sym e) ∙ asked_act m m.pending
 
@@ -142,13 +146,22 @@ module _ (r : Record) (acts0 : Acts) (lives : Lives) (owners : List ℕ) (f : �
           let fo = find_mapped all_asked r.objects o.number o number (find_number r.objects o d h) in
           let pi : p.0.inc ≡ b.inc = back.2.inc ∙ ap (λ (v : Link). v.inc) same_b in
           let pl : p.0.last ≡ b.last = back.3 ∙ ap (λ (v : Link). v.last) same_b in
-          let pa : p.0.act ≡ b.act = p.2 in
-          (b, q, one, record { n = o.number; l = new; op = op; at = link_found (map all_asked r.objects) o.number (all_asked o) new fo lk; pending = refl;
-            call = one ∙ (ap (λ i. Call i b.act (b.last + 1) op) (sym pi) ∙ (ap (λ i. Call p.0.inc i (b.last + 1) op) (sym pa) ∙ ap (λ i. Call p.0.inc p.0.act (i + 1) op) (sym pl))) })
+          let pa : p.0.act ≡ b.act = p.2 in (
+            b,
+            q,
+            one,
+            record {
+              n = o.number;
+              l = new;
+              op = op;
+              at = link_found (map all_asked r.objects) o.number (all_asked o) new fo lk;
+              pending = refl;
+              call = one ∙ (ap (λ i. Call i b.act (b.last + 1) op) (sym pi) ∙ (ap (λ i. Call p.0.inc i (b.last + 1) op) (sym pa) ∙ ap (λ i. Call p.0.inc p.0.act (i + 1) op) (sym pl)));
+            },
+          )
 
 -- Save
 module _ (r : Record) (f : ℕ) (frame : Frame) where
-
   busy_none : (state : GrantState) (os : List Object) → any_busy f state os ≡ false → (o : Object) (b : Link) → Among os o → o.frame ≡ f → o.link ≡ Some b → b.pending ≡ None
   busy_none state [] e o b h of q = absurd h
   busy_none state (x ∷ os) e o b (inl is) of q =
@@ -188,28 +201,34 @@ save_moves_in r acts0 lives owners f (Some frame) t d at e ph =
     let pl = plain_link in
     let pt = plain_there in
     let v = saving r f frame in
-    subst (λ (x : Took). Moves r acts0 lives owners x × (x.rec.last_act ≡ r.last_act) × NoCompletion x) is
-      (record {
+    subst (λ (x : Took). Moves r acts0 lives owners x × (x.rec.last_act ≡ r.last_act) × NoCompletion x) is (
+      record {
         came = came_asked r acts0 lives owners f op (λ o. o) d (λ o. refl) (λ o. refl) pl pt free;
         sends = λ m h. (let g : Among (asked_all f op r.objects) m = subst (λ x. Among x m) (sent_of (asked_all f op r.objects) 1 v.objects v.frames) h in
-          let o = asked_of f op r.objects m g in
-          (sent_asked r acts0 lives owners f op (λ o. o) d (λ o. refl) (λ o. refl) pl pt free m o.0 o.1 o.2 o.3).3);
+            let o = asked_of f op r.objects m g in
+            (sent_asked r acts0 lives owners f op (λ o. o) d (λ o. refl) (λ o. refl) pl pt free m o.0 o.1 o.2 o.3).3);
         stays = stays_all r acts0 lives owners f op (λ o. o) d (λ o. refl) (λ o. refl) pl pt free;
         phased = phased_settled v (saved_phase idle free);
         servers = refl;
         starts = λ numbers. no_start numbers (asked_all f op r.objects) (settle_actions v) (no_start_settled numbers 1 v.objects v.frames);
-      }, refl, (λ i a m k s h. (let g : Among (asked_all f op r.objects) (Call i a m (SaveCompleted k s)) = subst (λ x. Among x (Call i a m (SaveCompleted k s))) (sent_of (asked_all f op r.objects) 1 v.objects v.frames) h in
+      },
+      refl,
+      (λ i a m k s h. (let g : Among (asked_all f op r.objects) (Call i a m (SaveCompleted k s)) = subst (λ x. Among x (Call i a m (SaveCompleted k s))) (sent_of (asked_all f op r.objects) 1 v.objects v.frames) h in
           let o = asked_of f op r.objects (Call i a m (SaveCompleted k s)) g in
           let y = sent_asked r acts0 lives owners f op (λ o. o) d (λ o. refl) (λ o. refl) pl pt free (Call i a m (SaveCompleted k s)) o.0 o.1 o.2 o.3 in
           let q = y.2 in
-          let z : SaveCompleted k s ≡ op = cc in not_save k s z)))
+          let z : SaveCompleted k s ≡ op = cc in not_save k s z)),
+    )
   where
     not_save : (k : ℕ) (s : Bool) → SaveCompleted k s ≡ Save (frame.k + 1) → ⊥
     not_save k s h = cc
+
     op1 : Operation
     op1 = Save (frame.k + 1)
+
     num : (o : Object) → (asked_object f (Save (frame.k + 1)) o).number ≡ o.number
     num o = elim (o.frame == f) as (λ b. (if b then record o { link = asked_link (Save (frame.k + 1)) o.link } else o).number ≡ o.number) [ true ↦ refl | false ↦ refl ]
+
     saved_phase : frame.phase ≡ Idle → ((o : Object) (b : Link) → Among r.objects o → o.frame ≡ f → o.link ≡ Some b → b.pending ≡ None) → AllPhased (saving r f frame)
     saved_phase idle free n o l fr fo ol here =
         let p = found_mapped (asked_object f (Save (frame.k + 1))) r.objects n o num fo in
@@ -217,20 +236,24 @@ save_moves_in r acts0 lives owners f (Some frame) t d at e ph =
         let of : o.frame ≡ p.0.frame = ap (λ (z : Object). z.frame) p.2 ∙ same_frame p.0 in
         let here2 : nth (set_nth r.frames f (saving_frame frame)) p.0.frame ≡ Some fr = ap (nth (set_nth r.frames f (saving_frame frame))) (sym of) ∙ here in
         elim (nth_set_apart r.frames f p.0.frame (saving_frame frame) fr here2) [
-          inl s ↦ (let ol3 : asked_link (Save (frame.k + 1)) p.0.link ≡ Some l = rw_true p.0 s.0 l ol2 in
-            subst (λ (x : Frame). Phased x.phase l) (sym s.1) (inl (asked_saved p.0 p.0.link p.1 refl s.0 ol3)))
-        | inr s ↦ ph n p.0 l fr p.1 (other_link p.0 s.0 ol2) s.1
+          | inl s ↦ (let ol3 : asked_link (Save (frame.k + 1)) p.0.link ≡ Some l = rw_true p.0 s.0 l ol2 in
+              subst (λ (x : Frame). Phased x.phase l) (sym s.1) (inl (asked_saved p.0 p.0.link p.1 refl s.0 ol3)))
+          | inr s ↦ ph n p.0 l fr p.1 (other_link p.0 s.0 ol2) s.1
         ]
       where
         same_frame : (x : Object) → (asked_object f (Save (frame.k + 1)) x).frame ≡ x.frame
         same_frame x = elim (x.frame == f) as (λ b. (if b then record x { link = asked_link (Save (frame.k + 1)) x.link } else x).frame ≡ x.frame) [ true ↦ refl | false ↦ refl ]
+
         rw_true : (x : Object) → x.frame ≡ f → (l : Link) → (asked_object f (Save (frame.k + 1)) x).link ≡ Some l → asked_link (Save (frame.k + 1)) x.link ≡ Some l
         rw_true x q l g = subst (λ b. (if b then record x { link = asked_link (Save (frame.k + 1)) x.link } else x).link ≡ Some l) (eq-eqb x.frame f q) g
+
         other_link : (x : Object) → x.frame ≢ f → (asked_object f (Save (frame.k + 1)) x).link ≡ Some l → x.link ≡ Some l
         other_link x q g = subst (λ b. (if b then record x { link = asked_link (Save (frame.k + 1)) x.link } else x).link ≡ Some l) (ne_eqb x.frame f q) g
+
         saved_at : (b : Link) (x : Option Operation) → (ask_at b (Save (frame.k + 1)) x).link.saved ≡ b.saved
         saved_at b None = refl
         saved_at b (Some q) = refl
+
         asked_saved : (x : Object) (y : Option Link) → find (is_object n) r.objects ≡ Some x → x.link ≡ y → x.frame ≡ f → asked_link (Save (frame.k + 1)) y ≡ Some l → l.saved ≡ None
         asked_saved x None fx q of g = cc
         asked_saved x (Some b) fx q of g =
@@ -273,9 +296,7 @@ next_none_sent l e = ap (λ v. (next_at l v).sent) e
 module _ (r : Record) (acts0 : Acts) (lives : Lives) (owners : List ℕ) (sent : List Message) (inc act n : ℕ) (answer : Answer)
     (d : Distinct (map id_of r.objects)) (hc : Calls (links_of r.objects) sent) (hs : Steps (links_of r.objects) acts0) (hr : Replies acts0 sent) (ph : AllPhased r)
     (told : Among sent (Reply inc act n answer)) where
-
   module _ (x : Object) (p : Replied) (l : Link) (op : Operation) (found : find (is_linked inc act) r.objects ≡ Some x) (xl : x.link ≡ Some l) (pe : l.pending ≡ Some op) (nl : n ≡ l.last) (rp : replied l op answer ≡ Ok p) where
-
     at_x : links_of r.objects x.number ≡ Some l
     at_x = link_found r.objects x.number x l (find_number r.objects x d (find_among (is_linked inc act) r.objects x found)) xl
 
@@ -299,9 +320,9 @@ module _ (r : Record) (acts0 : Acts) (lives : Lives) (owners : List ℕ) (sent :
 
     which_reply : (k : ℕ) (m : Link) → links_of objects k ≡ Some m → ((k ≡ x.number) × (next_link p.link ≡ Some m)) ⊎ ((k ≢ x.number) × (links_of r.objects k ≡ Some m))
     which_reply k m e = (let o = linked_object objects k m e in elim (found_put (is_linked inc act) r.objects x (replied_object x p) k o.0 d found refl o.1) [
-        inl s ↦ inl (s.0, ap (λ (z : Object). z.link) (sym s.1) ∙ o.2)
+      | inl s ↦ inl (s.0, ap (λ (z : Object). z.link) (sym s.1) ∙ o.2)
       | inr s ↦ inr (s.0, link_found r.objects k o.0 m s.1 o.2)
-      ])
+    ])
 
     ends : Ends l op ahead.0 p
     ends = reply_ends l op answer ahead.0 p rp ahead.3
@@ -325,17 +346,17 @@ module _ (r : Record) (acts0 : Acts) (lives : Lives) (owners : List ℕ) (sent :
             let at : acts0 after.inc after.act ≡ Some ahead.0 = ap (λ i. acts0 i after.act) s.inc ∙ (ap (acts0 l.inc) s.act ∙ ahead.1) in
             let level : InStepAt after.last after.states after.pending (Some ahead.0) = subst (λ v. InStepAt after.last after.states v (Some ahead.0)) (sym s.pending) (ahead.2 ∙ sym s.last, s.states) in
             let sv : (c : Stored) → after.saved ≡ Some c → HasSaved c (acts0 after.inc after.act) = (λ c h. subst (HasSaved c) (sym at) (elim s.saved [
-                inl e' ↦ (let was = hs.saved x.number l c at_x (sym e' ∙ h) in subst (HasSaved c) ahead.1 was)
+              | inl e' ↦ (let was = hs.saved x.number l c at_x (sym e' ∙ h) in subst (HasSaved c) ahead.1 was)
               | inr e' ↦ (let z : Some e'.1.0 ≡ Some c = sym e'.1.1 ∙ h in let y : e'.1.0 ≡ c = cc in e'.1.2 ∙ ap Some y)
-              ])) in
+            ])) in
             subst (λ v. Came (links_of r.objects) acts0 lives owners r.last_act k v) am
-              (settled l (ap (links_of r.objects) kx ∙ at_x) s.inc s.act s.last s.pending (subst (InStep after) (sym at) level) sv w)
+            (settled l (ap (links_of r.objects) kx ∙ at_x) s.inc s.act s.last s.pending (subst (InStep after) (sym at) level) sv w)
 
     stays_reply : (k : ℕ) (m : Link) → links_of r.objects k ≡ Some m → ((m' : Link) × (links_of objects k ≡ Some m') × (m'.act ≡ m.act)) ⊎ Goes acts0 lives m
     stays_reply k m e = elim (eqb_tells k x.number) [
-        inl s ↦ (let z : Some l ≡ Some m = sym at_x ∙ (ap (links_of r.objects) (sym s.1) ∙ e) in let lm : l ≡ m = cc in mine s.1 lm ends)
+      | inl s ↦ (let z : Some l ≡ Some m = sym at_x ∙ (ap (links_of r.objects) (sym s.1) ∙ e) in let lm : l ≡ m = cc in mine s.1 lm ends)
       | inr s ↦ (let o = linked_object r.objects k m e in inl (m, link_found objects k o.0 m (find_put_there (is_linked inc act) r.objects x (replied_object x p) o.0 k d found refl s.1 o.1) o.2, refl))
-      ]
+    ]
       where
         mine : k ≡ x.number → l ≡ m → Ends l op ahead.0 p → ((m' : Link) × (links_of objects k ≡ Some m') × (m'.act ≡ m.act)) ⊎ Goes acts0 lives m
         mine kx lm (settles after g s) =
@@ -346,22 +367,23 @@ module _ (r : Record) (acts0 : Acts) (lives : Lives) (owners : List ℕ) (sent :
 
     phased_reply : AllPhased (replied_record r inc act x p)
     phased_reply k o m fr fo ol at = elim (found_put (is_linked inc act) r.objects x (replied_object x p) k o d found refl fo) [
-        inl s ↦ mine (ap (λ (z : Object). z.link) (sym s.1) ∙ ol) (ap (λ (z : Object). nth r.frames z.frame) (sym s.1) ∙ at) ends
+      | inl s ↦ mine (ap (λ (z : Object). z.link) (sym s.1) ∙ ol) (ap (λ (z : Object). nth r.frames z.frame) (sym s.1) ∙ at) ends
       | inr s ↦ ph k o m fr s.1 ol at
-      ]
+    ]
       where
         in_phase : (phase : Phase) (after : Link) → Phased phase l → Settles l op ahead.0 after → Phased phase after
         in_phase Idle after h s = elim s.saved [
-            inl e ↦ (e ∙ h.0, (λ z. subst IsSave s.pending z))
+          | inl e ↦ (e ∙ h.0, (λ z. subst IsSave s.pending z))
           | inr e ↦ absurd (h.1 (subst IsSave (sym pe) e.0))
-          ]
+        ]
         in_phase Saving after h s = elim h [
-            inl none1 ↦ elim s.saved [ inl e ↦ inl (e ∙ none1) | inr e ↦ inr (s.pending, subst HasContent (sym e.1.1) tt) ]
+          | inl none1 ↦ elim s.saved [ inl e ↦ inl (e ∙ none1) | inr e ↦ inr (s.pending, subst HasContent (sym e.1.1) tt) ]
           | inr both1 ↦ absurd (let z : None ≡ Some op = sym both1.0 ∙ pe in cc)
-          ]
+        ]
         in_phase HandingOff after h s = absurd h
         in_phase Committing after h s = absurd (let z : None ≡ Some op = sym h.0 ∙ pe in cc)
         in_phase InDoubt after h s = absurd h
+
         mine : next_link p.link ≡ Some m → nth r.frames x.frame ≡ Some fr → Ends l op ahead.0 p → Phased fr.phase m
         mine q at (gone g c) = absurd (let z : None ≡ Some m = sym (ap next_link g) ∙ q in cc)
         mine q at (settles after g s) =
@@ -372,13 +394,13 @@ module _ (r : Record) (acts0 : Acts) (lives : Lives) (owners : List ℕ) (sent :
 
     pub reply_made : Moves r acts0 lives owners (record { rec = settle (replied_record r inc act x p); answer = record quiet_answer { refused = p.refused; actions = sends (next_sent p.link) ++ settle_actions (replied_record r inc act x p) } })
     reply_made = record {
-        came = came_reply;
-        sends = λ m h. (let g : Among (next_sent p.link) m = subst (λ v. Among v m) (sent_of (next_sent p.link) 1 objects r.frames) h in absurd (subst (λ v. Among v m) no_next g));
-        stays = stays_reply;
-        phased = phased_settled (replied_record r inc act x p) phased_reply;
-        servers = refl;
-        starts = λ numbers. no_start numbers (next_sent p.link) (settle_actions (replied_record r inc act x p)) (no_start_settled numbers 1 objects r.frames);
-      }
+      came = came_reply;
+      sends = λ m h. (let g : Among (next_sent p.link) m = subst (λ v. Among v m) (sent_of (next_sent p.link) 1 objects r.frames) h in absurd (subst (λ v. Among v m) no_next g));
+      stays = stays_reply;
+      phased = phased_settled (replied_record r inc act x p) phased_reply;
+      servers = refl;
+      starts = λ numbers. no_start numbers (next_sent p.link) (settle_actions (replied_record r inc act x p)) (no_start_settled numbers 1 objects r.frames);
+    }
 
     pub reply_quiet : (i a m k : ℕ) (s : Bool) → Among (messages_of (sends (next_sent p.link) ++ settle_actions (replied_record r inc act x p))) (Call i a m (SaveCompleted k s)) → ⊥
     reply_quiet i a m k s h = (let g : Among (next_sent p.link) (Call i a m (SaveCompleted k s)) = subst (λ v. Among v (Call i a m (SaveCompleted k s))) (sent_of (next_sent p.link) 1 objects r.frames) h in subst (λ v. Among v (Call i a m (SaveCompleted k s))) no_next g)

@@ -48,8 +48,8 @@ new_moves r acts0 lives owners name w h t placed e ph =
     let c = unless_ok (nat_le MOST_FRAMES (length r.frames)) Full _ t b.1 in
     let g : Ok (new_made r name w h) ≡ Ok t = (unless_ok (nat_le r.numbers (length r.frames)) NumbersSpent _ t c.1).1 in
     let is : new_made r name w h ≡ t = cc in
-    subst (λ v. Moves r acts0 lives owners v × (v.rec.last_act ≡ r.last_act) × NoCompletion v) is
-      (record {
+    subst (λ v. Moves r acts0 lives owners v × (v.rec.last_act ≡ r.last_act) × NoCompletion v) is (
+      record {
         came = λ n l q. same l q (same_link l) refl refl;
         sends = λ m z. absurd z;
         stays = λ n l q. inl (l, q, refl);
@@ -59,7 +59,10 @@ new_moves r acts0 lives owners name w h t placed e ph =
             subst (λ (v : Frame). Phased v.phase l) y (ph n o l p.0 fo ol p.1));
         servers = refl;
         starts = λ numbers. refl;
-      }, refl, (λ i a m k s z. z))
+      },
+      refl,
+      (λ i a m k s z. z),
+    )
 
 -- Insert
 find_more : (test : Object → Bool) (os : List Object) (y x : Object) → find test os ≡ Some x → find test (os ++ y ∷ []) ≡ Some x
@@ -72,9 +75,9 @@ found_more test (z ∷ os) y x e = elim (test z) as (λ b. (if b then Some z els
 
 old_link : (os : List Object) (y : Object) (n : ℕ) (l : Link) → y.link ≡ None → links_of (os ++ y ∷ []) n ≡ Some l → links_of os n ≡ Some l
 old_link os y n l none1 e = (let o = linked_object (os ++ y ∷ []) n l e in elim (found_more (is_object n) os y o.0 o.1) [
-    inl f ↦ link_found os n o.0 l f o.2
+  | inl f ↦ link_found os n o.0 l f o.2
   | inr q ↦ absurd (let z : None ≡ Some l = sym none1 ∙ (ap (λ (v : Object). v.link) (sym q) ∙ o.2) in cc)
-  ])
+])
 
 more_link : (os : List Object) (y : Object) (n : ℕ) (l : Link) → links_of os n ≡ Some l → links_of (os ++ y ∷ []) n ≡ Some l
 more_link os y n l e = (let o = linked_object os n l e in link_found (os ++ y ∷ []) n o.0 l (find_more (is_object n) os y o.0 o.1) o.2)
@@ -89,18 +92,21 @@ insert_moves_in r acts0 lives owners f kind area (Some frame) t e ph =
     let g : Ok (insert_made r f kind area) ≡ Ok t = (unless_ok (nat_le r.numbers r.last_object) NumbersSpent _ t d.1).1 in
     let is : insert_made r f kind area ≡ t = cc in
     let y = new_object (r.last_object + 1) f kind area in
-    subst (λ v. Moves r acts0 lives owners v × (v.rec.last_act ≡ r.last_act) × NoCompletion v) is
-      (record {
+    subst (λ v. Moves r acts0 lives owners v × (v.rec.last_act ≡ r.last_act) × NoCompletion v) is (
+      record {
         came = λ n l q. same l (old_link r.objects y n l refl q) (same_link l) refl refl;
         sends = λ m z. absurd z;
         stays = λ n l q. inl (l, more_link r.objects y n l q, refl);
         phased = λ n o l fr fo ol at. elim (found_more (is_object n) r.objects y o fo) [
-            inl h ↦ ph n o l fr h ol at
+          | inl h ↦ ph n o l fr h ol at
           | inr q ↦ absurd (let z : None ≡ Some l = ap (λ (v : Object). v.link) (sym q) ∙ ol in cc)
-          ];
+        ];
         servers = refl;
         starts = λ numbers. refl;
-      }, refl, (λ i a m k s z. z))
+      },
+      refl,
+      (λ i a m k s z. z),
+    )
 
 pub insert_moves : (r : Record) (acts0 : Acts) (lives : Lives) (owners : List ℕ) (f : ℕ) (kind : Kind) (area : Area) (t : Took) → insert r f kind area ≡ Ok t → AllPhased r → Moves r acts0 lives owners t × (t.rec.last_act ≡ r.last_act) × NoCompletion t
 insert_moves r acts0 lives owners f kind area t e ph = insert_moves_in r acts0 lives owners f kind area (nth r.frames f) t e ph
@@ -111,8 +117,8 @@ reap_moves r acts0 lives owners inc t e ph stopped =
     let v = reaped r inc in
     let made : Took = record { rec = settle v; answer = acts (settle_actions v) } in
     let is : made ≡ t = passed (is_alive r inc) made e in
-    subst (λ x. Moves r acts0 lives owners x × (x.rec.last_act ≡ r.last_act) × NoCompletion x) is
-      (record {
+    subst (λ x. Moves r acts0 lives owners x × (x.rec.last_act ≡ r.last_act) × NoCompletion x) is (
+      record {
         came = λ n l q. (let o = linked_object v.objects n l q in
             let p = found_mapped ended r.objects n o.0 number o.1 in
             let k = left p.0 p.0.link refl l (ap (λ (z : Object). z.link) (sym p.2) ∙ o.2) in
@@ -121,8 +127,8 @@ reap_moves r acts0 lives owners inc t e ph stopped =
         stays = λ n l q. (let o = linked_object r.objects n l q in
             let fo = find_mapped ended r.objects n o.0 number o.1 in
             elim (eqb_tells l.inc inc) [
-              inl s ↦ inr (inr (λ z. stopped (ap lives (sym s.1) ∙ z)))
-            | inr s ↦ inl (l, link_found v.objects n (ended o.0) l fo (keeps o.0 l o.2 s.1), refl)
+              | inl s ↦ inr (inr (λ z. stopped (ap lives (sym s.1) ∙ z)))
+              | inr s ↦ inl (l, link_found v.objects n (ended o.0) l fo (keeps o.0 l o.2 s.1), refl)
             ]);
         phased = phased_settled v (λ n o l frame fo ol at. (let p = found_mapped ended r.objects n o number fo in
             let k = left p.0 p.0.link refl l (ap (λ (z : Object). z.link) (sym p.2) ∙ ol) in
@@ -130,31 +136,39 @@ reap_moves r acts0 lives owners inc t e ph stopped =
             ph n p.0 l frame p.1 k (ap (nth r.frames) (sym fr) ∙ at)));
         servers = length_set_nth r.servers inc true;
         starts = λ numbers. no_start_settled numbers 1 v.objects v.frames;
-      }, refl, (λ i a m k s h. subst (λ x. Among x (Call i a m (SaveCompleted k s))) (messages_settled 1 v.objects v.frames) h))
+      },
+      refl,
+      (λ i a m k s h. subst (λ x. Among x (Call i a m (SaveCompleted k s))) (messages_settled 1 v.objects v.frames) h),
+    )
   where
     passed : (b : Bool) (m : Took) → ◌≡◌ {A = Result Took ContainerFault} (if b then Ok m else Err NoSuch) (Ok t) → m ≡ t
     passed true m g = cc
     passed false m g = cc
+
     ended : Object → Object
     ended o = reaped_object inc o o.link
+
     number_at : (o : Object) (x : Option Link) → (reaped_object inc o x).number ≡ o.number
     number_at o None = refl
     number_at o (Some l) = elim (l.inc == inc) as (λ b. (if b then record o { work = kept o; link = None } else o).number ≡ o.number) [ true ↦ refl | false ↦ refl ]
+
     number : (o : Object) → (ended o).number ≡ o.number
     number o = number_at o o.link
+
     same_frame : (o : Object) (x : Option Link) → (reaped_object inc o x).frame ≡ o.frame
     same_frame o None = refl
     same_frame o (Some l) = elim (l.inc == inc) as (λ b. (if b then record o { work = kept o; link = None } else o).frame ≡ o.frame) [ true ↦ refl | false ↦ refl ]
+
     -- a link that is left was there
     left : (o : Object) (x : Option Link) → o.link ≡ x → (l : Link) → (reaped_object inc o x).link ≡ Some l → o.link ≡ Some l
     left o None q l g = g
     left o (Some b) q l g = elim (b.inc == inc) as (λ c. (if c then record o { work = kept o; link = None } else o).link ≡ Some l → o.link ≡ Some l) [ true ↦ (λ z. cc) | false ↦ (λ z. z) ] g
+
     keeps : (o : Object) (l : Link) → o.link ≡ Some l → l.inc ≢ inc → (ended o).link ≡ Some l
     keeps o l q ne = ap (λ x. (reaped_object inc o x).link) q ∙ (rw (ne_eqb l.inc inc ne) q)
 
 -- a commit of a frame that is committing
 module _ (r : Record) (acts0 : Acts) (lives : Lives) (owners : List ℕ) (f : ℕ) (frame : Frame) (d : Distinct (map id_of r.objects)) (ph : AllPhased r) (at : nth r.frames f ≡ Some frame) (committing : frame.phase ≡ Committing) where
-
   abbrev pub op : Operation
   op = completion frame
 
@@ -169,21 +183,25 @@ module _ (r : Record) (acts0 : Acts) (lives : Lives) (owners : List ℕ) (f : �
 
   cleared_link : (x : Option Link) (l : Link) → cleared x ≡ Some l → (b : Link) × (x ≡ Some b) × IsSame b l × (l.last ≡ b.last) × (l.pending ≡ b.pending)
   cleared_link None l e = cc
-  cleared_link (Some b) l e = (let q : record b { saved = None } ≡ l = (let z : Some (record b { saved = None }) ≡ Some l = e in cc) in
-      (b, refl, record { inc = ap (λ (v : Link). v.inc) (sym q); act = ap (λ (v : Link). v.act) (sym q); states = ap (λ (v : Link). v.states) (sym q); saved = inr (ap (λ (v : Link). v.saved) (sym q)); waiting = ap (λ (v : Link). v.waiting) (sym q) },
-        ap (λ (v : Link). v.last) (sym q), ap (λ (v : Link). v.pending) (sym q)))
+  cleared_link (Some b) l e = (let q : record b { saved = None } ≡ l = (let z : Some (record b { saved = None }) ≡ Some l = e in cc) in (
+    b,
+    refl,
+    record { inc = ap (λ (v : Link). v.inc) (sym q); act = ap (λ (v : Link). v.act) (sym q); states = ap (λ (v : Link). v.states) (sym q); saved = inr (ap (λ (v : Link). v.saved) (sym q)); waiting = ap (λ (v : Link). v.waiting) (sym q) },
+    ap (λ (v : Link). v.last) (sym q),
+    ap (λ (v : Link). v.pending) (sym q),
+  ))
 
   pre_link : (o : Object) (l : Link) → (counted_object f o).link ≡ Some l → (b : Link) × (o.link ≡ Some b) × IsSame b l × (l.last ≡ b.last) × (l.pending ≡ b.pending)
   pre_link o l e = elim (o.frame == f) as (λ c. (if c then record o { work = kept o; link = cleared o.link } else o).link ≡ Some l → (b : Link) × (o.link ≡ Some b) × IsSame b l × (l.last ≡ b.last) × (l.pending ≡ b.pending)) [
-      true ↦ (λ g. cleared_link o.link l g)
+    | true ↦ (λ g. cleared_link o.link l g)
     | false ↦ (λ g. (l, g, same_link l, refl, refl))
-    ] e
+  ] e
 
   pre_there : (o : Object) (b : Link) → o.link ≡ Some b → (l : Link) × ((counted_object f o).link ≡ Some l) × (l.act ≡ b.act)
   pre_there o b e = elim (o.frame == f) as (λ c. (l : Link) × ((if c then record o { work = kept o; link = cleared o.link } else o).link ≡ Some l) × (l.act ≡ b.act)) [
-      true ↦ (record b { saved = None }, ap cleared e, refl)
+    | true ↦ (record b { saved = None }, ap cleared e, refl)
     | false ↦ (b, e, refl)
-    ]
+  ]
 
   in_phase : (o : Object) (b : Link) → Among r.objects o → o.frame ≡ f → o.link ≡ Some b → Phased Committing b
   in_phase o b h of q = subst (λ v. Phased v b) committing (ph o.number o b frame (find_number r.objects o d h) q (ap (nth r.frames) of ∙ at))
@@ -210,8 +228,8 @@ module _ (r : Record) (acts0 : Acts) (lives : Lives) (owners : List ℕ) (f : �
       let here2 : nth (set_nth r.frames f (committed_frame frame)) p.0.frame ≡ Some fr = ap (nth (set_nth r.frames f (committed_frame frame))) (sym of) ∙ here in
       let ol2 : (completed f frame p.0).link ≡ Some l = ap (λ (z : Object). z.link) (sym p.2) ∙ ol in
       elim (nth_set_apart r.frames f p.0.frame (committed_frame frame) fr here2) [
-        inl s ↦ (let ps = asked_phase p.0 s.0 (find_among (is_object n) r.objects p.0 p.1) ol2 in subst (λ (x : Frame). Phased x.phase l) (sym s.1) ps)
-      | inr s ↦ ph n p.0 l fr p.1 (other p.0 s.0 ol2) s.1
+        | inl s ↦ (let ps = asked_phase p.0 s.0 (find_among (is_object n) r.objects p.0 p.1) ol2 in subst (λ (x : Frame). Phased x.phase l) (sym s.1) ps)
+        | inr s ↦ ph n p.0 l fr p.1 (other p.0 s.0 ol2) s.1
       ]
     where
       other : (x : Object) → x.frame ≢ f → (completed f frame x).link ≡ Some l → x.link ≡ Some l
@@ -219,8 +237,9 @@ module _ (r : Record) (acts0 : Acts) (lives : Lives) (owners : List ℕ) (f : �
         where
           by : (x.frame == f) ≡ false → (completed f frame x).link ≡ Some l → x.link ≡ Some l
           by t g = (let c : counted_object f x ≡ x = rw t refl in
-            let k : asked_object f op x ≡ x = rw t refl in
-            ap (λ (z : Object). z.link) (sym (ap (asked_object f op) c ∙ k)) ∙ g)
+              let k : asked_object f op x ≡ x = rw t refl in
+              ap (λ (z : Object). z.link) (sym (ap (asked_object f op) c ∙ k)) ∙ g)
+
       asked_phase : (x : Object) → x.frame ≡ f → Among r.objects x → (completed f frame x).link ≡ Some l → Phased Idle l
       asked_phase x e h g =
           let t : (x.frame == f) ≡ true = eq-eqb x.frame f e in
@@ -239,19 +258,19 @@ module _ (r : Record) (acts0 : Acts) (lives : Lives) (owners : List ℕ) (f : �
             where
               at_none : (pend : Option Operation) → b.pending ≡ pend → asked_link op (Some (record b { saved = None })) ≡ Some l → b.pending ≡ None → record b { last = b.last + 1; pending = Some op; saved = None } ≡ l
               at_none pend q2 z2 n2 = (let w : (ask (record b { saved = None }) op).link ≡ record b { last = b.last + 1; pending = Some op; saved = None } = ap (λ v. (ask_at (record b { saved = None }) op v).link) n2 in
-                let u : Some (ask (record b { saved = None }) op).link ≡ Some l = z2 in
-                let u2 : (ask (record b { saved = None }) op).link ≡ l = cc in
-                sym w ∙ u2)
+                  let u : Some (ask (record b { saved = None }) op).link ≡ Some l = z2 in
+                  let u2 : (ask (record b { saved = None }) op).link ≡ l = cc in
+                  sym w ∙ u2)
 
   pub commit_moves : Moves r acts0 lives owners (commit_made r f frame)
   commit_moves = record {
-      came = came_commit;
-      sends = λ m h. sends_commit m (subst (λ x. Among x m) (messages_sends (asked_all f op r.objects)) h);
-      stays = stays_all r acts0 lives owners f op (counted_object f) d pre_number pre_frame pre_link pre_there free;
-      phased = phased_commit;
-      servers = refl;
-      starts = λ numbers. subst (λ v. started_by numbers v ≡ []) (append-nil (sends (asked_all f op r.objects))) (no_start numbers (asked_all f op r.objects) [] refl);
-    }
+    came = came_commit;
+    sends = λ m h. sends_commit m (subst (λ x. Among x m) (messages_sends (asked_all f op r.objects)) h);
+    stays = stays_all r acts0 lives owners f op (counted_object f) d pre_number pre_frame pre_link pre_there free;
+    phased = phased_commit;
+    servers = refl;
+    starts = λ numbers. subst (λ v. started_by numbers v ≡ []) (append-nil (sends (asked_all f op r.objects))) (no_start numbers (asked_all f op r.objects) [] refl);
+  }
 
   -- what is counted of an object that is told so
   entry : (o : Object) → Among r.objects o → o.frame ≡ f → Among (map (done_entry frame.k) (parts_in f r.objects)) (done_entry frame.k (part_of o))
@@ -277,11 +296,16 @@ module _ (r : Record) (acts0 : Acts) (lives : Lives) (owners : List ℕ) (f : �
       let ej : j ≡ frame.k = (let z : SaveCompleted j storage ≡ SaveCompleted frame.k (is_some_name frame.asked) = eo in cc) in
       let at_o : links_of r.objects o.0.number ≡ Some b = link_found r.objects o.0.number o.0 b (find_number r.objects o.0 d o.1) s.1 in
       let c = content_of b.saved refl (in_phase o.0 b o.1 o.2 s.1).1 in
-      let kc : kept o.0 ≡ c.0 = ap (kept_by o.0.work) s.1 ∙ ap (kept_in o.0.work) c.1 in
-      (done_entry frame.k (part_of o.0), entry o.0 o.1 o.2, ap (nth owned) ea ∙ named o.0.number b at_o, sym ej, ej,
+      let kc : kept o.0 ≡ c.0 = ap (kept_by o.0.work) s.1 ∙ ap (kept_in o.0.work) c.1 in (
+        done_entry frame.k (part_of o.0),
+        entry o.0 o.1 o.2,
+        ap (nth owned) ea ∙ named o.0.number b at_o,
+        sym ej,
+        ej,
         (λ a aa lt. (let hs : HasSaved c.0 (acts0 b.inc b.act) = steps.saved o.0.number b c.0 at_o c.1 in
-          let here : acts0 b.inc b.act ≡ Some a = ap (λ i. acts0 i b.act) (sym ei) ∙ (ap (acts0 inc) (sym ea) ∙ aa) in
-          subst (HasSaved c.0) here hs ∙ ap Some (sym kc))))
+            let here : acts0 b.inc b.act ≡ Some a = ap (λ i. acts0 i b.act) (sym ei) ∙ (ap (acts0 inc) (sym ea) ∙ aa) in
+            subst (HasSaved c.0) here hs ∙ ap Some (sym kc))),
+      )
     where
       content_of : (x : Option Stored) → {y : Option Stored} → y ≡ x → HasContent x → (c : Stored) × (y ≡ Some c)
       content_of None e h = absurd h

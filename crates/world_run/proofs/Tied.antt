@@ -66,17 +66,23 @@ no_act (suc k) act = refl
 
 pub empty_tied : (numbers : ℕ) (stock : List Kind) → Tied (empty_world numbers stock)
 empty_tied numbers stock = record {
-    servers = refl;
-    phased = λ n o l frame f g h. absurd (let z : None ≡ Some o = f in cc);
-    drawn = record { many = refl; named = λ n l e. absurd (no_link n l e); hosted = λ n l e. absurd (no_link n l e); called = λ inc act m op h. absurd h;
-      known = λ inc act a e. absurd (let z : None ≡ Some a = sym (no_act inc act) ∙ e in cc); started = λ inc act m op h. absurd h };
-    calls = record { bounded = λ n inc m op l e h. absurd h; pending = λ n inc op p l e f h. absurd h; waiting = λ n l e. absurd (no_link n l e) };
-    steps = record { step = λ n l e. absurd (no_link n l e); saved = λ n l c e f. absurd (no_link n l e) };
-    ended = λ inc act m op h. absurd h;
-    replies = record { known = λ inc act m r h. absurd h; one = λ inc act m r q h. absurd h };
-    books = record { completed = λ inc act m k s h. absurd h; once = λ inc act m inc' act' m' k o s s' h. absurd h; acted = λ e h. absurd h; same = λ e h. absurd h };
-    once = tt;
-  }
+  servers = refl;
+  phased = λ n o l frame f g h. absurd (let z : None ≡ Some o = f in cc);
+  drawn = record {
+    many = refl;
+    named = λ n l e. absurd (no_link n l e);
+    hosted = λ n l e. absurd (no_link n l e);
+    called = λ inc act m op h. absurd h;
+    known = λ inc act a e. absurd (let z : None ≡ Some a = sym (no_act inc act) ∙ e in cc);
+    started = λ inc act m op h. absurd h;
+  };
+  calls = record { bounded = λ n inc m op l e h. absurd h; pending = λ n inc op p l e f h. absurd h; waiting = λ n l e. absurd (no_link n l e) };
+  steps = record { step = λ n l e. absurd (no_link n l e); saved = λ n l c e f. absurd (no_link n l e) };
+  ended = λ inc act m op h. absurd h;
+  replies = record { known = λ inc act m r h. absurd h; one = λ inc act m r q h. absurd h };
+  books = record { completed = λ inc act m k s h. absurd h; once = λ inc act m inc' act' m' k o s s' h. absurd h; acted = λ e h. absurd h; same = λ e h. absurd h };
+  once = tt;
+}
   where
     no_link : (n : ℕ) (l : Link) → links_of [] n ≡ Some l → ⊥
     no_link n l e = (let z : None ≡ Some l = e in cc)
@@ -89,38 +95,38 @@ pub ties_instances : (rec rec' : Record) (is js : List Instance) (sent : List Se
     → ((inc : ℕ) (life : Life) → lives_of is inc ≡ Some life → lives_of js inc ≡ Some Running → lives_of is inc ≡ Some Running)
     → Ties rec is sent owners dones served → Ties rec' js sent owners dones served
 ties_instances rec rec' is js sent owners dones served eo ef el many same there runs h = record {
-    servers = many;
-    phased = λ n o l frame f g at. h.phased n o l frame (ap (find (is_object n)) (sym eo) ∙ f) g (ap (λ x. nth x o.frame) (sym ef) ∙ at);
-    drawn = record {
-      many = h.drawn.many ∙ sym el;
-      named = λ n l e. h.drawn.named n l (ap (λ x. links_of x n) (sym eo) ∙ e);
-      hosted = λ n l e. (let p = h.drawn.hosted n l (ap (λ x. links_of x n) (sym eo) ∙ e) in there l.inc p.0 p.1);
-      called = λ inc act m op g. (let le : act ≤ rec.last_act = h.drawn.called inc act m op g in let q = el in omega arith);
-      known = λ inc act a e. (let le : act ≤ rec.last_act = h.drawn.known inc act a (sym (same inc act) ∙ e) in let q = el in omega arith);
-      started = λ inc act m op g. (let p = h.drawn.started inc act m op g in there inc p.0 p.1);
-    };
-    calls = subst (λ os. Calls (links_of os) (messages sent)) (sym eo) h.calls;
-    steps = record {
-      step = λ n l e. subst (InStep l) (sym (same l.inc l.act)) (h.steps.step n l (ap (λ x. links_of x n) (sym eo) ∙ e));
-      saved = λ n l c e f. subst (HasSaved c) (sym (same l.inc l.act)) (h.steps.saved n l c (ap (λ x. links_of x n) (sym eo) ∙ e) f);
-    };
-    ended = λ inc act m op g lv. (let p = h.drawn.started inc act m op g in
+  servers = many;
+  phased = λ n o l frame f g at. h.phased n o l frame (ap (find (is_object n)) (sym eo) ∙ f) g (ap (λ x. nth x o.frame) (sym ef) ∙ at);
+  drawn = record {
+    many = h.drawn.many ∙ sym el;
+    named = λ n l e. h.drawn.named n l (ap (λ x. links_of x n) (sym eo) ∙ e);
+    hosted = λ n l e. (let p = h.drawn.hosted n l (ap (λ x. links_of x n) (sym eo) ∙ e) in there l.inc p.0 p.1);
+    called = λ inc act m op g. (let le : act ≤ rec.last_act = h.drawn.called inc act m op g in let q = el in omega arith);
+    known = λ inc act a e. (let le : act ≤ rec.last_act = h.drawn.known inc act a (sym (same inc act) ∙ e) in let q = el in omega arith);
+    started = λ inc act m op g. (let p = h.drawn.started inc act m op g in there inc p.0 p.1);
+  };
+  calls = subst (λ os. Calls (links_of os) (messages sent)) (sym eo) h.calls;
+  steps = record {
+    step = λ n l e. subst (InStep l) (sym (same l.inc l.act)) (h.steps.step n l (ap (λ x. links_of x n) (sym eo) ∙ e));
+    saved = λ n l c e f. subst (HasSaved c) (sym (same l.inc l.act)) (h.steps.saved n l c (ap (λ x. links_of x n) (sym eo) ∙ e) f);
+  };
+  ended = λ inc act m op g lv. (let p = h.drawn.started inc act m op g in
       elim (h.ended inc act m op g (runs inc p.0 p.1 lv)) [
-        inl k ↦ inl (k.0, k.1, ap (λ x. links_of x k.0) eo ∙ k.2, k.3)
-      | inr c ↦ inr (subst IsClosed (sym (same inc act)) c)
+        | inl k ↦ inl (k.0, k.1, ap (λ x. links_of x k.0) eo ∙ k.2, k.3)
+        | inr c ↦ inr (subst IsClosed (sym (same inc act)) c)
       ]);
-    replies = record {
-      known = λ inc act m r g. (let k = h.replies.known inc act m r g in (k.0, same inc act ∙ k.1, k.2, k.3));
-      one = h.replies.one;
-    };
-    books = record {
-      completed = λ inc act m k s g. (let c = h.books.completed inc act m k s g in (c.0, c.1, c.2, c.3, (λ a e lt. c.4 a (sym (same inc act) ∙ e) lt)));
-      once = h.books.once;
-      acted = λ e g. (let c = h.books.acted e g in (c.0, c.1, c.2, c.3, c.4, c.5, same e.inc c.0 ∙ c.6, c.7));
-      same = h.books.same;
-    };
-    once = h.once;
-  }
+  replies = record {
+    known = λ inc act m r g. (let k = h.replies.known inc act m r g in (k.0, same inc act ∙ k.1, k.2, k.3));
+    one = h.replies.one;
+  };
+  books = record {
+    completed = λ inc act m k s g. (let c = h.books.completed inc act m k s g in (c.0, c.1, c.2, c.3, (λ a e lt. c.4 a (sym (same inc act) ∙ e) lt)));
+    once = h.books.once;
+    acted = λ e g. (let c = h.books.acted e g in (c.0, c.1, c.2, c.3, c.4, c.5, same e.inc c.0 ∙ c.6, c.7));
+    same = h.books.same;
+  };
+  once = h.once;
+}
 
 -- while a save is asked of an object, it has answered none
 quiet_saves : (rec : Record) (dones : List Done) → Book rec.frames (map id_of rec.objects) rec.last_object dones → AllPhased rec → (n k : ℕ) (l : Link) → links_of rec.objects n ≡ Some l → l.pending ≡ Some (Save k) → l.saved ≡ None
@@ -140,7 +146,6 @@ quiet_saves rec dones b ph n k l e p =
 -- a server takes a call
 module _ (w : World) (k : Keeps w) (h : Tied w) (inc act m : ℕ) (op : Operation) (i : Instance) (told : Served) (box : Option Kind)
     (call : Among (messages w.sent) (Call inc act m op)) (at : nth w.instances inc ≡ Some i) (runs : i.life ≡ Running) (e : on_call i.core (Call inc act m op) box ≡ Ok told) where
-
   js : List Instance
   js = set_nth w.instances inc (record i { core = told.server })
 
@@ -149,9 +154,9 @@ module _ (w : World) (k : Keeps w) (h : Tied w) (inc act m : ℕ) (op : Operatio
 
   lives_same : (x : ℕ) → lives_of (set_nth w.instances inc (record i { core = told.server })) x ≡ lives_of w.instances x
   lives_same x = elim (eqb_tells x inc) [
-      inl s ↦ ap life_at (ap (nth (set_nth w.instances inc (record i { core = told.server }))) s.1 ∙ nth_same w.instances inc i (record i { core = told.server }) at) ∙ sym (ap life_at (ap (nth w.instances) s.1 ∙ at))
+    | inl s ↦ ap life_at (ap (nth (set_nth w.instances inc (record i { core = told.server }))) s.1 ∙ nth_same w.instances inc i (record i { core = told.server }) at) ∙ sym (ap life_at (ap (nth w.instances) s.1 ∙ at))
     | inr s ↦ ap life_at (nth_other w.instances inc x (record i { core = told.server }) s.1)
-    ]
+  ]
 
   alive : lives_of w.instances inc ≡ Some Running
   alive = ap life_at at ∙ ap Some runs
@@ -179,22 +184,21 @@ module _ (w : World) (k : Keeps w) (h : Tied w) (inc act m : ℕ) (op : Operatio
         servers = h.servers ∙ sym (length_set_nth w.instances inc (record i { core = told.server }));
         phased = h.phased;
         drawn = subst (λ s. Drawn links after (lives_of (set_nth w.instances inc (record i { core = told.server }))) s w.owners w.rec.last_act) (sym ms)
-          (record { many = d.many; named = d.named; hosted = λ n l q. (let z = d.hosted n l q in (z.0, lives_same l.inc ∙ z.1)); called = d.called; known = d.known; started = λ i' x' n p q. (let z = d.started i' x' n p q in (z.0, lives_same i' ∙ z.1)) });
+            (record { many = d.many; named = d.named; hosted = λ n l q. (let z = d.hosted n l q in (z.0, lives_same l.inc ∙ z.1)); called = d.called; known = d.known; started = λ i' x' n p q. (let z = d.started i' x' n p q in (z.0, lives_same i' ∙ z.1)) });
         calls = subst (λ s. Calls links s) (sym ms) (calls_served links before after lives sent w.owners w.rec.last_act inc act m op taken.after told.answer told.counted h.drawn h.calls h.steps h.ended h.replies quiet call alive taken.changed taken.how);
         steps = steps_served links before after lives sent w.owners w.rec.last_act inc act m op taken.after told.answer told.counted h.drawn h.calls h.steps h.ended h.replies quiet call alive taken.changed taken.how;
         ended = subst (λ s. Ends links after (lives_of (set_nth w.instances inc (record i { core = told.server }))) s) (sym ms) (λ i' x' n p q lv. en i' x' n p q (sym (lives_same i') ∙ lv));
         replies = subst (λ s. Replies after s) (sym ms) (replies_served links before after lives sent w.owners w.rec.last_act inc act m op taken.after told.answer told.counted h.drawn h.calls h.steps h.ended h.replies quiet call alive taken.changed taken.how);
         books = subst (λ s. Books after s w.owners w.container_done (w.server_done ++ counted_by w inc told.counted)) (sym ms)
-          (subst (λ y. Books after (sent ++ Reply inc act m told.answer ∷ []) w.owners w.container_done (w.server_done ++ y)) es
+            (subst (λ y. Books after (sent ++ Reply inc act m told.answer ∷ []) w.owners w.container_done (w.server_done ++ y)) es
             (books_served links before after lives sent w.owners w.rec.last_act inc act m op taken.after told.answer told.counted w.container_done w.server_done h.drawn h.calls h.steps h.ended h.replies quiet call alive taken.changed taken.how h.books h.once));
         once = subst (λ y. ServedOnce (w.server_done ++ y)) es
-          (once_served links before after lives sent w.owners w.rec.last_act inc act m op taken.after told.answer told.counted w.container_done w.server_done h.drawn h.calls h.steps h.ended h.replies quiet call alive taken.changed taken.how h.books h.once);
+            (once_served links before after lives sent w.owners w.rec.last_act inc act m op taken.after told.answer told.counted w.container_done w.server_done h.drawn h.calls h.steps h.ended h.replies quiet call alive taken.changed taken.how h.books h.once);
       }
 
 -- the container moves links and sends calls
 module _ (w : World) (h : Tied w) (t : Took) (extra : List ℕ) (mv : Moves w.rec (acts_of w.instances) (lives_of w.instances) (w.owners ++ extra) t)
     (many : length (w.owners ++ extra) ≡ t.rec.last_act) (grows : w.rec.last_act ≤ t.rec.last_act) where
-
   abbrev pub moved_links : Links
   moved_links = links_of t.rec.objects
 
@@ -213,14 +217,14 @@ module _ (w : World) (h : Tied w) (t : Took) (extra : List ℕ) (mv : Moves w.re
         servers = mv.servers ∙ h.servers;
         phased = mv.phased;
         drawn = subst (λ s. Drawn moved_links before lives s (w.owners ++ extra) t.rec.last_act) (sym ms)
-          (drawn_moved links moved_links before lives sent more w.owners extra w.rec.last_act t.rec.last_act h.drawn h.calls h.steps h.ended h.replies mv.came mv.sends many grows mv.stays);
+            (drawn_moved links moved_links before lives sent more w.owners extra w.rec.last_act t.rec.last_act h.drawn h.calls h.steps h.ended h.replies mv.came mv.sends many grows mv.stays);
         calls = subst (λ s. Calls moved_links s) (sym ms)
-          (calls_moved links moved_links before lives sent more w.owners extra w.rec.last_act t.rec.last_act h.drawn h.calls h.steps h.ended h.replies mv.came mv.sends many grows mv.stays);
+            (calls_moved links moved_links before lives sent more w.owners extra w.rec.last_act t.rec.last_act h.drawn h.calls h.steps h.ended h.replies mv.came mv.sends many grows mv.stays);
         steps = steps_moved links moved_links before lives sent more w.owners extra w.rec.last_act t.rec.last_act h.drawn h.calls h.steps h.ended h.replies mv.came mv.sends many grows mv.stays;
         ended = subst (λ s. Ends moved_links before lives s) (sym ms)
-          (ended_moved links moved_links before lives sent more w.owners extra w.rec.last_act t.rec.last_act h.drawn h.calls h.steps h.ended h.replies mv.came mv.sends many grows mv.stays);
+            (ended_moved links moved_links before lives sent more w.owners extra w.rec.last_act t.rec.last_act h.drawn h.calls h.steps h.ended h.replies mv.came mv.sends many grows mv.stays);
         replies = subst (λ s. Replies before s) (sym ms)
-          (replies_moved links moved_links before lives sent more w.owners extra w.rec.last_act t.rec.last_act h.drawn h.calls h.steps h.ended h.replies mv.came mv.sends many grows mv.stays);
+            (replies_moved links moved_links before lives sent more w.owners extra w.rec.last_act t.rec.last_act h.drawn h.calls h.steps h.ended h.replies mv.came mv.sends many grows mv.stays);
         books = subst (λ s. Books before s (w.owners ++ extra) dones w.server_done) (sym ms) bs;
         once = h.once;
       } in
@@ -231,4 +235,4 @@ module _ (w : World) (h : Tied w) (t : Took) (extra : List ℕ) (mv : Moves w.re
       → Ties t.rec (w.instances ++ started_by t.rec.numbers t.answer.actions) (w.sent ++ map of_container (messages_of t.answer.actions)) (w.owners ++ extra) w.container_done w.server_done
   moved_quiet no_save = moved_tied w.container_done
       (books_moved (links_of w.rec.objects) moved_links (acts_of w.instances) (lives_of w.instances) (messages w.sent) (messages_of t.answer.actions) w.owners extra w.rec.last_act t.rec.last_act
-        h.drawn h.calls h.steps h.ended h.replies mv.came mv.sends many grows mv.stays w.container_done w.server_done h.books no_save)
+      h.drawn h.calls h.steps h.ended h.replies mv.came mv.sends many grows mv.stays w.container_done w.server_done h.books no_save)

@@ -55,7 +55,7 @@ quiet_joined w t h m =
     let mv : Moves w.rec (acts_of w.instances) (lives_of w.instances) (w.owners ++ []) t = subst (λ o. Moves w.rec (acts_of w.instances) (lives_of w.instances) o t) (sym e) m.0 in
     let le = m.1 in
     subst (λ o. Ties t.rec (w.instances ++ started_by t.rec.numbers t.answer.actions) (w.sent ++ map of_container (messages_of t.answer.actions)) o w.container_done w.server_done) e
-      (moved_quiet w h t [] mv (ap length e ∙ (h.drawn.many ∙ sym m.1)) (omega arith) m.2)
+    (moved_quiet w h t [] mv (ap length e ∙ (h.drawn.many ∙ sym m.1)) (omega arith) m.2)
 
 tied_took : (w : World) (told : Result Took ContainerFault) → Tied w → ((t : Took) → told ≡ Ok t → Tied (joined w t)) → Tied (took w told)
 tied_took w (Err fault) h g = h
@@ -69,26 +69,28 @@ start_joined w t h e =
     let is : start_made w.rec ≡ t = cc in
     let new = fresh w.rec.numbers (length w.rec.servers + 1) in
     subst (λ (v : Took). Tied (joined w v)) is
-      (subst (λ s. Ties (start_made w.rec).rec (w.instances ++ new ∷ []) s w.owners w.container_done w.server_done) (sym (append-nil w.sent))
-        (ties_instances w.rec (start_made w.rec).rec w.instances (w.instances ++ new ∷ []) w.sent w.owners w.container_done w.server_done refl refl refl
-          (length_more w.rec.servers false ∙ (ap suc h.servers ∙ sym (length_more w.instances new)))
-          (λ inc act. same_act new inc act)
-          (λ inc life q. (let p = found inc life (nth w.instances inc) refl q in (life, ap life_at (nth_old w.instances (new ∷ []) inc p.0 p.1) ∙ ap Some p.2)))
-          (λ inc life q r. (let p = found inc life (nth w.instances inc) refl q in q ∙ (sym (ap life_at (nth_old w.instances (new ∷ []) inc p.0 p.1) ∙ ap Some p.2) ∙ r)))
-          h))
+    (subst (λ s. Ties (start_made w.rec).rec (w.instances ++ new ∷ []) s w.owners w.container_done w.server_done) (sym (append-nil w.sent))
+    (ties_instances w.rec (start_made w.rec).rec w.instances (w.instances ++ new ∷ []) w.sent w.owners w.container_done w.server_done refl refl refl
+    (length_more w.rec.servers false ∙ (ap suc h.servers ∙ sym (length_more w.instances new)))
+    (λ inc act. same_act new inc act)
+    (λ inc life q. (let p = found inc life (nth w.instances inc) refl q in (life, ap life_at (nth_old w.instances (new ∷ []) inc p.0 p.1) ∙ ap Some p.2)))
+    (λ inc life q r. (let p = found inc life (nth w.instances inc) refl q in q ∙ (sym (ap life_at (nth_old w.instances (new ∷ []) inc p.0 p.1) ∙ ap Some p.2) ∙ r)))
+    h))
   where
     found : (inc : ℕ) (life : Life) (i : Option Instance) → nth w.instances inc ≡ i → life_at i ≡ Some life → (j : Instance) × (nth w.instances inc ≡ Some j) × (j.life ≡ life)
     found inc life None f q = cc
     found inc life (Some j) f q = (j, f, (let z : Some j.life ≡ Some life = q in cc))
+
     same_act : (new : Instance) (inc act : ℕ) → acts_of (w.instances ++ fresh w.rec.numbers (length w.rec.servers + 1) ∷ []) inc act ≡ acts_of w.instances inc act
     same_act new inc act = at (nth w.instances inc) refl
       where
         no_acts : (j : Option Instance) → nth (w.instances ++ fresh w.rec.numbers (length w.rec.servers + 1) ∷ []) inc ≡ j → nth w.instances inc ≡ None → act_at act j ≡ None
         no_acts None f n = refl
         no_acts (Some j) f n = elim (nth_one w.instances (fresh w.rec.numbers (length w.rec.servers + 1)) inc j f) [
-            inl o ↦ absurd (let z : None ≡ Some j = sym n ∙ o in cc)
+          | inl o ↦ absurd (let z : None ≡ Some j = sym n ∙ o in cc)
           | inr o ↦ ap (act_at act) (ap Some o.0)
-          ]
+        ]
+
         at : (i : Option Instance) → nth w.instances inc ≡ i → acts_of (w.instances ++ fresh w.rec.numbers (length w.rec.servers + 1) ∷ []) inc act ≡ acts_of w.instances inc act
         at None f = no_acts (nth (w.instances ++ fresh w.rec.numbers (length w.rec.servers + 1) ∷ []) inc) refl f ∙ sym (ap (act_at act) f)
         at (Some i) f = ap (act_at act) (nth_old w.instances (fresh w.rec.numbers (length w.rec.servers + 1) ∷ []) inc i f) ∙ sym (ap (act_at act) f)
@@ -145,7 +147,6 @@ among_place sent (suc i) x e = at sent i e
     at (y ∷ ys) (suc i) e = inr (at ys i e)
 
 module _ (w : World) (k : Keeps w) (h : Tied w) (inc act n : ℕ) (op : Operation) (call : Among (messages w.sent) (Call inc act n op)) where
-
   tied_served : (i : Instance) (stock : List Kind) (box : Option Kind) (told : Result Served ServerFault) → nth w.instances inc ≡ Some i → i.life ≡ Running → on_call i.core (Call inc act n op) box ≡ told → Tied (served w inc act n i stock told)
   tied_served i stock box (Err fault) at runs e = h
   tied_served i stock box (Ok v) at runs e = served_tied w k h inc act n op i v box call at runs e _
@@ -188,19 +189,19 @@ stopped w inc i life at ne h =
     let j : Instance = record i { life = life } in
     let js = set_nth w.instances inc j in
     ties_instances w.rec w.rec w.instances js w.sent w.owners w.container_done w.server_done refl refl refl (h.servers ∙ sym (length_set_nth w.instances inc j))
-      (λ x act. elim (eqb_tells x inc) [
-          inl s ↦ ap (act_at act) (ap (nth js) s.1 ∙ nth_same w.instances inc i j at) ∙ sym (ap (act_at act) (ap (nth w.instances) s.1 ∙ at))
-        | inr s ↦ ap (act_at act) (nth_other w.instances inc x j s.1)
-        ])
-      (λ x l q. elim (eqb_tells x inc) [
-          inl s ↦ (life, ap life_at (ap (nth js) s.1 ∙ nth_same w.instances inc i j at))
-        | inr s ↦ (l, ap life_at (nth_other w.instances inc x j s.1) ∙ q)
-        ])
-      (λ x l q r. elim (eqb_tells x inc) [
-          inl s ↦ absurd (ne (let z : Some life ≡ Some Running = sym (ap life_at (ap (nth js) s.1 ∙ nth_same w.instances inc i j at)) ∙ r in cc))
-        | inr s ↦ sym (ap life_at (nth_other w.instances inc x j s.1)) ∙ r
-        ])
-      h
+    (λ x act. elim (eqb_tells x inc) [
+      | inl s ↦ ap (act_at act) (ap (nth js) s.1 ∙ nth_same w.instances inc i j at) ∙ sym (ap (act_at act) (ap (nth w.instances) s.1 ∙ at))
+      | inr s ↦ ap (act_at act) (nth_other w.instances inc x j s.1)
+    ])
+    (λ x l q. elim (eqb_tells x inc) [
+      | inl s ↦ (life, ap life_at (ap (nth js) s.1 ∙ nth_same w.instances inc i j at))
+      | inr s ↦ (l, ap life_at (nth_other w.instances inc x j s.1) ∙ q)
+    ])
+    (λ x l q r. elim (eqb_tells x inc) [
+      | inl s ↦ absurd (ne (let z : Some life ≡ Some Running = sym (ap life_at (ap (nth js) s.1 ∙ nth_same w.instances inc i j at)) ∙ r in cc))
+      | inr s ↦ sym (ap life_at (nth_other w.instances inc x j s.1)) ∙ r
+    ])
+    h
 
 tied_crashed : (w : World) (inc : ℕ) (i : Instance) (life : Life) (v : World) → Tied w → nth w.instances inc ≡ Some i → crashed w inc i life ≡ Ok v → Tied v
 tied_crashed w inc i Running v h at e = subst Tied (ok_is _ v e) (stopped w inc i Ended at (λ z. cc) h)
@@ -218,7 +219,7 @@ tied_ended w inc i Ended v h at e =
     let u : World = record w { instances = set_nth w.instances inc j } in
     let hu : Tied u = stopped w inc i Reaped at (λ z. cc) h in
     subst Tied (ok_is _ v e) (tied_took u (on_reap w.rec inc) hu (λ t q. quiet_joined u t hu
-      (reap_moves u.rec (acts_of u.instances) (lives_of u.instances) u.owners inc t q hu.phased (λ z. (let y : Some Reaped ≡ Some Running = sym (ap life_at (nth_same w.instances inc i j at)) ∙ z in cc)))))
+    (reap_moves u.rec (acts_of u.instances) (lives_of u.instances) u.owners inc t q hu.phased (λ z. (let y : Some Reaped ≡ Some Running = sym (ap life_at (nth_same w.instances inc i j at)) ∙ z in cc)))))
 tied_ended w inc i Reaped v h at e = cc
 
 tied_reap : (w : World) (inc : ℕ) (i : Option Instance) (v : World) → Tied w → nth w.instances inc ≡ i → reap w inc i ≡ Ok v → Tied v
@@ -250,16 +251,16 @@ tied_done_taken w f bytes frame parts (Ok t) v k h at im cd e =
     let ms : messages_of made.answer.actions ≡ asked_all f (completion frame) r.objects = messages_sends (asked_all f (completion frame) r.objects) in
     let tell = tells r acts0 lives (w.owners ++ []) f frame k.book.distinct h.phased at committing w.owners h.steps h.drawn.named in
     let bs : Books acts0 (messages w.sent ++ messages_of made.answer.actions) (w.owners ++ []) (w.container_done ++ new) w.server_done =
-        books_counted (links_of r.objects) (links_of made.rec.objects) acts0 lives (messages w.sent) (messages_of made.answer.actions) w.owners [] r.last_act made.rec.last_act
-          h.drawn h.calls h.steps h.ended h.replies mv.came mv.sends (ap length e0 ∙ h.drawn.many) (omega arith) mv.stays frame.k w.container_done new w.server_done h.books
-          (λ inc act m j storage g. tell inc act m j storage (subst (λ x. Among x (Call inc act m (SaveCompleted j storage))) ms g))
-          (λ x y p q eo ek. (let z = parts_of_frame f frame.k r.objects y q in
-            let b = k.book.below (id_of z.0) x frame (among_map id_of r.objects z.0 z.1) p (eo ∙ z.3) (ap (nth r.frames) z.2 ∙ at) in
-            let lt : x.k < frame.k = b.under (λ n. (let y2 : Committing ≡ Idle = sym committing ∙ n in cc)) in
-            absurd (omega arith)))
-          refl in
+    books_counted (links_of r.objects) (links_of made.rec.objects) acts0 lives (messages w.sent) (messages_of made.answer.actions) w.owners [] r.last_act made.rec.last_act
+    h.drawn h.calls h.steps h.ended h.replies mv.came mv.sends (ap length e0 ∙ h.drawn.many) (omega arith) mv.stays frame.k w.container_done new w.server_done h.books
+    (λ inc act m j storage g. tell inc act m j storage (subst (λ x. Among x (Call inc act m (SaveCompleted j storage))) ms g))
+    (λ x y p q eo ek. (let z = parts_of_frame f frame.k r.objects y q in
+    let b = k.book.below (id_of z.0) x frame (among_map id_of r.objects z.0 z.1) p (eo ∙ z.3) (ap (nth r.frames) z.2 ∙ at) in
+    let lt : x.k < frame.k = b.under (λ n. (let y2 : Committing ≡ Idle = sym committing ∙ n in cc)) in
+    absurd (omega arith)))
+    refl in
     let base : Ties made.rec (w.instances ++ started_by made.rec.numbers made.answer.actions) (w.sent ++ map of_container (messages_of made.answer.actions)) (w.owners ++ []) (w.container_done ++ new) w.server_done =
-        moved_tied w h made [] mv (ap length e0 ∙ h.drawn.many) (omega arith) (w.container_done ++ new) bs in
+    moved_tied w h made [] mv (ap length e0 ∙ h.drawn.many) (omega arith) (w.container_done ++ new) bs in
     let one : Tied (joined (kept_commit w f frame (parts_in f r.objects) bytes) made) = subst (λ o. Ties made.rec (w.instances ++ started_by made.rec.numbers made.answer.actions) (w.sent ++ map of_container (messages_of made.answer.actions)) o (w.container_done ++ new) w.server_done) e0 base in
     let two : Tied (joined (kept_commit w f frame parts bytes) made) = subst (λ x. Tied (joined (kept_commit w f frame x bytes) made)) ps one in
     let three : Tied (joined (kept_commit w f frame parts bytes) t) = subst (λ x. Tied (joined (kept_commit w f frame parts bytes) x)) c.1 two in

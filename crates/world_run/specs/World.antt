@@ -107,12 +107,12 @@ uncounted (Some f) = None ∷ []
 -- What a step of the container makes of the world; the answer is kept, a refusal too.
 abbrev pub joined : World → Took → World
 joined w t = record w {
-    rec = t.rec;
-    instances = w.instances ++ started_by t.rec.numbers t.answer.actions;
-    sent = w.sent ++ map of_container (messages_of t.answer.actions);
-    answers = w.answers ++ told.Took (outcome_of w.sent t.answer) ∷ [];
-    counted = w.counted ++ uncounted t.answer.frame;
-  }
+  rec = t.rec;
+  instances = w.instances ++ started_by t.rec.numbers t.answer.actions;
+  sent = w.sent ++ map of_container (messages_of t.answer.actions);
+  answers = w.answers ++ told.Took (outcome_of w.sent t.answer) ∷ [];
+  counted = w.counted ++ uncounted t.answer.frame;
+}
 
 abbrev pub took : World → Result Took ContainerFault → World
 took w (Err fault) = record w { answers = w.answers ++ told.Refused fault ∷ [] }
@@ -158,12 +158,12 @@ quiet_outcome = record { frame = None; objects = []; server = None; taken = fals
 abbrev pub served : World → ℕ → ℕ → ℕ → Instance → List Kind → Result Served ServerFault → World
 served w inc act n i stock (Err fault) = record w { answers = w.answers ++ told.Unheard fault ∷ [] }
 served w inc act n i stock (Ok v) = record w {
-    instances = set_nth w.instances inc (record i { core = v.server });
-    stock = stock;
-    sent = w.sent ++ record { message = Reply inc act n v.answer; view = view_in i.core act } ∷ [];
-    answers = w.answers ++ told.Took (record quiet_outcome { sent = places w.sent 1 }) ∷ [];
-    server_done = w.server_done ++ counted_by w inc v.counted;
-  }
+  instances = set_nth w.instances inc (record i { core = v.server });
+  stock = stock;
+  sent = w.sent ++ record { message = Reply inc act n v.answer; view = view_in i.core act } ∷ [];
+  answers = w.answers ++ told.Took (record quiet_outcome { sent = places w.sent 1 }) ∷ [];
+  server_done = w.server_done ++ counted_by w inc v.counted;
+}
 
 -- the first object of a class in stock, and the stock without it
 abbrev pub is_of : List ℕ → Kind → Bool
@@ -236,10 +236,10 @@ done_entry k p = record { object = p.object; k = k; content = p.content }
 
 abbrev pub kept_commit : World → ℕ → Frame → List Part → List ℕ → World
 kept_commit w f frame parts bytes = record w {
-    files = put_file (name_after frame.name frame.asked) bytes w.files;
-    container_done = w.container_done ++ map (done_entry frame.k) parts;
-    counted = set_nth w.counted f (Some (record { k = frame.k; parts = parts }));
-  }
+  files = put_file (name_after frame.name frame.asked) bytes w.files;
+  container_done = w.container_done ++ map (done_entry frame.k) parts;
+  counted = set_nth w.counted f (Some (record { k = frame.k; parts = parts }));
+}
 
 abbrev pub done_taken : World → ℕ → List ℕ → Frame → List Part → Result Took ContainerFault → Result World Stop
 done_taken w f bytes frame parts (Err fault) = Err NotEnabled

@@ -179,5 +179,4 @@ impl World {
             Err(_) => Err(Stop::NoMemory),
         }
     }
-
 }
