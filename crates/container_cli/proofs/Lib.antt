@@ -1,5 +1,7 @@
 pub mod Behind
+pub mod Ending
 pub mod Hex
+pub mod Counted
 pub mod Described
 pub mod Lines
 pub mod Inputs

@@ -8,6 +8,8 @@ use Rattle.container_cli.specs.declared.fault.MakeFault.{MakeFault}
 use Rattle.container_cli.specs.declared.fault.MakeFault.TheVariants as make
 use Rattle.container_cli.specs.declared.fault.ListFault.{ListFault}
 use Rattle.container_cli.specs.declared.fault.ListFault.TheVariants as list
+use Rattle.container_cli.specs.declared.fault.SimulateFault.{SimulateFault}
+use Rattle.container_cli.specs.declared.fault.SimulateFault.TheVariants as simulate
 
 -- a file of this name, or the line of this number
 pub data Place : Type 0 where
@@ -42,3 +44,10 @@ list_place (list.Input fault) name = file name
 list_place (list.Read fault) name = file name
 list_place list.Unwritable name = file standard
 list_place list.NoMemory name = file name
+
+-- the events of the file of this name are read, and what they lead to is written on standard output
+abbrev pub simulate_place : SimulateFault → List ℕ → Place
+simulate_place (simulate.Input fault) name = file name
+simulate_place (simulate.Line number fault) name = line number
+simulate_place simulate.NoMemory name = file name
+simulate_place simulate.Unwritable name = file standard

@@ -116,3 +116,20 @@ pub enum ListFault {
     #[error("no memory is left")]
     NoMemory,
 }
+
+/// Why no events are run.
+#[derive(Debug, Clone, Copy, PartialEq, Eq, Error)]
+pub enum SimulateFault {
+    /// The events aren't read.
+    #[error("{0}")]
+    Input(InputFault),
+    /// A line of the events is refused.
+    #[error("line {0}: {1}")]
+    Line(usize, LineFault),
+    /// No memory was left for what is printed.
+    #[error("no memory is left")]
+    NoMemory,
+    /// A write fails.
+    #[error("writing fails")]
+    Unwritable,
+}

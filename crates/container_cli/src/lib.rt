@@ -1,12 +1,12 @@
 //! The texts that the program reads and writes, and its commands over readers and writers.
 #![tactic(auto)]
 
-pub mod answers;
+mod answers;
 mod building;
 mod command;
 pub mod commands;
 mod description;
-pub mod events;
+mod events;
 pub mod fault;
 mod input;
 pub mod laws;
@@ -14,6 +14,7 @@ mod listing;
 mod output;
 mod path;
 pub mod report;
+pub mod simulation;
 #[cfg(test)]
 mod tests;
 mod words;

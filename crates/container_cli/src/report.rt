@@ -1,6 +1,6 @@
 //! What is printed of a fault.
 
-use crate::fault::{InputFault, ListFault, MakeFault};
+use crate::fault::{InputFault, ListFault, MakeFault, SimulateFault};
 use std::fmt;
 
 /// The name that is printed for a standard stream.
@@ -62,6 +62,23 @@ impl ListFault {
             ListFault::Read(fault) => Report::File(file, fault.name()),
             ListFault::Unwritable => Report::File(STANDARD, "Unwritable"),
             ListFault::NoMemory => Report::File(file, "NoMemory"),
+        }
+    }
+}
+
+impl SimulateFault {
+    ghost use Rattle.std.specs.Prelude.{◌≡◌};
+    ghost use Rattle.container_cli.specs.Reports.{place_of, simulate_place};
+
+    /// How the fault is printed where the events of a file of this name are run.
+    pub fn report<'a>(&self, file: &'a str) -> Report<'a>
+        ensures { place_of result ≡ simulate_place self.now file.entry.now }
+    {
+        match self {
+            SimulateFault::Input(fault) => Report::File(file, fault.name()),
+            SimulateFault::Line(number, fault) => Report::Line(*number, fault.name()),
+            SimulateFault::NoMemory => Report::File(file, "NoMemory"),
+            SimulateFault::Unwritable => Report::File(STANDARD, "Unwritable"),
         }
     }
 }

@@ -1,3 +1,5 @@
+mod simulations;
+
 use crate::commands::{list_file, make_file};
 use crate::fault::{ListFault, MakeFault};
 use std::alloc::{AllocError, Global};

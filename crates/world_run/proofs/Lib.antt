@@ -24,3 +24,6 @@ pub mod Alike
 pub mod Joins
 pub mod Filed
 pub mod Servers
+pub mod Lifts
+pub mod Stocks
+pub mod Planning

@@ -24,3 +24,13 @@ nth_at f xs n i x p e = nth_suc (map f xs) n i p.number ∙ seen_at f xs i x p.f
 -- a server that changed, as it is seen
 pub set_at : {A B : Type 0} (f : A → B) (xs : List A) (n i : ℕ) (y : A) → n ≡ i + 1 → map f (set xs i y) ≡ set_nth (map f xs) n (f y)
 set_at f xs n i y e = map-set f xs i y ∙ sym (set_suc (map f xs) n i (f y) e)
+
+
+pub is_nth : {A : Type 0} (xs : List A) (n i : ℕ) → n ≡ i + 1 → i < length xs → IsNth n xs i
+is_nth xs n i e lt = record { fits = lt; number = e; found = nth_suc xs n i e; puts = λ a. set_suc xs n i a e }
+
+pub seen_nth : {A B : Type 0} (f : A → B) (xs : List A) (n i : ℕ) → IsNth n xs i → IsNth n (map f xs) i
+seen_nth f xs n i p = is_nth (map f xs) n i p.number (rw (length-map xs f) p.fits)
+
+pub held_nth : {A B : Type 0} (f : A → B) (xs : List A) (n i : ℕ) → IsNth n (map f xs) i → IsNth n xs i
+held_nth f xs n i p = is_nth xs n i p.number (rw (length-map xs f) at p.fits)

@@ -10,3 +10,4 @@ pub mod Safe
 pub mod Keeping
 pub mod Tying
 pub mod Holding
+pub mod Plans

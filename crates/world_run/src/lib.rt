@@ -6,6 +6,7 @@ pub mod event;
 pub mod instance;
 pub mod ledger;
 pub mod logs;
+mod plan;
 pub mod report;
 pub mod safe_laws;
 pub mod stock;

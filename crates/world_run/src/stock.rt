@@ -1,12 +1,17 @@
 //! Objects in stock.
 
 ghost use Rattle.std.specs.Prelude.{◌≡◌, ◌++◌, ◌∷◌, [], ◌<◌, IfErr, MatchOption, None, OnErr, OnOk, length, map, vec_len, vec_capacity, option_map, Some, Option, ℕ, slice_get};
+ghost use Rattle.std.specs.List.{insert};
 ghost use Rattle.embed_core.specs.Kinds.{kind_of};
+ghost use Rattle.wire_msgs.specs.Found.{find};
+ghost use Rattle.world_run.specs.Plans.{IsFirst};
 ghost use Rattle.world_run.specs.View.{seen_stocked};
+ghost use Rattle.world_run.specs.World.{is_of};
 
 use crate::instance::Stocked;
 use embed_core::embedded::Embedded;
 use std::alloc::Global;
+use storage_tree::class_id::ClassId;
 
 /// Fresh objects, of which a call that makes an activation takes one.
 #[derive(Drop)]
@@ -39,5 +44,17 @@ impl Stock {
                 Err(boxed)
             }
         }
+    }
+
+    /// Where the first object of a class stands.
+    pub(crate) fn place(&self, class: ClassId) -> Option<usize>
+        ensures { MatchOption result (find (is_of class) (map (seen_stocked (λ s. content s.boxed)) self.now.boxes.items) ≡ None) (IsFirst class (map (seen_stocked (λ s. content s.boxed)) self.now.boxes.items)) }
+    {
+        for (i, stocked) in self.boxes.iter().enumerate() {
+            if stocked.class() == class {
+                return Some(i);
+            }
+        }
+        None
     }
 }

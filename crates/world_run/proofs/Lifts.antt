@@ -1,0 +1,40 @@
+-- What a world without servers and stock refuses, the same world with them refuses.
+use Rattle.std.proofs.Common.{◌≡◌, ℕ, Bool, true, false, List, [], ◌∷◌, ◌++◌, Option, Some, None, Result, Ok, Err, length, refl, if◌then◌else◌, rules}
+use Rattle.std.specs.Prelude.{nat_le, IsOk}
+use Rattle.wire_msgs.specs.Found.{nth}
+use Rattle.container_core.specs.Record.{Took}
+use Rattle.container_core.specs.Saves.{image, commit_done}
+use Rattle.container_core.specs.declared.answer.Part.{Part}
+use Rattle.container_core.specs.declared.record.Frame.{Frame}
+use Rattle.container_core.specs.declared.fault.ContainerFault.{ContainerFault}
+use Rattle.world_run.specs.declared.event.Stop.{Stop}
+use Rattle.world_run.specs.declared.event.Stop.TheVariants.{NotEnabled, OutOfStock, EventLimit, NoMemory}
+use Rattle.world_run.specs.World.{World, Refuses, limited, done, done_in, done_imaged, done_taken, MOST_EVENTS}
+
+abbrev pub emptied : World → World
+emptied w = record w { instances = []; stock = [] }
+
+limit_same : (b : Bool) (u v : World) (stop : Stop) → Refuses (if b then Err EventLimit else Ok u) stop → Refuses (if b then Err EventLimit else Ok v) stop
+limit_same true u v stop h = h
+limit_same false u v NotEnabled h = cc
+limit_same false u v OutOfStock h = cc
+limit_same false u v EventLimit h = cc
+limit_same false u v NoMemory h = search rules
+
+taken_same : (w : World) (f : ℕ) (bytes : List ℕ) (frame : Frame) (parts : List Part) (told : Result Took ContainerFault) (stop : Stop)
+    → Refuses (limited (emptied w) (done_taken (emptied w) f bytes frame parts told)) stop → Refuses (limited w (done_taken w f bytes frame parts told)) stop
+taken_same w f bytes frame parts (Err fault) stop h = h
+taken_same w f bytes frame parts (Ok t) stop h = limit_same (nat_le MOST_EVENTS (length w.answers)) _ _ stop h
+
+imaged_same : (w : World) (f : ℕ) (bytes : List ℕ) (frame : Frame) (parts : Result (List Part) ContainerFault) (stop : Stop)
+    → Refuses (limited (emptied w) (done_imaged (emptied w) f bytes frame parts)) stop → Refuses (limited w (done_imaged w f bytes frame parts)) stop
+imaged_same w f bytes frame (Err fault) stop h = h
+imaged_same w f bytes frame (Ok parts) stop h = taken_same w f bytes frame parts (commit_done w.rec f) stop h
+
+in_same : (w : World) (f : ℕ) (bytes : List ℕ) (frame : Option Frame) (stop : Stop)
+    → Refuses (limited (emptied w) (done_in (emptied w) f bytes frame)) stop → Refuses (limited w (done_in w f bytes frame)) stop
+in_same w f bytes None stop h = h
+in_same w f bytes (Some frame) stop h = imaged_same w f bytes frame (image w.rec f) stop h
+
+pub done_refused : (w : World) (f : ℕ) (stop : Stop) → ((bytes : List ℕ) → Refuses (limited (emptied w) (done (emptied w) f bytes)) stop) → (bytes : List ℕ) → Refuses (limited w (done w f bytes)) stop
+done_refused w f stop h bytes = in_same w f bytes (nth w.rec.frames f) stop (h bytes)

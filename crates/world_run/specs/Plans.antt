@@ -1,0 +1,74 @@
+-- What the delivery of a message comes to, before anything changes.
+use Rattle.std.specs.Prelude.{◌≡◌, ◌<◌, ◌++◌, ◌∷◌, [], ℕ, List, length, Option, Some, None, Result, Ok, Err, slice_get}
+use Rattle.std.specs.List.{insert, remove}
+use Rattle.wire_msgs.specs.declared.message.Message.{Message}
+use Rattle.wire_msgs.specs.declared.message.Message.TheVariants.{Call, Reply, Write, Ask}
+use Rattle.wire_msgs.specs.declared.operation.Operation.{Operation}
+use Rattle.embed_core.specs.Kinds.{Kind}
+use Rattle.server_core.specs.Server.{on_call}
+use Rattle.container_core.specs.Messages.{on_message}
+use Rattle.wire_msgs.specs.Found.{find}
+use Rattle.container_core.specs.Numbered.{IsNth}
+use Rattle.world_run.specs.declared.plan.Plan.{Plan}
+use Rattle.world_run.specs.declared.plan.Plan.TheVariants.{Quiet, Tell, Serve, Begin}
+use Rattle.world_run.specs.declared.logs.EventAnswer.TheVariants as told
+use Rattle.world_run.specs.declared.event.Stop.{Stop}
+use Rattle.world_run.specs.declared.event.Stop.TheVariants.{NotEnabled}
+use Rattle.world_run.specs.World.{World, Instance, served, took, quiet_outcome, is_of, without_first}
+
+abbrev pub quiet : World → World
+quiet w = record w { answers = w.answers ++ told.Took quiet_outcome ∷ [] }
+
+-- a call at a server, with an object of this kind or none, where this stock is left
+abbrev pub serving : World → ℕ → ℕ → ℕ → Operation → List Kind → Option Kind → Option Instance → Result World Stop
+serving w inc act n op stock kind None = Err NotEnabled
+serving w inc act n op stock kind (Some i) = Ok (served w inc act n i stock (on_call i.core (Call inc act n op) kind))
+
+abbrev pub carried_call : World → ℕ → ℕ → ℕ → Operation → Plan → Result World Stop
+carried_call w inc act n op Quiet = Ok (quiet w)
+carried_call w inc act n op (Tell link) = Err NotEnabled
+carried_call w inc act n op (Serve i) = serving w inc act n op w.stock None (slice_get w.instances i)
+carried_call w inc act n op (Begin i at) = serving w inc act n op (remove w.stock at) (slice_get w.stock at) (slice_get w.instances i)
+
+abbrev pub carried : World → Message → Plan → Result World Stop
+carried w (Call inc act n op) plan = carried_call w inc act n op plan
+carried w (Reply inc act n answer) plan = Ok (took w (on_message w.rec inc (Reply inc act n answer)))
+carried w (Write inc act s number content) plan = Ok (took w (on_message w.rec inc (Write inc act s number content)))
+carried w (Ask inc act g) plan = Ok (took w (on_message w.rec inc (Ask inc act g)))
+
+-- the places that a plan names are those of the server that is called, and of an object in stock
+abbrev pub FitsCall : World → ℕ → Plan → Type 0
+FitsCall w inc Quiet = Unit {0}
+FitsCall w inc (Tell link) = ⊥
+FitsCall w inc (Serve i) = IsNth inc w.instances i
+FitsCall w inc (Begin i at) = IsNth inc w.instances i × (at < length w.stock)
+
+abbrev pub FitsTold : ℕ → Plan → Type 0
+FitsTold inc Quiet = ⊥
+FitsTold inc (Tell link) = link ≡ inc
+FitsTold inc (Serve i) = ⊥
+FitsTold inc (Begin i at) = ⊥
+
+abbrev pub Fits : World → Message → Plan → Type 0
+Fits w (Call inc act n op) plan = FitsCall w inc plan
+Fits w (Reply inc act n answer) plan = FitsTold inc plan
+Fits w (Write inc act s number content) plan = FitsTold inc plan
+Fits w (Ask inc act g) plan = FitsTold inc plan
+
+-- the first object of a class stands at i
+pub record IsFirst (class : List ℕ) (stock : List Kind) (i : ℕ) : Type 0 where
+  pub fits : i < length stock
+  pub found : find (is_of class) stock ≡ slice_get stock i
+  pub out : without_first (is_of class) stock ≡ remove stock i
+
+-- a stock with an object at a place, or none more
+abbrev pub stock_with : List Kind → ℕ → Option Kind → List Kind
+stock_with stock at None = stock
+stock_with stock at (Some kind) = insert stock at kind
+
+-- a call of this server
+abbrev pub IsCallOf : ℕ → Message → Type 0
+IsCallOf link (Call inc act n op) = link ≡ inc
+IsCallOf link (Reply inc act n answer) = ⊥
+IsCallOf link (Write inc act s number content) = ⊥
+IsCallOf link (Ask inc act g) = ⊥
