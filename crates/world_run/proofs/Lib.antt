@@ -27,3 +27,5 @@ pub mod Servers
 pub mod Lifts
 pub mod Stocks
 pub mod Planning
+pub mod Serving
+pub mod Runs

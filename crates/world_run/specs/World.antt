@@ -307,3 +307,11 @@ frame_file_in w (Some frame) = if frame.stored then file_bytes (find (is_file fr
 
 abbrev pub frame_file : World → ℕ → Option (List ℕ)
 frame_file w f = frame_file_in w (nth w.rec.frames f)
+
+-- The document of a frame's last counted commit.
+abbrev pub document_in : Option (Option Document) → Option Document
+document_in None = None
+document_in (Some document) = document
+
+abbrev pub counted_document : World → ℕ → Option Document
+counted_document w f = document_in (nth w.counted f)

@@ -164,4 +164,21 @@ impl Ledger {
             Err(_) => Err(Stop::NotEnabled),
         }
     }
+
+    /// The file of a frame whose commit was counted.
+    pub(crate) fn frame_file(&self, f: u32) -> Option<&[u8]>
+        ensures { option_copied result ≡ frame_file (bare self.now) f }
+    {
+        let frame = match self.core.frame(f) {
+            Some(frame) => frame,
+            None => return None,
+        };
+        if !frame.stored {
+            return None;
+        }
+        match file_place(&self.files, frame.name.as_slice()) {
+            Some(i) => Some(self.files[i].bytes.as_slice()),
+            None => None,
+        }
+    }
 }

@@ -7,6 +7,7 @@ pub mod instance;
 pub mod ledger;
 pub mod logs;
 mod plan;
+mod readers;
 pub mod report;
 pub mod safe_laws;
 pub mod stock;

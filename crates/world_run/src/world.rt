@@ -38,7 +38,7 @@ pub struct World {
 }
 
 // Where the item of this number stands.
-fn place<T>(items: &[T], number: u32) -> Option<usize>
+pub(crate) fn place<T>(items: &[T], number: u32) -> Option<usize>
     ensures { MatchOption result (nth items.now number ≡ None) (IsNth number items.now) }
 {
     if number == 0 {
