@@ -1,5 +1,5 @@
 -- What is found after lists were changed.
-use Rattle.std.proofs.Common.{◌≡◌, Bool, true, false, if◌then◌else◌, List, [], ◌∷◌, ◌++◌, refl, ap, sym, subst, ◌∙◌, Option, Some, None}
+use Rattle.std.proofs.Common.{◌≡◌, Bool, true, false, if◌then◌else◌, List, [], ◌∷◌, ◌++◌, refl, ap, sym, Option, Some, None}
 use Rattle.wire_msgs.specs.Found.{find, put}
 
 module _ {A : Type 0} (test : A → Bool) where

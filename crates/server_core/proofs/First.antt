@@ -1,12 +1,11 @@
 -- Calls of an activation that a server doesn't know.
-use Rattle.std.proofs.Common.{◌≡◌, ℕ, Bool, true, false, cond, List, length, refl, ap, sym, subst, ◌∙◌, Option, Some, None, Result, Ok, Err, nat_le, is_some}
+use Rattle.std.proofs.Common.{◌≡◌, ℕ, Bool, true, false, cond, List, length, refl, ap, sym, ◌∙◌, Option, Some, None, Result, Ok, Err, nat_le, is_some}
 use Rattle.wire_msgs.specs.declared.operation.Operation.{Operation}
 use Rattle.wire_msgs.specs.declared.answer.Answer.{Answer}
 use Rattle.wire_msgs.specs.declared.message.Message.TheVariants.{Reply}
 use Rattle.embed_core.specs.Kinds.{Kind}
 use Rattle.server_core.specs.declared.fault.ServerFault.{ServerFault}
 use Rattle.server_core.specs.declared.fault.ServerFault.TheVariants.{NumbersSpent}
-use Rattle.server_core.specs.declared.counted.Counted.{Counted}
 use Rattle.server_core.specs.Server.{Activation, Server, Served, Refuses, begun_class, offered, unknown_call, wanted_unknown}
 use Rattle.server_core.specs.Opened.{TakesCall, first_class}
 use Rattle.server_core.proofs.Known.{server}

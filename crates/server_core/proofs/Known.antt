@@ -2,7 +2,7 @@
 use Rattle.std.proofs.Common.{◌≡◌, ℕ, List, map, get_or, refl, ap, sym, ◌∙◌, Option, Some, None, Result, Ok, Err, IsOk, Bool, false, [], ◌∷◌, is_some, arith}
 use Rattle.std.proofs.Math.ListN.{set}
 use Rattle.std.proofs.lemmas.Option.{slice_get-get_or}
-use Rattle.wire_msgs.specs.Found.{find, put, IsPlace}
+use Rattle.wire_msgs.specs.Found.{find, IsPlace}
 use Rattle.wire_msgs.specs.declared.operation.Operation.{Operation}
 use Rattle.wire_msgs.specs.declared.answer.Answer.{Answer}
 use Rattle.wire_msgs.specs.declared.message.Message.TheVariants.{Reply}

@@ -1,8 +1,8 @@
 -- Items found by a test, and lists that are seen through a function.
-use Rattle.std.proofs.Common.{◌≡◌, ℕ, ◌+◌, ◌<◌, ◌≤◌, Bool, List, map, zero, suc, [], ◌∷◌, ◌++◌, length, get_or, take, drop, refl, ap, sym, subst, ◌∙◌, append_assoc, Option, Some, None, true, false, arith, slice_get}
+use Rattle.std.proofs.Common.{◌≡◌, ℕ, ◌+◌, ◌<◌, Bool, List, map, zero, suc, [], ◌∷◌, ◌++◌, length, get_or, take, drop, refl, ap, sym, subst, ◌∙◌, append_assoc, Some, true, false}
 use Rattle.std.proofs.lemmas.List.{drop_more, take_more, set_split}
 use Rattle.std.proofs.lemmas.Option.{slice_get-get_or}
-use Rattle.std.proofs.Math.ListN.{drop_of_length-le, set}
+use Rattle.std.proofs.Math.ListN.{set}
 use Rattle.std.proofs.Math.Numerals.{add-one}
 use Rattle.wire_msgs.specs.Found.{find, put, IsPlace}
 

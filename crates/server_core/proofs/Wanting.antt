@@ -1,15 +1,13 @@
 -- When a message uses an object.
 use Rattle.std.proofs.Common.{◌≡◌, ℕ, Bool, true, false, cond, List, [], ◌∷◌, ◌++◌, length, refl, sym, ◌∙◌, Option, Some, None, Result, Ok, Err, nat_le, nat_eq}
-use Rattle.std.specs.Str.{bytes_eq}
 use Rattle.std.proofs.lemmas.Slice.Eq.{bytes_eq-Decides}
 use Rattle.embed_core.specs.Kinds.{Kind, class_of}
 use Rattle.wire_msgs.specs.Found.{find}
 use Rattle.wire_msgs.specs.declared.operation.Operation.{Operation}
-use Rattle.wire_msgs.specs.declared.message.Message.{Message}
 use Rattle.wire_msgs.specs.declared.message.Message.TheVariants.{Call, Reply, Write, Ask}
 use Rattle.server_core.specs.declared.fault.ServerFault.{ServerFault}
 use Rattle.server_core.specs.declared.fault.ServerFault.TheVariants.{WrongIncarnation, Ignored, NumbersSpent, WrongClass}
-use Rattle.server_core.specs.Server.{Activation, Server, Acted, Served, after_known, after_begun, begins, begun_class, begun_content, called, is_act, is_class, known_call, offered, on_call, unknown_call, wanted, wanted_unknown}
+use Rattle.server_core.specs.Server.{Activation, Server, Acted, Served, after_known, after_begun, begins, begun_class, begun_content, called, is_act, is_class, known_call, offered, unknown_call, wanted_unknown}
 use Rattle.server_core.specs.Laws.{UnwantedUnused, WantedUsed}
 
 abbrev Unused : Result Served ServerFault → Type 0

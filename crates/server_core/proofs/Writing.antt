@@ -1,5 +1,5 @@
 -- Writes of a server's own accord.
-use Rattle.std.proofs.Common.{◌≡◌, ◌+◌, ℕ, Bool, true, false, cond, if◌then◌else◌, List, [], ◌∷◌, map, get_or, refl, ap, sym, subst, ◌∙◌, Option, Some, None, Result, Ok, Err, IsOk, nat_le}
+use Rattle.std.proofs.Common.{◌≡◌, ◌+◌, ℕ, Bool, true, false, cond, if◌then◌else◌, List, [], ◌∷◌, map, get_or, refl, ap, subst, ◌∙◌, Option, Some, None, Result, Ok, Err, IsOk, nat_le}
 use Rattle.std.proofs.Math.ListN.{set}
 use Rattle.std.proofs.lemmas.Bool.{eqb-true}
 use Rattle.object_state.specs.Persists.{may_write}

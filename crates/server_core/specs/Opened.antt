@@ -1,5 +1,5 @@
 -- What an activation does with an operation, where it is open.
-use Rattle.std.specs.Prelude.{◌≡◌, ◌+◌, ℕ, Option, Some, None, option_map, is_some, Result, Ok, Err, List, length, cond, nat_le}
+use Rattle.std.specs.Prelude.{◌≡◌, ◌+◌, ℕ, Option, Some, None, is_some, Result, Ok, Err, List, length, cond, nat_le}
 use Rattle.object_state.specs.Persists.{may_write}
 use Rattle.object_state.specs.declared.both_states.States.{States}
 use Rattle.storage_tree.specs.declared.stored.Stored.{Stored}

@@ -1,5 +1,5 @@
 -- What a server does with a call.
-use Rattle.std.specs.Prelude.{◌≡◌, ◌+◌, ◌&&◌, ◌||◌, ℕ, Bool, true, false, List, [], ◌∷◌, ◌++◌, length, map, Option, Some, None, option_map, is_some, Result, Ok, Err, IsOk, cond, nat_eq, nat_le, codes}
+use Rattle.std.specs.Prelude.{◌≡◌, ◌+◌, ℕ, Bool, true, false, List, [], ◌∷◌, ◌++◌, length, Option, Some, None, option_map, is_some, Result, Ok, Err, IsOk, cond, nat_eq, nat_le}
 use Rattle.std.specs.Str.{bytes_eq}
 use Rattle.object_state.specs.Both as both
 use Rattle.object_state.specs.declared.both_states.States.{States}
@@ -9,7 +9,7 @@ use Rattle.object_state.specs.declared.operations.CloseOption.TheVariants.{SaveI
 use Rattle.object_state.specs.Persists.{may_write}
 use Rattle.storage_tree.specs.declared.stored.Stored.{Stored}
 use Rattle.embed_core.specs.Content.{Content, stored}
-use Rattle.embed_core.specs.Kinds.{Kind, Note, Table, Drawing, kind_of, class_of, empty, menus_of, border_of}
+use Rattle.embed_core.specs.Kinds.{Kind, kind_of, class_of, empty, menus_of, border_of}
 use Rattle.embed_core.specs.Objects as object
 use Rattle.embed_core.specs.declared.fault.EmbedFault.{EmbedFault}
 use Rattle.embed_core.specs.declared.fault.EmbedFault.TheVariants as embed

@@ -1,5 +1,5 @@
 -- Servers as they are seen: their objects by what they contain.
-use Rattle.std.specs.Prelude.{◌≡◌, ℕ, List, map, Option, Some, None, option_map}
+use Rattle.std.specs.Prelude.{map, option_map}
 use Rattle.embed_core.specs.Content.{Content}
 use Rattle.server_core.specs.declared.server.Seat.{Seat}
 use Rattle.server_core.specs.declared.server.Activation as code
