@@ -2,7 +2,6 @@
 use Rattle.std.proofs.Common.{◌≡◌, ℕ, zero, suc, ◌+◌, [], ◌∷◌, ◌++◌, refl, ap, ◌∙◌, sym, add-one, arith}
 use Rattle.std.specs.List.{range_with_len}
 
-
 range_suc : (a b n : ℕ) → b ≡ a + n → range_with_len a (suc n) ≡ range_with_len a n ++ b ∷ []
 range_suc a b zero e = (let f : a ≡ b = omega arith in ap (λ m. m ∷ []) f)
 range_suc a b (suc n) e = ap (λ xs. a ∷ xs) (range_suc (a + 1) b n (omega arith))

@@ -8,7 +8,7 @@ use Rattle.world_run.specs.declared.event.Stop.{Stop}
 use Rattle.world_run.specs.World.{World, IsImage, Run, StopsAt, step}
 
 run_last : (w : World) (es : List Event) (e : Event) (u v : World) → Run w es u → (bytes : List ℕ) × IsImage u bytes e × (step u bytes e ≡ Ok v) → Run w (es ++ e ∷ []) v
-run_last w [] e u v r s = subst (λ x. (bytes : List ℕ) × (next : World) × IsImage x bytes e × (step x bytes e ≡ Ok next) × (v ≡ next)) r (s.0, (v, (s.1, (s.2, refl))))
+run_last w [] e u v r s = subst (λ x. (bytes : List ℕ) × (next : World) × IsImage x bytes e × (step x bytes e ≡ Ok next) × (v ≡ next)) r (s.0, v, s.1, s.2, refl)
 run_last w (x ∷ es) e u v r s = (r.0, r.1, r.2, r.3, run_last r.1 es e u v r.4 s)
 
 -- a run goes on by one event
@@ -17,4 +17,4 @@ run_more w es i e u v r lt eq s = rw (take_more es i e lt) (run_last w (take i e
 
 -- a run stops before an event
 pub stops : (es : List Event) (i : ℕ) (e : Event) (u v : World) (stop : Stop) → i < length es → e ≡ get_or es i e → StopsAt u e stop → v ≡ u → (x : Event) × (slice_get es i ≡ Some x) × StopsAt v x stop
-stops es i e u v stop lt eq s k = (e, (slice_get-get_or es i e lt ∙ ap Some (sym eq), subst (λ y. StopsAt y e stop) (sym k) s))
+stops es i e u v stop lt eq s k = (e, slice_get-get_or es i e lt ∙ ap Some (sym eq), subst (λ y. StopsAt y e stop) (sym k) s)

@@ -25,7 +25,6 @@ nth_at f xs n i x p e = nth_suc (map f xs) n i p.number ∙ seen_at f xs i x p.f
 pub set_at : {A B : Type 0} (f : A → B) (xs : List A) (n i : ℕ) (y : A) → n ≡ i + 1 → map f (set xs i y) ≡ set_nth (map f xs) n (f y)
 set_at f xs n i y e = map-set f xs i y ∙ sym (set_suc (map f xs) n i (f y) e)
 
-
 pub is_nth : {A : Type 0} (xs : List A) (n i : ℕ) → n ≡ i + 1 → i < length xs → IsNth n xs i
 is_nth xs n i e lt = record { fits = lt; number = e; found = nth_suc xs n i e; puts = λ a. set_suc xs n i a e }
 

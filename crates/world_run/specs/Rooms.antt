@@ -46,7 +46,7 @@ IsBarred full NoMemory = full ≡ false
 -- a world after a reply
 abbrev pub replied : World → ℕ → Option View → Message → Option Counted → World
 replied w inc view reply counted = record w {
-    sent = w.sent ++ record { message = reply; view = view } ∷ [];
-    answers = w.answers ++ told.Took (record quiet_outcome { sent = places w.sent 1 }) ∷ [];
-    server_done = w.server_done ++ counted_by w inc counted;
-  }
+  sent = w.sent ++ record { message = reply; view = view } ∷ [];
+  answers = w.answers ++ told.Took (record quiet_outcome { sent = places w.sent 1 }) ∷ [];
+  server_done = w.server_done ++ counted_by w inc counted;
+}

@@ -13,24 +13,23 @@ use Rattle.world_run.specs.World.{World, Instance, fresh}
 -- a ledger as a world without servers and stock
 abbrev pub bare : Ledger → World
 bare l = record {
-    rec = l.core;
-    instances = [];
-    files = l.files.items;
-    stock = [];
-    sent = l.sent.items;
-    owners = l.owners.items;
-    answers = l.answers.items;
-    container_done = l.container_done.items;
-    server_done = l.server_done.items;
-    counted = l.counted.items;
-  }
+  rec = l.core;
+  instances = [];
+  files = l.files.items;
+  stock = [];
+  sent = l.sent.items;
+  owners = l.owners.items;
+  answers = l.answers.items;
+  container_done = l.container_done.items;
+  server_done = l.server_done.items;
+  counted = l.counted.items;
+}
 
 -- the same with new servers of these incarnations
 abbrev pub started : World → ℕ → List ℕ → World
 started w numbers starts = record w { instances = map (fresh numbers) starts }
 
 module _ {X : Type 0} {V : X → Type 0} (content : Seat X V → Content) where
-
   abbrev pub seen_instance : code.Instance X V → Instance
   seen_instance i = record { life = i.life; core = server.seen content i.core }
 
@@ -39,6 +38,6 @@ module _ {X : Type 0} {V : X → Type 0} (content : Seat X V → Content) where
 
   abbrev pub seen : held.World X V → World
   seen w = record (bare w.ledger) {
-      instances = map seen_instance w.instances.items;
-      stock = map seen_stocked w.stock.boxes.items;
-    }
+    instances = map seen_instance w.instances.items;
+    stock = map seen_stocked w.stock.boxes.items;
+  }

@@ -100,7 +100,13 @@ impl Ledger {
     }
 
     // What a commit that is done leaves: the file, what is counted, and what the container asks for.
-    fn commit(&mut self, alloc: Global, f: u32, parts: Items<Part>, bytes: Vec<u8>) -> Result<Vec<u32>, AllocError>
+    fn commit(
+        &mut self,
+        alloc: Global,
+        f: u32,
+        parts: Items<Part>,
+        bytes: Vec<u8>,
+    ) -> Result<Vec<u32>, AllocError>
         requires image { image self.old.core f ≡ Ok parts }
         ensures taken { IfOk result (λ starts. done (bare self.old) f bytes.items ≡ Ok (started (bare self.new) self.new.core.numbers starts.items)) }
         ensures few { IfOk result (λ starts. vec_len starts ≤ most self.old.core) }

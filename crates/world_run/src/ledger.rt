@@ -209,7 +209,12 @@ impl Ledger {
             mut places,
         } = room;
         let before = self.sent.len();
-        share(actions.into_vec(), &mut self.sent, &mut starts, &mut commits);
+        share(
+            actions.into_vec(),
+            &mut self.sent,
+            &mut starts,
+            &mut commits,
+        );
         number(&mut places, before, self.sent.len() - before);
         add_uncounted(&mut self.counted, frame);
         let outcome = Outcome {
@@ -229,7 +234,11 @@ impl Ledger {
     /// A command of a user. Gives the servers that it starts.
     ///
     /// Refused for want of memory alone. Then nothing changes.
-    pub(crate) fn command(&mut self, alloc: Global, command: &Command) -> Result<Vec<u32>, AllocError>
+    pub(crate) fn command(
+        &mut self,
+        alloc: Global,
+        command: &Command,
+    ) -> Result<Vec<u32>, AllocError>
         ensures taken { IfOk result (λ starts. commanded (bare self.old) command.now (on_command self.old.core command.now) ≡ started (bare self.new) self.new.core.numbers starts.items) }
         ensures few { IfOk result (λ starts. vec_len starts ≤ most self.old.core) }
         ensures kept { OnErr result (bare self.new ≡ bare self.old) }
@@ -254,7 +263,12 @@ impl Ledger {
     /// A message comes to the container. Gives the servers that it starts.
     ///
     /// Refused for want of memory alone. Then nothing changes.
-    pub(crate) fn tell(&mut self, alloc: Global, inc: u32, message: Message) -> Result<Vec<u32>, AllocError>
+    pub(crate) fn tell(
+        &mut self,
+        alloc: Global,
+        inc: u32,
+        message: Message,
+    ) -> Result<Vec<u32>, AllocError>
         ensures taken { IfOk result (λ starts. took (bare self.old) (on_message self.old.core inc message) ≡ started (bare self.new) self.new.core.numbers starts.items) }
         ensures few { IfOk result (λ starts. vec_len starts ≤ most self.old.core) }
         ensures kept { OnErr result (bare self.new ≡ bare self.old) }
@@ -383,7 +397,15 @@ impl Ledger {
     }
 
     /// A reply of a server, its activation's state just before, and what the server counted.
-    pub(crate) fn replied(&mut self, alloc: Global, inc: u32, view: Option<View>, reply: Message, counted: Option<Counted>, place: Vec<u32>)
+    pub(crate) fn replied(
+        &mut self,
+        alloc: Global,
+        inc: u32,
+        view: Option<View>,
+        reply: Message,
+        counted: Option<Counted>,
+        place: Vec<u32>,
+    )
         requires place { place.items ≡ [] }
         requires place_room { 1 ≤ vec_capacity place }
         requires room { HasReplyRoom self.old }

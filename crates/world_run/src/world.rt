@@ -222,7 +222,15 @@ impl World {
     }
 
     // A call at the server that stands at i, which makes no activation.
-    fn serve(&mut self, alloc: Global, i: usize, inc: u32, act: u32, n: u32, operation: Operation) -> Result<(), Stop>
+    fn serve(
+        &mut self,
+        alloc: Global,
+        i: usize,
+        inc: u32,
+        act: u32,
+        n: u32,
+        operation: Operation,
+    ) -> Result<(), Stop>
         requires { IsNth inc self.old.instances.items i }
         ensures taken { OnOk result (limited (seen (λ s. content s.boxed) self.old) (carried_call (seen (λ s. content s.boxed) self.old) inc act n operation (plan.Serve i)) ≡ Ok (seen (λ s. content s.boxed) self.new)) }
         ensures refused { IfErr result (Refuses (limited (seen (λ s. content s.boxed) self.old) (carried_call (seen (λ s. content s.boxed) self.old) inc act n operation (plan.Serve i)))) }
@@ -241,7 +249,8 @@ impl World {
         };
         match self.instances[i].core.on_call(alloc, message, None) {
             Ok(reaction) => {
-                self.ledger.replied(alloc, inc, view, reaction.reply, reaction.counted, room);
+                self.ledger
+                    .replied(alloc, inc, view, reaction.reply, reaction.counted, room);
                 Ok(())
             }
             Err(refusal) => match refusal.fault {
@@ -271,7 +280,16 @@ impl World {
     }
 
     // A call at the server that stands at i, which makes an activation with the object that stands in stock.
-    fn begin(&mut self, alloc: Global, i: usize, at: usize, inc: u32, act: u32, n: u32, operation: Operation) -> Result<(), Stop>
+    fn begin(
+        &mut self,
+        alloc: Global,
+        i: usize,
+        at: usize,
+        inc: u32,
+        act: u32,
+        n: u32,
+        operation: Operation,
+    ) -> Result<(), Stop>
         requires place { IsNth inc self.old.instances.items i }
         requires stock { at < length self.old.stock.boxes.items }
         ensures taken { OnOk result (limited (seen (λ s. content s.boxed) self.old) (carried_call (seen (λ s. content s.boxed) self.old) inc act n operation (plan.Begin i at)) ≡ Ok (seen (λ s. content s.boxed) self.new)) }
@@ -292,7 +310,8 @@ impl World {
         let Stocked { boxed } = self.stock.boxes.remove(at);
         match self.instances[i].core.on_call(alloc, message, Some(boxed)) {
             Ok(reaction) => {
-                self.ledger.replied(alloc, inc, view, reaction.reply, reaction.counted, room);
+                self.ledger
+                    .replied(alloc, inc, view, reaction.reply, reaction.counted, room);
                 Ok(())
             }
             Err(refusal) => {

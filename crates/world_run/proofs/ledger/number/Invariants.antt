@@ -4,7 +4,7 @@ use Rattle.world_run.proofs.ledger.number.Given as goal
 
 abbrev pub invariant-loop-i : goal.invariant-loop-i
 invariant-loop-i l = record {
-    room : l.count ≤ vec_capacity l.places;
-    len : vec_len l.places ≡ l.i;
-    places : l.places.items ≡ range_with_len (l.before + 1) l.i;
-  }
+  room : l.count ≤ vec_capacity l.places;
+  len : vec_len l.places ≡ l.i;
+  places : l.places.items ≡ range_with_len (l.before + 1) l.i;
+}

@@ -24,7 +24,7 @@ returns-in-Some-place-clause-planned g c =
     let e = nth_at (seen_instance (λ s. (goal.Embedded-dyn g (s.boxed.vtable, s.boxed.value)).content s.boxed.value)) c.args.self.now.instances.items c.args.inc c.in-Some.i x p c.index.ensures in
     let r : x.life ≡ Running = if_some _ ((seen_instance (λ s. (goal.Embedded-dyn g (s.boxed.vtable, s.boxed.value)).content s.boxed.value)) x) _ e c.in-Some.ensures.1 ∙ c.in-Running.is in
     plan_begin (seen (λ s. (goal.Embedded-dyn g (s.boxed.vtable, s.boxed.value)).content s.boxed.value) c.args.self.now) c.args.inc c.in-Some.i c.in-Some-place.at c.args.call.now ((seen_instance (λ s. (goal.Embedded-dyn g (s.boxed.vtable, s.boxed.value)).content s.boxed.value)) x) c.in-Some-wants.class c.requires (seen_nth (seen_instance (λ s. (goal.Embedded-dyn g (s.boxed.vtable, s.boxed.value)).content s.boxed.value)) c.args.self.now.instances.items c.args.inc c.in-Some.i p) e r (sym c.wants.ensures ∙ c.in-Some-wants.is)
-      c.in-Some-place.ensures
+    c.in-Some-place.ensures
 
 pub returns-in-None-clause-refused : goal.returns-in-None-clause-refused
 returns-in-None-clause-refused g c =
