@@ -5,7 +5,8 @@ ghost use Rattle.container_cli.specs.Input.{most};
 ghost use Rattle.container_cli.specs.Simulation.{IsSimulated, MayRefuseSimulate, Simulates, stop_text};
 ghost use Rattle.std.specs.Prelude.{◌≡◌, ◌≢◌, ◌≤◌, ◌<◌, ◌++◌, IfErr, IfOk, IfSome, OnOk, length, map};
 ghost use Rattle.world_run.specs.Report.{report};
-ghost use Rattle.world_run.specs.View.{seen, seen_stocked};
+ghost use Rattle.world_run.specs.Shown.{shown};
+ghost use Rattle.world_run.specs.View.{seen_stocked};
 ghost use Rattle.world_run.specs.World.{MOST_EVENTS};
 
 use crate::answers::{push_answer, push_stop};
@@ -93,8 +94,8 @@ fn push_end(
 
 /// Writes what a world's events were answered.
 fn push_answers(alloc: Global, out: &mut Vec<u8>, world: &World) -> Result<(), AllocError>
-    requires { length (seen (λ s. (⟦<dyn Embedded as Embedded>⟧ s.boxed.vtable).content s.boxed.value) world.now).answers ≤ MOST_EVENTS }
-    ensures { OnOk result (out.new.items ≡ out.old.items ++ answer_lines 1 (seen (λ s. (⟦<dyn Embedded as Embedded>⟧ s.boxed.vtable).content s.boxed.value) world.now).answers) }
+    requires { length (shown (λ s. (⟦<dyn Embedded as Embedded>⟧ s.boxed.vtable).content s.boxed.value) world.now).answers ≤ MOST_EVENTS }
+    ensures { OnOk result (out.new.items ≡ out.old.items ++ answer_lines 1 (shown (λ s. (⟦<dyn Embedded as Embedded>⟧ s.boxed.vtable).content s.boxed.value) world.now).answers) }
 {
     let mut event: u32 = 1;
     while let Some(answer) = world.answer(event) {
@@ -106,7 +107,7 @@ fn push_answers(alloc: Global, out: &mut Vec<u8>, world: &World) -> Result<(), A
 
 /// Writes a world's report.
 fn push_report(alloc: Global, out: &mut Vec<u8>, world: &World) -> Result<(), AllocError>
-    ensures { OnOk result (out.new.items ≡ out.old.items ++ report (seen (λ s. (⟦<dyn Embedded as Embedded>⟧ s.boxed.vtable).content s.boxed.value) world.now)) }
+    ensures { OnOk result (out.new.items ≡ out.old.items ++ report (shown (λ s. (⟦<dyn Embedded as Embedded>⟧ s.boxed.vtable).content s.boxed.value) world.now)) }
 {
     match world.report(alloc, out) {
         Ok(()) => Ok(()),

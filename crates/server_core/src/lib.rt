@@ -11,5 +11,3 @@ pub mod laws;
 mod own_accord;
 pub mod refusal;
 pub mod server;
-#[cfg(test)]
-mod tests;

@@ -1,10 +1,14 @@
 -- Every world that a run reaches is safe.
 use Rattle.std.proofs.Common.{◌≡◌, ◌⊎◌, ◌≤◌, ℕ, Bool, List, [], ◌∷◌, Option, Some, None, refl, sym, ap, ◌∙◌, arith}
+use Rattle.embed_core.specs.Content.{Content}
 use Rattle.embed_core.specs.Kinds.{Kind}
 use Rattle.storage_tree.specs.declared.stored.Stored.{Stored}
 use Rattle.server_core.specs.Server.{Activation}
+use Rattle.server_core.specs.declared.server.Seat.{Seat}
 use Rattle.container_core.specs.declared.record.Link.{Link}
 use Rattle.world_run.specs.declared.event.Event.{Event}
+use Rattle.world_run.specs.declared.state.State.{State}
+use Rattle.world_run.specs.View.{seen}
 use Rattle.world_run.specs.World.{World, empty_world, Run}
 use Rattle.world_run.specs.Safe.{Safe, acts_of, links_of}
 use Rattle.world_run.specs.Keeping.{Keeps}
@@ -13,6 +17,7 @@ use Rattle.world_run.specs.Holding.{Holds}
 use Rattle.world_run.proofs.Kept.{empty_keeps, keeps_run, files_kept}
 use Rattle.world_run.proofs.Tied.{empty_tied}
 use Rattle.world_run.proofs.TiedEvents.{tied_run}
+use Rattle.world_run.proofs.Alike.{ties_alike, acts_alike, lives_alike, many_alike}
 
 has_saved : (a : Option Activation) (c : Stored) → HasSaved c a → (b : Activation) × (a ≡ Some b) × (b.saved ≡ Some c)
 has_saved None c h = absurd h
@@ -36,3 +41,11 @@ empty_held numbers stock = record { keeps = empty_keeps numbers stock; tied = em
 
 pub held_run : (w : World) (es : List Event) (after : World) → Holds w → Run w es after → Holds after
 held_run w es after h r = record { keeps = keeps_run w es after h.keeps r; tied = tied_run w es after h.keeps h.tied r }
+
+-- what a state holds, whatever the objects in its boxes are said to contain
+module _ {X : Type 0} {V : X → Type 0} (c d : Seat X V → Content) where
+  pub held_seen : (st : State X V) → Holds (seen c st) → Holds (seen d st)
+  held_seen st h = record {
+    keeps = record { book = h.keeps.book; shelf = h.keeps.shelf };
+    tied = ties_alike _ _ _ _ _ _ _ (many_alike c d st.instances.items) (acts_alike c d st.instances.items) (lives_alike c d st.instances.items) h.tied;
+  }

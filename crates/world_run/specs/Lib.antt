@@ -4,6 +4,7 @@ pub mod Starts
 pub mod Rooms
 pub mod Files
 pub mod View
+pub mod Shown
 pub mod Report
 pub mod Runs
 pub mod Safe

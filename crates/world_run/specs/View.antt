@@ -1,4 +1,4 @@
--- Worlds as they are seen: the objects in boxes by what they contain.
+-- States of worlds as they are seen: the objects in boxes by what they contain.
 use Rattle.std.specs.Prelude.{ℕ, List, [], map}
 use Rattle.embed_core.specs.Content.{Content}
 use Rattle.embed_core.specs.Kinds.{Kind, kind_of}
@@ -7,7 +7,7 @@ use Rattle.server_core.specs.View as server
 use Rattle.world_run.specs.declared.instance.Instance as code
 use Rattle.world_run.specs.declared.instance.Stocked.{Stocked}
 use Rattle.world_run.specs.declared.ledger.Ledger.{Ledger}
-use Rattle.world_run.specs.declared.world.World as held
+use Rattle.world_run.specs.declared.state.State.{State}
 use Rattle.world_run.specs.World.{World, Instance, fresh}
 
 -- a ledger as a world without servers and stock
@@ -36,7 +36,7 @@ module _ {X : Type 0} {V : X → Type 0} (content : Seat X V → Content) where
   abbrev pub seen_stocked : Stocked X V → Kind
   seen_stocked s = kind_of (content (record { boxed = s.boxed }))
 
-  abbrev pub seen : held.World X V → World
+  abbrev pub seen : State X V → World
   seen w = record (bare w.ledger) {
     instances = map seen_instance w.instances.items;
     stock = map seen_stocked w.stock.boxes.items;

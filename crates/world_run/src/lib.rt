@@ -10,6 +10,7 @@ mod plan;
 mod readers;
 pub mod report;
 pub mod safe_laws;
+mod state;
 pub mod stock;
 mod text;
 pub mod worked;

@@ -2,66 +2,67 @@
 
 ghost use Rattle.std.specs.Prelude.{◌≡◌, length, option_copied};
 ghost use Rattle.wire_msgs.specs.Found.{nth};
-ghost use Rattle.world_run.specs.View.{seen};
+ghost use Rattle.world_run.specs.Shown.{shown};
 ghost use Rattle.world_run.specs.World.{counted_document, frame_file};
 
 use crate::logs::{Document, Done, EventAnswer, Sent, ServerDone};
-use crate::world::{World, place};
+use crate::state::place;
+use crate::world::World;
 use container_core::container::ContainerCore;
 use embed_core::embedded::Embedded;
 
 impl World {
     /// The container.
     pub fn container(&self) -> &ContainerCore
-        ensures { result.now ≡ (seen (λ s. content s.boxed) self.now).rec }
+        ensures { result.now ≡ (shown (λ s. content s.boxed) self.now).rec }
     {
-        &self.ledger.core
+        &self.state.ledger.core
     }
 
     /// How many events were taken.
     pub fn events_taken(&self) -> usize
-        ensures { result ≡ length (seen (λ s. content s.boxed) self.now).answers }
+        ensures { result ≡ length (shown (λ s. content s.boxed) self.now).answers }
     {
-        self.ledger.answers.len()
+        self.state.ledger.answers.len()
     }
 
     /// What an event was answered, by its number from 1.
     pub fn answer(&self, event: u32) -> Option<&EventAnswer>
-        ensures { option_copied result ≡ nth (seen (λ s. content s.boxed) self.now).answers event }
+        ensures { option_copied result ≡ nth (shown (λ s. content s.boxed) self.now).answers event }
     {
-        match place(&self.ledger.answers, event) {
-            Some(i) => Some(&self.ledger.answers[i]),
+        match place(&self.state.ledger.answers, event) {
+            Some(i) => Some(&self.state.ledger.answers[i]),
             None => None,
         }
     }
 
     /// The messages that were sent, by their places from 1.
     pub fn sent(&self) -> &[Sent]
-        ensures { result.now ≡ (seen (λ s. content s.boxed) self.now).sent }
+        ensures { result.now ≡ (shown (λ s. content s.boxed) self.now).sent }
     {
-        &self.ledger.sent
+        &self.state.ledger.sent
     }
 
     /// What the container counted.
     pub fn container_done(&self) -> &[Done]
-        ensures { result.now ≡ (seen (λ s. content s.boxed) self.now).container_done }
+        ensures { result.now ≡ (shown (λ s. content s.boxed) self.now).container_done }
     {
-        &self.ledger.container_done
+        &self.state.ledger.container_done
     }
 
     /// What the servers counted.
     pub fn server_done(&self) -> &[ServerDone]
-        ensures { result.now ≡ (seen (λ s. content s.boxed) self.now).server_done }
+        ensures { result.now ≡ (shown (λ s. content s.boxed) self.now).server_done }
     {
-        &self.ledger.server_done
+        &self.state.ledger.server_done
     }
 
     /// The document of a frame's last counted commit.
     pub fn counted(&self, frame: u32) -> Option<&Document>
-        ensures { option_copied result ≡ counted_document (seen (λ s. content s.boxed) self.now) frame }
+        ensures { option_copied result ≡ counted_document (shown (λ s. content s.boxed) self.now) frame }
     {
-        match place(&self.ledger.counted, frame) {
-            Some(i) => match &self.ledger.counted[i] {
+        match place(&self.state.ledger.counted, frame) {
+            Some(i) => match &self.state.ledger.counted[i] {
                 Some(document) => Some(document),
                 None => None,
             },
@@ -71,8 +72,8 @@ impl World {
 
     /// The file of a frame whose commit was counted.
     pub fn frame_file(&self, frame: u32) -> Option<&[u8]>
-        ensures { option_copied result ≡ frame_file (seen (λ s. content s.boxed) self.now) frame }
+        ensures { option_copied result ≡ frame_file (shown (λ s. content s.boxed) self.now) frame }
     {
-        self.ledger.frame_file(frame)
+        self.state.ledger.frame_file(frame)
     }
 }

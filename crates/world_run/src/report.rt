@@ -5,7 +5,7 @@ ghost use Rattle.std.specs.Fmt.{decimal};
 ghost use Rattle.std.specs.List.{flat_map};
 ghost use Rattle.std.specs.Prelude.{◌≡◌, ◌≢◌, ◌++◌, ◌∷◌, [], codes, IfErr, IfOk, OnOk};
 ghost use Rattle.world_run.specs.Report.{container_line, content_text, done_line, file_word, frame_line, frame_lines, further_text, grant_text, linked_text, name_text, object_line, object_state_name, persist_state_name, report, report_of, server_line, state_text, stream_text};
-ghost use Rattle.world_run.specs.View.{seen};
+ghost use Rattle.world_run.specs.Shown.{shown};
 
 use crate::logs::{Done, ServerDone};
 use crate::text::{push_hex, push_name, push_numbered, push_word};
@@ -32,15 +32,15 @@ impl World {
     /// Writes the report: a line for each frame, for each object, and for each content that was counted, by the
     /// container and then by the servers.
     pub fn report<W: Write>(&self, alloc: Global, writer: &mut W) -> Result<(), ReportFault>
-        ensures reported { OnOk result (Appends (W.contents writer.old) (W.contents writer.new) (report (seen (λ s. (⟦<dyn Embedded as Embedded>⟧ s.boxed.vtable).content s.boxed.value) self.now))) }
+        ensures reported { OnOk result (Appends (W.contents writer.old) (W.contents writer.new) (report (shown (λ s. (⟦<dyn Embedded as Embedded>⟧ s.boxed.vtable).content s.boxed.value) self.now))) }
         ensures unwritten { IfErr result (λ fault. fault ≢ ReportFault.Unwritable → writer.new ≡ writer.old) }
     {
         let text = match report_text(
             alloc,
-            self.ledger.core.frames(),
-            self.ledger.core.objects(),
-            &self.ledger.container_done,
-            &self.ledger.server_done,
+            self.state.ledger.core.frames(),
+            self.state.ledger.core.objects(),
+            &self.state.ledger.container_done,
+            &self.state.ledger.server_done,
         ) {
             Ok(text) => text,
             Err(_) => return Err(ReportFault::NoMemory),

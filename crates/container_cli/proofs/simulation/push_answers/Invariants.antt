@@ -1,12 +1,12 @@
 use Rattle.std.proofs.Common.{◌≡◌, ◌≤◌, ◌++◌, ◌-◌, ◌+◌, [], drop, length}
 use Rattle.embed_core.specs.Content.{note}
-use Rattle.world_run.specs.View.{seen}
+use Rattle.world_run.specs.Shown.{shown}
 use Rattle.container_cli.specs.Answers.{answer_lines}
 use Rattle.container_cli.proofs.simulation.push_answers.Given as goal
 
 abbrev pub invariant-loop-answer : goal.invariant-loop-answer
 invariant-loop-answer g l =
-    let answers = (seen (λ _. note []) l.world).answers in
+    let answers = (shown (λ _. note []) l.world).answers in
     record {
       first : 1 ≤ l.event;
       last : l.event ≤ length answers + 1;
@@ -15,5 +15,5 @@ invariant-loop-answer g l =
 
 abbrev pub decreases-loop-answer : goal.decreases-loop-answer
 decreases-loop-answer g l =
-    let answers = (seen (λ _. note []) l.world).answers in
+    let answers = (shown (λ _. note []) l.world).answers in
     length answers + 1 - l.event

@@ -7,7 +7,7 @@ use Rattle.world_run.specs.View.{seen, seen_instance, seen_stocked}
 use Rattle.world_run.proofs.Servers.{nth_at, seen_nth}
 use Rattle.world_run.proofs.Serving.{if_some}
 use Rattle.world_run.proofs.Planning.{plan_serve, plan_begin, plan_none}
-use Rattle.world_run.proofs.world.World.plan_call.Goals as goal
+use Rattle.world_run.proofs.state.State.plan_call.Goals as goal
 
 pub returns-in_default-wants-clause-planned : goal.returns-in_default-wants-clause-planned
 returns-in_default-wants-clause-planned g c =

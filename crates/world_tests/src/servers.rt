@@ -1,6 +1,6 @@
-use crate::fault::ServerFault;
-use crate::refusal::{Reaction, Refusal};
-use crate::server::ServerCore;
+use server_core::fault::ServerFault;
+use server_core::refusal::{Reaction, Refusal};
+use server_core::server::ServerCore;
 use cfb_directory::name::Name;
 use embed_core::embedded::Embedded;
 use embed_core::tally::Tally;

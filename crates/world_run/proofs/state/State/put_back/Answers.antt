@@ -4,7 +4,7 @@ use Rattle.std.specs.Prelude.{option_map}
 use Rattle.world_run.specs.Plans.{stock_with}
 use Rattle.world_run.specs.View.{seen, seen_stocked}
 use Rattle.world_run.proofs.Stocks.{inserted}
-use Rattle.world_run.proofs.world.World.put_back.Goals as goal
+use Rattle.world_run.proofs.state.State.put_back.Goals as goal
 
 pub returns-in-Ok-clause-put : goal.returns-in-Ok-clause-put
 returns-in-Ok-clause-put g c =

@@ -12,7 +12,7 @@ use Rattle.world_run.specs.Rooms.{replied}
 use Rattle.world_run.proofs.Servers.{seen_at, set_at}
 use Rattle.world_run.proofs.Stocks.{removed, stock_back, kind_back}
 use Rattle.world_run.proofs.Serving.{if_some, stands, serve_allowed, serve_taken, serve_unheard, same_world, refuses_told}
-use Rattle.world_run.proofs.world.World.serve.Goals as goal
+use Rattle.world_run.proofs.state.State.serve.Goals as goal
 
 pub returns-in-Ok-on_call-clause-taken : goal.returns-in-Ok-on_call-clause-taken
 returns-in-Ok-on_call-clause-taken g c =

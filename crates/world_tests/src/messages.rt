@@ -1,10 +1,10 @@
 //! Messages, and the end of a server.
 
-use crate::answer::Action;
-use crate::command::{Command, ObjectKind};
-use crate::container::{ContainerCore, Limits};
-use crate::fault::ContainerFault;
-use crate::record::{Area, Phase};
+use container_core::answer::Action;
+use container_core::command::{Command, ObjectKind};
+use container_core::container::{ContainerCore, Limits};
+use container_core::fault::ContainerFault;
+use container_core::record::{Area, Phase};
 use std::alloc::Global;
 use std::test::Fail;
 use storage_tree::bytes::Bytes;

@@ -1,10 +1,10 @@
 //! Commands of a user.
 
-use crate::answer::{Action, Answer};
-use crate::command::{Command, ObjectKind};
-use crate::container::{ContainerCore, Limits};
-use crate::fault::ContainerFault;
-use crate::record::{Area, Phase};
+use container_core::answer::{Action, Answer};
+use container_core::command::{Command, ObjectKind};
+use container_core::container::{ContainerCore, Limits};
+use container_core::fault::ContainerFault;
+use container_core::record::{Area, Phase};
 use embed_core::classes;
 use std::alloc::Global;
 use std::test::Fail;

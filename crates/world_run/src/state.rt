@@ -1,0 +1,472 @@
+//! What a world is made of, and the events that happen in it.
+
+ghost use Rattle.std.specs.Prelude.{◌≡◌, ◌≤◌, ◌<◌, ◌+◌, ◌++◌, [], List, ℕ, IfErr, IfOk, IfSome, IsSome, MatchOption, None, OnErr, OnOk, Ok, Err, Some, length, map, option_map, slice_get, take, vec_len, vec_capacity};
+ghost use Rattle.container_core.specs.Commands.{on_command};
+ghost use Rattle.container_core.specs.Messages.{on_message, on_reap};
+ghost use Rattle.container_core.specs.Numbered.{IsNth};
+ghost use Rattle.wire_msgs.specs.Found.{nth, set_nth};
+ghost use Rattle.embed_core.specs.Kinds.{kind_of};
+ghost use Rattle.world_run.specs.declared.event.Event.{Event};
+ghost use Rattle.world_run.specs.declared.plan.Plan.TheVariants as plan;
+ghost use Rattle.world_run.specs.Plans.{Fits, IsCallOf, carried, carried_call, stock_with};
+ghost use Rattle.world_run.specs.View.{seen, seen_instance, seen_stocked};
+ghost use Rattle.world_run.specs.World.{IsImage, Refuses, Run, StopsAt, called, commanded, crash, deliver, delivered, done, empty_world, fresh, limited, reap, step, took, view_in};
+ghost use Rattle.world_run.specs.declared.event.Event.TheVariants as event;
+
+use crate::event::{Event, Stop};
+use crate::instance::{Instance, Life, Stocked};
+use crate::ledger::{Ledger, add};
+use crate::logs::View;
+use crate::plan::Plan;
+use crate::stock::Stock;
+use container_core::command::Command;
+use container_core::container::Limits;
+use embed_core::embedded::Embedded;
+use server_core::fault::ServerFault;
+use server_core::refusal::Refusal;
+use server_core::server::ServerCore;
+use std::alloc::Global;
+use wire_msgs::message::Message;
+use wire_msgs::operation::Operation;
+
+// A container with its books and files, its servers, and the objects in stock. A `World` holds it, with what stays true
+// of it.
+#[derive(Drop)]
+pub(crate) struct State {
+    pub(crate) ledger: Ledger,
+    pub(crate) instances: Vec<Instance>,
+    pub(crate) stock: Stock,
+}
+
+// Where the item of this number stands.
+pub(crate) fn place<T>(items: &[T], number: u32) -> Option<usize>
+    ensures { MatchOption result (nth items.now number ≡ None) (IsNth number items.now) }
+{
+    if number == 0 {
+        return None;
+    }
+    let place = (number - 1) as usize;
+    if place < items.len() {
+        Some(place)
+    } else {
+        None
+    }
+}
+
+impl State {
+    // A world in which nothing has happened.
+    pub(crate) fn new(alloc: Global, limits: Limits, stock: Stock) -> State
+        requires { limits.numbers ≤ 1000000 }
+        ensures { seen (λ s. content s.boxed) result ≡ empty_world limits.numbers (map (seen_stocked (λ s. content s.boxed)) stock.boxes.items) }
+    {
+        State {
+            ledger: Ledger::new(alloc, limits),
+            instances: Vec::new(alloc),
+            stock,
+        }
+    }
+
+    // Starts servers of these incarnations.
+    fn start(&mut self, alloc: Global, starts: Vec<u32>)
+        requires { vec_len self.old.instances + vec_len starts ≤ vec_capacity self.old.instances }
+        ensures { seen (λ s. content s.boxed) self.new ≡ record (seen (λ s. content s.boxed) self.old) { instances = map (seen_instance (λ s. content s.boxed)) self.old.instances.items ++ map (fresh self.old.ledger.core.numbers) starts.items } }
+    {
+        let numbers = self.ledger.core.numbers();
+        for inc in starts {
+            let core = ServerCore::new(alloc, inc, numbers);
+            add(
+                &mut self.instances,
+                Instance {
+                    life: Life::Running,
+                    core,
+                },
+            );
+        }
+    }
+
+    // A command of a user.
+    fn command(&mut self, alloc: Global, command: &Command) -> Result<(), Stop>
+        ensures taken { OnOk result (limited (seen (λ s. content s.boxed) self.old) (Ok (commanded (seen (λ s. content s.boxed) self.old) command.now (on_command self.old.ledger.core command.now))) ≡ Ok (seen (λ s. content s.boxed) self.new)) }
+        ensures refused { IfErr result (Refuses (limited (seen (λ s. content s.boxed) self.old) (Ok (commanded (seen (λ s. content s.boxed) self.old) command.now (on_command self.old.ledger.core command.now))))) }
+        ensures kept { OnErr result (seen (λ s. content s.boxed) self.new ≡ seen (λ s. content s.boxed) self.old) }
+    {
+        self.ledger.open()?;
+        if self.instances.reserve(self.ledger.most()).is_err() {
+            return Err(Stop::NoMemory);
+        }
+        match self.ledger.command(alloc, command) {
+            Ok(starts) => {
+                self.start(alloc, starts);
+                Ok(())
+            }
+            Err(_) => Err(Stop::NoMemory),
+        }
+    }
+
+    // A message comes to the container.
+    fn tell(&mut self, alloc: Global, inc: u32, message: Message) -> Result<(), Stop>
+        ensures taken { OnOk result (limited (seen (λ s. content s.boxed) self.old) (Ok (took (seen (λ s. content s.boxed) self.old) (on_message self.old.ledger.core inc message))) ≡ Ok (seen (λ s. content s.boxed) self.new)) }
+        ensures refused { IfErr result (Refuses (limited (seen (λ s. content s.boxed) self.old) (Ok (took (seen (λ s. content s.boxed) self.old) (on_message self.old.ledger.core inc message))))) }
+        ensures kept { OnErr result (seen (λ s. content s.boxed) self.new ≡ seen (λ s. content s.boxed) self.old) }
+    {
+        self.ledger.open()?;
+        if self.instances.reserve(self.ledger.most()).is_err() {
+            return Err(Stop::NoMemory);
+        }
+        match self.ledger.tell(alloc, inc, message) {
+            Ok(starts) => {
+                self.start(alloc, starts);
+                Ok(())
+            }
+            Err(_) => Err(Stop::NoMemory),
+        }
+    }
+
+    #[tactic(auto, using(crate::proofs::Servers::nth_at, crate::proofs::Servers::set_at))]
+    // How far the life of the server that stands at i is.
+    fn set_life(&mut self, i: usize, inc: u32, life: Life)
+        requires { IsNth inc self.old.instances.items i }
+        ensures set { IfSome (nth (seen (λ s. content s.boxed) self.old).instances inc) (λ x. seen (λ s. content s.boxed) self.new ≡ record (seen (λ s. content s.boxed) self.old) { instances = set_nth (seen (λ s. content s.boxed) self.old).instances inc (record x { life = life }) }) }
+        ensures ledger { self.new.ledger ≡ self.old.ledger }
+        ensures capacity { vec_capacity self.new.instances ≡ vec_capacity self.old.instances }
+        ensures length { vec_len self.new.instances ≡ vec_len self.old.instances }
+    {
+        self.instances[i].life = life;
+    }
+
+    #[tactic(auto, using(crate::proofs::Servers::nth_at))]
+    // The life of a server of this incarnation, and where it stands.
+    fn life(&self, inc: u32) -> Option<(usize, Life)>
+        ensures { MatchOption result (nth (seen (λ s. content s.boxed) self.now).instances inc ≡ None) (λ r. IsNth inc self.now.instances.items r.0 × IfSome (nth (seen (λ s. content s.boxed) self.now).instances inc) (λ x. x.life ≡ r.1) × IsSome (nth (seen (λ s. content s.boxed) self.now).instances inc)) }
+    {
+        match place(&self.instances, inc) {
+            Some(i) => Some((i, self.instances[i].life)),
+            None => None,
+        }
+    }
+
+    // A server crashes.
+    fn crash(&mut self, alloc: Global, inc: u32) -> Result<(), Stop>
+        ensures taken { OnOk result (limited (seen (λ s. content s.boxed) self.old) (crash (seen (λ s. content s.boxed) self.old) inc (nth (seen (λ s. content s.boxed) self.old).instances inc)) ≡ Ok (seen (λ s. content s.boxed) self.new)) }
+        ensures refused { IfErr result (Refuses (limited (seen (λ s. content s.boxed) self.old) (crash (seen (λ s. content s.boxed) self.old) inc (nth (seen (λ s. content s.boxed) self.old).instances inc)))) }
+        ensures kept { OnErr result (seen (λ s. content s.boxed) self.new ≡ seen (λ s. content s.boxed) self.old) }
+    {
+        let Some((i, life)) = self.life(inc) else {
+            return Err(Stop::NotEnabled);
+        };
+        match life {
+            Life::Running => {}
+            Life::Ended | Life::Reaped => return Err(Stop::NotEnabled),
+        }
+        self.ledger.open()?;
+        self.set_life(i, inc, Life::Ended);
+        self.ledger.quiet(alloc);
+        Ok(())
+    }
+
+    // The end of a server is told.
+    fn reap(&mut self, alloc: Global, inc: u32) -> Result<(), Stop>
+        ensures taken { OnOk result (limited (seen (λ s. content s.boxed) self.old) (reap (seen (λ s. content s.boxed) self.old) inc (nth (seen (λ s. content s.boxed) self.old).instances inc)) ≡ Ok (seen (λ s. content s.boxed) self.new)) }
+        ensures refused { IfErr result (Refuses (limited (seen (λ s. content s.boxed) self.old) (reap (seen (λ s. content s.boxed) self.old) inc (nth (seen (λ s. content s.boxed) self.old).instances inc)))) }
+        ensures kept { OnErr result (seen (λ s. content s.boxed) self.new ≡ seen (λ s. content s.boxed) self.old) }
+    {
+        let Some((i, life)) = self.life(inc) else {
+            return Err(Stop::NotEnabled);
+        };
+        match life {
+            Life::Ended => {}
+            Life::Running | Life::Reaped => return Err(Stop::NotEnabled),
+        }
+        self.ledger.open()?;
+        if self.instances.reserve(self.ledger.most()).is_err() {
+            return Err(Stop::NoMemory);
+        }
+        match self.ledger.reap(alloc, inc) {
+            Ok(starts) => {
+                self.set_life(i, inc, Life::Reaped);
+                self.start(alloc, starts);
+                Ok(())
+            }
+            Err(_) => Err(Stop::NoMemory),
+        }
+    }
+
+    // The commit of a frame's file is done.
+    fn done(&mut self, alloc: Global, f: u32) -> Result<(), Stop>
+        ensures taken { OnOk result ((bytes : List ℕ) × IsImage (seen (λ s. content s.boxed) self.old) bytes (event.Done f) × (limited (seen (λ s. content s.boxed) self.old) (done (seen (λ s. content s.boxed) self.old) f bytes) ≡ Ok (seen (λ s. content s.boxed) self.new))) }
+        ensures refused { IfErr result (λ stop. (bytes : List ℕ) → Refuses (limited (seen (λ s. content s.boxed) self.old) (done (seen (λ s. content s.boxed) self.old) f bytes)) stop) }
+        ensures kept { OnErr result (seen (λ s. content s.boxed) self.new ≡ seen (λ s. content s.boxed) self.old) }
+    {
+        let room = self.instances.reserve(self.ledger.most()).is_ok();
+        match self.ledger.done(alloc, f, room) {
+            Ok(starts) => {
+                self.start(alloc, starts);
+                Ok(())
+            }
+            Err(stop) => Err(stop),
+        }
+    }
+
+    // The state of an activation of the server that stands at i.
+    fn view(&self, i: usize, act: u32) -> Option<View>
+        requires { i < length self.now.instances.items }
+        ensures { IfSome (slice_get self.now.instances.items i) (λ x. result ≡ view_in (seen_instance (λ s. content s.boxed) x).core act) }
+    {
+        match self.instances[i].core.activation(act) {
+            Some(view) => Some(View {
+                opened: view.opened,
+                states: view.states,
+                s: view.s,
+            }),
+            None => None,
+        }
+    }
+
+    // A call at the server that stands at i, which makes no activation.
+    fn serve(
+        &mut self,
+        alloc: Global,
+        i: usize,
+        inc: u32,
+        act: u32,
+        n: u32,
+        operation: Operation,
+    ) -> Result<(), Stop>
+        requires { IsNth inc self.old.instances.items i }
+        ensures taken { OnOk result (limited (seen (λ s. content s.boxed) self.old) (carried_call (seen (λ s. content s.boxed) self.old) inc act n operation (plan.Serve i)) ≡ Ok (seen (λ s. content s.boxed) self.new)) }
+        ensures refused { IfErr result (Refuses (limited (seen (λ s. content s.boxed) self.old) (carried_call (seen (λ s. content s.boxed) self.old) inc act n operation (plan.Serve i)))) }
+        ensures kept { OnErr result (seen (λ s. content s.boxed) self.new ≡ seen (λ s. content s.boxed) self.old) }
+    {
+        self.ledger.open()?;
+        let Ok(room) = self.ledger.reply_room(alloc) else {
+            return Err(Stop::NoMemory);
+        };
+        let view = self.view(i, act);
+        let message = Message::Call {
+            inc,
+            act,
+            n,
+            operation,
+        };
+        match self.instances[i].core.on_call(alloc, message, None) {
+            Ok(reaction) => {
+                self.ledger
+                    .replied(alloc, inc, view, reaction.reply, reaction.counted, room);
+                Ok(())
+            }
+            Err(refusal) => match refusal.fault {
+                ServerFault::NoMemory => Err(Stop::NoMemory),
+                fault => {
+                    self.ledger.unheard(fault);
+                    Ok(())
+                }
+            },
+        }
+    }
+
+    // An object that a server didn't use stands in stock again.
+    fn put_back(&mut self, at: usize, back: Option<Box<dyn Embedded>>)
+        requires place { at ≤ length self.old.stock.boxes.items }
+        requires room { vec_len self.old.stock.boxes < vec_capacity self.old.stock.boxes }
+        ensures ledger { self.new.ledger ≡ self.old.ledger }
+        ensures put { seen (λ s. content s.boxed) self.new ≡ record (seen (λ s. content s.boxed) self.old) { stock = stock_with (map (seen_stocked (λ s. content s.boxed)) self.old.stock.boxes.items) at (option_map (λ b. kind_of (content b)) back) } }
+    {
+        match back {
+            Some(boxed) => match self.stock.boxes.insert(at, Stocked { boxed }) {
+                Ok(()) => {}
+                Err(_) => unreachable!(),
+            },
+            None => {}
+        }
+    }
+
+    // A call at the server that stands at i, which makes an activation with the object that stands in stock.
+    fn begin(
+        &mut self,
+        alloc: Global,
+        i: usize,
+        at: usize,
+        inc: u32,
+        act: u32,
+        n: u32,
+        operation: Operation,
+    ) -> Result<(), Stop>
+        requires place { IsNth inc self.old.instances.items i }
+        requires stock { at < length self.old.stock.boxes.items }
+        ensures taken { OnOk result (limited (seen (λ s. content s.boxed) self.old) (carried_call (seen (λ s. content s.boxed) self.old) inc act n operation (plan.Begin i at)) ≡ Ok (seen (λ s. content s.boxed) self.new)) }
+        ensures refused { IfErr result (Refuses (limited (seen (λ s. content s.boxed) self.old) (carried_call (seen (λ s. content s.boxed) self.old) inc act n operation (plan.Begin i at)))) }
+        ensures kept { OnErr result (seen (λ s. content s.boxed) self.new ≡ seen (λ s. content s.boxed) self.old) }
+    {
+        self.ledger.open()?;
+        let Ok(room) = self.ledger.reply_room(alloc) else {
+            return Err(Stop::NoMemory);
+        };
+        let view = self.view(i, act);
+        let message = Message::Call {
+            inc,
+            act,
+            n,
+            operation,
+        };
+        let Stocked { boxed } = self.stock.boxes.remove(at);
+        match self.instances[i].core.on_call(alloc, message, Some(boxed)) {
+            Ok(reaction) => {
+                self.ledger
+                    .replied(alloc, inc, view, reaction.reply, reaction.counted, room);
+                Ok(())
+            }
+            Err(refusal) => {
+                let Refusal { fault, back } = refusal;
+                self.put_back(at, back);
+                match fault {
+                    ServerFault::NoMemory => Err(Stop::NoMemory),
+                    fault => {
+                        self.ledger.unheard(fault);
+                        Ok(())
+                    }
+                }
+            }
+        }
+    }
+
+    // What a call at a server comes to.
+    fn plan_call(&self, inc: u32, call: &Message) -> Result<Plan, Stop>
+        requires { IsCallOf inc call.now }
+        ensures planned { IfOk result (λ p. (delivered (seen (λ s. content s.boxed) self.now) call.now ≡ carried (seen (λ s. content s.boxed) self.now) call.now p) × Fits (seen (λ s. content s.boxed) self.now) call.now p) }
+        ensures refused { IfErr result (λ stop. delivered (seen (λ s. content s.boxed) self.now) call.now ≡ Err stop) }
+    {
+        let Some((i, life)) = self.life(inc) else {
+            return Ok(Plan::Quiet);
+        };
+        match life {
+            Life::Running => {}
+            Life::Ended | Life::Reaped => return Ok(Plan::Quiet),
+        }
+        let Some(class) = self.instances[i].core.wants(call) else {
+            return Ok(Plan::Serve(i));
+        };
+        match self.stock.place(class) {
+            Some(at) => Ok(Plan::Begin(i, at)),
+            None => Err(Stop::OutOfStock),
+        }
+    }
+
+    // What the delivery of a message comes to.
+    fn plan(&self, message: &Message) -> Result<Plan, Stop>
+        ensures planned { IfOk result (λ p. (delivered (seen (λ s. content s.boxed) self.now) message.now ≡ carried (seen (λ s. content s.boxed) self.now) message.now p) × Fits (seen (λ s. content s.boxed) self.now) message.now p) }
+        ensures refused { IfErr result (λ stop. delivered (seen (λ s. content s.boxed) self.now) message.now ≡ Err stop) }
+    {
+        match message {
+            Message::Call { inc, .. } => self.plan_call(*inc, message),
+            Message::Reply { inc, .. } | Message::Write { inc, .. } | Message::Ask { inc, .. } => {
+                Ok(Plan::Tell(*inc))
+            }
+        }
+    }
+
+    // What a plan says is done.
+    fn carry_out(&mut self, alloc: Global, plan: Plan, message: Message) -> Result<(), Stop>
+        requires { Fits (seen (λ s. content s.boxed) self.old) message plan }
+        ensures taken { OnOk result (limited (seen (λ s. content s.boxed) self.old) (carried (seen (λ s. content s.boxed) self.old) message plan) ≡ Ok (seen (λ s. content s.boxed) self.new)) }
+        ensures refused { IfErr result (Refuses (limited (seen (λ s. content s.boxed) self.old) (carried (seen (λ s. content s.boxed) self.old) message plan))) }
+        ensures kept { OnErr result (seen (λ s. content s.boxed) self.new ≡ seen (λ s. content s.boxed) self.old) }
+    {
+        match message {
+            Message::Call {
+                inc,
+                act,
+                n,
+                operation,
+            } => match plan {
+                Plan::Quiet => {
+                    self.ledger.open()?;
+                    self.ledger.quiet(alloc);
+                    Ok(())
+                }
+                Plan::Serve(i) => self.serve(alloc, i, inc, act, n, operation),
+                Plan::Begin(i, at) => self.begin(alloc, i, at, inc, act, n, operation),
+                Plan::Tell(_) => unreachable!(),
+            },
+            Message::Reply {
+                inc,
+                act,
+                n,
+                answer,
+            } => self.tell(
+                alloc,
+                inc,
+                Message::Reply {
+                    inc,
+                    act,
+                    n,
+                    answer,
+                },
+            ),
+            Message::Write {
+                inc,
+                act,
+                s,
+                w,
+                content,
+            } => self.tell(
+                alloc,
+                inc,
+                Message::Write {
+                    inc,
+                    act,
+                    s,
+                    w,
+                    content,
+                },
+            ),
+            Message::Ask { inc, act, g } => self.tell(alloc, inc, Message::Ask { inc, act, g }),
+        }
+    }
+
+    // A message that was sent is delivered.
+    fn deliver(&mut self, alloc: Global, p: u32) -> Result<(), Stop>
+        ensures taken { OnOk result (limited (seen (λ s. content s.boxed) self.old) (deliver (seen (λ s. content s.boxed) self.old) (nth self.old.ledger.sent.items p)) ≡ Ok (seen (λ s. content s.boxed) self.new)) }
+        ensures refused { IfErr result (Refuses (limited (seen (λ s. content s.boxed) self.old) (deliver (seen (λ s. content s.boxed) self.old) (nth self.old.ledger.sent.items p)))) }
+        ensures kept { OnErr result (seen (λ s. content s.boxed) self.new ≡ seen (λ s. content s.boxed) self.old) }
+    {
+        let Some(i) = place(&self.ledger.sent, p) else {
+            return Err(Stop::NotEnabled);
+        };
+        let plan = self.plan(&self.ledger.sent[i].message)?;
+        self.ledger.open()?;
+        let Ok(message) = self.ledger.sent[i].message.copy(alloc) else {
+            return Err(Stop::NoMemory);
+        };
+        self.carry_out(alloc, plan, message)
+    }
+
+    // An event happens.
+    fn step(&mut self, alloc: Global, event: &Event) -> Result<(), Stop>
+        ensures taken { OnOk result ((bytes : List ℕ) × IsImage (seen (λ s. content s.boxed) self.old) bytes event.now × (step (seen (λ s. content s.boxed) self.old) bytes event.now ≡ Ok (seen (λ s. content s.boxed) self.new))) }
+        ensures refused { IfErr result (StopsAt (seen (λ s. content s.boxed) self.old) event.now) }
+        ensures kept { OnErr result (seen (λ s. content s.boxed) self.new ≡ seen (λ s. content s.boxed) self.old) }
+    {
+        match event {
+            Event::Command(command) => self.command(alloc, command),
+            Event::Deliver(p) => self.deliver(alloc, *p),
+            Event::Crash(inc) => self.crash(alloc, *inc),
+            Event::Reap(inc) => self.reap(alloc, *inc),
+            Event::Done(f) => self.done(alloc, *f),
+        }
+    }
+
+    // Takes events in order, up to the first that stops the run: gives how many were taken, and why it stopped.
+    pub(crate) fn run(&mut self, alloc: Global, events: &[Event]) -> (usize, Option<Stop>)
+        ensures taken { Run (seen (λ s. content s.boxed) self.old) (take result.0 events.now) (seen (λ s. content s.boxed) self.new) }
+        ensures within { result.0 ≤ length events.now }
+        ensures stop { MatchOption result.1 (result.0 ≡ length events.now) (λ stop. (e : Event) × (slice_get events.now result.0 ≡ Some e) × StopsAt (seen (λ s. content s.boxed) self.new) e stop) }
+    {
+        for (i, event) in events.iter().enumerate() {
+            match self.step(alloc, event) {
+                Ok(()) => {}
+                Err(stop) => return (i, Some(stop)),
+            }
+        }
+        (events.len(), None)
+    }
+}

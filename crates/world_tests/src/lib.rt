@@ -1,0 +1,13 @@
+//! Tests of servers, containers and worlds by their public calls.
+#![tactic(auto)]
+
+#[cfg(test)]
+mod commands;
+#[cfg(test)]
+mod commits;
+#[cfg(test)]
+mod messages;
+#[cfg(test)]
+mod servers;
+#[cfg(test)]
+mod worlds;
