@@ -283,16 +283,17 @@ inc_taken : (b : Bool) (act n : ℕ) (r : Result Served ServerFault) → Taken a
 inc_taken true act n r h = h
 inc_taken false act n r h = λ told e. cc
 
--- The call of a number that its activation has come to leaves the server.
-abbrev Again : Server → Result Served ServerFault → Type 0
-Again v r = (told : Served) → r ≡ Ok told → told.server ≡ v
+-- The call of a number that its activation has come to leaves the server, and counts nothing.
+abbrev pub Again : Server → Result Served ServerFault → Type 0
+Again v r = (told : Served) → r ≡ Ok told → (told.server ≡ v) × (told.counted ≡ None)
 
 known_again : (v : Server) (act n : ℕ) (op : Operation) (a : Activation) → activation act v ≡ Some a → n ≤ a.last → Again v (after_known v act (known_call a n op))
 known_again v act n op a e le =
     elim (nat_eq n a.last) as (λ b. Again v (after_known v act (cond b (Ok (record { activation = a; answer = a.reply; counted = None })) (cond (nat_eq n (a.last + 1)) (next_call a op a.content) (Err Ignored))))) [
       | true ↦ λ told h.
           (let server : record v { acts = put (is_act act) a v.acts } ≡ told.server = cc in
-          sym server ∙ ap (λ (acts : List Activation). record v { acts = acts }) (put-found (is_act act) v.acts a e))
+          let quiet : told.counted ≡ None = cc in
+          (sym server ∙ ap (λ (acts : List Activation). record v { acts = acts }) (put-found (is_act act) v.acts a e), quiet))
       | false ↦
           rw (ne_eqb n (a.last + 1) (λ same. absurd (omega (arith, le, same)))) (λ told h. cc)
     ]
@@ -301,7 +302,7 @@ inc_again : (b : Bool) (v : Server) (r : Result Served ServerFault) → Again v 
 inc_again true v r h = h
 inc_again false v r h = λ told e. cc
 
-call_again : (v : Server) (inc act n : ℕ) (op : Operation) (box : Option Kind) (a : Activation) → activation act v ≡ Some a → n ≤ a.last → Again v (on_call v (Call inc act n op) box)
+pub call_again : (v : Server) (inc act n : ℕ) (op : Operation) (box : Option Kind) (a : Activation) → activation act v ≡ Some a → n ≤ a.last → Again v (on_call v (Call inc act n op) box)
 call_again v inc act n op box a e le =
     inc_again (nat_eq inc v.inc) v _ (subst (λ r. Again v (called v act n op box r)) (sym e) (known_again v act n op a e le))
 
@@ -309,4 +310,4 @@ pub acts-once : ActsOnce
 acts-once v inc act n op other box more told ms e again h =
     let reaches = inc_taken (nat_eq inc v.inc) act n _ (call_taken v act n op box (find (is_act act) v.acts) refl) told e in
     let stays = all_stays told.server ms act reaches.now reaches.is in
-    call_again (after_all told.server ms) inc act n other more stays.now stays.is (omega (arith, reaches.last, stays.last)) again h
+    (call_again (after_all told.server ms) inc act n other more stays.now stays.is (omega (arith, reaches.last, stays.last)) again h).0

@@ -15,6 +15,7 @@ use Rattle.world_run.specs.Keeping.{Keeps}
 use Rattle.world_run.specs.Tying.{HasSaved, Tied}
 use Rattle.world_run.specs.Holding.{Holds}
 use Rattle.world_run.proofs.Kept.{empty_keeps, keeps_run, files_kept}
+use Rattle.world_run.proofs.Once.{once_answered}
 use Rattle.world_run.proofs.Tied.{empty_tied}
 use Rattle.world_run.proofs.TiedEvents.{tied_run}
 use Rattle.world_run.proofs.Alike.{ties_alike, acts_alike, lives_alike, many_alike}
@@ -25,6 +26,7 @@ has_saved (Some b) c h = (b, refl, h)
 
 pub safe_held : (w : World) → Holds w → Safe w
 safe_held w h = record {
+  acts_once = λ inc act n op r next g e. once_answered w inc act n op r h.tied g next e;
   one_reply = h.tied.replies.one;
   kept_reply = λ inc act a r e g. (let k = h.tied.replies.known inc act a.last r g in
       let is : a ≡ k.0 = (let z : Some a ≡ Some k.0 = sym e ∙ k.1 in cc) in

@@ -19,6 +19,7 @@ pub mod Steps3
 pub mod Answering
 pub mod Tied
 pub mod TiedEvents
+pub mod Once
 pub mod Held
 pub mod Alike
 pub mod Joins

@@ -1,8 +1,9 @@
 -- What holds of every world, whatever happened in it.
-use Rattle.std.specs.Prelude.{◌≡◌, ◌≢◌, ◌⊎◌, ◌≤◌, ◌<◌, ℕ, List, [], ◌∷◌, length, map, Option, Some, None, ⊤}
+use Rattle.std.specs.Prelude.{◌≡◌, ◌≢◌, ◌⊎◌, ◌≤◌, ◌<◌, ℕ, List, [], ◌∷◌, length, map, Option, Some, None, Ok, ⊤}
 use Rattle.wire_msgs.specs.Found.{find, nth}
 use Rattle.wire_msgs.specs.declared.message.Message.{Message}
 use Rattle.wire_msgs.specs.declared.message.Message.TheVariants.{Call, Reply}
+use Rattle.wire_msgs.specs.declared.operation.Operation.{Operation}
 use Rattle.wire_msgs.specs.declared.answer.Answer.{Answer}
 use Rattle.storage_tree.specs.declared.stored.Stored.{Stored}
 use Rattle.stream_io.specs.Denotes.{Denotes}
@@ -16,7 +17,7 @@ use Rattle.world_run.specs.declared.logs.Sent.{Sent}
 use Rattle.world_run.specs.declared.logs.Done.{Done}
 use Rattle.world_run.specs.declared.logs.ServerDone.{ServerDone}
 use Rattle.world_run.specs.declared.logs.Document.{Document}
-use Rattle.world_run.specs.World.{World, Instance, done_entry, frame_file}
+use Rattle.world_run.specs.World.{World, Instance, delivered, done_entry, frame_file}
 
 -- x stands in the list
 abbrev pub Among : {A : Type 0} → List A → A → Type 0
@@ -67,7 +68,10 @@ pub record IsKept (w : World) (f : ℕ) (document : Document) : Type 0 where
   pub counted : (p : Part) → Among document.parts p → Among w.container_done (done_entry document.k p)
 
 pub record Safe (w : World) : Type 0 where
-  -- a call has one answer, however often it is delivered: it acts at most once
+  -- a call acts at most once: delivered again once it is answered, it leaves every server as it is and counts nothing
+  pub acts_once : (inc act n : ℕ) (op : Operation) (r : Answer) (next : World) → WasSent w (Reply inc act n r) → delivered w (Call inc act n op) ≡ Ok next
+      → (next.instances ≡ w.instances) × (next.server_done ≡ w.server_done)
+  -- and it has one answer, however often it is delivered
   pub one_reply : (inc act n : ℕ) (r q : Answer) → WasSent w (Reply inc act n r) → WasSent w (Reply inc act n q) → r ≡ q
   -- the reply that an activation keeps is the reply to the call of that number
   pub kept_reply : (inc act : ℕ) (a : Activation) (r : Answer) → acts_of w.instances inc act ≡ Some a → WasSent w (Reply inc act a.last r) → r ≡ a.reply

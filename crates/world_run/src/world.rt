@@ -1,5 +1,6 @@
 //! A world.
 
+ghost use Rattle.std.specs.Prelude.{[]};
 ghost use Rattle.embed_core.specs.Content.{note};
 ghost use Rattle.world_run.specs.Holding.{Holds};
 ghost use Rattle.world_run.specs.View.{seen};
@@ -35,7 +36,7 @@ impl World {
     pub fn new(alloc: Global, limits: Limits, stock: Stock) -> World
         requires { limits.numbers ≤ 1000000 }
         ensures empty { shown (λ s. content s.boxed) result ≡ empty_world limits.numbers (map (seen_stocked (λ s. content s.boxed)) stock.boxes.items) }
-        ensures safe { Safe (shown (λ s. content s.boxed) result) }
+        ensures safe { ∥ Safe (shown (λ s. content s.boxed) result) ∥₁ }
     {
         World {
             state: State::new(alloc, limits, stock),
@@ -48,7 +49,7 @@ impl World {
     /// left (`OutOfStock`), that is one too many (`EventLimit`), or for want of memory; the event changed nothing, and the
     /// run can go on with it.
     pub fn run(&mut self, alloc: Global, events: &[Event]) -> (usize, Option<Stop>)
-        ensures safe { Safe (shown (λ s. content s.boxed) self.new) }
+        ensures safe { ∥ Safe (shown (λ s. content s.boxed) self.new) ∥₁ }
         ensures taken { Run (shown (λ s. content s.boxed) self.old) (take result.0 events.now) (shown (λ s. content s.boxed) self.new) }
         ensures within { result.0 ≤ length events.now }
         ensures stop { MatchOption result.1 (result.0 ≡ length events.now) (λ stop. (e : Event) × (slice_get events.now result.0 ≡ Some e) × StopsAt (shown (λ s. content s.boxed) self.new) e stop) }

@@ -1,6 +1,3 @@
-use server_core::fault::ServerFault;
-use server_core::refusal::{Reaction, Refusal};
-use server_core::server::ServerCore;
 use cfb_directory::name::Name;
 use embed_core::embedded::Embedded;
 use embed_core::tally::Tally;
@@ -8,6 +5,9 @@ use embed_core::{Bytes, Stored, Streams, classes};
 use embed_note::note::Note;
 use embed_table::table::Table;
 use object_state::{CloseOption, ObjectState};
+use server_core::fault::ServerFault;
+use server_core::refusal::{Reaction, Refusal};
+use server_core::server::ServerCore;
 use std::alloc::Global;
 use std::test::Fail;
 use storage_tree::streams::NamedStream;

@@ -1,9 +1,5 @@
 //! Worlds, and what they show.
 
-use world_run::event::{Event, Stop};
-use world_run::logs::EventAnswer;
-use world_run::stock::Stock;
-use world_run::world::World;
 use cfb_directory::name::Name;
 use container_core::command::{Command, ObjectKind};
 use container_core::container::Limits;
@@ -16,6 +12,10 @@ use std::test::Fail;
 use storage_tree::bytes::Bytes;
 use storage_tree::storage::Found;
 use stream_io::read::read_file;
+use world_run::event::{Event, Stop};
+use world_run::logs::EventAnswer;
+use world_run::stock::Stock;
+use world_run::world::World;
 
 fn bytes(alloc: Global, bytes: &[u8]) -> Result<Bytes, Fail> {
     Ok(Bytes::from_vec(Vec::from_slice(alloc, bytes)?))
@@ -70,7 +70,10 @@ fn a_note_is_saved(rt: HostRuntime) -> Result<(), Fail> {
         },
         None => panic!(rt; "no file"),
     }
-    assert_eq!(rt; world.run(alloc, &[Event::Deliver(7), Event::Deliver(8)]), (2, None));
+    assert_eq!(rt;
+        world.run(alloc, &[Event::Deliver(7), Event::Deliver(8)]),
+        (2, None)
+    );
     assert_eq!(rt; world.events_taken(), 15);
     assert_eq!(rt; world.sent().len(), 8);
     match (world.container_done(), world.server_done()) {
@@ -92,7 +95,10 @@ fn a_note_is_saved(rt: HostRuntime) -> Result<(), Fail> {
 fn without_stock_no_activation_is_made(rt: HostRuntime) -> Result<(), Fail> {
     let alloc = rt.alloc();
     let mut world = world(alloc, false)?;
-    assert_eq!(rt; world.run(alloc, &a_save(alloc, b"i 0 ab")?), (4, Some(Stop::OutOfStock)));
+    assert_eq!(rt;
+        world.run(alloc, &a_save(alloc, b"i 0 ab")?),
+        (4, Some(Stop::OutOfStock))
+    );
     assert!(rt; world.frame_file(1).is_none());
     Ok(())
 }
@@ -105,7 +111,10 @@ fn a_long_text_is_not_committed(rt: HostRuntime) -> Result<(), Fail> {
     for _ in 0..4096 {
         edit.push(b'a')?;
     }
-    assert_eq!(rt; world.run(alloc, &a_save(alloc, &edit)?), (12, Some(Stop::NotEnabled)));
+    assert_eq!(rt;
+        world.run(alloc, &a_save(alloc, &edit)?),
+        (12, Some(Stop::NotEnabled))
+    );
     assert!(rt; world.container_done().is_empty());
     Ok(())
 }
@@ -114,7 +123,10 @@ fn a_long_text_is_not_committed(rt: HostRuntime) -> Result<(), Fail> {
 fn no_message_stands_at_a_place_behind_all(rt: HostRuntime) -> Result<(), Fail> {
     let alloc = rt.alloc();
     let mut world = world(alloc, true)?;
-    assert_eq!(rt; world.run(alloc, &[Event::Deliver(99)]), (0, Some(Stop::NotEnabled)));
+    assert_eq!(rt;
+        world.run(alloc, &[Event::Deliver(99)]),
+        (0, Some(Stop::NotEnabled))
+    );
     Ok(())
 }
 
@@ -137,7 +149,10 @@ fn a_server_ends_once(rt: HostRuntime) -> Result<(), Fail> {
     let alloc = rt.alloc();
     let mut world = world(alloc, false)?;
     let start = Event::Command(Command::Start);
-    assert_eq!(rt; world.run(alloc, &[start, Event::Reap(1)]), (1, Some(Stop::NotEnabled)));
+    assert_eq!(rt;
+        world.run(alloc, &[start, Event::Reap(1)]),
+        (1, Some(Stop::NotEnabled))
+    );
     let ends = [Event::Crash(1), Event::Reap(1), Event::Crash(1)];
     assert_eq!(rt; world.run(alloc, &ends), (2, Some(Stop::NotEnabled)));
     Ok(())

@@ -5,11 +5,11 @@ use Rattle.container_cli.proofs.simulation.run.Goals as goal
 
 pub push_answers-requires : goal.push_answers-requires
 push_answers-requires g c =
-    run-few _ _ _ (omega (arith, ap (λ w. length w.answers) c.new-world.ensures)) c.run-taken.ensures.taken
+    run-few _ _ _ (omega (arith, ap (λ w. length w.answers) c.new-world.ensures.empty)) c.run-taken.ensures.taken
 
 pub returns : goal.returns
 returns g c =
     simulated c.args.limits.numbers _ c.args.events.now c.run-taken.result.0 c.run-taken.result.1 _ _
     c.new-out.result.items c.push_answers.new.out.items c.push_report.new.out.items c.push_end.new.out.items
-    c.new-world.ensures c.run-taken.ensures.taken c.run-taken.ensures.stop
+    c.new-world.ensures.empty c.run-taken.ensures.taken c.run-taken.ensures.stop
     c.new-out.ensures.items c.in_ok-push_answers.ensures c.in_ok-push_report.ensures c.in_ok-push_end.ensures

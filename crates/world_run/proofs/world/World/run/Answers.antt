@@ -1,0 +1,16 @@
+use Rattle.std.proofs.Common.{[]}
+use Rattle.std.proofs.Math.Logic.{∥∥₁_map}
+use Rattle.embed_core.specs.Content.{note}
+use Rattle.world_run.proofs.Held.{held_run, held_seen, safe_held}
+use Rattle.world_run.proofs.world.World.run.Goals as goal
+
+pub invariant_of-self : goal.invariant_of-self
+invariant_of-self g c = record {
+  holds = ∥∥₁_map c.args.self.now.holds (λ h. held_seen (λ s. (goal.Embedded-dyn g (s.boxed.vtable, s.boxed.value)).content s.boxed.value) (λ s. note []) c.run.new.self
+      (held_run _ _ _ (held_seen (λ s. note []) (λ s. (goal.Embedded-dyn g (s.boxed.vtable, s.boxed.value)).content s.boxed.value) c.args.self.now.state h) c.run.ensures.taken));
+}
+
+pub returns-clause-safe : goal.returns-clause-safe
+returns-clause-safe g c =
+    ∥∥₁_map c.args.self.now.holds (λ h. safe_held _
+    (held_run _ _ _ (held_seen (λ s. note []) (λ s. (goal.Embedded-dyn g (s.boxed.vtable, s.boxed.value)).content s.boxed.value) c.args.self.now.state h) c.run.ensures.taken))
