@@ -1,14 +1,11 @@
 -- What a world holds doesn't depend on what the objects in its servers contain.
-use Rattle.std.proofs.Common.{◌≡◌, ◌≢◌, ◌⊎◌, ℕ, zero, suc, ◌+◌, ◌<◌, ◌≤◌, Bool, true, false, List, [], ◌∷◌, ◌++◌, length, map, Option, Some, None, option_map, Result, Ok, Err, refl, sym, ap, ◌∙◌, inl, inr, arith, subst, nat_eq, slice_get, if◌then◌else◌}
+use Rattle.std.proofs.Common.{◌≡◌, ℕ, zero, suc, ◌+◌, ◌<◌, ◌≤◌, true, false, List, [], ◌∷◌, length, map, Option, Some, None, option_map, Ok, refl, sym, ap, ◌∙◌, inl, inr, subst, nat_eq, slice_get, if◌then◌else◌}
 use Rattle.std.specs.Prelude.{⊤}
-use Rattle.wire_msgs.specs.Found.{find, nth}
-use Rattle.wire_msgs.specs.Operations.{op_of}
-use Rattle.wire_msgs.specs.declared.message.Message.{Message}
+use Rattle.wire_msgs.specs.Found.{find}
 use Rattle.wire_msgs.specs.declared.operation.Operation.{Operation}
 use Rattle.wire_msgs.specs.declared.operation.Operation.TheVariants.{InitNew, Load, InPlace, UiActivate, UiDeactivate, InPlaceDeactivate, OpenWindow, Edit, Save, HandsOff, SaveCompleted, SaveDropped, Close}
 use Rattle.wire_msgs.specs.declared.answer.Answer.{Answer}
 use Rattle.wire_msgs.specs.declared.answer.Answer.TheVariants as told
-use Rattle.object_state.specs.Both as both
 use Rattle.object_state.specs.declared.both_states.States.{States}
 use Rattle.storage_tree.specs.declared.stored.Stored.{Stored}
 use Rattle.embed_core.specs.Content.{Content}
@@ -17,17 +14,14 @@ use Rattle.server_core.specs.View.{seen_activation}
 use Rattle.server_core.specs.declared.server.Seat.{Seat}
 use Rattle.server_core.specs.declared.server.Activation as code
 use Rattle.container_core.specs.Record.{Record}
-use Rattle.container_core.specs.declared.record.Link.{Link}
 use Rattle.world_run.specs.declared.instance.Instance as held
-use Rattle.world_run.specs.declared.instance.Life.{Life}
-use Rattle.world_run.specs.declared.instance.Life.TheVariants.{Running}
 use Rattle.world_run.specs.declared.logs.Sent.{Sent}
 use Rattle.world_run.specs.declared.logs.Done.{Done}
 use Rattle.world_run.specs.declared.logs.ServerDone.{ServerDone}
 use Rattle.world_run.specs.World.{Instance}
 use Rattle.world_run.specs.View.{seen_instance}
-use Rattle.world_run.specs.Safe.{Among, act_at, acts_of, links_of, messages}
-use Rattle.world_run.specs.Tying.{life_at, lives_of, Ahead, AtPending, InStepAt, InStep, HasSaved, IsClosed, Ties}
+use Rattle.world_run.specs.Safe.{act_at, acts_of}
+use Rattle.world_run.specs.Tying.{life_at, lives_of, Ahead, AtPending, InStepAt, HasSaved, IsClosed, Ties}
 
 -- two activations that differ in their contents alone, if at all
 pub record IsAlike (a b : Activation) : Type 0 where

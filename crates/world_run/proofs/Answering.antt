@@ -1,13 +1,11 @@
 -- What a server's answer to a call does to its activations.
-use Rattle.std.proofs.Common.{◌≡◌, ◌≢◌, ◌⊎◌, ◌==◌, ℕ, zero, suc, ◌+◌, ◌<◌, ◌≤◌, Bool, true, false, List, [], ◌∷◌, ◌++◌, length, Option, Some, None, Result, Ok, Err, refl, sym, ap, ◌∙◌, inl, inr, arith, subst, nat_eq, nat_le, slice_get, slice_set, if◌then◌else◌, eq-eqb}
+use Rattle.std.proofs.Common.{◌≡◌, ◌≢◌, ◌⊎◌, ◌==◌, ℕ, zero, suc, ◌+◌, Bool, true, false, List, [], ◌∷◌, ◌++◌, length, Option, Some, None, Result, Ok, Err, refl, sym, ap, ◌∙◌, inl, inr, subst, nat_eq, nat_le, slice_get, slice_set, if◌then◌else◌, eq-eqb}
 use Rattle.std.specs.Prelude.{cond}
 use Rattle.std.proofs.lemmas.Bool.{eqb-true, ne_eqb}
 use Rattle.std.proofs.lemmas.Bool.Decides.{eqb_tells}
-use Rattle.std.specs.Prelude.{⊤}
 use Rattle.wire_msgs.specs.Found.{find, put, nth, set_nth}
 use Rattle.wire_msgs.specs.Operations.{op_of}
-use Rattle.wire_msgs.specs.declared.message.Message.{Message}
-use Rattle.wire_msgs.specs.declared.message.Message.TheVariants.{Call, Reply}
+use Rattle.wire_msgs.specs.declared.message.Message.TheVariants.{Call}
 use Rattle.wire_msgs.specs.declared.operation.Operation.{Operation}
 use Rattle.wire_msgs.specs.declared.operation.Operation.TheVariants.{InitNew, Load, InPlace, UiActivate, UiDeactivate, InPlaceDeactivate, OpenWindow, Edit, Save, HandsOff, SaveCompleted, SaveDropped, Close}
 use Rattle.wire_msgs.specs.declared.answer.Answer.{Answer}
@@ -34,13 +32,13 @@ use Rattle.embed_core.specs.Objects as object
 use Rattle.embed_core.specs.declared.fault.EmbedFault.{EmbedFault}
 use Rattle.server_core.specs.declared.fault.ServerFault.{ServerFault}
 use Rattle.server_core.specs.declared.fault.ServerFault.TheVariants.{WrongIncarnation, Ignored, NumbersSpent, WrongClass}
-use Rattle.server_core.specs.Server.{stored_of, Server, Activation, Acted, Served, is_act, answers, counts, refuses, edits, closes, does, acted, next_call, known_call, begun_class, begun_content, begun_states, begins, fresh, after_known, after_begun, is_class, offered, unknown_call, called, on_call}
+use Rattle.server_core.specs.Server.{stored_of, Server, Activation, Acted, Served, is_act, answers, counts, refuses, edits, closes, does, acted, next_call, known_call, begun_class, begun_content, begins, after_known, after_begun, is_class, offered, unknown_call, called, on_call}
 use Rattle.server_core.specs.declared.counted.Counted.{Counted}
 use Rattle.world_run.specs.World.{Instance}
-use Rattle.world_run.specs.Tying.{Acts, Ahead}
+use Rattle.world_run.specs.Tying.{Ahead}
 use Rattle.world_run.specs.Safe.{act_at, acts_of}
-use Rattle.world_run.proofs.Lookups.{find_passes, nth_bound}
-use Rattle.world_run.proofs.CallsServed.{Makes, Begins, How, again, next, begun, Changed, same_act}
+use Rattle.world_run.proofs.Lookups.{find_passes}
+use Rattle.world_run.proofs.CallsServed.{Makes, Begins, How, again, next, begun, Changed}
 
 -- an edit leaves the states
 edit_states : (v : States) (p : PersistState) (o : ObjectState) (u : States) → v.persist.state ≡ p → v.object ≡ o

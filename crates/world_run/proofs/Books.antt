@@ -1,18 +1,16 @@
 -- The container's book after each step.
-use Rattle.std.proofs.Common.{◌≡◌, ◌≢◌, ◌⊎◌, ◌==◌, ℕ, zero, suc, ◌+◌, ◌<◌, ◌≤◌, Bool, true, false, List, [], ◌∷◌, ◌++◌, length, map, Option, Some, None, refl, sym, ap, ◌∙◌, inl, inr, arith, subst, if◌then◌else◌}
+use Rattle.std.proofs.Common.{◌≡◌, ◌≢◌, ◌==◌, ℕ, ◌+◌, ◌<◌, ◌≤◌, true, false, List, [], ◌∷◌, ◌++◌, map, Some, refl, sym, ap, ◌∙◌, inl, inr, arith, subst, if◌then◌else◌}
 use Rattle.std.proofs.lemmas.Bool.{eqb-true}
 use Rattle.wire_msgs.specs.Found.{nth, set_nth}
 use Rattle.container_core.specs.Saves.{parts_in, part_of, committed_frame}
-use Rattle.container_core.specs.declared.answer.Part.{Part}
 use Rattle.container_core.specs.declared.record.Frame.{Frame}
 use Rattle.container_core.specs.declared.record.Object.{Object}
-use Rattle.container_core.specs.declared.record.Phase.{Phase}
-use Rattle.container_core.specs.declared.record.Phase.TheVariants.{Idle, Committing}
+use Rattle.container_core.specs.declared.record.Phase.TheVariants.{Idle}
 use Rattle.world_run.specs.declared.logs.Done.{Done}
 use Rattle.world_run.specs.World.{done_entry}
 use Rattle.world_run.specs.Safe.{Among, IsAnother, CountedOnce}
-use Rattle.world_run.specs.Keeping.{Id, id_of, IsBelow, Distinct, Book, IsSameFrame, AreSameFrames}
-use Rattle.world_run.proofs.Lookups.{among_join, among_old, among_map, among_mapped, nth_old, nth_one, nth_aligned, nth_set_apart, length_set_nth}
+use Rattle.world_run.specs.Keeping.{Id, id_of, IsBelow, Distinct, Book, AreSameFrames}
+use Rattle.world_run.proofs.Lookups.{among_join, among_map, nth_old, nth_aligned, nth_set_apart, length_set_nth}
 
 pub book_same : (frames after : List Frame) (ids : List Id) (last : ℕ) (dones : List Done) → AreSameFrames frames after → Book frames ids last dones → Book after ids last dones
 book_same frames after ids last dones s b = record {

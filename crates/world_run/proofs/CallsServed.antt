@@ -1,8 +1,6 @@
 -- A server takes a call, and its reply is sent: what stays tied.
-use Rattle.std.proofs.Common.{◌≡◌, ◌≢◌, ◌⊎◌, ℕ, zero, suc, ◌+◌, ◌<◌, ◌≤◌, Bool, true, false, List, [], ◌∷◌, ◌++◌, length, Option, Some, None, Result, Ok, Err, refl, sym, ap, ◌∙◌, inl, inr, arith, subst}
+use Rattle.std.proofs.Common.{◌≡◌, ◌≢◌, ◌⊎◌, ℕ, ◌+◌, ◌≤◌, Bool, List, [], ◌∷◌, ◌++◌, Option, Some, None, refl, sym, ap, ◌∙◌, inl, inr, arith, subst}
 use Rattle.std.proofs.lemmas.Bool.Decides.{eqb_tells}
-use Rattle.std.specs.Prelude.{⊤, option_to_list}
-use Rattle.wire_msgs.specs.Found.{nth}
 use Rattle.wire_msgs.specs.declared.message.Message.{Message}
 use Rattle.wire_msgs.specs.declared.message.Message.TheVariants.{Call, Reply}
 use Rattle.wire_msgs.specs.declared.operation.Operation.{Operation}
@@ -13,13 +11,10 @@ use Rattle.storage_tree.specs.declared.stored.Stored.{Stored}
 use Rattle.server_core.specs.Server.{Activation}
 use Rattle.server_core.specs.declared.counted.Counted.{Counted}
 use Rattle.container_core.specs.declared.record.Link.{Link}
-use Rattle.world_run.specs.declared.instance.Life.{Life}
 use Rattle.world_run.specs.declared.instance.Life.TheVariants.{Running}
-use Rattle.world_run.specs.declared.logs.Done.{Done}
-use Rattle.world_run.specs.declared.logs.ServerDone.{ServerDone}
-use Rattle.world_run.specs.Safe.{Among, IsOther, ServedOnce}
-use Rattle.world_run.specs.Tying.{Links, Acts, Lives, Ahead, AtPending, InStep, HasSaved, IsClosed, Linked, IsPending, Drawn, Calls, Steps, Ended, Replies, IsCounted, Books}
-use Rattle.world_run.proofs.Lookups.{among_join, among_old}
+use Rattle.world_run.specs.Safe.{Among}
+use Rattle.world_run.specs.Tying.{Links, Acts, Lives, Ahead, AtPending, InStep, HasSaved, IsClosed, IsPending, Drawn, Calls, Steps, Ended, Replies}
+use Rattle.world_run.proofs.Lookups.{among_join}
 
 -- What a call does to the activation a, with the answer r and perhaps a save that is counted.
 pub record Makes (a : Activation) (op : Operation) (after : Activation) (r : Answer) (counted : Option Counted) : Type 0 where

@@ -1,11 +1,11 @@
 -- Objects by their numbers, after changes of their lists.
-use Rattle.std.proofs.Common.{◌≡◌, ◌≢◌, ◌⊎◌, ◌==◌, ℕ, zero, suc, ◌+◌, ◌<◌, ◌≤◌, Bool, true, false, List, [], ◌∷◌, ◌++◌, length, map, Option, Some, None, option_map, refl, sym, ap, ◌∙◌, inl, inr, arith, subst, if◌then◌else◌, eq-eqb}
-use Rattle.std.proofs.lemmas.Bool.{eqb-true, ne_eqb, eqb-false}
+use Rattle.std.proofs.Common.{◌≡◌, ◌≢◌, ◌⊎◌, ◌==◌, ℕ, ◌+◌, Bool, true, false, List, [], ◌∷◌, ◌++◌, map, Option, Some, None, option_map, refl, sym, ap, ◌∙◌, inl, inr, if◌then◌else◌, eq-eqb}
+use Rattle.std.proofs.lemmas.Bool.{eqb-true, ne_eqb}
 use Rattle.std.proofs.lemmas.Bool.Decides.{eqb_tells}
-use Rattle.wire_msgs.specs.Found.{find, put, nth}
+use Rattle.wire_msgs.specs.Found.{find, put}
 use Rattle.wire_msgs.specs.declared.message.Message.{Message}
 use Rattle.wire_msgs.specs.declared.operation.Operation.{Operation}
-use Rattle.container_core.specs.Record.{is_object, ask, asked_sent, asked_all, sends}
+use Rattle.container_core.specs.Record.{is_object, asked_sent, asked_all, sends}
 use Rattle.container_core.specs.Saves.{settled_action, settled_actions, is_ready}
 use Rattle.container_core.specs.declared.answer.Action.{Action}
 use Rattle.container_core.specs.declared.answer.Action.TheVariants.{Send, Start, End, Commit}
@@ -15,8 +15,7 @@ use Rattle.container_core.specs.declared.record.Object.{Object}
 use Rattle.world_run.specs.World.{messages_of, of_container}
 use Rattle.world_run.specs.declared.logs.Sent.{Sent}
 use Rattle.world_run.specs.Safe.{Among, link_at, links_of, messages}
-use Rattle.world_run.specs.Keeping.{Id, id_of, Distinct}
-use Rattle.world_run.specs.Tying.{Links}
+use Rattle.world_run.specs.Keeping.{id_of, Distinct}
 use Rattle.world_run.proofs.Lookups.{among_join, among_map, find_passes, find_among}
 
 -- the object that stands in the list is found by its number

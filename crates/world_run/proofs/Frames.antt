@@ -1,5 +1,5 @@
 -- Frames after steps that aren't commits.
-use Rattle.std.proofs.Common.{◌≡◌, ◌≢◌, ◌⊎◌, ℕ, zero, suc, ◌+◌, ◌<◌, ◌≤◌, Bool, true, false, List, [], ◌∷◌, ◌++◌, length, Option, Some, None, refl, sym, ap, ◌∙◌, inl, inr, arith, subst, slice_get, if◌then◌else◌}
+use Rattle.std.proofs.Common.{◌≡◌, ◌≢◌, ℕ, zero, suc, ◌+◌, ◌≤◌, Bool, true, false, List, [], ◌∷◌, length, Some, refl, sym, ap, ◌∙◌, inl, inr, arith, subst, slice_get, if◌then◌else◌}
 use Rattle.wire_msgs.specs.Found.{nth, set_nth}
 use Rattle.container_core.specs.Saves.{awaits, is_ready, is_ready_at, settled_frame, settled_frames}
 use Rattle.container_core.specs.Commands.{saving_frame}
@@ -7,7 +7,7 @@ use Rattle.container_core.specs.declared.record.Frame.{Frame}
 use Rattle.container_core.specs.declared.record.Object.{Object}
 use Rattle.container_core.specs.declared.record.Phase.{Phase}
 use Rattle.container_core.specs.declared.record.Phase.TheVariants.{Idle, Saving, HandingOff, Committing, InDoubt}
-use Rattle.world_run.specs.Keeping.{IsBelow, IsSameFrame, AreSameFrames}
+use Rattle.world_run.specs.Keeping.{IsSameFrame, AreSameFrames}
 use Rattle.world_run.proofs.Lookups.{length_set_nth, nth_set}
 
 pub same_frame : (frame : Frame) → IsSameFrame frame frame

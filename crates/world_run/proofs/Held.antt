@@ -1,18 +1,16 @@
 -- Every world that a run reaches is safe.
-use Rattle.std.proofs.Common.{◌≡◌, ◌⊎◌, ◌≤◌, ℕ, Bool, List, [], ◌∷◌, Option, Some, None, refl, sym, ap, ◌∙◌, arith}
+use Rattle.std.proofs.Common.{◌≡◌, ℕ, List, Option, Some, None, refl, sym, ap, ◌∙◌}
 use Rattle.embed_core.specs.Content.{Content}
 use Rattle.embed_core.specs.Kinds.{Kind}
 use Rattle.storage_tree.specs.declared.stored.Stored.{Stored}
 use Rattle.server_core.specs.Server.{Activation}
 use Rattle.server_core.specs.declared.server.Seat.{Seat}
-use Rattle.container_core.specs.declared.record.Link.{Link}
 use Rattle.world_run.specs.declared.event.Event.{Event}
 use Rattle.world_run.specs.declared.state.State.{State}
 use Rattle.world_run.specs.View.{seen}
 use Rattle.world_run.specs.World.{World, empty_world, Run}
-use Rattle.world_run.specs.Safe.{Safe, acts_of, links_of}
-use Rattle.world_run.specs.Keeping.{Keeps}
-use Rattle.world_run.specs.Tying.{HasSaved, Tied}
+use Rattle.world_run.specs.Safe.{Safe, acts_of}
+use Rattle.world_run.specs.Tying.{HasSaved}
 use Rattle.world_run.specs.Holding.{Holds}
 use Rattle.world_run.proofs.Kept.{empty_keeps, keeps_run, files_kept}
 use Rattle.world_run.proofs.Once.{once_answered}

@@ -1,7 +1,6 @@
 -- What a step of the container gives, put together from its parts.
 use Rattle.std.proofs.Common.{◌≡◌, ℕ, ◌+◌, ◌≤◌, List, Option, [], ◌∷◌, ◌++◌, length, map, refl, ap, arith}
 use Rattle.std.specs.List.{range_with_len}
-use Rattle.container_core.specs.Record.{Record}
 use Rattle.container_core.specs.declared.answer.Action.{Action}
 use Rattle.container_core.specs.declared.answer.Action.TheVariants.{Send, Start, End, Commit}
 use Rattle.container_core.specs.declared.answer.Answer.{Answer}

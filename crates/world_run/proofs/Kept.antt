@@ -1,7 +1,7 @@
 -- Each event keeps the files and the book.
-use Rattle.std.proofs.Common.{◌≡◌, ◌≢◌, ◌⊎◌, ◌==◌, ℕ, zero, suc, ◌+◌, ◌<◌, ◌≤◌, Bool, true, false, not, List, [], ◌∷◌, ◌++◌, length, map, Option, Some, None, Result, Ok, Err, refl, sym, ap, ◌∙◌, inl, inr, arith, subst, nat_le, if◌then◌else◌}
+use Rattle.std.proofs.Common.{◌≡◌, ◌≢◌, ◌==◌, ℕ, zero, suc, ◌+◌, true, false, not, List, [], ◌∷◌, ◌++◌, length, map, Option, Some, None, Result, Ok, Err, refl, sym, ap, ◌∙◌, subst, nat_le, if◌then◌else◌}
 use Rattle.std.proofs.lemmas.List.{append-nil}
-use Rattle.wire_msgs.specs.Found.{find, put, nth, set_nth}
+use Rattle.wire_msgs.specs.Found.{find, nth, set_nth}
 use Rattle.wire_msgs.specs.declared.message.Message.{Message}
 use Rattle.wire_msgs.specs.declared.message.Message.TheVariants.{Call, Reply, Write, Ask}
 use Rattle.wire_msgs.specs.declared.operation.Operation.{Operation}
@@ -11,21 +11,20 @@ use Rattle.stream_io.specs.declared.fault.WriteFault.{WriteFault}
 use Rattle.embed_core.specs.Kinds.{Kind}
 use Rattle.server_core.specs.Server.{Served, on_call, wanted}
 use Rattle.server_core.specs.declared.fault.ServerFault.{ServerFault}
-use Rattle.container_core.specs.Record.{Record, Took, MOST_FRAMES, MOST_OBJECTS, is_doubtful, is_saving, count_objects, asked_object}
+use Rattle.container_core.specs.Record.{Record, Took, MOST_FRAMES, MOST_OBJECTS, is_doubtful, is_saving, count_objects}
 use Rattle.container_core.specs.Saves.{image, image_at, has_image, fitting, parts_in, document_tree, commit_done, commit_at, commit_fitting, commit_made, committed_frame, completed, completion, counted_object, is_committing, cleared, kept}
 use Rattle.container_core.specs.Messages.{on_message, on_reap}
-use Rattle.container_core.specs.Commands.{on_command, new, new_made, new_frame, insert, insert_at, insert_made, is_named, is_size, is_empty_area, kind_of, unless}
+use Rattle.container_core.specs.Commands.{on_command, new, new_made, new_frame, insert_at, insert_made, is_named, is_size, is_empty_area, kind_of}
 use Rattle.container_core.specs.declared.command.Command.{Command}
 use Rattle.container_core.specs.declared.command.Command.TheVariants as command
 use Rattle.container_core.specs.declared.record.Area.{Area}
-use Rattle.container_core.specs.declared.record.Link.{Link}
 use Rattle.container_core.specs.declared.record.Frame.{Frame}
 use Rattle.container_core.specs.declared.record.Object.{Object}
 use Rattle.container_core.specs.declared.record.Phase.{Phase}
 use Rattle.container_core.specs.declared.record.Phase.TheVariants.{Idle, Saving, HandingOff, Committing, InDoubt}
 use Rattle.container_core.specs.declared.answer.Part.{Part}
 use Rattle.container_core.specs.declared.fault.ContainerFault.{ContainerFault}
-use Rattle.container_core.specs.declared.fault.ContainerFault.TheVariants.{NoSuch, Busy, InDoubt as Doubtful, Full, NumbersSpent, WrongState}
+use Rattle.container_core.specs.declared.fault.ContainerFault.TheVariants.{Busy, InDoubt as Doubtful, Full, NumbersSpent, WrongState}
 use Rattle.world_run.specs.declared.logs.Sent.{Sent}
 use Rattle.world_run.specs.declared.logs.Document.{Document}
 use Rattle.world_run.specs.declared.instance.Life.{Life}
@@ -34,9 +33,9 @@ use Rattle.world_run.specs.declared.event.Event.{Event}
 use Rattle.world_run.specs.declared.event.Event.TheVariants as event
 use Rattle.world_run.specs.declared.event.Stop.{Stop}
 use Rattle.world_run.specs.declared.event.Stop.TheVariants.{EventLimit}
-use Rattle.world_run.specs.World.{World, Instance, empty_world, joined, took, commanded, served, stocked, called_wanting, called_in, called, delivered, deliver, crashed, crash, ended, reap, kept_commit, done_taken, done_imaged, done_in, done, happened, limited, step, IsImage, Run, is_of, frame_file, frame_file_in, file_bytes, is_file, MOST_EVENTS}
-use Rattle.world_run.specs.Safe.{Among, IsKept}
-use Rattle.world_run.specs.Keeping.{Id, id_of, Book, Shelf, Keeps, AreSameFrames}
+use Rattle.world_run.specs.World.{World, Instance, empty_world, joined, took, commanded, served, stocked, called_wanting, called_in, called, delivered, deliver, crashed, crash, ended, reap, kept_commit, done_taken, done_imaged, done_in, happened, limited, IsImage, Run, is_of, frame_file_in, MOST_EVENTS}
+use Rattle.world_run.specs.Safe.{IsKept}
+use Rattle.world_run.specs.Keeping.{id_of, Book, Shelf, Keeps}
 use Rattle.world_run.proofs.Lookups.{map_map_same, nth_aligned}
 use Rattle.world_run.proofs.Quiet.{IsQuiet, unless_ok, start_quiet, run_quiet, edit_quiet, save_quiet, message_quiet, reap_quiet, id_asked}
 use Rattle.world_run.proofs.Books.{book_same, book_framed, book_object, book_committed}

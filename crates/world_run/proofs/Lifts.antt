@@ -1,6 +1,6 @@
 -- What a world without servers and stock refuses, the same world with them refuses.
-use Rattle.std.proofs.Common.{◌≡◌, ℕ, Bool, true, false, List, [], ◌∷◌, ◌++◌, Option, Some, None, Result, Ok, Err, length, refl, if◌then◌else◌, rules}
-use Rattle.std.specs.Prelude.{nat_le, IsOk}
+use Rattle.std.proofs.Common.{ℕ, Bool, true, false, List, [], Option, Some, None, Result, Ok, Err, length, if◌then◌else◌, rules}
+use Rattle.std.specs.Prelude.{nat_le}
 use Rattle.wire_msgs.specs.Found.{nth}
 use Rattle.container_core.specs.Record.{Took}
 use Rattle.container_core.specs.Saves.{image, commit_done}

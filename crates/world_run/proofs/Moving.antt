@@ -1,10 +1,10 @@
 -- The container moves links and sends calls: what stays tied.
-use Rattle.std.proofs.Common.{◌≡◌, ◌≢◌, ◌⊎◌, ℕ, zero, suc, ◌+◌, ◌<◌, ◌≤◌, Bool, true, false, List, [], ◌∷◌, ◌++◌, length, Option, Some, None, Result, Ok, Err, refl, sym, ap, ◌∙◌, inl, inr, arith, subst}
+use Rattle.std.proofs.Common.{◌≡◌, ◌≢◌, ◌⊎◌, ℕ, ◌+◌, ◌<◌, ◌≤◌, Bool, List, [], ◌++◌, length, Option, Some, None, refl, sym, ap, ◌∙◌, inl, inr, arith, subst}
 use Rattle.wire_msgs.specs.Found.{nth}
 use Rattle.wire_msgs.specs.declared.message.Message.{Message}
 use Rattle.wire_msgs.specs.declared.message.Message.TheVariants.{Call, Reply}
 use Rattle.wire_msgs.specs.declared.operation.Operation.{Operation}
-use Rattle.wire_msgs.specs.declared.operation.Operation.TheVariants.{Save, SaveCompleted}
+use Rattle.wire_msgs.specs.declared.operation.Operation.TheVariants.{SaveCompleted}
 use Rattle.wire_msgs.specs.declared.answer.Answer.{Answer}
 use Rattle.object_state.specs.Both as both
 use Rattle.object_state.specs.declared.both_states.States.{States}
@@ -16,7 +16,7 @@ use Rattle.world_run.specs.declared.instance.Life.TheVariants.{Running}
 use Rattle.world_run.specs.declared.logs.Done.{Done}
 use Rattle.world_run.specs.declared.logs.ServerDone.{ServerDone}
 use Rattle.world_run.specs.Safe.{Among}
-use Rattle.world_run.specs.Tying.{Links, Acts, Lives, AtPending, InStep, InStepAt, HasSaved, IsClosed, Linked, IsPending, Drawn, Calls, Steps, Ended, Replies, IsCounted, Books}
+use Rattle.world_run.specs.Tying.{Links, Acts, Lives, InStep, InStepAt, HasSaved, IsClosed, IsPending, Drawn, Calls, Steps, Ended, Replies, IsCounted, Books}
 use Rattle.world_run.proofs.Lookups.{among_join, among_old, among_new, nth_old, nth_bound}
 
 -- a link with the same activation, whose save is as it was or over

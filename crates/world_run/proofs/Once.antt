@@ -1,5 +1,5 @@
 -- A call that was answered acts no more.
-use Rattle.std.proofs.Common.{◌≡◌, ◌≤◌, ◌++◌, ℕ, zero, suc, List, [], ◌∷◌, Option, Some, None, Result, Ok, Err, refl, sym, ap, ◌∙◌, subst, append-nil}
+use Rattle.std.proofs.Common.{◌≡◌, ◌≤◌, ◌++◌, ℕ, zero, suc, List, [], ◌∷◌, Option, Some, None, Result, Ok, Err, refl, sym, ap, ◌∙◌, append-nil}
 use Rattle.std.specs.Prelude.{slice_get, slice_set}
 use Rattle.embed_core.specs.Kinds.{Kind}
 use Rattle.wire_msgs.specs.Found.{find, nth, set_nth}
@@ -13,7 +13,7 @@ use Rattle.world_run.specs.declared.event.Stop.{Stop}
 use Rattle.world_run.specs.declared.instance.Life.{Life}
 use Rattle.world_run.specs.declared.instance.Life.TheVariants.{Running, Ended, Reaped}
 use Rattle.world_run.specs.World.{World, Instance, delivered, called, called_in, called_wanting, stocked, served, counted_by, is_of, without_first}
-use Rattle.world_run.specs.Safe.{WasSent, act_at, acts_of}
+use Rattle.world_run.specs.Safe.{WasSent, act_at}
 use Rattle.world_run.specs.Tying.{Tied}
 
 -- the servers are as they were, and they counted nothing

@@ -1,6 +1,6 @@
 -- How far the links of frames are in their saves, where saves go on.
-use Rattle.std.proofs.Common.{◌≡◌, ◌≢◌, ◌⊎◌, ◌==◌, ℕ, zero, suc, ◌+◌, ◌<◌, ◌≤◌, Bool, true, false, List, [], ◌∷◌, ◌++◌, length, map, Option, Some, None, refl, sym, ap, ◌∙◌, inl, inr, arith, subst, slice_get, if◌then◌else◌, eq-eqb}
-use Rattle.wire_msgs.specs.Found.{find, nth}
+use Rattle.std.proofs.Common.{◌≡◌, ◌==◌, ℕ, zero, suc, ◌+◌, Bool, true, false, List, [], ◌∷◌, Option, Some, None, refl, sym, ap, ◌∙◌, inl, inr, arith, subst, slice_get, if◌then◌else◌, eq-eqb}
+use Rattle.wire_msgs.specs.Found.{nth}
 use Rattle.storage_tree.specs.declared.stored.Stored.{Stored}
 use Rattle.container_core.specs.Record.{Record, is_object}
 use Rattle.container_core.specs.Saves.{is_awaited_link, awaits, is_ready, is_ready_at, settled_frame, settled_frames, settle}

@@ -1,19 +1,17 @@
 -- What the delivery of a call comes to.
-use Rattle.std.proofs.Common.{◌≡◌, ◌<◌, ℕ, zero, suc, List, [], ◌∷◌, length, arith, Option, Some, None, Result, Ok, Err, refl, ap, sym, subst, ◌∙◌}
+use Rattle.std.proofs.Common.{◌≡◌, ◌<◌, ℕ, zero, suc, List, [], ◌∷◌, length, arith, Option, Some, None, Err, refl, ap, sym, subst, ◌∙◌}
 use Rattle.std.specs.Prelude.{slice_get}
-use Rattle.embed_core.specs.Kinds.{Kind}
 use Rattle.wire_msgs.specs.Found.{find, nth}
 use Rattle.wire_msgs.specs.declared.message.Message.{Message}
 use Rattle.wire_msgs.specs.declared.message.Message.TheVariants.{Call, Reply, Write, Ask}
 use Rattle.wire_msgs.specs.declared.operation.Operation.{Operation}
-use Rattle.server_core.specs.Server.{on_call, wanted}
+use Rattle.server_core.specs.Server.{wanted}
 use Rattle.container_core.specs.Numbered.{IsNth}
-use Rattle.world_run.specs.declared.event.Stop.{Stop}
 use Rattle.world_run.specs.declared.event.Stop.TheVariants.{OutOfStock}
 use Rattle.world_run.specs.declared.instance.Life.TheVariants.{Running}
 use Rattle.world_run.specs.declared.plan.Plan.TheVariants.{Serve, Begin}
-use Rattle.world_run.specs.World.{World, Instance, called, called_in, called_wanting, delivered, is_of, served, stocked}
-use Rattle.world_run.specs.Plans.{Fits, IsCallOf, IsFirst, carried, carried_call, serving}
+use Rattle.world_run.specs.World.{World, Instance, called, called_wanting, delivered, is_of}
+use Rattle.world_run.specs.Plans.{Fits, IsCallOf, IsFirst, carried, carried_call}
 
 -- a call at a server that runs
 runs : (w : World) (inc act n : ℕ) (op : Operation) (z : Instance) (class : Option (List ℕ)) → nth w.instances inc ≡ Some z → z.life ≡ Running → wanted z.core (Call inc act n op) ≡ class

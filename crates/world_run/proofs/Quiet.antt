@@ -1,23 +1,23 @@
 -- Steps of the container that leave its book and its files alone.
-use Rattle.std.proofs.Common.{◌≡◌, ◌≢◌, ◌⊎◌, ◌&&◌, ◌||◌, ◌==◌, ℕ, zero, suc, ◌+◌, ◌<◌, ◌≤◌, Bool, true, false, not, List, [], ◌∷◌, ◌++◌, length, map, Option, Some, None, is_some, Result, Ok, Err, refl, sym, ap, ◌∙◌, inl, inr, arith, subst, nat_le, nat_lt, if◌then◌else◌}
+use Rattle.std.proofs.Common.{◌≡◌, ◌||◌, ◌==◌, ℕ, ◌+◌, Bool, true, false, not, List, ◌++◌, length, map, Option, Some, None, is_some, Result, Ok, Err, refl, ap, ◌∙◌, subst, nat_le, nat_lt, if◌then◌else◌}
 use Rattle.std.proofs.lemmas.Bool.{eqb-true}
-use Rattle.wire_msgs.specs.Found.{find, put, nth, set_nth}
+use Rattle.wire_msgs.specs.Found.{find, put, nth}
 use Rattle.wire_msgs.specs.declared.message.Message.{Message}
 use Rattle.wire_msgs.specs.declared.message.Message.TheVariants.{Call, Reply, Write, Ask}
 use Rattle.wire_msgs.specs.declared.operation.Operation.{Operation}
-use Rattle.wire_msgs.specs.declared.operation.Operation.TheVariants.{Edit, Save}
+use Rattle.wire_msgs.specs.declared.operation.Operation.TheVariants.{Save}
 use Rattle.wire_msgs.specs.declared.answer.Answer.{Answer}
 use Rattle.container_core.specs.declared.record.Link.{Link}
 use Rattle.container_core.specs.declared.record.Object.{Object}
 use Rattle.container_core.specs.declared.record.Frame.{Frame}
 use Rattle.container_core.specs.declared.fault.ContainerFault.{ContainerFault}
 use Rattle.container_core.specs.declared.fault.ContainerFault.TheVariants.{WrongLink, Stale, NoSuch, Busy, InDoubt, Full, NumbersSpent, WrongState, UnknownClass}
-use Rattle.container_core.proofs.EditsTaken.{edited, edit_taken}
-use Rattle.container_core.specs.Record.{Record, Took, MOST_SERVERS, MARGIN, quiet_answer, acts, sends, count_alive, is_doubtful, is_saving, is_busy, is_moving, has_numbers, is_object, is_linked, is_alive, ask, asked_link, asked_object, asked_all, with_object}
+use Rattle.container_core.proofs.EditsTaken.{edit_taken}
+use Rattle.container_core.specs.Record.{Record, Took, MOST_SERVERS, MARGIN, quiet_answer, acts, sends, count_alive, is_doubtful, is_saving, is_busy, is_moving, is_object, is_linked, is_alive, asked_link, asked_object}
 use Rattle.container_core.specs.Saves.{settle, settle_actions, settled_frames, kept}
-use Rattle.container_core.specs.Messages.{Replied, replied, reply_link, reply_found, reply_taken, replied_object, replied_record, next_sent, on_reply, on_message, on_reap, reaped, reaped_object, next_link}
-use Rattle.container_core.specs.Commands.{unless, is_known_class, any_busy, all_have_numbers, start, start_made, run, run_at, run_in, run_object, run_made, edit, edit_at, edit_in, edit_linked, save, save_at, save_made, saving, saving_frame}
-use Rattle.world_run.specs.Keeping.{Id, id_of, AreSameFrames, IsSameFrame}
+use Rattle.container_core.specs.Messages.{Replied, reply_link, reply_found, reply_taken, replied_object, replied_record, next_sent, on_reply, on_message, on_reap, reaped, reaped_object}
+use Rattle.container_core.specs.Commands.{unless, is_known_class, any_busy, all_have_numbers, start, start_made, run, run_at, run_in, run_made, edit, edit_at, edit_in, edit_linked, save, save_at, save_made, saving, saving_frame}
+use Rattle.world_run.specs.Keeping.{id_of, AreSameFrames}
 use Rattle.world_run.proofs.Lookups.{map_put, map_map_same, find_passes}
 use Rattle.world_run.proofs.Frames.{same_frames, same_frames_after, settled_same, saving_same, set_same}
 

@@ -1,6 +1,5 @@
 -- What an answer makes of a link, where it is what the activation answered.
-use Rattle.std.proofs.Common.{◌≡◌, ◌≢◌, ◌⊎◌, ℕ, zero, suc, ◌+◌, ◌<◌, ◌≤◌, Bool, true, false, List, [], ◌∷◌, Option, Some, None, Result, Ok, Err, refl, sym, ap, ◌∙◌, inl, inr, arith, subst}
-use Rattle.std.specs.Prelude.{⊤}
+use Rattle.std.proofs.Common.{◌≡◌, ◌⊎◌, ℕ, Some, None, Ok, refl, sym, ap, ◌∙◌, inl, inr}
 use Rattle.wire_msgs.specs.Operations.{op_of}
 use Rattle.wire_msgs.specs.declared.operation.Operation.{Operation}
 use Rattle.wire_msgs.specs.declared.operation.Operation.TheVariants.{InitNew, Load, InPlace, UiActivate, UiDeactivate, InPlaceDeactivate, OpenWindow, Edit, Save, HandsOff, SaveCompleted, SaveDropped, Close}
@@ -8,13 +7,11 @@ use Rattle.wire_msgs.specs.declared.answer.Answer.{Answer}
 use Rattle.wire_msgs.specs.declared.answer.Answer.TheVariants as told
 use Rattle.object_state.specs.Both as both
 use Rattle.object_state.specs.declared.both_states.States.{States}
-use Rattle.object_state.specs.declared.faults.StateFault.{StateFault}
 use Rattle.storage_tree.specs.declared.stored.Stored.{Stored}
 use Rattle.server_core.specs.Server.{Activation}
 use Rattle.container_core.specs.declared.record.Link.{Link}
-use Rattle.container_core.specs.declared.fault.ContainerFault.{ContainerFault}
 use Rattle.container_core.specs.Messages.{Replied, replied, done, done_link, saved_link, lost, noted, next_s}
-use Rattle.world_run.specs.Tying.{Ahead, IsSave, HasContent}
+use Rattle.world_run.specs.Tying.{Ahead, IsSave}
 
 -- The link after the reply: it is level with the activation again, and has the content that the activation saved.
 pub record Settles (l : Link) (op : Operation) (a : Activation) (after : Link) : Type 0 where

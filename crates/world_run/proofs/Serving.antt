@@ -1,18 +1,16 @@
 -- What a call at a server makes of a world.
-use Rattle.std.proofs.Common.{◌≡◌, ℕ, ◌<◌, Bool, true, false, List, [], ◌∷◌, ◌++◌, Option, Some, None, Result, Ok, Err, length, map, get_or, set, refl, ap, sym, ◌∙◌, subst, rules, if◌then◌else◌}
+use Rattle.std.proofs.Common.{◌≡◌, ℕ, ◌<◌, false, List, [], ◌∷◌, ◌++◌, Option, Some, Result, Ok, Err, length, get_or, refl, ap, sym, ◌∙◌, subst, rules}
 use Rattle.std.specs.Prelude.{nat_le, IsOk, IfSome, slice_get}
 use Rattle.std.proofs.lemmas.Option.{slice_get-get_or}
 use Rattle.embed_core.specs.Kinds.{Kind}
-use Rattle.wire_msgs.specs.Found.{nth, set_nth}
+use Rattle.wire_msgs.specs.Found.{set_nth}
 use Rattle.wire_msgs.specs.declared.message.Message.{Message}
-use Rattle.wire_msgs.specs.declared.message.Message.TheVariants.{Call, Reply}
+use Rattle.wire_msgs.specs.declared.message.Message.TheVariants.{Call}
 use Rattle.wire_msgs.specs.declared.operation.Operation.{Operation}
 use Rattle.server_core.specs.Server.{Server, Takes, Refuses, on_call}
 use Rattle.server_core.specs.declared.fault.ServerFault.TheVariants.{WrongIncarnation, Ignored, NumbersSpent, NeedObject, WrongClass, NoMemory}
 use Rattle.server_core.specs.declared.counted.Counted.{Counted}
 use Rattle.server_core.specs.declared.fault.ServerFault.{ServerFault}
-use Rattle.world_run.specs.declared.event.Stop.{Stop}
-use Rattle.world_run.specs.declared.event.Stop.TheVariants.{EventLimit}
 use Rattle.world_run.specs.declared.logs.View.{View}
 use Rattle.world_run.specs.declared.logs.EventAnswer.TheVariants as told
 use Rattle.world_run.specs.World.{World, Instance, MOST_EVENTS, limited, served, view_in}

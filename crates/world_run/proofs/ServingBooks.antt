@@ -1,25 +1,23 @@
 -- A server takes a call, and perhaps counts a save: both sides' books.
-use Rattle.std.proofs.Common.{◌≡◌, ◌≢◌, ◌⊎◌, ℕ, zero, suc, ◌+◌, ◌<◌, ◌≤◌, Bool, true, false, List, [], ◌∷◌, ◌++◌, length, Option, Some, None, Result, Ok, Err, refl, sym, ap, ◌∙◌, inl, inr, arith, subst}
+use Rattle.std.proofs.Common.{◌≡◌, ℕ, ◌+◌, ◌<◌, ◌≤◌, Bool, List, [], ◌∷◌, ◌++◌, Option, Some, None, refl, sym, ap, ◌∙◌, inl, inr, arith, subst}
 use Rattle.wire_msgs.specs.Found.{nth}
 use Rattle.wire_msgs.specs.declared.message.Message.{Message}
 use Rattle.wire_msgs.specs.declared.message.Message.TheVariants.{Call, Reply}
 use Rattle.wire_msgs.specs.declared.operation.Operation.{Operation}
 use Rattle.wire_msgs.specs.declared.operation.Operation.TheVariants.{Save, SaveCompleted}
 use Rattle.wire_msgs.specs.declared.answer.Answer.{Answer}
-use Rattle.object_state.specs.Both as both
 use Rattle.storage_tree.specs.declared.stored.Stored.{Stored}
 use Rattle.server_core.specs.Server.{Activation}
 use Rattle.server_core.specs.declared.counted.Counted.{Counted}
 use Rattle.container_core.specs.declared.record.Link.{Link}
-use Rattle.world_run.specs.declared.instance.Life.{Life}
 use Rattle.world_run.specs.declared.instance.Life.TheVariants.{Running}
 use Rattle.world_run.specs.declared.logs.Done.{Done}
 use Rattle.world_run.specs.declared.logs.ServerDone.{ServerDone}
 use Rattle.world_run.specs.World.{nth_or_zero}
 use Rattle.world_run.specs.Safe.{Among, IsOther, ServedOnce}
-use Rattle.world_run.specs.Tying.{Links, Acts, Lives, AtPending, InStep, IsClosed, Linked, Drawn, Calls, Steps, Ended, Replies, IsCounted, Books}
-use Rattle.world_run.proofs.Lookups.{among_join, among_old, among_new}
-use Rattle.world_run.proofs.CallsServed.{Makes, Begins, How, again, next, begun, Changed, same_act, pending_next, old_call}
+use Rattle.world_run.specs.Tying.{Links, Acts, Lives, InStep, IsClosed, Drawn, Calls, Steps, Ended, Replies, IsCounted, Books}
+use Rattle.world_run.proofs.Lookups.{among_join, among_old}
+use Rattle.world_run.proofs.CallsServed.{How, again, next, begun, Changed, same_act, pending_next, old_call}
 
 -- what is counted with a call
 abbrev pub entries_of : ℕ → ℕ → List ℕ → Option Counted → List ServerDone

@@ -1,5 +1,5 @@
 -- The files of frames after each step.
-use Rattle.std.proofs.Common.{◌≡◌, ◌≢◌, ◌⊎◌, ◌||◌, ℕ, zero, suc, ◌+◌, ◌<◌, ◌≤◌, Bool, true, false, List, [], ◌∷◌, ◌++◌, length, map, Option, Some, None, refl, sym, ap, ◌∙◌, inl, inr, arith, subst, slice_get, if◌then◌else◌, bytes_eq, Decides}
+use Rattle.std.proofs.Common.{◌≡◌, ◌≢◌, ◌||◌, ℕ, zero, suc, Bool, true, false, List, [], ◌∷◌, ◌++◌, length, map, Option, Some, None, refl, sym, ap, ◌∙◌, inl, inr, subst, slice_get, if◌then◌else◌, bytes_eq}
 use Rattle.std.proofs.lemmas.Slice.Eq.{bytes_eq-Decides}
 use Rattle.wire_msgs.specs.Found.{find, nth, set_nth}
 use Rattle.stream_io.specs.Denotes.{Denotes}
@@ -11,8 +11,7 @@ use Rattle.world_run.specs.declared.logs.Done.{Done}
 use Rattle.world_run.specs.declared.logs.Document.{Document}
 use Rattle.world_run.specs.declared.logs.File.{File}
 use Rattle.world_run.specs.World.{done_entry, is_file, put_file}
-use Rattle.world_run.specs.Safe.{Among}
-use Rattle.world_run.specs.Keeping.{Bears, Apart, IsFiled, Shelf, IsSameFrame, AreSameFrames}
+use Rattle.world_run.specs.Keeping.{Bears, IsFiled, Shelf, IsSameFrame, AreSameFrames}
 use Rattle.world_run.proofs.Lookups.{among_old, among_new, among_map, nth_old, nth_one, nth_aligned, nth_set_apart, length_set_nth}
 
 -- what is counted stays counted

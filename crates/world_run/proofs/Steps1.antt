@@ -1,33 +1,30 @@
 -- Commands: how the links after them came to be.
-use Rattle.std.proofs.Common.{◌≡◌, ◌≢◌, ◌⊎◌, ◌||◌, ◌==◌, ℕ, zero, suc, ◌+◌, ◌<◌, ◌≤◌, Bool, true, false, not, List, [], ◌∷◌, ◌++◌, length, map, Option, Some, None, is_some, Result, Ok, Err, refl, sym, ap, ◌∙◌, inl, inr, arith, subst, nat_le, nat_lt, if◌then◌else◌}
+use Rattle.std.proofs.Common.{◌≡◌, ◌≢◌, ◌⊎◌, ◌||◌, ℕ, ◌+◌, Bool, true, false, not, List, [], ◌∷◌, length, map, Option, Some, None, is_some, Ok, refl, sym, ap, ◌∙◌, inl, inr, subst, nat_le, nat_lt}
 use Rattle.std.proofs.lemmas.Bool.Decides.{eqb_tells}
-use Rattle.wire_msgs.specs.Found.{find, put, nth, set_nth}
+use Rattle.wire_msgs.specs.Found.{find, put, nth}
 use Rattle.wire_msgs.specs.declared.message.Message.{Message}
 use Rattle.wire_msgs.specs.declared.message.Message.TheVariants.{Call}
 use Rattle.wire_msgs.specs.declared.operation.Operation.{Operation}
-use Rattle.wire_msgs.specs.declared.operation.Operation.TheVariants.{InitNew, Load, Edit, Save, SaveCompleted}
-use Rattle.storage_tree.specs.declared.stored.Stored.{Stored}
+use Rattle.wire_msgs.specs.declared.operation.Operation.TheVariants.{Edit, SaveCompleted}
 use Rattle.storage_tree.specs.declared.streams.NamedStream.{NamedStream}
 use Rattle.container_core.specs.declared.record.Link.{Link}
 use Rattle.container_core.specs.declared.record.Object.{Object}
 use Rattle.container_core.specs.declared.record.Frame.{Frame}
 use Rattle.container_core.specs.declared.record.Phase.{Phase}
 use Rattle.container_core.specs.declared.record.Phase.TheVariants.{Idle, Saving, HandingOff, Committing, InDoubt}
-use Rattle.container_core.specs.declared.fault.ContainerFault.{ContainerFault}
-use Rattle.container_core.specs.declared.fault.ContainerFault.TheVariants.{NoSuch, Busy, InDoubt as Doubtful, Full, NumbersSpent, WrongState, UnknownClass}
+use Rattle.container_core.specs.declared.fault.ContainerFault.TheVariants.{NoSuch, Busy, InDoubt as Doubtful, NumbersSpent, WrongState, UnknownClass}
 use Rattle.container_core.proofs.EditsTaken.{edited, edit_taken}
-use Rattle.container_core.specs.Record.{Record, Took, MARGIN, is_object, is_alive, is_asked, is_busy, is_claim, is_saving, is_doubtful, has_numbers, ask, ask_at, sends, with_object}
-use Rattle.container_core.specs.Commands.{unless, is_known_class, run, run_at, run_in, run_made, first_operation, begun_link, edit, edit_at, edit_in, edit_linked}
+use Rattle.container_core.specs.Record.{Record, Took, MARGIN, is_object, is_alive, is_asked, is_busy, is_claim, is_saving, is_doubtful, ask, ask_at, sends, with_object}
+use Rattle.container_core.specs.Commands.{is_known_class, run, run_at, run_in, run_made, first_operation, begun_link, edit, edit_at, edit_in, edit_linked}
 use Rattle.grant_core.specs.Grants.{waiting}
 use Rattle.world_run.specs.declared.instance.Life.{Life}
 use Rattle.world_run.specs.World.{messages_of, started_by}
-use Rattle.world_run.specs.Safe.{Among, link_at, links_of}
+use Rattle.world_run.specs.Safe.{Among, links_of}
 use Rattle.world_run.specs.Keeping.{id_of, Distinct}
-use Rattle.world_run.specs.Tying.{Links, Acts, Lives, IsPending, IsSave, Phased, AllPhased}
-use Rattle.world_run.proofs.Lookups.{find_among}
+use Rattle.world_run.specs.Tying.{Acts, Lives, IsSave, Phased, AllPhased}
 use Rattle.world_run.proofs.Quiet.{unless_ok}
-use Rattle.world_run.proofs.Finding.{found_number, find_number, found_put, find_put_here, find_put_there, linked_object, link_found, messages_sends}
-use Rattle.world_run.proofs.Moving.{IsSame, Came, same, asked, settled, fresh, IsCallOf, Goes}
+use Rattle.world_run.proofs.Finding.{found_number, found_put, find_put_here, find_put_there, linked_object, link_found, messages_sends}
+use Rattle.world_run.proofs.Moving.{IsSame, Came, same, asked, fresh, IsCallOf, Goes}
 
 -- What a step of the container does to links, to what is sent, and to how far saves are.
 pub record Moves (r : Record) (acts : Acts) (lives : Lives) (owners : List ℕ) (t : Took) : Type 0 where

@@ -1,13 +1,13 @@
 -- Saves, replies, reaps and commits: how the links after them came to be.
-use Rattle.std.proofs.Common.{◌≡◌, ◌≢◌, ◌⊎◌, ◌||◌, ◌&&◌, ◌==◌, ℕ, zero, suc, ◌+◌, ◌<◌, ◌≤◌, Bool, true, false, not, List, [], ◌∷◌, ◌++◌, length, map, Option, Some, None, is_some, Result, Ok, Err, refl, sym, ap, ◌∙◌, inl, inr, arith, subst, nat_le, nat_lt, if◌then◌else◌, eq-eqb}
-use Rattle.std.proofs.lemmas.Bool.{eqb-true, ne_eqb, eqb-false}
+use Rattle.std.proofs.Common.{◌≡◌, ◌≢◌, ◌⊎◌, ◌||◌, ◌&&◌, ◌==◌, ℕ, ◌+◌, ◌≤◌, Bool, true, false, not, List, [], ◌∷◌, ◌++◌, map, Option, Some, None, Result, Ok, Err, refl, sym, ap, ◌∙◌, inl, inr, arith, subst, nat_le, if◌then◌else◌, eq-eqb}
+use Rattle.std.proofs.lemmas.Bool.{eqb-true, ne_eqb}
 use Rattle.std.proofs.lemmas.Bool.Decides.{eqb_tells}
 use Rattle.std.proofs.lemmas.List.{append-nil}
 use Rattle.wire_msgs.specs.Found.{find, put, nth, set_nth}
 use Rattle.wire_msgs.specs.declared.message.Message.{Message}
-use Rattle.wire_msgs.specs.declared.message.Message.TheVariants.{Call, Reply, Write, Ask}
+use Rattle.wire_msgs.specs.declared.message.Message.TheVariants.{Call, Reply}
 use Rattle.wire_msgs.specs.declared.operation.Operation.{Operation}
-use Rattle.wire_msgs.specs.declared.operation.Operation.TheVariants.{InitNew, Load, Edit, Save, SaveCompleted}
+use Rattle.wire_msgs.specs.declared.operation.Operation.TheVariants.{Save, SaveCompleted}
 use Rattle.wire_msgs.specs.declared.answer.Answer.{Answer}
 use Rattle.grant_core.specs.declared.grant_states.GrantState.{GrantState}
 use Rattle.grant_core.specs.Grants.{waiting}
@@ -21,23 +21,21 @@ use Rattle.container_core.specs.declared.record.Phase.TheVariants.{Idle, Saving,
 use Rattle.container_core.specs.declared.answer.Action.{Action}
 use Rattle.container_core.specs.declared.answer.Action.TheVariants.{Commit}
 use Rattle.container_core.specs.declared.fault.ContainerFault.{ContainerFault}
-use Rattle.container_core.specs.declared.fault.ContainerFault.TheVariants.{NoSuch, Busy, InDoubt as Doubtful, Full, NumbersSpent, WrongState, Stale, WrongLink}
-use Rattle.container_core.specs.Record.{Record, Took, quiet_answer, acts, is_object, is_linked, is_link, is_alive, is_asked, is_busy, is_claim, is_saving, is_moving, is_doubtful, ask, ask_at, Asked, asked_link, asked_sent, asked_object, asked_all, sends}
-use Rattle.container_core.specs.Saves.{settle, settle_actions, settled_action, settled_actions, is_ready, kept, cleared, counted_object, completed, completion, committed_frame, commit_made}
-use Rattle.container_core.specs.Commands.{unless, any_busy, all_have_numbers, save, save_at, save_made, saving, saving_frame}
-use Rattle.container_core.specs.Messages.{Replied, replied, next_at, next_link, next_sent, replied_object, replied_record, reply_taken, reply_pending, reply_link, reply_found, on_reply, on_message, reaped_object, reaped, on_reap}
-use Rattle.world_run.specs.declared.instance.Life.{Life}
-use Rattle.world_run.specs.declared.instance.Life.TheVariants.{Running}
+use Rattle.container_core.specs.declared.fault.ContainerFault.TheVariants.{Busy, InDoubt as Doubtful, NumbersSpent, Stale, WrongLink}
+use Rattle.container_core.specs.Record.{Record, Took, quiet_answer, is_object, is_linked, is_link, is_alive, is_asked, is_busy, is_claim, is_saving, is_moving, is_doubtful, ask, ask_at, asked_link, asked_sent, asked_object, asked_all, sends}
+use Rattle.container_core.specs.Saves.{settle, settle_actions, settled_actions, is_ready}
+use Rattle.container_core.specs.Commands.{any_busy, all_have_numbers, save, save_at, save_made, saving, saving_frame}
+use Rattle.container_core.specs.Messages.{Replied, replied, next_at, next_link, next_sent, replied_object, replied_record, reply_taken, reply_pending, reply_link, reply_found, on_message}
 use Rattle.world_run.specs.World.{messages_of, started_by}
-use Rattle.world_run.specs.Safe.{Among, link_at, links_of}
+use Rattle.world_run.specs.Safe.{Among, links_of}
 use Rattle.world_run.specs.Keeping.{id_of, Distinct}
-use Rattle.world_run.specs.Tying.{Links, Acts, Lives, IsPending, IsSave, HasContent, HasSaved, IsClosed, Phased, AllPhased, Calls, Steps, Replies, InStep, InStepAt, AtPending, Ahead}
-use Rattle.world_run.proofs.Lookups.{find_among, find_passes, nth_set_apart, length_set_nth}
+use Rattle.world_run.specs.Tying.{Acts, Lives, IsSave, HasContent, HasSaved, IsClosed, Phased, AllPhased, Calls, Steps, Replies, InStep, InStepAt, AtPending, Ahead}
+use Rattle.world_run.proofs.Lookups.{find_among, find_passes, nth_set_apart}
 use Rattle.world_run.proofs.Quiet.{unless_ok}
 use Rattle.world_run.proofs.Phases.{phased_settled}
 use Rattle.world_run.proofs.Replying.{Settles, Ends, settles, gone, reply_ends}
 use Rattle.world_run.proofs.Finding.{found_number, find_number, found_put, find_put_here, find_put_there, found_mapped, find_mapped, linked_object, link_found, messages_sends, messages_join, messages_settled, asked_of}
-use Rattle.world_run.proofs.Moving.{IsSame, Came, same, asked, settled, fresh, IsCallOf, Goes}
+use Rattle.world_run.proofs.Moving.{IsSame, Came, same, asked, settled, IsCallOf, Goes}
 use Rattle.world_run.proofs.Steps1.{Moves, NoCompletion, same_link, idle_phase, or_left, or_right, unasked}
 
 pub no_start : (numbers : ℕ) (ms : List Message) (rest : List Action) → started_by numbers rest ≡ [] → started_by numbers (sends ms ++ rest) ≡ []

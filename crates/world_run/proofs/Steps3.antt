@@ -1,41 +1,37 @@
 -- New frames and objects, ends of servers, and commits: how the links after them came to be.
-use Rattle.std.proofs.Common.{◌≡◌, ◌≢◌, ◌⊎◌, ◌||◌, ◌&&◌, ◌==◌, ℕ, zero, suc, ◌+◌, ◌<◌, ◌≤◌, Bool, true, false, not, List, [], ◌∷◌, ◌++◌, length, map, Option, Some, None, is_some, Result, Ok, Err, refl, sym, ap, ◌∙◌, inl, inr, arith, subst, nat_le, nat_lt, if◌then◌else◌, eq-eqb}
-use Rattle.std.proofs.lemmas.Bool.{eqb-true, ne_eqb, eqb-false}
+use Rattle.std.proofs.Common.{◌≡◌, ◌≢◌, ◌⊎◌, ◌==◌, ℕ, ◌+◌, Bool, true, false, not, List, [], ◌∷◌, ◌++◌, length, map, Option, Some, None, Result, Ok, Err, refl, sym, ap, ◌∙◌, inl, inr, subst, nat_le, if◌then◌else◌, eq-eqb}
+use Rattle.std.proofs.lemmas.Bool.{ne_eqb}
 use Rattle.std.proofs.lemmas.Bool.Decides.{eqb_tells}
 use Rattle.std.proofs.lemmas.List.{append-nil}
-use Rattle.wire_msgs.specs.Found.{find, put, nth, set_nth}
+use Rattle.wire_msgs.specs.Found.{find, nth, set_nth}
 use Rattle.wire_msgs.specs.declared.message.Message.{Message}
 use Rattle.wire_msgs.specs.declared.message.Message.TheVariants.{Call}
 use Rattle.wire_msgs.specs.declared.operation.Operation.{Operation}
 use Rattle.wire_msgs.specs.declared.operation.Operation.TheVariants.{SaveCompleted}
 use Rattle.storage_tree.specs.declared.stored.Stored.{Stored}
-use Rattle.server_core.specs.Server.{Activation}
 use Rattle.embed_core.specs.Kinds.{Kind}
 use Rattle.container_core.specs.declared.record.Area.{Area}
 use Rattle.container_core.specs.declared.record.Link.{Link}
 use Rattle.container_core.specs.declared.record.Object.{Object}
 use Rattle.container_core.specs.declared.record.Frame.{Frame}
-use Rattle.container_core.specs.declared.record.Phase.{Phase}
-use Rattle.container_core.specs.declared.record.Phase.TheVariants.{Idle, Saving, HandingOff, Committing, InDoubt}
-use Rattle.container_core.specs.declared.answer.Part.{Part}
+use Rattle.container_core.specs.declared.record.Phase.TheVariants.{Idle, Committing}
 use Rattle.container_core.specs.declared.fault.ContainerFault.{ContainerFault}
 use Rattle.container_core.specs.declared.fault.ContainerFault.TheVariants.{NoSuch, Busy, InDoubt as Doubtful, Full, NumbersSpent, WrongState}
-use Rattle.container_core.specs.Record.{Record, Took, MOST_FRAMES, MOST_OBJECTS, acts, is_object, is_alive, is_doubtful, is_saving, count_objects, ask, ask_at, asked_link, asked_object, asked_sent, asked_all, sends}
-use Rattle.container_core.specs.Saves.{settle, settle_actions, settled_actions, kept, kept_by, kept_in, cleared, counted_object, completed, completion, committed_frame, commit_made, parts_in, part_of, is_some_name}
-use Rattle.container_core.specs.Commands.{unless, new, new_made, new_frame, insert, insert_at, insert_made, new_object, is_named, is_size, is_empty_area}
+use Rattle.container_core.specs.Record.{Record, Took, MOST_FRAMES, MOST_OBJECTS, acts, is_object, is_alive, is_doubtful, is_saving, count_objects, ask, ask_at, asked_link, asked_object, asked_all, sends}
+use Rattle.container_core.specs.Saves.{settle, settle_actions, kept, kept_by, kept_in, cleared, counted_object, completed, completion, committed_frame, commit_made, parts_in, part_of, is_some_name}
+use Rattle.container_core.specs.Commands.{new, new_made, new_frame, insert, insert_at, insert_made, new_object, is_named, is_size, is_empty_area}
 use Rattle.container_core.specs.Messages.{reaped_object, reaped, on_reap}
-use Rattle.world_run.specs.declared.instance.Life.{Life}
 use Rattle.world_run.specs.declared.instance.Life.TheVariants.{Running}
 use Rattle.world_run.specs.declared.logs.Done.{Done}
-use Rattle.world_run.specs.World.{messages_of, started_by, done_entry}
-use Rattle.world_run.specs.Safe.{Among, link_at, links_of}
-use Rattle.world_run.specs.Keeping.{Id, id_of, Distinct, Book}
-use Rattle.world_run.specs.Tying.{Links, Acts, Lives, IsSave, HasContent, HasSaved, Phased, AllPhased, Steps, IsCounted}
+use Rattle.world_run.specs.World.{started_by, done_entry}
+use Rattle.world_run.specs.Safe.{Among, links_of}
+use Rattle.world_run.specs.Keeping.{Id, id_of, Distinct}
+use Rattle.world_run.specs.Tying.{Acts, Lives, HasContent, HasSaved, Phased, AllPhased, Steps, IsCounted}
 use Rattle.world_run.proofs.Lookups.{find_among, among_map, nth_old, nth_set_apart, length_set_nth}
 use Rattle.world_run.proofs.Quiet.{unless_ok}
 use Rattle.world_run.proofs.Phases.{phased_settled}
-use Rattle.world_run.proofs.Finding.{found_number, find_number, found_mapped, find_mapped, linked_object, link_found, messages_sends, messages_settled, asked_of}
-use Rattle.world_run.proofs.Moving.{IsSame, Came, same, IsCallOf, Goes}
+use Rattle.world_run.proofs.Finding.{find_number, found_mapped, find_mapped, linked_object, link_found, messages_sends, messages_settled, asked_of}
+use Rattle.world_run.proofs.Moving.{IsSame, Came, same, IsCallOf}
 use Rattle.world_run.proofs.Steps1.{Moves, NoCompletion, same_link}
 use Rattle.world_run.proofs.Steps2.{no_start, no_start_settled, came_asked, stays_all, sent_asked}
 

@@ -1,8 +1,8 @@
 -- Objects in stock, found by their class.
-use Rattle.std.proofs.Common.{◌≡◌, ℕ, zero, suc, ◌+◌, ◌<◌, ◌≤◌, Bool, true, false, List, [], ◌∷◌, ◌++◌, Option, Some, None, length, map, get_or, take, drop, refl, ap, sym, ◌∙◌, add-one, append_assoc, arith}
+use Rattle.std.proofs.Common.{◌≡◌, ℕ, zero, suc, ◌+◌, ◌<◌, ◌≤◌, true, false, List, [], ◌∷◌, ◌++◌, Option, Some, None, length, map, get_or, take, drop, refl, ap, sym, ◌∙◌, add-one, append_assoc, arith}
 use Rattle.std.specs.Prelude.{slice_get, option_map}
 use Rattle.std.specs.List.{insert, remove}
-use Rattle.std.proofs.lemmas.List.{drop_more, take_more, take_all, length-map, get_or-map}
+use Rattle.std.proofs.lemmas.List.{drop_more, take_more, length-map, get_or-map}
 use Rattle.std.proofs.Math.ListN.{drop_of_length-le}
 use Rattle.std.proofs.lemmas.Option.{slice_get-get_or}
 use Rattle.embed_core.specs.Kinds.{Kind, kind_of}

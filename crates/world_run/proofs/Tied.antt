@@ -1,55 +1,34 @@
 -- Each event keeps calls, replies, activations and both sides' books tied together.
-use Rattle.std.proofs.Common.{◌≡◌, ◌≢◌, ◌⊎◌, ◌==◌, ℕ, zero, suc, ◌+◌, ◌<◌, ◌≤◌, Bool, true, false, not, List, [], ◌∷◌, ◌++◌, length, map, Option, Some, None, Result, Ok, Err, refl, sym, ap, ◌∙◌, inl, inr, arith, subst, nat_le, slice_get, if◌then◌else◌}
+use Rattle.std.proofs.Common.{◌≡◌, ℕ, zero, suc, ◌≤◌, Bool, List, [], ◌∷◌, ◌++◌, length, map, Option, Some, None, Ok, refl, sym, ap, ◌∙◌, inl, inr, arith, subst}
 use Rattle.std.proofs.lemmas.List.{append-nil}
 use Rattle.std.proofs.lemmas.Bool.Decides.{eqb_tells}
-use Rattle.wire_msgs.specs.Found.{find, put, nth, set_nth}
-use Rattle.wire_msgs.specs.declared.message.Message.{Message}
-use Rattle.wire_msgs.specs.declared.message.Message.TheVariants.{Call, Reply, Write, Ask}
+use Rattle.wire_msgs.specs.Found.{find, nth, set_nth}
+use Rattle.wire_msgs.specs.declared.message.Message.TheVariants.{Call, Reply}
 use Rattle.wire_msgs.specs.declared.operation.Operation.{Operation}
-use Rattle.wire_msgs.specs.declared.operation.Operation.TheVariants.{InitNew, Load, Edit, Save, SaveCompleted}
-use Rattle.wire_msgs.specs.declared.answer.Answer.{Answer}
-use Rattle.stream_io.specs.Denotes.{Denotes}
+use Rattle.wire_msgs.specs.declared.operation.Operation.TheVariants.{Save, SaveCompleted}
 use Rattle.embed_core.specs.Kinds.{Kind}
-use Rattle.storage_tree.specs.declared.streams.NamedStream.{NamedStream}
-use Rattle.server_core.specs.Server.{Activation, Served, on_call, wanted}
+use Rattle.server_core.specs.Server.{Served, on_call}
 use Rattle.server_core.specs.declared.counted.Counted.{Counted}
-use Rattle.server_core.specs.declared.fault.ServerFault.{ServerFault}
-use Rattle.container_core.specs.Record.{Record, Took, MOST_SERVERS, count_alive, is_alive, is_unreaped, is_object, acts, sends, asked_all}
-use Rattle.container_core.specs.Saves.{image, parts_in, document_tree, commit_done, commit_at, commit_made, committed_frame, completion, settle_actions, settled_actions}
-use Rattle.container_core.specs.Messages.{on_message, on_reap, on_reply, reply_found, reaped}
-use Rattle.container_core.specs.Commands.{on_command, kind_of, unless, start, start_made, run, run_at, run_in, run_made, edit, save, first_operation}
-use Rattle.container_core.specs.declared.command.Command.{Command}
-use Rattle.container_core.specs.declared.command.Command.TheVariants as command
+use Rattle.container_core.specs.Record.{Record, Took, is_object}
 use Rattle.container_core.specs.declared.record.Link.{Link}
-use Rattle.container_core.specs.declared.record.Frame.{Frame}
-use Rattle.container_core.specs.declared.record.Object.{Object}
 use Rattle.container_core.specs.declared.record.Phase.{Phase}
 use Rattle.container_core.specs.declared.record.Phase.TheVariants.{Idle, Saving, HandingOff, Committing, InDoubt}
-use Rattle.container_core.specs.declared.answer.Action.{Action}
-use Rattle.container_core.specs.declared.answer.Part.{Part}
-use Rattle.container_core.specs.declared.fault.ContainerFault.{ContainerFault}
-use Rattle.container_core.specs.declared.fault.ContainerFault.TheVariants.{Full, NumbersSpent, NoSuch, Stale, WrongLink}
 use Rattle.world_run.specs.declared.logs.Sent.{Sent}
 use Rattle.world_run.specs.declared.logs.Done.{Done}
 use Rattle.world_run.specs.declared.logs.ServerDone.{ServerDone}
 use Rattle.world_run.specs.declared.instance.Life.{Life}
-use Rattle.world_run.specs.declared.instance.Life.TheVariants.{Running, Ended, Reaped}
-use Rattle.world_run.specs.World.{World, Instance, empty_world, fresh, messages_of, of_container, started_by, done_entry, owner, nth_or_zero, counted_by}
-use Rattle.world_run.specs.Safe.{Among, link_at, links_of, act_at, acts_of, messages, ServedOnce}
-use Rattle.world_run.specs.Keeping.{Id, id_of, Distinct, Book, Keeps}
-use Rattle.world_run.specs.Tying.{Links, Acts, Lives, life_at, lives_of, InStep, HasSaved, IsClosed, Linked, IsSave, Phased, AllPhased, Drawn, Calls, Steps, Ended as Ends, Replies, IsCounted, Books, Ties, Tied}
-use Rattle.world_run.proofs.Lookups.{among_map, among_join, find_among, nth_old, nth_one, nth_aligned, nth_bound, length_set_nth}
-use Rattle.world_run.proofs.Shelves.{length_more}
-use Rattle.world_run.proofs.Quiet.{unless_ok}
-use Rattle.world_run.proofs.Books.{parts_of_frame}
-use Rattle.world_run.proofs.CallsServed.{Changed, How, drawn_served, calls_served, steps_served, ended_served, replies_served}
+use Rattle.world_run.specs.declared.instance.Life.TheVariants.{Running}
+use Rattle.world_run.specs.World.{World, Instance, empty_world, messages_of, of_container, started_by, nth_or_zero, counted_by}
+use Rattle.world_run.specs.Safe.{Among, links_of, acts_of, messages, ServedOnce}
+use Rattle.world_run.specs.Keeping.{id_of, Book, Keeps}
+use Rattle.world_run.specs.Tying.{Links, life_at, lives_of, InStep, HasSaved, IsClosed, Phased, AllPhased, Drawn, Calls, Ended as Ends, Replies, Books, Ties, Tied}
+use Rattle.world_run.proofs.Lookups.{among_map, find_among, length_set_nth}
+use Rattle.world_run.proofs.CallsServed.{drawn_served, calls_served, steps_served, ended_served, replies_served}
 use Rattle.world_run.proofs.ServingBooks.{entries_of, books_served, once_served}
-use Rattle.world_run.proofs.Moving.{Goes, calls_moved, drawn_moved, steps_moved, ended_moved, replies_moved, books_moved, books_counted}
-use Rattle.world_run.proofs.Finding.{linked_object, messages_of_log, messages_told, messages_sends, found_number}
+use Rattle.world_run.proofs.Moving.{calls_moved, drawn_moved, steps_moved, ended_moved, replies_moved, books_moved}
+use Rattle.world_run.proofs.Finding.{linked_object, messages_of_log, messages_told}
 use Rattle.world_run.proofs.Answering.{IsTaken, call_taken, nth_same, nth_other}
-use Rattle.world_run.proofs.Steps1.{Moves, run_moves, edit_moves}
-use Rattle.world_run.proofs.Steps2.{save_moves, reply_moves}
-use Rattle.world_run.proofs.Steps3.{new_moves, insert_moves, reap_moves, commit_moves, tells}
+use Rattle.world_run.proofs.Steps1.{Moves}
 
 -- the world in which nothing has happened
 nowhere : (B : Type 0) (inc : ℕ) (i : Instance) → nth {A = Instance} [] inc ≡ Some i → B

@@ -1,19 +1,17 @@
 -- Each event keeps a world tied.
-use Rattle.std.proofs.Common.{◌≡◌, ◌≢◌, ◌⊎◌, ◌==◌, ℕ, zero, suc, ◌+◌, ◌<◌, ◌≤◌, Bool, true, false, not, List, [], ◌∷◌, ◌++◌, length, map, Option, Some, None, Result, Ok, Err, refl, sym, ap, ◌∙◌, inl, inr, arith, subst, nat_le, slice_get, if◌then◌else◌}
+use Rattle.std.proofs.Common.{◌≡◌, ◌≢◌, ◌==◌, ℕ, zero, suc, ◌+◌, ◌<◌, Bool, true, false, List, [], ◌∷◌, ◌++◌, length, map, Option, Some, None, Result, Ok, Err, refl, sym, ap, ◌∙◌, inl, inr, arith, subst, nat_le, slice_get, if◌then◌else◌}
 use Rattle.std.proofs.lemmas.List.{append-nil}
 use Rattle.std.proofs.lemmas.Bool.Decides.{eqb_tells}
-use Rattle.wire_msgs.specs.Found.{find, put, nth, set_nth}
+use Rattle.wire_msgs.specs.Found.{find, nth, set_nth}
 use Rattle.wire_msgs.specs.declared.message.Message.{Message}
 use Rattle.wire_msgs.specs.declared.message.Message.TheVariants.{Call, Reply, Write, Ask}
 use Rattle.wire_msgs.specs.declared.operation.Operation.{Operation}
 use Rattle.wire_msgs.specs.declared.operation.Operation.TheVariants.{SaveCompleted}
-use Rattle.wire_msgs.specs.declared.answer.Answer.{Answer}
-use Rattle.stream_io.specs.Denotes.{Denotes}
 use Rattle.embed_core.specs.Kinds.{Kind}
 use Rattle.server_core.specs.Server.{Served, on_call, wanted}
 use Rattle.server_core.specs.declared.fault.ServerFault.{ServerFault}
-use Rattle.container_core.specs.Record.{Record, Took, MOST_SERVERS, count_alive, is_alive, is_unreaped, asked_all}
-use Rattle.container_core.specs.Saves.{image, image_at, is_committing, parts_in, document_tree, commit_done, commit_at, commit_made, completion}
+use Rattle.container_core.specs.Record.{Took, MOST_SERVERS, count_alive, is_alive, is_unreaped, asked_all}
+use Rattle.container_core.specs.Saves.{image, image_at, is_committing, parts_in, commit_done, commit_at, commit_made, completion}
 use Rattle.container_core.specs.Messages.{on_message, on_reap}
 use Rattle.container_core.specs.Commands.{on_command, kind_of, start, start_made}
 use Rattle.container_core.specs.declared.command.Command.{Command}
@@ -31,10 +29,10 @@ use Rattle.world_run.specs.declared.instance.Life.TheVariants.{Running, Ended, R
 use Rattle.world_run.specs.declared.event.Event.{Event}
 use Rattle.world_run.specs.declared.event.Event.TheVariants as event
 use Rattle.world_run.specs.declared.event.Stop.{Stop}
-use Rattle.world_run.specs.World.{World, Instance, fresh, messages_of, of_container, started_by, done_entry, joined, took, commanded, owners_by, served, stocked, called_wanting, called_in, called, delivered, deliver, crashed, crash, ended, reap, kept_commit, done_taken, done_imaged, done_in, done, happened, limited, IsImage, Run, is_of}
+use Rattle.world_run.specs.World.{World, Instance, fresh, messages_of, of_container, started_by, done_entry, joined, took, commanded, owners_by, served, stocked, called_wanting, called_in, called, delivered, deliver, crashed, crash, ended, reap, kept_commit, done_taken, done_imaged, done_in, happened, Run, is_of}
 use Rattle.world_run.specs.Safe.{Among, links_of, act_at, acts_of, messages}
-use Rattle.world_run.specs.Keeping.{Id, id_of, Keeps}
-use Rattle.world_run.specs.Tying.{life_at, lives_of, Books, IsCounted, Ties, Tied}
+use Rattle.world_run.specs.Keeping.{id_of, Keeps}
+use Rattle.world_run.specs.Tying.{life_at, lives_of, Books, Ties, Tied}
 use Rattle.world_run.proofs.Lookups.{among_map, nth_old, nth_one, nth_aligned, length_set_nth}
 use Rattle.world_run.proofs.Shelves.{length_more}
 use Rattle.world_run.proofs.Quiet.{unless_ok}
@@ -43,7 +41,7 @@ use Rattle.world_run.proofs.Finding.{messages_sends}
 use Rattle.world_run.proofs.Moving.{books_counted}
 use Rattle.world_run.proofs.Answering.{nth_same, nth_other}
 use Rattle.world_run.proofs.Kept.{commit_is_at, image_is_at, limited_ok, keeps_happened}
-use Rattle.world_run.proofs.Tied.{empty_tied, ties_instances, served_tied, moved_tied, moved_quiet}
+use Rattle.world_run.proofs.Tied.{ties_instances, served_tied, moved_tied, moved_quiet}
 use Rattle.world_run.proofs.Steps1.{Moves, NoCompletion, run_moves, edit_moves}
 use Rattle.world_run.proofs.Steps2.{save_moves, reply_moves}
 use Rattle.world_run.proofs.Steps3.{new_moves, insert_moves, reap_moves, commit_moves, tells}

@@ -1,14 +1,12 @@
 -- How a world keeps its files and its book: the facts that each event keeps. No reader has to believe them; what they are
 -- for stands in Safe.
-use Rattle.std.specs.Prelude.{◌≡◌, ◌≢◌, ◌⊎◌, ◌≤◌, ◌<◌, ℕ, true, List, [], ◌∷◌, length, map, Option, Some, None, ⊤}
+use Rattle.std.specs.Prelude.{◌≡◌, ◌≢◌, ◌⊎◌, ◌≤◌, ◌<◌, ℕ, true, List, [], ◌∷◌, length, map, Option, Some, ⊤}
 use Rattle.wire_msgs.specs.Found.{find, nth}
 use Rattle.stream_io.specs.Denotes.{Denotes}
-use Rattle.container_core.specs.Record.{Record}
 use Rattle.container_core.specs.Saves.{document_tree}
 use Rattle.container_core.specs.declared.answer.Part.{Part}
 use Rattle.container_core.specs.declared.record.Frame.{Frame}
 use Rattle.container_core.specs.declared.record.Object.{Object}
-use Rattle.container_core.specs.declared.record.Phase.{Phase}
 use Rattle.container_core.specs.declared.record.Phase.TheVariants.{Idle}
 use Rattle.world_run.specs.declared.logs.Done.{Done}
 use Rattle.world_run.specs.declared.logs.Document.{Document}

@@ -1,6 +1,6 @@
 -- How calls, replies, activations and both sides' books are tied together: the facts that each event keeps. No reader has
 -- to believe them; what they are for stands in Safe.
-use Rattle.std.specs.Prelude.{◌≡◌, ◌≢◌, ◌⊎◌, ◌≤◌, ◌<◌, ◌+◌, ℕ, Bool, List, [], ◌∷◌, length, map, Option, Some, None, Result, Ok, Err, ⊤}
+use Rattle.std.specs.Prelude.{◌≡◌, ◌⊎◌, ◌≤◌, ◌<◌, ◌+◌, ℕ, Bool, List, [], length, Option, Some, None, Ok, ⊤}
 use Rattle.wire_msgs.specs.Found.{find, nth}
 use Rattle.wire_msgs.specs.Operations.{op_of}
 use Rattle.wire_msgs.specs.declared.message.Message.{Message}
@@ -12,7 +12,7 @@ use Rattle.wire_msgs.specs.declared.answer.Answer.TheVariants as told
 use Rattle.object_state.specs.Both as both
 use Rattle.object_state.specs.declared.both_states.States.{States}
 use Rattle.storage_tree.specs.declared.stored.Stored.{Stored}
-use Rattle.server_core.specs.Server.{Activation, is_act}
+use Rattle.server_core.specs.Server.{Activation}
 use Rattle.container_core.specs.Record.{Record, is_object}
 use Rattle.container_core.specs.declared.record.Link.{Link}
 use Rattle.container_core.specs.declared.record.Object.{Object}
@@ -25,7 +25,7 @@ use Rattle.world_run.specs.declared.logs.Sent.{Sent}
 use Rattle.world_run.specs.declared.logs.Done.{Done}
 use Rattle.world_run.specs.declared.logs.ServerDone.{ServerDone}
 use Rattle.world_run.specs.World.{World, Instance}
-use Rattle.world_run.specs.Safe.{Among, link_at, links_of, act_at, acts_of, messages, IsOther, ServedOnce}
+use Rattle.world_run.specs.Safe.{Among, links_of, acts_of, messages, ServedOnce}
 
 -- Lookups: links by the numbers of their objects, activations by incarnation and number, lives by incarnation.
 abbrev pub Links : Type 0

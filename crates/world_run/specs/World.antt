@@ -1,18 +1,17 @@
 -- A world: a container, its servers, the messages between them, the files; and what happens in it.
-use Rattle.std.specs.Prelude.{◌≡◌, ◌+◌, ◌==◌, ◌++◌, ℕ, Bool, true, false, List, [], ◌∷◌, length, map, Option, Some, None, option_map, is_some, Result, Ok, Err, IsOk, if◌then◌else◌, nat_le, ⊤}
+use Rattle.std.specs.Prelude.{◌≡◌, ◌+◌, ◌++◌, ℕ, Bool, false, List, [], ◌∷◌, length, map, Option, Some, None, option_map, is_some, Result, Ok, Err, IsOk, if◌then◌else◌, nat_le, ⊤}
 use Rattle.std.specs.Str.{bytes_eq}
 use Rattle.std.specs.List.{range_with_len}
 use Rattle.wire_msgs.specs.Found.{find, nth, set_nth}
 use Rattle.wire_msgs.specs.declared.message.Message.{Message}
 use Rattle.wire_msgs.specs.declared.message.Message.TheVariants.{Call, Reply, Write, Ask}
 use Rattle.wire_msgs.specs.declared.operation.Operation.{Operation}
-use Rattle.storage_tree.specs.declared.stored.Stored.{Stored}
 use Rattle.stream_io.specs.Denotes.{Denotes}
 use Rattle.embed_core.specs.Kinds.{Kind, class_of}
 use Rattle.server_core.specs.Server.{Server, Activation, Served, on_call, wanted, is_act}
 use Rattle.server_core.specs.declared.counted.Counted.{Counted}
 use Rattle.server_core.specs.declared.fault.ServerFault.{ServerFault}
-use Rattle.container_core.specs.Record.{Record, Took, empty, quiet_answer}
+use Rattle.container_core.specs.Record.{Record, Took, empty}
 use Rattle.container_core.specs.Commands.{on_command}
 use Rattle.container_core.specs.Messages.{on_message, on_reap}
 use Rattle.container_core.specs.Saves.{commit_done, image, document_tree, name_after}

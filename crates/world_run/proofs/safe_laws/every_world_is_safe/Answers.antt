@@ -1,6 +1,5 @@
 use Rattle.world_run.proofs.Held.{empty_held, held_run, safe_held}
 use Rattle.world_run.specs.World.{empty_world}
-use Rattle.world_run.proofs.Alike.{acts_alike}
 use Rattle.world_run.proofs.safe_laws.every_world_is_safe.Goals as goal
 
 pub returns : goal.returns

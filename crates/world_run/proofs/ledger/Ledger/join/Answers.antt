@@ -1,4 +1,4 @@
-use Rattle.std.proofs.Common.{◌≡◌, ◌≤◌, ◌∙◌, ◌++◌, ◌+◌, ◌-◌, sym, ap, refl, length, map, arith, vec_len}
+use Rattle.std.proofs.Common.{◌≡◌, ◌∙◌, ◌++◌, ◌+◌, ◌-◌, ap, length, map, arith}
 use Rattle.std.specs.List.{range_with_len}
 use Rattle.world_run.specs.World.{messages_of, commits_of, of_container}
 use Rattle.world_run.specs.Starts.{starts_of}

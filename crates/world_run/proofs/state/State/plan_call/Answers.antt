@@ -1,9 +1,7 @@
-use Rattle.std.proofs.Common.{◌≡◌, ◌<◌, ◌∙◌, ap, sym, map, get_or, Some, length}
-use Rattle.std.proofs.lemmas.Option.{slice_get-get_or}
-use Rattle.std.specs.Prelude.{slice_get}
+use Rattle.std.proofs.Common.{◌≡◌, ◌∙◌, sym}
 use Rattle.container_core.specs.Numbered.{IsNth}
 use Rattle.world_run.specs.declared.instance.Life.TheVariants.{Running}
-use Rattle.world_run.specs.View.{seen, seen_instance, seen_stocked}
+use Rattle.world_run.specs.View.{seen, seen_instance}
 use Rattle.world_run.proofs.Servers.{nth_at, seen_nth}
 use Rattle.world_run.proofs.Serving.{if_some}
 use Rattle.world_run.proofs.Planning.{plan_serve, plan_begin, plan_none}

@@ -1,4 +1,4 @@
-use Rattle.std.proofs.Common.{ap, sym, ◌∙◌, map, arith}
+use Rattle.std.proofs.Common.{ap, sym, ◌∙◌, map}
 use Rattle.embed_core.specs.Kinds.{kind_of}
 use Rattle.std.specs.Prelude.{option_map}
 use Rattle.world_run.specs.Plans.{stock_with}

@@ -1,16 +1,12 @@
-use Rattle.std.proofs.Common.{◌≡◌, ◌<◌, ◌∷◌, [], ◌++◌, ap, sym, ◌∙◌, map, get_or, length, arith, Some, None, Err, set, refl}
-use Rattle.std.specs.Prelude.{slice_get, option_map}
-use Rattle.std.specs.List.{remove}
-use Rattle.std.proofs.lemmas.List.{length-map}
+use Rattle.std.proofs.Common.{◌∷◌, [], ◌++◌, ap, ◌∙◌, map, None, refl}
+use Rattle.std.specs.Prelude.{slice_get}
 use Rattle.std.proofs.Math.Seq.{map-set_same}
-use Rattle.embed_core.specs.Kinds.{Kind, kind_of}
 use Rattle.server_core.specs.Server.{Server}
 use Rattle.world_run.specs.View.{seen, seen_instance, seen_stocked, bare}
-use Rattle.world_run.specs.World.{World, view_in}
+use Rattle.world_run.specs.World.{World}
 use Rattle.world_run.specs.declared.logs.EventAnswer.TheVariants as told
 use Rattle.world_run.specs.Rooms.{replied}
 use Rattle.world_run.proofs.Servers.{seen_at, set_at}
-use Rattle.world_run.proofs.Stocks.{removed, stock_back, kind_back}
 use Rattle.world_run.proofs.Serving.{if_some, stands, serve_allowed, serve_taken, serve_unheard, same_world, refuses_told}
 use Rattle.world_run.proofs.state.State.serve.Goals as goal
 

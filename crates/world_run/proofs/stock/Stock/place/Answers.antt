@@ -1,4 +1,4 @@
-use Rattle.std.proofs.Common.{◌≡◌, ◌<◌, ◌≤◌, ap, sym, ◌∙◌, length, get_or, arith}
+use Rattle.std.proofs.Common.{◌<◌, ◌≤◌, ap, sym, ◌∙◌, length, get_or, arith}
 use Rattle.std.specs.Str.{bytes_eq}
 use Rattle.world_run.specs.View.{seen_stocked}
 use Rattle.world_run.proofs.Stocks.{past_none, past_more, past_here, past_all}
