@@ -45,21 +45,3 @@ pub fn commits_answered_contents()
 pub fn one_object_an_activation()
     ensures { OneObjectAnActivation }
 {}
-
-#[cfg(test)]
-mod tests {
-    use super::*;
-
-    #[test]
-    fn laws_take_nothing(_rt: HostRuntime) {
-        steady_from_the_start();
-        steady_after_commands();
-        steady_after_messages();
-        steady_after_reaps();
-        steady_after_commits();
-        steady_always();
-        fitting_answers_taken();
-        commits_answered_contents();
-        one_object_an_activation();
-    }
-}

@@ -2,7 +2,7 @@
 use Rattle.std.proofs.Common.{refl}
 use Rattle.std.specs.Fmt.{digits}
 use Rattle.world_run.specs.Report.{frame_line, object_line, done_line}
-use Rattle.world_run.specs.Runs.{IsSaved, IsLost, IsKept, IsRepeated, IsReloaded, IsMisedited, IsLimited, IsWorked}
+use Rattle.world_run.specs.Runs.{IsSaved, IsLost, IsKept, IsRepeated, IsReloaded, IsMisedited, IsLimited, IsSpelled, IsWorked}
 
 pub is_saved : IsSaved
 unfolding digits frame_line object_line done_line
@@ -30,5 +30,9 @@ is_misedited = record { answers = refl; told = refl }
 pub is_limited : IsLimited
 is_limited = record { frames = refl; objects = refl; servers = refl; undelivered = refl }
 
+pub is_spelled : IsSpelled
+unfolding digits frame_line
+is_spelled = record { in_doubt = refl; streams = refl; empty = refl }
+
 pub is_worked : IsWorked
-is_worked = record { is_saved = is_saved; is_lost = is_lost; is_kept = is_kept; is_repeated = is_repeated; is_reloaded = is_reloaded; is_misedited = is_misedited; is_limited = is_limited }
+is_worked = record { is_saved = is_saved; is_lost = is_lost; is_kept = is_kept; is_repeated = is_repeated; is_reloaded = is_reloaded; is_misedited = is_misedited; is_limited = is_limited; is_spelled = is_spelled }

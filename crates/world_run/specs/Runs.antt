@@ -1,8 +1,12 @@
 -- Worked runs: a note that is made, edited and saved, and what becomes of it where its server crashes.
-use Rattle.std.specs.Prelude.{◌≡◌, ◌++◌, ℕ, List, [], ◌∷◌, Some, Result, Ok, Err, codes}
+use Rattle.std.specs.Prelude.{◌≡◌, ◌++◌, ℕ, true, List, [], ◌∷◌, Some, None, Result, Ok, Err, codes}
 use Rattle.std.specs.List.{flat_map}
 use Rattle.embed_core.specs.Kinds.{Note}
+use Rattle.storage_tree.specs.declared.streams.NamedStream.{NamedStream}
+use Rattle.grant_core.specs.declared.grant_states.GrantState.TheVariants.{Granting}
 use Rattle.container_core.specs.declared.record.Area.{Area}
+use Rattle.container_core.specs.declared.record.Frame.{Frame}
+use Rattle.container_core.specs.declared.record.Phase.TheVariants.{InDoubt}
 use Rattle.container_core.specs.declared.command.Command.TheVariants.{New, Insert, Start, Run, Edit, Save}
 use Rattle.container_core.specs.declared.command.ObjectKind.TheVariants as chosen
 use Rattle.container_core.specs.declared.fault.ContainerFault.TheVariants.{Busy, Full, Stale}
@@ -15,7 +19,7 @@ use Rattle.wire_msgs.specs.declared.refusal.Refusal.TheVariants.{BadEdit}
 use Rattle.world_run.specs.declared.logs.EventAnswer.TheVariants.{Took, Refused}
 use Rattle.world_run.specs.StopNames.{stop_name}
 use Rattle.world_run.specs.World.{World, empty_world, quiet_outcome, step}
-use Rattle.world_run.specs.Report.{report}
+use Rattle.world_run.specs.Report.{report, frame_line, content_text}
 
 -- the world after these events, where each commit that is done makes no bytes the file
 abbrev pub ran : Result World Stop → List Event → Result World Stop
@@ -163,6 +167,19 @@ pub record IsLimited : Type 0 where
   pub servers : answered (from_start (Command Start ∷ Command Start ∷ Crash 1 ∷ Command Start ∷ Reap 1 ∷ Command Start ∷ [])) ≡ server 1 ∷ Refused Full ∷ ok ∷ Refused Full ∷ ok ∷ server 2 ∷ []
   pub undelivered : from_start (edited ++ Deliver 99 ∷ []) ≡ Err NotEnabled
 
+-- What a report says of frames and contents that no run reaches yet: a frame in doubt, asked for its menus and border, with
+-- a space in its name; streams with a hidden character in their name, without bytes, with bytes that are no characters.
+abbrev pub granting : Frame
+granting = record { name = codes "b c"; asked = None; k = 12; ui = record { width = 40; height = 10; state = Granting (record { object = 3; act = 1; g = 1 }) }; stored = true; phase = InDoubt }
+
+abbrev pub stream : List ℕ → List ℕ → NamedStream
+stream name bytes = record { name = name; bytes = bytes }
+
+pub record IsSpelled : Type 0 where
+  pub in_doubt : frame_line 2 granting ≡ codes "frame 2 b" ++ 92 ∷ ended (codes "20c Granting 3 k 12 doubt")
+  pub streams : content_text (stream (1 ∷ 65 ∷ []) [] ∷ stream (codes "Cells") (195 ∷ 191 ∷ 48 ∷ []) ∷ []) ≡ 92 ∷ codes "01A= Cells=c3bf30"
+  pub empty : content_text [] ≡ codes "-"
+
 pub record IsWorked : Type 0 where
   pub is_saved : IsSaved
   pub is_lost : IsLost
@@ -171,3 +188,4 @@ pub record IsWorked : Type 0 where
   pub is_reloaded : IsReloaded
   pub is_misedited : IsMisedited
   pub is_limited : IsLimited
+  pub is_spelled : IsSpelled

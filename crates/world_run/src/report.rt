@@ -331,6 +331,3 @@ fn push_done(
     text.push(b'\n')?;
     Ok(())
 }
-
-#[cfg(test)]
-mod tests;

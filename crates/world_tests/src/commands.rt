@@ -1,5 +1,6 @@
 //! Commands of a user.
 
+use crate::calls::{bytes, carry_out, hear, reply};
 use container_core::answer::{Action, Answer};
 use container_core::command::{Command, ObjectKind};
 use container_core::container::{ContainerCore, Limits};
@@ -9,14 +10,9 @@ use embed_core::classes;
 use std::alloc::Global;
 use std::test::Fail;
 use storage_tree::bytes::Bytes;
-use wire_msgs::answer as reply;
+use wire_msgs::answer::Answer as Said;
 use wire_msgs::message::Message;
 use wire_msgs::operation::Operation;
-
-/// A name of a file.
-fn name(alloc: Global) -> Result<Bytes, Fail> {
-    Ok(Bytes::from_vec(Vec::from_slice(alloc, b"a.ole")?))
-}
 
 /// An area of so many columns, one line high.
 fn area(w: u16) -> Area {
@@ -31,20 +27,18 @@ fn area(w: u16) -> Area {
 /// A container with one frame, one passive note in it and one server.
 fn made(alloc: Global) -> Result<ContainerCore, Fail> {
     let mut core = ContainerCore::new(alloc, Limits { numbers: 100 });
-    core.command(alloc, Command::New(name(alloc)?, 80, 25))?;
-    core.command(alloc, Command::Insert(1, ObjectKind::Note, area(10)))?;
-    core.command(alloc, Command::Start)?;
+    carry_out(
+        alloc,
+        &mut core,
+        Command::New(bytes(alloc, b"a.ole")?, 80, 25),
+    )?;
+    carry_out(
+        alloc,
+        &mut core,
+        Command::Insert(1, ObjectKind::Note, area(10)),
+    )?;
+    carry_out(alloc, &mut core, Command::Start)?;
     Ok(core)
-}
-
-/// The object's call n is done.
-fn done(alloc: Global, n: u32) -> Message {
-    Message::Reply {
-        inc: 1,
-        act: 1,
-        n,
-        answer: reply::Answer::Done,
-    }
 }
 
 /// The number of the only call that is sent to the first activation.
@@ -68,11 +62,19 @@ fn call(answer: &Answer) -> Option<u32> {
 fn what_is_made_has_its_number(rt: HostRuntime) -> Result<(), Fail> {
     let alloc = rt.alloc();
     let mut core = ContainerCore::new(alloc, Limits { numbers: 100 });
-    let frame = core.command(alloc, Command::New(name(alloc)?, 80, 25))?;
+    let frame = carry_out(
+        alloc,
+        &mut core,
+        Command::New(bytes(alloc, b"a.ole")?, 80, 25),
+    )?;
     assert_eq!(rt; frame.frame, Some(1));
-    let object = core.command(alloc, Command::Insert(1, ObjectKind::Note, area(10)))?;
+    let object = carry_out(
+        alloc,
+        &mut core,
+        Command::Insert(1, ObjectKind::Note, area(10)),
+    )?;
     assert_eq!(rt; object.objects.as_slice(), [1].as_slice());
-    let server = core.command(alloc, Command::Start)?;
+    let server = carry_out(alloc, &mut core, Command::Start)?;
     assert_eq!(rt; server.server, Some(1));
     assert!(rt; matches!(server.actions.as_slice(), [Action::Start(1)]));
     match core.object(1) {
@@ -90,10 +92,14 @@ fn what_is_made_has_its_number(rt: HostRuntime) -> Result<(), Fail> {
 fn a_second_frame_is_refused(rt: HostRuntime) -> Result<(), Fail> {
     let alloc = rt.alloc();
     let mut core = made(alloc)?;
-    let again = core.command(alloc, Command::New(name(alloc)?, 80, 25));
+    let again = carry_out(
+        alloc,
+        &mut core,
+        Command::New(bytes(alloc, b"a.ole")?, 80, 25),
+    );
     assert!(rt; matches!(again, Err(ContainerFault::Busy)));
-    let other = Bytes::from_vec(Vec::from_slice(alloc, b"b.ole")?);
-    let second = core.command(alloc, Command::New(other, 80, 25));
+    let other = bytes(alloc, b"b.ole")?;
+    let second = carry_out(alloc, &mut core, Command::New(other, 80, 25));
     assert!(rt; matches!(second, Err(ContainerFault::Full)));
     assert_eq!(rt; core.frames().len(), 1);
     Ok(())
@@ -103,15 +109,15 @@ fn a_second_frame_is_refused(rt: HostRuntime) -> Result<(), Fail> {
 fn an_object_is_run_edited_and_saved(rt: HostRuntime) -> Result<(), Fail> {
     let alloc = rt.alloc();
     let mut core = made(alloc)?;
-    let run = core.command(alloc, Command::Run(1, 1))?;
+    let run = carry_out(alloc, &mut core, Command::Run(1, 1))?;
     assert_eq!(rt; call(&run), Some(1));
-    let early = core.command(alloc, Command::Edit(1, Bytes::new(alloc)));
+    let early = carry_out(alloc, &mut core, Command::Edit(1, Bytes::new(alloc)));
     assert!(rt; matches!(early, Err(ContainerFault::Busy)));
-    core.on_message(alloc, 1, done(alloc, 1))?;
-    let edit = core.command(alloc, Command::Edit(1, Bytes::new(alloc)))?;
+    hear(alloc, &mut core, 1, reply(1, Said::Done))?;
+    let edit = carry_out(alloc, &mut core, Command::Edit(1, Bytes::new(alloc)))?;
     assert_eq!(rt; call(&edit), Some(2));
-    core.on_message(alloc, 1, done(alloc, 2))?;
-    let save = core.command(alloc, Command::Save(1))?;
+    hear(alloc, &mut core, 1, reply(2, Said::Done))?;
+    let save = carry_out(alloc, &mut core, Command::Save(1))?;
     assert!(rt;
         matches!(
             save.actions.as_slice(),
@@ -122,7 +128,7 @@ fn an_object_is_run_edited_and_saved(rt: HostRuntime) -> Result<(), Fail> {
             })]
         )
     );
-    let again = core.command(alloc, Command::Save(1));
+    let again = carry_out(alloc, &mut core, Command::Save(1));
     assert!(rt; matches!(again, Err(ContainerFault::Busy)));
     Ok(())
 }
@@ -131,7 +137,7 @@ fn an_object_is_run_edited_and_saved(rt: HostRuntime) -> Result<(), Fail> {
 fn a_save_without_running_objects_goes_on_at_once(rt: HostRuntime) -> Result<(), Fail> {
     let alloc = rt.alloc();
     let mut core = made(alloc)?;
-    let save = core.command(alloc, Command::Save(1))?;
+    let save = carry_out(alloc, &mut core, Command::Save(1))?;
     assert!(rt; matches!(save.actions.as_slice(), [Action::Commit(1)]));
     match core.frame(1) {
         Some(frame) => assert!(rt; frame.phase == Phase::Committing),
@@ -144,13 +150,21 @@ fn a_save_without_running_objects_goes_on_at_once(rt: HostRuntime) -> Result<(),
 fn sizes_and_states_are_checked(rt: HostRuntime) -> Result<(), Fail> {
     let alloc = rt.alloc();
     let mut core = made(alloc)?;
-    let missing = core.command(alloc, Command::Save(2));
+    let missing = carry_out(alloc, &mut core, Command::Save(2));
     assert!(rt; matches!(missing, Err(ContainerFault::NoSuch)));
-    let passive = core.command(alloc, Command::Edit(1, Bytes::new(alloc)));
+    let passive = carry_out(alloc, &mut core, Command::Edit(1, Bytes::new(alloc)));
     assert!(rt; matches!(passive, Err(ContainerFault::NotRunning)));
-    let empty = core.command(alloc, Command::Insert(1, ObjectKind::Table, area(0)));
+    let empty = carry_out(
+        alloc,
+        &mut core,
+        Command::Insert(1, ObjectKind::Table, area(0)),
+    );
     assert!(rt; matches!(empty, Err(ContainerFault::WrongState)));
-    let second = core.command(alloc, Command::Insert(1, ObjectKind::Drawing, area(1)));
+    let second = carry_out(
+        alloc,
+        &mut core,
+        Command::Insert(1, ObjectKind::Drawing, area(1)),
+    );
     assert!(rt; matches!(second, Err(ContainerFault::Full)));
     assert_eq!(rt; core.objects().len(), 1);
     Ok(())

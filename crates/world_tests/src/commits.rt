@@ -1,5 +1,6 @@
 //! Documents, their files, and commits.
 
+use crate::calls::{bytes, carry_out, commit_done, hear, reply};
 use cfb_directory::name::Name;
 use container_core::answer::Action;
 use container_core::command::{Command, ObjectKind};
@@ -17,10 +18,6 @@ use wire_msgs::answer::Answer;
 use wire_msgs::message::Message;
 use wire_msgs::operation::Operation;
 
-fn bytes(alloc: Global, bytes: &[u8]) -> Result<Bytes, Fail> {
-    Ok(Bytes::from_vec(Vec::from_slice(alloc, bytes)?))
-}
-
 /// A stream of this name and these bytes.
 fn stream(alloc: Global, name: &[u8], content: &[u8]) -> Result<NamedStream, Fail> {
     Ok(NamedStream {
@@ -29,20 +26,10 @@ fn stream(alloc: Global, name: &[u8], content: &[u8]) -> Result<NamedStream, Fai
     })
 }
 
-/// The reply to a call of the only activation.
-fn reply(n: u32, answer: Answer) -> Message {
-    Message::Reply {
-        inc: 1,
-        act: 1,
-        n,
-        answer,
-    }
-}
-
 /// A container with one frame.
 fn framed(alloc: Global) -> Result<ContainerCore, Fail> {
     let mut core = ContainerCore::new(alloc, Limits { numbers: 100 });
-    core.command(alloc, Command::New(bytes(alloc, b"a")?, 80, 25))?;
+    carry_out(alloc, &mut core, Command::New(bytes(alloc, b"a")?, 80, 25))?;
     Ok(core)
 }
 
@@ -55,15 +42,15 @@ fn committing(alloc: Global) -> Result<ContainerCore, Fail> {
         h: 2,
     };
     let mut core = framed(alloc)?;
-    core.command(alloc, Command::Insert(1, ObjectKind::Note, area))?;
-    core.command(alloc, Command::Start)?;
-    core.command(alloc, Command::Run(1, 1))?;
-    core.on_message(alloc, 1, reply(1, Answer::Done))?;
-    core.command(alloc, Command::Save(1))?;
+    carry_out(alloc, &mut core, Command::Insert(1, ObjectKind::Note, area))?;
+    carry_out(alloc, &mut core, Command::Start)?;
+    carry_out(alloc, &mut core, Command::Run(1, 1))?;
+    hear(alloc, &mut core, 1, reply(1, Answer::Done))?;
+    carry_out(alloc, &mut core, Command::Save(1))?;
     let mut content = Stored::new(alloc);
     content.streams.push(stream(alloc, b"B", &[4])?)?;
     content.streams.push(stream(alloc, b"AA", &[5, 6])?)?;
-    core.on_message(alloc, 1, reply(2, Answer::Content(content)))?;
+    hear(alloc, &mut core, 1, reply(2, Answer::Content(content)))?;
     Ok(core)
 }
 
@@ -72,7 +59,12 @@ fn a_container_without_frames_commits_none(rt: HostRuntime) -> Result<(), Fail> 
     let mut core = ContainerCore::new(rt.alloc(), Limits { numbers: 100 });
     assert!(rt; matches!(core.document(rt.alloc(), 1), Err(ContainerFault::NoSuch)));
     assert!(rt; matches!(core.image(rt.alloc(), 1), Err(ContainerFault::NoSuch)));
-    assert!(rt; matches!(core.commit_done(rt.alloc(), 1), Err(ContainerFault::NoSuch)));
+    assert!(rt;
+        matches!(
+            commit_done(rt.alloc(), &mut core, 1),
+            Err(ContainerFault::NoSuch)
+        )
+    );
     Ok(())
 }
 
@@ -80,7 +72,7 @@ fn a_container_without_frames_commits_none(rt: HostRuntime) -> Result<(), Fail> 
 fn a_document_without_objects_is_an_empty_root(rt: HostRuntime) -> Result<(), Fail> {
     let alloc = rt.alloc();
     let mut core = framed(alloc)?;
-    core.command(alloc, Command::Save(1))?;
+    carry_out(alloc, &mut core, Command::Save(1))?;
     match core.commit_image(alloc, 1) {
         Ok((parts, file)) => {
             assert!(rt; parts.is_empty());
@@ -110,7 +102,7 @@ fn a_commit_counts_what_a_running_object_answered(rt: HostRuntime) -> Result<(),
         Ok(again) => assert_eq!(rt; again.as_slice(), file.as_slice()),
         Err(_) => panic!(rt; "no file"),
     }
-    let answer = core.commit_done(alloc, 1)?;
+    let answer = commit_done(alloc, &mut core, 1)?;
     match answer.actions.as_slice() {
         [
             Action::Send(

@@ -2,9 +2,13 @@
 #![tactic(auto)]
 
 #[cfg(test)]
+mod calls;
+#[cfg(test)]
 mod commands;
 #[cfg(test)]
 mod commits;
+#[cfg(test)]
+mod laws;
 #[cfg(test)]
 mod messages;
 #[cfg(test)]

@@ -1,5 +1,6 @@
 //! Messages, and the end of a server.
 
+use crate::calls::{bytes, carry_out, hear, reap, reply};
 use container_core::answer::Action;
 use container_core::command::{Command, ObjectKind};
 use container_core::container::{ContainerCore, Limits};
@@ -13,25 +14,11 @@ use wire_msgs::answer::Answer;
 use wire_msgs::message::Message;
 use wire_msgs::refusal::Refusal;
 
-fn bytes(alloc: Global, bytes: &[u8]) -> Result<Bytes, Fail> {
-    Ok(Bytes::from_vec(Vec::from_slice(alloc, bytes)?))
-}
-
 /// A content with this picture.
 fn content(alloc: Global, picture: &[u8]) -> Result<Stored, Fail> {
     let mut content = Stored::new(alloc);
     content.picture = bytes(alloc, picture)?;
     Ok(content)
-}
-
-/// The answer to a call of the only activation.
-fn reply(n: u32, answer: Answer) -> Message {
-    Message::Reply {
-        inc: 1,
-        act: 1,
-        n,
-        answer,
-    }
 }
 
 /// A container with one object, which server 1 runs.
@@ -43,11 +30,11 @@ fn running(alloc: Global) -> Result<ContainerCore, Fail> {
         h: 2,
     };
     let mut core = ContainerCore::new(alloc, Limits { numbers: 100 });
-    core.command(alloc, Command::New(bytes(alloc, b"a")?, 80, 25))?;
-    core.command(alloc, Command::Insert(1, ObjectKind::Note, area))?;
-    core.command(alloc, Command::Start)?;
-    core.command(alloc, Command::Run(1, 1))?;
-    core.on_message(alloc, 1, reply(1, Answer::Done))?;
+    carry_out(alloc, &mut core, Command::New(bytes(alloc, b"a")?, 80, 25))?;
+    carry_out(alloc, &mut core, Command::Insert(1, ObjectKind::Note, area))?;
+    carry_out(alloc, &mut core, Command::Start)?;
+    carry_out(alloc, &mut core, Command::Run(1, 1))?;
+    hear(alloc, &mut core, 1, reply(1, Answer::Done))?;
     Ok(core)
 }
 
@@ -70,9 +57,14 @@ fn passive(core: &ContainerCore) -> Option<&[u8]> {
 fn an_answered_save_goes_on_to_its_commit(rt: HostRuntime) -> Result<(), Fail> {
     let alloc = rt.alloc();
     let mut core = running(alloc)?;
-    core.command(alloc, Command::Save(1))?;
+    carry_out(alloc, &mut core, Command::Save(1))?;
     assert_eq!(rt; phase(&core), Some(Phase::Saving));
-    let answer = core.on_message(alloc, 1, reply(2, Answer::Content(content(alloc, &[5])?)))?;
+    let answer = hear(
+        alloc,
+        &mut core,
+        1,
+        reply(2, Answer::Content(content(alloc, &[5])?)),
+    )?;
     assert!(rt; matches!(answer.actions.as_slice(), [Action::Commit(1)]));
     assert_eq!(rt; phase(&core), Some(Phase::Committing));
     Ok(())
@@ -82,12 +74,12 @@ fn an_answered_save_goes_on_to_its_commit(rt: HostRuntime) -> Result<(), Fail> {
 fn only_the_pending_reply_on_its_own_link_is_taken(rt: HostRuntime) -> Result<(), Fail> {
     let alloc = rt.alloc();
     let mut core = running(alloc)?;
-    core.command(alloc, Command::Save(1))?;
-    let late = core.on_message(alloc, 1, reply(1, Answer::Done));
+    carry_out(alloc, &mut core, Command::Save(1))?;
+    let late = hear(alloc, &mut core, 1, reply(1, Answer::Done));
     assert!(rt; matches!(late, Err(ContainerFault::Stale)));
-    let foreign = core.on_message(alloc, 2, reply(2, Answer::Done));
+    let foreign = hear(alloc, &mut core, 2, reply(2, Answer::Done));
     assert!(rt; matches!(foreign, Err(ContainerFault::WrongLink)));
-    let unfit = core.on_message(alloc, 1, reply(2, Answer::Done));
+    let unfit = hear(alloc, &mut core, 1, reply(2, Answer::Done));
     assert!(rt; matches!(unfit, Err(ContainerFault::BadAnswer)));
     Ok(())
 }
@@ -96,8 +88,13 @@ fn only_the_pending_reply_on_its_own_link_is_taken(rt: HostRuntime) -> Result<()
 fn a_refused_edit_leaves_the_object_running(rt: HostRuntime) -> Result<(), Fail> {
     let alloc = rt.alloc();
     let mut core = running(alloc)?;
-    core.command(alloc, Command::Edit(1, bytes(alloc, b"x")?))?;
-    let answer = core.on_message(alloc, 1, reply(2, Answer::Refused(Refusal::BadEdit)))?;
+    carry_out(alloc, &mut core, Command::Edit(1, bytes(alloc, b"x")?))?;
+    let answer = hear(
+        alloc,
+        &mut core,
+        1,
+        reply(2, Answer::Refused(Refusal::BadEdit)),
+    )?;
     assert_eq!(rt; answer.refused, Some(Refusal::BadEdit));
     assert!(rt; answer.actions.is_empty());
     assert_eq!(rt; passive(&core), None);
@@ -108,11 +105,11 @@ fn a_refused_edit_leaves_the_object_running(rt: HostRuntime) -> Result<(), Fail>
 fn a_reaped_server_is_not_waited_for(rt: HostRuntime) -> Result<(), Fail> {
     let alloc = rt.alloc();
     let mut core = running(alloc)?;
-    core.command(alloc, Command::Save(1))?;
-    let answer = core.on_reap(alloc, 1)?;
+    carry_out(alloc, &mut core, Command::Save(1))?;
+    let answer = reap(alloc, &mut core, 1)?;
     assert!(rt; matches!(answer.actions.as_slice(), [Action::Commit(1)]));
     assert_eq!(rt; passive(&core), Some([].as_slice()));
-    assert!(rt; matches!(core.on_reap(alloc, 1), Err(ContainerFault::NoSuch)));
+    assert!(rt; matches!(reap(alloc, &mut core, 1), Err(ContainerFault::NoSuch)));
     Ok(())
 }
 
@@ -120,13 +117,14 @@ fn a_reaped_server_is_not_waited_for(rt: HostRuntime) -> Result<(), Fail> {
 fn a_reaped_object_has_the_content_that_it_answered(rt: HostRuntime) -> Result<(), Fail> {
     let alloc = rt.alloc();
     let mut core = running(alloc)?;
-    core.command(alloc, Command::Save(1))?;
-    core.on_message(
+    carry_out(alloc, &mut core, Command::Save(1))?;
+    hear(
         alloc,
+        &mut core,
         1,
         reply(2, Answer::Content(content(alloc, &[5, 6])?)),
     )?;
-    core.on_reap(alloc, 1)?;
+    reap(alloc, &mut core, 1)?;
     assert_eq!(rt; passive(&core), Some([5, 6].as_slice()));
     Ok(())
 }

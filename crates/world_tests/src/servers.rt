@@ -1,3 +1,4 @@
+use crate::calls::on_call;
 use cfb_directory::name::Name;
 use embed_core::embedded::Embedded;
 use embed_core::tally::Tally;
@@ -108,7 +109,7 @@ fn with_note(alloc: Global, tally: &Tally) -> Result<ServerCore, Fail> {
     let mut core = ServerCore::new(alloc, 1, 9);
     let boxed = note(alloc, tally)?;
     let init = call(5, 1, Operation::InitNew(classes::note()));
-    taken(core.on_call(alloc, init, Some(boxed)))?;
+    taken(on_call(&mut core, alloc, init, Some(boxed)))?;
     Ok(core)
 }
 
@@ -118,7 +119,7 @@ fn a_first_call_is_done_and_kept(rt: HostRuntime) -> Result<(), Fail> {
     let mut core = ServerCore::new(rt.alloc(), 1, 9);
     let init = call(5, 1, Operation::InitNew(classes::note()));
     assert!(rt; core.wants(&init) == Some(classes::note()));
-    let reaction = taken(core.on_call(rt.alloc(), init, Some(note(rt.alloc(), &tally)?)))?;
+    let reaction = taken(on_call(&mut core, rt.alloc(), init, Some(note(rt.alloc(), &tally)?)))?;
     assert!(rt; is_done(&reaction.reply));
     assert!(rt; reaction.back.is_none());
     let kept = core.last_reply(rt.alloc(), 5)?;
@@ -134,7 +135,7 @@ fn a_repeated_call_is_answered_again(rt: HostRuntime) -> Result<(), Fail> {
     let init = call(5, 1, Operation::InitNew(classes::note()));
     assert!(rt; core.wants(&init).is_none());
     let other = note(rt.alloc(), &tally)?;
-    let reaction = taken(core.on_call(rt.alloc(), init, Some(other)))?;
+    let reaction = taken(on_call(&mut core, rt.alloc(), init, Some(other)))?;
     assert!(rt; is_done(&reaction.reply));
     assert!(rt; reaction.back.is_some());
     assert_eq!(rt; tally.count(), 0);
@@ -147,19 +148,19 @@ fn a_refused_load_closes(rt: HostRuntime) -> Result<(), Fail> {
     let mut core = ServerCore::new(rt.alloc(), 1, 9);
     let load = Operation::Load(classes::note(), text(rt.alloc(), b"\x07")?);
     let first = note(rt.alloc(), &tally)?;
-    let reaction = taken(core.on_call(rt.alloc(), call(5, 1, load), Some(first)))?;
+    let reaction = taken(on_call(&mut core, rt.alloc(), call(5, 1, load), Some(first)))?;
     assert!(rt; why(&reaction.reply) == Some(Why::BadContent));
     assert!(rt; reaction.back.is_none());
     assert_eq!(rt; tally.count(), 1);
     let again = Operation::Load(classes::note(), text(rt.alloc(), b"\x07")?);
     let second = note(rt.alloc(), &tally)?;
-    let reaction = taken(core.on_call(rt.alloc(), call(5, 1, again), Some(second)))?;
+    let reaction = taken(on_call(&mut core, rt.alloc(), call(5, 1, again), Some(second)))?;
     assert!(rt; why(&reaction.reply) == Some(Why::BadContent));
     assert!(rt; reaction.back.is_some());
     assert_eq!(rt; tally.count(), 1);
     let late = call(5, 2, edit(rt.alloc(), b"i 0 a")?);
     assert_eq!(rt;
-        refused(core.on_call(rt.alloc(), late, None)),
+        refused(on_call(&mut core, rt.alloc(), late, None)),
         Some((ServerFault::Ignored, false))
     );
     Ok(())
@@ -171,13 +172,13 @@ fn a_first_call_needs_an_object_of_its_class(rt: HostRuntime) -> Result<(), Fail
     let mut core = ServerCore::new(rt.alloc(), 1, 9);
     let load = Operation::Load(classes::note(), text(rt.alloc(), b"a")?);
     assert_eq!(rt;
-        refused(core.on_call(rt.alloc(), call(5, 1, load), None)),
+        refused(on_call(&mut core, rt.alloc(), call(5, 1, load), None)),
         Some((ServerFault::NeedObject, false))
     );
     let init = call(5, 1, Operation::InitNew(classes::note()));
     let other = table(rt.alloc(), &tally)?;
     assert_eq!(rt;
-        refused(core.on_call(rt.alloc(), init, Some(other))),
+        refused(on_call(&mut core, rt.alloc(), init, Some(other))),
         Some((ServerFault::WrongClass, true))
     );
     let elsewhere = Message::Call {
@@ -187,7 +188,7 @@ fn a_first_call_needs_an_object_of_its_class(rt: HostRuntime) -> Result<(), Fail
         operation: Operation::InPlace,
     };
     assert_eq!(rt;
-        refused(core.on_call(rt.alloc(), elsewhere, None)),
+        refused(on_call(&mut core, rt.alloc(), elsewhere, None)),
         Some((ServerFault::WrongIncarnation, false))
     );
     assert_eq!(rt; tally.count(), 1);
@@ -199,18 +200,18 @@ fn an_edit_is_saved_and_written(rt: HostRuntime) -> Result<(), Fail> {
     let tally = Tally::new(rt.alloc())?;
     let mut core = with_note(rt.alloc(), &tally)?;
     let typed = call(5, 2, edit(rt.alloc(), b"i 0 abc")?);
-    assert!(rt; is_done(&taken(core.on_call(rt.alloc(), typed, None))?.reply));
+    assert!(rt; is_done(&taken(on_call(&mut core, rt.alloc(), typed, None))?.reply));
     let write = core.scribble(rt.alloc(), 5)?;
     assert!(rt; told(&write) == Some(b"abc".as_slice()));
     let save = call(5, 3, Operation::Save(8));
-    let saved = taken(core.on_call(rt.alloc(), save, None))?;
+    let saved = taken(on_call(&mut core, rt.alloc(), save, None))?;
     assert!(rt; told(&saved.reply) == Some(b"abc".as_slice()));
     assert!(rt; core.scribble(rt.alloc(), 5).is_err());
     let completed = Operation::SaveCompleted {
         save: 8,
         storage: true,
     };
-    let reaction = taken(core.on_call(rt.alloc(), call(5, 4, completed), None))?;
+    let reaction = taken(on_call(&mut core, rt.alloc(), call(5, 4, completed), None))?;
     assert!(rt; is_done(&reaction.reply));
     assert!(rt; matches!(&reaction.counted, Some(counted) if counted.act == 5 && counted.k == 8));
     Ok(())
@@ -221,8 +222,13 @@ fn an_activation_is_seen(rt: HostRuntime) -> Result<(), Fail> {
     let tally = Tally::new(rt.alloc())?;
     let mut core = with_note(rt.alloc(), &tally)?;
     assert!(rt; core.ask_deactivate(5).is_err());
-    taken(core.on_call(rt.alloc(), call(5, 2, Operation::InPlace), None))?;
-    taken(core.on_call(rt.alloc(), call(5, 3, Operation::UiActivate(7)), None))?;
+    taken(on_call(&mut core, rt.alloc(), call(5, 2, Operation::InPlace), None))?;
+    taken(on_call(
+        &mut core,
+        rt.alloc(),
+        call(5, 3, Operation::UiActivate(7)),
+        None,
+    ))?;
     let asked = core.ask_deactivate(5)?;
     assert!(rt;
         matches!(
@@ -247,10 +253,15 @@ fn objects_are_dropped_once(rt: HostRuntime) -> Result<(), Fail> {
     let tally = Tally::new(rt.alloc())?;
     let mut core = with_note(rt.alloc(), &tally)?;
     let init = call(6, 1, Operation::InitNew(classes::table()));
-    taken(core.on_call(rt.alloc(), init, Some(table(rt.alloc(), &tally)?)))?;
+    taken(on_call(
+        &mut core,
+        rt.alloc(),
+        init,
+        Some(table(rt.alloc(), &tally)?),
+    ))?;
     assert_eq!(rt; tally.count(), 0);
     let close = call(5, 2, Operation::Close(CloseOption::NoSave));
-    taken(core.on_call(rt.alloc(), close, None))?;
+    taken(on_call(&mut core, rt.alloc(), close, None))?;
     assert_eq!(rt; tally.count(), 1);
     drop(core);
     assert_eq!(rt; tally.count(), 2);

@@ -1,5 +1,6 @@
 //! Worlds, and what they show.
 
+use crate::calls::{bytes, run};
 use cfb_directory::name::Name;
 use container_core::command::{Command, ObjectKind};
 use container_core::container::Limits;
@@ -8,18 +9,17 @@ use embed_core::embedded::Embedded;
 use embed_core::tally::Tally;
 use embed_note::note::Note;
 use std::alloc::Global;
+use std::io;
+use std::io::{ErrorKind, Write};
 use std::test::Fail;
 use storage_tree::bytes::Bytes;
 use storage_tree::storage::Found;
 use stream_io::read::read_file;
 use world_run::event::{Event, Stop};
 use world_run::logs::EventAnswer;
+use world_run::report::ReportFault;
 use world_run::stock::Stock;
 use world_run::world::World;
-
-fn bytes(alloc: Global, bytes: &[u8]) -> Result<Bytes, Fail> {
-    Ok(Bytes::from_vec(Vec::from_slice(alloc, bytes)?))
-}
 
 /// A world with one note in stock, or none.
 fn world(alloc: Global, stocked: bool) -> Result<World, Fail> {
@@ -62,7 +62,10 @@ fn a_save(alloc: Global, edit: &[u8]) -> Result<Vec<Event>, Fail> {
 fn a_note_is_saved(rt: HostRuntime) -> Result<(), Fail> {
     let alloc = rt.alloc();
     let mut world = world(alloc, true)?;
-    assert_eq!(rt; world.run(alloc, &a_save(alloc, b"i 0 ab")?), (13, None));
+    assert_eq!(rt;
+        run(alloc, &mut world, &a_save(alloc, b"i 0 ab")?),
+        (13, None)
+    );
     match world.frame_file(1) {
         Some(file) => match read_file(alloc, file)?.get(&[Name::new(b"Text")?]) {
             Ok(Found::Stream(text)) => assert_eq!(rt; text.as_slice(), b"ab".as_slice()),
@@ -71,7 +74,7 @@ fn a_note_is_saved(rt: HostRuntime) -> Result<(), Fail> {
         None => panic!(rt; "no file"),
     }
     assert_eq!(rt;
-        world.run(alloc, &[Event::Deliver(7), Event::Deliver(8)]),
+        run(alloc, &mut world, &[Event::Deliver(7), Event::Deliver(8)]),
         (2, None)
     );
     assert_eq!(rt; world.events_taken(), 15);
@@ -96,7 +99,7 @@ fn without_stock_no_activation_is_made(rt: HostRuntime) -> Result<(), Fail> {
     let alloc = rt.alloc();
     let mut world = world(alloc, false)?;
     assert_eq!(rt;
-        world.run(alloc, &a_save(alloc, b"i 0 ab")?),
+        run(alloc, &mut world, &a_save(alloc, b"i 0 ab")?),
         (4, Some(Stop::OutOfStock))
     );
     assert!(rt; world.frame_file(1).is_none());
@@ -112,7 +115,7 @@ fn a_long_text_is_not_committed(rt: HostRuntime) -> Result<(), Fail> {
         edit.push(b'a')?;
     }
     assert_eq!(rt;
-        world.run(alloc, &a_save(alloc, &edit)?),
+        run(alloc, &mut world, &a_save(alloc, &edit)?),
         (12, Some(Stop::NotEnabled))
     );
     assert!(rt; world.container_done().is_empty());
@@ -124,7 +127,7 @@ fn no_message_stands_at_a_place_behind_all(rt: HostRuntime) -> Result<(), Fail> 
     let alloc = rt.alloc();
     let mut world = world(alloc, true)?;
     assert_eq!(rt;
-        world.run(alloc, &[Event::Deliver(99)]),
+        run(alloc, &mut world, &[Event::Deliver(99)]),
         (0, Some(Stop::NotEnabled))
     );
     Ok(())
@@ -138,7 +141,10 @@ fn a_world_takes_ten_thousand_events(rt: HostRuntime) -> Result<(), Fail> {
     for _ in 0..10_001 {
         events.push(Event::Command(Command::Start))?;
     }
-    assert_eq!(rt; world.run(alloc, &events), (10_000, Some(Stop::EventLimit)));
+    assert_eq!(rt;
+        run(alloc, &mut world, &events),
+        (10_000, Some(Stop::EventLimit))
+    );
     assert!(rt; matches!(world.answer(1), Some(EventAnswer::Took(_))));
     assert!(rt; matches!(world.answer(10_000), Some(EventAnswer::Refused(_))));
     Ok(())
@@ -150,19 +156,19 @@ fn a_server_ends_once(rt: HostRuntime) -> Result<(), Fail> {
     let mut world = world(alloc, false)?;
     let start = Event::Command(Command::Start);
     assert_eq!(rt;
-        world.run(alloc, &[start, Event::Reap(1)]),
+        run(alloc, &mut world, &[start, Event::Reap(1)]),
         (1, Some(Stop::NotEnabled))
     );
     let ends = [Event::Crash(1), Event::Reap(1), Event::Crash(1)];
-    assert_eq!(rt; world.run(alloc, &ends), (2, Some(Stop::NotEnabled)));
+    assert_eq!(rt; run(alloc, &mut world, &ends), (2, Some(Stop::NotEnabled)));
     Ok(())
 }
 
 /// Runs events one after the other, and each again where memory ran out.
 fn run_on(alloc: Global, world: &mut World, events: &[Event]) -> Option<Stop> {
     for event in events.chunks(1) {
-        let stop = match world.run(alloc, event).1 {
-            Some(Stop::NoMemory) => world.run(alloc, event).1,
+        let stop = match run(alloc, world, event).1 {
+            Some(Stop::NoMemory) => run(alloc, world, event).1,
             stop => stop,
         };
         match stop {
@@ -202,5 +208,31 @@ fn a_run_goes_on_where_memory_ran_out(rt: HostRuntime) -> Result<(), Fail> {
         ),
         None => panic!(rt; "no report"),
     }
+    Ok(())
+}
+
+/// A writer that fails.
+#[derive(Drop)]
+struct Closed;
+
+impl Write for Closed {
+    fn write(&mut self, _buf: &[u8]) -> io::Result<usize> {
+        Err(io::Error::from(ErrorKind::Other))
+    }
+
+    fn flush(&mut self) -> io::Result<()> {
+        Err(io::Error::from(ErrorKind::Other))
+    }
+}
+
+#[test]
+fn a_world_in_which_nothing_happened_has_no_lines(rt: HostRuntime) -> Result<(), Fail> {
+    let alloc = rt.alloc();
+    let world = world(alloc, false)?;
+    let mut text = Vec::new(alloc);
+    world.report(alloc, &mut text)?;
+    assert!(rt; text.is_empty());
+    let closed = world.report(alloc, &mut Closed);
+    assert_eq!(rt; closed, Err(ReportFault::Unwritable));
     Ok(())
 }
