@@ -1,0 +1,14 @@
+//! Where an object stands in its frame.
+
+/// The cells of an object in its frame.
+#[derive(Debug, Clone, Copy, PartialEq, Eq)]
+pub struct Area {
+    /// Its left column.
+    pub x: u16,
+    /// Its top line.
+    pub y: u16,
+    /// How many columns it has.
+    pub w: u16,
+    /// How many lines it has.
+    pub h: u16,
+}
