@@ -9,7 +9,7 @@ use Rattle.storage_tree.specs.declared.storage.Edit.{Edit}
 use Rattle.storage_tree.specs.declared.storage.Edit.TheVariants.{Put, Make}
 use Rattle.storage_tree.specs.declared.fault.TreeFault.{TreeFault}
 use Rattle.storage_tree.specs.declared.fault.TreeFault.TheVariants.{NotFound, Exists, WrongKind, NoTransaction, TooDeep, NoMemory}
-use Rattle.stream_io.specs.Need.{over_streams}
+use Rattle.file_model.specs.Need.{over_streams}
 use Rattle.container_cli.specs.Outline.{outline, outlined, total}
 use Rattle.container_cli.specs.Building.{IsBuilt, room}
 use Rattle.container_cli.specs.Description.{Refuses, of_tree, stream_made}

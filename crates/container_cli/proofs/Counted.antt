@@ -6,25 +6,25 @@ use Rattle.wire_msgs.specs.declared.message.Message.{Message}
 use Rattle.wire_msgs.specs.declared.message.Message.TheVariants.{Call, Reply, Write, Ask}
 use Rattle.wire_msgs.specs.declared.operation.Operation.{Operation}
 use Rattle.wire_msgs.specs.Found.{find, nth}
-use Rattle.server_core.specs.Server.{Served, on_call, wanted}
-use Rattle.server_core.specs.declared.fault.ServerFault.{ServerFault}
-use Rattle.container_core.specs.Commands.{on_command}
-use Rattle.container_core.specs.Messages.{on_message, on_reap}
-use Rattle.container_core.specs.Record.{Took}
-use Rattle.container_core.specs.Saves.{commit_done, image}
-use Rattle.container_core.specs.declared.answer.Part.{Part}
-use Rattle.container_core.specs.declared.command.Command.{Command}
-use Rattle.container_core.specs.declared.fault.ContainerFault.{ContainerFault}
-use Rattle.container_core.specs.declared.record.Frame.{Frame}
-use Rattle.world_run.specs.World.{World, Instance, took, commanded, served, stocked, called_wanting, called_in, called, delivered, deliver, crashed, crash, ended, reap, done_taken, done_imaged, done_in, happened, limited, Run, MOST_EVENTS, is_of}
-use Rattle.world_run.specs.declared.event.Event.{Event}
-use Rattle.world_run.specs.declared.event.Event.TheVariants as event
-use Rattle.world_run.specs.declared.event.Stop.{Stop}
-use Rattle.world_run.specs.declared.event.Stop.TheVariants.{EventLimit}
-use Rattle.world_run.specs.declared.instance.Life.{Life}
-use Rattle.world_run.specs.declared.instance.Life.TheVariants.{Running, Ended, Reaped}
-use Rattle.world_run.specs.declared.logs.Sent.{Sent}
-use Rattle.world_run.specs.declared.logs.EventAnswer.{EventAnswer}
+use Rattle.server_model.specs.Server.{Served, on_call, wanted}
+use Rattle.server_model.specs.declared.fault.ServerFault.{ServerFault}
+use Rattle.container_model.specs.Commands.{on_command}
+use Rattle.container_model.specs.Messages.{on_message, on_reap}
+use Rattle.container_model.specs.Record.{Took}
+use Rattle.container_model.specs.Saves.{commit_done, image}
+use Rattle.container_model.specs.declared.answer.Part.{Part}
+use Rattle.container_model.specs.declared.command.Command.{Command}
+use Rattle.container_model.specs.declared.fault.ContainerFault.{ContainerFault}
+use Rattle.container_model.specs.declared.record.Frame.{Frame}
+use Rattle.world_model.specs.World.{World, Instance, took, commanded, served, stocked, called_wanting, called_in, called, delivered, deliver, crashed, crash, ended, reap, done_taken, done_imaged, done_in, happened, limited, Run, MOST_EVENTS, is_of}
+use Rattle.world_model.specs.declared.event.Event.{Event}
+use Rattle.world_model.specs.declared.event.Event.TheVariants as event
+use Rattle.world_model.specs.declared.event.Stop.{Stop}
+use Rattle.world_model.specs.declared.event.Stop.TheVariants.{EventLimit}
+use Rattle.world_model.specs.declared.life.Life.{Life}
+use Rattle.world_model.specs.declared.life.Life.TheVariants.{Running, Ended, Reaped}
+use Rattle.world_model.specs.declared.logs.Sent.{Sent}
+use Rattle.world_model.specs.declared.logs.EventAnswer.{EventAnswer}
 
 -- one more event was answered
 abbrev More : World → World → Type 0

@@ -6,7 +6,7 @@ use Rattle.embed_core.specs.Words.{pieces}
 use Rattle.container_cli.specs.Commands.{commands_read, is_skipped, line_read, numbered}
 use Rattle.container_cli.specs.Events.{event_read, events_read, put_first}
 use Rattle.container_cli.specs.declared.command.Command.{Command}
-use Rattle.world_run.specs.declared.event.Event.{Event}
+use Rattle.world_model.specs.declared.event.Event.{Event}
 use Rattle.container_cli.specs.declared.fault.LineFault.{LineFault}
 use Rattle.storage_tree.specs.Change.{Outcome}
 use Rattle.storage_tree.specs.Kept.{Kept}

@@ -1,11 +1,11 @@
 -- A run from the world in which nothing has happened, and what is written of it.
 use Rattle.std.proofs.Common.{◌≡◌, ◌++◌, ℕ, zero, suc, List, [], ◌∷◌, Option, Some, None, length, take, drop, slice_get, MatchOption, ap, ◌∙◌, subst, arith}
 use Rattle.embed_core.specs.Kinds.{Kind}
-use Rattle.world_run.specs.Report.{report}
-use Rattle.world_run.specs.World.{World, Run, StopsAt, empty_world}
+use Rattle.world_model.specs.Report.{report}
+use Rattle.world_model.specs.World.{World, Run, StopsAt, empty_world}
 use Rattle.world_run.proofs.Held.{empty_held, held_run, safe_held}
-use Rattle.world_run.specs.declared.event.Event.{Event}
-use Rattle.world_run.specs.declared.event.Stop.{Stop}
+use Rattle.world_model.specs.declared.event.Event.{Event}
+use Rattle.world_model.specs.declared.event.Stop.{Stop}
 use Rattle.container_cli.specs.Answers.{answer_lines}
 use Rattle.container_cli.specs.Simulation.{Ends, IsSimulated, stop_text}
 

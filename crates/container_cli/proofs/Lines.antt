@@ -1,7 +1,7 @@
 -- The lines of answers, one after another.
 use Rattle.std.proofs.Common.{◌≡◌, ◌≤◌, ◌<◌, ◌+◌, ◌-◌, ◌++◌, ℕ, zero, suc, List, [], ◌∷◌, Some, None, length, drop, slice_get, refl, sym, ap, ◌∙◌, arith, append_assoc, append-nil}
 use Rattle.wire_msgs.specs.Found.{nth}
-use Rattle.world_run.specs.declared.logs.EventAnswer.{EventAnswer}
+use Rattle.world_model.specs.declared.logs.EventAnswer.{EventAnswer}
 use Rattle.container_cli.specs.Answers.{answer_line, answer_lines}
 
 -- the item of a number and what stands behind it

@@ -1,11 +1,11 @@
 -- A tree whose streams have more bytes than any file is refused.
 use Rattle.std.proofs.Common.{◌≡◌, ◌≤◌, ◌<◌, ◌+◌, ◌*◌, ◌||◌, ℕ, Bool, true, false, cond, List, Result, Ok, Err, length, refl, sym, ap, ◌∙◌, arith, nat_lt, lt-ltb}
 use Rattle.storage_tree.specs.Tree.{Tree, Children, tree, none, stream, storage}
-use Rattle.stream_io.specs.Need.{pieces, over_streams, over_streams_of, short_pieces, long_pieces, data_sectors, fat_sectors}
-use Rattle.stream_io.specs.Refusals.{writable, has_storage, has_storage_in, has_long}
+use Rattle.file_model.specs.Need.{pieces, over_streams, over_streams_of, short_pieces, long_pieces, data_sectors, fat_sectors}
+use Rattle.file_model.specs.Refusals.{writable, has_storage, has_storage_in, has_long}
 use Rattle.container_cli.specs.Outline.{outline, outlines}
-use Rattle.stream_io.specs.declared.fault.WriteFault.{WriteFault}
-use Rattle.stream_io.specs.declared.fault.WriteFault.TheVariants.{TooBig, WrongKind}
+use Rattle.file_model.specs.declared.fault.WriteFault.{WriteFault}
+use Rattle.file_model.specs.declared.fault.WriteFault.TheVariants.{TooBig, WrongKind}
 
 stream-room : (b : List ℕ) → length b ≤ 64 * short_pieces b + 512 * long_pieces b
 stream-room b =

@@ -9,7 +9,7 @@ use Rattle.storage_tree.specs.Change.{Seen, bytes, inner, child, find, place, lo
 use Rattle.storage_tree.specs.declared.storage.Edit.{Edit}
 use Rattle.storage_tree.specs.declared.storage.Edit.TheVariants.{Put, Make}
 use Rattle.storage_tree.specs.declared.fault.TreeFault.{TreeFault}
-use Rattle.stream_io.specs.Need.{over_streams_of}
+use Rattle.file_model.specs.Need.{over_streams_of}
 use Rattle.container_cli.specs.Outline.{total}
 
 abbrev over : Children → ℕ

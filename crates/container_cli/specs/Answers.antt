@@ -4,14 +4,14 @@ use Rattle.std.specs.Fmt.{decimal}
 use Rattle.std.specs.List.{flat_map}
 use Rattle.wire_msgs.specs.Refusals.{code_of}
 use Rattle.wire_msgs.specs.declared.refusal.Refusal.{Refusal}
-use Rattle.container_core.specs.FaultNames.{fault_name}
-use Rattle.server_core.specs.declared.fault.ServerFault.{ServerFault}
-use Rattle.server_core.specs.declared.fault.ServerFault.TheVariants.{WrongIncarnation, Ignored, NumbersSpent, NeedObject, WrongClass, NoMemory}
-use Rattle.world_run.specs.StopNames.{stop_name}
-use Rattle.world_run.specs.declared.event.Stop.{Stop}
-use Rattle.world_run.specs.declared.logs.Outcome.{Outcome}
-use Rattle.world_run.specs.declared.logs.EventAnswer.{EventAnswer}
-use Rattle.world_run.specs.declared.logs.EventAnswer.TheVariants.{Took, Refused, Unheard}
+use Rattle.container_model.specs.FaultNames.{fault_name}
+use Rattle.server_model.specs.declared.fault.ServerFault.{ServerFault}
+use Rattle.server_model.specs.declared.fault.ServerFault.TheVariants.{WrongIncarnation, Ignored, NumbersSpent, NeedObject, WrongClass, NoMemory}
+use Rattle.world_model.specs.StopNames.{stop_name}
+use Rattle.world_model.specs.declared.event.Stop.{Stop}
+use Rattle.world_model.specs.declared.logs.Outcome.{Outcome}
+use Rattle.world_model.specs.declared.logs.EventAnswer.{EventAnswer}
+use Rattle.world_model.specs.declared.logs.EventAnswer.TheVariants.{Took, Refused, Unheard}
 
 -- each thing that an event led to, behind a space
 abbrev pub numbered : List ℕ → ℕ → List ℕ

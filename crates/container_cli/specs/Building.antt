@@ -2,7 +2,7 @@
 -- longer kept: the lines that follow can be refused by the outline alone, and then the whole for its size.
 use Rattle.std.specs.Prelude.{◌≡◌, ◌≤◌, ◌<◌, ℕ, length, Result, Ok, Err}
 use Rattle.storage_tree.specs.Kept.{Kept, kept}
-use Rattle.stream_io.specs.Need.{over_streams}
+use Rattle.file_model.specs.Need.{over_streams}
 use Rattle.container_cli.specs.Outline.{outline}
 use Rattle.container_cli.specs.Description.{Refuses}
 use Rattle.container_cli.specs.declared.fault.LineFault.{LineFault}

@@ -3,12 +3,12 @@ use Rattle.std.specs.Prelude.{◌+◌, ◌&&◌, ℕ, Bool, not, List, [], ◌�
 use Rattle.std.specs.List.{ends_with, join_with_byte, list_all}
 use Rattle.std.specs.Str.{bytes_eq}
 use Rattle.embed_core.specs.Words.{words, number_read}
-use Rattle.container_core.specs.declared.record.Area.{Area}
-use Rattle.container_core.specs.declared.command.Command.TheVariants as command
-use Rattle.container_core.specs.declared.command.ObjectKind.{ObjectKind}
-use Rattle.container_core.specs.declared.command.ObjectKind.TheVariants.{Note, Table, Drawing}
-use Rattle.world_run.specs.declared.event.Event.{Event}
-use Rattle.world_run.specs.declared.event.Event.TheVariants as event
+use Rattle.object_parts.specs.declared.area.Area.{Area}
+use Rattle.container_model.specs.declared.command.Command.TheVariants as command
+use Rattle.container_model.specs.declared.command.ObjectKind.{ObjectKind}
+use Rattle.container_model.specs.declared.command.ObjectKind.TheVariants.{Note, Table, Drawing}
+use Rattle.world_model.specs.declared.event.Event.{Event}
+use Rattle.world_model.specs.declared.event.Event.TheVariants as event
 use Rattle.container_cli.specs.Commands.{is_skipped}
 use Rattle.container_cli.specs.declared.fault.LineFault.{LineFault}
 use Rattle.container_cli.specs.declared.fault.LineFault.TheVariants.{Bad}

@@ -2,7 +2,7 @@
 use Rattle.std.specs.Prelude.{ℕ, [], length}
 use Rattle.storage_tree.specs.Tree.{Tree, Children, tree, none, stream, storage}
 use Rattle.storage_tree.specs.Change.{Seen, bytes, inner}
-use Rattle.stream_io.specs.Need.{over_streams}
+use Rattle.file_model.specs.Need.{over_streams}
 
 abbrev mutual
   pub outline : Tree → Tree

@@ -3,8 +3,8 @@ use Rattle.std.specs.Prelude.{◌≡◌, ℕ, List, false, Option, Ok, length}
 use Rattle.std.specs.Io.KnownBytes.{Appends}
 use Rattle.storage_tree.specs.Tree.{Tree}
 use Rattle.storage_tree.specs.Kept.{Kept}
-use Rattle.stream_io.specs.Denotes.{Denotes}
-use Rattle.stream_io.specs.Refusals.{writable, has_storage, Refuses}
+use Rattle.file_model.specs.Denotes.{Denotes}
+use Rattle.file_model.specs.Refusals.{writable, has_storage, Refuses}
 use Rattle.stream_io.specs.declared.fault.ReadFault.TheVariants as ReadFault
 use Rattle.container_cli.specs.Input.{MayRefuseInput}
 use Rattle.container_cli.specs.Description.{described, RefusesLine}

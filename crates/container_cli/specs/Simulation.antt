@@ -3,12 +3,12 @@ use Rattle.std.specs.Prelude.{◌≡◌, ◌+◌, ◌++◌, ℕ, List, [], ◌�
 use Rattle.std.specs.Io.KnownBytes.{Appends}
 use Rattle.embed_core.specs.Kinds.{Kind}
 use Rattle.embed_core.specs.Words.{lines}
-use Rattle.world_run.specs.Report.{report}
-use Rattle.world_run.specs.Safe.{Safe}
-use Rattle.world_run.specs.World.{StopsAt}
-use Rattle.world_run.specs.World.{World, empty_world, Run}
-use Rattle.world_run.specs.declared.event.Event.{Event}
-use Rattle.world_run.specs.declared.event.Stop.{Stop}
+use Rattle.world_model.specs.Report.{report}
+use Rattle.world_model.specs.Safe.{Safe}
+use Rattle.world_model.specs.World.{StopsAt}
+use Rattle.world_model.specs.World.{World, empty_world, Run}
+use Rattle.world_model.specs.declared.event.Event.{Event}
+use Rattle.world_model.specs.declared.event.Stop.{Stop}
 use Rattle.container_cli.specs.Answers.{answer_lines, stop_line}
 use Rattle.container_cli.specs.Description.{RefusesLine}
 use Rattle.container_cli.specs.Events.{events_read}

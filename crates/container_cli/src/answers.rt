@@ -5,10 +5,10 @@ ghost use Rattle.std.specs.Fmt.{decimal};
 ghost use Rattle.std.specs.List.{flat_map};
 ghost use Rattle.std.specs.Prelude.{◌≡◌, ◌++◌, ◌∷◌, OnOk};
 
-use server_core::fault::ServerFault;
+use server_model::fault::ServerFault;
 use std::alloc::{AllocError, Global};
-use world_run::event::Stop;
-use world_run::logs::{EventAnswer, Outcome};
+use world_model::event::Stop;
+use world_model::logs::{EventAnswer, Outcome};
 
 /// Writes the line of an event.
 pub fn push_answer(

@@ -4,7 +4,7 @@ ghost use Rattle.container_cli.specs.Building.{IsDescribed};
 ghost use Rattle.container_cli.specs.Input.{most};
 ghost use Rattle.container_cli.specs.Run.{IsMade, Lists, Makes, MayRefuseList, MayRefuseMake};
 ghost use Rattle.storage_tree.specs.Kept.{Kept, kept};
-ghost use Rattle.stream_io.specs.Refusals.{has_storage, writable};
+ghost use Rattle.file_model.specs.Refusals.{has_storage, writable};
 ghost use Rattle.std.specs.Prelude.{◌≡◌, Err, ◌≢◌, ◌≤◌, length, IfErr, IfOk, IfSome, OnOk};
 
 use crate::building::Described;
@@ -17,7 +17,7 @@ use std::alloc::Global;
 use std::io::{Read, Write};
 use storage_tree::storage::Node;
 use storage_tree::tree::Tree;
-use stream_io::fault::WriteFault;
+use file_model::fault::WriteFault;
 use stream_io::read::read_file;
 use stream_io::write::write_file;
 

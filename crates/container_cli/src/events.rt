@@ -8,12 +8,12 @@ ghost use Rattle.std.specs.Prelude.{◌≡◌, ◌<◌, ◌^◌, [], Ok, length,
 
 use crate::description::is_skipped;
 use crate::fault::LineFault;
-use container_core::command::{Command, ObjectKind};
-use container_core::record::Area;
+use container_model::command::{Command, ObjectKind};
+use object_parts::area::Area;
 use embed_core::words::{Pieces, cut, number};
 use std::alloc::{AllocError, Global};
 use storage_tree::bytes::Bytes;
-use world_run::event::Event;
+use world_model::event::Event;
 
 /// The most characters that the name of a file has.
 const NAME_SIZE: usize = 64;

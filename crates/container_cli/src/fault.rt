@@ -2,7 +2,8 @@
 
 use cfb_directory::fault::DirFault;
 use storage_tree::fault::TreeFault;
-use stream_io::fault::{ReadFault, WriteFault};
+use file_model::fault::WriteFault;
+use stream_io::fault::ReadFault;
 use thiserror::Error;
 
 /// Why a line of a description is refused.

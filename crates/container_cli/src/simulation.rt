@@ -4,10 +4,10 @@ ghost use Rattle.container_cli.specs.Answers.{answer_lines};
 ghost use Rattle.container_cli.specs.Input.{most};
 ghost use Rattle.container_cli.specs.Simulation.{IsSimulated, MayRefuseSimulate, Simulates, stop_text};
 ghost use Rattle.std.specs.Prelude.{◌≡◌, ◌≢◌, ◌≤◌, ◌<◌, ◌++◌, IfErr, IfOk, IfSome, OnOk, length, map};
-ghost use Rattle.world_run.specs.Report.{report};
+ghost use Rattle.world_model.specs.Report.{report};
 ghost use Rattle.world_run.specs.Shown.{shown};
 ghost use Rattle.world_run.specs.View.{seen_stocked};
-ghost use Rattle.world_run.specs.World.{MOST_EVENTS};
+ghost use Rattle.world_model.specs.World.{MOST_EVENTS};
 
 use crate::answers::{push_answer, push_stop};
 use crate::events::parse_events;
@@ -18,7 +18,7 @@ use container_core::container::Limits;
 use embed_core::embedded::Embedded;
 use std::alloc::{AllocError, Global};
 use std::io::{Read, Write};
-use world_run::event::{Event, Stop};
+use world_model::event::{Event, Stop};
 use world_run::stock::Stock;
 use world_run::world::World;
 

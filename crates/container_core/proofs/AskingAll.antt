@@ -6,9 +6,9 @@ use Rattle.std.proofs.Math.Numerals.{add-one}
 use Rattle.wire_msgs.specs.declared.operation.Operation.{Operation}
 use Rattle.container_core.specs.declared.asking.Prepared.{Prepared}
 use Rattle.container_core.specs.declared.asking.Prepared.TheVariants.{Nothing}
-use Rattle.container_core.specs.declared.record.Link.{Link}
-use Rattle.container_core.specs.declared.record.Object.{Object}
-use Rattle.container_core.specs.Record.{ask_at, asked_link, asked_object}
+use Rattle.container_model.specs.declared.record.Link.{Link}
+use Rattle.container_model.specs.declared.record.Object.{Object}
+use Rattle.container_model.specs.Record.{ask_at, asked_link, asked_object}
 use Rattle.container_core.specs.Asking.{HasNumber, installed, installed_all, installed_link, prepared, prepared_at, prepared_link}
 
 -- what was prepared for an object makes of it what the definition says

@@ -1,12 +1,12 @@
 use Rattle.std.proofs.Common.{◌≡◌, ℕ, ◌+◌, ◌==◌, ◌≤◌, Bool, true, false, List, Option, Some, None, map, [], ◌∷◌, All, length, refl, ap, arith}
 use Rattle.wire_msgs.specs.declared.operation.Operation.{Operation}
-use Rattle.container_core.specs.declared.record.Frame.{Frame}
-use Rattle.container_core.specs.declared.record.Link.{Link}
-use Rattle.container_core.specs.declared.record.Object.{Object}
+use Rattle.container_model.specs.declared.record.Frame.{Frame}
+use Rattle.container_model.specs.declared.record.Link.{Link}
+use Rattle.container_model.specs.declared.record.Object.{Object}
 use Rattle.container_core.specs.Asking.{HasNumber}
-use Rattle.container_core.specs.Record.{Record, ask_at, asked_link, asked_object}
-use Rattle.container_core.specs.Room.{IfLinked, IsRoomy, IsSound}
-use Rattle.container_core.specs.Saves.{cleared, completed, completion, counted_object, kept_by, kept_in}
+use Rattle.container_model.specs.Record.{Record, ask_at, asked_link, asked_object}
+use Rattle.container_laws.specs.Room.{IfLinked, IsRoomy, IsSound}
+use Rattle.container_model.specs.Saves.{cleared, completed, completion, counted_object, kept_by, kept_in}
 
 -- a container's activations have numbers left
 numbered_link : (numbers more : ℕ) (link : Option Link) → numbers ≤ 1000000 → IfLinked (IsRoomy numbers more) link → IfLinked (λ l. l.last + length l.waiting ≤ 1000000) link

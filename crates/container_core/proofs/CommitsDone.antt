@@ -5,17 +5,17 @@ use Rattle.std.proofs.lemmas.List.Elements.{All-set}
 use Rattle.std.proofs.lemmas.Option.{get_or_from_slice_get, slice_get-get_or, slice_get_within}
 use Rattle.std.specs.List.{All}
 use Rattle.wire_msgs.specs.Found.{nth, set_nth}
-use Rattle.container_core.specs.declared.answer.Action.{Action}
-use Rattle.container_core.specs.declared.answer.Answer.{Answer}
-use Rattle.container_core.specs.declared.record.Frame.{Frame}
-use Rattle.container_core.specs.declared.record.Object.{Object}
-use Rattle.container_core.specs.declared.record.Phase.{Phase}
-use Rattle.container_core.specs.declared.record.Phase.TheVariants.{Idle, Saving, HandingOff, Committing, InDoubt}
+use Rattle.container_model.specs.declared.answer.Action.{Action}
+use Rattle.container_model.specs.declared.answer.Answer.{Answer}
+use Rattle.container_model.specs.declared.record.Frame.{Frame}
+use Rattle.container_model.specs.declared.record.Object.{Object}
+use Rattle.container_model.specs.declared.record.Phase.{Phase}
+use Rattle.container_model.specs.declared.record.Phase.TheVariants.{Idle, Saving, HandingOff, Committing, InDoubt}
 use Rattle.container_core.specs.Numbered.{IsNth}
-use Rattle.container_core.specs.Record.{Record, Took, acts, quiet_answer}
-use Rattle.container_core.specs.Room.{IsSound}
-use Rattle.container_core.specs.Saves.{commit_made, committed_frame, completed, is_committing}
-use Rattle.container_core.proofs.CommitsRoom.{room_objects}
+use Rattle.container_model.specs.Record.{Record, Took, acts, quiet_answer}
+use Rattle.container_laws.specs.Room.{IsSound}
+use Rattle.container_model.specs.Saves.{commit_made, committed_frame, completed, is_committing}
+use Rattle.container_laws.proofs.CommitsRoom.{room_objects}
 
 committing_from : (phase : Phase) → is_committing phase ≡ true → phase ≡ Committing
 committing_from Idle h = absurd (cc)

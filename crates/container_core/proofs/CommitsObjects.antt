@@ -5,11 +5,11 @@ use Rattle.std.proofs.lemmas.List.Elements.{All-map, All-weaker}
 use Rattle.std.proofs.Math.Numerals.{add-one}
 use Rattle.std.specs.List.{All}
 use Rattle.wire_msgs.specs.declared.operation.Operation.{Operation}
-use Rattle.container_core.specs.declared.record.Link.{Link}
-use Rattle.container_core.specs.declared.record.Object.{Object}
+use Rattle.container_model.specs.declared.record.Link.{Link}
+use Rattle.container_model.specs.declared.record.Object.{Object}
 use Rattle.container_core.specs.Asking.{HasNumber, prepared, prepared_at, prepared_link}
-use Rattle.container_core.specs.Record.{asked_object}
-use Rattle.container_core.specs.Saves.{cleared, counted_object, kept}
+use Rattle.container_model.specs.Record.{asked_object}
+use Rattle.container_model.specs.Saves.{cleared, counted_object, kept}
 
 -- one more item of a list is changed
 mapped_suc : {A : Type 0} (f : A → A) (ys : List A) (i : ℕ) (d : A) → i < length ys → set (map f (take i ys) ++ drop i ys) i (f (get_or (map f (take i ys) ++ drop i ys) i d)) ≡ map f (take (suc i) ys) ++ drop (suc i) ys

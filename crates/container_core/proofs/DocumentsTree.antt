@@ -12,7 +12,7 @@ use Rattle.storage_tree.specs.Streams.{AreAfter, AreInOrder}
 use Rattle.storage_tree.specs.Tree.{Children, tree, stream}
 use Rattle.storage_tree.specs.declared.fault.TreeFault.{TreeFault}
 use Rattle.storage_tree.specs.declared.streams.NamedStream.{NamedStream}
-use Rattle.container_core.specs.Saves.{children_of, root_class}
+use Rattle.container_model.specs.Saves.{children_of, root_class}
 
 -- a root that holds these streams
 abbrev pub rooted : List NamedStream → Kept

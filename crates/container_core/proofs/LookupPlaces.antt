@@ -5,8 +5,8 @@ use Rattle.std.proofs.Math.ListN.{drop_of_length-le, set}
 use Rattle.std.proofs.Math.Numerals.{add-one}
 use Rattle.wire_msgs.specs.Found.{find, put, IsPlace}
 use Rattle.container_core.specs.Numbered.{IsObjectAt, IsPast}
-use Rattle.container_core.specs.Record.{is_object}
-use Rattle.container_core.specs.declared.record.Object.{Object}
+use Rattle.container_model.specs.Record.{is_object}
+use Rattle.container_model.specs.declared.record.Object.{Object}
 
 pub past_none : {A : Type 0} (test : A → Bool) (xs : List A) → IsPast test xs 0
 past_none test xs = record { found = refl; puts = λ a. refl }

@@ -3,16 +3,16 @@ use Rattle.std.proofs.Common.{◌≡◌, ◌+◌, ◌≤◌, ℕ, zero, suc, Boo
 use Rattle.std.proofs.lemmas.List.Elements.{All-cons, All-head, All-map, All-tail, All-weaker}
 use Rattle.std.proofs.lemmas.List.{length-set}
 use Rattle.wire_msgs.specs.Found.{find, put, nth, set_nth}
-use Rattle.container_core.specs.declared.record.Link.{Link}
-use Rattle.container_core.specs.declared.record.Object.{Object}
-use Rattle.container_core.specs.declared.record.Frame.{Frame}
-use Rattle.container_core.specs.declared.record.Phase.{Phase}
-use Rattle.container_core.specs.declared.record.Phase.TheVariants.{Idle, Saving, HandingOff, Committing, InDoubt}
-use Rattle.container_core.specs.declared.fault.ContainerFault.{ContainerFault}
-use Rattle.container_core.specs.declared.fault.ContainerFault.TheVariants.{Stale}
-use Rattle.container_core.specs.Record.{Record, is_linked}
-use Rattle.container_core.specs.Replies.{Went, went}
-use Rattle.container_core.proofs.MessageReplies.{link_in}
+use Rattle.container_model.specs.declared.record.Link.{Link}
+use Rattle.container_model.specs.declared.record.Object.{Object}
+use Rattle.container_model.specs.declared.record.Frame.{Frame}
+use Rattle.container_model.specs.declared.record.Phase.{Phase}
+use Rattle.container_model.specs.declared.record.Phase.TheVariants.{Idle, Saving, HandingOff, Committing, InDoubt}
+use Rattle.container_model.specs.declared.fault.ContainerFault.{ContainerFault}
+use Rattle.container_model.specs.declared.fault.ContainerFault.TheVariants.{Stale}
+use Rattle.container_model.specs.Record.{Record, is_linked}
+use Rattle.container_laws.specs.Replies.{Went, went}
+use Rattle.container_laws.proofs.MessageReplies.{link_in}
 use Rattle.object_state.specs.Both as both
 use Rattle.object_state.specs.declared.operations.Op.TheVariants as op
 use Rattle.object_state.specs.declared.both_states.States.{States}
@@ -22,9 +22,9 @@ use Rattle.wire_msgs.specs.declared.answer.Answer.{Answer}
 use Rattle.wire_msgs.specs.declared.answer.Answer.TheVariants as told
 use Rattle.wire_msgs.specs.declared.operation.Operation.{Operation}
 use Rattle.wire_msgs.specs.declared.operation.Operation.TheVariants as operation
-use Rattle.container_core.specs.Room.{HasRoom, count_pending, IfLinked, IsRoomy, IsSound, debt, debt_in}
-use Rattle.container_core.specs.Saves.{is_ready, is_ready_at, kept, awaits, settle, settled_frame, settled_frames}
-use Rattle.container_core.specs.Messages.{Replied, done_link, next_at, next_link, reaped, reaped_object, replied, reply_link, reply_pending, saved_link}
+use Rattle.container_laws.specs.Room.{HasRoom, count_pending, IfLinked, IsRoomy, IsSound, debt, debt_in}
+use Rattle.container_model.specs.Saves.{is_ready, is_ready_at, kept, awaits, settle, settled_frame, settled_frames}
+use Rattle.container_model.specs.Messages.{Replied, done_link, next_at, next_link, reaped, reaped_object, replied, reply_link, reply_pending, saved_link}
 
 pub found_all : {A : Type 0} (P : A → Type 0) (test : A → Bool) (xs : List A) (x : A) → find test xs ≡ Some x → All P xs → P x
 found_all P test [] x e h = cc

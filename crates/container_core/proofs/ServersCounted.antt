@@ -1,7 +1,7 @@
 use Rattle.std.proofs.Common.{◌≡◌, ℕ, ◌+◌, ◌≤◌, Bool, List, zero, suc, [], ◌∷◌, ◌++◌, length, refl, ap, true, false, arith, slice_get, slice_set, sym, ◌∙◌}
 use Rattle.wire_msgs.specs.Found.{nth}
 use Rattle.container_core.specs.Numbered.{IsNth}
-use Rattle.container_core.specs.Record.{count_alive, is_unreaped}
+use Rattle.container_model.specs.Record.{count_alive, is_unreaped}
 
 -- no more are alive than were started
 pub alive_few : (xs : List Bool) → count_alive xs ≤ length xs

@@ -1,13 +1,13 @@
 -- An operation that is asked of all objects of a frame: all memory is taken first, then the objects change.
 use Rattle.std.specs.Prelude.{◌++◌, ◌+◌, ◌==◌, ◌≡◌, ◌≤◌, List, [], ◌∷◌, None, Option, Some, if◌then◌else◌, length, map, ℕ}
 use Rattle.wire_msgs.specs.declared.operation.Operation.{Operation}
-use Rattle.container_core.specs.declared.answer.Action.{Action}
+use Rattle.container_model.specs.declared.answer.Action.{Action}
 use Rattle.container_core.specs.declared.asking.Prepared.{Prepared}
 use Rattle.container_core.specs.declared.asking.Prepared.TheVariants.{Nothing, Now, Behind}
-use Rattle.container_core.specs.declared.record.Link.{Link}
-use Rattle.container_core.specs.declared.record.Object.{Object}
-use Rattle.container_core.specs.Record.{asked_all, sends}
-use Rattle.container_core.specs.Room.{IfLinked}
+use Rattle.container_model.specs.declared.record.Link.{Link}
+use Rattle.container_model.specs.declared.record.Object.{Object}
+use Rattle.container_model.specs.Record.{asked_all, sends}
+use Rattle.container_laws.specs.Room.{IfLinked}
 
 -- one more call of an object's activation can be numbered
 abbrev pub HasNumber : Object → Type 0

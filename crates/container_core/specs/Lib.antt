@@ -1,12 +1,2 @@
-pub mod FaultNames
-pub mod Record
-pub mod Saves
-pub mod Messages
-pub mod Replies
-pub mod Laws
-pub mod Commands
-pub mod Room
 pub mod Numbered
 pub mod Asking
-pub mod CommitLaws
-pub mod Steady

@@ -1,8 +1,8 @@
 -- Where the item of a number stands, and the first item that passes a test.
 use Rattle.std.specs.Prelude.{IfSome, ◌≡◌, ◌+◌, ◌<◌, ◌++◌, ℕ, Bool, List, length, slice_get, slice_set, take, drop}
 use Rattle.wire_msgs.specs.Found.{find, put, nth, set_nth, IsPlace}
-use Rattle.container_core.specs.declared.record.Object.{Object}
-use Rattle.container_core.specs.Record.{is_object}
+use Rattle.container_model.specs.declared.record.Object.{Object}
+use Rattle.container_model.specs.Record.{is_object}
 
 -- the item of number n stands at i
 pub record IsNth {A : Type 0} (n : ℕ) (xs : List A) (i : ℕ) : Type 0 where

@@ -2,11 +2,11 @@
 
 ghost use Rattle.std.specs.Prelude.{◌++◌, ◌+◌, ◌≡◌, ◌≤◌, All, IfOk, OnErr, OnOk, [], ◌∷◌, length, map, option_to_list, vec_len, ℕ};
 ghost use Rattle.container_core.specs.Asking.{HasNumber, IsAsking, installed, prepared};
-ghost use Rattle.container_core.specs.Record.{ask, asked_all, asked_object, sends};
+ghost use Rattle.container_model.specs.Record.{ask, asked_all, asked_object, sends};
 ghost use Rattle.wire_msgs.specs.declared.operation.Operation.{Operation};
 
-use crate::answer::Action;
-use crate::record::{Link, Object};
+use container_model::answer::Action;
+use container_model::record::{Link, Object};
 use std::alloc::{AllocError, Global};
 use std::mem;
 use wire_msgs::items::Items;

@@ -2,24 +2,25 @@
 
 ghost use Rattle.std.specs.Prelude.{◌++◌, ◌+◌, ◌<◌, ◌≡◌, ◌≤◌, IfErr, IfOk, Ok, OnErr, OnOk, [], ◌∷◌, All, List, length, map, vec_capacity, vec_len, ℕ};
 ghost use Rattle.container_core.specs.Asking.{HasNumber, IsAsking, prepared};
-ghost use Rattle.container_core.specs.Record.{Record, Refuses, acts, asked_link, asked_object, asked_sent, sends, with_object};
-ghost use Rattle.container_core.specs.Room.{HasRoom, IfLinked};
-ghost use Rattle.container_core.specs.Commands.{begun_link, edit_fault, edit_linked, first_operation, kind_of, new_object, saving_frame, user_type};
+ghost use Rattle.container_model.specs.Record.{Record, Refuses, acts, asked_link, asked_object, asked_sent, sends, with_object};
+ghost use Rattle.container_laws.specs.Room.{HasRoom, IfLinked};
+ghost use Rattle.container_model.specs.Commands.{begun_link, edit_fault, edit_linked, first_operation, kind_of, new_object, saving_frame, user_type};
 ghost use Rattle.embed_core.specs.Kinds.{class_of};
 ghost use Rattle.wire_msgs.specs.declared.operation.Operation as asked;
 ghost use Rattle.wire_msgs.specs.declared.operation.Operation.TheVariants.{Save};
 ghost use Rattle.wire_msgs.specs.declared.message.Message.TheVariants.{Call};
-ghost use Rattle.container_core.specs.declared.record.Frame.{Frame};
-ghost use Rattle.container_core.specs.declared.answer.Action.TheVariants.{Send};
+ghost use Rattle.container_model.specs.declared.record.Frame.{Frame};
+ghost use Rattle.container_model.specs.declared.answer.Action.TheVariants.{Send};
 
-use crate::answer::{Action, Answer};
+use container_model::answer::{Action, Answer};
 use crate::asking::{Asking, Prepared, ask, install_all, prepare};
 use crate::checks;
-use crate::command::{Command, ObjectKind};
+use container_model::command::{Command, ObjectKind};
 use crate::container::ContainerCore;
-use crate::fault::ContainerFault;
+use container_model::fault::ContainerFault;
 use crate::lookups::{place, place_object};
-use crate::record::{Area, Frame, Link, Object, Phase};
+use container_model::record::{Frame, Link, Object, Phase};
+use object_parts::area::Area;
 use crate::settling::settle_into;
 use embed_core::classes;
 use grant_core::FrameUi;
@@ -43,8 +44,8 @@ const MOST_EDIT: usize = 65_536;
 
 impl ContainerCore {
     ghost use Rattle.std.specs.Prelude.{◌+◌, ◌≡◌, ◌≤◌, IfErr, IfOk, IfSome, Ok, OnErr, length, slice_get};
-    ghost use Rattle.container_core.specs.Commands.{edit, edit_linked, insert, insert_into, kind_of, new, on_command, run, run_object, save, save_numbered, start};
-    ghost use Rattle.container_core.specs.Record.{Refuses};
+    ghost use Rattle.container_model.specs.Commands.{edit, edit_linked, insert, insert_into, kind_of, new, on_command, run, run_object, save, save_numbered, start};
+    ghost use Rattle.container_model.specs.Record.{Refuses};
     ghost use Rattle.container_core.specs.Numbered.{IsNth, IsObjectAt};
 
     /// A command of a user. The answer has what was made, what is sent and which files are to be committed.

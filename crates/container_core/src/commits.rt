@@ -2,17 +2,17 @@
 
 ghost use Rattle.std.specs.Prelude.{◌≡◌, All, length, map, vec_len, ℕ};
 ghost use Rattle.container_core.specs.Asking.{HasNumber, prepared};
-ghost use Rattle.container_core.specs.Saves.{committed_frame, completed, completion, counted_object, is_committing};
-ghost use Rattle.container_core.specs.Record.{asked_object};
-ghost use Rattle.container_core.specs.declared.record.Frame as declared;
+ghost use Rattle.container_model.specs.Saves.{committed_frame, completed, completion, counted_object, is_committing};
+ghost use Rattle.container_model.specs.Record.{asked_object};
+ghost use Rattle.container_model.specs.declared.record.Frame as declared;
 ghost use Rattle.wire_msgs.specs.declared.operation.Operation as declared_operation;
 
-use crate::answer::Answer;
+use container_model::answer::Answer;
 use crate::asking::{Prepared, install_all, prepare};
 use crate::container::ContainerCore;
-use crate::fault::ContainerFault;
+use container_model::fault::ContainerFault;
 use crate::lookups::frame_place;
-use crate::record::{Frame, Object, Phase};
+use container_model::record::{Frame, Object, Phase};
 use std::alloc::Global;
 use wire_msgs::items::Items;
 use wire_msgs::operation::Operation;
@@ -99,9 +99,9 @@ impl ContainerCore {
     ghost use Rattle.std.specs.Prelude.{◌≡◌, ◌≤◌, ◌+◌, IfErr, IfOk, OnErr, OnOk, Ok, Some, length, true};
     ghost use Rattle.wire_msgs.specs.Found.{nth};
     ghost use Rattle.container_core.specs.Numbered.{IsNth};
-    ghost use Rattle.container_core.specs.Record.{Refuses};
-    ghost use Rattle.container_core.specs.Saves.{commit_done, commit_made, is_committing};
-    ghost use Rattle.container_core.specs.declared.record.Frame as declared;
+    ghost use Rattle.container_model.specs.Record.{Refuses};
+    ghost use Rattle.container_model.specs.Saves.{commit_done, commit_made, is_committing};
+    ghost use Rattle.container_model.specs.declared.record.Frame as declared;
 
     /// Where the frame stands whose commit may be done.
     ///

@@ -1,18 +1,18 @@
 //! The container.
 
 ghost use Rattle.std.specs.Prelude.{◌≡◌, ◌≤◌, IfErr, IfOk, OnErr, Ok, Some, None, option_copied, length, map};
-ghost use Rattle.container_core.specs.Record.{Record, Refuses, empty, is_object};
-ghost use Rattle.container_core.specs.Commands.{on_command};
-ghost use Rattle.container_core.specs.Messages.{on_message, on_reap};
-ghost use Rattle.container_core.specs.Saves.{commit_done, document_tree, image};
+ghost use Rattle.container_model.specs.Record.{Record, Refuses, empty, is_object};
+ghost use Rattle.container_model.specs.Commands.{on_command};
+ghost use Rattle.container_model.specs.Messages.{on_message, on_reap};
+ghost use Rattle.container_model.specs.Saves.{commit_done, document_tree, image};
 ghost use Rattle.wire_msgs.specs.Found.{find, nth};
-ghost use Rattle.stream_io.specs.Denotes.{Denotes};
+ghost use Rattle.file_model.specs.Denotes.{Denotes};
 
-use crate::answer::{Answer, Part};
-use crate::command::Command;
-use crate::fault::ContainerFault;
+use container_model::answer::{Answer, Part};
+use container_model::command::Command;
+use container_model::fault::ContainerFault;
 use crate::lookups::{place, place_object};
-use crate::record::{Frame, Object};
+use container_model::record::{Frame, Object};
 use crate::servers::Servers;
 use std::alloc::Global;
 use std::marker::Model;
@@ -38,8 +38,8 @@ pub struct ContainerCore {
 }
 
 impl Model for ContainerCore {
-    ghost use Rattle.container_core.specs.Record.{Record};
-    ghost use Rattle.container_core.specs.Room.{IsSound};
+    ghost use Rattle.container_model.specs.Record.{Record};
+    ghost use Rattle.container_laws.specs.Room.{IsSound};
 
     ghost Value = { Record };
 
@@ -51,7 +51,7 @@ impl Model for ContainerCore {
 impl ContainerCore {
     ghost use Rattle.std.specs.Prelude.{◌≡◌, ◌≤◌, option_copied};
     ghost use Rattle.wire_msgs.specs.Found.{find, nth};
-    ghost use Rattle.container_core.specs.Record.{empty, is_object};
+    ghost use Rattle.container_model.specs.Record.{empty, is_object};
 
     /// A container without frames, objects and servers.
     pub fn new(alloc: Global, limits: Limits) -> ContainerCore

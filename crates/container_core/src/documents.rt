@@ -1,19 +1,19 @@
 //! The documents of frames: what a file of a frame is to hold.
 
 ghost use Rattle.std.specs.Prelude.{[], ◌∷◌, ◌≡◌, ◌≤◌, IfOk, Ok, OnOk, is_ok, length, min};
-ghost use Rattle.container_core.specs.Saves.{children_of, document_tree, has_image, kept, part_of, parts_in, root_class};
+ghost use Rattle.container_model.specs.Saves.{children_of, document_tree, has_image, kept, part_of, parts_in, root_class};
 ghost use Rattle.storage_tree.specs.Kept.{kept as kept_tree, put};
 ghost use Rattle.storage_tree.specs.Streams.{AreInOrder};
 ghost use Rattle.storage_tree.specs.Tree.{tree};
-ghost use Rattle.stream_io.specs.Denotes.{Denotes};
-ghost use Rattle.stream_io.specs.Need.{over_streams_of, short_pieces};
-ghost use Rattle.stream_io.specs.Refusals.{has_long_in, writable};
+ghost use Rattle.file_model.specs.Denotes.{Denotes};
+ghost use Rattle.file_model.specs.Need.{over_streams_of, short_pieces};
+ghost use Rattle.file_model.specs.Refusals.{has_long_in, writable};
 
-use crate::answer::Part;
+use container_model::answer::Part;
 use crate::container::ContainerCore;
-use crate::fault::ContainerFault;
+use container_model::fault::ContainerFault;
 use crate::lookups::frame_place;
-use crate::record::{Object, Phase};
+use container_model::record::{Object, Phase};
 use std::alloc::{AllocError, Global};
 use storage_tree::class_id::ClassId;
 use storage_tree::stored::Stored;
@@ -179,10 +179,10 @@ fn has_image(phase: Phase) -> bool
 
 impl ContainerCore {
     ghost use Rattle.std.specs.Prelude.{◌≡◌, IfErr, IfOk, List, Ok, OnOk};
-    ghost use Rattle.container_core.specs.Record.{Refuses};
-    ghost use Rattle.container_core.specs.Saves.{document_tree, image, parts_in};
-    ghost use Rattle.container_core.specs.declared.answer.Part.{Part};
-    ghost use Rattle.stream_io.specs.Denotes.{Denotes};
+    ghost use Rattle.container_model.specs.Record.{Refuses};
+    ghost use Rattle.container_model.specs.Saves.{document_tree, image, parts_in};
+    ghost use Rattle.container_model.specs.declared.answer.Part.{Part};
+    ghost use Rattle.file_model.specs.Denotes.{Denotes};
 
     /// Whether a frame has a document whose file is to be committed. It takes no memory.
     ///

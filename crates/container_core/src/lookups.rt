@@ -2,10 +2,10 @@
 
 ghost use Rattle.std.specs.Prelude.{◌≡◌, ◌&&◌, ◌==◌, IfSome, MatchOption, None};
 ghost use Rattle.wire_msgs.specs.Found.{find, nth, IsPlace};
-ghost use Rattle.container_core.specs.Record.{is_linked, is_object};
+ghost use Rattle.container_model.specs.Record.{is_linked, is_object};
 ghost use Rattle.container_core.specs.Numbered.{IsNth, IsObjectAt};
 
-use crate::record::{Frame, Object};
+use container_model::record::{Frame, Object};
 
 /// Where the item of this number stands.
 pub(crate) fn place<T>(items: &[T], number: u32) -> Option<usize>

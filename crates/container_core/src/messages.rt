@@ -2,16 +2,16 @@
 
 ghost use Rattle.std.specs.Prelude.{◌≡◌, ◌+◌, ◌≤◌, IfErr, IfOk, OnErr, Ok, length, map, vec_len, vec_capacity};
 ghost use Rattle.wire_msgs.specs.Found.{find, IsPlace};
-ghost use Rattle.container_core.specs.Record.{Record, Refuses, is_linked, quiet_answer};
-ghost use Rattle.container_core.specs.Messages.{on_message, on_reap, on_reply, reaped_object, reply_found, reply_link};
-ghost use Rattle.container_core.specs.Replies.{is_of, went};
-ghost use Rattle.container_core.specs.Room.{IfLinked, IsRoomy};
+ghost use Rattle.container_model.specs.Record.{Record, Refuses, is_linked, quiet_answer};
+ghost use Rattle.container_model.specs.Messages.{on_message, on_reap, on_reply, reaped_object, reply_found, reply_link};
+ghost use Rattle.container_laws.specs.Replies.{is_of, went};
+ghost use Rattle.container_laws.specs.Room.{IfLinked, IsRoomy};
 
-use crate::answer::{Action, Answer};
+use container_model::answer::{Action, Answer};
 use crate::container::ContainerCore;
-use crate::fault::ContainerFault;
+use container_model::fault::ContainerFault;
 use crate::lookups::place_linked;
-use crate::record::{Link, Object};
+use container_model::record::{Link, Object};
 use crate::replies::{Replied, told};
 use crate::settling::settle_into;
 use std::alloc::Global;
@@ -98,8 +98,8 @@ fn reap_all(inc: u32, objects: &mut Vec<Object>)
 impl ContainerCore {
     ghost use Rattle.std.specs.Prelude.{◌≡◌, ◌+◌, ◌≤◌, IfErr, IfOk, OnErr, Ok, length};
     ghost use Rattle.wire_msgs.specs.Found.{find, IsPlace};
-    ghost use Rattle.container_core.specs.Record.{Refuses, is_linked};
-    ghost use Rattle.container_core.specs.Messages.{on_message, on_reap, on_reply, reply_found};
+    ghost use Rattle.container_model.specs.Record.{Refuses, is_linked};
+    ghost use Rattle.container_model.specs.Messages.{on_message, on_reap, on_reply, reply_found};
 
     /// A message on the link of a server. The answer has what is sent and which files are to be committed.
     ///

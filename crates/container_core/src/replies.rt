@@ -2,14 +2,14 @@
 
 ghost use Rattle.std.specs.Prelude.{◌≡◌, ◌+◌, ◌≤◌, [], ◌∷◌, IfErr, IfOk, OnErr, OnOk, Ok, Some, None, length, vec_len, vec_capacity};
 ghost use Rattle.object_state.specs.Both as both;
-ghost use Rattle.container_core.specs.Record.{Refuses, sends};
-ghost use Rattle.container_core.specs.Messages.{done_link, lost, next_at, noted, reply_link, saved_link};
-ghost use Rattle.container_core.specs.Replies.{first_call, went};
-ghost use Rattle.container_core.specs.Room.{IfLinked, IsRoomy};
+ghost use Rattle.container_model.specs.Record.{Refuses, sends};
+ghost use Rattle.container_model.specs.Messages.{done_link, lost, next_at, noted, reply_link, saved_link};
+ghost use Rattle.container_laws.specs.Replies.{first_call, went};
+ghost use Rattle.container_laws.specs.Room.{IfLinked, IsRoomy};
 
-use crate::answer::Action;
-use crate::fault::ContainerFault;
-use crate::record::{Link, Object};
+use container_model::answer::Action;
+use container_model::fault::ContainerFault;
+use container_model::record::{Link, Object};
 use object_state::Op;
 use std::alloc::{AllocError, Global};
 use storage_tree::stored::Stored;

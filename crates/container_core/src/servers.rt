@@ -1,7 +1,7 @@
 //! The servers that a container started.
 
 ghost use Rattle.std.specs.Prelude.{◌≡◌, ◌≤◌, ◌+◌, ◌++◌, [], ◌∷◌, OnErr, OnOk, false, length, true, vec_len};
-ghost use Rattle.container_core.specs.Record.{count_alive, is_unreaped};
+ghost use Rattle.container_model.specs.Record.{count_alive, is_unreaped};
 ghost use Rattle.wire_msgs.specs.Found.{nth, set_nth};
 
 use crate::lookups::place;
@@ -18,7 +18,7 @@ pub(crate) struct Servers {
 
 impl Model for Servers {
     ghost use Rattle.std.specs.Prelude.{◌≡◌, Bool, List};
-    ghost use Rattle.container_core.specs.Record.{count_alive};
+    ghost use Rattle.container_model.specs.Record.{count_alive};
 
     ghost Value = { List Bool };
 

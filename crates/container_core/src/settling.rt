@@ -1,10 +1,10 @@
 //! How saves go on once nothing is waited for.
 
 ghost use Rattle.std.specs.Prelude.{◌≡◌, ◌+◌, ◌≤◌, ◌<◌, ◌++◌, length, vec_len, vec_capacity};
-ghost use Rattle.container_core.specs.Saves.{awaits, is_awaited_link, is_ready, settled_action, settled_actions, settled_frame, settled_frames};
+ghost use Rattle.container_model.specs.Saves.{awaits, is_awaited_link, is_ready, settled_action, settled_actions, settled_frame, settled_frames};
 
-use crate::answer::Action;
-use crate::record::{Frame, Link, Object, Phase};
+use container_model::answer::Action;
+use container_model::record::{Frame, Link, Object, Phase};
 
 // Whether a save waits for the object of this link.
 fn is_awaited(link: &Option<Link>) -> bool

@@ -1,4 +1,1 @@
-pub mod Server
 pub mod View
-pub mod Laws
-pub mod Opened

@@ -4,7 +4,7 @@ use Rattle.embed_core.specs.Content.{Content}
 use Rattle.server_core.specs.declared.server.Seat.{Seat}
 use Rattle.server_core.specs.declared.server.Activation as code
 use Rattle.server_core.specs.declared.server.ServerCore.{ServerCore}
-use Rattle.server_core.specs.Server.{Server, Activation}
+use Rattle.server_model.specs.Server.{Server, Activation}
 
 -- Objects in boxes: `content` says what the one in a seat contains.
 module _ {X : Type 0} {V : X → Type 0} (content : Seat X V → Content) where

@@ -4,12 +4,12 @@ ghost use Rattle.std.specs.Prelude.{◌≡◌, ◌+◌, Some, None, IfErr, IfOk,
 ghost use Rattle.object_state.specs.Both as both;
 ghost use Rattle.wire_msgs.specs.Operations.{op_of};
 ghost use Rattle.wire_msgs.specs.declared.operation.Operation.TheVariants as op;
-ghost use Rattle.server_core.specs.Opened.{Acts, Writes, does_open, stored_open, write_open};
-ghost use Rattle.server_core.specs.Server.{Refuses, known_call, next_call, refuses};
+ghost use Rattle.server_model.specs.Opened.{Acts, Writes, does_open, stored_open, write_open};
+ghost use Rattle.server_model.specs.Server.{Refuses, known_call, next_call, refuses};
 ghost use Rattle.server_core.specs.View.{seen_activation};
 
 use crate::facts::Answered;
-use crate::fault::ServerFault;
+use server_model::fault::ServerFault;
 use crate::server::Activation;
 use embed_core::fault::EmbedFault;
 use object_state::{CloseOption, States};

@@ -3,13 +3,13 @@
 ghost use Rattle.std.specs.Prelude.{◌≡◌, ◌++◌, ◌∷◌, [], ℕ, Some, None, Option, true, false, IfErr, IfOk, OnErr, Ok, option_map, is_some, vec_capacity, vec_len, ◌<◌};
 ghost use Rattle.wire_msgs.specs.Found.{IsPlace, find};
 ghost use Rattle.embed_core.specs.Kinds.{Kind, kind_of};
-ghost use Rattle.server_core.specs.Server.{Refuses, Takes, after_begun, begins, begun_class, begun_content, begun_states, called, answers, fresh, offered, is_act, on_call, unknown_call, unless_wanted, wanted, wanted_unknown};
-ghost use Rattle.server_core.specs.Opened.{TakesCall, first_class};
+ghost use Rattle.server_model.specs.Server.{Refuses, Takes, after_begun, begins, begun_class, begun_content, begun_states, called, answers, fresh, offered, is_act, on_call, unknown_call, unless_wanted, wanted, wanted_unknown};
+ghost use Rattle.server_model.specs.Opened.{TakesCall, first_class};
 ghost use Rattle.server_core.specs.View.{seen};
 ghost use Rattle.wire_msgs.specs.declared.answer.Answer.TheVariants as answer;
 
 use crate::facts::{Answered, Facts};
-use crate::fault::ServerFault;
+use server_model::fault::ServerFault;
 use crate::refusal::{Reaction, Refusal};
 use crate::server::{Activation, Seat, ServerCore};
 use embed_core::embedded::Embedded;
@@ -62,7 +62,7 @@ impl ServerCore {
     }
 
     // One more activation, into reserved room.
-    #[tactic(auto, using(crate::proofs::Places::seen_push))]
+    #[tactic(auto, using(server_model::proofs::Places::seen_push))]
     fn push(&mut self, facts: Facts, seat: Option<Seat>)
         requires { vec_len self.old.acts < vec_capacity self.old.acts }
         ensures { seen (λ s. content s.boxed) self.new ≡ record (seen (λ s. content s.boxed) self.old) { acts = (seen (λ s. content s.boxed) self.old).acts ++ record facts { content = option_map (λ s. content s.boxed) seat } ∷ [] } }

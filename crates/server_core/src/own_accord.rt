@@ -2,10 +2,10 @@
 
 ghost use Rattle.std.specs.Prelude.{◌≡◌, Err, IfErr, IfOk, OnErr};
 ghost use Rattle.wire_msgs.specs.Found.{IsPlace, find};
-ghost use Rattle.server_core.specs.Server.{Refuses, Tells, ask_deactivate, is_act, scribble, scribbled};
+ghost use Rattle.server_model.specs.Server.{Refuses, Tells, ask_deactivate, is_act, scribble, scribbled};
 ghost use Rattle.server_core.specs.View.{seen};
 
-use crate::fault::ServerFault;
+use server_model::fault::ServerFault;
 use crate::server::ServerCore;
 use std::alloc::Global;
 use wire_msgs::message::Message;

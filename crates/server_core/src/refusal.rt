@@ -2,8 +2,8 @@
 
 ghost use Rattle.std.specs.Prelude.{◌≡◌, Some};
 
-use crate::counted::Counted;
-use crate::fault::ServerFault;
+use server_model::counted::Counted;
+use server_model::fault::ServerFault;
 use embed_core::embedded::Embedded;
 use wire_msgs::message::Message;
 

@@ -8,10 +8,10 @@ use Rattle.cfb_directory.specs.Written.{entry_bytes, free_entry_bytes}
 use Rattle.cfb_directory.specs.declared.write.EntryFields.{EntryFields}
 use Rattle.cfb_directory.proofs.Fields.{length-entry_bytes, length-free_entry_bytes}
 use Rattle.storage_tree.specs.Tree.{Tree}
-use Rattle.stream_io.specs.Need.{pieces, entries, mini_sectors, long_sectors, directory_sectors, mini_fat_sectors, mini_stream_sectors}
+use Rattle.file_model.specs.Need.{pieces, entries, mini_sectors, long_sectors, directory_sectors, mini_fat_sectors, mini_stream_sectors}
 use Rattle.stream_io.specs.Image.{Parts, image, start, runs, directory_count, mini_fat_need, mini_stream_count, mini_stream_start}
 use Rattle.stream_io.specs.Placed.{Fits, IsPlaced, layout_of}
-use Rattle.stream_io.specs.Denotes.{Layout, directory_of, minis, sectors, entry, Denotes}
+use Rattle.file_model.specs.Denotes.{Layout, directory_of, minis, sectors, entry, Denotes}
 use Rattle.stream_io.specs.Directory.{Siblings, AreBalanced, entries_below, root_says, long_start, short_streams, long_streams, pieces_of, whole_pieces, parts_of, IsCovered, ArePlaced, PlacedDenotes, ImageDenotes, balanced}
 use Rattle.stream_io.proofs.Placed.{placed}
 use Rattle.stream_io.proofs.ContentsBalanced.{are-balanced}

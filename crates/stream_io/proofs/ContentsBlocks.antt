@@ -5,7 +5,7 @@ use Rattle.std.proofs.lemmas.List.FromFn.{length-range_with_len, get_or-range_wi
 use Rattle.std.specs.List.{flat_map, range_with_len, All}
 use Rattle.cfb_chain.specs.Bytes.{block}
 use Rattle.cfb_chain.specs.Chain.{Store, IsPresent}
-use Rattle.stream_io.specs.Need.{pieces}
+use Rattle.file_model.specs.Need.{pieces}
 use Rattle.stream_io.specs.Image.{padded}
 
 -- a block is read behind what is dropped

@@ -9,7 +9,7 @@ use Rattle.cfb_directory.specs.Entries.{NO_STREAM}
 use Rattle.cfb_directory.specs.SearchTree.{IsSearchTree, empty, node, middle}
 use Rattle.cfb_directory.proofs.Trees.{Reached}
 use Rattle.storage_tree.specs.Tree.{Children, none, stream, storage}
-use Rattle.stream_io.specs.Need.{entries, entries_of}
+use Rattle.file_model.specs.Need.{entries, entries_of}
 use Rattle.stream_io.specs.Family.{IsLink}
 use Rattle.stream_io.specs.Directory.{Siblings, AreBalanced, ids_from, linked}
 

@@ -6,7 +6,7 @@ use Rattle.std.specs.List.{range_with_len, sum}
 use Rattle.cfb_chain.specs.Bytes.{joined}
 use Rattle.cfb_chain.specs.Chain.{Store, IsChainOf}
 use Rattle.storage_tree.specs.Tree.{Tree, Children, tree, none, stream, storage}
-use Rattle.stream_io.specs.Need.{pieces, over_streams, over_streams_of, short_pieces, long_pieces}
+use Rattle.file_model.specs.Need.{pieces, over_streams, over_streams_of, short_pieces, long_pieces}
 use Rattle.stream_io.specs.Image.{start}
 use Rattle.stream_io.specs.Directory.{short_streams, short_streams_of, long_streams, long_streams_of, pieces_of}
 use Rattle.stream_io.proofs.ContentsPieces.{sum-cons, IsWidth, IsStoreFrom, AreLeft, left-step, left-chain, left-content}

@@ -8,7 +8,7 @@ use Rattle.std.proofs.Math.ListN.{get_or-append}
 use Rattle.std.specs.List.{range_with_len, sum}
 use Rattle.cfb_chain.specs.Bytes.{block, joined}
 use Rattle.cfb_chain.specs.Chain.{Store, IsChainOf}
-use Rattle.stream_io.specs.Need.{pieces}
+use Rattle.file_model.specs.Need.{pieces}
 use Rattle.stream_io.specs.Image.{run, runs, start, padded}
 use Rattle.stream_io.specs.Directory.{pieces_of, whole_pieces}
 use Rattle.stream_io.proofs.ContentsBlocks.{block-drop, block-append, joined_blocks, take-padded, present_range}

@@ -11,9 +11,9 @@ use Rattle.cfb_directory.specs.Entries.{entry_at, left, right, child, class_of, 
 use Rattle.cfb_directory.proofs.Trees.{Reached, tree_reaches}
 use Rattle.storage_tree.specs.Tree.{Tree, Children, tree, none, stream, storage, keys}
 use Rattle.storage_tree.specs.Whole.{AreTrees, IsTree}
-use Rattle.stream_io.specs.Need.{pieces, entries, entries_of, over_streams_of, mini_sectors, long_sectors, short_pieces, long_pieces}
+use Rattle.file_model.specs.Need.{pieces, entries, entries_of, over_streams_of, mini_sectors, long_sectors, short_pieces, long_pieces}
 use Rattle.stream_io.specs.Image.{start}
-use Rattle.stream_io.specs.Denotes.{Layout, directory_of, minis, sectors, entry, store_for, HoldsBytes, AreChildren, Holds, HoldsEach, Used, nothing, both, taken, within}
+use Rattle.file_model.specs.Denotes.{Layout, directory_of, minis, sectors, entry, store_for, HoldsBytes, AreChildren, Holds, HoldsEach, Used, nothing, both, taken, within}
 use Rattle.stream_io.specs.Directory.{Siblings, AreBalanced, ids_from, linked, first_of_stream, child_of, class_in, state_in, stream_says, short_streams, short_streams_of, long_streams, long_streams_of}
 use Rattle.stream_io.proofs.Tables.{range-append}
 use Rattle.stream_io.proofs.ContentsKeys.{keys-ordered}

@@ -3,7 +3,7 @@ use Rattle.std.proofs.Common.{ℕ}
 use Rattle.std.proofs.Props.{props}
 use Rattle.storage_tree.specs.Tree.{Tree}
 use Rattle.storage_tree.specs.Whole.{IsTree}
-use Rattle.stream_io.specs.Denotes.{Denotes}
+use Rattle.file_model.specs.Denotes.{Denotes}
 use Rattle.stream_io.specs.Directory.{IsCovered, IsSpelled, balanced, parts_of}
 use Rattle.stream_io.specs.Image.{Parts, image}
 use Rattle.stream_io.specs.Placed.{Fits}

@@ -10,8 +10,8 @@ use Rattle.cfb_chain.specs.Header.{HeaderValue, FitsHeader, IsHeader, header_of,
 use Rattle.cfb_chain.specs.Fat.{sectors_of, mini_sectors_of}
 use Rattle.cfb_chain.proofs.Written.{written_is_header, written_header, length_written}
 use Rattle.cfb_directory.specs.Entries.{entry_at, first_of, size_of}
-use Rattle.stream_io.specs.Need.{pieces}
-use Rattle.stream_io.specs.Denotes.{Layout, IsLaidOut, directory_of, root_of, sectors, minis}
+use Rattle.file_model.specs.Need.{pieces}
+use Rattle.file_model.specs.Denotes.{Layout, IsLaidOut, directory_of, root_of, sectors, minis}
 use Rattle.stream_io.specs.Image.{Parts, run, runs, start, table_bytes, image, directory_count, mini_fat_need, mini_stream_count, mini_stream_start}
 use Rattle.stream_io.specs.Placed.{Fits, IsPlaced, layout_of}
 use Rattle.stream_io.proofs.Tables.{IsWord, IsTabled, length-table_bytes, table_number, length-run, length-runs, words_in_runs, words_in_range, present_in_range, chain_in_table, chain_of_in_table, range-append, range_distinct}

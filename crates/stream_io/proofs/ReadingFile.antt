@@ -15,7 +15,7 @@ use Rattle.cfb_directory.specs.Entries.{AreLinked, EntriesValue, child, class_of
 use Rattle.storage_tree.specs.Kept.{Kept}
 use Rattle.storage_tree.specs.Tree.{Tree, tree, none}
 use Rattle.storage_tree.specs.Whole.{IsTree}
-use Rattle.stream_io.specs.Denotes.{AreChildren, Denotes, Holds, IsLaidOut, Layout, directory_of, minis, root_of, sectors}
+use Rattle.file_model.specs.Denotes.{AreChildren, Denotes, Holds, IsLaidOut, Layout, directory_of, minis, root_of, sectors}
 use Rattle.stream_io.specs.Reads.{AreChildrenRead, AreRead, filled}
 use Rattle.stream_io.proofs.ReadingStreams.{AreHeld, read_held}
 use Rattle.stream_io.proofs.ReadingSorted.{sorted_below, sorted_distinct}

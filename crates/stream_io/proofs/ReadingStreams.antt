@@ -10,8 +10,8 @@ use Rattle.cfb_directory.specs.Names.{IsName}
 use Rattle.cfb_directory.specs.Entries.{entry_at, first_of, size_of}
 use Rattle.storage_tree.specs.Tree.{Children, none, stream, storage}
 use Rattle.storage_tree.specs.Whole.{AreTrees}
-use Rattle.stream_io.specs.Denotes.{HoldsEach, Layout, Used, both, directory_of, minis, nothing, sectors, taken}
-use Rattle.stream_io.specs.Refusals.{has_storage_in}
+use Rattle.file_model.specs.Denotes.{HoldsEach, Layout, Used, both, directory_of, minis, nothing, sectors, taken}
+use Rattle.file_model.specs.Refusals.{has_storage_in}
 use Rattle.stream_io.specs.Reads.{AreRead, IsStreamRead, fat_after, mini_after, table_for}
 
 -- ---- one stream, whose bytes lie in mini sectors where the test is true

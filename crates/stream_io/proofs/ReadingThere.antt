@@ -18,9 +18,9 @@ use Rattle.cfb_directory.specs.declared.fault.DirFault.TheVariants.{NameEmpty, N
 use Rattle.cfb_directory.proofs.Marks.{set_all-there}
 use Rattle.storage_tree.specs.Tree.{Tree, Children, tree}
 use Rattle.storage_tree.specs.Whole.{IsTree}
-use Rattle.stream_io.specs.Denotes.{Denotes, Holds, Layout, Used, directory_of, root_of}
+use Rattle.file_model.specs.Denotes.{Denotes, Holds, Layout, Used, directory_of, root_of}
 use Rattle.stream_io.specs.Reads.{AreRead, AreSorted}
-use Rattle.stream_io.specs.Refusals.{has_storage}
+use Rattle.file_model.specs.Refusals.{has_storage}
 use Rattle.stream_io.proofs.ReadingEntries.{kind_inside}
 use Rattle.stream_io.proofs.ReadingFile.{IsOpened, IsReady}
 use Rattle.stream_io.proofs.ReadingLists.{all-from, distinct-head}

@@ -11,10 +11,10 @@ use Rattle.cfb_directory.specs.declared.entries.EntryKind.TheVariants as kinds
 use Rattle.storage_tree.specs.Tree.{Tree, Children, tree, none, stream, storage}
 use Rattle.storage_tree.specs.Change.{Seen, bytes, inner}
 use Rattle.storage_tree.specs.Whole.{IsTree}
-use Rattle.stream_io.specs.Need.{pieces, entries, mini_sectors, long_sectors, short_pieces, long_pieces, directory_sectors, mini_fat_sectors, mini_stream_sectors, data_sectors}
+use Rattle.file_model.specs.Need.{pieces, entries, mini_sectors, long_sectors, short_pieces, long_pieces, directory_sectors, mini_fat_sectors, mini_stream_sectors, data_sectors}
 use Rattle.stream_io.specs.Image.{Parts, start, padded, runs, image}
 use Rattle.stream_io.specs.Placed.{IsPlaced}
-use Rattle.stream_io.specs.Denotes.{Layout, sectors, Denotes}
+use Rattle.file_model.specs.Denotes.{Layout, sectors, Denotes}
 
 -- The links of so many siblings, by their places: the one on top, and those to the left and right of each.
 pub record Siblings : Type 0 where

@@ -5,7 +5,7 @@ use Rattle.cfb_directory.specs.SearchTree.{IsSearchTree}
 use Rattle.cfb_directory.specs.Written.{entry_bytes}
 use Rattle.storage_tree.specs.Tree.{Tree, Children}
 use Rattle.storage_tree.specs.Change.{Seen, bytes, inner}
-use Rattle.stream_io.specs.Need.{entries, mini_sectors, entries_of, over_streams_of, short_pieces, long_pieces}
+use Rattle.file_model.specs.Need.{entries, mini_sectors, entries_of, over_streams_of, short_pieces, long_pieces}
 use Rattle.stream_io.specs.Streams.{minis_with, sectors_with}
 use Rattle.stream_io.specs.Directory.{IsSpelled, ids_from, entries_with, stream_says, storage_says, entries_below, each_entry, balanced}
 use Rattle.stream_io.specs.declared.entries.Family.{Family}

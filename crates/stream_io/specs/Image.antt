@@ -5,7 +5,7 @@ use Rattle.std.specs.List.{flat_map, range_with_len, sum}
 use Rattle.std.specs.Int.{w32, to_le_bytes}
 use Rattle.cfb_chain.specs.Chain.{END_OF_CHAIN, FREE_SECTOR, FAT_SECTOR}
 use Rattle.cfb_chain.specs.Header.{header_bytes}
-use Rattle.stream_io.specs.Need.{pieces}
+use Rattle.file_model.specs.Need.{pieces}
 
 -- a run of pieces from `at`: each names the next, and the last ends the chain
 abbrev pub run : ℕ → ℕ → List ℕ

@@ -5,8 +5,8 @@ use Rattle.cfb_chain.specs.Bytes.{block}
 use Rattle.cfb_chain.specs.Chain.{AreDistinct}
 use Rattle.cfb_chain.specs.Header.{IsHeader}
 use Rattle.cfb_directory.specs.Entries.{entry_at, first_of, size_of}
-use Rattle.stream_io.specs.Need.{pieces}
-use Rattle.stream_io.specs.Denotes.{Layout, IsLaidOut, directory_of, minis}
+use Rattle.file_model.specs.Need.{pieces}
+use Rattle.file_model.specs.Denotes.{Layout, IsLaidOut, directory_of, minis}
 use Rattle.stream_io.specs.Image.{Parts, directory_count, mini_fat_need, mini_stream_count, mini_stream_start, runs}
 
 abbrev pub layout_of : ℕ → Parts → Layout

@@ -4,7 +4,7 @@ use Rattle.storage_tree.specs.Tree.{Tree}
 use Rattle.stream_io.specs.Directory.{long_streams}
 use Rattle.stream_io.specs.Family.{AreCounts}
 use Rattle.stream_io.specs.Image.{Parts}
-use Rattle.stream_io.specs.Need.{data_sectors}
+use Rattle.file_model.specs.Need.{data_sectors}
 use Rattle.stream_io.specs.declared.entries.Counts.{Counts}
 use Rattle.stream_io.specs.declared.write.Parts as written
 

@@ -5,7 +5,7 @@ ghost use Rattle.cfb_directory.specs.Written.{free_entry_bytes};
 ghost use Rattle.std.specs.List.{concat};
 ghost use Rattle.std.specs.Vec.{vec_len};
 ghost use Rattle.storage_tree.specs.View.{seen, view};
-ghost use Rattle.stream_io.specs.Need.{entries, long_sectors};
+ghost use Rattle.file_model.specs.Need.{entries, long_sectors};
 ghost use Rattle.stream_io.specs.Family.{AreCounts, IsBelow, IsChildSpelled, IsFamily, IsJoined, child_entries, past, past_all, sibling_entries};
 ghost use Rattle.storage_tree.specs.Change.{bytes as seen_bytes};
 ghost use Rattle.stream_io.specs.Image.{start};
@@ -299,7 +299,7 @@ pub(crate) struct Counts {
 
 impl Counts {
     ghost use Rattle.std.specs.Prelude.{◌≡◌, ◌≤◌, ◌*◌, ◌+◌};
-    ghost use Rattle.stream_io.specs.Need.{pieces};
+    ghost use Rattle.file_model.specs.Need.{pieces};
 
     /// The sectors of the directory.
     fn directory_sectors(self) -> u32

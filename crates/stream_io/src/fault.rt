@@ -1,8 +1,8 @@
-//! Why a file isn't read, or a tree isn't written.
+//! Why a file isn't read.
 
 use cfb_chain::fault::ChainFault;
 use cfb_directory::fault::DirFault;
-use std::alloc::{AllocError, AllocFailed};
+use std::alloc::AllocError;
 use thiserror::Error;
 
 /// Why a file isn't read.
@@ -71,52 +71,5 @@ impl From<AllocError> for ReadFault {
 
     fn from(_: AllocError) -> Self {
         ReadFault::NoMemory
-    }
-}
-
-/// Why a tree isn't written.
-#[derive(Debug, Clone, Copy, PartialEq, Eq, Error)]
-pub enum WriteFault {
-    /// The tree needs more room than a file has.
-    #[error("the tree is too big for a file")]
-    TooBig,
-    /// The tree has a storage, which isn't written yet.
-    #[error("the tree has a storage")]
-    WrongKind,
-    /// No memory was left.
-    #[error("no memory is left")]
-    NoMemory,
-}
-
-impl WriteFault {
-    /// The fault's name, as it is printed.
-    pub fn name(&self) -> &'static str {
-        match self {
-            WriteFault::TooBig => "TooBig",
-            WriteFault::WrongKind => "WrongKind",
-            WriteFault::NoMemory => "NoMemory",
-        }
-    }
-}
-
-impl From<AllocError> for WriteFault {
-    ghost use Rattle.std.specs.Prelude.{◌≡◌};
-    ghost use Rattle.stream_io.specs.declared.fault.WriteFault.TheVariants.{NoMemory};
-
-    ghost from_gives = { λ _ e. e ≡ NoMemory };
-
-    fn from(_: AllocError) -> Self {
-        WriteFault::NoMemory
-    }
-}
-
-impl<T: Drop> From<AllocFailed<T>> for WriteFault {
-    ghost use Rattle.std.specs.Prelude.{◌≡◌};
-    ghost use Rattle.stream_io.specs.declared.fault.WriteFault.TheVariants.{NoMemory};
-
-    ghost from_gives = { λ _ e. e ≡ NoMemory };
-
-    fn from(_: AllocFailed<T>) -> Self {
-        WriteFault::NoMemory
     }
 }

@@ -2,10 +2,10 @@
 
 ghost use Rattle.std.specs.Prelude.{List, ℕ, ◌≡◌};
 ghost use Rattle.storage_tree.specs.Tree.{Tree};
-ghost use Rattle.stream_io.specs.Denotes.{Denotes};
+ghost use Rattle.file_model.specs.Denotes.{Denotes};
 ghost use Rattle.stream_io.specs.Directory.{ImageDenotes, PlacedDenotes};
 ghost use Rattle.stream_io.specs.EmptyDocument.{empty_document as empty_bytes, empty_tree};
-ghost use Rattle.stream_io.specs.Need.{LeastFat};
+ghost use Rattle.file_model.specs.Need.{LeastFat};
 
 /// Bytes denote at most one tree.
 pub fn one_tree()

@@ -14,8 +14,8 @@ ghost use Rattle.std.specs.Prelude.{[], ◌*◌, ◌↔◌, ◌<◌, ◌≡◌, 
 ghost use Rattle.storage_tree.specs.Kept.{kept};
 ghost use Rattle.storage_tree.specs.Tree as tree;
 ghost use Rattle.storage_tree.specs.Tree.{Children, none};
-ghost use Rattle.stream_io.specs.Denotes.{Denotes};
-ghost use Rattle.stream_io.specs.Refusals.{has_storage};
+ghost use Rattle.file_model.specs.Denotes.{Denotes};
+ghost use Rattle.file_model.specs.Refusals.{has_storage};
 ghost use Rattle.stream_io.specs.Reads.{AreChildrenRead, AreRead, AreSorted, children_in, IsKeyed, IsPut, IsStream, IsStreamRead, MayRefuseNames, chain_fault, fat_after, key_at, mini_after, table_for};
 ghost use Rattle.stream_io.specs.declared.fault.ReadFault.TheVariants.{NoMemory};
 

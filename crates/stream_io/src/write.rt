@@ -8,17 +8,17 @@ ghost use Rattle.std.specs.Prelude.{◌≡◌, ◌≤◌, ◌<◌, ◌+◌, ◌-
 ghost use Rattle.std.specs.Vec.{vec_len};
 ghost use Rattle.storage_tree.specs.Kept.{kept};
 ghost use Rattle.storage_tree.specs.Whole.{IsTree};
-ghost use Rattle.stream_io.specs.Denotes.{Denotes};
+ghost use Rattle.file_model.specs.Denotes.{Denotes};
 ghost use Rattle.stream_io.specs.Directory.{IsSpelled, balanced, parts_of as parts_of_tree};
 ghost use Rattle.stream_io.specs.Image.{image, run, runs, start, table_bytes};
-ghost use Rattle.stream_io.specs.Need.{pieces};
+ghost use Rattle.file_model.specs.Need.{pieces};
 ghost use Rattle.stream_io.specs.Placed.{Fits};
-ghost use Rattle.stream_io.specs.Refusals.{Refuses, has_long, has_storage, writable};
+ghost use Rattle.file_model.specs.Refusals.{Refuses, has_long, has_storage, writable};
 ghost use Rattle.stream_io.specs.View.{AreEnough, seen};
 ghost use Rattle.storage_tree.specs.View.{view};
 
 use crate::entries::{Counts, chain_start, count_below, push_directory};
-use crate::fault::WriteFault;
+use file_model::fault::WriteFault;
 use crate::streams::{count_minis, push_mini_counts, push_mini_stream};
 use cfb_chain::fat::END_OF_CHAIN;
 use cfb_chain::header::Header;

@@ -9,19 +9,19 @@ use Rattle.wire_msgs.specs.declared.answer.Answer.TheVariants as told
 use Rattle.object_state.specs.declared.both_states.States.{States}
 use Rattle.storage_tree.specs.declared.stored.Stored.{Stored}
 use Rattle.embed_core.specs.Content.{Content}
-use Rattle.server_core.specs.Server.{Activation, is_act}
+use Rattle.server_model.specs.Server.{Activation, is_act}
 use Rattle.server_core.specs.View.{seen_activation}
 use Rattle.server_core.specs.declared.server.Seat.{Seat}
 use Rattle.server_core.specs.declared.server.Activation as code
-use Rattle.container_core.specs.Record.{Record}
+use Rattle.container_model.specs.Record.{Record}
 use Rattle.world_run.specs.declared.instance.Instance as held
-use Rattle.world_run.specs.declared.logs.Sent.{Sent}
-use Rattle.world_run.specs.declared.logs.Done.{Done}
-use Rattle.world_run.specs.declared.logs.ServerDone.{ServerDone}
-use Rattle.world_run.specs.World.{Instance}
+use Rattle.world_model.specs.declared.logs.Sent.{Sent}
+use Rattle.world_model.specs.declared.logs.Done.{Done}
+use Rattle.world_model.specs.declared.logs.ServerDone.{ServerDone}
+use Rattle.world_model.specs.World.{Instance}
 use Rattle.world_run.specs.View.{seen_instance}
-use Rattle.world_run.specs.Safe.{act_at, acts_of}
-use Rattle.world_run.specs.Tying.{life_at, lives_of, Ahead, AtPending, InStepAt, HasSaved, IsClosed, Ties}
+use Rattle.world_model.specs.Safe.{act_at, acts_of}
+use Rattle.world_safety.specs.Tying.{life_at, lives_of, Ahead, AtPending, InStepAt, HasSaved, IsClosed, Ties}
 
 -- two activations that differ in their contents alone, if at all
 pub record IsAlike (a b : Activation) : Type 0 where

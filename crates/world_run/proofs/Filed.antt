@@ -4,8 +4,8 @@ use Rattle.std.proofs.lemmas.List.{drop_more, take_all, take_more, set_split}
 use Rattle.std.proofs.lemmas.Option.{slice_get-get_or}
 use Rattle.std.proofs.Math.ListN.{drop_of_length-le}
 use Rattle.wire_msgs.specs.Found.{find}
-use Rattle.world_run.specs.declared.logs.File.{File}
-use Rattle.world_run.specs.World.{is_file, put_file}
+use Rattle.world_model.specs.declared.logs.File.{File}
+use Rattle.world_model.specs.World.{is_file, put_file}
 use Rattle.world_run.specs.Files.{IsFileAt, IsNoFile}
 
 -- the file stands nowhere before i

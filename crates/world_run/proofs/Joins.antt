@@ -1,14 +1,14 @@
 -- What a step of the container gives, put together from its parts.
 use Rattle.std.proofs.Common.{◌≡◌, ℕ, ◌+◌, ◌≤◌, List, Option, [], ◌∷◌, ◌++◌, length, map, refl, ap, arith}
 use Rattle.std.specs.List.{range_with_len}
-use Rattle.container_core.specs.declared.answer.Action.{Action}
-use Rattle.container_core.specs.declared.answer.Action.TheVariants.{Send, Start, End, Commit}
-use Rattle.container_core.specs.declared.answer.Answer.{Answer}
-use Rattle.world_run.specs.declared.logs.Sent.{Sent}
-use Rattle.world_run.specs.declared.logs.Document.{Document}
-use Rattle.world_run.specs.declared.logs.EventAnswer.{EventAnswer}
-use Rattle.world_run.specs.declared.logs.EventAnswer.TheVariants as told
-use Rattle.world_run.specs.World.{World, joined, started_by, messages_of, commits_of, of_container, uncounted, fresh}
+use Rattle.container_model.specs.declared.answer.Action.{Action}
+use Rattle.container_model.specs.declared.answer.Action.TheVariants.{Send, Start, End, Commit}
+use Rattle.container_model.specs.declared.answer.Answer.{Answer}
+use Rattle.world_model.specs.declared.logs.Sent.{Sent}
+use Rattle.world_model.specs.declared.logs.Document.{Document}
+use Rattle.world_model.specs.declared.logs.EventAnswer.{EventAnswer}
+use Rattle.world_model.specs.declared.logs.EventAnswer.TheVariants as told
+use Rattle.world_model.specs.World.{World, joined, started_by, messages_of, commits_of, of_container, uncounted, fresh}
 use Rattle.world_run.specs.Starts.{starts_of}
 use Rattle.world_run.specs.View.{started}
 

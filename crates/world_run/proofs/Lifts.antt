@@ -2,14 +2,14 @@
 use Rattle.std.proofs.Common.{ℕ, Bool, true, false, List, [], Option, Some, None, Result, Ok, Err, length, if◌then◌else◌, rules}
 use Rattle.std.specs.Prelude.{nat_le}
 use Rattle.wire_msgs.specs.Found.{nth}
-use Rattle.container_core.specs.Record.{Took}
-use Rattle.container_core.specs.Saves.{image, commit_done}
-use Rattle.container_core.specs.declared.answer.Part.{Part}
-use Rattle.container_core.specs.declared.record.Frame.{Frame}
-use Rattle.container_core.specs.declared.fault.ContainerFault.{ContainerFault}
-use Rattle.world_run.specs.declared.event.Stop.{Stop}
-use Rattle.world_run.specs.declared.event.Stop.TheVariants.{NotEnabled, OutOfStock, EventLimit, NoMemory}
-use Rattle.world_run.specs.World.{World, Refuses, limited, done, done_in, done_imaged, done_taken, MOST_EVENTS}
+use Rattle.container_model.specs.Record.{Took}
+use Rattle.container_model.specs.Saves.{image, commit_done}
+use Rattle.container_model.specs.declared.answer.Part.{Part}
+use Rattle.container_model.specs.declared.record.Frame.{Frame}
+use Rattle.container_model.specs.declared.fault.ContainerFault.{ContainerFault}
+use Rattle.world_model.specs.declared.event.Stop.{Stop}
+use Rattle.world_model.specs.declared.event.Stop.TheVariants.{NotEnabled, OutOfStock, EventLimit, NoMemory}
+use Rattle.world_model.specs.World.{World, Refuses, limited, done, done_in, done_imaged, done_taken, MOST_EVENTS}
 
 abbrev pub emptied : World → World
 emptied w = record w { instances = []; stock = [] }

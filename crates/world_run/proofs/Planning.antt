@@ -5,12 +5,12 @@ use Rattle.wire_msgs.specs.Found.{find, nth}
 use Rattle.wire_msgs.specs.declared.message.Message.{Message}
 use Rattle.wire_msgs.specs.declared.message.Message.TheVariants.{Call, Reply, Write, Ask}
 use Rattle.wire_msgs.specs.declared.operation.Operation.{Operation}
-use Rattle.server_core.specs.Server.{wanted}
+use Rattle.server_model.specs.Server.{wanted}
 use Rattle.container_core.specs.Numbered.{IsNth}
-use Rattle.world_run.specs.declared.event.Stop.TheVariants.{OutOfStock}
-use Rattle.world_run.specs.declared.instance.Life.TheVariants.{Running}
+use Rattle.world_model.specs.declared.event.Stop.TheVariants.{OutOfStock}
+use Rattle.world_model.specs.declared.life.Life.TheVariants.{Running}
 use Rattle.world_run.specs.declared.plan.Plan.TheVariants.{Serve, Begin}
-use Rattle.world_run.specs.World.{World, Instance, called, called_wanting, delivered, is_of}
+use Rattle.world_model.specs.World.{World, Instance, called, called_wanting, delivered, is_of}
 use Rattle.world_run.specs.Plans.{Fits, IsCallOf, IsFirst, carried, carried_call}
 
 -- a call at a server that runs

@@ -3,9 +3,9 @@ use Rattle.std.proofs.Common.{◌≡◌, ℕ, ◌+◌, ◌<◌, List, [], ◌∷
 use Rattle.std.specs.Prelude.{slice_get}
 use Rattle.std.proofs.lemmas.List.{take_more}
 use Rattle.std.proofs.lemmas.Option.{slice_get-get_or}
-use Rattle.world_run.specs.declared.event.Event.{Event}
-use Rattle.world_run.specs.declared.event.Stop.{Stop}
-use Rattle.world_run.specs.World.{World, IsImage, Run, StopsAt, step}
+use Rattle.world_model.specs.declared.event.Event.{Event}
+use Rattle.world_model.specs.declared.event.Stop.{Stop}
+use Rattle.world_model.specs.World.{World, IsImage, Run, StopsAt, step}
 
 run_last : (w : World) (es : List Event) (e : Event) (u v : World) → Run w es u → (bytes : List ℕ) × IsImage u bytes e × (step u bytes e ≡ Ok v) → Run w (es ++ e ∷ []) v
 run_last w [] e u v r s = subst (λ x. (bytes : List ℕ) × (next : World) × IsImage x bytes e × (step x bytes e ≡ Ok next) × (v ≡ next)) r (s.0, v, s.1, s.2, refl)

@@ -7,13 +7,13 @@ use Rattle.wire_msgs.specs.Found.{set_nth}
 use Rattle.wire_msgs.specs.declared.message.Message.{Message}
 use Rattle.wire_msgs.specs.declared.message.Message.TheVariants.{Call}
 use Rattle.wire_msgs.specs.declared.operation.Operation.{Operation}
-use Rattle.server_core.specs.Server.{Server, Takes, Refuses, on_call}
-use Rattle.server_core.specs.declared.fault.ServerFault.TheVariants.{WrongIncarnation, Ignored, NumbersSpent, NeedObject, WrongClass, NoMemory}
-use Rattle.server_core.specs.declared.counted.Counted.{Counted}
-use Rattle.server_core.specs.declared.fault.ServerFault.{ServerFault}
-use Rattle.world_run.specs.declared.logs.View.{View}
-use Rattle.world_run.specs.declared.logs.EventAnswer.TheVariants as told
-use Rattle.world_run.specs.World.{World, Instance, MOST_EVENTS, limited, served, view_in}
+use Rattle.server_model.specs.Server.{Server, Takes, Refuses, on_call}
+use Rattle.server_model.specs.declared.fault.ServerFault.TheVariants.{WrongIncarnation, Ignored, NumbersSpent, NeedObject, WrongClass, NoMemory}
+use Rattle.server_model.specs.declared.counted.Counted.{Counted}
+use Rattle.server_model.specs.declared.fault.ServerFault.{ServerFault}
+use Rattle.world_model.specs.declared.logs.View.{View}
+use Rattle.world_model.specs.declared.logs.EventAnswer.TheVariants as told
+use Rattle.world_model.specs.World.{World, Instance, MOST_EVENTS, limited, served, view_in}
 use Rattle.world_run.specs.Plans.{serving}
 use Rattle.world_run.specs.Rooms.{replied}
 use Rattle.world_run.proofs.Lifts.{emptied}

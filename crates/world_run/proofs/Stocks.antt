@@ -8,7 +8,7 @@ use Rattle.std.proofs.lemmas.Option.{slice_get-get_or}
 use Rattle.embed_core.specs.Kinds.{Kind, kind_of}
 use Rattle.embed_core.specs.Content.{Content}
 use Rattle.wire_msgs.specs.Found.{find}
-use Rattle.world_run.specs.World.{is_of, without_first}
+use Rattle.world_model.specs.World.{is_of, without_first}
 use Rattle.world_run.specs.Plans.{IsFirst, stock_with}
 
 -- no object of the class stands before i

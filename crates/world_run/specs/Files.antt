@@ -1,10 +1,10 @@
 -- Where a file stands.
 use Rattle.std.specs.Prelude.{◌≡◌, ℕ, Bool, false, List, ◌∷◌, [], ◌++◌, Option, Some, None, slice_get, slice_set}
 use Rattle.wire_msgs.specs.Found.{find}
-use Rattle.container_core.specs.declared.record.Frame.{Frame}
-use Rattle.container_core.specs.Saves.{is_committing}
-use Rattle.world_run.specs.declared.logs.File.{File}
-use Rattle.world_run.specs.World.{is_file, put_file}
+use Rattle.container_model.specs.declared.record.Frame.{Frame}
+use Rattle.container_model.specs.Saves.{is_committing}
+use Rattle.world_model.specs.declared.logs.File.{File}
+use Rattle.world_model.specs.World.{is_file, put_file}
 
 -- the file of a name stands at i, or nowhere
 pub record IsFileAt (name : List ℕ) (files : List File) (i : ℕ) : Type 0 where

@@ -1,14 +1,6 @@
-pub mod StopNames
-pub mod World
 pub mod Starts
 pub mod Rooms
 pub mod Files
 pub mod View
 pub mod Shown
-pub mod Report
-pub mod Runs
-pub mod Safe
-pub mod Keeping
-pub mod Tying
-pub mod Holding
 pub mod Plans

@@ -5,16 +5,16 @@ use Rattle.wire_msgs.specs.declared.message.Message.{Message}
 use Rattle.wire_msgs.specs.declared.message.Message.TheVariants.{Call, Reply, Write, Ask}
 use Rattle.wire_msgs.specs.declared.operation.Operation.{Operation}
 use Rattle.embed_core.specs.Kinds.{Kind}
-use Rattle.server_core.specs.Server.{on_call}
-use Rattle.container_core.specs.Messages.{on_message}
+use Rattle.server_model.specs.Server.{on_call}
+use Rattle.container_model.specs.Messages.{on_message}
 use Rattle.wire_msgs.specs.Found.{find}
 use Rattle.container_core.specs.Numbered.{IsNth}
 use Rattle.world_run.specs.declared.plan.Plan.{Plan}
 use Rattle.world_run.specs.declared.plan.Plan.TheVariants.{Quiet, Tell, Serve, Begin}
-use Rattle.world_run.specs.declared.logs.EventAnswer.TheVariants as told
-use Rattle.world_run.specs.declared.event.Stop.{Stop}
-use Rattle.world_run.specs.declared.event.Stop.TheVariants.{NotEnabled}
-use Rattle.world_run.specs.World.{World, Instance, served, took, quiet_outcome, is_of, without_first}
+use Rattle.world_model.specs.declared.logs.EventAnswer.TheVariants as told
+use Rattle.world_model.specs.declared.event.Stop.{Stop}
+use Rattle.world_model.specs.declared.event.Stop.TheVariants.{NotEnabled}
+use Rattle.world_model.specs.World.{World, Instance, served, took, quiet_outcome, is_of, without_first}
 
 abbrev pub quiet : World → World
 quiet w = record w { answers = w.answers ++ told.Took quiet_outcome ∷ [] }

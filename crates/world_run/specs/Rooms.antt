@@ -1,13 +1,13 @@
 -- Room that is taken before a step changes anything.
 use Rattle.std.specs.Prelude.{◌≡◌, ◌+◌, ◌≤◌, ◌<◌, ◌^◌, ℕ, Bool, true, false, Option, [], ◌∷◌, ◌++◌, length, vec_len, vec_capacity}
-use Rattle.container_core.specs.Record.{Record}
-use Rattle.server_core.specs.declared.counted.Counted.{Counted}
+use Rattle.container_model.specs.Record.{Record}
+use Rattle.server_model.specs.declared.counted.Counted.{Counted}
 use Rattle.wire_msgs.specs.declared.message.Message.{Message}
-use Rattle.world_run.specs.declared.event.Stop.{Stop}
-use Rattle.world_run.specs.declared.event.Stop.TheVariants.{NotEnabled, OutOfStock, EventLimit, NoMemory}
-use Rattle.world_run.specs.declared.logs.View.{View}
-use Rattle.world_run.specs.declared.logs.EventAnswer.TheVariants as told
-use Rattle.world_run.specs.World.{World, quiet_outcome, places, counted_by}
+use Rattle.world_model.specs.declared.event.Stop.{Stop}
+use Rattle.world_model.specs.declared.event.Stop.TheVariants.{NotEnabled, OutOfStock, EventLimit, NoMemory}
+use Rattle.world_model.specs.declared.logs.View.{View}
+use Rattle.world_model.specs.declared.logs.EventAnswer.TheVariants as told
+use Rattle.world_model.specs.World.{World, quiet_outcome, places, counted_by}
 use Rattle.world_run.specs.declared.ledger.Ledger.{Ledger}
 use Rattle.world_run.specs.declared.ledger.Room.{Room}
 

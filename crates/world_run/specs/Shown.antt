@@ -3,7 +3,7 @@ use Rattle.embed_core.specs.Content.{Content}
 use Rattle.server_core.specs.declared.server.Seat.{Seat}
 use Rattle.world_run.specs.declared.world.World as held
 use Rattle.world_run.specs.View.{seen}
-use Rattle.world_run.specs.World.{World}
+use Rattle.world_model.specs.World.{World}
 
 module _ {X : Type 0} {V : X → Type 0} (content : Seat X V → Content) where
   abbrev pub shown : held.World X V → World

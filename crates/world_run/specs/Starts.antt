@@ -1,7 +1,7 @@
 -- The servers that an answer's actions start.
 use Rattle.std.specs.Prelude.{ℕ, List, [], ◌∷◌}
-use Rattle.container_core.specs.declared.answer.Action.{Action}
-use Rattle.container_core.specs.declared.answer.Action.TheVariants.{Send, Start, End, Commit}
+use Rattle.container_model.specs.declared.answer.Action.{Action}
+use Rattle.container_model.specs.declared.answer.Action.TheVariants.{Send, Start, End, Commit}
 
 abbrev pub starts_of : List Action → List ℕ
 starts_of [] = []

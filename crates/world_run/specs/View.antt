@@ -8,7 +8,7 @@ use Rattle.world_run.specs.declared.instance.Instance as code
 use Rattle.world_run.specs.declared.instance.Stocked.{Stocked}
 use Rattle.world_run.specs.declared.ledger.Ledger.{Ledger}
 use Rattle.world_run.specs.declared.state.State.{State}
-use Rattle.world_run.specs.World.{World, Instance, fresh}
+use Rattle.world_model.specs.World.{World, Instance, fresh}
 
 -- a ledger as a world without servers and stock
 abbrev pub bare : Ledger → World

@@ -2,21 +2,21 @@
 
 ghost use Rattle.std.specs.Prelude.{◌++◌, ◌∷◌, [], ◌+◌, ◌<◌, ◌≤◌, ◌≡◌, IfOk, IfErr, IfSome, MatchOption, length, true, OnErr, OnOk, Ok, Some, None, List, ℕ, map, option_copied, vec_len, vec_capacity};
 ghost use Rattle.wire_msgs.specs.Found.{nth, set_nth, find};
-ghost use Rattle.container_core.specs.Saves.{commit_done, image, document_tree, name_after};
-ghost use Rattle.container_core.specs.declared.record.Phase.TheVariants as phase;
-ghost use Rattle.stream_io.specs.Denotes.{Denotes};
-ghost use Rattle.world_run.specs.World.{IsImage, Refuses, done, done_entry, frame_file, is_file, kept_commit, limited, put_file};
-ghost use Rattle.world_run.specs.declared.event.Event.TheVariants as event;
+ghost use Rattle.container_model.specs.Saves.{commit_done, image, document_tree, name_after};
+ghost use Rattle.container_model.specs.declared.record.Phase.TheVariants as phase;
+ghost use Rattle.file_model.specs.Denotes.{Denotes};
+ghost use Rattle.world_model.specs.World.{IsImage, Refuses, done, done_entry, frame_file, is_file, kept_commit, limited, put_file};
+ghost use Rattle.world_model.specs.declared.event.Event.TheVariants as event;
 ghost use Rattle.world_run.specs.Files.{IsFileAt, IsNoFile, is_committing_in};
 ghost use Rattle.world_run.specs.Rooms.{most};
 ghost use Rattle.world_run.specs.View.{bare, started};
 
-use crate::event::Stop;
+use world_model::event::Stop;
 use crate::ledger::{Ledger, Room, add, add_all};
-use crate::logs::{Document, Done, File};
-use container_core::answer::Part;
-use container_core::fault::ContainerFault;
-use container_core::record::{Frame, Phase};
+use world_model::logs::{Document, Done, File};
+use container_model::answer::Part;
+use container_model::fault::ContainerFault;
+use container_model::record::{Frame, Phase};
 use std::alloc::{AllocError, Global};
 use storage_tree::bytes::Bytes;
 use wire_msgs::items::Items;

@@ -7,17 +7,7 @@ ghost use Rattle.world_run.specs.View.{seen_stocked};
 use embed_core::embedded::Embedded;
 use server_core::server::ServerCore;
 use storage_tree::class_id::ClassId;
-
-/// How far a server's life is.
-#[derive(Debug, Clone, Copy, PartialEq, Eq)]
-pub enum Life {
-    /// It runs.
-    Running,
-    /// It has ended, and its end isn't told yet.
-    Ended,
-    /// It has ended, and its end was told.
-    Reaped,
-}
+use world_model::life::Life;
 
 /// A server of a world.
 #[derive(Drop)]

@@ -2,22 +2,22 @@
 
 ghost use Rattle.std.specs.Prelude.{[], ◌∷◌, ◌++◌, ◌+◌, ◌≤◌, ◌<◌, ◌^◌, ◌≡◌, IfErr, IfOk, OnErr, OnOk, Ok, length, map, nat_le, false, vec_len, vec_capacity};
 ghost use Rattle.std.specs.List.{range_with_len};
-ghost use Rattle.container_core.specs.Commands.{on_command};
-ghost use Rattle.container_core.specs.Messages.{on_message, on_reap};
-ghost use Rattle.world_run.specs.World.{messages_of, commits_of, of_container, joined, uncounted, took, owner, counted_by, quiet_outcome, limited, commanded, owners_by, empty_world, Refuses, MOST_EVENTS};
-ghost use Rattle.world_run.specs.declared.logs.EventAnswer.TheVariants as told;
+ghost use Rattle.container_model.specs.Commands.{on_command};
+ghost use Rattle.container_model.specs.Messages.{on_message, on_reap};
+ghost use Rattle.world_model.specs.World.{messages_of, commits_of, of_container, joined, uncounted, took, owner, counted_by, quiet_outcome, limited, commanded, owners_by, empty_world, Refuses, MOST_EVENTS};
+ghost use Rattle.world_model.specs.declared.logs.EventAnswer.TheVariants as told;
 ghost use Rattle.world_run.specs.Starts.{starts_of};
 ghost use Rattle.world_run.specs.Rooms.{HasLogRoom, HasReplyRoom, IsBarred, IsRoom, most, replied};
 ghost use Rattle.world_run.specs.View.{bare, started};
 
-use crate::event::{Stop, copy_command};
-use crate::logs::{Document, Done, EventAnswer, File, Outcome, Sent, ServerDone, View};
-use container_core::answer::{Action, Answer};
-use container_core::command::Command;
+use world_model::event::{Stop, copy_command};
+use world_model::logs::{Document, Done, EventAnswer, File, Outcome, Sent, ServerDone, View};
+use container_model::answer::{Action, Answer};
+use container_model::command::Command;
 use container_core::container::{ContainerCore, Limits};
-use container_core::fault::ContainerFault;
-use server_core::counted::Counted;
-use server_core::fault::ServerFault;
+use container_model::fault::ContainerFault;
+use server_model::counted::Counted;
+use server_model::fault::ServerFault;
 use std::alloc::{AllocError, Global};
 use wire_msgs::items::Items;
 use wire_msgs::message::Message;

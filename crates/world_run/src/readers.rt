@@ -3,9 +3,9 @@
 ghost use Rattle.std.specs.Prelude.{◌≡◌, length, option_copied};
 ghost use Rattle.wire_msgs.specs.Found.{nth};
 ghost use Rattle.world_run.specs.Shown.{shown};
-ghost use Rattle.world_run.specs.World.{counted_document, frame_file};
+ghost use Rattle.world_model.specs.World.{counted_document, frame_file};
 
-use crate::logs::{Document, Done, EventAnswer, Sent, ServerDone};
+use world_model::logs::{Document, Done, EventAnswer, Sent, ServerDone};
 use crate::state::place;
 use crate::world::World;
 use container_core::container::ContainerCore;

@@ -4,13 +4,13 @@ ghost use Rattle.std.specs.Io.KnownBytes.{Appends};
 ghost use Rattle.std.specs.Fmt.{decimal};
 ghost use Rattle.std.specs.List.{flat_map};
 ghost use Rattle.std.specs.Prelude.{◌≡◌, ◌≢◌, ◌++◌, ◌∷◌, [], codes, IfErr, IfOk, OnOk};
-ghost use Rattle.world_run.specs.Report.{container_line, content_text, done_line, file_word, frame_line, frame_lines, further_text, grant_text, linked_text, name_text, object_line, object_state_name, persist_state_name, report, report_of, server_line, state_text, stream_text};
+ghost use Rattle.world_model.specs.Report.{container_line, content_text, done_line, file_word, frame_line, frame_lines, further_text, grant_text, linked_text, name_text, object_line, object_state_name, persist_state_name, report, report_of, server_line, state_text, stream_text};
 ghost use Rattle.world_run.specs.Shown.{shown};
 
-use crate::logs::{Done, ServerDone};
+use world_model::logs::{Done, ServerDone};
 use crate::text::{push_hex, push_name, push_numbered, push_word};
 use crate::world::World;
-use container_core::record::{Frame, Link, Object, Phase};
+use container_model::record::{Frame, Link, Object, Phase};
 use embed_core::embedded::Embedded;
 use grant_core::GrantState;
 use object_state::{ObjectState, PersistState};
@@ -90,7 +90,7 @@ fn push_frames(alloc: Global, text: &mut Vec<u8>, frames: &[Frame]) -> Result<()
 }
 
 /// Writes a frame's line.
-#[tactic(auto, unfolding(crate::specs::Report::frame_line))]
+#[tactic(auto, unfolding(world_model::specs::Report::frame_line))]
 fn push_frame(
     alloc: Global,
     text: &mut Vec<u8>,
@@ -164,7 +164,7 @@ fn push_objects(alloc: Global, text: &mut Vec<u8>, objects: &[Object]) -> Result
 }
 
 /// Writes an object's line.
-#[tactic(auto, unfolding(crate::specs::Report::object_line))]
+#[tactic(auto, unfolding(world_model::specs::Report::object_line))]
 fn push_object(alloc: Global, text: &mut Vec<u8>, object: &Object) -> Result<(), AllocError>
     ensures { OnOk result (text.new.items ≡ text.old.items ++ object_line object.now) }
 {
@@ -314,7 +314,7 @@ fn push_server_line(alloc: Global, text: &mut Vec<u8>, entry: &ServerDone) -> Re
 }
 
 /// Writes the line of a content that this side counted.
-#[tactic(auto, unfolding(crate::specs::Report::done_line))]
+#[tactic(auto, unfolding(world_model::specs::Report::done_line))]
 fn push_done(
     alloc: Global,
     text: &mut Vec<u8>,

@@ -1,28 +1,29 @@
 //! What a world is made of, and the events that happen in it.
 
 ghost use Rattle.std.specs.Prelude.{◌≡◌, ◌≤◌, ◌<◌, ◌+◌, ◌++◌, [], List, ℕ, IfErr, IfOk, IfSome, IsSome, MatchOption, None, OnErr, OnOk, Ok, Err, Some, length, map, option_map, slice_get, take, vec_len, vec_capacity};
-ghost use Rattle.container_core.specs.Commands.{on_command};
-ghost use Rattle.container_core.specs.Messages.{on_message, on_reap};
+ghost use Rattle.container_model.specs.Commands.{on_command};
+ghost use Rattle.container_model.specs.Messages.{on_message, on_reap};
 ghost use Rattle.container_core.specs.Numbered.{IsNth};
 ghost use Rattle.wire_msgs.specs.Found.{nth, set_nth};
 ghost use Rattle.embed_core.specs.Kinds.{kind_of};
-ghost use Rattle.world_run.specs.declared.event.Event.{Event};
+ghost use Rattle.world_model.specs.declared.event.Event.{Event};
 ghost use Rattle.world_run.specs.declared.plan.Plan.TheVariants as plan;
 ghost use Rattle.world_run.specs.Plans.{Fits, IsCallOf, carried, carried_call, stock_with};
 ghost use Rattle.world_run.specs.View.{seen, seen_instance, seen_stocked};
-ghost use Rattle.world_run.specs.World.{IsImage, Refuses, Run, StopsAt, called, commanded, crash, deliver, delivered, done, empty_world, fresh, limited, reap, step, took, view_in};
-ghost use Rattle.world_run.specs.declared.event.Event.TheVariants as event;
+ghost use Rattle.world_model.specs.World.{IsImage, Refuses, Run, StopsAt, called, commanded, crash, deliver, delivered, done, empty_world, fresh, limited, reap, step, took, view_in};
+ghost use Rattle.world_model.specs.declared.event.Event.TheVariants as event;
 
-use crate::event::{Event, Stop};
-use crate::instance::{Instance, Life, Stocked};
+use world_model::event::{Event, Stop};
+use crate::instance::{Instance, Stocked};
+use world_model::life::Life;
 use crate::ledger::{Ledger, add};
-use crate::logs::View;
+use world_model::logs::View;
 use crate::plan::Plan;
 use crate::stock::Stock;
-use container_core::command::Command;
+use container_model::command::Command;
 use container_core::container::Limits;
 use embed_core::embedded::Embedded;
-use server_core::fault::ServerFault;
+use server_model::fault::ServerFault;
 use server_core::refusal::Refusal;
 use server_core::server::ServerCore;
 use std::alloc::Global;

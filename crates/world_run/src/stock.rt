@@ -6,7 +6,7 @@ ghost use Rattle.embed_core.specs.Kinds.{kind_of};
 ghost use Rattle.wire_msgs.specs.Found.{find};
 ghost use Rattle.world_run.specs.Plans.{IsFirst};
 ghost use Rattle.world_run.specs.View.{seen_stocked};
-ghost use Rattle.world_run.specs.World.{is_of};
+ghost use Rattle.world_model.specs.World.{is_of};
 
 use crate::instance::Stocked;
 use embed_core::embedded::Embedded;

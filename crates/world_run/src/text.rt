@@ -2,7 +2,7 @@
 
 ghost use Rattle.std.specs.Fmt.{decimal};
 ghost use Rattle.std.specs.Prelude.{◌≡◌, ◌<◌, ◌++◌, ◌∷◌, OnOk};
-ghost use Rattle.world_run.specs.Report.{byte_hex, byte_text, digit_text, hex, is_hidden, name_text};
+ghost use Rattle.world_model.specs.Report.{byte_hex, byte_text, digit_text, hex, is_hidden, name_text};
 
 use std::alloc::{AllocError, Global};
 

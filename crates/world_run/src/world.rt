@@ -2,10 +2,10 @@
 
 ghost use Rattle.std.specs.Prelude.{[]};
 ghost use Rattle.embed_core.specs.Content.{note};
-ghost use Rattle.world_run.specs.Holding.{Holds};
+ghost use Rattle.world_safety.specs.Holding.{Holds};
 ghost use Rattle.world_run.specs.View.{seen};
 
-use crate::event::{Event, Stop};
+use world_model::event::{Event, Stop};
 use crate::state::State;
 use crate::stock::Stock;
 use container_core::container::Limits;
@@ -26,11 +26,11 @@ pub struct World {
 
 impl World {
     ghost use Rattle.std.specs.Prelude.{◌≡◌, ◌≤◌, MatchOption, length, map, slice_get, take, Some};
-    ghost use Rattle.world_run.specs.Safe.{Safe};
+    ghost use Rattle.world_model.specs.Safe.{Safe};
     ghost use Rattle.world_run.specs.Shown.{shown};
     ghost use Rattle.world_run.specs.View.{seen_stocked};
-    ghost use Rattle.world_run.specs.World.{Run, StopsAt, empty_world};
-    ghost use Rattle.world_run.specs.declared.event.Event.{Event};
+    ghost use Rattle.world_model.specs.World.{Run, StopsAt, empty_world};
+    ghost use Rattle.world_model.specs.declared.event.Event.{Event};
 
     /// A world in which nothing has happened.
     pub fn new(alloc: Global, limits: Limits, stock: Stock) -> World

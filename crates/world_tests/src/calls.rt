@@ -1,9 +1,9 @@
 //! What tests call. These functions have no contracts, so that the tests stay quick to prove.
 
-use container_core::answer::Answer;
-use container_core::command::Command;
+use container_model::answer::Answer;
+use container_model::command::Command;
 use container_core::container::ContainerCore;
-use container_core::fault::ContainerFault;
+use container_model::fault::ContainerFault;
 use embed_core::embedded::Embedded;
 use server_core::refusal::{Reaction, Refusal};
 use server_core::server::ServerCore;
@@ -12,7 +12,7 @@ use std::test::Fail;
 use storage_tree::bytes::Bytes;
 use wire_msgs::answer as said;
 use wire_msgs::message::Message;
-use world_run::event::{Event, Stop};
+use world_model::event::{Event, Stop};
 use world_run::world::World;
 
 pub(crate) fn bytes(alloc: Global, bytes: &[u8]) -> Result<Bytes, Fail> {

@@ -1,11 +1,12 @@
 //! Commands of a user.
 
 use crate::calls::{bytes, carry_out, hear, reply};
-use container_core::answer::{Action, Answer};
-use container_core::command::{Command, ObjectKind};
+use container_model::answer::{Action, Answer};
+use container_model::command::{Command, ObjectKind};
 use container_core::container::{ContainerCore, Limits};
-use container_core::fault::ContainerFault;
-use container_core::record::{Area, Phase};
+use container_model::fault::ContainerFault;
+use container_model::record::Phase;
+use object_parts::area::Area;
 use embed_core::classes;
 use std::alloc::Global;
 use std::test::Fail;

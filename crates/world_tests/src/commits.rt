@@ -2,11 +2,11 @@
 
 use crate::calls::{bytes, carry_out, commit_done, hear, reply};
 use cfb_directory::name::Name;
-use container_core::answer::Action;
-use container_core::command::{Command, ObjectKind};
+use container_model::answer::Action;
+use container_model::command::{Command, ObjectKind};
 use container_core::container::{ContainerCore, Limits};
-use container_core::fault::ContainerFault;
-use container_core::record::Area;
+use container_model::fault::ContainerFault;
+use object_parts::area::Area;
 use std::alloc::Global;
 use std::test::Fail;
 use storage_tree::bytes::Bytes;

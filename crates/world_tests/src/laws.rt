@@ -1,7 +1,7 @@
 //! Laws: functions that take nothing, and whose contracts are what they say.
 
 use container_core::{commit_laws, laws as container, steady_laws};
-use server_core::laws as server;
+use server_model::laws as server;
 use world_run::{safe_laws, worked};
 
 #[test]

@@ -1,11 +1,12 @@
 //! Messages, and the end of a server.
 
 use crate::calls::{bytes, carry_out, hear, reap, reply};
-use container_core::answer::Action;
-use container_core::command::{Command, ObjectKind};
+use container_model::answer::Action;
+use container_model::command::{Command, ObjectKind};
 use container_core::container::{ContainerCore, Limits};
-use container_core::fault::ContainerFault;
-use container_core::record::{Area, Phase};
+use container_model::fault::ContainerFault;
+use container_model::record::Phase;
+use object_parts::area::Area;
 use std::alloc::Global;
 use std::test::Fail;
 use storage_tree::bytes::Bytes;

@@ -6,7 +6,7 @@ use embed_core::{Bytes, Stored, Streams, classes};
 use embed_note::note::Note;
 use embed_table::table::Table;
 use object_state::{CloseOption, ObjectState};
-use server_core::fault::ServerFault;
+use server_model::fault::ServerFault;
 use server_core::refusal::{Reaction, Refusal};
 use server_core::server::ServerCore;
 use std::alloc::Global;

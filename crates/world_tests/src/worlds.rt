@@ -2,9 +2,9 @@
 
 use crate::calls::{bytes, run};
 use cfb_directory::name::Name;
-use container_core::command::{Command, ObjectKind};
+use container_model::command::{Command, ObjectKind};
 use container_core::container::Limits;
-use container_core::record::Area;
+use object_parts::area::Area;
 use embed_core::embedded::Embedded;
 use embed_core::tally::Tally;
 use embed_note::note::Note;
@@ -15,8 +15,8 @@ use std::test::Fail;
 use storage_tree::bytes::Bytes;
 use storage_tree::storage::Found;
 use stream_io::read::read_file;
-use world_run::event::{Event, Stop};
-use world_run::logs::EventAnswer;
+use world_model::event::{Event, Stop};
+use world_model::logs::EventAnswer;
 use world_run::report::ReportFault;
 use world_run::stock::Stock;
 use world_run::world::World;

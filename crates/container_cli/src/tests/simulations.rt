@@ -8,7 +8,7 @@ use std::alloc::{AllocError, Global};
 use std::io::{Read, Write};
 use std::process::Abort;
 use std::test::Fail;
-use world_run::event::Stop;
+use world_model::event::Stop;
 use world_run::stock::Stock;
 
 /// A note is made, edited and saved; the nine first events make and edit it, and after twelve the commit is asked.

@@ -1,7 +1,7 @@
 use Rattle.std.proofs.Common.{◌≡◌}
 use Rattle.storage_tree.specs.Kept.{kept}
 use Rattle.storage_tree.specs.View.{children}
-use Rattle.stream_io.specs.Refusals.{has_storage, has_storage_in}
+use Rattle.file_model.specs.Refusals.{has_storage, has_storage_in}
 use Rattle.container_cli.proofs.commands.has_storage.Given as goal
 
 abbrev pub invariant-loop-child : goal.invariant-loop-child

@@ -1,5 +1,5 @@
 use Rattle.std.proofs.Common.{◌++◌, ◌≡◌, ◌≤◌, drop, vec_len}
-use Rattle.container_core.specs.Record.{asked_all, sends}
+use Rattle.container_model.specs.Record.{asked_all, sends}
 use Rattle.container_core.proofs.asking.calls.Given as goal
 
 abbrev pub invariant-loop-object : goal.invariant-loop-object

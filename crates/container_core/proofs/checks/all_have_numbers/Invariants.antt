@@ -1,5 +1,5 @@
 use Rattle.std.proofs.Common.{◌≡◌, drop}
-use Rattle.container_core.specs.Commands.{all_have_numbers}
+use Rattle.container_model.specs.Commands.{all_have_numbers}
 use Rattle.container_core.proofs.checks.all_have_numbers.Given as goal
 
 abbrev pub invariant-loop-object : goal.invariant-loop-object

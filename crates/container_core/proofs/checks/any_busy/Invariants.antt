@@ -1,5 +1,5 @@
 use Rattle.std.proofs.Common.{◌≡◌, drop}
-use Rattle.container_core.specs.Commands.{any_busy}
+use Rattle.container_model.specs.Commands.{any_busy}
 use Rattle.container_core.proofs.checks.any_busy.Given as goal
 
 abbrev pub invariant-loop-object : goal.invariant-loop-object

@@ -1,5 +1,5 @@
 use Rattle.std.proofs.Common.{◌+◌, ◌≡◌, ◌≤◌, drop}
-use Rattle.container_core.specs.Record.{count_objects}
+use Rattle.container_model.specs.Record.{count_objects}
 use Rattle.container_core.proofs.checks.count_objects.Given as goal
 
 abbrev pub invariant-loop-object : goal.invariant-loop-object

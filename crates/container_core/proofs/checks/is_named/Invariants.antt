@@ -1,5 +1,5 @@
 use Rattle.std.proofs.Common.{◌≡◌, drop}
-use Rattle.container_core.specs.Commands.{is_named}
+use Rattle.container_model.specs.Commands.{is_named}
 use Rattle.container_core.proofs.checks.is_named.Given as goal
 
 abbrev pub invariant-loop-frame : goal.invariant-loop-frame

@@ -1,8 +1,8 @@
 use Rattle.std.proofs.Common.{List, All, ap, sym, ◌∙◌, map, subst}
 use Rattle.container_core.specs.Asking.{HasNumber, prepared}
-use Rattle.container_core.specs.Record.{asked_object}
-use Rattle.container_core.specs.Saves.{completion}
-use Rattle.container_core.specs.declared.record.Object.{Object}
+use Rattle.container_model.specs.Record.{asked_object}
+use Rattle.container_model.specs.Saves.{completion}
+use Rattle.container_model.specs.declared.record.Object.{Object}
 use Rattle.container_core.proofs.CommitsObjects.{completed_all, numbers_counted, prepared_all}
 use Rattle.container_core.proofs.commits.complete_objects.Goals as goal
 

@@ -1,4 +1,4 @@
-use Rattle.container_core.specs.Saves.{counted_object}
+use Rattle.container_model.specs.Saves.{counted_object}
 use Rattle.container_core.proofs.CommitsObjects.{mapped_more}
 use Rattle.container_core.proofs.commits.count_objects.Goals as goal
 

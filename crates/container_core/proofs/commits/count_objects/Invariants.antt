@@ -1,5 +1,5 @@
 use Rattle.std.proofs.Common.{◌≡◌, ◌++◌, drop, take, map}
-use Rattle.container_core.specs.Saves.{counted_object}
+use Rattle.container_model.specs.Saves.{counted_object}
 use Rattle.container_core.proofs.commits.count_objects.Given as goal
 
 abbrev pub invariant-loop-object : goal.invariant-loop-object

@@ -1,6 +1,6 @@
 use Rattle.std.proofs.Common.{◌≡◌, ◌+◌, ◌≤◌, drop, min}
-use Rattle.container_core.specs.Saves.{children_of}
-use Rattle.stream_io.specs.Need.{over_streams_of, short_pieces}
+use Rattle.container_model.specs.Saves.{children_of}
+use Rattle.file_model.specs.Need.{over_streams_of, short_pieces}
 use Rattle.container_core.proofs.documents.count_minis.Given as goal
 
 abbrev pub invariant-loop-stream : goal.invariant-loop-stream

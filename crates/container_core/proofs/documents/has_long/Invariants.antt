@@ -1,6 +1,6 @@
 use Rattle.std.proofs.Common.{◌≡◌, drop}
-use Rattle.container_core.specs.Saves.{children_of}
-use Rattle.stream_io.specs.Refusals.{has_long_in}
+use Rattle.container_model.specs.Saves.{children_of}
+use Rattle.file_model.specs.Refusals.{has_long_in}
 use Rattle.container_core.proofs.documents.has_long.Given as goal
 
 abbrev pub invariant-loop-stream : goal.invariant-loop-stream

@@ -1,5 +1,5 @@
 use Rattle.std.proofs.Common.{◌≡◌, ◌++◌, drop}
-use Rattle.container_core.specs.Saves.{parts_in}
+use Rattle.container_model.specs.Saves.{parts_in}
 use Rattle.container_core.proofs.documents.parts_in.Given as goal
 
 abbrev pub invariant-loop-object : goal.invariant-loop-object

@@ -2,7 +2,7 @@ use Rattle.std.proofs.Common.{arith, eq-eqb}
 use Rattle.std.proofs.lemmas.Bool.{ne_eqb}
 use Rattle.container_core.proofs.LookupPlaces.{past_none, past_more, past_here, past_all, own_place}
 use Rattle.wire_msgs.specs.Found.{IsPlace}
-use Rattle.container_core.specs.Record.{is_object}
+use Rattle.container_model.specs.Record.{is_object}
 use Rattle.container_core.proofs.lookups.place_object.Goals as goal
 
 pub loop-i-init : goal.loop-i-init

@@ -1,5 +1,5 @@
 use Rattle.container_core.specs.Numbered.{IsPast}
-use Rattle.container_core.specs.Record.{is_object}
+use Rattle.container_model.specs.Record.{is_object}
 use Rattle.container_core.proofs.lookups.place_object.Given as goal
 
 abbrev pub invariant-loop-i : goal.invariant-loop-i

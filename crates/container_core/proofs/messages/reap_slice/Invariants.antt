@@ -1,5 +1,5 @@
 use Rattle.std.proofs.Common.{◌≡◌, ◌++◌, drop, take, map, length}
-use Rattle.container_core.specs.Messages.{reaped_object}
+use Rattle.container_model.specs.Messages.{reaped_object}
 use Rattle.container_core.proofs.messages.reap_slice.Given as goal
 
 abbrev pub invariant-loop-object : goal.invariant-loop-object

@@ -1,4 +1,4 @@
-use Rattle.container_core.proofs.MessageReplies.{saved_as}
+use Rattle.container_laws.proofs.MessageReplies.{saved_as}
 use Rattle.container_core.proofs.replies.saved.Goals as goal
 
 pub returns-in-Ok-clause-taken : goal.returns-in-Ok-clause-taken

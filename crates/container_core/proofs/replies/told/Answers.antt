@@ -2,7 +2,7 @@ use Rattle.std.proofs.Common.{◌≡◌, rules}
 use Rattle.storage_tree.specs.declared.class_id.ClassId.{ClassId}
 use Rattle.storage_tree.specs.declared.stored.Stored.{Stored}
 use Rattle.wire_msgs.specs.declared.operation.Operation.TheVariants as operation
-use Rattle.container_core.proofs.MessageReplies.{refused_init, refused_load, refused_edit, refused_completed, refused_save}
+use Rattle.container_laws.proofs.MessageReplies.{refused_init, refused_load, refused_edit, refused_completed, refused_save}
 use Rattle.container_core.proofs.replies.told.Goals as goal
 use Rattle.container_core.proofs.replies.told.Goals.{in-InitNew-1, in-Load-1}
 

@@ -1,5 +1,5 @@
 use Rattle.std.proofs.Common.{◌≡◌, drop}
-use Rattle.container_core.specs.Saves.{awaits}
+use Rattle.container_model.specs.Saves.{awaits}
 use Rattle.container_core.proofs.settling.awaits.Given as goal
 
 abbrev pub invariant-loop-object : goal.invariant-loop-object

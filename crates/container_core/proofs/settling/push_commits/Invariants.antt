@@ -1,5 +1,5 @@
 use Rattle.std.proofs.Common.{◌≡◌, ◌+◌, ◌≤◌, ◌++◌, drop, vec_len, vec_capacity}
-use Rattle.container_core.specs.Saves.{settled_actions}
+use Rattle.container_model.specs.Saves.{settled_actions}
 use Rattle.container_core.proofs.settling.push_commits.Given as goal
 
 abbrev pub invariant-loop-i : goal.invariant-loop-i

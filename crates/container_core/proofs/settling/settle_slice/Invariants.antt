@@ -1,5 +1,5 @@
 use Rattle.std.proofs.Common.{◌≡◌, ◌+◌, ◌++◌, drop, take, length}
-use Rattle.container_core.specs.Saves.{settled_frames}
+use Rattle.container_model.specs.Saves.{settled_frames}
 use Rattle.container_core.proofs.settling.settle_slice.Given as goal
 
 abbrev pub invariant-loop-i : goal.invariant-loop-i

@@ -1,6 +1,6 @@
 use Rattle.std.proofs.Common.{◌≡◌, ◌+◌, ◌≤◌, min}
 use Rattle.storage_tree.specs.View.{children}
-use Rattle.stream_io.specs.Need.{entries_of}
+use Rattle.file_model.specs.Need.{entries_of}
 use Rattle.stream_io.proofs.entries.+count_entries.Given as goal
 
 abbrev pub invariant-count_below-loop-child : goal.invariant-count_below-loop-child

@@ -1,6 +1,6 @@
 use Rattle.std.proofs.Common.{◌≡◌, ◌≤◌, ◌+◌, ◌++◌, vec_len}
 use Rattle.storage_tree.specs.View.{children}
-use Rattle.stream_io.specs.Need.{entries_of}
+use Rattle.file_model.specs.Need.{entries_of}
 use Rattle.stream_io.specs.Directory.{ids_from}
 use Rattle.stream_io.proofs.entries.child_ids.Given as goal
 

@@ -6,7 +6,7 @@ use Rattle.cfb_chain.specs.Fat.{AreFree, store_of}
 use Rattle.cfb_chain.specs.Header.{HeaderValue, IsHeader, header_of, listed}
 use Rattle.cfb_directory.specs.Entries.{EntriesValue, set_all}
 use Rattle.storage_tree.specs.Kept.{kept}
-use Rattle.stream_io.specs.Denotes.{Layout}
+use Rattle.file_model.specs.Denotes.{Layout}
 use Rattle.stream_io.proofs.ReadingFile.{IsOpened, IsReady, denoted, opened_at, read_header, ready}
 use Rattle.stream_io.proofs.ReadingRefused.{chain_memory, directory_memory, same_memory}
 use Rattle.stream_io.proofs.ReadingThere.{AreThere, children_there, directory_there, load_not_refused, mini_there, root_marked, root_not_refused}

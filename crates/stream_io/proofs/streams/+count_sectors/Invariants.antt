@@ -1,6 +1,6 @@
 use Rattle.std.proofs.Common.{◌≡◌, ◌+◌, ◌≤◌, min}
 use Rattle.storage_tree.specs.View.{children}
-use Rattle.stream_io.specs.Need.{over_streams_of, long_pieces}
+use Rattle.file_model.specs.Need.{over_streams_of, long_pieces}
 use Rattle.stream_io.proofs.streams.+count_sectors.Given as goal
 
 abbrev pub invariant-count_sectors-loop-child : goal.invariant-count_sectors-loop-child

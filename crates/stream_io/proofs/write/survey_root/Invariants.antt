@@ -1,6 +1,6 @@
 use Rattle.std.proofs.Common.{◌≡◌, ◌||◌}
 use Rattle.storage_tree.specs.View.{children}
-use Rattle.stream_io.specs.Refusals.{has_long_in, has_storage_in}
+use Rattle.file_model.specs.Refusals.{has_long_in, has_storage_in}
 use Rattle.stream_io.proofs.write.survey_root.Given as goal
 
 abbrev pub invariant-loop-child : goal.invariant-loop-child

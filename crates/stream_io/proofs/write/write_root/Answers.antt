@@ -1,7 +1,7 @@
 use Rattle.std.proofs.Common.{◌≡◌, ◌∙◌, ap, sym, subst, List, ℕ}
 use Rattle.std.proofs.Math.Logic.{∥∥₁_elim, ∥∥₁_map}
 use Rattle.storage_tree.specs.View.{view}
-use Rattle.stream_io.specs.Denotes.{Denotes}
+use Rattle.file_model.specs.Denotes.{Denotes}
 use Rattle.stream_io.specs.Directory.{balanced, parts_of}
 use Rattle.stream_io.specs.Image.{Parts, image}
 use Rattle.stream_io.specs.Placed.{Fits}

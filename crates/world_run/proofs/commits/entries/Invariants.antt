@@ -1,5 +1,5 @@
 use Rattle.std.proofs.Common.{◌≡◌, map, take}
-use Rattle.world_run.specs.World.{done_entry}
+use Rattle.world_model.specs.World.{done_entry}
 use Rattle.world_run.proofs.commits.entries.Given as goal
 
 abbrev pub invariant-loop-part : goal.invariant-loop-part

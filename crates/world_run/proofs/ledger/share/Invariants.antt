@@ -1,6 +1,6 @@
 use Rattle.std.proofs.Common.{◌++◌, ◌+◌, ◌≤◌, ◌≡◌, length, map, vec_len, vec_capacity}
 use Rattle.std.specs.Vec.Iter.{into_iter_items, into_iter_len}
-use Rattle.world_run.specs.World.{messages_of, commits_of, of_container}
+use Rattle.world_model.specs.World.{messages_of, commits_of, of_container}
 use Rattle.world_run.specs.Starts.{starts_of}
 use Rattle.world_run.proofs.ledger.share.Given as goal
 

@@ -1,6 +1,6 @@
 use Rattle.std.proofs.Common.{◌≡◌, ◌++◌, drop}
 use Rattle.std.specs.List.{flat_map}
-use Rattle.world_run.specs.Report.{container_line}
+use Rattle.world_model.specs.Report.{container_line}
 use Rattle.world_run.proofs.report.push_container_done.Given as goal
 
 abbrev pub invariant-loop-entry : goal.invariant-loop-entry

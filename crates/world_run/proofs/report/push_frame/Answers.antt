@@ -1,8 +1,8 @@
 use Rattle.std.proofs.Common.{◌++◌, [], ◌∷◌, ap, ◌∙◌, append_assoc}
 use Rattle.std.specs.Prelude.{codes}
 use Rattle.std.specs.Fmt.{decimal}
-use Rattle.world_run.specs.Report.{file_word, frame_line, grant_text, name_text}
-use Rattle.world_run.proofs.Lines.{continued, frame_pieces}
+use Rattle.world_model.specs.Report.{file_word, frame_line, grant_text, name_text}
+use Rattle.world_model.proofs.Lines.{continued, frame_pieces}
 use Rattle.world_run.proofs.report.push_frame.Goals as goal
 
 pub returns : goal.returns

@@ -1,5 +1,5 @@
 use Rattle.std.proofs.Common.{◌≡◌, ◌+◌, ◌++◌, drop}
-use Rattle.world_run.specs.Report.{frame_lines}
+use Rattle.world_model.specs.Report.{frame_lines}
 use Rattle.world_run.proofs.report.push_frames.Given as goal
 
 abbrev pub invariant-loop-index : goal.invariant-loop-index

@@ -1,6 +1,6 @@
 use Rattle.std.proofs.Common.{◌≡◌, ◌++◌, drop}
 use Rattle.std.specs.List.{flat_map}
-use Rattle.world_run.specs.Report.{further_text}
+use Rattle.world_model.specs.Report.{further_text}
 use Rattle.world_run.proofs.report.push_further.Given as goal
 
 abbrev pub invariant-loop-stream : goal.invariant-loop-stream

@@ -1,8 +1,8 @@
 use Rattle.std.proofs.Common.{◌++◌, [], ◌∷◌, ap, ◌∙◌}
 use Rattle.std.specs.Prelude.{codes}
 use Rattle.std.specs.Fmt.{decimal}
-use Rattle.world_run.specs.Report.{content_text, object_line, state_text}
-use Rattle.world_run.proofs.Lines.{continued, object_pieces}
+use Rattle.world_model.specs.Report.{content_text, object_line, state_text}
+use Rattle.world_model.proofs.Lines.{continued, object_pieces}
 use Rattle.world_run.proofs.report.push_object.Goals as goal
 
 pub returns : goal.returns

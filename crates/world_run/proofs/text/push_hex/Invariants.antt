@@ -1,5 +1,5 @@
 use Rattle.std.proofs.Common.{◌≡◌, ◌++◌, drop}
-use Rattle.world_run.specs.Report.{hex}
+use Rattle.world_model.specs.Report.{hex}
 use Rattle.world_run.proofs.text.push_hex.Given as goal
 
 abbrev pub invariant-loop-byte : goal.invariant-loop-byte

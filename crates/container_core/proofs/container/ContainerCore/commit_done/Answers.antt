@@ -3,12 +3,12 @@ use Rattle.wire_msgs.specs.Found.{nth}
 use Rattle.wire_msgs.specs.declared.operation.Operation.{Operation}
 use Rattle.container_core.specs.Asking.{IsAsking}
 use Rattle.container_core.specs.Numbered.{IsNth}
-use Rattle.container_core.specs.Record.{Record, Took, asked_all, sends}
-use Rattle.container_core.specs.Room.{IsSound}
-use Rattle.container_core.specs.Saves.{commit_made, completed, completion}
-use Rattle.container_core.specs.declared.fault.ContainerFault.{ContainerFault}
-use Rattle.container_core.specs.declared.record.Frame.{Frame}
-use Rattle.container_core.specs.declared.record.Object.{Object}
+use Rattle.container_model.specs.Record.{Record, Took, asked_all, sends}
+use Rattle.container_laws.specs.Room.{IsSound}
+use Rattle.container_model.specs.Saves.{commit_made, completed, completion}
+use Rattle.container_model.specs.declared.fault.ContainerFault.{ContainerFault}
+use Rattle.container_model.specs.declared.record.Frame.{Frame}
+use Rattle.container_model.specs.declared.record.Object.{Object}
 use Rattle.container_core.proofs.CommitsDone.{after_is, answer_is, frame_here, sound_made, took_is}
 use Rattle.container_core.proofs.container.ContainerCore.commit_done.Goals as goal
 

@@ -1,6 +1,6 @@
 use Rattle.container_core.proofs.MessageSound.{reaped_sound, settled_sound}
-use Rattle.container_core.specs.Record.{Record}
-use Rattle.container_core.specs.Messages.{reaped}
+use Rattle.container_model.specs.Record.{Record}
+use Rattle.container_model.specs.Messages.{reaped}
 use Rattle.container_core.proofs.container.ContainerCore.on_reap.Goals as goal
 
 pub invariant_of-self : goal.invariant_of-self

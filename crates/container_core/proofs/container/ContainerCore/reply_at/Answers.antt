@@ -1,9 +1,9 @@
 use Rattle.std.proofs.Common.{◌≡◌, Some, slice_get, slice_set, ap, subst, sym, ◌∙◌}
 use Rattle.std.proofs.lemmas.Option.{slice_get-get_or}
 use Rattle.wire_msgs.specs.Found.{IsPlace}
-use Rattle.container_core.specs.Record.{Record, is_linked}
-use Rattle.container_core.specs.Replies.{Went}
-use Rattle.container_core.proofs.MessageReplies.{reply_made}
+use Rattle.container_model.specs.Record.{Record, is_linked}
+use Rattle.container_laws.specs.Replies.{Went}
+use Rattle.container_laws.proofs.MessageReplies.{reply_made}
 use Rattle.container_core.proofs.MessageSound.{reply_sound, settled_sound}
 use Rattle.container_core.proofs.container.ContainerCore.reply_at.Goals as goal
 

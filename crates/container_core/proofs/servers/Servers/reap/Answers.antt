@@ -1,5 +1,5 @@
 use Rattle.std.proofs.Common.{◌≡◌, ◌≤◌, ◌+◌, true, arith, slice_set, slice_get}
-use Rattle.container_core.specs.Record.{count_alive, is_unreaped}
+use Rattle.container_model.specs.Record.{count_alive, is_unreaped}
 use Rattle.container_core.proofs.ServersCounted.{alive_at_least, alive_reaped, unreaped_at}
 use Rattle.container_core.proofs.servers.Servers.reap.Goals as goal
 

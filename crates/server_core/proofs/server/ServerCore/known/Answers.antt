@@ -1,7 +1,7 @@
 use Rattle.std.proofs.Common.{ap}
 use Rattle.std.proofs.lemmas.Result.{IfOk-weaker, IfErr-weaker, on_err_weaker}
-use Rattle.server_core.proofs.Places.{seen_same}
-use Rattle.server_core.proofs.Known.{known_acts, known_refuses, server}
+use Rattle.server_model.proofs.Places.{seen_same}
+use Rattle.server_model.proofs.Known.{known_acts, known_refuses, server}
 use Rattle.server_core.proofs.server.ServerCore.known.Goals as goal
 
 pub returns-clause-acted : goal.returns-clause-acted

@@ -1,4 +1,4 @@
-use Rattle.server_core.proofs.Known.{known_takes, known_keeps}
+use Rattle.server_model.proofs.Known.{known_takes, known_keeps}
 use Rattle.server_core.proofs.server.ServerCore.known_call.Goals as goal
 
 pub returns-in-Ok-clause-acted : goal.returns-in-Ok-clause-acted

@@ -1,6 +1,6 @@
 use Rattle.std.proofs.Common.{sym, ◌∙◌, eq-eqb}
 use Rattle.std.proofs.lemmas.Bool.{ne_eqb}
-use Rattle.server_core.proofs.Places.{seen_here, seen_more}
+use Rattle.server_model.proofs.Places.{seen_here, seen_more}
 use Rattle.server_core.proofs.server.ServerCore.place.Goals as goal
 
 pub returns-then-act : goal.returns-then-act

@@ -1,7 +1,7 @@
 use Rattle.std.proofs.Common.{map}
-use Rattle.server_core.specs.Server.{is_act}
+use Rattle.server_model.specs.Server.{is_act}
 use Rattle.server_core.specs.View.{seen_activation}
-use Rattle.server_core.proofs.Places.{IsPast}
+use Rattle.server_model.proofs.Places.{IsPast}
 use Rattle.server_core.proofs.server.ServerCore.place.Given as goal
 
 abbrev pub invariant-loop-i : goal.invariant-loop-i

@@ -1,8 +1,8 @@
 use Rattle.std.proofs.Common.{ap}
 use Rattle.std.proofs.lemmas.Result.{IfOk-weaker, IfErr-weaker, on_err_weaker}
-use Rattle.server_core.proofs.Places.{seen_same}
-use Rattle.server_core.proofs.Known.{server}
-use Rattle.server_core.proofs.Writing.{write_told, write_refuses}
+use Rattle.server_model.proofs.Places.{seen_same}
+use Rattle.server_model.proofs.Known.{server}
+use Rattle.server_model.proofs.Writing.{write_told, write_refuses}
 use Rattle.server_core.proofs.server.ServerCore.scribble_at.Goals as goal
 
 pub returns-clause-told : goal.returns-clause-told

@@ -1,5 +1,5 @@
 use Rattle.std.proofs.Common.{sym}
-use Rattle.server_core.proofs.First.{first_takes, offer_refuses}
+use Rattle.server_model.proofs.First.{first_takes, offer_refuses}
 use Rattle.server_core.proofs.server.ServerCore.unknown_call.Goals as goal
 
 pub returns-in-Ok-offered-clause-acted : goal.returns-in-Ok-offered-clause-acted

@@ -1,6 +1,6 @@
 use Rattle.std.proofs.Common.{◌≡◌, ◌∙◌, ◌++◌, ◌+◌, ◌-◌, ap, length, map, arith}
 use Rattle.std.specs.List.{range_with_len}
-use Rattle.world_run.specs.World.{messages_of, commits_of, of_container}
+use Rattle.world_model.specs.World.{messages_of, commits_of, of_container}
 use Rattle.world_run.specs.Starts.{starts_of}
 use Rattle.world_run.specs.View.{bare}
 use Rattle.world_run.proofs.Joins.{joins, starts_few}

@@ -1,6 +1,6 @@
 use Rattle.std.proofs.Common.{◌≡◌, ◌∙◌, sym}
 use Rattle.container_core.specs.Numbered.{IsNth}
-use Rattle.world_run.specs.declared.instance.Life.TheVariants.{Running}
+use Rattle.world_model.specs.declared.life.Life.TheVariants.{Running}
 use Rattle.world_run.specs.View.{seen, seen_instance}
 use Rattle.world_run.proofs.Servers.{nth_at, seen_nth}
 use Rattle.world_run.proofs.Serving.{if_some}

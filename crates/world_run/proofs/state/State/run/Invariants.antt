@@ -1,6 +1,6 @@
 use Rattle.std.proofs.Common.{take}
 use Rattle.world_run.specs.View.{seen}
-use Rattle.world_run.specs.World.{Run}
+use Rattle.world_model.specs.World.{Run}
 use Rattle.world_run.proofs.state.State.run.Given as goal
 
 abbrev pub invariant-loop-i : goal.invariant-loop-i

@@ -1,7 +1,7 @@
 use Rattle.std.proofs.Common.{◌++◌, ◌+◌, ◌≤◌, ◌≡◌, map, vec_len, vec_capacity}
 use Rattle.std.specs.Vec.Iter.{into_iter_items, into_iter_len}
 use Rattle.world_run.specs.View.{seen_instance}
-use Rattle.world_run.specs.World.{fresh}
+use Rattle.world_model.specs.World.{fresh}
 use Rattle.world_run.proofs.state.State.start.Given as goal
 
 abbrev pub invariant-loop-inc : goal.invariant-loop-inc

@@ -1,8 +1,8 @@
 use Rattle.std.proofs.Common.{subst, sym}
 use Rattle.std.specs.Prelude.{IfErr}
-use Rattle.world_run.specs.declared.event.Event.{Event}
+use Rattle.world_model.specs.declared.event.Event.{Event}
 use Rattle.world_run.specs.View.{seen}
-use Rattle.world_run.specs.World.{StopsAt}
+use Rattle.world_model.specs.World.{StopsAt}
 use Rattle.world_run.proofs.state.State.step.Goals as goal
 
 pub returns-in-Done-clause-refused : goal.returns-in-Done-clause-refused

@@ -1,5 +1,0 @@
-use Rattle.container_core.proofs.CommitsLaws.{commit_counts}
-use Rattle.container_core.proofs.commit_laws.commit_counts.Goals as goal
-
-pub returns : goal.returns
-returns c = commit_counts

@@ -1,5 +1,0 @@
-use Rattle.container_core.proofs.CommitsLaws.{commit_tells}
-use Rattle.container_core.proofs.commit_laws.commit_tells.Goals as goal
-
-pub returns : goal.returns
-returns c = commit_tells

@@ -1,5 +1,0 @@
-use Rattle.container_core.proofs.MessageLaws.{others-are_stale}
-use Rattle.container_core.proofs.laws.others_are_stale.Goals as goal
-
-pub returns : goal.returns
-returns c = others-are_stale

@@ -1,0 +1,160 @@
+-- What a commit counts, and whom it tells.
+use Rattle.std.proofs.Common.{◌≡◌, ◌==◌, ◌++◌, ℕ, Bool, true, false, List, [], ◌∷◌, map, Option, Some, None, Result, Ok, Err, inl, inr, refl, sym, ◌∙◌, ap, subst, if◌then◌else◌}
+use Rattle.std.proofs.lemmas.Bool.Decides.{eqb_tells}
+use Rattle.std.proofs.lemmas.List.{map-append}
+use Rattle.std.proofs.lemmas.List.Elements.{All-cons, All-nil}
+use Rattle.std.specs.List.{All}
+use Rattle.wire_msgs.specs.Found.{nth}
+use Rattle.wire_msgs.specs.declared.operation.Operation.{Operation}
+use Rattle.storage_tree.specs.declared.stored.Stored.{Stored}
+use Rattle.file_model.specs.Refusals.{writable}
+use Rattle.file_model.specs.declared.fault.WriteFault.{WriteFault}
+use Rattle.container_model.specs.declared.record.Link.{Link}
+use Rattle.container_model.specs.declared.record.Object.{Object}
+use Rattle.container_model.specs.declared.record.Frame.{Frame}
+use Rattle.container_model.specs.declared.record.Phase.{Phase}
+use Rattle.container_model.specs.declared.record.Phase.TheVariants.{Idle, Saving, HandingOff, Committing, InDoubt}
+use Rattle.container_model.specs.declared.answer.Part.{Part}
+use Rattle.container_model.specs.declared.fault.ContainerFault.{ContainerFault}
+use Rattle.container_model.specs.declared.fault.ContainerFault.TheVariants.{WrongState}
+use Rattle.container_model.specs.Record.{Record, Took, ask_at, asked_all, asked_sent, sends}
+use Rattle.container_model.specs.Saves.{awaits, commit_at, commit_done, commit_fitting, commit_made, completed, completion, document_tree, fitting, has_image, image, image_at, is_awaited_link, is_committing, is_ready_at, kept_by, kept_in, part_of, parts_in}
+use Rattle.container_laws.specs.CommitLaws.{AreParts, CommitCounts, CommitTells, Gives, HasAnswered, IsPart, SaveWaits, free_link, free_links, none, one, other, stored_part, stored_parts, telling}
+use Rattle.container_laws.proofs.CommitsRoom.{completed_in, completed_out}
+
+-- ---- a commit that succeeds
+fitting_parts : (parts ps : List Part) (told : Result (Unit {0}) WriteFault) → fitting parts told ≡ Ok ps → ps ≡ parts
+fitting_parts parts ps (Ok done) h = cc
+fitting_parts parts ps (Err fault) h = absurd (cc)
+
+image_if : (parts ps : List Part) (told : Result (Unit {0}) WriteFault) (b : Bool) → (if b then fitting parts told else Err WrongState) ≡ Ok ps → ps ≡ parts
+image_if parts ps told true h = fitting_parts parts ps told h
+image_if parts ps told false h = absurd (cc)
+
+image_parts : (r : Record) (f : ℕ) (found : Option Frame) (ps : List Part) → image_at r f found ≡ Ok ps → ps ≡ parts_in f r.objects
+image_parts r f None ps h = absurd (cc)
+image_parts r f (Some frame) ps h = image_if (parts_in f r.objects) ps (writable (document_tree (parts_in f r.objects))) (has_image frame.phase) h
+
+pub record Done (r : Record) (f : ℕ) (t : Took) : Type 0 where
+  pub frame : Frame
+  pub here : nth r.frames f ≡ Some frame
+  pub counts : image r f ≡ Ok (parts_in f r.objects)
+  pub made : t ≡ commit_made r f frame
+
+fitted : (r : Record) (f : ℕ) (t : Took) (frame : Frame) (told : Result (List Part) ContainerFault) → nth r.frames f ≡ Some frame → image r f ≡ told
+    → commit_fitting r f frame told ≡ Ok t → Done r f t
+fitted r f t frame (Err fault) here e h = absurd (cc)
+fitted r f t frame (Ok ps) here e h =
+    record { frame = frame; here = here; counts = e ∙ ap (λ (xs : List Part). Ok xs) (image_parts r f (nth r.frames f) ps e); made = cc }
+
+done_if : (r : Record) (f : ℕ) (t : Took) (frame : Frame) (b : Bool) → nth r.frames f ≡ Some frame
+    → (if b then commit_fitting r f frame (image r f) else Err WrongState) ≡ Ok t → Done r f t
+done_if r f t frame true here h = fitted r f t frame (image r f) here refl h
+done_if r f t frame false here h = absurd (cc)
+
+done_at : (r : Record) (f : ℕ) (t : Took) (found : Option Frame) → nth r.frames f ≡ found → commit_at r f found ≡ Ok t → Done r f t
+done_at r f t None e h = absurd (cc)
+done_at r f t (Some frame) e h = done_if r f t frame (is_committing frame.phase) e h
+
+pub done_from : (r : Record) (f : ℕ) (t : Took) → commit_done r f ≡ Ok t → Done r f t
+done_from r f t h = done_at r f t (nth r.frames f) refl h
+
+-- ---- what is counted
+gives_at : (o : Object) (link : Option Link) → o.link ≡ link → Gives o (kept_by o.work link)
+gives_at o None e = record { passive = λ h. refl; answered = λ l c h g. absurd (let no : ◌≡◌ {A = Option Link} None (Some l) = sym e ∙ h in cc) }
+gives_at o (Some m) e = record {
+  passive = λ h. absurd (let no : ◌≡◌ {A = Option Link} (Some m) None = sym e ∙ h in cc);
+  answered = λ l c h g.
+      (let same : m ≡ l = (let y : ◌≡◌ {A = Option Link} (Some m) (Some l) = sym e ∙ h in cc) in
+      ap (λ (x : Link). kept_in o.work x.saved) same ∙ ap (kept_in o.work) g);
+}
+
+is_part : (f : ℕ) (o : Object) → o.frame ≡ f → IsPart f o (part_of o)
+is_part f o e = record { inside = e; number = refl; class = refl; user_type = refl; area = refl; gives = gives_at o o.link refl }
+
+are_parts : (f : ℕ) (os : List Object) → AreParts f os (parts_in f os)
+are_parts f [] = none
+are_parts f (o ∷ os) =
+    elim (eqb_tells o.frame f) [
+      | inl p ↦ subst (λ (ps : List Part). AreParts f (o ∷ os) ps) (ap (λ b. if b then part_of o ∷ parts_in f os else parts_in f os) (sym p.0))
+          (one o os (part_of o) (parts_in f os) (is_part f o p.1) (are_parts f os))
+      | inr p ↦ subst (λ (ps : List Part). AreParts f (o ∷ os) ps) (ap (λ b. if b then part_of o ∷ parts_in f os else parts_in f os) (sym p.0))
+          (other o os (parts_in f os) p.1 (are_parts f os))
+    ]
+
+stored_after : (f : ℕ) (frame : Frame) (os : List Object) → stored_parts f (map (completed f frame) os) ≡ parts_in f os
+stored_after f frame [] = refl
+stored_after f frame (o ∷ os) =
+    let rest : List Object = map (completed f frame) os in
+    elim (eqb_tells o.frame f) [
+      | inl p ↦ ap (λ x. stored_parts f (x ∷ rest)) (completed_in f frame o p.0)
+          ∙ ap (λ ps. if o.frame == f then part_of o ∷ ps else ps) (stored_after f frame os)
+      | inr p ↦ ap (λ x. stored_parts f (x ∷ rest)) (completed_out f frame o p.0)
+          ∙ (ap (λ b. if b then stored_part o ∷ stored_parts f rest else stored_parts f rest) p.0 ∙ stored_after f frame os
+          ∙ sym (ap (λ b. if b then part_of o ∷ parts_in f os else parts_in f os) p.0))
+    ]
+
+pub commit_counts : CommitCounts
+commit_counts r f t h =
+    let d : Done r f t = done_from r f t h in
+    (parts_in f r.objects, d.counts, are_parts f r.objects, ap (λ (x : Took). stored_parts f x.rec.objects) d.made ∙ stored_after f d.frame r.objects)
+
+-- ---- whom it tells
+tells_at : (frame : Frame) (l : Link) (p : Option Operation) → l.pending ≡ p → sends (ask_at l (completion frame) p).sent ≡ map (telling frame) (elim p [ None ↦ l ∷ [] | Some op ↦ [] ])
+tells_at frame l None e = refl
+tells_at frame l (Some before) e = refl
+
+tells_link : (frame : Frame) (link : Option Link) → sends (asked_sent (completion frame) link) ≡ map (telling frame) (free_link link)
+tells_link frame None = refl
+tells_link frame (Some l) = tells_at frame l l.pending refl
+
+tells_all : (f : ℕ) (frame : Frame) (os : List Object) → sends (asked_all f (completion frame) os) ≡ map (telling frame) (free_links f os)
+tells_all f frame [] = refl
+tells_all f frame (o ∷ os) =
+    elim (o.frame == f) as (λ b. sends (if b then asked_sent (completion frame) o.link ++ asked_all f (completion frame) os else asked_all f (completion frame) os)
+    ≡ map (telling frame) (if b then free_link o.link ++ free_links f os else free_links f os)) [
+      | true ↦ simp map-append (rw (tells_link frame o.link, tells_all f frame os) refl)
+      | false ↦ tells_all f frame os
+    ]
+
+pub commit_tells : CommitTells
+commit_tells r f t h =
+    let d : Done r f t = done_from r f t h in
+    (d.frame, d.here, ap (λ (x : Took). x.answer.actions) d.made ∙ tells_all f d.frame r.objects)
+
+-- ---- whom a save waits for
+answered_link : (link : Option Link) (l : Link) → is_awaited_link link ≡ false → link ≡ Some l → (c : Stored) × (l.saved ≡ Some c)
+answered_link None l h e = absurd (cc)
+answered_link (Some m) l h e =
+    elim m.saved as (λ s. m.saved ≡ s → (elim s [ None ↦ true | Some content ↦ false ]) ≡ false → (c : Stored) × (l.saved ≡ Some c)) [
+      | None ↦ λ g k. absurd (cc)
+      | Some c ↦ λ g k. (let same : m ≡ l = cc in (c, ap (λ (x : Link). x.saved) (sym same) ∙ g))
+    ] refl h
+
+answered_at : (f : ℕ) (o : Object) (os : List Object) (b w : Bool) → (o.frame == f) ≡ b → is_awaited_link o.link ≡ w
+    → (if b then (if w then true else awaits f os) else awaits f os) ≡ false → HasAnswered f o × (awaits f os ≡ false)
+answered_at f o os true true e g h = absurd (cc)
+answered_at f o os true false e g h = (λ same l k. answered_link o.link l g k, h)
+answered_at f o os false w e g h =
+    (λ same l k. absurd (let no : ◌≡◌ {A = Bool} true false = sym (elim (eqb_tells o.frame f) [ inl p ↦ p.0 | inr p ↦ absurd (p.1 same) ]) ∙ e in cc), h)
+
+all_answered : (f : ℕ) (os : List Object) → awaits f os ≡ false → All (HasAnswered f) os
+all_answered f [] h = All-nil (HasAnswered f)
+all_answered f (o ∷ os) h =
+    let parts : HasAnswered f o × (awaits f os ≡ false) = answered_at f o os (o.frame == f) (is_awaited_link o.link) refl refl h in
+    All-cons (HasAnswered f) o os parts.0 (all_answered f os parts.1)
+
+ready_from : (phase : Phase) (waits : Bool) → is_ready_at phase waits ≡ true → waits ≡ false
+ready_from Saving false h = refl
+ready_from Saving true h = absurd (cc)
+ready_from Idle waits h = absurd (cc)
+ready_from HandingOff waits h = absurd (cc)
+ready_from Committing waits h = absurd (cc)
+ready_from InDoubt waits h = absurd (cc)
+
+pub save_waits : SaveWaits
+save_waits f os frame h ne =
+    elim (is_ready_at frame.phase (awaits f os)) as (λ b. is_ready_at frame.phase (awaits f os) ≡ b → (if b then record frame { phase = Committing } else frame).phase ≡ Committing → All (HasAnswered f) os) [
+      | true ↦ λ e g. all_answered f os (ready_from frame.phase (awaits f os) e)
+      | false ↦ λ e g. absurd (ne g)
+    ] refl h

@@ -1,0 +1,17 @@
+pub mod EditsTaken
+pub mod MessageLaws
+pub mod MessageReplies
+pub mod CommitsLaws
+pub mod CommitsRoom
+pub mod SteadyCommands
+pub mod SteadyCommits
+pub mod SteadyFinds
+pub mod SteadyFrames
+pub mod SteadyLinks
+pub mod SteadyLookups
+pub mod SteadyMessages
+pub mod SteadyMoves
+pub mod SteadyQueues
+pub mod SteadyRecords
+pub mod SteadyRuns
+pub mod SteadyShapes

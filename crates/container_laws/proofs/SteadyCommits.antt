@@ -1,0 +1,91 @@
+-- A commit that is done keeps a record steady, and what it wrote.
+use Rattle.std.proofs.Common.{◌≡◌, ℕ, Bool, true, false, List, Option, Some, None, Result, Ok, Err, refl, sym, ap, ◌∙◌, subst, ◌==◌, if◌then◌else◌}
+use Rattle.std.proofs.lemmas.Bool.{eqb-true, eqb-false}
+use Rattle.std.specs.Prelude.{IfSome, is_some}
+use Rattle.wire_msgs.specs.Found.{nth}
+use Rattle.wire_msgs.specs.declared.operation.Operation.{Operation}
+use Rattle.wire_msgs.specs.declared.operation.Operation.TheVariants.{SaveCompleted}
+use Rattle.container_model.specs.declared.answer.Part.{Part}
+use Rattle.container_model.specs.declared.record.Link.{Link}
+use Rattle.container_model.specs.declared.record.Object.{Object}
+use Rattle.container_model.specs.declared.record.Frame.{Frame}
+use Rattle.container_model.specs.declared.record.Phase.{Phase}
+use Rattle.container_model.specs.declared.record.Phase.TheVariants.{Idle, Committing}
+use Rattle.container_model.specs.declared.fault.ContainerFault.{ContainerFault}
+use Rattle.container_model.specs.declared.fault.ContainerFault.TheVariants.{WrongState}
+use Rattle.container_model.specs.Record.{Record, Took, is_object, asked_link, asked_object}
+use Rattle.container_model.specs.Saves.{kept, kept_by, kept_in, cleared, completion, completed, committed_frame, is_some_name, commit_made, is_committing, commit_fitting, commit_at, image}
+use Rattle.container_laws.specs.Steady.{SteadyLink, SteadyObject, SteadyFrame, IsSavedIn, InOrder, Steady, SteadyAfterCommits, CommitsAnsweredContents}
+use Rattle.container_laws.proofs.SteadyLookups.{each_found, each_map, each_set, pairs_map}
+use Rattle.container_laws.proofs.SteadyLinks.{completion_asked}
+use Rattle.container_laws.proofs.SteadyRecords.{if_told, at_some, if_at, Held, Follows, TookPlace, order_both}
+use Rattle.container_laws.proofs.SteadyCommands.{asked_follows, set_object, unset_object}
+
+-- an object of the frame is told
+completed_held : (servers : List Bool) (last_act k : ℕ) (storage : Bool) (phase : Phase) (link : Option Link) → phase ≡ Committing → IfSome link (SteadyLink servers last_act phase k) → IfSome (asked_link (SaveCompleted k storage) (cleared link)) (SteadyLink servers last_act Idle k)
+completed_held servers last_act k storage phase None p h = tt
+completed_held servers last_act k storage phase (Some l) p h = completion_asked servers last_act k storage l (subst (λ (z : Phase). SteadyLink servers last_act z k l) p h)
+
+cleared_follows : (op : Operation) (link : Option Link) → Follows (asked_link op (cleared link)) link
+cleared_follows op None l e = cc
+cleared_follows op (Some m) l e = (let f = asked_follows op (Some (record m { saved = None })) l e in let q = f.1 in let same : record m { saved = None } ≡ f.0 = cc in (m, refl, f.2 ∙ sym (ap (λ (z : Link). z.act) same)))
+
+-- what becomes of an object, whether it is of the frame or not
+pub completed_if : (P : Object → Type 0) (f : ℕ) (frame : Frame) (o : Object) → (o.frame ≡ f → P (record o { work = kept o; link = asked_link (completion frame) (cleared o.link) })) → ((o.frame ≡ f → ⊥) → P o) → P (completed f frame o)
+completed_if P f frame o here other = elim (o.frame == f) as (λ b. (o.frame == f) ≡ b → P (asked_object f (completion frame) (if b then record o { work = kept o; link = cleared o.link } else o))) [
+  | true ↦ (λ e. if_told P (o.frame == f) (record o { work = kept o; link = asked_link (completion frame) (cleared o.link) }) (record o { work = kept o; link = cleared o.link }) (λ t. here (eqb-true o.frame f e)) (λ t. absurd (eqb-false o.frame f t (eqb-true o.frame f e))))
+  | false ↦ (λ e. if_told P (o.frame == f) (record o { link = asked_link (completion frame) o.link }) o (λ t. absurd (eqb-false o.frame f e (eqb-true o.frame f t))) (λ t. other (eqb-false o.frame f e)))
+] refl
+
+pub completed_took : (f : ℕ) (frame : Frame) (o : Object) → TookPlace (completed f frame o) o
+completed_took f frame o = completed_if (λ (z : Object). TookPlace z o) f frame o
+    (λ e. record { number = refl; link = cleared_follows (completion frame) o.link })
+    (λ e. record { number = refl; link = λ l g. (l, g, refl) })
+
+module _ (r : Record) (f : ℕ) (frame : Frame) (s : Steady r) (at : nth r.frames f ≡ Some frame) (committing : frame.phase ≡ Committing) where
+  abbrev after : Record
+  after = (commit_made r f frame).rec
+
+  completed_steady : (o : Object) → SteadyObject r o → SteadyObject after (completed f frame o)
+  completed_steady o h = completed_if (SteadyObject after) f frame o
+      (λ here. set_object r after f frame (committed_frame frame) o (record o { work = kept o; link = asked_link (completion frame) (cleared o.link) }) at refl here refl refl refl h
+      (completed_held r.servers r.last_act frame.k (is_some_name frame.asked) frame.phase o.link committing))
+      (λ other. unset_object r after f (committed_frame frame) o refl other refl refl refl h)
+
+  pub commit_steady : Steady after
+  commit_steady = record {
+    frames = each_set SteadyFrame r.frames f (committed_frame frame) s.frames (record { asked = refl; phase = tt });
+    objects = each_map (SteadyObject r) (SteadyObject after) (completed f frame) r.objects completed_steady s.objects;
+    order = pairs_map InOrder (completed f frame) r.objects (order_both (completed f frame) (completed_took f frame)) s.order;
+  }
+
+pub committing_by : (phase : Phase) → is_committing phase ≡ true → phase ≡ Committing
+committing_by Committing e = refl
+committing_by _ e = absurd (cc)
+
+fitting_keeps : (r : Record) (f : ℕ) (frame : Frame) (parts : Result (List Part) ContainerFault) (t : Took) → Steady r → nth r.frames f ≡ Some frame → frame.phase ≡ Committing → commit_fitting r f frame parts ≡ Ok t → Steady t.rec
+fitting_keeps r f frame (Err fault) t s at p e = cc
+fitting_keeps r f frame (Ok parts) t s at p e = (let same : commit_made r f frame ≡ t = cc in subst (λ (z : Took). Steady z.rec) same (commit_steady r f frame s at p))
+
+commit_at_keeps : (r : Record) (f : ℕ) (found : Option Frame) (t : Took) → Steady r → nth r.frames f ≡ found → commit_at r f found ≡ Ok t → Steady t.rec
+commit_at_keeps r f None t s at e = cc
+commit_at_keeps r f (Some frame) t s at e = if_told (λ (z : Result Took ContainerFault). z ≡ Ok t → Steady t.rec) (is_committing frame.phase) (commit_fitting r f frame (image r f)) (Err WrongState)
+    (λ b g. fitting_keeps r f frame (image r f) t s at (committing_by frame.phase b) g)
+    (λ b g. cc) e
+
+-- a commit that is done keeps a record steady
+pub commit_done_keeps : SteadyAfterCommits
+commit_done_keeps r f t s e = commit_at_keeps r f (nth r.frames f) t s refl e
+
+-- each content that is committed was answered in this save
+there : {A : Type 0} (o : Option A) → is_some o ≡ true → (x : A) × (o ≡ Some x)
+there None e = cc
+there (Some x) e = (x, refl)
+
+pub commits_answered_contents : CommitsAnsweredContents
+commits_answered_contents r n o l frame s found is at committing =
+    let h = each_found (SteadyObject r) (is_object n) r.objects o s.objects found in
+    let held = if_at (SteadyLink r.servers r.last_act frame.phase frame.k) o.link l is (at_some (Held r o.link) (nth r.frames o.frame) frame at h.linked) in
+    let known : IsSavedIn Committing l.saved = subst (λ (z : Phase). IsSavedIn z l.saved) committing held.saved_known in
+    let c = there l.saved known in
+    (c.0, c.1, ap (kept_by o.work) is ∙ ap (kept_in o.work) c.1)

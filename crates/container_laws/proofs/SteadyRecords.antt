@@ -1,0 +1,144 @@
+-- Records: what keeps each object steady.
+use Rattle.std.proofs.Common.{◌≡◌, ◌<◌, ℕ, Bool, true, false, List, [], ◌∷◌, Option, Some, None, Result, Ok, refl, sym, ◌∙◌, subst, if◌then◌else◌}
+use Rattle.std.specs.Prelude.{◌||◌, IsSomeAnd, IfSome, is_some}
+use Rattle.std.specs.List.{AllByRecursion}
+use Rattle.wire_msgs.specs.Found.{find, put, nth}
+use Rattle.container_model.specs.declared.record.Link.{Link}
+use Rattle.container_model.specs.declared.record.Object.{Object}
+use Rattle.container_model.specs.declared.record.Frame.{Frame}
+use Rattle.container_model.specs.declared.record.Phase.{Phase}
+use Rattle.container_model.specs.declared.record.Phase.TheVariants.{Idle, Saving, HandingOff, Committing, InDoubt}
+use Rattle.container_model.specs.declared.fault.ContainerFault.{ContainerFault}
+use Rattle.container_model.specs.Record.{Record}
+use Rattle.container_model.specs.Saves.{awaits, is_awaited_link, is_ready, is_ready_at, settled_frame, settled_frames, settle}
+use Rattle.container_model.specs.Commands.{unless}
+use Rattle.container_laws.specs.Steady.{SteadyLink, SteadyObject, SteadyFrame, InOrder, Steady, SteadyFromTheStart}
+use Rattle.container_laws.proofs.SteadyLookups.{each_weaker, each_both, each_put, pairs_put, nth-settled, each_settled, none_awaited}
+use Rattle.container_laws.proofs.SteadyLinks.{now_committing}
+
+pub if_told : {A : Type 0} (P : A → Type 0) (b : Bool) (x y : A) → (b ≡ true → P x) → (b ≡ false → P y) → P (if b then x else y)
+if_told P true x y p q = p refl
+if_told P false x y p q = q refl
+
+pub unless_ok : {A : Type 0} (b : Bool) (fault : ContainerFault) (next : Result A ContainerFault) (t : A) → unless b fault next ≡ Ok t → (b ≡ false) × (next ≡ Ok t)
+unless_ok true fault next t e = cc
+unless_ok false fault next t e = (refl, e)
+
+pub or_false : (a b : Bool) → (a || b) ≡ false → (a ≡ false) × (b ≡ false)
+or_false true b e = absurd (cc)
+or_false false b e = (refl, e)
+
+pub some_and : {A : Type 0} (P : A → Type 0) (o : Option A) → IsSomeAnd o P → (x : A) × (o ≡ Some x) × P x
+some_and P None h = absurd h
+some_and P (Some x) h = (x, refl, h)
+
+pub and_some : {A : Type 0} (P : A → Type 0) (o : Option A) (x : A) → o ≡ Some x → P x → IsSomeAnd o P
+and_some P o x e p = subst (λ z. IsSomeAnd z P) (sym e) p
+
+pub at_some : {A : Type 0} (P : A → Type 0) (o : Option A) (x : A) → o ≡ Some x → IsSomeAnd o P → P x
+at_some P o x e h = subst (λ z. IsSomeAnd z P) e h
+
+pub if_weaker : {A : Type 0} (P Q : A → Type 0) (o : Option A) → ((x : A) → P x → Q x) → IfSome o P → IfSome o Q
+if_weaker P Q None k h = tt
+if_weaker P Q (Some x) k h = k x h
+
+pub if_at : {A : Type 0} (P : A → Type 0) (o : Option A) (x : A) → o ≡ Some x → IfSome o P → P x
+if_at P o x e h = subst (λ z. IfSome z P) e h
+
+-- from the start
+pub empty_steady : SteadyFromTheStart
+empty_steady numbers = record { frames = tt; objects = tt; order = tt }
+
+-- an object's link in its frame
+abbrev pub Held : Record → Option Link → Frame → Type 0
+Held r link frame = IfSome link (SteadyLink r.servers r.last_act frame.phase frame.k)
+
+-- a link that is none, or of the same activation as before
+abbrev pub Follows : Option Link → Option Link → Type 0
+Follows link before = (l : Link) → link ≡ Some l → (m : Link) × (before ≡ Some m) × (l.act ≡ m.act)
+
+abbrev pub Apart : Option Link → Option Link → Type 0
+Apart a b = IfSome a (λ (l : Link). IfSome b (λ (m : Link). l.act ≡ m.act → ⊥))
+
+pub apart_none : (a : Option Link) → Apart a None
+apart_none None = tt
+apart_none (Some l) = tt
+
+pub apart_right : (a b c : Option Link) → Follows c b → Apart a b → Apart a c
+apart_right None b c f h = tt
+apart_right (Some l) b None f h = tt
+apart_right (Some l) b (Some m) f h = (let g = f m refl in let k = if_at (λ (n : Link). l.act ≡ n.act → ⊥) b g.0 g.1 h in λ e. k (e ∙ g.2))
+
+pub apart_left : (a b c : Option Link) → Follows c a → Apart a b → Apart c b
+apart_left a None c f h = apart_none c
+apart_left a (Some l) None f h = tt
+apart_left a (Some l) (Some m) f h = (let g = f m refl in let k = if_at (λ (n : Link). n.act ≡ l.act → ⊥) a g.0 g.1 h in λ e. k (sym g.2 ∙ e))
+
+-- an object that took another's place
+pub record TookPlace (o before : Object) : Type 0 where
+  pub number : o.number ≡ before.number
+  pub link : Follows o.link before.link
+
+pub order_right : (y x a : Object) → TookPlace a x → InOrder y x → InOrder y a
+order_right y x a t h = record { rising = subst (λ (n : ℕ). y.number < n) (sym t.number) h.rising; apart = apart_right y.link x.link a.link t.link h.apart }
+
+pub order_left : (y x a : Object) → TookPlace a x → InOrder x y → InOrder a y
+order_left y x a t h = record { rising = subst (λ (n : ℕ). n < y.number) (sym t.number) h.rising; apart = apart_left x.link y.link a.link t.link h.apart }
+
+pub order_both : (g : Object → Object) → ((x : Object) → TookPlace (g x) x) → (x y : Object) → InOrder x y → InOrder (g x) (g y)
+order_both g t x y h = order_right (g x) y (g y) (t y) (order_left y x (g x) (t x) h)
+
+-- one object takes another's place
+pub put_steady : (r : Record) (test : Object → Bool) (x a : Object) → Steady r → find test r.objects ≡ Some x → TookPlace a x → SteadyObject r a → Steady (record r { objects = put test a r.objects })
+put_steady r test x a h e t s = record {
+  frames = h.frames;
+  objects = each_weaker (SteadyObject r) (SteadyObject (record r { objects = put test a r.objects })) (put test a r.objects) (λ o k. record { drawn = k.drawn; linked = k.linked }) (each_put (SteadyObject r) test a r.objects h.objects s);
+  order = pairs_put InOrder (SteadyObject r) test a x r.objects (λ y p k. order_right y x a t k) (λ y p k. order_left y x a t k) h.order h.objects e;
+}
+
+-- saves go on
+pub ready_at : (phase : Phase) (waits : Bool) → is_ready_at phase waits ≡ true → (phase ≡ Saving) × (waits ≡ false)
+ready_at Saving false e = (refl, refl)
+ready_at Saving true e = cc
+ready_at Idle waits e = cc
+ready_at HandingOff waits e = cc
+ready_at Committing waits e = cc
+ready_at InDoubt waits e = cc
+
+settled_steady : (f : ℕ) (os : List Object) (frame : Frame) → SteadyFrame frame → SteadyFrame (settled_frame f os frame)
+settled_steady f os frame h = if_told SteadyFrame (is_ready f os frame) (record frame { phase = Committing }) frame (λ e. record { asked = h.asked; phase = tt }) (λ e. h)
+
+answered_link : (l : Link) → is_awaited_link (Some l) ≡ false → is_some l.saved ≡ true
+answered_link l e = elim l.saved as (λ s. elim s [ None ↦ true | Some content ↦ false ] ≡ false → is_some s ≡ true) [ None ↦ (λ g. absurd (cc)) | Some content ↦ (λ g. refl) ] e
+
+settled_link : (r : Record) (link : Option Link) (frame : Frame) → frame.phase ≡ Saving → is_awaited_link link ≡ false → Held r link frame → Held r link (record frame { phase = Committing })
+settled_link r None frame p e h = tt
+settled_link r (Some l) frame p e h = now_committing r.servers r.last_act frame.k l (subst (λ (q : Phase). SteadyLink r.servers r.last_act q frame.k l) p h) (answered_link l e)
+
+each_forall : {A I : Type 0} (C : I → Type 0) (R : I → A → Type 0) (xs : List A) → ((i : I) → C i → AllByRecursion (R i) xs) → AllByRecursion (λ x. (i : I) → C i → R i x) xs
+each_forall C R [] k = tt
+each_forall C R (x ∷ xs) k = (λ i c. (k i c).0, each_forall C R xs (λ i c. (k i c).1))
+
+-- an object of a frame that waits for nothing has answered
+abbrev Answered : List Object → Object → Type 0
+Answered os o = (f : ℕ) → awaits f os ≡ false → o.frame ≡ f → is_awaited_link o.link ≡ false
+
+settled_object : (r : Record) (o : Object) → SteadyObject r o → Answered r.objects o → SteadyObject (settle r) o
+settled_object r o h a =
+    let s = some_and (Held r o.link) (nth r.frames o.frame) h.linked in
+    record {
+      drawn = h.drawn;
+      linked = and_some (Held r o.link) (nth (settled_frames 1 r.objects r.frames) o.frame) (settled_frame o.frame r.objects s.0) (nth-settled r.objects r.frames o.frame s.0 s.1)
+          (if_told (Held r o.link) (is_ready o.frame r.objects s.0) (record s.0 { phase = Committing }) s.0
+          (λ e. let ready = ready_at s.0.phase (awaits o.frame r.objects) e in settled_link r o.link s.0 ready.0 (a o.frame ready.1 refl) s.2)
+          (λ e. s.2));
+    }
+
+pub settle_steady : (r : Record) → Steady r → Steady (settle r)
+settle_steady r h = record {
+  frames = each_settled SteadyFrame 1 r.objects r.frames (λ n x k. settled_steady n r.objects x k) h.frames;
+  objects = each_weaker (λ o. SteadyObject r o × Answered r.objects o) (SteadyObject (settle r)) r.objects (λ o k. settled_object r o k.0 k.1)
+      (each_both (SteadyObject r) (Answered r.objects) r.objects h.objects
+      (each_forall (λ f. awaits f r.objects ≡ false) (λ f (o : Object). o.frame ≡ f → is_awaited_link o.link ≡ false) r.objects (λ f e. none_awaited f r.objects e)));
+  order = h.order;
+}

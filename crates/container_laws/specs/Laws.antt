@@ -1,0 +1,66 @@
+-- Laws above a container's steps on messages, and on the end of a server.
+use Rattle.std.specs.Prelude.{◌≡◌, ◌≢◌, ℕ, Bool, true, false, Option, Some, None, Ok, Err, slice_get}
+use Rattle.wire_msgs.specs.Found.{find}
+use Rattle.wire_msgs.specs.declared.message.Message.{Message}
+use Rattle.wire_msgs.specs.declared.message.Message.TheVariants.{Call, Reply, Write, Ask}
+use Rattle.wire_msgs.specs.declared.answer.Answer.{Answer}
+use Rattle.container_model.specs.declared.record.Link.{Link}
+use Rattle.container_model.specs.declared.record.Object.{Object}
+use Rattle.container_model.specs.declared.fault.ContainerFault.TheVariants.{Stale, WrongLink}
+use Rattle.container_model.specs.Record.{Record, Took, is_alive, is_linked}
+use Rattle.container_model.specs.Saves.{kept}
+use Rattle.container_model.specs.Messages.{on_message, on_reap}
+use Rattle.container_laws.specs.Replies.{is_of}
+
+-- the number of the call that an object is to answer, if it is to answer one
+abbrev pub pending_in : Option Link → Option ℕ
+pending_in None = None
+pending_in (Some l) = elim l.pending [ None ↦ None | Some op ↦ Some l.last ]
+
+abbrev pub pending_number : Option Object → Option ℕ
+pending_number None = None
+pending_number (Some o) = pending_in o.link
+
+-- which server a message says that it is from or for, and whether an object has its activation
+abbrev pub server_of : Message → ℕ
+server_of (Call inc act n op) = inc
+server_of (Reply inc act n answer) = inc
+server_of (Write inc act s w content) = inc
+server_of (Ask inc act g) = inc
+
+abbrev pub is_about : Message → Object → Bool
+is_about (Call inc act n op) o = is_linked inc act o
+is_about (Reply inc act n answer) o = is_linked inc act o
+is_about (Write inc act s w content) o = is_linked inc act o
+is_about (Ask inc act g) o = is_linked inc act o
+
+-- a reply on the link of its server, which isn't reaped, to the pending call of the object that has this activation
+abbrev pub IsPendingReply : Record → ℕ → Message → Type 0
+IsPendingReply r link (Reply inc act n answer) = (inc ≡ link) × (is_alive r inc ≡ true) × (pending_number (find (is_linked inc act) r.objects) ≡ Some n)
+IsPendingReply r link (Call inc act n op) = ⊥
+IsPendingReply r link (Write inc act s w content) = ⊥
+IsPendingReply r link (Ask inc act g) = ⊥
+
+-- only the reply to a pending call moves a record
+abbrev pub OnlyPendingReplies : Type 0
+OnlyPendingReplies = (r : Record) (link : ℕ) (m : Message) (t : Took) → on_message r link m ≡ Ok t → IsPendingReply r link m
+
+-- a reply to another call than the pending one is stale
+abbrev pub OthersAreStale : Type 0
+OthersAreStale = (r : Record) (inc act n : ℕ) (answer : Answer) → pending_number (find (is_linked inc act) r.objects) ≢ Some n → on_message r inc (Reply inc act n answer) ≡ Err Stale
+
+-- a message of another server than its link's is refused
+abbrev pub OtherServersAreRefused : Type 0
+OtherServersAreRefused = (r : Record) (link : ℕ) (m : Message) → server_of m ≢ link → on_message r link m ≡ Err WrongLink
+
+-- a message leaves the objects as they are that don't have its activation
+abbrev pub MessagesKeepOthers : Type 0
+MessagesKeepOthers = (r : Record) (link : ℕ) (m : Message) (t : Took) → on_message r link m ≡ Ok t → (i : ℕ) (o : Object) → slice_get r.objects i ≡ Some o → is_about m o ≡ false → slice_get t.rec.objects i ≡ Some o
+
+-- the end of a server leaves the objects of other servers as they are
+abbrev pub ReapsKeepOthers : Type 0
+ReapsKeepOthers = (r : Record) (inc : ℕ) (t : Took) → on_reap r inc ≡ Ok t → (i : ℕ) (o : Object) → slice_get r.objects i ≡ Some o → is_of inc o.link ≡ false → slice_get t.rec.objects i ≡ Some o
+
+-- the objects of a server that has ended are passive, with the content that they answered in the present save, if any
+abbrev pub ReapsEndTheirs : Type 0
+ReapsEndTheirs = (r : Record) (inc : ℕ) (t : Took) → on_reap r inc ≡ Ok t → (i : ℕ) (o : Object) → slice_get r.objects i ≡ Some o → is_of inc o.link ≡ true → slice_get t.rec.objects i ≡ Some (record o { work = kept o; link = None })

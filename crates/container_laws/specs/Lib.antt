@@ -1,0 +1,5 @@
+pub mod Laws
+pub mod CommitLaws
+pub mod Steady
+pub mod Replies
+pub mod Room

@@ -1,0 +1,45 @@
+-- Numbers stay within what a message carries: each activation has a number left for what it may be asked without a check.
+use Rattle.std.specs.Prelude.{◌+◌, ◌≤◌, ℕ, List, length, Option, Some, None, All, cond, is_some}
+use Rattle.wire_msgs.specs.Found.{nth}
+use Rattle.container_model.specs.declared.record.Link.{Link}
+use Rattle.container_model.specs.declared.record.Object.{Object}
+use Rattle.container_model.specs.declared.record.Frame.{Frame}
+use Rattle.container_model.specs.declared.record.Phase.{Phase}
+use Rattle.container_model.specs.declared.record.Phase.TheVariants.{Idle, Saving, HandingOff, Committing, InDoubt}
+use Rattle.container_model.specs.Record.{Record}
+
+-- while a save is under way, one call may come without a check: it tells how the save ended
+abbrev pub debt : Phase → ℕ
+debt Idle = 0
+debt Saving = 1
+debt HandingOff = 1
+debt Committing = 1
+debt InDoubt = 1
+
+abbrev pub debt_in : Option Frame → ℕ
+debt_in None = 0
+debt_in (Some frame) = debt frame.phase
+
+abbrev pub count_pending : Link → ℕ
+count_pending l = cond (is_some l.pending) 1 0
+
+-- a storage grant is numbered by at most one for each answered call
+pub record IsRoomy (numbers more : ℕ) (l : Link) : Type 0 where
+  pub calls : l.last + length l.waiting + more ≤ numbers
+  pub grants : l.s + count_pending l ≤ l.last
+
+abbrev pub IfLinked : (Link → Type 0) → Option Link → Type 0
+IfLinked P None = Unit {0}
+IfLinked P (Some l) = P l
+
+abbrev pub HasRoom : ℕ → List Frame → Object → Type 0
+HasRoom numbers frames o = IfLinked (IsRoomy numbers (debt_in (nth frames o.frame))) o.link
+
+pub record IsSound (r : Record) : Type 0 where
+  pub limit : r.numbers ≤ 1000000
+  pub room : All (HasRoom r.numbers r.frames) r.objects
+  pub saves : All (λ (f : Frame). f.k ≤ r.numbers) r.frames
+  pub frames : length r.frames ≤ r.numbers
+  pub servers : length r.servers ≤ r.numbers
+  pub objects : r.last_object ≤ r.numbers
+  pub acts : r.last_act ≤ r.numbers

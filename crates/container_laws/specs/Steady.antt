@@ -1,0 +1,211 @@
+-- What holds of a container's record by itself, whatever is answered to it.
+use Rattle.std.specs.Prelude.{◌≡◌, ◌≤◌, ◌<◌, ◌⊎◌, ℕ, Bool, true, List, [], ◌∷◌, Option, Some, None, Result, Ok, Err, IfSome, IsSomeAnd, IsOkAnd, IsOk, is_some}
+use Rattle.std.specs.List.{AllByRecursion}
+use Rattle.wire_msgs.specs.Found.{find, nth}
+use Rattle.wire_msgs.specs.Operations.{op_of}
+use Rattle.wire_msgs.specs.declared.message.Message.{Message}
+use Rattle.wire_msgs.specs.declared.message.Message.TheVariants.{Reply}
+use Rattle.wire_msgs.specs.declared.operation.Operation.{Operation}
+use Rattle.wire_msgs.specs.declared.operation.Operation.TheVariants.{InitNew, Load, Edit, Save, SaveCompleted}
+use Rattle.wire_msgs.specs.declared.answer.Answer.{Answer}
+use Rattle.wire_msgs.specs.declared.answer.Answer.TheVariants.{Done, Refused, Content}
+use Rattle.object_state.specs.Both as both
+use Rattle.object_state.specs.declared.both_states.States.{States}
+use Rattle.object_state.specs.declared.faults.StateFault.{StateFault}
+use Rattle.object_state.specs.declared.persist_states.PersistState.{PersistState}
+use Rattle.object_state.specs.declared.persist_states.PersistState.TheVariants.{Unset, Normal, NoScribble}
+use Rattle.object_state.specs.declared.object_states.ObjectState.{ObjectState}
+use Rattle.object_state.specs.declared.object_states.ObjectState.TheVariants.{Passive, Loaded}
+use Rattle.storage_tree.specs.declared.stored.Stored.{Stored}
+use Rattle.container_model.specs.declared.record.Link.{Link}
+use Rattle.container_model.specs.declared.record.Object.{Object}
+use Rattle.container_model.specs.declared.record.Frame.{Frame}
+use Rattle.container_model.specs.declared.record.Phase.{Phase}
+use Rattle.container_model.specs.declared.record.Phase.TheVariants.{Idle, Saving, Committing}
+use Rattle.container_model.specs.declared.command.Command.{Command}
+use Rattle.container_model.specs.declared.fault.ContainerFault.{ContainerFault}
+use Rattle.container_model.specs.Record.{Record, Took, empty, is_object, is_linked, is_unreaped}
+use Rattle.container_model.specs.Saves.{commit_done, kept}
+use Rattle.container_model.specs.Messages.{on_message, on_reap}
+use Rattle.container_model.specs.Commands.{on_command}
+
+-- what an object is still to do: the pending operation, then those that wait
+abbrev pub queue_of : Option Operation → List Operation → List Operation
+queue_of None waiting = waiting
+queue_of (Some op) waiting = op ∷ waiting
+
+abbrev pub queue : Link → List Operation
+queue l = queue_of l.pending l.waiting
+
+-- the states at the end of a queue, by both tables
+abbrev pub stepped : Result States StateFault → Operation → Result States StateFault
+stepped (Err refusal) op = Err refusal
+stepped (Ok v) op = both.step v (op_of op)
+
+abbrev pub ended : Result States StateFault → List Operation → Result States StateFault
+ended outcome [] = outcome
+ended outcome (op ∷ ops) = ended (stepped outcome op) ops
+
+-- states of an object whose first call was done
+abbrev pub IsRunning : ObjectState → Type 0
+IsRunning Passive = ⊥
+IsRunning Loaded = ⊥
+IsRunning state = Unit {0}
+
+abbrev pub HasStorage : PersistState → Type 0
+HasStorage Unset = ⊥
+HasStorage state = Unit {0}
+
+-- where a queue ends: with its storage, but for a save that is under way, which is the last one then
+abbrev pub storage_in : Phase → PersistState
+storage_in Idle = Normal
+storage_in phase = NoScribble
+
+abbrev pub IsOfSave : Phase → ℕ → Option ℕ → Type 0
+IsOfSave Idle k last_save = Unit {0}
+IsOfSave phase k last_save = last_save ≡ Some k
+
+pub record EndsWell (phase : Phase) (k : ℕ) (v : States) : Type 0 where
+  pub storage : v.persist.state ≡ storage_in phase
+  pub last_save : IsOfSave phase k v.persist.last_save
+  pub running : IsRunning v.object
+
+-- an activation's first call gives it its storage, alone in the queue
+abbrev pub IsBeginning : Operation → Type 0
+IsBeginning (InitNew class) = Unit {0}
+IsBeginning (Load class content) = Unit {0}
+IsBeginning op = ⊥
+
+pub record AtFirstCall (l : Link) : Type 0 where
+  pub states : l.states ≡ both.loaded
+  pub last : l.last ≡ 1
+  pub alone : l.waiting ≡ []
+  pub pending : IsSomeAnd l.pending IsBeginning
+
+pub record PastFirstCall (v : States) : Type 0 where
+  pub storage : HasStorage v.persist.state
+  pub running : IsRunning v.object
+
+-- no operation waits where none is pending
+abbrev pub WaitsBehind : Option Operation → List Operation → Type 0
+WaitsBehind None waiting = waiting ≡ []
+WaitsBehind (Some op) waiting = Unit {0}
+
+-- operations that stand in a queue: a content is asked for only while its frame is saving and until it is answered, and
+-- the end of a save is told only while none is under way; nothing asks for the others yet
+abbrev pub IsTimely : Phase → Option Stored → Operation → Type 0
+IsTimely phase saved (InitNew class) = Unit {0}
+IsTimely phase saved (Load class content) = Unit {0}
+IsTimely phase saved (Edit bytes) = Unit {0}
+IsTimely phase saved (Save k) = (phase ≡ Saving) × (saved ≡ None)
+IsTimely phase saved (SaveCompleted k storage) = phase ≡ Idle
+IsTimely phase saved op = ⊥
+
+-- contents are answered while a frame is saving, and all are there from then on
+abbrev pub IsSavedIn : Phase → Option Stored → Type 0
+IsSavedIn Idle saved = saved ≡ None
+IsSavedIn Saving saved = Unit {0}
+IsSavedIn phase saved = is_some saved ≡ true
+
+-- an activation of an object of a frame in this phase, whose last save has number k
+pub record SteadyLink (servers : List Bool) (last_act : ℕ) (phase : Phase) (k : ℕ) (l : Link) : Type 0 where
+  -- its number was drawn, and its server was started and isn't reaped
+  pub acts_drawn : l.act ≤ last_act
+  pub servers_told : is_unreaped (nth servers l.inc) ≡ true
+  pub first_call : AtFirstCall l ⊎ PastFirstCall l.states
+  pub waits_behind : WaitsBehind l.pending l.waiting
+  -- the tables take the whole queue
+  pub queue_runs : IsOkAnd (ended (Ok l.states) (queue l)) (EndsWell phase k)
+  pub save_in_queue : AllByRecursion (IsTimely phase l.saved) (queue l)
+  pub saved_known : IsSavedIn phase l.saved
+
+-- an object: its number was drawn, and its frame is there
+pub record SteadyObject (r : Record) (o : Object) : Type 0 where
+  pub drawn : o.number ≤ r.last_object
+  pub linked : IsSomeAnd (nth r.frames o.frame) (λ (frame : Frame). IfSome o.link (SteadyLink r.servers r.last_act frame.phase frame.k))
+
+-- a frame: no save is under another name, and none hands off or is in doubt yet
+abbrev pub IsReached : Phase → Type 0
+IsReached Idle = Unit {0}
+IsReached Saving = Unit {0}
+IsReached Committing = Unit {0}
+IsReached phase = ⊥
+
+pub record SteadyFrame (frame : Frame) : Type 0 where
+  pub asked : frame.asked ≡ None
+  pub phase : IsReached frame.phase
+
+-- two objects: the first was made before the second, and they have no activation in common
+pub record InOrder (o p : Object) : Type 0 where
+  pub rising : o.number < p.number
+  pub apart : IfSome o.link (λ (l : Link). IfSome p.link (λ (m : Link). l.act ≡ m.act → ⊥))
+
+abbrev pub EachPair : {A : Type 0} → (A → A → Type 0) → List A → Type 0
+EachPair R [] = Unit {0}
+EachPair R (x ∷ xs) = AllByRecursion (R x) xs × EachPair R xs
+
+-- the record of a container
+pub record Steady (r : Record) : Type 0 where
+  pub frames : AllByRecursion SteadyFrame r.frames
+  pub objects : AllByRecursion (SteadyObject r) r.objects
+  pub order : EachPair InOrder r.objects
+
+-- Laws: it holds from the start, and each step keeps it.
+abbrev pub SteadyFromTheStart : Type 0
+SteadyFromTheStart = (numbers : ℕ) → Steady (empty numbers)
+
+abbrev pub SteadyAfterCommands : Type 0
+SteadyAfterCommands = (r : Record) (c : Command) (t : Took) → Steady r → on_command r c ≡ Ok t → Steady t.rec
+
+abbrev pub SteadyAfterMessages : Type 0
+SteadyAfterMessages = (r : Record) (link : ℕ) (m : Message) (t : Took) → Steady r → on_message r link m ≡ Ok t → Steady t.rec
+
+abbrev pub SteadyAfterReaps : Type 0
+SteadyAfterReaps = (r : Record) (inc : ℕ) (t : Took) → Steady r → on_reap r inc ≡ Ok t → Steady t.rec
+
+abbrev pub SteadyAfterCommits : Type 0
+SteadyAfterCommits = (r : Record) (f : ℕ) (t : Took) → Steady r → commit_done r f ≡ Ok t → Steady t.rec
+
+-- an answer that fits an operation
+abbrev pub Fits : Operation → Answer → Type 0
+Fits (InitNew class) Done = Unit {0}
+Fits (InitNew class) (Refused why) = Unit {0}
+Fits (Load class content) Done = Unit {0}
+Fits (Load class content) (Refused why) = Unit {0}
+Fits (Edit bytes) Done = Unit {0}
+Fits (Edit bytes) (Refused why) = Unit {0}
+Fits (Save k) (Content content) = Unit {0}
+Fits (SaveCompleted k storage) Done = Unit {0}
+Fits op answer = ⊥
+
+-- an answer to the pending call that fits it is taken: the tables refuse none
+abbrev pub FittingAnswersTaken : Type 0
+FittingAnswersTaken = (r : Record) (inc act : ℕ) (answer : Answer) (o : Object) (l : Link) (op : Operation) → Steady r → find (is_linked inc act) r.objects ≡ Some o → o.link ≡ Some l → l.pending ≡ Some op → Fits op answer → IsOk (on_message r inc (Reply inc act l.last answer))
+
+-- what is committed is, for each object that isn't passive, the content that it answered in this save
+abbrev pub CommitsAnsweredContents : Type 0
+CommitsAnsweredContents = (r : Record) (n : ℕ) (o : Object) (l : Link) (frame : Frame) → Steady r → find (is_object n) r.objects ≡ Some o → o.link ≡ Some l → nth r.frames o.frame ≡ Some frame → frame.phase ≡ Committing → (content : Stored) × (l.saved ≡ Some content) × (kept o ≡ content)
+
+-- an activation is of one object
+abbrev pub OneObjectAnActivation : Type 0
+OneObjectAnActivation = (r : Record) (n m : ℕ) (o p : Object) (l k : Link) → Steady r → find (is_object n) r.objects ≡ Some o → find (is_object m) r.objects ≡ Some p → o.link ≡ Some l → p.link ≡ Some k → l.act ≡ k.act → n ≡ m
+
+-- What may be done with a container, and a whole run of it: each step is taken, one after the other.
+pub data Deed : Type 0 where
+  Ordered : Command → Deed
+  Told : ℕ → Message → Deed
+  Reaped : ℕ → Deed
+  Committed : ℕ → Deed
+
+abbrev pub done : Record → Deed → Result Took ContainerFault
+done r (Deed.Ordered c) = on_command r c
+done r (Deed.Told link m) = on_message r link m
+done r (Deed.Reaped inc) = on_reap r inc
+done r (Deed.Committed f) = commit_done r f
+
+abbrev pub Leads : Record → List Deed → Record → Type 0
+Leads r [] u = r ≡ u
+Leads r (d ∷ ds) u = (t : Took) × (done r d ≡ Ok t) × Leads t.rec ds u
+
+abbrev pub SteadyAlways : Type 0
+SteadyAlways = (numbers : ℕ) (ds : List Deed) (u : Record) → Leads (empty numbers) ds u → Steady u

@@ -1,0 +1,20 @@
+//! What a commit counts, and whom it tells.
+
+ghost use Rattle.container_laws.specs.CommitLaws.{CommitCounts, CommitTells, SaveWaits};
+
+/// A commit counts the objects of its frame in their order, each with its work content while it is passive, else with
+/// the content that it answered in this save. After it each object's work content is what was counted.
+pub fn commit_counts()
+    ensures { CommitCounts }
+{}
+
+/// A commit asks for one call to each activation of its frame that has no pending one, which tells the number of the
+/// frame's save, and for nothing else.
+pub fn commit_tells()
+    ensures { CommitTells }
+{}
+
+/// A save goes on to its commit only when each object of the frame that isn't passive has answered its content.
+pub fn save_waits()
+    ensures { SaveWaits }
+{}

@@ -1,0 +1,6 @@
+//! What is true of a container, whatever it is told: laws of its steps, and what every record keeps.
+#![tactic(auto)]
+
+pub mod commit_laws;
+pub mod laws;
+pub mod steady_laws;

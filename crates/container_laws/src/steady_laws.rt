@@ -1,0 +1,47 @@
+//! Laws of a container's record. Each function is empty: its contract is the law, which is proved.
+ghost use Rattle.container_laws.specs.Steady.{SteadyFromTheStart, SteadyAfterCommands, SteadyAfterMessages, SteadyAfterReaps, SteadyAfterCommits, FittingAnswersTaken, CommitsAnsweredContents, OneObjectAnActivation, SteadyAlways};
+
+/// A container without frames, objects and servers has a steady record.
+pub fn steady_from_the_start()
+    ensures { SteadyFromTheStart }
+{}
+
+/// A command that is taken leaves a steady record steady.
+pub fn steady_after_commands()
+    ensures { SteadyAfterCommands }
+{}
+
+/// A message that is taken leaves a steady record steady, whatever it answers.
+pub fn steady_after_messages()
+    ensures { SteadyAfterMessages }
+{}
+
+/// The end of a server leaves a steady record steady.
+pub fn steady_after_reaps()
+    ensures { SteadyAfterReaps }
+{}
+
+/// A commit that is done leaves a steady record steady.
+pub fn steady_after_commits()
+    ensures { SteadyAfterCommits }
+{}
+
+/// Whatever is done with a container from the start on, its record is steady.
+pub fn steady_always()
+    ensures { SteadyAlways }
+{}
+
+/// Where a record is steady, the tables of states refuse no answer to a pending call that fits it.
+pub fn fitting_answers_taken()
+    ensures { FittingAnswersTaken }
+{}
+
+/// Where a record is steady, a commit has of each object that isn't passive the content that it answered in this save.
+pub fn commits_answered_contents()
+    ensures { CommitsAnsweredContents }
+{}
+
+/// Where a record is steady, an activation is of one object.
+pub fn one_object_an_activation()
+    ensures { OneObjectAnActivation }
+{}

@@ -1,0 +1,134 @@
+-- What a container does with a message, and with the end of a server.
+use Rattle.std.specs.Prelude.{◌+◌, ◌==◌, ◌++◌, ℕ, true, List, [], ◌∷◌, map, Option, Some, None, Result, Ok, Err, if◌then◌else◌}
+use Rattle.wire_msgs.specs.Found.{find, put, set_nth}
+use Rattle.wire_msgs.specs.Operations.{op_of}
+use Rattle.wire_msgs.specs.declared.message.Message.{Message}
+use Rattle.wire_msgs.specs.declared.message.Message.TheVariants.{Call, Reply, Write, Ask}
+use Rattle.wire_msgs.specs.declared.operation.Operation.{Operation}
+use Rattle.wire_msgs.specs.declared.operation.Operation.TheVariants.{InitNew, Load, Edit, Save, SaveCompleted, SaveDropped}
+use Rattle.wire_msgs.specs.declared.answer.Answer.{Answer}
+use Rattle.wire_msgs.specs.declared.answer.Answer.TheVariants as told
+use Rattle.wire_msgs.specs.declared.refusal.Refusal.{Refusal}
+use Rattle.object_state.specs.Both as both
+use Rattle.object_state.specs.declared.both_states.States.{States}
+use Rattle.object_state.specs.declared.faults.StateFault.{StateFault}
+use Rattle.storage_tree.specs.declared.stored.Stored.{Stored}
+use Rattle.container_model.specs.declared.record.Link.{Link}
+use Rattle.container_model.specs.declared.record.Object.{Object}
+use Rattle.container_model.specs.declared.fault.ContainerFault.{ContainerFault}
+use Rattle.container_model.specs.declared.fault.ContainerFault.TheVariants.{NoSuch, WrongLink, Stale, BadAnswer}
+use Rattle.container_model.specs.Record.{Record, Took, quiet_answer, acts, sends, is_linked, is_alive}
+use Rattle.container_model.specs.Saves.{settle, settle_actions, kept}
+
+-- A link after an answer, the reply's content, and why the object refused.
+pub record Replied : Type 0 where
+  pub link : Option Link
+  pub refused : Option Refusal
+
+-- the link of an operation that was done: its states by the tables, its grant from 1 on and one higher after each save
+abbrev pub next_s : Operation → ℕ → ℕ
+next_s (InitNew class) s = 1
+next_s (Load class content) s = 1
+next_s (SaveCompleted k storage) s = s + 1
+next_s (SaveDropped k) s = s + 1
+next_s op s = s
+
+abbrev pub done_link : Link → ℕ → Result States StateFault → Result Replied ContainerFault
+done_link l s (Err fault) = Err BadAnswer
+done_link l s (Ok v) = Ok (record { link = Some (record l { pending = None; states = v; s = s }); refused = None })
+
+abbrev pub done : Link → Operation → Result Replied ContainerFault
+done l op = done_link l (next_s op l.s) (both.step l.states (op_of op))
+
+abbrev pub saved_link : Stored → Result Replied ContainerFault → Result Replied ContainerFault
+saved_link content (Err fault) = Err fault
+saved_link content (Ok replied) = Ok (record replied { link = elim replied.link [ None ↦ None | Some l ↦ Some (record l { saved = Some content }) ] })
+
+-- the object is passive again
+abbrev pub lost : Refusal → Result Replied ContainerFault
+lost why = Ok (record { link = None; refused = Some why })
+
+-- the refusal is noted, and all else stays
+abbrev pub noted : Link → Refusal → Result Replied ContainerFault
+noted l why = Ok (record { link = Some (record l { pending = None }); refused = Some why })
+
+-- What an answer makes of a link whose pending operation it answers. Nothing asks for the other operations yet.
+abbrev pub replied : Link → Operation → Answer → Result Replied ContainerFault
+replied l (InitNew class) told.Done = done l (InitNew class)
+replied l (InitNew class) (told.Refused why) = lost why
+replied l (Load class content) told.Done = done l (Load class content)
+replied l (Load class content) (told.Refused why) = lost why
+replied l (Edit bytes) told.Done = done l (Edit bytes)
+replied l (Edit bytes) (told.Refused why) = noted l why
+replied l (Save k) (told.Content content) = saved_link content (done l (Save k))
+replied l (SaveCompleted k storage) told.Done = done l (SaveCompleted k storage)
+replied l op answer = Err BadAnswer
+
+-- the first operation that waits is sent
+pub record Sent : Type 0 where
+  pub link : Link
+  pub sent : List Message
+
+abbrev pub next_at : Link → List Operation → Sent
+next_at l [] = record { link = l; sent = [] }
+next_at l (op ∷ ops) = record { link = record l { last = l.last + 1; pending = Some op; waiting = ops }; sent = Call l.inc l.act (l.last + 1) op ∷ [] }
+
+abbrev pub next_link : Option Link → Option Link
+next_link None = None
+next_link (Some l) = Some (next_at l l.waiting).link
+
+abbrev pub next_sent : Option Link → List Message
+next_sent None = []
+next_sent (Some l) = (next_at l l.waiting).sent
+
+-- the record after an object's link was replied to: what waits is sent, then saves go on
+abbrev pub replied_object : Object → Replied → Object
+replied_object o replied = record o { link = next_link replied.link }
+
+abbrev pub replied_record : Record → ℕ → ℕ → Object → Replied → Record
+replied_record r inc act o replied = record r { objects = put (is_linked inc act) (replied_object o replied) r.objects }
+
+abbrev pub reply_taken : Record → ℕ → ℕ → Object → Result Replied ContainerFault → Result Took ContainerFault
+reply_taken r inc act o (Err fault) = Err fault
+reply_taken r inc act o (Ok replied) = Ok (record {
+  rec = settle (replied_record r inc act o replied);
+  answer = record quiet_answer {
+    refused = replied.refused;
+    actions = sends (next_sent replied.link) ++ settle_actions (replied_record r inc act o replied);
+  };
+})
+
+-- the answer to call n, which is to be the pending one
+abbrev pub reply_pending : Link → ℕ → Answer → Option Operation → Result Replied ContainerFault
+reply_pending l n answer None = Err Stale
+reply_pending l n answer (Some op) = if n == l.last then replied l op answer else Err Stale
+
+abbrev pub reply_link : ℕ → Answer → Option Link → Result Replied ContainerFault
+reply_link n answer None = Err Stale
+reply_link n answer (Some l) = reply_pending l n answer l.pending
+
+abbrev pub reply_found : Record → ℕ → ℕ → ℕ → Answer → Option Object → Result Took ContainerFault
+reply_found r inc act n answer None = Err Stale
+reply_found r inc act n answer (Some o) = reply_taken r inc act o (reply_link n answer o.link)
+
+-- a reply of a server that isn't reaped, to the object that has this activation
+abbrev pub on_reply : Record → ℕ → ℕ → ℕ → Answer → Result Took ContainerFault
+on_reply r inc act n answer = if is_alive r inc then reply_found r inc act n answer (find (is_linked inc act) r.objects) else Err Stale
+
+-- A message on the link of an incarnation. No storage grant is given to write under yet, and no frame to be relieved of.
+abbrev pub on_message : Record → ℕ → Message → Result Took ContainerFault
+on_message r link (Call inc act n op) = Err WrongLink
+on_message r link (Reply inc act n answer) = if inc == link then on_reply r inc act n answer else Err WrongLink
+on_message r link (Write inc act s w content) = if inc == link then Err Stale else Err WrongLink
+on_message r link (Ask inc act g) = if inc == link then Err Stale else Err WrongLink
+
+-- The end of a server: its objects are passive, each with the content that it answered in the present save, if any.
+abbrev pub reaped_object : ℕ → Object → Option Link → Object
+reaped_object inc o None = o
+reaped_object inc o (Some l) = if l.inc == inc then record o { work = kept o; link = None } else o
+
+abbrev pub reaped : Record → ℕ → Record
+reaped r inc = record r { objects = map (λ o. reaped_object inc o o.link) r.objects; servers = set_nth r.servers inc true }
+
+abbrev pub on_reap : Record → ℕ → Result Took ContainerFault
+on_reap r inc = if is_alive r inc then Ok (record { rec = settle (reaped r inc); answer = acts (settle_actions (reaped r inc)) }) else Err NoSuch

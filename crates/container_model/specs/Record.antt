@@ -1,0 +1,164 @@
+-- A container's record, and what a step gives.
+use Rattle.std.specs.Prelude.{◌≡◌, ◌+◌, ◌==◌, ◌&&◌, ◌||◌, ℕ, Bool, true, false, not, List, [], ◌∷◌, ◌++◌, length, map, Option, Some, None, is_some, Result, Err, IsOk, if◌then◌else◌, nat_lt}
+use Rattle.wire_msgs.specs.Found.{put, nth, set_nth}
+use Rattle.wire_msgs.specs.declared.message.Message.{Message}
+use Rattle.wire_msgs.specs.declared.message.Message.TheVariants.{Call}
+use Rattle.wire_msgs.specs.declared.operation.Operation.{Operation}
+use Rattle.grant_core.specs.declared.grant_states.GrantState.{GrantState}
+use Rattle.grant_core.specs.declared.grant_states.GrantState.TheVariants.{Granting, Revoking}
+use Rattle.grant_core.specs.declared.grant_states.Claim.{Claim}
+use Rattle.grant_core.specs.Grants.{waiting}
+use Rattle.container_model.specs.declared.record.Link.{Link}
+use Rattle.container_model.specs.declared.record.Object.{Object}
+use Rattle.container_model.specs.declared.record.Frame.{Frame}
+use Rattle.container_model.specs.declared.record.Phase.{Phase}
+use Rattle.container_model.specs.declared.record.Phase.TheVariants.{Idle, Saving, HandingOff, Committing, InDoubt}
+use Rattle.container_model.specs.declared.answer.Action.{Action}
+use Rattle.container_model.specs.declared.answer.Action.TheVariants.{Send}
+use Rattle.container_model.specs.declared.answer.Answer.{Answer}
+use Rattle.container_model.specs.declared.fault.ContainerFault.{ContainerFault}
+use Rattle.container_model.specs.declared.fault.ContainerFault.TheVariants.{NoMemory}
+
+-- The frames stand by their numbers, from 1, and so do the servers, each reaped or not. Objects have numbers of their
+-- own. The last numbers of objects and activations, and the greatest number that may be drawn.
+pub record Record : Type 0 where
+  pub frames : List Frame
+  pub objects : List Object
+  pub servers : List Bool
+  pub last_object : ℕ
+  pub last_act : ℕ
+  pub numbers : ℕ
+
+abbrev pub empty : ℕ → Record
+empty numbers = record { frames = []; objects = []; servers = []; last_object = 0; last_act = 0; numbers = numbers }
+
+-- how many frames there may be, how many objects in a frame, and how many servers that aren't reaped: one, for now
+abbrev pub MOST_FRAMES : ℕ
+MOST_FRAMES = 1
+
+abbrev pub MOST_OBJECTS : ℕ
+MOST_OBJECTS = 1
+
+abbrev pub MOST_SERVERS : ℕ
+MOST_SERVERS = 1
+
+-- an activation that gets operations must have so many numbers left
+abbrev pub MARGIN : ℕ
+MARGIN = 8
+
+-- What a step gives: the record after it, and the answer.
+pub record Took : Type 0 where
+  pub rec : Record
+  pub answer : Answer
+
+abbrev pub quiet_answer : Answer
+quiet_answer = record { frame = None; objects = []; server = None; taken = false; refused = None; no_tools = false; actions = [] }
+
+abbrev pub acts : List Action → Answer
+acts actions = record quiet_answer { actions = actions }
+
+-- how objects are found
+abbrev pub is_object : ℕ → Object → Bool
+is_object number o = o.number == number
+
+abbrev pub is_link : ℕ → ℕ → Option Link → Bool
+is_link inc act None = false
+is_link inc act (Some l) = (l.inc == inc) && (l.act == act)
+
+abbrev pub is_linked : ℕ → ℕ → Object → Bool
+is_linked inc act o = is_link inc act o.link
+
+abbrev pub with_object : Record → Object → Record
+with_object r o = record r { objects = put (is_object o.number) o r.objects }
+
+abbrev pub with_frame : Record → ℕ → Frame → Record
+with_frame r f frame = record r { frames = set_nth r.frames f frame }
+
+-- a server that was started and isn't reaped
+abbrev pub is_unreaped : Option Bool → Bool
+is_unreaped None = false
+is_unreaped (Some reaped) = not reaped
+
+abbrev pub is_alive : Record → ℕ → Bool
+is_alive r inc = is_unreaped (nth r.servers inc)
+
+-- how many servers aren't reaped
+abbrev pub count_alive : List Bool → ℕ
+count_alive [] = 0
+count_alive (reaped ∷ rest) = if reaped then count_alive rest else 1 + count_alive rest
+
+-- how many objects a frame has
+abbrev pub count_objects : ℕ → List Object → ℕ
+count_objects f [] = 0
+count_objects f (o ∷ os) = if o.frame == f then 1 + count_objects f os else count_objects f os
+
+-- a frame that is saving, handing off or committing
+abbrev pub is_saving : Phase → Bool
+is_saving Idle = false
+is_saving Saving = true
+is_saving HandingOff = true
+is_saving Committing = true
+is_saving InDoubt = false
+
+abbrev pub is_doubtful : Phase → Bool
+is_doubtful InDoubt = true
+is_doubtful phase = false
+
+-- an object that has a pending operation (none waits without one), or waits for its frame's grant
+abbrev pub is_asked : Option Link → Bool
+is_asked None = false
+is_asked (Some l) = is_some l.pending
+
+abbrev pub is_claim : ℕ → Option Claim → Bool
+is_claim number None = false
+is_claim number (Some claim) = claim.object == number
+
+abbrev pub is_busy : GrantState → Object → Bool
+is_busy state o = is_asked o.link || is_claim o.number (waiting state)
+
+-- a grant that is being given or taken back
+abbrev pub is_moving : GrantState → Bool
+is_moving (Granting claim) = true
+is_moving (Revoking holder next) = true
+is_moving state = false
+
+-- an activation has numbers left for operations
+abbrev pub has_numbers : ℕ → Link → Bool
+has_numbers numbers l = not (nat_lt numbers (l.last + length l.waiting + MARGIN))
+
+-- An operation is asked: at once where none is pending, else behind those that wait.
+pub record Asked : Type 0 where
+  pub link : Link
+  pub sent : List Message
+
+abbrev pub ask_at : Link → Operation → Option Operation → Asked
+ask_at l op None = record { link = record l { last = l.last + 1; pending = Some op }; sent = Call l.inc l.act (l.last + 1) op ∷ [] }
+ask_at l op (Some before) = record { link = record l { waiting = l.waiting ++ op ∷ [] }; sent = [] }
+
+abbrev pub ask : Link → Operation → Asked
+ask l op = ask_at l op l.pending
+
+-- the same in an object, if it isn't passive
+abbrev pub asked_link : Operation → Option Link → Option Link
+asked_link op None = None
+asked_link op (Some l) = Some (ask l op).link
+
+abbrev pub asked_sent : Operation → Option Link → List Message
+asked_sent op None = []
+asked_sent op (Some l) = (ask l op).sent
+
+abbrev pub asked_object : ℕ → Operation → Object → Object
+asked_object f op o = if o.frame == f then record o { link = asked_link op o.link } else o
+
+-- what is sent where each object of a frame that isn't passive is asked
+abbrev pub asked_all : ℕ → Operation → List Object → List Message
+asked_all f op [] = []
+asked_all f op (o ∷ os) = if o.frame == f then asked_sent op o.link ++ asked_all f op os else asked_all f op os
+
+abbrev pub sends : List Message → List Action
+sends ms = map Send ms
+
+-- A call answers what it is told to, or that no memory is left where it would have succeeded.
+abbrev pub Refuses : {A : Type 0} → Result A ContainerFault → ContainerFault → Type 0
+Refuses told NoMemory = IsOk told
+Refuses told fault = told ≡ Err fault

@@ -1,0 +1,159 @@
+-- How saves go on, and what they count.
+use Rattle.std.specs.Prelude.{◌+◌, ◌==◌, ℕ, Bool, true, false, List, [], ◌∷◌, ◌++◌, map, Option, Some, None, Result, Ok, Err, if◌then◌else◌}
+use Rattle.wire_msgs.specs.Found.{nth, set_nth}
+use Rattle.cfb_directory.specs.Names.{key}
+use Rattle.wire_msgs.specs.declared.operation.Operation.{Operation}
+use Rattle.wire_msgs.specs.declared.operation.Operation.TheVariants.{SaveCompleted}
+use Rattle.storage_tree.specs.declared.stored.Stored.{Stored}
+use Rattle.storage_tree.specs.declared.streams.NamedStream.{NamedStream}
+use Rattle.storage_tree.specs.Tree as tree
+use Rattle.file_model.specs.Refusals.{writable}
+use Rattle.file_model.specs.declared.fault.WriteFault.{WriteFault}
+use Rattle.container_model.specs.declared.record.Link.{Link}
+use Rattle.container_model.specs.declared.record.Object.{Object}
+use Rattle.container_model.specs.declared.record.Frame.{Frame}
+use Rattle.container_model.specs.declared.record.Phase.{Phase}
+use Rattle.container_model.specs.declared.record.Phase.TheVariants.{Idle, Saving, Committing, InDoubt}
+use Rattle.container_model.specs.declared.answer.Action.{Action}
+use Rattle.container_model.specs.declared.answer.Action.TheVariants.{Commit}
+use Rattle.container_model.specs.declared.answer.Part.{Part}
+use Rattle.container_model.specs.declared.fault.ContainerFault.{ContainerFault}
+use Rattle.container_model.specs.declared.fault.ContainerFault.TheVariants.{NoSuch, WrongState, Full}
+use Rattle.container_model.specs.Record.{Record, Took, acts, sends, asked_object, asked_all}
+
+-- An object is waited for until it has answered its content in the present save, or is passive.
+abbrev pub is_awaited_link : Option Link → Bool
+is_awaited_link None = false
+is_awaited_link (Some l) = elim l.saved [ None ↦ true | Some content ↦ false ]
+
+abbrev pub awaits : ℕ → List Object → Bool
+awaits f [] = false
+awaits f (o ∷ os) = if o.frame == f then (if is_awaited_link o.link then true else awaits f os) else awaits f os
+
+-- a frame that is saving goes on to its commit once nothing is waited for
+abbrev pub is_ready_at : Phase → Bool → Bool
+is_ready_at Saving false = true
+is_ready_at Saving true = false
+is_ready_at phase waits = false
+
+abbrev pub is_ready : ℕ → List Object → Frame → Bool
+is_ready f os frame = is_ready_at frame.phase (awaits f os)
+
+abbrev pub settled_frame : ℕ → List Object → Frame → Frame
+settled_frame f os frame = if is_ready f os frame then record frame { phase = Committing } else frame
+
+abbrev pub settled_action : ℕ → List Object → Frame → List Action
+settled_action f os frame = if is_ready f os frame then Commit f ∷ [] else []
+
+-- all frames, the first of them of number f
+abbrev pub settled_frames : ℕ → List Object → List Frame → List Frame
+settled_frames f os [] = []
+settled_frames f os (frame ∷ frames) = settled_frame f os frame ∷ settled_frames (f + 1) os frames
+
+abbrev pub settled_actions : ℕ → List Object → List Frame → List Action
+settled_actions f os [] = []
+settled_actions f os (frame ∷ frames) = settled_action f os frame ++ settled_actions (f + 1) os frames
+
+-- after objects changed, saves go on, by rising frame
+abbrev pub settle : Record → Record
+settle r = record r { frames = settled_frames 1 r.objects r.frames }
+
+abbrev pub settle_actions : Record → List Action
+settle_actions r = settled_actions 1 r.objects r.frames
+
+-- The content that a save counts: that answered in this save, or the work content of a passive object.
+abbrev pub kept_in : Stored → Option Stored → Stored
+kept_in work None = work
+kept_in work (Some content) = content
+
+abbrev pub kept_by : Stored → Option Link → Stored
+kept_by work None = work
+kept_by work (Some l) = kept_in work l.saved
+
+abbrev pub kept : Object → Stored
+kept o = kept_by o.work o.link
+
+-- a document: the objects of a frame in order, each with the content that is counted
+abbrev pub part_of : Object → Part
+part_of o = record { object = o.number; class = o.class; user_type = o.user_type; area = o.area; content = kept o }
+
+abbrev pub parts_in : ℕ → List Object → List Part
+parts_in f [] = []
+parts_in f (o ∷ os) = if o.frame == f then part_of o ∷ parts_in f os else parts_in f os
+
+-- The tree of a document: for now a root that holds the streams of its one object, and nothing else.
+abbrev pub root_class : List ℕ
+root_class = 0 ∷ 0 ∷ 0 ∷ 0 ∷ 0 ∷ 0 ∷ 0 ∷ 0 ∷ 0 ∷ 0 ∷ 0 ∷ 0 ∷ 0 ∷ 0 ∷ 0 ∷ 0 ∷ []
+
+abbrev pub children_of : List NamedStream → tree.Children
+children_of [] = tree.none
+children_of (s ∷ ss) = tree.stream (key s.name) s.name s.bytes (children_of ss)
+
+abbrev pub document_tree : List Part → tree.Tree
+document_tree [] = tree.tree root_class 0 tree.none
+document_tree (p ∷ ps) = tree.tree root_class 0 (children_of p.content.streams)
+
+-- a document that fits into a file
+abbrev pub fitting : List Part → Result (Unit {0}) WriteFault → Result (List Part) ContainerFault
+fitting parts (Ok told) = Ok parts
+fitting parts (Err fault) = Err Full
+
+-- The document whose file is to be committed, in a frame whose commit is asked or in doubt.
+abbrev pub has_image : Phase → Bool
+has_image Committing = true
+has_image InDoubt = true
+has_image phase = false
+
+abbrev pub image_at : Record → ℕ → Option Frame → Result (List Part) ContainerFault
+image_at r f None = Err NoSuch
+image_at r f (Some frame) = if has_image frame.phase then fitting (parts_in f r.objects) (writable (document_tree (parts_in f r.objects))) else Err WrongState
+
+abbrev pub image : Record → ℕ → Result (List Part) ContainerFault
+image r f = image_at r f (nth r.frames f)
+
+-- A commit that is done: the contents are work contents, the asked name is the name, and each object that isn't passive
+-- is told that the save is counted, with a storage where it gave its own away.
+abbrev pub name_after : List ℕ → Option (List ℕ) → List ℕ
+name_after name None = name
+name_after name (Some asked) = asked
+
+abbrev pub is_some_name : Option (List ℕ) → Bool
+is_some_name None = false
+is_some_name (Some asked) = true
+
+abbrev pub committed_frame : Frame → Frame
+committed_frame frame = record frame { name = name_after frame.name frame.asked; asked = None; stored = true; phase = Idle }
+
+abbrev pub cleared : Option Link → Option Link
+cleared None = None
+cleared (Some l) = Some (record l { saved = None })
+
+abbrev pub counted_object : ℕ → Object → Object
+counted_object f o = if o.frame == f then record o { work = kept o; link = cleared o.link } else o
+
+abbrev pub completion : Frame → Operation
+completion frame = SaveCompleted frame.k (is_some_name frame.asked)
+
+abbrev pub completed : ℕ → Frame → Object → Object
+completed f frame o = asked_object f (completion frame) (counted_object f o)
+
+abbrev pub commit_made : Record → ℕ → Frame → Took
+commit_made r f frame = record {
+  rec = record r { frames = set_nth r.frames f (committed_frame frame); objects = map (completed f frame) r.objects };
+  answer = acts (sends (asked_all f (completion frame) r.objects));
+}
+
+abbrev pub is_committing : Phase → Bool
+is_committing Committing = true
+is_committing phase = false
+
+abbrev pub commit_fitting : Record → ℕ → Frame → Result (List Part) ContainerFault → Result Took ContainerFault
+commit_fitting r f frame (Err fault) = Err fault
+commit_fitting r f frame (Ok parts) = Ok (commit_made r f frame)
+
+abbrev pub commit_at : Record → ℕ → Option Frame → Result Took ContainerFault
+commit_at r f None = Err NoSuch
+commit_at r f (Some frame) = if is_committing frame.phase then commit_fitting r f frame (image r f) else Err WrongState
+
+abbrev pub commit_done : Record → ℕ → Result Took ContainerFault
+commit_done r f = commit_at r f (nth r.frames f)

@@ -1,0 +1,32 @@
+//! Commands of a user.
+
+use object_parts::area::Area;
+use storage_tree::bytes::Bytes;
+
+/// The three kinds of objects.
+#[derive(Debug, Clone, Copy, PartialEq, Eq)]
+pub enum ObjectKind {
+    /// A note.
+    Note,
+    /// A table.
+    Table,
+    /// A drawing.
+    Drawing,
+}
+
+/// A command of a user.
+#[derive(Drop)]
+pub enum Command {
+    /// A new frame of this name, so many columns wide and so many lines high, without objects and without a file.
+    New(Bytes, u16, u16),
+    /// A new passive object in a frame, without content.
+    Insert(u32, ObjectKind, Area),
+    /// A new server.
+    Start,
+    /// A passive object is activated in a server.
+    Run(u32, u32),
+    /// A running object is edited by these bytes.
+    Edit(u32, Bytes),
+    /// A frame is saved under its name.
+    Save(u32),
+}

@@ -1,0 +1,8 @@
+//! A container as a function of what it is told: its record of frames, objects and servers, its commands, and what each
+//! of them, a message, the end of a server and a commit make of the record.
+#![tactic(auto)]
+
+pub mod answer;
+pub mod command;
+pub mod fault;
+pub mod record;

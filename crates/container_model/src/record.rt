@@ -1,0 +1,84 @@
+//! What a container keeps of its frames and objects.
+
+use grant_core::FrameUi;
+use object_parts::area::Area;
+use object_state::States;
+use storage_tree::bytes::Bytes;
+use storage_tree::class_id::ClassId;
+use storage_tree::stored::Stored;
+use wire_msgs::items::Items;
+use wire_msgs::operation::Operation;
+
+/// The activation of an object that isn't passive.
+#[derive(Drop)]
+pub struct Link {
+    /// The incarnation of its server.
+    pub inc: u32,
+    /// The number of the activation.
+    pub act: u32,
+    /// The number of the last call.
+    pub last: u32,
+    /// What the last call asks, until it is answered.
+    pub pending: Option<Operation>,
+    /// What is asked next, in this order.
+    pub waiting: Items<Operation>,
+    /// The states, as far as calls were answered.
+    pub states: States,
+    /// The storage grant, 0 before the object has a storage.
+    pub s: u32,
+    /// The number of the last write that was taken.
+    pub w: u32,
+    /// The content that was answered in the present save.
+    pub saved: Option<Stored>,
+}
+
+/// An object.
+#[derive(Drop)]
+pub struct Object {
+    /// Its number.
+    pub number: u32,
+    /// The number of its frame.
+    pub frame: u32,
+    /// Its class.
+    pub class: ClassId,
+    /// The name of its class for users.
+    pub user_type: Bytes,
+    /// Its cells.
+    pub area: Area,
+    /// Its work content: what it has while it is passive.
+    pub work: Stored,
+    /// Its activation, none where it is passive.
+    pub link: Option<Link>,
+}
+
+/// How far a save of a frame is.
+#[derive(Debug, Clone, Copy, PartialEq, Eq)]
+pub enum Phase {
+    /// No save is under way.
+    Idle,
+    /// Objects are asked for their contents.
+    Saving,
+    /// Objects are asked to give their storages away.
+    HandingOff,
+    /// The file is to be committed.
+    Committing,
+    /// It isn't known whether the file was committed.
+    InDoubt,
+}
+
+/// A frame.
+#[derive(Drop)]
+pub struct Frame {
+    /// The name of its file.
+    pub name: Bytes,
+    /// The name that the present save was asked for with, if any.
+    pub asked: Option<Bytes>,
+    /// The number of its last save.
+    pub k: u32,
+    /// Its menus and border space.
+    pub ui: FrameUi,
+    /// Whether it was opened, or a commit of it was counted.
+    pub stored: bool,
+    /// How far its save is.
+    pub phase: Phase,
+}

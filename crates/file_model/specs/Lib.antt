@@ -1,0 +1,4 @@
+pub mod Denotes
+pub mod Need
+pub mod Refusals
+pub mod FaultNames

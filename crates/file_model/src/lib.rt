@@ -1,0 +1,4 @@
+//! What compound files mean: the tree that a file denotes, and the room that a tree needs.
+#![tactic(auto)]
+
+pub mod fault;

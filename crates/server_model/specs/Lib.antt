@@ -1,0 +1,3 @@
+pub mod Server
+pub mod Laws
+pub mod Opened

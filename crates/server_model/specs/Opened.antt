@@ -1,0 +1,54 @@
+-- What an activation does with an operation, where it is open.
+use Rattle.std.specs.Prelude.{◌≡◌, ◌+◌, ℕ, Option, Some, None, is_some, Result, Ok, Err, List, length, cond, nat_le}
+use Rattle.object_state.specs.Persists.{may_write}
+use Rattle.object_state.specs.declared.both_states.States.{States}
+use Rattle.storage_tree.specs.declared.stored.Stored.{Stored}
+use Rattle.embed_core.specs.Content.{Content}
+use Rattle.wire_msgs.specs.declared.operation.Operation.{Operation}
+use Rattle.wire_msgs.specs.declared.answer.Answer.{Answer}
+use Rattle.server_model.specs.declared.counted.Counted.{Counted}
+use Rattle.server_model.specs.declared.fault.ServerFault.{ServerFault}
+use Rattle.server_model.specs.declared.fault.ServerFault.TheVariants.{Ignored, NumbersSpent}
+use Rattle.wire_msgs.specs.declared.message.Message.{Message}
+use Rattle.wire_msgs.specs.declared.message.Message.TheVariants.{Reply, Write}
+use Rattle.embed_core.specs.Kinds.{Kind}
+use Rattle.server_model.specs.Server.{Activation, Acted, Server, called, begun_class, does, stored_of, wanted_unknown}
+
+-- an operation that the tables take
+abbrev pub does_open : Activation → States → Operation → Option Content → Result Acted ServerFault
+does_open a v op None = Err Ignored
+does_open a v op (Some c) = Ok (does a c v op)
+
+-- what is stored of the content
+abbrev pub stored_open : Option Content → Result Stored ServerFault
+stored_open None = Err Ignored
+stored_open (Some c) = Ok (stored_of c)
+
+-- the activation after a call, the answer, and the save that was counted
+abbrev pub Acts : Result Acted ServerFault → Activation → Answer → Option Counted → Type 0
+Acts told after answer counted = told ≡ Ok (record { activation = after; answer = answer; counted = counted })
+
+-- a call for this server was taken, where its activation is this one or none
+abbrev pub TakesCall : Server → ℕ → ℕ → Operation → Option Kind → Option Activation → Server → Message → Option Counted → Type 0
+TakesCall v act n op box a after reply counted =
+    (told : Answer) × (called v act n op box a ≡ Ok (record { server = after; answer = told; counted = counted; used = is_some (wanted_unknown v (begun_class n op) a) })) × (reply ≡ Reply v.inc act n told)
+
+-- the class that a call begins an activation of, where the server may have one more
+abbrev pub first_class : Server → Option (List ℕ) → Result (List ℕ) ServerFault
+first_class v None = Err Ignored
+first_class v (Some class) = cond (nat_le v.numbers (length v.acts)) (Err NumbersSpent) (Ok class)
+
+-- an activation after a write of its own accord, and the message
+pub record Written : Type 0 where
+  pub activation : Activation
+  pub message : Message
+
+abbrev pub write_open : ℕ → ℕ → Activation → Option Content → Result Written ServerFault
+write_open inc numbers a None = Err Ignored
+write_open inc numbers a (Some c) =
+    cond (may_write a.states.persist.state)
+    (cond (nat_le numbers a.w) (Err NumbersSpent) (Ok (record { activation = record a { w = a.w + 1 }; message = Write inc a.act a.s (a.w + 1) (stored_of c) })))
+    (Err Ignored)
+
+abbrev pub Writes : Result Written ServerFault → Activation → Message → Type 0
+Writes told after message = told ≡ Ok (record { activation = after; message = message })

@@ -1,0 +1,28 @@
+//! Laws of servers. Each function is empty: its contract is the law, which is proved.
+
+ghost use Rattle.server_model.specs.Laws.{ActsOnce, ClosedForGood, OthersStay, UnwantedUnused, WantedUsed};
+
+/// A call that was taken never acts again.
+pub fn acts_once()
+    ensures { ActsOnce }
+{}
+
+/// An activation that is closed stays closed, and is never made again.
+pub fn closed_for_good()
+    ensures { ClosedForGood }
+{}
+
+/// A call for one activation leaves the others as they are.
+pub fn others_stay()
+    ensures { OthersStay }
+{}
+
+/// A message that wants no object does the same with one as without, and doesn't use it.
+pub fn unwanted_unused()
+    ensures { UnwantedUnused }
+{}
+
+/// A message that wants an object of a class takes one of it, and uses it.
+pub fn wanted_used()
+    ensures { WantedUsed }
+{}

@@ -1,0 +1,38 @@
+-- The worked runs, by computing.
+use Rattle.std.proofs.Common.{refl}
+use Rattle.std.specs.Fmt.{digits}
+use Rattle.world_model.specs.Report.{frame_line, object_line, done_line}
+use Rattle.world_model.specs.Runs.{IsSaved, IsLost, IsKept, IsRepeated, IsReloaded, IsMisedited, IsLimited, IsSpelled, IsWorked}
+
+pub is_saved : IsSaved
+unfolding digits frame_line object_line done_line
+is_saved = record { answers = refl; told = refl }
+
+pub is_lost : IsLost
+unfolding digits frame_line object_line done_line
+is_lost = record { answers = refl; told = refl }
+
+pub is_kept : IsKept
+unfolding digits frame_line object_line done_line
+is_kept = record { answers = refl; told = refl }
+
+pub is_repeated : IsRepeated
+is_repeated = record { answers = refl; told = refl }
+
+pub is_reloaded : IsReloaded
+unfolding digits frame_line object_line done_line
+is_reloaded = record { answers = refl; told = refl; out_of_stock = refl }
+
+pub is_misedited : IsMisedited
+unfolding digits frame_line object_line done_line
+is_misedited = record { answers = refl; told = refl }
+
+pub is_limited : IsLimited
+is_limited = record { frames = refl; objects = refl; servers = refl; undelivered = refl }
+
+pub is_spelled : IsSpelled
+unfolding digits frame_line
+is_spelled = record { in_doubt = refl; streams = refl; empty = refl }
+
+pub is_worked : IsWorked
+is_worked = record { is_saved = is_saved; is_lost = is_lost; is_kept = is_kept; is_repeated = is_repeated; is_reloaded = is_reloaded; is_misedited = is_misedited; is_limited = is_limited; is_spelled = is_spelled }

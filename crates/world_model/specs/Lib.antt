@@ -1,0 +1,5 @@
+pub mod World
+pub mod Safe
+pub mod Runs
+pub mod StopNames
+pub mod Report

@@ -1,0 +1,191 @@
+-- Worked runs: a note that is made, edited and saved, and what becomes of it where its server crashes.
+use Rattle.std.specs.Prelude.{◌≡◌, ◌++◌, ℕ, true, List, [], ◌∷◌, Some, None, Result, Ok, Err, codes}
+use Rattle.std.specs.List.{flat_map}
+use Rattle.embed_core.specs.Kinds.{Note}
+use Rattle.storage_tree.specs.declared.streams.NamedStream.{NamedStream}
+use Rattle.grant_core.specs.declared.grant_states.GrantState.TheVariants.{Granting}
+use Rattle.object_parts.specs.declared.area.Area.{Area}
+use Rattle.container_model.specs.declared.record.Frame.{Frame}
+use Rattle.container_model.specs.declared.record.Phase.TheVariants.{InDoubt}
+use Rattle.container_model.specs.declared.command.Command.TheVariants.{New, Insert, Start, Run, Edit, Save}
+use Rattle.container_model.specs.declared.command.ObjectKind.TheVariants as chosen
+use Rattle.container_model.specs.declared.fault.ContainerFault.TheVariants.{Busy, Full, Stale}
+use Rattle.world_model.specs.declared.event.Event.{Event}
+use Rattle.world_model.specs.declared.event.Event.TheVariants.{Command, Deliver, Crash, Reap, Done}
+use Rattle.world_model.specs.declared.event.Stop.{Stop}
+use Rattle.world_model.specs.declared.event.Stop.TheVariants.{NotEnabled, OutOfStock}
+use Rattle.world_model.specs.declared.logs.EventAnswer.{EventAnswer}
+use Rattle.wire_msgs.specs.declared.refusal.Refusal.TheVariants.{BadEdit}
+use Rattle.world_model.specs.declared.logs.EventAnswer.TheVariants.{Took, Refused}
+use Rattle.world_model.specs.StopNames.{stop_name}
+use Rattle.world_model.specs.World.{World, empty_world, quiet_outcome, step}
+use Rattle.world_model.specs.Report.{report, frame_line, content_text}
+
+-- the world after these events, where each commit that is done makes no bytes the file
+abbrev pub ran : Result World Stop → List Event → Result World Stop
+ran told [] = told
+ran (Err stop) (e ∷ es) = Err stop
+ran (Ok w) (e ∷ es) = ran (step w [] e) es
+
+abbrev pub reported : Result World Stop → List ℕ
+reported (Err stop) = stop_name stop
+reported (Ok w) = report w
+
+abbrev pub answered : Result World Stop → List EventAnswer
+answered (Err stop) = []
+answered (Ok w) = w.answers
+
+-- lines of text, each with its end
+abbrev pub ended : List ℕ → List ℕ
+ended text = text ++ 10 ∷ []
+
+abbrev pub lines : List (List ℕ) → List ℕ
+lines texts = flat_map ended texts
+
+-- what an event led to
+abbrev pub ok : EventAnswer
+ok = Took quiet_outcome
+
+abbrev pub frame : ℕ → EventAnswer
+frame f = Took (record quiet_outcome { frame = Some f })
+
+abbrev pub object : ℕ → EventAnswer
+object o = Took (record quiet_outcome { objects = o ∷ [] })
+
+abbrev pub server : ℕ → EventAnswer
+server inc = Took (record quiet_outcome { server = Some inc })
+
+abbrev pub sent : ℕ → EventAnswer
+sent p = Took (record quiet_outcome { sent = p ∷ [] })
+
+abbrev pub commit : ℕ → EventAnswer
+commit f = Took (record quiet_outcome { commits = f ∷ [] })
+
+-- a frame of 40 by 10 cells with a note of 20 by 5
+abbrev pub whole : Area
+whole = record { x = 0; y = 0; w = 20; h = 5 }
+
+abbrev pub new_frame : Event
+new_frame = Command (New (codes "a") 40 10)
+
+abbrev pub new_note : Event
+new_note = Command (Insert 1 chosen.Note whole)
+
+abbrev pub typing : Event
+typing = Command (Edit 1 (codes "i 0 ab"))
+
+-- the note is made, started and edited
+abbrev pub edited : List Event
+edited = new_frame ∷ new_note ∷ Command Start ∷ Command (Run 1 1) ∷ Deliver 1 ∷ Deliver 2 ∷ typing ∷ Deliver 3 ∷ Deliver 4 ∷ []
+
+-- then saved, up to its commit
+abbrev pub saved : List Event
+saved = edited ++ Command (Save 1) ∷ Deliver 5 ∷ Deliver 6 ∷ []
+
+-- then committed, and told so
+abbrev pub completed : List Event
+completed = saved ++ Done 1 ∷ Deliver 7 ∷ Deliver 8 ∷ []
+
+abbrev pub from_start : List Event → Result World Stop
+from_start es = ran (Ok (empty_world 1000 (Note ∷ []))) es
+
+-- What each event of the whole run is answered, and what is reported then.
+pub record IsSaved : Type 0 where
+  pub answers : answered (from_start completed) ≡ frame 1 ∷ object 1 ∷ server 1 ∷ sent 1 ∷ sent 2 ∷ ok ∷ sent 3 ∷ sent 4 ∷ ok ∷ sent 5 ∷ sent 6 ∷ commit 1 ∷ sent 7 ∷ sent 8 ∷ ok ∷ []
+  pub told : reported (from_start completed) ≡ lines (
+      codes "frame 1 a Free k 1 stored"
+      ∷ codes "object 1 frame 1 Note Running Normal act 1 s 2 Text=6162"
+      ∷ codes "done container 1 1"
+      ∷ codes "done server 1 1"
+      ∷ [])
+
+-- A server that crashes before the save: the note is as it was when it was made, and another server may start.
+abbrev pub crashed_early : List Event
+crashed_early = edited ++ Crash 1 ∷ Reap 1 ∷ Command Start ∷ []
+
+pub record IsLost : Type 0 where
+  pub answers : answered (from_start crashed_early) ≡ answered (from_start edited) ++ ok ∷ ok ∷ server 2 ∷ []
+  pub told : reported (from_start crashed_early) ≡ lines (
+      codes "frame 1 a Free k 0 none"
+      ∷ codes "object 1 frame 1 Note Passive -"
+      ∷ [])
+
+-- A server that crashes when the commit is asked: what it answered is saved.
+abbrev pub crashed_late : List Event
+crashed_late = saved ++ Crash 1 ∷ Reap 1 ∷ Done 1 ∷ []
+
+pub record IsKept : Type 0 where
+  pub answers : answered (from_start crashed_late) ≡ answered (from_start saved) ++ ok ∷ ok ∷ ok ∷ []
+  pub told : reported (from_start crashed_late) ≡ lines (
+      codes "frame 1 a Free k 1 stored"
+      ∷ codes "object 1 frame 1 Note Passive Text=6162"
+      ∷ codes "done container 1 1"
+      ∷ [])
+
+-- Messages that come again, in any order: the last call is answered again, and nothing is counted twice.
+abbrev pub repeated : List Event
+repeated = completed ++ Deliver 7 ∷ Deliver 9 ∷ Deliver 8 ∷ Deliver 6 ∷ []
+
+pub record IsRepeated : Type 0 where
+  pub answers : answered (from_start repeated) ≡ answered (from_start completed) ++ sent 9 ∷ Refused Stale ∷ Refused Stale ∷ Refused Stale ∷ []
+  pub told : reported (from_start repeated) ≡ reported (from_start completed)
+
+-- A saved note that lost its server is loaded by another one, with another object out of stock.
+abbrev pub from_two : List Event → Result World Stop
+from_two es = ran (Ok (empty_world 1000 (Note ∷ Note ∷ []))) es
+
+abbrev pub reloaded : List Event
+reloaded = crashed_late ++ Command Start ∷ Command (Run 1 2) ∷ Deliver 7 ∷ Deliver 8 ∷ []
+
+pub record IsReloaded : Type 0 where
+  pub answers : answered (from_two reloaded) ≡ answered (from_two crashed_late) ++ server 2 ∷ sent 7 ∷ sent 8 ∷ ok ∷ []
+  pub told : reported (from_two reloaded) ≡ lines (
+      codes "frame 1 a Free k 1 stored"
+      ∷ codes "object 1 frame 1 Note Running Normal act 2 s 1 Text=6162"
+      ∷ codes "done container 1 1"
+      ∷ [])
+  pub out_of_stock : from_start reloaded ≡ Err OutOfStock
+
+-- A note that is asked is busy until it has answered, and one that refuses an edit stays as it was.
+abbrev pub misedited : List Event
+misedited = new_frame ∷ new_note ∷ Command Start ∷ Command (Run 1 1) ∷ typing ∷ Deliver 1 ∷ Deliver 2 ∷ Command (Edit 1 (codes "ab")) ∷ Command (Save 1) ∷ Deliver 3 ∷ Deliver 4 ∷ []
+
+abbrev pub refused : EventAnswer
+refused = Took (record quiet_outcome { refused = Some BadEdit })
+
+pub record IsMisedited : Type 0 where
+  pub answers : answered (from_start misedited) ≡ frame 1 ∷ object 1 ∷ server 1 ∷ sent 1 ∷ Refused Busy ∷ sent 2 ∷ ok ∷ sent 3 ∷ Refused Busy ∷ sent 4 ∷ refused ∷ []
+  pub told : reported (from_start misedited) ≡ lines (
+      codes "frame 1 a Free k 0 none"
+      ∷ codes "object 1 frame 1 Note Running Normal act 1 s 1 -"
+      ∷ [])
+
+-- One frame, and one server that isn't reaped, for now; and a message that was never sent can't be delivered.
+pub record IsLimited : Type 0 where
+  pub frames : answered (from_start (new_frame ∷ Command (New (codes "b") 40 10) ∷ new_frame ∷ [])) ≡ frame 1 ∷ Refused Full ∷ Refused Busy ∷ []
+  pub objects : answered (from_start (new_frame ∷ new_note ∷ new_note ∷ [])) ≡ frame 1 ∷ object 1 ∷ Refused Full ∷ []
+  pub servers : answered (from_start (Command Start ∷ Command Start ∷ Crash 1 ∷ Command Start ∷ Reap 1 ∷ Command Start ∷ [])) ≡ server 1 ∷ Refused Full ∷ ok ∷ Refused Full ∷ ok ∷ server 2 ∷ []
+  pub undelivered : from_start (edited ++ Deliver 99 ∷ []) ≡ Err NotEnabled
+
+-- What a report says of frames and contents that no run reaches yet: a frame in doubt, asked for its menus and border, with
+-- a space in its name; streams with a hidden character in their name, without bytes, with bytes that are no characters.
+abbrev pub granting : Frame
+granting = record { name = codes "b c"; asked = None; k = 12; ui = record { width = 40; height = 10; state = Granting (record { object = 3; act = 1; g = 1 }) }; stored = true; phase = InDoubt }
+
+abbrev pub stream : List ℕ → List ℕ → NamedStream
+stream name bytes = record { name = name; bytes = bytes }
+
+pub record IsSpelled : Type 0 where
+  pub in_doubt : frame_line 2 granting ≡ codes "frame 2 b" ++ 92 ∷ ended (codes "20c Granting 3 k 12 doubt")
+  pub streams : content_text (stream (1 ∷ 65 ∷ []) [] ∷ stream (codes "Cells") (195 ∷ 191 ∷ 48 ∷ []) ∷ []) ≡ 92 ∷ codes "01A= Cells=c3bf30"
+  pub empty : content_text [] ≡ codes "-"
+
+pub record IsWorked : Type 0 where
+  pub is_saved : IsSaved
+  pub is_lost : IsLost
+  pub is_kept : IsKept
+  pub is_repeated : IsRepeated
+  pub is_reloaded : IsReloaded
+  pub is_misedited : IsMisedited
+  pub is_limited : IsLimited
+  pub is_spelled : IsSpelled

@@ -1,0 +1,86 @@
+-- What holds of every world, whatever happened in it.
+use Rattle.std.specs.Prelude.{◌≡◌, ◌≢◌, ◌⊎◌, ℕ, List, [], ◌∷◌, map, Option, Some, None, Ok, ⊤}
+use Rattle.wire_msgs.specs.Found.{find, nth}
+use Rattle.wire_msgs.specs.declared.message.Message.{Message}
+use Rattle.wire_msgs.specs.declared.message.Message.TheVariants.{Call, Reply}
+use Rattle.wire_msgs.specs.declared.operation.Operation.{Operation}
+use Rattle.wire_msgs.specs.declared.answer.Answer.{Answer}
+use Rattle.storage_tree.specs.declared.stored.Stored.{Stored}
+use Rattle.file_model.specs.Denotes.{Denotes}
+use Rattle.server_model.specs.Server.{Activation, is_act}
+use Rattle.container_model.specs.Record.{is_object}
+use Rattle.container_model.specs.Saves.{document_tree}
+use Rattle.container_model.specs.declared.answer.Part.{Part}
+use Rattle.container_model.specs.declared.record.Link.{Link}
+use Rattle.container_model.specs.declared.record.Object.{Object}
+use Rattle.world_model.specs.declared.logs.Sent.{Sent}
+use Rattle.world_model.specs.declared.logs.Done.{Done}
+use Rattle.world_model.specs.declared.logs.ServerDone.{ServerDone}
+use Rattle.world_model.specs.declared.logs.Document.{Document}
+use Rattle.world_model.specs.World.{World, Instance, delivered, done_entry, frame_file}
+
+-- x stands in the list
+abbrev pub Among : {A : Type 0} → List A → A → Type 0
+Among [] x = ⊥
+Among (y ∷ ys) x = (x ≡ y) ⊎ Among ys x
+
+-- Lookups: links by the numbers of their objects, activations by incarnation and number, messages that were sent.
+abbrev pub link_at : Option Object → Option Link
+link_at None = None
+link_at (Some o) = o.link
+
+abbrev pub links_of : List Object → ℕ → Option Link
+links_of os n = link_at (find (is_object n) os)
+
+abbrev pub act_at : ℕ → Option Instance → Option Activation
+act_at act None = None
+act_at act (Some i) = find (is_act act) i.core.acts
+
+abbrev pub acts_of : List Instance → ℕ → ℕ → Option Activation
+acts_of is inc act = act_at act (nth is inc)
+
+abbrev pub messages : List Sent → List Message
+messages xs = map (λ (x : Sent). x.message) xs
+
+abbrev pub WasSent : World → Message → Type 0
+WasSent w m = Among (messages w.sent) m
+
+-- no save of an object is counted twice, by the container or by servers
+abbrev pub IsAnother : Done → Done → Type 0
+IsAnother d e = d.object ≡ e.object → d.k ≢ e.k
+
+abbrev pub CountedOnce : List Done → Type 0
+CountedOnce [] = ⊤
+CountedOnce (d ∷ ds) = ((e : Done) → Among ds e → IsAnother d e) × CountedOnce ds
+
+abbrev pub IsOther : ServerDone → ServerDone → Type 0
+IsOther d e = d.object ≡ e.object → d.k ≢ e.k
+
+abbrev pub ServedOnce : List ServerDone → Type 0
+ServedOnce [] = ⊤
+ServedOnce (d ∷ ds) = ((e : ServerDone) → Among ds e → IsOther d e) × ServedOnce ds
+
+-- The file of a frame holds the document of its last counted commit, whose contents are those counted with it.
+pub record IsKept (w : World) (f : ℕ) (document : Document) : Type 0 where
+  pub bytes : List ℕ
+  pub file : frame_file w f ≡ Some bytes
+  pub denotes : ∥ Denotes bytes (document_tree document.parts) ∥₁
+  pub counted : (p : Part) → Among document.parts p → Among w.container_done (done_entry document.k p)
+
+pub record Safe (w : World) : Type 0 where
+  -- a call acts at most once: delivered again once it is answered, it leaves every server as it is and counts nothing
+  pub acts_once : (inc act n : ℕ) (op : Operation) (r : Answer) (next : World) → WasSent w (Reply inc act n r) → delivered w (Call inc act n op) ≡ Ok next
+      → (next.instances ≡ w.instances) × (next.server_done ≡ w.server_done)
+  -- and it has one answer, however often it is delivered
+  pub one_reply : (inc act n : ℕ) (r q : Answer) → WasSent w (Reply inc act n r) → WasSent w (Reply inc act n q) → r ≡ q
+  -- the reply that an activation keeps is the reply to the call of that number
+  pub kept_reply : (inc act : ℕ) (a : Activation) (r : Answer) → acts_of w.instances inc act ≡ Some a → WasSent w (Reply inc act a.last r) → r ≡ a.reply
+  -- the content that an object's save was answered is the one that its activation keeps for it
+  pub answered : (n : ℕ) (l : Link) (content : Stored) → links_of w.rec.objects n ≡ Some l → l.saved ≡ Some content
+      → (a : Activation) × (acts_of w.instances l.inc l.act ≡ Some a) × (a.saved ≡ Some content)
+  -- no save is counted twice, and what a server counts the container has counted, with the same content
+  pub container_once : CountedOnce w.container_done
+  pub server_once : ServedOnce w.server_done
+  pub agreed : (e : ServerDone) → Among w.server_done e → Among w.container_done (record { object = e.object; k = e.k; content = e.content })
+  -- the file of each frame with a counted commit
+  pub files : (f : ℕ) (document : Document) → nth w.counted f ≡ Some (Some document) → IsKept w f document

@@ -1,0 +1,316 @@
+-- A world: a container, its servers, the messages between them, the files; and what happens in it.
+use Rattle.std.specs.Prelude.{◌≡◌, ◌+◌, ◌++◌, ℕ, Bool, false, List, [], ◌∷◌, length, map, Option, Some, None, option_map, is_some, Result, Ok, Err, IsOk, if◌then◌else◌, nat_le, ⊤}
+use Rattle.std.specs.Str.{bytes_eq}
+use Rattle.std.specs.List.{range_with_len}
+use Rattle.wire_msgs.specs.Found.{find, nth, set_nth}
+use Rattle.wire_msgs.specs.declared.message.Message.{Message}
+use Rattle.wire_msgs.specs.declared.message.Message.TheVariants.{Call, Reply, Write, Ask}
+use Rattle.wire_msgs.specs.declared.operation.Operation.{Operation}
+use Rattle.file_model.specs.Denotes.{Denotes}
+use Rattle.embed_core.specs.Kinds.{Kind, class_of}
+use Rattle.server_model.specs.Server.{Server, Activation, Served, on_call, wanted, is_act}
+use Rattle.server_model.specs.declared.counted.Counted.{Counted}
+use Rattle.server_model.specs.declared.fault.ServerFault.{ServerFault}
+use Rattle.container_model.specs.Record.{Record, Took, empty}
+use Rattle.container_model.specs.Commands.{on_command}
+use Rattle.container_model.specs.Messages.{on_message, on_reap}
+use Rattle.container_model.specs.Saves.{commit_done, image, document_tree, name_after}
+use Rattle.container_model.specs.declared.answer.Action.{Action}
+use Rattle.container_model.specs.declared.answer.Action.TheVariants.{Send, Start, End, Commit}
+use Rattle.container_model.specs.declared.answer.Answer.{Answer}
+use Rattle.container_model.specs.declared.answer.Part.{Part}
+use Rattle.container_model.specs.declared.command.Command.{Command}
+use Rattle.container_model.specs.declared.command.Command.TheVariants as command
+use Rattle.container_model.specs.declared.record.Frame.{Frame}
+use Rattle.container_model.specs.declared.fault.ContainerFault.{ContainerFault}
+use Rattle.world_model.specs.declared.logs.View.{View}
+use Rattle.world_model.specs.declared.logs.Sent.{Sent}
+use Rattle.world_model.specs.declared.logs.Done.{Done}
+use Rattle.world_model.specs.declared.logs.ServerDone.{ServerDone}
+use Rattle.world_model.specs.declared.logs.Document.{Document}
+use Rattle.world_model.specs.declared.logs.File.{File}
+use Rattle.world_model.specs.declared.logs.Outcome.{Outcome}
+use Rattle.world_model.specs.declared.logs.EventAnswer.{EventAnswer}
+use Rattle.world_model.specs.declared.logs.EventAnswer.TheVariants as told
+use Rattle.world_model.specs.declared.life.Life.{Life}
+use Rattle.world_model.specs.declared.life.Life.TheVariants.{Running, Ended, Reaped}
+use Rattle.world_model.specs.declared.event.Event.{Event}
+use Rattle.world_model.specs.declared.event.Event.TheVariants as event
+use Rattle.world_model.specs.declared.event.Stop.{Stop}
+use Rattle.world_model.specs.declared.event.Stop.TheVariants.{NotEnabled, OutOfStock, EventLimit, NoMemory}
+
+pub record Instance : Type 0 where
+  pub life : Life
+  pub core : Server
+
+-- A world. Servers stand by their incarnations, from 1, and stay after their end. The kinds of the objects in stock. All
+-- messages that were ever sent, by their places, from 1. The object of each activation that was ever made, by its
+-- number, from 1. What each event was answered. What each side counted; and of each frame the document of its last
+-- counted commit.
+pub record World : Type 0 where
+  pub rec : Record
+  pub instances : List Instance
+  pub files : List File
+  pub stock : List Kind
+  pub sent : List Sent
+  pub owners : List ℕ
+  pub answers : List EventAnswer
+  pub container_done : List Done
+  pub server_done : List ServerDone
+  pub counted : List (Option Document)
+
+abbrev pub empty_world : ℕ → List Kind → World
+empty_world numbers stock = record { rec = empty numbers; instances = []; files = []; stock = stock; sent = []; owners = []; answers = []; container_done = []; server_done = []; counted = [] }
+
+-- What is asked of the world by an answer's actions.
+abbrev pub messages_of : List Action → List Message
+messages_of [] = []
+messages_of (Send m ∷ rest) = m ∷ messages_of rest
+messages_of (Start inc ∷ rest) = messages_of rest
+messages_of (End inc ∷ rest) = messages_of rest
+messages_of (Commit f ∷ rest) = messages_of rest
+
+abbrev pub fresh : ℕ → ℕ → Instance
+fresh numbers inc = record { life = Running; core = record { inc = inc; numbers = numbers; acts = [] } }
+
+abbrev pub started_by : ℕ → List Action → List Instance
+started_by numbers [] = []
+started_by numbers (Send m ∷ rest) = started_by numbers rest
+started_by numbers (Start inc ∷ rest) = fresh numbers inc ∷ started_by numbers rest
+started_by numbers (End inc ∷ rest) = started_by numbers rest
+started_by numbers (Commit f ∷ rest) = started_by numbers rest
+
+abbrev pub commits_of : List Action → List ℕ
+commits_of [] = []
+commits_of (Send m ∷ rest) = commits_of rest
+commits_of (Start inc ∷ rest) = commits_of rest
+commits_of (End inc ∷ rest) = commits_of rest
+commits_of (Commit f ∷ rest) = f ∷ commits_of rest
+
+-- the places of so many messages that are sent next
+abbrev pub places : List Sent → ℕ → List ℕ
+places sent count = range_with_len (length sent + 1) count
+
+abbrev pub outcome_of : List Sent → Answer → Outcome
+outcome_of sent a = record { frame = a.frame; objects = a.objects; server = a.server; taken = a.taken; refused = a.refused; no_tools = a.no_tools; sent = places sent (length (messages_of a.actions)); commits = commits_of a.actions }
+
+-- a message of the container's
+abbrev pub of_container : Message → Sent
+of_container m = record { message = m; view = None }
+
+-- a new frame has no counted commit
+abbrev pub uncounted : Option ℕ → List (Option Document)
+uncounted None = []
+uncounted (Some f) = None ∷ []
+
+-- What a step of the container makes of the world; the answer is kept, a refusal too.
+abbrev pub joined : World → Took → World
+joined w t = record w {
+  rec = t.rec;
+  instances = w.instances ++ started_by t.rec.numbers t.answer.actions;
+  sent = w.sent ++ map of_container (messages_of t.answer.actions);
+  answers = w.answers ++ told.Took (outcome_of w.sent t.answer) ∷ [];
+  counted = w.counted ++ uncounted t.answer.frame;
+}
+
+abbrev pub took : World → Result Took ContainerFault → World
+took w (Err fault) = record w { answers = w.answers ++ told.Refused fault ∷ [] }
+took w (Ok t) = joined w t
+
+-- A command. The object of a new activation is kept.
+abbrev pub owners_by : Command → List ℕ
+owners_by (command.New name width height) = []
+owners_by (command.Insert f kind area) = []
+owners_by command.Start = []
+owners_by (command.Run o inc) = o ∷ []
+owners_by (command.Edit o bytes) = []
+owners_by (command.Save f) = []
+
+abbrev pub commanded : World → Command → Result Took ContainerFault → World
+commanded w c (Err fault) = took w (Err fault)
+commanded w c (Ok t) = record (joined w t) { owners = w.owners ++ owners_by c }
+
+-- A call at a server that runs: its reply is sent, with the activation's state just before.
+abbrev pub is_open : Activation → Bool
+is_open a = is_some a.content
+
+abbrev pub view_of : Activation → View
+view_of a = record { opened = is_open a; states = a.states; s = a.s }
+
+abbrev pub view_in : Server → ℕ → Option View
+view_in v act = option_map view_of (find (is_act act) v.acts)
+
+abbrev pub nth_or_zero : Option ℕ → ℕ
+nth_or_zero None = 0
+nth_or_zero (Some n) = n
+
+abbrev pub owner : World → ℕ → ℕ
+owner w act = nth_or_zero (nth w.owners act)
+
+abbrev pub counted_by : World → ℕ → Option Counted → List ServerDone
+counted_by w inc None = []
+counted_by w inc (Some c) = record { inc = inc; object = owner w c.act; k = c.k; content = c.content } ∷ []
+
+abbrev pub quiet_outcome : Outcome
+quiet_outcome = record { frame = None; objects = []; server = None; taken = false; refused = None; no_tools = false; sent = []; commits = [] }
+
+abbrev pub served : World → ℕ → ℕ → ℕ → Instance → List Kind → Result Served ServerFault → World
+served w inc act n i stock (Err fault) = record w { answers = w.answers ++ told.Unheard fault ∷ [] }
+served w inc act n i stock (Ok v) = record w {
+  instances = set_nth w.instances inc (record i { core = v.server });
+  stock = stock;
+  sent = w.sent ++ record { message = Reply inc act n v.answer; view = view_in i.core act } ∷ [];
+  answers = w.answers ++ told.Took (record quiet_outcome { sent = places w.sent 1 }) ∷ [];
+  server_done = w.server_done ++ counted_by w inc v.counted;
+}
+
+-- the first object of a class in stock, and the stock without it
+abbrev pub is_of : List ℕ → Kind → Bool
+is_of class kind = bytes_eq (class_of kind) class
+
+abbrev pub without_first : {A : Type 0} → (A → Bool) → List A → List A
+without_first test [] = []
+without_first test (x ∷ xs) = if test x then xs else x ∷ without_first test xs
+
+abbrev pub stocked : World → ℕ → ℕ → ℕ → Operation → Instance → List ℕ → Option Kind → Result World Stop
+stocked w inc act n op i class None = Err OutOfStock
+stocked w inc act n op i class (Some kind) = Ok (served w inc act n i (without_first (is_of class) w.stock) (on_call i.core (Call inc act n op) (Some kind)))
+
+-- a call that makes an activation takes an object out of stock for it
+abbrev pub called_wanting : World → ℕ → ℕ → ℕ → Operation → Instance → Option (List ℕ) → Result World Stop
+called_wanting w inc act n op i None = Ok (served w inc act n i w.stock (on_call i.core (Call inc act n op) None))
+called_wanting w inc act n op i (Some class) = stocked w inc act n op i class (find (is_of class) w.stock)
+
+abbrev pub called_in : World → ℕ → ℕ → ℕ → Operation → Instance → Life → Result World Stop
+called_in w inc act n op i Running = called_wanting w inc act n op i (wanted i.core (Call inc act n op))
+called_in w inc act n op i Ended = Ok (record w { answers = w.answers ++ told.Took quiet_outcome ∷ [] })
+called_in w inc act n op i Reaped = Ok (record w { answers = w.answers ++ told.Took quiet_outcome ∷ [] })
+
+-- a call to a server that has ended does nothing
+abbrev pub called : World → ℕ → ℕ → ℕ → Operation → Option Instance → Result World Stop
+called w inc act n op None = Ok (record w { answers = w.answers ++ told.Took quiet_outcome ∷ [] })
+called w inc act n op (Some i) = called_in w inc act n op i i.life
+
+-- Delivery of a message that was sent, for the first time or again.
+abbrev pub delivered : World → Message → Result World Stop
+delivered w (Call inc act n op) = called w inc act n op (nth w.instances inc)
+delivered w (Reply inc act n answer) = Ok (took w (on_message w.rec inc (Reply inc act n answer)))
+delivered w (Write inc act s number content) = Ok (took w (on_message w.rec inc (Write inc act s number content)))
+delivered w (Ask inc act g) = Ok (took w (on_message w.rec inc (Ask inc act g)))
+
+abbrev pub deliver : World → Option Sent → Result World Stop
+deliver w None = Err NotEnabled
+deliver w (Some sent) = delivered w sent.message
+
+-- A server that runs crashes.
+abbrev pub crashed : World → ℕ → Instance → Life → Result World Stop
+crashed w inc i Running = Ok (record w { instances = set_nth w.instances inc (record i { life = Ended }); answers = w.answers ++ told.Took quiet_outcome ∷ [] })
+crashed w inc i Ended = Err NotEnabled
+crashed w inc i Reaped = Err NotEnabled
+
+abbrev pub crash : World → ℕ → Option Instance → Result World Stop
+crash w inc None = Err NotEnabled
+crash w inc (Some i) = crashed w inc i i.life
+
+-- The end of a server is told, once it has ended.
+abbrev pub ended : World → ℕ → Instance → Life → Result World Stop
+ended w inc i Running = Err NotEnabled
+ended w inc i Ended = Ok (took (record w { instances = set_nth w.instances inc (record i { life = Reaped }) }) (on_reap w.rec inc))
+ended w inc i Reaped = Err NotEnabled
+
+abbrev pub reap : World → ℕ → Option Instance → Result World Stop
+reap w inc None = Err NotEnabled
+reap w inc (Some i) = ended w inc i i.life
+
+-- A commit that is done makes these bytes the file, counts each object's content and keeps the document.
+abbrev pub is_file : List ℕ → File → Bool
+is_file name file = bytes_eq file.name name
+
+abbrev pub put_file : List ℕ → List ℕ → List File → List File
+put_file name bytes [] = record { name = name; bytes = bytes } ∷ []
+put_file name bytes (file ∷ files) = if is_file name file then record { name = name; bytes = bytes } ∷ files else file ∷ put_file name bytes files
+
+abbrev pub done_entry : ℕ → Part → Done
+done_entry k p = record { object = p.object; k = k; content = p.content }
+
+abbrev pub kept_commit : World → ℕ → Frame → List Part → List ℕ → World
+kept_commit w f frame parts bytes = record w {
+  files = put_file (name_after frame.name frame.asked) bytes w.files;
+  container_done = w.container_done ++ map (done_entry frame.k) parts;
+  counted = set_nth w.counted f (Some (record { k = frame.k; parts = parts }));
+}
+
+abbrev pub done_taken : World → ℕ → List ℕ → Frame → List Part → Result Took ContainerFault → Result World Stop
+done_taken w f bytes frame parts (Err fault) = Err NotEnabled
+done_taken w f bytes frame parts (Ok t) = Ok (joined (kept_commit w f frame parts bytes) t)
+
+abbrev pub done_imaged : World → ℕ → List ℕ → Frame → Result (List Part) ContainerFault → Result World Stop
+done_imaged w f bytes frame (Err fault) = Err NotEnabled
+done_imaged w f bytes frame (Ok parts) = done_taken w f bytes frame parts (commit_done w.rec f)
+
+abbrev pub done_in : World → ℕ → List ℕ → Option Frame → Result World Stop
+done_in w f bytes None = Err NotEnabled
+done_in w f bytes (Some frame) = done_imaged w f bytes frame (image w.rec f)
+
+abbrev pub done : World → ℕ → List ℕ → Result World Stop
+done w f bytes = done_in w f bytes (nth w.rec.frames f)
+
+-- What an event makes of the world, where a commit that is done makes these bytes the file.
+abbrev pub happened : World → List ℕ → Event → Result World Stop
+happened w bytes (event.Command c) = Ok (commanded w c (on_command w.rec c))
+happened w bytes (event.Deliver p) = deliver w (nth w.sent p)
+happened w bytes (event.Crash inc) = crash w inc (nth w.instances inc)
+happened w bytes (event.Reap inc) = reap w inc (nth w.instances inc)
+happened w bytes (event.Done f) = done w f bytes
+
+-- no more events than these are taken
+abbrev pub MOST_EVENTS : ℕ
+MOST_EVENTS = 10000
+
+abbrev pub limited : World → Result World Stop → Result World Stop
+limited w (Err stop) = Err stop
+limited w (Ok after) = if nat_le MOST_EVENTS (length w.answers) then Err EventLimit else Ok after
+
+abbrev pub step : World → List ℕ → Event → Result World Stop
+step w bytes e = limited w (happened w bytes e)
+
+-- the bytes that a commit makes the file denote the document
+abbrev pub IsImage : World → List ℕ → Event → Type 0
+IsImage w bytes (event.Command c) = ⊤
+IsImage w bytes (event.Deliver p) = ⊤
+IsImage w bytes (event.Crash inc) = ⊤
+IsImage w bytes (event.Reap inc) = ⊤
+IsImage w bytes (event.Done f) = (parts : List Part) → image w.rec f ≡ Ok parts → ∥ Denotes bytes (document_tree parts) ∥₁
+
+-- The worlds that these events reach; they differ in the bytes of files alone.
+abbrev pub Run : World → List Event → World → Type 0
+Run w [] after = after ≡ w
+Run w (e ∷ es) after = (bytes : List ℕ) × (next : World) × IsImage w bytes e × (step w bytes e ≡ Ok next) × Run next es after
+
+-- A run stops before an event that can't be taken, or for want of memory before one that could.
+abbrev pub Refuses : Result World Stop → Stop → Type 0
+Refuses told NoMemory = IsOk told
+Refuses told stop = told ≡ Err stop
+
+abbrev pub StopsAt : World → Event → Stop → Type 0
+StopsAt w e stop = (bytes : List ℕ) → Refuses (step w bytes e) stop
+
+-- The file of a frame that was opened, or whose commit was counted.
+abbrev pub file_bytes : Option File → Option (List ℕ)
+file_bytes None = None
+file_bytes (Some file) = Some file.bytes
+
+abbrev pub frame_file_in : World → Option Frame → Option (List ℕ)
+frame_file_in w None = None
+frame_file_in w (Some frame) = if frame.stored then file_bytes (find (is_file frame.name) w.files) else None
+
+abbrev pub frame_file : World → ℕ → Option (List ℕ)
+frame_file w f = frame_file_in w (nth w.rec.frames f)
+
+-- The document of a frame's last counted commit.
+abbrev pub document_in : Option (Option Document) → Option Document
+document_in None = None
+document_in (Some document) = document
+
+abbrev pub counted_document : World → ℕ → Option Document
+counted_document w f = document_in (nth w.counted f)

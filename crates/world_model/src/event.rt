@@ -1,0 +1,65 @@
+//! What happens in a world.
+
+ghost use Rattle.std.specs.Prelude.{◌≡◌, IfOk};
+
+use container_model::command::Command;
+use std::alloc::{AllocError, Global};
+
+/// What happens in a world.
+#[derive(Drop)]
+pub enum Event {
+    /// A user's command.
+    Command(Command),
+    /// The message at this place of those that were sent, from 1, is delivered, for the first time or again.
+    Deliver(u32),
+    /// A server crashes.
+    Crash(u32),
+    /// The end of a server is told.
+    Reap(u32),
+    /// The commit of a frame's file is done.
+    Done(u32),
+}
+
+/// Why a run stops before an event.
+#[derive(Debug, Clone, Copy, PartialEq, Eq)]
+pub enum Stop {
+    /// The event can't happen in this world.
+    NotEnabled,
+    /// The event makes an activation of a class of which no object is left in stock.
+    OutOfStock,
+    /// A world takes no more than 10,000 events.
+    EventLimit,
+    /// No memory was left.
+    NoMemory,
+}
+
+impl Stop {
+    ghost use Rattle.std.specs.Prelude.{◌≡◌};
+    ghost use Rattle.world_model.specs.StopNames.{stop_name};
+
+    /// The name of the stop, as it is printed.
+    pub fn name(&self) -> &'static str
+        ensures { result.now ≡ stop_name self.now }
+    {
+        match self {
+            Stop::NotEnabled => "NotEnabled",
+            Stop::OutOfStock => "OutOfStock",
+            Stop::EventLimit => "EventLimit",
+            Stop::NoMemory => "NoMemory",
+        }
+    }
+}
+
+/// An equal command.
+pub fn copy_command(alloc: Global, command: &Command) -> Result<Command, AllocError>
+    ensures { IfOk result (λ c. c ≡ command.now) }
+{
+    match command {
+        Command::New(name, width, height) => Ok(Command::New(name.copy(alloc)?, *width, *height)),
+        Command::Insert(frame, kind, area) => Ok(Command::Insert(*frame, *kind, *area)),
+        Command::Start => Ok(Command::Start),
+        Command::Run(object, inc) => Ok(Command::Run(*object, *inc)),
+        Command::Edit(object, bytes) => Ok(Command::Edit(*object, bytes.copy(alloc)?)),
+        Command::Save(frame) => Ok(Command::Save(*frame)),
+    }
+}

@@ -1,0 +1,128 @@
+//! What a world keeps of what happened in it.
+
+ghost use Rattle.std.specs.Prelude.{◌≡◌};
+ghost use Rattle.world_model.specs.World.{quiet_outcome};
+
+use container_model::answer::Part;
+use container_model::fault::ContainerFault;
+use object_state::States;
+use server_model::fault::ServerFault;
+use std::alloc::Global;
+use storage_tree::bytes::Bytes;
+use storage_tree::stored::Stored;
+use wire_msgs::items::Items;
+use wire_msgs::message::Message;
+use wire_msgs::refusal::Refusal;
+
+/// The state of an activation, as its server sees it.
+#[derive(Debug, Clone, Copy, PartialEq, Eq)]
+pub struct View {
+    /// Whether it is open.
+    pub opened: bool,
+    /// The states of its storage and of its window.
+    pub states: States,
+    /// The storage grant.
+    pub s: u32,
+}
+
+/// A message that was sent.
+#[derive(Drop)]
+pub struct Sent {
+    /// The message.
+    pub message: Message,
+    /// Of a server's message, its activation's state just before; none where the server didn't know the activation, and
+    /// none for a container's message.
+    pub view: Option<View>,
+}
+
+/// A content that the container counted.
+#[derive(Drop)]
+pub struct Done {
+    /// The object.
+    pub object: u32,
+    /// The number of the save.
+    pub k: u32,
+    /// The content.
+    pub content: Stored,
+}
+
+/// A content that a server counted.
+#[derive(Drop)]
+pub struct ServerDone {
+    /// The server's incarnation.
+    pub inc: u32,
+    /// The object that the activation was made for.
+    pub object: u32,
+    /// The number of the save.
+    pub k: u32,
+    /// The content.
+    pub content: Stored,
+}
+
+/// A document that was counted.
+#[derive(Drop)]
+pub struct Document {
+    /// The number of the save.
+    pub k: u32,
+    /// Its objects.
+    pub parts: Items<Part>,
+}
+
+/// A file.
+#[derive(Drop)]
+pub struct File {
+    /// Its name.
+    pub name: Bytes,
+    /// Its bytes.
+    pub bytes: Bytes,
+}
+
+/// What an event led to.
+#[derive(Drop)]
+pub struct Outcome {
+    /// The frame that was made.
+    pub frame: Option<u32>,
+    /// The objects that were made.
+    pub objects: Items<u32>,
+    /// The server that was started.
+    pub server: Option<u32>,
+    /// Whether a content was taken as work content.
+    pub taken: bool,
+    /// Why an object refused a call.
+    pub refused: Option<Refusal>,
+    /// Whether an object got its frame without border space.
+    pub no_tools: bool,
+    /// The places of the messages that were sent, from 1.
+    pub sent: Items<u32>,
+    /// The frames whose commit is asked.
+    pub commits: Items<u32>,
+}
+
+impl Outcome {
+    /// It led to nothing.
+    pub fn quiet(alloc: Global) -> Outcome
+        ensures { result ≡ quiet_outcome }
+    {
+        Outcome {
+            frame: None,
+            objects: Items::new(alloc),
+            server: None,
+            taken: false,
+            refused: None,
+            no_tools: false,
+            sent: Items::new(alloc),
+            commits: Items::new(alloc),
+        }
+    }
+}
+
+/// What an event is answered.
+#[derive(Drop)]
+pub enum EventAnswer {
+    /// It led to this.
+    Took(Outcome),
+    /// The container refused it.
+    Refused(ContainerFault),
+    /// The server did nothing with it.
+    Unheard(ServerFault),
+}
