@@ -1,7 +1,8 @@
 use Rattle.std.proofs.Common.{[], subst, sym}
 use Rattle.embed_core.specs.Content.{note}
 use Rattle.world_safety.specs.Holding.{Holds}
-use Rattle.world_run.proofs.Held.{empty_held, held_seen}
+use Rattle.world_run.proofs.Held.{held_seen}
+use Rattle.world_safety.proofs.Held.{empty_held}
 use Rattle.world_run.proofs.world.World.new.Goals as goal
 
 pub invariant_of-result : goal.invariant_of-result

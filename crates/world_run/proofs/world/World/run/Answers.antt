@@ -1,7 +1,8 @@
 use Rattle.std.proofs.Common.{[]}
 use Rattle.std.proofs.Math.Logic.{∥∥₁_map}
 use Rattle.embed_core.specs.Content.{note}
-use Rattle.world_run.proofs.Held.{held_run, held_seen, safe_held}
+use Rattle.world_run.proofs.Held.{held_seen}
+use Rattle.world_safety.proofs.Held.{held_run, safe_held}
 use Rattle.world_run.proofs.world.World.run.Goals as goal
 
 pub invariant_of-self : goal.invariant_of-self
