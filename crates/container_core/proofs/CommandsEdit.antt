@@ -9,9 +9,9 @@ use Rattle.container_model.specs.declared.fault.ContainerFault.{ContainerFault}
 use Rattle.container_model.specs.declared.record.Frame.{Frame}
 use Rattle.container_model.specs.declared.record.Object.{Object}
 use Rattle.container_model.specs.Commands.{edit_linked}
-use Rattle.container_core.specs.Numbered.{IsObjectAt}
+use Rattle.container_model.specs.Numbered.{IsObjectAt}
 use Rattle.container_model.specs.Record.{Record, Refuses, Took, acts, is_object, with_object}
-use Rattle.container_laws.specs.Room.{HasRoom, IsSound}
+use Rattle.container_model.specs.Room.{HasRoom, IsSound}
 
 -- what holds of the object that stands there
 here : (P : Object → Type 0) (s r : Record) (i : ℕ) (x : Object) → s ≡ r → i < length r.objects → x ≡ get_or s.objects i x → P x → IfSome (slice_get r.objects i) P

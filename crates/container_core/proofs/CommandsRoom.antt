@@ -13,7 +13,7 @@ use Rattle.container_model.specs.declared.record.Phase.TheVariants.{Idle, Saving
 use Rattle.container_model.specs.declared.fault.ContainerFault.{ContainerFault}
 use Rattle.container_model.specs.declared.fault.ContainerFault.TheVariants.{NumbersSpent, WrongState}
 use Rattle.container_model.specs.Record.{MARGIN, Record, ask, ask_at, asked_link, has_numbers}
-use Rattle.container_laws.specs.Room.{HasRoom, IfLinked, IsRoomy, IsSound, count_pending, debt, debt_in}
+use Rattle.container_model.specs.Room.{HasRoom, IfLinked, IsRoomy, IsSound, count_pending, debt, debt_in}
 use Rattle.container_model.specs.Commands.{MOST_EDIT, edit_fault, link_has_numbers}
 
 -- ---- what an activation has left once it is asked

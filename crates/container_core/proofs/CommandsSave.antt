@@ -13,13 +13,13 @@ use Rattle.container_model.specs.declared.fault.ContainerFault.{ContainerFault}
 use Rattle.container_model.specs.declared.record.Frame.{Frame}
 use Rattle.container_model.specs.declared.record.Object.{Object}
 use Rattle.container_model.specs.Commands.{all_have_numbers, link_has_numbers, save_made, save_numbered, saving, saving_frame}
-use Rattle.container_core.specs.Numbered.{IsNth}
+use Rattle.container_model.specs.Numbered.{IsNth}
 use Rattle.container_model.specs.Record.{Record, Took, acts, asked_all, asked_link, asked_object, sends}
-use Rattle.container_laws.specs.Room.{HasRoom, IfLinked, IsRoomy, IsSound, debt_in}
+use Rattle.container_model.specs.Room.{HasRoom, IfLinked, IsRoomy, IsSound, debt_in}
 use Rattle.container_model.specs.Saves.{settle, settle_actions, settled_actions, settled_frames}
 use Rattle.container_core.proofs.CommandsRoom.{asked_room, debt_in_few, less_linked}
 use Rattle.container_core.proofs.CommitsDone.{frame_here}
-use Rattle.container_laws.proofs.CommitsRoom.{nth_set_other}
+use Rattle.container_core.proofs.CommitsRoom.{nth_set_other}
 use Rattle.container_core.proofs.MessageSound.{settled_sound}
 
 -- ---- all objects of the frame have room for what they are asked

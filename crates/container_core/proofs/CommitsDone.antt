@@ -11,11 +11,11 @@ use Rattle.container_model.specs.declared.record.Frame.{Frame}
 use Rattle.container_model.specs.declared.record.Object.{Object}
 use Rattle.container_model.specs.declared.record.Phase.{Phase}
 use Rattle.container_model.specs.declared.record.Phase.TheVariants.{Idle, Saving, HandingOff, Committing, InDoubt}
-use Rattle.container_core.specs.Numbered.{IsNth}
+use Rattle.container_model.specs.Numbered.{IsNth}
 use Rattle.container_model.specs.Record.{Record, Took, acts, quiet_answer}
-use Rattle.container_laws.specs.Room.{IsSound}
+use Rattle.container_model.specs.Room.{IsSound}
 use Rattle.container_model.specs.Saves.{commit_made, committed_frame, completed, is_committing}
-use Rattle.container_laws.proofs.CommitsRoom.{room_objects}
+use Rattle.container_core.proofs.CommitsRoom.{room_objects}
 
 committing_from : (phase : Phase) → is_committing phase ≡ true → phase ≡ Committing
 committing_from Idle h = absurd (cc)

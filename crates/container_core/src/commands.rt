@@ -1,9 +1,9 @@
 //! What a container does with a command of a user.
 
 ghost use Rattle.std.specs.Prelude.{◌++◌, ◌+◌, ◌<◌, ◌≡◌, ◌≤◌, IfErr, IfOk, Ok, OnErr, OnOk, [], ◌∷◌, All, List, length, map, vec_capacity, vec_len, ℕ};
-ghost use Rattle.container_core.specs.Asking.{HasNumber, IsAsking, prepared};
+ghost use Rattle.container_links.specs.Asking.{HasNumber, IsAsking, prepared};
 ghost use Rattle.container_model.specs.Record.{Record, Refuses, acts, asked_link, asked_object, asked_sent, sends, with_object};
-ghost use Rattle.container_laws.specs.Room.{HasRoom, IfLinked};
+ghost use Rattle.container_model.specs.Room.{HasRoom, IfLinked};
 ghost use Rattle.container_model.specs.Commands.{begun_link, edit_fault, edit_linked, first_operation, kind_of, new_object, saving_frame, user_type};
 ghost use Rattle.embed_core.specs.Kinds.{class_of};
 ghost use Rattle.wire_msgs.specs.declared.operation.Operation as asked;
@@ -12,18 +12,18 @@ ghost use Rattle.wire_msgs.specs.declared.message.Message.TheVariants.{Call};
 ghost use Rattle.container_model.specs.declared.record.Frame.{Frame};
 ghost use Rattle.container_model.specs.declared.answer.Action.TheVariants.{Send};
 
-use container_model::answer::{Action, Answer};
-use crate::asking::{Asking, Prepared, ask, install_all, prepare};
 use crate::checks;
-use container_model::command::{Command, ObjectKind};
 use crate::container::ContainerCore;
-use container_model::fault::ContainerFault;
 use crate::lookups::{place, place_object};
+use container_links::asking::{Asking, ask_link, prepare, take_up};
+use container_links::settling::settle_into;
+use container_model::answer::{Action, Answer};
+use container_model::command::{Command, ObjectKind};
+use container_model::fault::ContainerFault;
 use container_model::record::{Frame, Link, Object, Phase};
-use object_parts::area::Area;
-use crate::settling::settle_into;
 use embed_core::classes;
 use grant_core::FrameUi;
+use object_parts::area::Area;
 use object_state::States;
 use std::alloc::{AllocError, Global};
 use storage_tree::bytes::Bytes;
@@ -46,7 +46,7 @@ impl ContainerCore {
     ghost use Rattle.std.specs.Prelude.{◌+◌, ◌≡◌, ◌≤◌, IfErr, IfOk, IfSome, Ok, OnErr, length, slice_get};
     ghost use Rattle.container_model.specs.Commands.{edit, edit_linked, insert, insert_into, kind_of, new, on_command, run, run_object, save, save_numbered, start};
     ghost use Rattle.container_model.specs.Record.{Refuses};
-    ghost use Rattle.container_core.specs.Numbered.{IsNth, IsObjectAt};
+    ghost use Rattle.container_model.specs.Numbered.{IsNth, IsObjectAt};
 
     /// A command of a user. The answer has what was made, what is sent and which files are to be committed.
     ///
@@ -513,40 +513,6 @@ fn ask_object(
     ask_link(alloc, &mut object.link, operation)
 }
 
-// The same for what the object has as its activation.
-fn ask_link(
-    alloc: Global,
-    link: &mut Option<Link>,
-    operation: Operation,
-) -> Result<Items<Action>, AllocError>
-    requires { IfLinked (λ l. l.last + length l.waiting ≤ 1000000) link.old }
-    ensures asked { OnOk result (link.new ≡ asked_link operation link.old) }
-    ensures sent { IfOk result (λ a. a ≡ sends (asked_sent operation link.old)) }
-    ensures few { IfOk result (λ a. length a ≤ 1) }
-    ensures kept { OnErr result (link.new ≡ link.old) }
-{
-    let mut actions = Vec::with_capacity(alloc, 1)?;
-    match link {
-        None => {}
-        Some(link) => match ask(alloc, link, operation)? {
-            None => {}
-            Some(message) => add(&mut actions, message),
-        },
-    }
-    Ok(Items::from_vec(actions))
-}
-
-// Adds a message that room was taken for.
-fn add(actions: &mut Vec<Action>, message: Message)
-    requires { vec_len actions.old < vec_capacity actions.old }
-    ensures { actions.new.items ≡ actions.old.items ++ Send message ∷ [] }
-{
-    match actions.push(Action::Send(message)) {
-        Ok(()) => {}
-        Err(_) => unreachable!(),
-    }
-}
-
 // What is needed to ask the objects of a frame for their contents.
 fn prepare_save(alloc: Global, frame: u32, k: u32, objects: &[Object]) -> Result<Asking, AllocError>
     requires { All HasNumber objects.now }
@@ -562,13 +528,4 @@ fn begin_save(frame: &mut Frame)
 {
     frame.k += 1;
     frame.phase = Phase::Saving;
-}
-
-// The objects take up what was prepared for them.
-fn take_up(objects: &mut Vec<Object>, takes: Vec<Prepared>)
-    requires numbers { All HasNumber objects.old.items }
-    requires each { vec_len takes ≡ length objects.old.items }
-    ensures { (f : ℕ) (op : asked.Operation) → takes.items ≡ map (prepared f op) objects.old.items → objects.new.items ≡ map (asked_object f op) objects.old.items }
-{
-    install_all(objects, takes);
 }

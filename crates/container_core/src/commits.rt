@@ -1,17 +1,17 @@
 //! Commits that are done.
 
 ghost use Rattle.std.specs.Prelude.{◌≡◌, All, length, map, vec_len, ℕ};
-ghost use Rattle.container_core.specs.Asking.{HasNumber, prepared};
+ghost use Rattle.container_links.specs.Asking.{HasNumber, prepared};
 ghost use Rattle.container_model.specs.Saves.{committed_frame, completed, completion, counted_object, is_committing};
 ghost use Rattle.container_model.specs.Record.{asked_object};
 ghost use Rattle.container_model.specs.declared.record.Frame as declared;
 ghost use Rattle.wire_msgs.specs.declared.operation.Operation as declared_operation;
 
-use container_model::answer::Answer;
-use crate::asking::{Prepared, install_all, prepare};
 use crate::container::ContainerCore;
+use crate::lookups::place;
+use container_links::asking::{Prepared, prepare, take_up};
+use container_model::answer::Answer;
 use container_model::fault::ContainerFault;
-use crate::lookups::frame_place;
 use container_model::record::{Frame, Object, Phase};
 use std::alloc::Global;
 use wire_msgs::items::Items;
@@ -67,14 +67,6 @@ fn count_all(f: u32, objects: &mut Vec<Object>)
     count_objects(f, objects);
 }
 
-fn install(objects: &mut Vec<Object>, takes: Vec<Prepared>)
-    requires numbers { All HasNumber objects.old.items }
-    requires each { vec_len takes ≡ length objects.old.items }
-    ensures { (f : ℕ) (op : declared_operation.Operation) → takes.items ≡ map (prepared f op) objects.old.items → objects.new.items ≡ map (asked_object f op) objects.old.items }
-{
-    install_all(objects, takes);
-}
-
 /// The contents that are counted are work contents, and each object that isn't passive takes up what was prepared.
 fn complete_objects(f: u32, objects: &mut Vec<Object>, takes: Vec<Prepared>)
     requires numbers { All HasNumber objects.old.items }
@@ -82,7 +74,7 @@ fn complete_objects(f: u32, objects: &mut Vec<Object>, takes: Vec<Prepared>)
     ensures { (frame : declared.Frame) → takes.items ≡ map (prepared f (completion frame)) objects.old.items → objects.new.items ≡ map (completed f frame) objects.old.items }
 {
     count_all(f, objects);
-    install(objects, takes);
+    take_up(objects, takes);
 }
 
 /// Whether a frame's commit is asked for.
@@ -98,7 +90,7 @@ fn is_committing(phase: Phase) -> bool
 impl ContainerCore {
     ghost use Rattle.std.specs.Prelude.{◌≡◌, ◌≤◌, ◌+◌, IfErr, IfOk, OnErr, OnOk, Ok, Some, length, true};
     ghost use Rattle.wire_msgs.specs.Found.{nth};
-    ghost use Rattle.container_core.specs.Numbered.{IsNth};
+    ghost use Rattle.container_model.specs.Numbered.{IsNth};
     ghost use Rattle.container_model.specs.Record.{Refuses};
     ghost use Rattle.container_model.specs.Saves.{commit_done, commit_made, is_committing};
     ghost use Rattle.container_model.specs.declared.record.Frame as declared;
@@ -111,7 +103,7 @@ impl ContainerCore {
         ensures told { OnOk result ((frame : declared.Frame) → nth self.now.frames f ≡ Some frame → (is_committing frame.phase ≡ true) × (commit_done self.now f ≡ Ok (commit_made self.now f frame))) }
         ensures refused { IfErr result (Refuses (commit_done self.now f)) }
     {
-        let Some(place) = frame_place(self.frames.as_slice(), f) else {
+        let Some(place) = place(self.frames.as_slice(), f) else {
             return Err(ContainerFault::NoSuch);
         };
         if !is_committing(self.frames[place].phase) {

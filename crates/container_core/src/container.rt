@@ -8,12 +8,12 @@ ghost use Rattle.container_model.specs.Saves.{commit_done, document_tree, image}
 ghost use Rattle.wire_msgs.specs.Found.{find, nth};
 ghost use Rattle.file_model.specs.Denotes.{Denotes};
 
+use crate::lookups::{place, place_object};
+use crate::servers::Servers;
 use container_model::answer::{Answer, Part};
 use container_model::command::Command;
 use container_model::fault::ContainerFault;
-use crate::lookups::{place, place_object};
 use container_model::record::{Frame, Object};
-use crate::servers::Servers;
 use std::alloc::Global;
 use std::marker::Model;
 use wire_msgs::items::Items;
@@ -39,7 +39,7 @@ pub struct ContainerCore {
 
 impl Model for ContainerCore {
     ghost use Rattle.container_model.specs.Record.{Record};
-    ghost use Rattle.container_laws.specs.Room.{IsSound};
+    ghost use Rattle.container_model.specs.Room.{IsSound};
 
     ghost Value = { Record };
 

@@ -4,16 +4,16 @@ ghost use Rattle.std.specs.Prelude.{◌≡◌, ◌+◌, ◌≤◌, IfErr, IfOk, 
 ghost use Rattle.wire_msgs.specs.Found.{find, IsPlace};
 ghost use Rattle.container_model.specs.Record.{Record, Refuses, is_linked, quiet_answer};
 ghost use Rattle.container_model.specs.Messages.{on_message, on_reap, on_reply, reaped_object, reply_found, reply_link};
-ghost use Rattle.container_laws.specs.Replies.{is_of, went};
-ghost use Rattle.container_laws.specs.Room.{IfLinked, IsRoomy};
+ghost use Rattle.container_model.specs.Replies.{is_of, went};
+ghost use Rattle.container_model.specs.Room.{IfLinked, IsRoomy};
 
-use container_model::answer::{Action, Answer};
 use crate::container::ContainerCore;
-use container_model::fault::ContainerFault;
 use crate::lookups::place_linked;
+use container_links::replies::{Replied, told};
+use container_links::settling::settle_into;
+use container_model::answer::{Action, Answer};
+use container_model::fault::ContainerFault;
 use container_model::record::{Link, Object};
-use crate::replies::{Replied, told};
-use crate::settling::settle_into;
 use std::alloc::Global;
 use wire_msgs::answer as reply;
 use wire_msgs::items::Items;

@@ -12,7 +12,7 @@ use Rattle.container_model.specs.declared.fault.ContainerFault.TheVariants.{NoSu
 use Rattle.container_model.specs.Record.{Record, Took, is_alive, is_linked, quiet_answer}
 use Rattle.container_model.specs.Saves.{kept, settle, settle_actions}
 use Rattle.container_model.specs.Messages.{Replied, on_reap, on_reply, reaped, reaped_object, replied, replied_object, reply_found, reply_link, reply_pending, reply_taken}
-use Rattle.container_laws.specs.Replies.{is_of}
+use Rattle.container_model.specs.Replies.{is_of}
 use Rattle.container_laws.specs.Laws.{MessagesKeepOthers, OnlyPendingReplies, OtherServersAreRefused, OthersAreStale, ReapsEndTheirs, ReapsKeepOthers, pending_in, pending_number}
 
 -- what is done on a test that holds, where it is refused otherwise

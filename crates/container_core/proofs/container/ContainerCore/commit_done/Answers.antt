@@ -1,10 +1,10 @@
 use Rattle.std.proofs.Common.{◌≡◌, ℕ, List, map, Some, Ok, Result, sym, ◌∙◌, ap, subst}
 use Rattle.wire_msgs.specs.Found.{nth}
 use Rattle.wire_msgs.specs.declared.operation.Operation.{Operation}
-use Rattle.container_core.specs.Asking.{IsAsking}
-use Rattle.container_core.specs.Numbered.{IsNth}
+use Rattle.container_links.specs.Asking.{IsAsking}
+use Rattle.container_model.specs.Numbered.{IsNth}
 use Rattle.container_model.specs.Record.{Record, Took, asked_all, sends}
-use Rattle.container_laws.specs.Room.{IsSound}
+use Rattle.container_model.specs.Room.{IsSound}
 use Rattle.container_model.specs.Saves.{commit_made, completed, completion}
 use Rattle.container_model.specs.declared.fault.ContainerFault.{ContainerFault}
 use Rattle.container_model.specs.declared.record.Frame.{Frame}
