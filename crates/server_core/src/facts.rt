@@ -8,9 +8,9 @@ ghost use Rattle.wire_msgs.specs.declared.answer.Answer.TheVariants as answer;
 ghost use Rattle.wire_msgs.specs.declared.message.Message.TheVariants as message;
 ghost use Rattle.object_state.specs.Persists.{may_write};
 
+use object_state::{Menus, Op, StateFault, States};
 use server_model::activation_view::ActivationView;
 use server_model::counted::Counted;
-use object_state::{Menus, Op, StateFault, States};
 use std::alloc::{AllocError, Global};
 use std::marker::Model;
 use storage_tree::class_id::ClassId;
