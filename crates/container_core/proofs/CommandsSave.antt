@@ -98,14 +98,14 @@ module _ (r : Record) (f : ℕ) (a : Frame) where
   pub saved_is : (i : ℕ) (b new : Frame) (os : List Object) (fs : List Frame) (actions more : List Action) (answer : Answer)
       → IsNth f r.frames i → a ≡ get_or r.frames i a → b ≡ get_or r.frames i b → new ≡ saving_frame b → os ≡ map (asked_object f (Save (a.k + 1))) r.objects
       → fs ≡ settled_frames 1 os (set r.frames i new) → actions ≡ sends (asked_all f (Save (a.k + 1)) r.objects) → more ≡ actions ++ settled_actions 1 os (set r.frames i new) → answer ≡ acts more
-      → ◌≡◌ {A = Took} (save_made r f a) (record { rec = record r { frames = fs; objects = os }; answer = answer })
+      → ◌≡◌ {A = Took} (save_made r f a) (record { rec = record r { frames = fs; objects = os }; answer = answer; counted = [] })
   saved_is i b new os fs actions more answer at e g n o settled sent all told =
       let made : ◌≡◌ {A = Record} (record r { frames = set r.frames i new; objects = os }) (saving r f a) = saving_is i b new os at e g n o in
       let done : ◌≡◌ {A = Record} (settle (saving r f a)) (record r { frames = fs; objects = os }) =
       ap settle (sym made) ∙ ap {A = List Frame} (λ x. record r { frames = x; objects = os }) (sym settled) in
       let asked : more ≡ sends (asked_all f (Save (a.k + 1)) r.objects) ++ settle_actions (saving r f a) = all ∙ (ap (λ t. t ++ settled_actions 1 os (set r.frames i new)) sent ∙ ap (λ t. sends (asked_all f (Save (a.k + 1)) r.objects) ++ settle_actions t) made) in
       let said : acts (sends (asked_all f (Save (a.k + 1)) r.objects) ++ settle_actions (saving r f a)) ≡ answer = ap acts (sym asked) ∙ sym told in
-      λ t. record { rec = done t; answer = said t }
+      λ t. record { rec = done t; answer = said t; counted = [] }
 
 -- the command's answer
 unspent : (r : Record) (f : ℕ) (a : Frame) (t : Took) → a.k < r.numbers → all_have_numbers f r.numbers r.objects ≡ true → save_made r f a ≡ t → save_numbered r f a ≡ Ok t

@@ -21,8 +21,8 @@ use stream_io::write::write_file;
 /// More than any file that is written has of anything.
 const MANY: usize = 0x10_0000;
 
-/// The content that a save counts.
-fn kept(object: &Object) -> &Stored
+/// The content that a save counts: what was answered in it, or the work content where none was.
+pub fn kept(object: &Object) -> &Stored
     ensures { result.now ≡ kept object.now }
 {
     match &object.link {
@@ -47,7 +47,9 @@ fn part_of(alloc: Global, object: &Object) -> Result<Part, AllocError>
     })
 }
 
-/// The objects of a frame, in order.
+/// The document of a frame: its objects in order, each with the content that a save counts.
+///
+/// Refused for want of memory alone.
 pub fn parts_in(alloc: Global, f: u32, objects: &[Object]) -> Result<Vec<Part>, AllocError>
     ensures { IfOk result (λ v. v.items ≡ parts_in f objects.now) }
 {
@@ -107,7 +109,7 @@ fn fits_file(streams: &[NamedStream]) -> bool
     sectors <= 127
 }
 
-/// Whether a file can hold the document of a frame.
+/// Whether a file can hold the document of a frame. It takes no memory.
 pub fn fits(f: u32, objects: &[Object]) -> bool
     ensures { result ≡ is_ok (writable (document_tree (parts_in f objects.now))) }
 {
@@ -152,7 +154,9 @@ fn document_tree(alloc: Global, parts: &[Part]) -> Result<Tree, AllocError>
     }
 }
 
-/// The file of a document.
+/// The file of a document, which denotes its tree (MS-CFB 2).
+///
+/// Refused for want of memory, and where no file holds the document.
 pub fn file_of(alloc: Global, parts: &[Part]) -> Result<Vec<u8>, AllocError>
     ensures { IfOk result (λ v. ∥ Denotes v.items (document_tree parts.now) ∥₁) }
 {

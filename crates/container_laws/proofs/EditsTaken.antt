@@ -1,5 +1,5 @@
 -- An edit that is taken.
-use Rattle.std.proofs.Common.{◌≡◌, ℕ, Bool, true, false, List, length, Option, Some, None, Result, Ok, Err, refl, sym, ap, ◌∙◌, nat_lt, if◌then◌else◌}
+use Rattle.std.proofs.Common.{◌≡◌, ℕ, Bool, true, false, List, [], length, Option, Some, None, Result, Ok, Err, refl, sym, ap, ◌∙◌, nat_lt, if◌then◌else◌}
 use Rattle.wire_msgs.specs.declared.operation.Operation.TheVariants.{Edit}
 use Rattle.container_model.specs.declared.fault.ContainerFault.{ContainerFault}
 use Rattle.container_model.specs.declared.fault.ContainerFault.TheVariants.{NumbersSpent, WrongState}
@@ -13,6 +13,7 @@ abbrev pub edited : Record → Object → Link → List ℕ → Took
 edited r o l bytes = record {
   rec = with_object r (record o { link = Some (ask l (Edit bytes)).link });
   answer = acts (sends (ask l (Edit bytes)).sent);
+  counted = [];
 }
 
 unless_taken : (r : Record) (o : Object) (bytes : List ℕ) (a b : Bool) (t : Took) → edit_unless r o bytes (if a then Some WrongState else if b then None else Some NumbersSpent) ≡ Ok t → edit_made r o bytes ≡ t

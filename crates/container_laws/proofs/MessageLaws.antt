@@ -131,7 +131,7 @@ ended_object inc o (Some l) h = rw h refl
 
 reap_objects : (r : Record) (inc : ℕ) (t : Took) → on_reap r inc ≡ Ok t → t.rec.objects ≡ map (λ (x : Object). reaped_object inc x x.link) r.objects
 reap_objects r inc t e =
-    let b = taken_if (is_alive r inc) (Ok (record { rec = settle (reaped r inc); answer = record quiet_answer { actions = settle_actions (reaped r inc) } })) NoSuch t e in
+    let b = taken_if (is_alive r inc) (Ok (record { rec = settle (reaped r inc); answer = record quiet_answer { actions = settle_actions (reaped r inc) }; counted = [] })) NoSuch t e in
     sym (ap (λ (y : Result Took ContainerFault). elim y [ Ok z ↦ z.rec.objects | Err fault ↦ [] ]) b.1)
 
 pub reaps-keep_others : ReapsKeepOthers

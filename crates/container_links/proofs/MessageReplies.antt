@@ -92,7 +92,7 @@ module _ {A : Type 0} (result : Result A ContainerFault) (n : ℕ) (answer : Ans
   refused_save content a k e h =
       refused_reply (saved_link content (done_link l l.s (both.step l.states o))) (rw (known, a, e) refl) h
 
-went_found : (r : Record) (inc act : ℕ) (o : Object) (R : Result Replied ContainerFault) (w : Went) → went R ≡ Ok w → reply_taken r inc act o R ≡ Ok (record { rec = settle (record r { objects = put (is_linked inc act) (record o { link = w.link }) r.objects }); answer = record quiet_answer { refused = w.refused; actions = w.actions ++ settled_actions 1 (put (is_linked inc act) (record o { link = w.link }) r.objects) r.frames } })
+went_found : (r : Record) (inc act : ℕ) (o : Object) (R : Result Replied ContainerFault) (w : Went) → went R ≡ Ok w → reply_taken r inc act o R ≡ Ok (record { rec = settle (record r { objects = put (is_linked inc act) (record o { link = w.link }) r.objects }); answer = record quiet_answer { refused = w.refused; actions = w.actions ++ settled_actions 1 (put (is_linked inc act) (record o { link = w.link }) r.objects) r.frames }; counted = [] })
 went_found r inc act o (Err fault) w e = cc
 went_found r inc act o (Ok x) w e =
     let m : next_link x.link ≡ w.link = ap link_in e in
@@ -101,7 +101,7 @@ went_found r inc act o (Ok x) w e =
     rw (m, s, y) refl
 
 -- what a reply makes of the record
-pub reply_made : (r : Record) (inc act n : ℕ) (answer : Answer) (o next : Object) (w : Went) (objects : List Object) (frames : List Frame) (actions : List Action) (told : told_answer.Answer) → find (is_linked inc act) r.objects ≡ Some o → went (reply_link n answer o.link) ≡ Ok w → next ≡ record o { link = w.link } → put (is_linked inc act) next r.objects ≡ objects → frames ≡ settled_frames 1 objects r.frames → actions ≡ w.actions ++ settled_actions 1 objects r.frames → told ≡ record quiet_answer { refused = w.refused; actions = actions } → reply_found r inc act n answer (find (is_linked inc act) r.objects) ≡ Ok (record { rec = record r { frames = frames; objects = objects }; answer = told })
+pub reply_made : (r : Record) (inc act n : ℕ) (answer : Answer) (o next : Object) (w : Went) (objects : List Object) (frames : List Frame) (actions : List Action) (told : told_answer.Answer) → find (is_linked inc act) r.objects ≡ Some o → went (reply_link n answer o.link) ≡ Ok w → next ≡ record o { link = w.link } → put (is_linked inc act) next r.objects ≡ objects → frames ≡ settled_frames 1 objects r.frames → actions ≡ w.actions ++ settled_actions 1 objects r.frames → told ≡ record quiet_answer { refused = w.refused; actions = actions } → reply_found r inc act n answer (find (is_linked inc act) r.objects) ≡ Ok (record { rec = record r { frames = frames; objects = objects }; answer = told; counted = [] })
 reply_made r inc act n answer o next w objects frames actions told found e same puts settled asked answered =
     let p : put (is_linked inc act) (record o { link = w.link }) r.objects ≡ objects = rw (← same) puts in
     rw (found, went_found r inc act o (reply_link n answer o.link) w e, p, answered, asked, settled) refl
