@@ -1,5 +1,5 @@
 -- An object that is asked for an edit, in its container.
-use Rattle.std.proofs.Common.{◌≡◌, ◌<◌, ℕ, List, [], length, Option, Some, None, Result, Ok, Err, get_or, set, refl, sym, ◌∙◌, ap, subst, arith, IfSome, slice_get, slice_set}
+use Rattle.std.proofs.Common.{◌≡◌, ◌<◌, ℕ, List, [], length, Some, Ok, get_or, set, refl, sym, ◌∙◌, ap, subst, IfSome, slice_get}
 use Rattle.std.proofs.lemmas.Option.{slice_get_read}
 use Rattle.std.proofs.lemmas.List.Elements.{All-set}
 use Rattle.wire_msgs.specs.Found.{IsPlace, put}
@@ -10,7 +10,7 @@ use Rattle.container_model.specs.declared.record.Frame.{Frame}
 use Rattle.container_model.specs.declared.record.Object.{Object}
 use Rattle.container_model.specs.Commands.{edit_linked}
 use Rattle.container_model.specs.Numbered.{IsObjectAt}
-use Rattle.container_model.specs.Record.{Record, Refuses, Took, acts, is_object, with_object}
+use Rattle.container_model.specs.Record.{Record, Refuses, acts, is_object, with_object}
 use Rattle.container_model.specs.Room.{HasRoom, IsSound}
 
 -- what holds of the object that stands there

@@ -1,15 +1,14 @@
 -- A frame that begins a save.
-use Rattle.std.proofs.Common.{◌≡◌, ◌≢◌, ◌≤◌, ◌<◌, ◌+◌, ◌==◌, ◌++◌, ℕ, zero, suc, Bool, true, false, List, [], ◌∷◌, length, map, Option, Some, None, Result, Ok, inl, inr, get_or, set, refl, sym, ◌∙◌, ap, subst, arith, IfSome, slice_get, if◌then◌else◌, All, nat_le}
+use Rattle.std.proofs.Common.{◌≡◌, ◌≢◌, ◌≤◌, ◌<◌, ◌+◌, ◌==◌, ◌++◌, ℕ, zero, suc, Bool, true, false, List, [], ◌∷◌, length, map, Some, Ok, inl, inr, get_or, set, refl, sym, ◌∙◌, ap, subst, arith, IfSome, slice_get, if◌then◌else◌, All, nat_le}
 use Rattle.std.proofs.lemmas.Bool.Decides.{eqb_tells}
 use Rattle.std.proofs.lemmas.List.{get_or_default, length-set}
 use Rattle.std.proofs.lemmas.List.Elements.{All-cons, All-head, All-nil, All-set, All-tail}
-use Rattle.std.proofs.lemmas.Option.{get_or_from_slice_get, slice_get-get_or, slice_get_within}
+use Rattle.std.proofs.lemmas.Option.{slice_get-get_or}
 use Rattle.wire_msgs.specs.Found.{nth, set_nth}
 use Rattle.wire_msgs.specs.declared.operation.Operation.{Operation}
 use Rattle.wire_msgs.specs.declared.operation.Operation.TheVariants.{Save}
 use Rattle.container_model.specs.declared.answer.Action.{Action}
 use Rattle.container_model.specs.declared.answer.Answer.{Answer}
-use Rattle.container_model.specs.declared.fault.ContainerFault.{ContainerFault}
 use Rattle.container_model.specs.declared.record.Frame.{Frame}
 use Rattle.container_model.specs.declared.record.Object.{Object}
 use Rattle.container_model.specs.Commands.{all_have_numbers, link_has_numbers, save_made, save_numbered, saving, saving_frame}
@@ -18,7 +17,6 @@ use Rattle.container_model.specs.Record.{Record, Took, acts, asked_all, asked_li
 use Rattle.container_model.specs.Room.{HasRoom, IfLinked, IsRoomy, IsSound, debt_in}
 use Rattle.container_model.specs.Saves.{settle, settle_actions, settled_actions, settled_frames}
 use Rattle.container_core.proofs.CommandsRoom.{asked_room, debt_in_few, less_linked}
-use Rattle.container_core.proofs.CommitsDone.{frame_here}
 use Rattle.container_core.proofs.CommitsRoom.{nth_set_other}
 use Rattle.container_core.proofs.MessageSound.{settled_sound}
 

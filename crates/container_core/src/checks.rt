@@ -1,7 +1,6 @@
 //! What commands are refused for.
 
 ghost use Rattle.std.specs.Prelude.{◌&&◌, ◌+◌, ◌≡◌, ◌≤◌, ◌||◌, All, length};
-ghost use Rattle.std.specs.Str.{bytes_eq};
 ghost use Rattle.container_links.specs.Asking.{HasNumber};
 ghost use Rattle.container_model.specs.Commands.{all_have_numbers, any_busy, is_empty_area, is_known_class, is_name, is_named, is_size, link_has_numbers};
 ghost use Rattle.container_model.specs.Record.{count_objects, has_numbers, is_asked, is_busy, is_claim, is_doubtful, is_moving, is_saving};

@@ -1,7 +1,7 @@
 //! What a container does with a command of a user.
 
-ghost use Rattle.std.specs.Prelude.{◌++◌, ◌+◌, ◌<◌, ◌≡◌, ◌≤◌, IfErr, IfOk, Ok, OnErr, OnOk, [], ◌∷◌, All, List, length, map, vec_capacity, vec_len, ℕ};
-ghost use Rattle.container_links.specs.Asking.{HasNumber, IsAsking, prepared};
+ghost use Rattle.std.specs.Prelude.{◌+◌, ◌<◌, ◌≡◌, ◌≤◌, IfErr, IfOk, Ok, OnErr, OnOk, [], ◌∷◌, All, List, length};
+ghost use Rattle.container_links.specs.Asking.{HasNumber, IsAsking};
 ghost use Rattle.container_model.specs.Record.{Record, Refuses, acts, asked_link, asked_sent, counts_none, sends, with_object};
 ghost use Rattle.container_model.specs.Room.{HasRoom, IfLinked};
 ghost use Rattle.container_model.specs.Commands.{begun_link, edit_fault, edit_linked, first_operation, kind_of, new_object, saving_frame, user_type};

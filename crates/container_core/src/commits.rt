@@ -1,11 +1,9 @@
 //! Commits that are done.
 
-ghost use Rattle.std.specs.Prelude.{◌≡◌, All, IfOk, length, map, vec_len, ℕ};
+ghost use Rattle.std.specs.Prelude.{◌≡◌, All, IfOk, length, map, vec_len};
 ghost use Rattle.container_links.specs.Asking.{HasNumber, prepared};
 ghost use Rattle.container_model.specs.Saves.{committed_frame, completed, completion, counted_object, done_entry, is_committing, part_of, parts_in};
-ghost use Rattle.container_model.specs.Record.{asked_object};
 ghost use Rattle.container_model.specs.declared.record.Frame as declared;
-ghost use Rattle.wire_msgs.specs.declared.operation.Operation as declared_operation;
 
 use crate::container::ContainerCore;
 use crate::lookups::place;

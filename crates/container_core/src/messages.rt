@@ -2,7 +2,7 @@
 
 ghost use Rattle.std.specs.Prelude.{◌≡◌, ◌+◌, ◌≤◌, IfErr, IfOk, OnErr, Ok, length, map, vec_len, vec_capacity};
 ghost use Rattle.wire_msgs.specs.Found.{find, IsPlace};
-ghost use Rattle.container_model.specs.Record.{Record, Refuses, is_linked, quiet_answer};
+ghost use Rattle.container_model.specs.Record.{Refuses, is_linked, quiet_answer};
 ghost use Rattle.container_model.specs.Messages.{on_message, on_reap, on_reply, reaped_object, reply_found, reply_link};
 ghost use Rattle.container_model.specs.Replies.{is_of, went};
 ghost use Rattle.container_model.specs.Room.{IfLinked, IsRoomy};

@@ -1,6 +1,6 @@
 //! The document of a frame: its objects, each with the content that a save counts, and the file that holds them.
 
-ghost use Rattle.std.specs.Prelude.{[], ◌∷◌, ◌≡◌, ◌≤◌, IfOk, Ok, OnOk, is_ok, length, min};
+ghost use Rattle.std.specs.Prelude.{[], ◌∷◌, ◌≡◌, IfOk, Ok, OnOk, is_ok, min};
 ghost use Rattle.container_model.specs.Saves.{children_of, document_tree, kept, part_of, parts_in, root_class};
 ghost use Rattle.storage_tree.specs.Kept.{kept as kept_tree, put};
 ghost use Rattle.storage_tree.specs.Streams.{AreInOrder};

@@ -1,6 +1,6 @@
 //! What an answer makes of an object's link, and what is called next.
 
-ghost use Rattle.std.specs.Prelude.{◌≡◌, ◌+◌, ◌≤◌, [], ◌∷◌, IfErr, IfOk, OnErr, OnOk, Ok, Some, None, length, vec_len, vec_capacity};
+ghost use Rattle.std.specs.Prelude.{◌≡◌, ◌+◌, ◌≤◌, IfErr, IfOk, OnErr, Ok, Some, None, length, vec_len, vec_capacity};
 ghost use Rattle.object_state.specs.Both as both;
 ghost use Rattle.container_model.specs.Record.{Refuses, sends};
 ghost use Rattle.container_model.specs.Messages.{done_link, lost, next_at, noted, reply_link, saved_link};
@@ -9,7 +9,7 @@ ghost use Rattle.container_model.specs.Room.{IfLinked, IsRoomy};
 
 use container_model::answer::Action;
 use container_model::fault::ContainerFault;
-use container_model::record::{Link, Object};
+use container_model::record::Link;
 use object_state::Op;
 use std::alloc::{AllocError, Global};
 use storage_tree::stored::Stored;

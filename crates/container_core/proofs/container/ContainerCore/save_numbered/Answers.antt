@@ -1,4 +1,4 @@
-use Rattle.std.proofs.Common.{◌≡◌, ◌≤◌, ◌<◌, ◌+◌, ℕ, List, true, map, refl, rules, arith, sym, ◌∙◌, ap, subst, set, ◌++◌}
+use Rattle.std.proofs.Common.{◌≡◌, ◌+◌, ℕ, List, true, map, arith, sym, ◌∙◌, ap, subst, set, ◌++◌}
 use Rattle.container_model.specs.Saves.{settled_actions}
 use Rattle.wire_msgs.specs.declared.operation.Operation.TheVariants.{Save}
 use Rattle.container_links.specs.Asking.{IsAsking}
