@@ -1,8 +1,6 @@
 //! What an activation does with a call.
 
-ghost use Rattle.std.specs.Prelude.{◌≡◌, ◌+◌, Some, None, IfErr, IfOk, OnErr, option_map};
-ghost use Rattle.object_state.specs.Both as both;
-ghost use Rattle.wire_msgs.specs.Operations.{op_of};
+ghost use Rattle.std.specs.Prelude.{◌≡◌, ◌+◌, Some, None, IfErr, IfOk, OnErr};
 ghost use Rattle.wire_msgs.specs.declared.operation.Operation.TheVariants as op;
 ghost use Rattle.server_model.specs.Opened.{Acts, Writes, does_now, stored_open, write_open};
 ghost use Rattle.server_model.specs.Server.{Refuses, known_call, next_call, refuses};

@@ -1,6 +1,6 @@
 //! What a server does with calls.
 
-ghost use Rattle.std.specs.Prelude.{◌≡◌, ◌++◌, ◌∷◌, [], ℕ, Some, None, Option, true, false, IfErr, IfOk, OnErr, Ok, option_map, is_some, vec_capacity, vec_len, ◌<◌};
+ghost use Rattle.std.specs.Prelude.{◌≡◌, ◌++◌, ◌∷◌, [], Some, None, Option, true, IfErr, IfOk, OnErr, Ok, option_map, is_some, vec_capacity, vec_len, ◌<◌};
 ghost use Rattle.wire_msgs.specs.Found.{IsPlace, find};
 ghost use Rattle.embed_core.specs.Kinds.{Kind, kind_of};
 ghost use Rattle.server_model.specs.Server.{Refuses, Takes, after_begun, begins, begun_class, begun_content, begun_states, called, answers, fresh, offered, is_act, on_call, unknown_call, unless_wanted, wanted, wanted_unknown};

@@ -2,7 +2,6 @@
 
 ghost use Rattle.std.specs.Prelude.{◌≡◌, ◌+◌, ◌<◌, ◌^◌, Some, None, IfOk, option_map, IsTrue, ◌↔◌};
 ghost use Rattle.object_state.specs.Both as both;
-ghost use Rattle.wire_msgs.specs.Operations.{op_of};
 ghost use Rattle.server_model.specs.Server.{fresh};
 ghost use Rattle.wire_msgs.specs.declared.answer.Answer.TheVariants as answer;
 ghost use Rattle.wire_msgs.specs.declared.message.Message.TheVariants as message;

@@ -4,7 +4,7 @@ ghost use Rattle.std.specs.Prelude.{◌≡◌, Some, None, [], IfErr, IfOk, Matc
 ghost use Rattle.wire_msgs.specs.Found.{IsPlace, find};
 ghost use Rattle.embed_core.specs.Kinds.{kind_of};
 ghost use Rattle.embed_core.specs.Objects as object;
-ghost use Rattle.server_model.specs.Server.{Server, begun_content, is_act, last_reply, view_of};
+ghost use Rattle.server_model.specs.Server.{begun_content, is_act, last_reply, view_of};
 ghost use Rattle.server_core.specs.View.{seen, seen_activation};
 
 use crate::facts::Facts;
