@@ -15,7 +15,7 @@ use Rattle.cfb_directory.specs.Entries.{first_of, size_of}
 use Rattle.cfb_directory.specs.declared.entries.Entry.{Entry}
 use Rattle.storage_tree.specs.Kept.{Kept, put}
 use Rattle.stream_io.specs.Reads.{IsPut, IsStream, fat_after, mini_after, table_for}
-use Rattle.stream_io.proofs.Lists.{Contains-cons_cases}
+use Rattle.file_model.proofs.Lists.{Contains-cons_cases}
 use Rattle.stream_io.proofs.ReadingLists.{contains-none}
 
 -- past the directory all bytes are zero

@@ -18,8 +18,8 @@ use Rattle.storage_tree.specs.Tree.{Children}
 use Rattle.stream_io.specs.Reads.{AreRead, AreSorted, MayRefuseNames, key_at}
 use Rattle.stream_io.specs.declared.fault.ReadFault.{ReadFault}
 use Rattle.stream_io.specs.declared.fault.ReadFault.TheVariants as told
-use Rattle.stream_io.proofs.Lists.{sorted_unique}
-use Rattle.stream_io.proofs.Unique.{linked_unique}
+use Rattle.file_model.proofs.Lists.{sorted_unique}
+use Rattle.file_model.proofs.Unique.{linked_unique}
 use Rattle.stream_io.proofs.ReadingChildren.{each_read}
 use Rattle.stream_io.proofs.ReadingEntries.{stream_not_refused}
 use Rattle.stream_io.proofs.ReadingLists.{all-from}

@@ -25,7 +25,7 @@ use Rattle.stream_io.proofs.ReadingEntries.{kind_inside}
 use Rattle.stream_io.proofs.ReadingFile.{IsOpened, IsReady}
 use Rattle.stream_io.proofs.ReadingLists.{all-from, distinct-head}
 use Rattle.stream_io.proofs.ReadingStreams.{held_ids, held_read}
-use Rattle.stream_io.proofs.Unique.{chain_unique, layout_unique}
+use Rattle.file_model.proofs.Unique.{chain_unique, layout_unique}
 
 -- the root of loaded entries is marked
 pub root_marked : (e : EntriesValue) (count : ℕ) → e.used ≡ set_all (replicate count false) (0 ∷ []) → get_or e.used 0 true ≡ true

@@ -3,7 +3,6 @@
 
 mod entries;
 pub mod fault;
-pub mod law;
 pub mod read;
 #[cfg(test)]
 mod read_tests;

@@ -7,9 +7,9 @@ use Rattle.cfb_chain.specs.Bytes.{joined}
 use Rattle.cfb_chain.specs.Chain.{Store, IsChainOf}
 use Rattle.storage_tree.specs.Tree.{Tree, Children, tree, none, stream, storage}
 use Rattle.file_model.specs.Need.{pieces, over_streams, over_streams_of, short_pieces, long_pieces}
-use Rattle.stream_io.specs.Image.{start}
-use Rattle.stream_io.specs.Directory.{short_streams, short_streams_of, long_streams, long_streams_of, pieces_of}
-use Rattle.stream_io.proofs.ContentsPieces.{sum-cons, IsWidth, IsStoreFrom, AreLeft, left-step, left-chain, left-content}
+use Rattle.file_model.specs.Image.{start}
+use Rattle.file_model.specs.Directory.{short_streams, short_streams_of, long_streams, long_streams_of, pieces_of}
+use Rattle.file_model.proofs.ContentsPieces.{sum-cons, IsWidth, IsStoreFrom, AreLeft, left-step, left-chain, left-content}
 
 -- the streams that are left begin at this piece
 pub record AreNext (w base : ℕ) (table bytes : List ℕ) (count at : ℕ) (bs : List (List ℕ)) : Type 0 where

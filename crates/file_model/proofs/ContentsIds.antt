@@ -10,8 +10,8 @@ use Rattle.cfb_directory.specs.SearchTree.{IsSearchTree, empty, node, middle}
 use Rattle.cfb_directory.proofs.Trees.{Reached}
 use Rattle.storage_tree.specs.Tree.{Children, none, stream, storage}
 use Rattle.file_model.specs.Need.{entries, entries_of}
-use Rattle.stream_io.specs.Family.{IsLink}
-use Rattle.stream_io.specs.Directory.{Siblings, AreBalanced, ids_from, linked}
+use Rattle.file_model.specs.Directory.{IsLink}
+use Rattle.file_model.specs.Directory.{Siblings, AreBalanced, ids_from, linked}
 
 pub ids-from : (id : ℕ) (cs : Children) (k : ℕ) → k < length (ids_from id cs) → id ≤ get_or (ids_from id cs) k 0
 ids-from id none k l = absurd (omega arith)

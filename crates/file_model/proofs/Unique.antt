@@ -10,7 +10,7 @@ use Rattle.cfb_directory.specs.Names.{key, key_cmp}
 use Rattle.cfb_directory.specs.Entries.{AreLinked, nobody, around, entry_at, left, right, first_of, size_of, child, name_of}
 use Rattle.storage_tree.specs.Tree.{Tree, Children, tree, none, stream, storage}
 use Rattle.file_model.specs.Denotes.{Layout, IsLaidOut, directory_of, root_of, sectors, Denotes, Holds, HoldsEach, HoldsBytes, AreChildren, Used, entry, store_for}
-use Rattle.stream_io.proofs.Lists.{sorted_unique}
+use Rattle.file_model.proofs.Lists.{sorted_unique}
 
 -- one chain from a start
 pub leads_unique : (s : Store) (a b : ℕ) (ns ms : List ℕ) → a ≡ b → Leads s.next a ns END_OF_CHAIN → Leads s.next b ms END_OF_CHAIN

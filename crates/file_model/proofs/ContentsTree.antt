@@ -12,15 +12,15 @@ use Rattle.cfb_directory.proofs.Trees.{Reached, tree_reaches}
 use Rattle.storage_tree.specs.Tree.{Tree, Children, tree, none, stream, storage, keys}
 use Rattle.storage_tree.specs.Whole.{AreTrees, IsTree}
 use Rattle.file_model.specs.Need.{pieces, entries, entries_of, over_streams_of, mini_sectors, long_sectors, short_pieces, long_pieces}
-use Rattle.stream_io.specs.Image.{start}
+use Rattle.file_model.specs.Image.{start}
 use Rattle.file_model.specs.Denotes.{Layout, directory_of, minis, sectors, entry, store_for, HoldsBytes, AreChildren, Holds, HoldsEach, Used, nothing, both, taken, within}
-use Rattle.stream_io.specs.Directory.{Siblings, AreBalanced, ids_from, linked, first_of_stream, child_of, class_in, state_in, stream_says, short_streams, short_streams_of, long_streams, long_streams_of}
-use Rattle.stream_io.proofs.Tables.{range-append}
-use Rattle.stream_io.proofs.ContentsKeys.{keys-ordered}
-use Rattle.stream_io.proofs.ContentsIds.{ids-below, ids-increase, count-le, reached-same}
-use Rattle.stream_io.proofs.ContentsRead.{Says, SaidBelow, AreSaid}
-use Rattle.stream_io.proofs.ContentsPieces.{IsStoreFrom, width-64, width-512}
-use Rattle.stream_io.proofs.ContentsNext.{AreNext, next-chain, next-content, next-list, minis-past, sectors-past, minis-within, sectors-within, minis-behind, sectors-behind, short-is, short-none, long-is, long-none, shorts-with, longs-with}
+use Rattle.file_model.specs.Directory.{Siblings, AreBalanced, ids_from, linked, first_of_stream, child_of, class_in, state_in, stream_says, short_streams, short_streams_of, long_streams, long_streams_of}
+use Rattle.file_model.proofs.Tables.{range-append}
+use Rattle.file_model.proofs.ContentsKeys.{keys-ordered}
+use Rattle.file_model.proofs.ContentsIds.{ids-below, ids-increase, count-le, reached-same}
+use Rattle.file_model.proofs.ContentsRead.{Says, SaidBelow, AreSaid}
+use Rattle.file_model.proofs.ContentsPieces.{IsStoreFrom, width-64, width-512}
+use Rattle.file_model.proofs.ContentsNext.{AreNext, next-chain, next-content, next-list, minis-past, sectors-past, minis-within, sectors-within, minis-behind, sectors-behind, short-is, short-none, long-is, long-none, shorts-with, longs-with}
 
 module _ (file : List ℕ) (l : Layout) (links : ℕ → Siblings) (balanced : AreBalanced links) (many : ℕ) (inside : 128 * many ≤ length (directory_of file l)) (few : many ≤ NO_STREAM) where
   abbrev d : List ℕ

@@ -12,10 +12,10 @@ use Rattle.cfb_chain.proofs.Written.{written_is_header, written_header, length_w
 use Rattle.cfb_directory.specs.Entries.{entry_at, first_of, size_of}
 use Rattle.file_model.specs.Need.{pieces}
 use Rattle.file_model.specs.Denotes.{Layout, IsLaidOut, directory_of, root_of, sectors, minis}
-use Rattle.stream_io.specs.Image.{Parts, run, runs, start, table_bytes, image, directory_count, mini_fat_need, mini_stream_count, mini_stream_start}
-use Rattle.stream_io.specs.Placed.{Fits, IsPlaced, layout_of}
-use Rattle.stream_io.proofs.Tables.{IsWord, IsTabled, length-table_bytes, table_number, length-run, length-runs, words_in_runs, words_in_range, present_in_range, chain_in_table, chain_of_in_table, range-append, range_distinct}
-use Rattle.stream_io.proofs.PlacedParts.{IsJoined, joined_parts}
+use Rattle.file_model.specs.Image.{Parts, run, runs, start, table_bytes, image, directory_count, mini_fat_need, mini_stream_count, mini_stream_start}
+use Rattle.file_model.specs.Placed.{Fits, IsPlaced, layout_of}
+use Rattle.file_model.proofs.Tables.{IsWord, IsTabled, length-table_bytes, table_number, length-run, length-runs, words_in_runs, words_in_range, present_in_range, chain_in_table, chain_of_in_table, range-append, range_distinct}
+use Rattle.file_model.proofs.PlacedParts.{IsJoined, joined_parts}
 
 -- the FAT of the parts, before its free entries
 abbrev pub fat_table : (f d m s : ℕ) → List ℕ

@@ -9,17 +9,17 @@ use Rattle.cfb_directory.specs.declared.write.EntryFields.{EntryFields}
 use Rattle.cfb_directory.proofs.Fields.{length-entry_bytes, length-free_entry_bytes}
 use Rattle.storage_tree.specs.Tree.{Tree}
 use Rattle.file_model.specs.Need.{pieces, entries, mini_sectors, long_sectors, directory_sectors, mini_fat_sectors, mini_stream_sectors}
-use Rattle.stream_io.specs.Image.{Parts, image, start, runs, directory_count, mini_fat_need, mini_stream_count, mini_stream_start}
-use Rattle.stream_io.specs.Placed.{Fits, IsPlaced, layout_of}
+use Rattle.file_model.specs.Image.{Parts, image, start, runs, directory_count, mini_fat_need, mini_stream_count, mini_stream_start}
+use Rattle.file_model.specs.Placed.{Fits, IsPlaced, layout_of}
 use Rattle.file_model.specs.Denotes.{Layout, directory_of, minis, sectors, entry, Denotes}
-use Rattle.stream_io.specs.Directory.{Siblings, AreBalanced, entries_below, root_says, long_start, short_streams, long_streams, pieces_of, whole_pieces, parts_of, IsCovered, ArePlaced, PlacedDenotes, ImageDenotes, balanced}
-use Rattle.stream_io.proofs.Placed.{placed}
-use Rattle.stream_io.proofs.ContentsBalanced.{are-balanced}
-use Rattle.stream_io.proofs.ContentsLists.{distinct_range}
-use Rattle.stream_io.proofs.ContentsPieces.{IsStoreFrom, width-64, width-512, length-padded, length-whole}
-use Rattle.stream_io.proofs.ContentsNext.{AreNext, shorts-sum, longs-sum}
-use Rattle.stream_io.proofs.ContentsRead.{FieldsFit, Says, Begins, begins-here, begins-behind, begins-front, length-below, said-below, SaidBelow, AreWithin, child-fits, class-spelled, state-spelled, start-fits}
-use Rattle.stream_io.proofs.ContentsTree.{TreeHeld, tree-held}
+use Rattle.file_model.specs.Directory.{Siblings, AreBalanced, entries_below, root_says, long_start, short_streams, long_streams, pieces_of, whole_pieces, parts_of, IsCovered, ArePlaced, PlacedDenotes, ImageDenotes, balanced}
+use Rattle.file_model.proofs.Placed.{placed}
+use Rattle.file_model.proofs.ContentsBalanced.{are-balanced}
+use Rattle.file_model.proofs.ContentsLists.{distinct_range}
+use Rattle.file_model.proofs.ContentsPieces.{IsStoreFrom, width-64, width-512, length-padded, length-whole}
+use Rattle.file_model.proofs.ContentsNext.{AreNext, shorts-sum, longs-sum}
+use Rattle.file_model.proofs.ContentsRead.{FieldsFit, Says, Begins, begins-here, begins-behind, begins-front, length-below, said-below, SaidBelow, AreWithin, child-fits, class-spelled, state-spelled, start-fits}
+use Rattle.file_model.proofs.ContentsTree.{TreeHeld, tree-held}
 
 length-free : (n : ℕ) → length (concat (replicate n free_entry_bytes)) ≡ 128 * n
 length-free zero = refl

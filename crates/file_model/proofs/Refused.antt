@@ -3,7 +3,7 @@ use Rattle.std.proofs.Common.{◌≡◌, ◌≤◌, ◌<◌, ◌+◌, ◌*◌, �
 use Rattle.std.proofs.lemmas.Bool.{leb-false, lt-ltb, le-ltb, or_parts}
 use Rattle.std.specs.Prelude.{if◌then◌else◌}
 use Rattle.storage_tree.specs.Tree.{Tree, Children, tree, none, stream, storage}
-use Rattle.stream_io.specs.Directory.{long_streams, long_streams_of}
+use Rattle.file_model.specs.Directory.{long_streams, long_streams_of}
 use Rattle.file_model.specs.Need.{pieces, entries, over_streams_of, long_pieces, mini_sectors, data_sectors, fat_sectors}
 use Rattle.file_model.specs.Refusals.{has_long, has_long_in, has_storage, has_storage_in, writable}
 use Rattle.file_model.specs.declared.fault.WriteFault.TheVariants.{TooBig, WrongKind}

@@ -5,7 +5,7 @@ use Rattle.std.proofs.lemmas.List.{get_or-append-add}
 use Rattle.std.proofs.lemmas.Bool.{cases_lt, cases_order, lt-ltb, le-ltb}
 use Rattle.cfb_directory.specs.Entries.{NO_STREAM}
 use Rattle.cfb_directory.specs.SearchTree.{IsSearchTree, empty, node, middle}
-use Rattle.stream_io.specs.Directory.{AreBalanced, top_between, lefts, rights, balanced}
+use Rattle.file_model.specs.Directory.{AreBalanced, top_between, lefts, rights, balanced}
 
 lefts-some : (depth lo hi : ℕ) → lo < hi → lefts (suc depth) lo hi ≡ lefts depth lo (middle lo hi) ++ top_between lo (middle lo hi) ∷ lefts depth (middle lo hi + 1) hi
 lefts-some depth lo hi l = ap (λ b. cond b (lefts depth lo (middle lo hi) ++ top_between lo (middle lo hi) ∷ lefts depth (middle lo hi + 1) hi) []) (lt-ltb lo hi l)

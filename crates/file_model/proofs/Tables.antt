@@ -12,7 +12,7 @@ use Rattle.std.specs.List.{concat, flat_map, range_with_len, sum, All}
 use Rattle.std.specs.Int.{w32, to_le_bytes}
 use Rattle.cfb_chain.specs.Bytes.{u32_at}
 use Rattle.cfb_chain.specs.Chain.{Store, Leads, IsPresent, IsChain, IsChainOf, AreDistinct, END_OF_CHAIN, FREE_SECTOR}
-use Rattle.stream_io.specs.Image.{run, runs, start, table_bytes}
+use Rattle.file_model.specs.Image.{run, runs, start, table_bytes}
 
 -- a number that four bytes hold
 abbrev pub IsWord : ℕ → Type 0

@@ -10,10 +10,10 @@ use Rattle.cfb_directory.proofs.Fields.{length-entry_bytes, kind-entry_bytes, le
 use Rattle.storage_tree.specs.Tree.{Tree, Children, tree, none, stream, storage}
 use Rattle.storage_tree.specs.Whole.{AreTrees, IsTree}
 use Rattle.file_model.specs.Need.{pieces, entries, entries_of, over_streams_of, mini_sectors, long_sectors, short_pieces, long_pieces}
-use Rattle.stream_io.specs.Image.{start}
-use Rattle.stream_io.specs.Directory.{Siblings, AreBalanced, ids_from, first_of_stream, child_of, class_in, state_in, stream_says, storage_says, entries_below, each_entry, IsSpelled, AreSpelled}
-use Rattle.stream_io.proofs.ContentsBlocks.{block-drop, block-take}
-use Rattle.stream_io.proofs.ContentsIds.{ids-below, top-fits, left-fits, right-fits}
+use Rattle.file_model.specs.Image.{start}
+use Rattle.file_model.specs.Directory.{Siblings, AreBalanced, ids_from, first_of_stream, child_of, class_in, state_in, stream_says, storage_says, entries_below, each_entry, IsSpelled, AreSpelled}
+use Rattle.file_model.proofs.ContentsBlocks.{block-drop, block-take}
+use Rattle.file_model.proofs.ContentsIds.{ids-below, top-fits, left-fits, right-fits}
 
 -- the entry at a place of the directory that begins with these bytes
 entry-begins : (directory entry rest : List ℕ) (id : ℕ) → length entry ≡ 128 → drop (128 * id) directory ≡ entry ++ rest → entry_at directory id ≡ entry

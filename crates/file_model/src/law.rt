@@ -3,8 +3,8 @@
 ghost use Rattle.std.specs.Prelude.{List, ℕ, ◌≡◌};
 ghost use Rattle.storage_tree.specs.Tree.{Tree};
 ghost use Rattle.file_model.specs.Denotes.{Denotes};
-ghost use Rattle.stream_io.specs.Directory.{ImageDenotes, PlacedDenotes};
-ghost use Rattle.stream_io.specs.EmptyDocument.{empty_document as empty_bytes, empty_tree};
+ghost use Rattle.file_model.specs.Directory.{ImageDenotes, PlacedDenotes};
+ghost use Rattle.file_model.specs.EmptyDocument.{empty_document as empty_bytes, empty_tree};
 ghost use Rattle.file_model.specs.Need.{LeastFat};
 
 /// Bytes denote at most one tree.

@@ -6,7 +6,7 @@ use Rattle.cfb_chain.specs.Header.{IsHeader}
 use Rattle.cfb_chain.specs.Fat.{sectors_of}
 use Rattle.cfb_directory.specs.Entries.{nobody}
 use Rattle.file_model.specs.Denotes.{Denotes, IsLaidOut, Layout, nothing, directory_of, Holds}
-use Rattle.stream_io.specs.EmptyDocument.{empty_document, empty_tree}
+use Rattle.file_model.specs.EmptyDocument.{empty_document, empty_tree}
 
 header : IsHeader empty_document
 unfolding empty_document u16_at u32_at

@@ -1,5 +1,5 @@
 -- How the directory of a tree is written: entries stand depth first, siblings in name order (MS-CFB 2.6).
-use Rattle.std.specs.Prelude.{◌≡◌, ◌<◌, ◌≤◌, ◌+◌, ◌-◌, ◌*◌, ◌^◌, ℕ, List, [], ◌∷◌, ◌++◌, length, map, replicate, slice_index, if◌then◌else◌, cond, nat_lt, zero, suc}
+use Rattle.std.specs.Prelude.{◌≡◌, ◌⊎◌, ◌<◌, ◌≤◌, ◌+◌, ◌-◌, ◌*◌, ◌^◌, ℕ, List, [], ◌∷◌, ◌++◌, length, map, replicate, slice_index, if◌then◌else◌, cond, nat_lt, zero, suc}
 use Rattle.std.specs.List.{concat, flat_map, range_with_len, sum}
 use Rattle.cfb_chain.specs.Bytes.{block}
 use Rattle.cfb_chain.specs.Chain.{AreDistinct}
@@ -12,8 +12,8 @@ use Rattle.storage_tree.specs.Tree.{Tree, Children, tree, none, stream, storage}
 use Rattle.storage_tree.specs.Change.{Seen, bytes, inner}
 use Rattle.storage_tree.specs.Whole.{IsTree}
 use Rattle.file_model.specs.Need.{pieces, entries, mini_sectors, long_sectors, short_pieces, long_pieces, directory_sectors, mini_fat_sectors, mini_stream_sectors, data_sectors}
-use Rattle.stream_io.specs.Image.{Parts, start, padded, runs, image}
-use Rattle.stream_io.specs.Placed.{IsPlaced}
+use Rattle.file_model.specs.Image.{Parts, start, padded, runs, image}
+use Rattle.file_model.specs.Placed.{IsPlaced}
 use Rattle.file_model.specs.Denotes.{Layout, sectors, Denotes}
 
 -- The links of so many siblings, by their places: the one on top, and those to the left and right of each.
@@ -52,6 +52,10 @@ ids_from id (storage k n t cs) = id ∷ ids_from (id + 1 + entries t) cs
 abbrev pub entries_with : Seen → ℕ
 entries_with (bytes b) = 1
 entries_with (inner t) = 1 + entries t
+
+-- a link to one of so many siblings, or to nobody
+abbrev pub IsLink : ℕ → ℕ → Type 0
+IsLink count place = (place ≡ NO_STREAM) ⊎ (place < count)
 
 -- the entry that a link to one of these siblings names
 abbrev pub linked : List ℕ → ℕ → ℕ

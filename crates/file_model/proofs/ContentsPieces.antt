@@ -9,10 +9,10 @@ use Rattle.std.specs.List.{range_with_len, sum}
 use Rattle.cfb_chain.specs.Bytes.{block, joined}
 use Rattle.cfb_chain.specs.Chain.{Store, IsChainOf}
 use Rattle.file_model.specs.Need.{pieces}
-use Rattle.stream_io.specs.Image.{run, runs, start, padded}
-use Rattle.stream_io.specs.Directory.{pieces_of, whole_pieces}
-use Rattle.stream_io.proofs.ContentsBlocks.{block-drop, block-append, joined_blocks, take-padded, present_range}
-use Rattle.stream_io.proofs.Tables.{leads_run, length-run}
+use Rattle.file_model.specs.Image.{run, runs, start, padded}
+use Rattle.file_model.specs.Directory.{pieces_of, whole_pieces}
+use Rattle.file_model.proofs.ContentsBlocks.{block-drop, block-append, joined_blocks, take-padded, present_range}
+use Rattle.file_model.proofs.Tables.{leads_run, length-run}
 
 pub sum-cons : (n : ℕ) (ns : List ℕ) → sum (n ∷ ns) ≡ n + sum ns
 sum-cons n ns = sum_by-cons (λ x. x) n ns

@@ -6,7 +6,7 @@ use Rattle.std.specs.List.{flat_map, range_with_len, All}
 use Rattle.cfb_chain.specs.Bytes.{block}
 use Rattle.cfb_chain.specs.Chain.{Store, IsPresent}
 use Rattle.file_model.specs.Need.{pieces}
-use Rattle.stream_io.specs.Image.{padded}
+use Rattle.file_model.specs.Image.{padded}
 
 -- a block is read behind what is dropped
 pub block-drop : (w n m : ℕ) (xs : List ℕ) → block w xs (n + m) ≡ block w (drop n xs) m

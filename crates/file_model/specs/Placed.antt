@@ -7,7 +7,7 @@ use Rattle.cfb_chain.specs.Header.{IsHeader}
 use Rattle.cfb_directory.specs.Entries.{entry_at, first_of, size_of}
 use Rattle.file_model.specs.Need.{pieces}
 use Rattle.file_model.specs.Denotes.{Layout, IsLaidOut, directory_of, minis}
-use Rattle.stream_io.specs.Image.{Parts, directory_count, mini_fat_need, mini_stream_count, mini_stream_start, runs}
+use Rattle.file_model.specs.Image.{Parts, directory_count, mini_fat_need, mini_stream_count, mini_stream_start, runs}
 
 abbrev pub layout_of : ℕ → Parts → Layout
 layout_of f p = record {
