@@ -12,7 +12,8 @@ use Rattle.cfb_chain.proofs.Blocks.{length_block, length_joined}
 use Rattle.cfb_chain.proofs.Chains.{chain_below, chain_of_same, chain_same, same_back}
 use Rattle.cfb_chain.proofs.Marks.{distinct_left, free_when, marks_load}
 use Rattle.cfb_directory.specs.Names.{key, key_cmp}
-use Rattle.cfb_directory.specs.Entries.{AreLinked, EntriesValue, IsFree, MayRefuseEntry, MayRefuseLoad, around, child, entry_at, first_of, kind, left, name_of, nobody, right, size_of, set_all}
+use Rattle.cfb_directory.specs.Entries.{AreLinked, EntriesValue, IsFree, MayRefuseEntry, MayRefuseLoad, around, child, entry_at, first_of, kind, left, name_of, nobody, right, size_of}
+use Rattle.cfb_chain.specs.Fat.{set_all}
 use Rattle.cfb_directory.specs.declared.fault.DirFault.{DirFault}
 use Rattle.cfb_directory.specs.declared.fault.DirFault.TheVariants.{NameEmpty, NameTooLong, NameNotAscii, NameForbidden, DuplicateName, BadEntry, TreeCycle, TooNested, NoMemory}
 use Rattle.cfb_directory.proofs.Marks.{set_all-there}

@@ -4,7 +4,5 @@
 mod entries;
 pub mod fault;
 pub mod read;
-#[cfg(test)]
-mod read_tests;
 mod streams;
 pub mod write;
