@@ -180,16 +180,16 @@ free_chain f few start ns h free = record {
 }
 
 -- the next step of a way that doesn't end here
-pub record Goes (next : ℕ → ℕ) (P : ℕ → Type 0) (at : ℕ) (rest : List ℕ) : Type 0 where
+pub record NextStep (next : ℕ → ℕ) (P : ℕ → Type 0) (at : ℕ) (rest : List ℕ) : Type 0 where
   pub more : List ℕ
   pub here : P at
   pub leads : Leads next (next at) more END_OF_CHAIN
   pub every : All P more
   pub longer : length rest ≡ length more + 1
 
-pub goes_on : (next : ℕ → ℕ) (P : ℕ → Type 0) (at : ℕ) (rest : List ℕ) → Leads next at rest END_OF_CHAIN → All P rest → at ≢ END_OF_CHAIN → Goes next P at rest
-goes_on next P at [] h every other = absurd (other h)
-goes_on next P at (n ∷ ns) h every other = record {
+pub next_step : (next : ℕ → ℕ) (P : ℕ → Type 0) (at : ℕ) (rest : List ℕ) → Leads next at rest END_OF_CHAIN → All P rest → at ≢ END_OF_CHAIN → NextStep next P at rest
+next_step next P at [] h every other = absurd (other h)
+next_step next P at (n ∷ ns) h every other = record {
   more = ns;
   here = subst P (sym h.0) (All-head P n ns every);
   leads = subst (λ x. Leads next (next x) ns END_OF_CHAIN) (sym h.0) h.1;

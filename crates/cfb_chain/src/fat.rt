@@ -105,7 +105,8 @@ fn check_present(sectors: &[u32], count: usize) -> Result<(), ChainFault>
 impl<'a> Fat<'a> {
     /// The table of a file. It marks its own sectors.
     ///
-    /// Refused: `OutOfFile` where a listed sector isn't in the file, `CrossLinked` where one is listed twice.
+    /// Refused: `OutOfFile` where a listed sector isn't in the file; then `NoMemory`; then `CrossLinked` where one is
+    /// listed twice.
     pub fn load(alloc: Global, header: &Header, file: &'a [u8]) -> Result<Fat<'a>, ChainFault>
         ensures table { IfOk result (λ f. IsTableOf file.now header.now.fat f) }
         ensures refused { IfErr result (MayRefuseFat file.now header.now.fat) }
@@ -129,7 +130,7 @@ impl<'a> Fat<'a> {
     /// The chain from a sector on, whose sectors it marks. A refusal marks none.
     ///
     /// Refused: `OutOfFile` where the chain leaves the table, `Cycle` where it meets one of its own sectors again,
-    /// `CrossLinked` where it meets one that is marked.
+    /// `CrossLinked` where it meets one that is marked; then `NoMemory`.
     pub fn chain(&mut self, alloc: Global, start: u32) -> Result<Vec<u32>, ChainFault>
         ensures linked { IfOk result (λ v. IsChain (store_of self.old) start 0 v.items) }
         ensures free { IfOk result (λ v. AreFree self.old v.items) }
@@ -163,7 +164,7 @@ impl<'a> Fat<'a> {
     /// The first `len` bytes of the chain from a sector on, whose sectors it marks. Where `len` is 0 there is no chain,
     /// and nothing is walked. A refusal marks none.
     ///
-    /// Refused: as for `chain`, and `ShortChain` where the chain has no room for so many bytes.
+    /// Refused: as for `chain`, and `ShortChain` where the chain has no room for so many bytes; then `NoMemory`.
     pub fn bytes(&mut self, alloc: Global, start: u32, len: u32) -> Result<Vec<u8>, ChainFault>
         ensures found { IfOk result (λ v. (ns : List ℕ) × IsFound self.old start len ns × (v.items ≡ take len (joined (store_of self.old).piece ns)) × (self.new ≡ marked self.old ns)) }
         ensures refused { IfErr result (MayRefuse self.old start len) }

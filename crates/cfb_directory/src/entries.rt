@@ -170,7 +170,8 @@ impl<'a> Entries<'a> {
 
     /// The children of an entry: just those that links reach from its child, which it marks. A refusal marks none.
     ///
-    /// Refused: `BadEntry` for an id outside the directory, `TreeCycle` where an entry is marked or reached twice.
+    /// Refused: `BadEntry` for an id outside the directory; then `NoMemory`, before any link is followed; then `BadEntry`
+    /// where a link leaves the directory, `TreeCycle` where an entry is marked or reached twice.
     pub fn children(&mut self, alloc: Global, id: u32) -> Result<Vec<u32>, DirFault>
         ensures linked { IfOk result (λ v. AreLinked self.old.directory (child (entry_at self.old.directory id)) v.items) }
         ensures free { IfOk result (λ v. AreFree self.old v.items) }

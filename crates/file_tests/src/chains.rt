@@ -52,9 +52,11 @@ fn bytes(alloc: Global, fat: &mut Fat, start: u32, len: u32) -> Result<Vec<u8>, 
     fat.bytes(alloc, start, len)
 }
 
-fn joined(alloc: Global, fat: &mut Fat, start: u32) -> Result<Vec<u8>, ChainFault> {
+/// The chain from a sector on, and its bytes.
+fn joined(alloc: Global, fat: &mut Fat, start: u32) -> Result<(Vec<u32>, Vec<u8>), ChainFault> {
     let chain = fat.chain(alloc, start)?;
-    fat.join(alloc, &chain)
+    let bytes = fat.join(alloc, &chain)?;
+    Ok((chain, bytes))
 }
 
 fn free(fat: &Fat) -> Option<u32> {
@@ -80,7 +82,8 @@ fn headers_are_read_written_and_refused(rt: HostRuntime) -> Result<(), Fail> {
         ),
         (1, 5, 1)
     );
-    assert_eq!(rt; read.write().as_slice(), bytes.as_slice());
+    let made = Header::new(&[0], 1, 5, 1)?;
+    assert_eq!(rt; made.write().as_slice(), bytes.as_slice());
     let faults = [
         (7, 0xe2, ChainFault::BadSignature),
         (26, 4, ChainFault::Unsupported(26)),
@@ -133,7 +136,8 @@ fn chains_are_followed(rt: HostRuntime) -> Result<(), Fail> {
         };
         assert_eq!(rt; refused, Some(fault), "from {start}");
     }
-    let two = joined(alloc, &mut fat, 1)?;
+    let (list, two) = joined(alloc, &mut fat, 1)?;
+    assert_eq!(rt; list.as_slice(), [1, 8].as_slice());
     let want = [
         (511, Some(1)),
         (512, Some(8)),

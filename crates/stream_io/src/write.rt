@@ -4,7 +4,7 @@ ghost use Rattle.cfb_chain.specs.Chain.{FAT_SECTOR as FAT_SECTOR_VALUE};
 ghost use Rattle.cfb_chain.specs.Header.{header_bytes};
 ghost use Rattle.std.specs.Int.{to_le_bytes, w32};
 ghost use Rattle.std.specs.List.{flat_map, range_with_len, sum};
-ghost use Rattle.std.specs.Prelude.{◌≡◌, ◌≤◌, ◌<◌, ◌+◌, ◌-◌, ◌*◌, ◌^◌, ◌++◌, ℕ, Err, IfErr, IfNone, IfOk, IfSome, Ok, OnOk, OnSome, is_ok, length, replicate, true, false};
+ghost use Rattle.std.specs.Prelude.{◌≡◌, ◌≤◌, ◌<◌, ◌+◌, ◌-◌, ◌*◌, ◌^◌, ◌++◌, ℕ, Err, IfErr, IfNone, IfOk, IfSome, Ok, OnOk, OnSome, length, replicate, true, false};
 ghost use Rattle.std.specs.Vec.{vec_len};
 ghost use Rattle.storage_tree.specs.Kept.{kept};
 ghost use Rattle.storage_tree.specs.Whole.{IsTree};
@@ -237,23 +237,16 @@ fn count(root: &Storage) -> Result<Counts, WriteFault>
     Ok(counts)
 }
 
-/// What a tree with this root isn't written for, but for want of memory, of which this takes none.
+/// Whether a file can hold a tree with this root. It takes no memory.
 ///
 /// Refused: as for `write_file`, but never `NoMemory`.
-pub fn check_root(root: &Storage) -> Result<(), WriteFault>
+pub fn fits(root: &Storage) -> Result<(), WriteFault>
     ensures { result ≡ writable (view root.now) }
 {
     match count(root) {
         Ok(_) => Ok(()),
         Err(fault) => Err(fault),
     }
-}
-
-/// Whether a tree with this root is written, where memory is left. Takes no memory.
-pub fn fits(root: &Storage) -> bool
-    ensures { result ≡ is_ok (writable (view root.now)) }
-{
-    check_root(root).is_ok()
 }
 
 /// The parts of the file of a tree without long streams.

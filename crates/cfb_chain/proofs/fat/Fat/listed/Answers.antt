@@ -4,7 +4,7 @@ use Rattle.std.proofs.lemmas.Grind.{common_steps}
 use Rattle.std.specs.List.{All}
 use Rattle.cfb_chain.specs.Chain.{Leads, END_OF_CHAIN}
 use Rattle.cfb_chain.specs.Fat.{FatValue, IsFree}
-use Rattle.cfb_chain.proofs.Chains.{Goes, ends_here, free_chain, goes_on, leads_push}
+use Rattle.cfb_chain.proofs.Chains.{NextStep, ends_here, free_chain, next_step, leads_push}
 use Rattle.cfb_chain.proofs.fat.Fat.listed.Goals as goal
 
 none : (P : ℕ → Type 0) → All P []
@@ -19,8 +19,8 @@ loop-at-init c =
 pub loop-at-preserved : goal.loop-at-preserved
 loop-at-preserved c =
     let i = c.loop-at.invariant in
-    let g : Goes (λ n. get_or c.args.self.now.table n 0) (IsFree c.args.self.now) c.loop-at.at i.0 =
-    goes_on (λ n. get_or c.args.self.now.table n 0) (IsFree c.args.self.now) c.loop-at.at i.0 i.2 i.4 c.loop-at-test.true in
+    let g : NextStep (λ n. get_or c.args.self.now.table n 0) (IsFree c.args.self.now) c.loop-at.at i.0 =
+    next_step (λ n. get_or c.args.self.now.table n 0) (IsFree c.args.self.now) c.loop-at.at i.0 i.2 i.4 c.loop-at-test.true in
     let e : c.index-at.result.now ≡ get_or c.args.self.now.table c.loop-at.at 0 = grind (arith, common_steps, c.index-at.ensures, c.self.view_is) in
     rw (c.in_ok-push.ensures.items, e) (
       g.more,
@@ -52,7 +52,7 @@ returns-clause-counted c =
 pub index-at-requires : goal.index-at-requires
 index-at-requires c =
     let i = c.loop-at.invariant in
-    let g : Goes (λ n. get_or c.args.self.now.table n 0) (IsFree c.args.self.now) c.loop-at.at i.0 =
-    goes_on (λ n. get_or c.args.self.now.table n 0) (IsFree c.args.self.now) c.loop-at.at i.0 i.2 i.4 c.loop-at-test.true in
+    let g : NextStep (λ n. get_or c.args.self.now.table n 0) (IsFree c.args.self.now) c.loop-at.at i.0 =
+    next_step (λ n. get_or c.args.self.now.table n 0) (IsFree c.args.self.now) c.loop-at.at i.0 i.2 i.4 c.loop-at-test.true in
     let same = ap (λ (x : FatValue). length x.table) c.self.view_is in
     omega (arith, same, g.here.0)
