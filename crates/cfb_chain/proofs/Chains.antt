@@ -1,5 +1,5 @@
 -- Chains in stores that agree, and what refuses a chain that is there.
-use Rattle.std.proofs.Common.{◌≡◌, ◌<◌, ◌≤◌, ◌*◌, ◌⊎◌, inl, inr, ℕ, zero, suc, true, false, List, [], ◌∷◌, ◌++◌, length, length-append, length-drop, drop, take, eqb, get_or, refl, sym, ap, subst, ◌∙◌, arith, lit≤}
+use Rattle.std.proofs.Common.{◌≡◌, ◌≢◌, ◌<◌, ◌≤◌, ◌+◌, ◌*◌, ◌⊎◌, inl, inr, ℕ, zero, suc, true, false, List, [], ◌∷◌, ◌++◌, length, length-append, length-drop, drop, take, eqb, get_or, refl, sym, ap, subst, ◌∙◌, arith, lit≤}
 use Rattle.std.proofs.lemmas.List.Elements.{All-cons, All-push, All-take, All-drop, All-contains, All-head, All-tail, Contains-append_right}
 use Rattle.std.specs.List.{All, AllByRecursion, Contains, IsDistinct}
 use Rattle.std.proofs.lemmas.Map.Views.{Contains-from_any}
@@ -7,7 +7,7 @@ use Rattle.std.proofs.lemmas.Map.Steps.{length-le_from_distinct_below}
 use Rattle.std.proofs.lemmas.Bool.{cases_Bool, eqb-true}
 use Rattle.cfb_chain.specs.Bytes.{joined}
 use Rattle.cfb_chain.specs.Chain.{AreDistinct, END_OF_CHAIN, IsChain, IsChainOf, IsPresent, Leads, Store}
-use Rattle.cfb_chain.specs.Fat.{AreFree, AreSame, FatValue, IsFat, IsFree, MayRefuse, MayRefuseFat, sectors_of, store_of}
+use Rattle.cfb_chain.specs.Fat.{AreFree, AreSame, FatValue, IsFat, IsFound, IsFree, IsFreeChain, MayRefuse, MayRefuseChain, MayRefuseFat, sectors_of, store_of}
 use Rattle.cfb_chain.specs.declared.fault.ChainFault.{ChainFault}
 use Rattle.cfb_chain.specs.declared.fault.ChainFault.TheVariants.{Truncated, BadSignature, Unsupported, OutOfFile, Cycle, CrossLinked, ShortChain, TooBig, NoMemory}
 use Rattle.cfb_chain.proofs.Marks.{distinct_apart, distinct_cons}
@@ -167,6 +167,69 @@ distinct_chain next count start (n ∷ ns) few h below =
           omega (arith, All-contains (λ n. n < count) ns END_OF_CHAIN tail c)
     ])
     (distinct_chain next count (next n) ns few h.1 tail)
+
+-- the whole chain of free sectors
+pub free_chain : (f : FatValue) → length f.table ≤ 0xFFFFFFF9 → (start : ℕ) (ns : List ℕ) → Leads (store_of f).next start ns END_OF_CHAIN
+    → All (IsFree f) ns → IsFreeChain f start ns
+free_chain f few start ns h free = record {
+  chain = record { linked = h; present = λ k d l. (omega (arith, (free k d l).0), (free k d l).0); enough = omega arith };
+  free = record {
+    free = free;
+    once = distinct_chain (store_of f).next (length f.table) start ns (omega arith) h (λ k d l. (free k d l).0);
+  };
+}
+
+-- the next step of a way that doesn't end here
+pub record NextStep (next : ℕ → ℕ) (P : ℕ → Type 0) (at : ℕ) (rest : List ℕ) : Type 0 where
+  pub more : List ℕ
+  pub here : P at
+  pub leads : Leads next (next at) more END_OF_CHAIN
+  pub every : All P more
+  pub longer : length rest ≡ length more + 1
+
+pub next_step : (next : ℕ → ℕ) (P : ℕ → Type 0) (at : ℕ) (rest : List ℕ) → Leads next at rest END_OF_CHAIN → All P rest → at ≢ END_OF_CHAIN → NextStep next P at rest
+next_step next P at [] h every other = absurd (other h)
+next_step next P at (n ∷ ns) h every other = record {
+  more = ns;
+  here = subst P (sym h.0) (All-head P n ns every);
+  leads = subst (λ x. Leads next (next x) ns END_OF_CHAIN) (sym h.0) h.1;
+  every = All-tail P n ns every;
+  longer = omega arith;
+}
+
+-- a way that ends here goes no further
+pub ends_here : (next : ℕ → ℕ) (count at : ℕ) (rest : List ℕ) → count ≤ END_OF_CHAIN → Leads next at rest END_OF_CHAIN → All (λ n. n < count) rest
+    → at ≡ END_OF_CHAIN → length rest ≡ 0
+ends_here next count at [] few h below e = refl
+ends_here next count at (n ∷ ns) few h below e = let l : n < count = All-head (λ n. n < count) n ns below in absurd (omega (arith, h.0))
+
+-- a fault of the whole chain is one of the chain with room for some bytes
+pub refused_chain : (f : FatValue) (start : ℕ) (e : ChainFault) → e ≢ NoMemory → MayRefuse f start 0 e → MayRefuseChain f start e
+refused_chain f start Truncated other r = r
+refused_chain f start BadSignature other r = r
+refused_chain f start (Unsupported n) other r = r
+refused_chain f start OutOfFile other r = r
+refused_chain f start Cycle other r = r
+refused_chain f start CrossLinked other r = r
+refused_chain f start ShortChain other r = r
+refused_chain f start TooBig other r = r
+refused_chain f start NoMemory other r = absurd (other refl)
+
+pub refused_some : (f : FatValue) (start bytes : ℕ) (e : ChainFault) → e ≢ NoMemory → MayRefuse f start 0 e → MayRefuse f start bytes e
+refused_some f start bytes Truncated other r = r
+refused_some f start bytes BadSignature other r = r
+refused_some f start bytes (Unsupported n) other r = r
+refused_some f start bytes OutOfFile other r = r
+refused_some f start bytes Cycle other r = r
+refused_some f start bytes CrossLinked other r = r
+refused_some f start bytes ShortChain other r = absurd (omega (arith, r.3))
+refused_some f start bytes TooBig other r = r
+refused_some f start bytes NoMemory other r = absurd (other refl)
+
+-- a free chain with room for some bytes is found
+pub found_chain : (f : FatValue) (start bytes : ℕ) (ns : List ℕ) → IsFreeChain f start ns → bytes ≤ f.width * length ns → 0 < bytes → IsFound f start bytes ns
+found_chain f start zero ns h room some = absurd (omega arith)
+found_chain f start (suc n) ns h room some = record { chain = record { linked = h.chain.linked; present = h.chain.present; enough = room }; free = h.free }
 
 -- one step further
 pub leads_push : (next : ℕ → ℕ) (start : ℕ) (ns : List ℕ) (last : ℕ)

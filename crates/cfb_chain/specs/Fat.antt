@@ -2,7 +2,7 @@
 use Rattle.std.specs.Prelude.{◌≡◌, ◌≢◌, ◌≤◌, ◌<◌, ◌+◌, ◌-◌, ◌*◌, ◌/◌, ℕ, Bool, true, false, ◌⊎◌, List, [], ◌∷◌, ◌++◌, length, min, replicate, slice_index, slice_index_or, slice_set}
 use Rattle.std.specs.List.{All, Contains}
 use Rattle.cfb_chain.specs.Bytes.{u32_at, block, sector, joined}
-use Rattle.cfb_chain.specs.Chain.{Store, Leads, IsPresent, IsChainOf, AreDistinct, END_OF_CHAIN}
+use Rattle.cfb_chain.specs.Chain.{Store, Leads, IsPresent, IsChain, IsChainOf, AreDistinct, END_OF_CHAIN}
 use Rattle.cfb_chain.specs.Header.{HeaderValue}
 use Rattle.cfb_chain.specs.declared.fault.ChainFault.{ChainFault}
 use Rattle.cfb_chain.specs.declared.fault.ChainFault.TheVariants.{OutOfFile, Cycle, CrossLinked, ShortChain, NoMemory}
@@ -76,6 +76,11 @@ pub record IsTableOf (file : List ℕ) (fat : List ℕ) (f : FatValue) : Type 0 
   pub sectors : AreSame (store_of f) (sectors_of file fat)
   pub marks : f.used ≡ set_all (replicate (length f.table) false) fat
 
+-- the whole chain from a sector, of unused sectors
+pub record IsFreeChain (f : FatValue) (start : ℕ) (ns : List ℕ) : Type 0 where
+  pub chain : IsChain (store_of f) start 0 ns
+  pub free : AreFree f ns
+
 -- a chain of unused sectors with room for some bytes, or none where there are none
 pub record IsFound (f : FatValue) (start bytes : ℕ) (ns : List ℕ) : Type 0 where
   pub chain : IsChainOf (store_of f) start bytes ns
@@ -97,21 +102,27 @@ pub record IsMiniTable (f : FatValue) (mini_fat mini_stream : List ℕ) (size : 
   })
   pub marks : m.used ≡ replicate (length m.table) false
 
--- when a fault may be answered for a FAT
+-- when a fault may be answered for a FAT: want of memory only where its sectors are there
 abbrev pub MayRefuseFat : List ℕ → List ℕ → ChainFault → Type 0
 MayRefuseFat file fat OutOfFile = (n : ℕ) × Contains fat n × (IsPresent (sectors_of file fat) n → ⊥)
 MayRefuseFat file fat CrossLinked = AreDistinct fat → ⊥
-MayRefuseFat file fat NoMemory = Unit {0}
+MayRefuseFat file fat NoMemory = All (IsPresent (sectors_of file fat)) fat
 MayRefuseFat file fat _ = ⊥
 
--- when a fault may be answered for the chain from a sector that needs room for some bytes
+-- when a fault may be answered for the chain from a sector that needs room for some bytes: want of memory only where the
+-- chain is there
 abbrev pub MayRefuse : FatValue → ℕ → ℕ → ChainFault → Type 0
 MayRefuse f start bytes OutOfFile = (ns : List ℕ) × (last : ℕ) × Leads (store_of f).next start ns last × All (IsFree f) ns × (last ≢ END_OF_CHAIN) × (length f.table ≤ last)
 MayRefuse f start bytes Cycle = (ns : List ℕ) × (last : ℕ) × Leads (store_of f).next start ns last × All (IsFree f) ns × Contains ns last
 MayRefuse f start bytes CrossLinked = (ns : List ℕ) × (last : ℕ) × Leads (store_of f).next start ns last × All (IsFree f) ns × (last < length f.table) × (slice_index_or f.used last true ≡ true)
 MayRefuse f start bytes ShortChain = (ns : List ℕ) × Leads (store_of f).next start ns END_OF_CHAIN × AreFree f ns × (f.width * length ns < bytes)
-MayRefuse f start bytes NoMemory = Unit {0}
+MayRefuse f start bytes NoMemory = (ns : List ℕ) × IsFound f start bytes ns
 MayRefuse f start bytes _ = ⊥
+
+-- when a fault may be answered for the whole chain from a sector
+abbrev pub MayRefuseChain : FatValue → ℕ → ChainFault → Type 0
+MayRefuseChain f start NoMemory = (ns : List ℕ) × IsFreeChain f start ns
+MayRefuseChain f start fault = MayRefuse f start 0 fault
 
 -- each sector has a mark, and a regular number
 abbrev pub IsSound : List ℕ → List Bool → Type 0

@@ -8,7 +8,7 @@ use byteorder::{ByteOrder, LittleEndian};
 
 /// The number in the two bytes at a place.
 #[tactic(auto, unfolding(crate::specs::Bytes::u16_at))]
-pub(crate) fn read_u16(bytes: &[u8], at: usize) -> u16
+pub fn read_u16(bytes: &[u8], at: usize) -> u16
     requires { at + 2 ≤ length bytes.now }
     ensures { result ≡ u16_at bytes.now at }
 {
@@ -17,7 +17,7 @@ pub(crate) fn read_u16(bytes: &[u8], at: usize) -> u16
 
 /// The number in the four bytes at a place.
 #[tactic(auto, unfolding(crate::specs::Bytes::u32_at))]
-pub(crate) fn read_u32(bytes: &[u8], at: usize) -> u32
+pub fn read_u32(bytes: &[u8], at: usize) -> u32
     requires { at + 4 ≤ length bytes.now }
     ensures { result ≡ u32_at bytes.now at }
 {

@@ -2,7 +2,7 @@
 
 ghost use Rattle.cfb_chain.specs.Bytes.{joined};
 ghost use Rattle.cfb_chain.specs.Chain.{FREE_SECTOR, IsChain};
-ghost use Rattle.cfb_chain.specs.Fat.{AreFree, FatValue, IsFat, IsFound, IsFree, IsMiniFound, IsMiniTable, IsTableOf, MayRefuse, MayRefuseFat, MayRefuseMini, marked, sectors_in, store_of};
+ghost use Rattle.cfb_chain.specs.Fat.{AreFree, FatValue, IsFat, IsFound, IsFree, IsFreeChain, IsMiniFound, IsMiniTable, IsTableOf, MayRefuse, MayRefuseChain, MayRefuseFat, MayRefuseMini, marked, sectors_in, store_of};
 ghost use Rattle.cfb_chain.specs.View.{bytes_of, start_of, width_of};
 ghost use Rattle.cfb_chain.specs.declared.fault.ChainFault.TheVariants.{CrossLinked, NoMemory, OutOfFile};
 ghost use Rattle.std.specs.List.{All, Contains};
@@ -105,7 +105,8 @@ fn check_present(sectors: &[u32], count: usize) -> Result<(), ChainFault>
 impl<'a> Fat<'a> {
     /// The table of a file. It marks its own sectors.
     ///
-    /// Refused: `OutOfFile` where a listed sector isn't in the file, `CrossLinked` where one is listed twice.
+    /// Refused: `OutOfFile` where a listed sector isn't in the file; then `NoMemory`; then `CrossLinked` where one is
+    /// listed twice.
     pub fn load(alloc: Global, header: &Header, file: &'a [u8]) -> Result<Fat<'a>, ChainFault>
         ensures table { IfOk result (λ f. IsTableOf file.now header.now.fat f) }
         ensures refused { IfErr result (MayRefuseFat file.now header.now.fat) }
@@ -129,16 +130,17 @@ impl<'a> Fat<'a> {
     /// The chain from a sector on, whose sectors it marks. A refusal marks none.
     ///
     /// Refused: `OutOfFile` where the chain leaves the table, `Cycle` where it meets one of its own sectors again,
-    /// `CrossLinked` where it meets one that is marked.
+    /// `CrossLinked` where it meets one that is marked; then `NoMemory`.
     pub fn chain(&mut self, alloc: Global, start: u32) -> Result<Vec<u32>, ChainFault>
         ensures linked { IfOk result (λ v. IsChain (store_of self.old) start 0 v.items) }
         ensures free { IfOk result (λ v. AreFree self.old v.items) }
         ensures marks { IfOk result (λ v. self.new ≡ marked self.old v.items) }
-        ensures refused { IfErr result (MayRefuse self.old start 0) }
+        ensures refused { IfErr result (MayRefuseChain self.old start) }
         ensures there { (ns : List ℕ) → IsChain (store_of self.old) start 0 ns → AreFree self.old ns → IfErr result (λ e. e ≡ NoMemory) }
         ensures kept { OnErr result (self.new ≡ self.old) }
     {
-        let chain = self.walk(alloc, start)?;
+        let count = self.count(start)?;
+        let chain = self.listed(alloc, start, count)?;
         self.mark(&chain);
         Ok(chain)
     }
@@ -162,7 +164,7 @@ impl<'a> Fat<'a> {
     /// The first `len` bytes of the chain from a sector on, whose sectors it marks. Where `len` is 0 there is no chain,
     /// and nothing is walked. A refusal marks none.
     ///
-    /// Refused: as for `chain`, and `ShortChain` where the chain has no room for so many bytes.
+    /// Refused: as for `chain`, and `ShortChain` where the chain has no room for so many bytes; then `NoMemory`.
     pub fn bytes(&mut self, alloc: Global, start: u32, len: u32) -> Result<Vec<u8>, ChainFault>
         ensures found { IfOk result (λ v. (ns : List ℕ) × IsFound self.old start len ns × (v.items ≡ take len (joined (store_of self.old).piece ns)) × (self.new ≡ marked self.old ns)) }
         ensures refused { IfErr result (MayRefuse self.old start len) }
@@ -270,22 +272,23 @@ impl<'a> Fat<'a> {
         if len == 0 {
             return Ok(Vec::new(alloc));
         }
-        let sectors = self.walk(alloc, start)?;
-        if ((width * sectors.len()) as u64) < len {
+        let count = self.count(start)?;
+        if ((width * count) as u64) < len {
             return Err(ChainFault::ShortChain);
         }
+        let sectors = self.listed(alloc, start, count)?;
         Ok(sectors)
     }
 
-    /// The chain from a sector on, marking nothing.
-    fn walk(&self, alloc: Global, start: u32) -> Result<Vec<u32>, ChainFault>
-        ensures linked { IfOk result (λ v. IsChain (store_of self.now) start 0 v.items) }
-        ensures free { IfOk result (λ v. AreFree self.now v.items) }
+    /// How many sectors the chain from a sector on has.
+    fn count(&self, start: u32) -> Result<usize, ChainFault>
+        ensures counted { IfOk result (λ count. (ns : List ℕ) × IsFreeChain self.now start ns × (length ns ≡ count)) }
         ensures refused { IfErr result (MayRefuse self.now start 0) }
+        ensures told { IfErr result (λ e. e ≢ NoMemory) }
         ensures few { length self.now.table ≤ 0xFFFFFFF9 }
-        ensures short { IfOk result (λ v. length v.items ≤ length self.now.table) }
+        ensures short { IfOk result (λ count. count ≤ length self.now.table) }
     {
-        let mut sectors = Vec::new(alloc);
+        let mut count = 0;
         let mut at = start;
         while at != END_OF_CHAIN {
             let n = at as usize;
@@ -295,11 +298,29 @@ impl<'a> Fat<'a> {
             if self.used[n] {
                 return Err(ChainFault::CrossLinked);
             }
-            if sectors.len() >= self.next.len() {
+            if count >= self.next.len() {
                 return Err(ChainFault::Cycle);
             }
-            sectors.push(at)?;
+            count += 1;
             at = self.next[n];
+        }
+        Ok(count)
+    }
+
+    /// The chain from a sector on, which has so many sectors.
+    fn listed(&self, alloc: Global, start: u32, count: usize) -> Result<Vec<u32>, ChainFault>
+        requires there { (ns : List ℕ) × IsFreeChain self.now start ns × (length ns ≡ count) }
+        requires few { length self.now.table ≤ 0xFFFFFFF9 }
+        ensures linked { IfOk result (λ v. IsChain (store_of self.now) start 0 v.items) }
+        ensures free { IfOk result (λ v. AreFree self.now v.items) }
+        ensures counted { IfOk result (λ v. length v.items ≡ count) }
+        ensures refused { IfErr result (λ e. e ≡ NoMemory) }
+    {
+        let mut sectors = Vec::with_capacity(alloc, count)?;
+        let mut at = start;
+        while at != END_OF_CHAIN {
+            sectors.push(at)?;
+            at = self.next[at as usize];
         }
         Ok(sectors)
     }

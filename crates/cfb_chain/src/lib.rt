@@ -1,10 +1,8 @@
 //! Sectors and chains of a compound file (MS-CFB).
 #![tactic(auto)]
 
-mod bytes;
+pub mod bytes;
 pub mod fat;
 pub mod fault;
 pub mod header;
 mod sectors;
-#[cfg(test)]
-mod tests;

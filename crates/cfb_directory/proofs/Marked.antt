@@ -8,7 +8,8 @@ use Rattle.std.proofs.Math.ListN.{get_or-append}
 use Rattle.std.specs.List.{All, Contains, list_any}
 use Rattle.cfb_directory.proofs.Reading.{list_any-at}
 use Rattle.cfb_chain.specs.Chain.{AreDistinct}
-use Rattle.cfb_directory.specs.Entries.{EntriesValue, IsFree, AreFree, AreLinked, MayRefuseChildren, MayRefuseEntry, MayRefuseLinked, IsKindOf, IsNamed, NO_STREAM, Reaches, here, by_left, by_right, child, entry_at, kind, left, right, marked, set_all}
+use Rattle.cfb_directory.specs.Entries.{EntriesValue, IsFree, AreFree, AreLinked, MayRefuseChildren, MayRefuseEntry, MayRefuseLinked, IsKindOf, IsNamed, NO_STREAM, Reaches, here, by_left, by_right, child, entry_at, kind, left, right, marked}
+use Rattle.cfb_chain.specs.Fat.{set_all}
 use Rattle.cfb_directory.specs.Names.{IsName, is_forbidden}
 use Rattle.cfb_directory.specs.declared.fault.DirFault.{DirFault}
 use Rattle.cfb_directory.specs.declared.fault.DirFault.TheVariants.{NameEmpty, NameTooLong, NameNotAscii, NameForbidden, DuplicateName, BadEntry, TreeCycle, TooNested, NoMemory}
@@ -177,9 +178,10 @@ linked_kept e top ids DuplicateName a f h = absurd h
 linked_kept e top ids BadEntry a f h = absurd (let lt : 128 * h.0 < length e.directory = reached_inside e.directory top h.0 ids a h.1 h.2 in omega (arith, h.3))
 linked_kept e top ids TreeCycle a f h = absurd (h ids a f)
 linked_kept e top ids TooNested a f h = absurd h
-linked_kept e top ids NoMemory a f h = refl
+linked_kept e top ids NoMemory a f h = absurd h
 
 pub children_kept : (e : EntriesValue) (id : ℕ) (ids : List ℕ) (fault : DirFault) → 128 * id < length e.directory
     → AreLinked e.directory (child (entry_at e.directory id)) ids → AreFree e ids → MayRefuseChildren e id fault → fault ≡ NoMemory
 children_kept e id ids fault lt a f (inl out) = absurd (omega (arith, out.0))
-children_kept e id ids fault lt a f (inr h) = linked_kept e (child (entry_at e.directory id)) ids fault a f h
+children_kept e id ids fault lt a f (inr (inl h)) = linked_kept e (child (entry_at e.directory id)) ids fault a f h
+children_kept e id ids fault lt a f (inr (inr m)) = m.1

@@ -1,12 +1,13 @@
 -- Marks of entries.
-use Rattle.std.proofs.Common.{◌≡◌, ◌≢◌, ◌<◌, ◌+◌, ℕ, zero, suc, Bool, true, false, ◌⊎◌, inl, inr, List, [], ◌∷◌, ◌++◌, length, get_or, set, refl, sym, ◌∙◌, ap, subst, arith, append_assoc, append-nil, length-append}
+use Rattle.std.proofs.Common.{◌≡◌, ◌≢◌, ◌<◌, ◌≤◌, ◌+◌, ℕ, zero, suc, Bool, true, false, ◌⊎◌, inl, inr, List, [], ◌∷◌, ◌++◌, length, get_or, set, refl, sym, ◌∙◌, ap, subst, arith, append_assoc, append-nil, length-append}
 use Rattle.std.proofs.lemmas.Bool.{cases_Bool}
 use Rattle.std.proofs.lemmas.List.Elements.{All-push}
 use Rattle.std.proofs.lemmas.List.Quantifiers.{all_pairs_push}
 use Rattle.std.proofs.lemmas.List.{get_or-append-add, get_or_default}
 use Rattle.std.proofs.Math.ListN.{length-set, get_or-append}
 use Rattle.std.specs.List.{All, Contains}
-use Rattle.cfb_directory.specs.Entries.{EntriesValue, IsFree, AreFree, marked, set_all}
+use Rattle.cfb_directory.specs.Entries.{EntriesValue, IsFree, AreFree, marked}
+use Rattle.cfb_chain.specs.Fat.{set_all}
 use Rattle.cfb_directory.specs.Walk.{clear_all, unmarked}
 
 -- one mark
@@ -153,6 +154,11 @@ abbrev pub unused : List Bool → ℕ
 unused [] = 0
 unused (true ∷ bs) = unused bs
 unused (false ∷ bs) = suc (unused bs)
+
+pub unused-le : (bs : List Bool) → unused bs ≤ length bs
+unused-le [] = omega arith
+unused-le (true ∷ bs) = omega (arith, unused-le bs)
+unused-le (false ∷ bs) = omega (arith, unused-le bs)
 
 pub unused-set : (bs : List Bool) (n : ℕ) → get_or bs n true ≡ false → unused bs ≡ suc (unused (set bs n true))
 unused-set [] n e = absurd (cc e)

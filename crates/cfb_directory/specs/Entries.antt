@@ -1,8 +1,9 @@
 -- Entries of the directory, 128 bytes each (MS-CFB 2.6).
-use Rattle.std.specs.Prelude.{◌≡◌, ◌≢◌, ◌<◌, ◌≤◌, ◌+◌, ◌-◌, ◌*◌, ◌/◌, ◌⊎◌, ℕ, zero, suc, Bool, true, false, List, [], ◌∷◌, ◌++◌, length, map, take, drop, slice_index, slice_index_or, slice_set}
+use Rattle.std.specs.Prelude.{◌≡◌, ◌≢◌, ◌<◌, ◌≤◌, ◌+◌, ◌-◌, ◌*◌, ◌/◌, ◌⊎◌, ℕ, zero, suc, Bool, true, false, List, [], ◌∷◌, ◌++◌, length, map, take, drop, slice_index, slice_index_or}
 use Rattle.std.specs.List.{All, Contains, range_with_len}
 use Rattle.cfb_chain.specs.Bytes.{u16_at, u32_at, block}
 use Rattle.cfb_chain.specs.Chain.{AreDistinct}
+use Rattle.cfb_chain.specs.Fat.{set_all}
 use Rattle.cfb_directory.specs.Names.{is_forbidden}
 use Rattle.cfb_directory.specs.declared.fault.DirFault.{DirFault}
 use Rattle.cfb_directory.specs.declared.fault.DirFault.TheVariants.{NameEmpty, NameTooLong, NameNotAscii, NameForbidden, BadEntry, TreeCycle, NoMemory}
@@ -68,10 +69,6 @@ pub record EntriesValue : Type 0 where
   pub directory : List ℕ
   pub used : List Bool
 
-abbrev pub set_all : List Bool → List ℕ → List Bool
-set_all used [] = used
-set_all used (n ∷ ns) = set_all (slice_set used n true) ns
-
 abbrev pub marked : EntriesValue → List ℕ → EntriesValue
 marked e ids = record { directory = e.directory; used = set_all e.used ids }
 
@@ -134,11 +131,12 @@ pub data Reaches (directory : List ℕ) : ℕ → ℕ → Type 0 where
 abbrev pub MayRefuseLinked : EntriesValue → ℕ → DirFault → Type 0
 MayRefuseLinked e top BadEntry = (id : ℕ) × Reaches e.directory top id × (id ≢ NO_STREAM) × (length e.directory ≤ 128 * id)
 MayRefuseLinked e top TreeCycle = (ids : List ℕ) → AreLinked e.directory top ids → AreFree e ids → ⊥
-MayRefuseLinked e top NoMemory = Unit {0}
 MayRefuseLinked e top _ = ⊥
 
+-- when a fault may be answered for the children of an entry: the memory for the walk is taken once the entry is there
 abbrev pub MayRefuseChildren : EntriesValue → ℕ → DirFault → Type 0
 MayRefuseChildren e id fault = (length e.directory ≤ 128 * id) × (fault ≡ BadEntry) ⊎ MayRefuseLinked e (child (entry_at e.directory id)) fault
+    ⊎ (128 * id < length e.directory) × (fault ≡ NoMemory)
 
 abbrev pub MayRefuseLoad : List ℕ → DirFault → Type 0
 MayRefuseLoad directory BadEntry = length directory < 128

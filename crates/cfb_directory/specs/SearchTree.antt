@@ -31,8 +31,11 @@ pub data IsTree (lefts rights : List ℕ) : ℕ → List ℕ → Type 0 where
       → IsTree lefts rights (slice_index rights k) after
       → IsTree lefts rights k (before ++ (k ∷ after))
 
--- links of the siblings with these names, by the places of the names: a balanced search tree of just them
+-- links of the siblings with these names, by the places of the names, a left and a right one for each: a balanced search
+-- tree of just them
 pub record IsBuilt (names : List (List ℕ)) (l : Links) : Type 0 where
+  pub left_count : length l.left.items ≡ length names
+  pub right_count : length l.right.items ≡ length names
   pub siblings : List ℕ
   pub tree : IsTree l.left.items l.right.items l.top siblings
   pub all : IsPermutation (range_with_len 0 (length names)) siblings

@@ -1,31 +1,10 @@
 //! Numbers in the bytes of an entry.
 
-ghost use Rattle.cfb_chain.specs.Bytes.{u16_at, u32_at};
 ghost use Rattle.cfb_directory.specs.Entries.{entry_at};
 ghost use Rattle.std.specs.Prelude.{◌≡◌, ◌≤◌, ◌<◌, ◌+◌, ◌-◌, ◌*◌, ◌++◌, length, replicate};
 
-use byteorder::{ByteOrder, LittleEndian};
-
 /// How many bytes an entry has.
 pub const ENTRY_LEN: usize = 128;
-
-/// The number in two bytes at a place.
-#[tactic(auto, unfolding(cfb_chain::specs::Bytes::u16_at))]
-pub(crate) fn read_u16(bytes: &[u8], at: usize) -> u16
-    requires { at + 2 ≤ length bytes.now }
-    ensures { result ≡ u16_at bytes.now at }
-{
-    LittleEndian::read_u16(&bytes[at..])
-}
-
-/// The number in four bytes at a place.
-#[tactic(auto, unfolding(cfb_chain::specs::Bytes::u32_at))]
-pub(crate) fn read_u32(bytes: &[u8], at: usize) -> u32
-    requires { at + 4 ≤ length bytes.now }
-    ensures { result ≡ u32_at bytes.now at }
-{
-    LittleEndian::read_u32(&bytes[at..])
-}
 
 /// The bytes, with zeros behind them.
 fn padded(part: &[u8]) -> [u8; 128]

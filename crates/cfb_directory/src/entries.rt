@@ -1,14 +1,16 @@
 //! Entries of the directory (MS-CFB 2.6).
 
-ghost use Rattle.cfb_directory.specs.Entries.{AreFree, AreLinked, IsEntry, IsFree, IsKindOf, IsNamed, MayRefuseChildren, MayRefuseEntry, MayRefuseLinked, MayRefuseLoad, child, class_of, entry_at, kind_number, left, marked, right, set_all};
+ghost use Rattle.cfb_directory.specs.Entries.{AreFree, AreLinked, IsEntry, IsFree, IsKindOf, IsNamed, MayRefuseChildren, MayRefuseEntry, MayRefuseLinked, MayRefuseLoad, child, class_of, entry_at, kind_number, left, marked, right};
+ghost use Rattle.cfb_chain.specs.Fat.{set_all};
 ghost use Rattle.cfb_directory.specs.Walk.{IsTaken, MayRefuseName, unmarked};
 ghost use Rattle.cfb_directory.specs.declared.fault.DirFault.TheVariants.{BadEntry};
 ghost use Rattle.std.specs.List.{All};
-ghost use Rattle.std.specs.Prelude.{◌≡◌, ◌<◌, ◌≤◌, ◌*◌, ◌/◌, ◌∷◌, [], false, replicate, length, IfErr, IfOk, OnErr, OnOk};
+ghost use Rattle.std.specs.Prelude.{◌≡◌, ◌<◌, ◌≤◌, ◌*◌, ◌/◌, ◌∷◌, ◌++◌, [], false, replicate, length, vec_capacity, vec_len, IfErr, IfOk, OnErr, OnOk};
 
-use crate::bytes::{ENTRY_LEN, entry_bytes, read_u16, read_u32};
+use crate::bytes::{ENTRY_LEN, entry_bytes};
 use crate::fault::DirFault;
 use crate::name::{LONGEST, Name};
+use cfb_chain::bytes::{read_u16, read_u32};
 use std::alloc::Global;
 use std::marker::Model;
 
@@ -93,6 +95,18 @@ fn read_name(entry: &[u8; 128]) -> Result<Name, DirFault>
     Name::new(&units[..count])
 }
 
+/// Adds an entry to a list that has room for it.
+fn push_within(list: &mut Vec<u32>, id: u32)
+    requires { vec_len list.old < vec_capacity list.old }
+    ensures items { list.new.items ≡ list.old.items ++ id ∷ [] }
+    ensures room { vec_capacity list.old ≤ vec_capacity list.new }
+{
+    match list.push(id) {
+        Ok(()) => {}
+        Err(_) => unreachable!(),
+    }
+}
+
 impl<'a> Model for Entries<'a> {
     ghost use Rattle.std.specs.Prelude.{◌≡◌, ◌/◌, length};
     ghost use Rattle.cfb_directory.specs.Entries.{EntriesValue};
@@ -156,7 +170,8 @@ impl<'a> Entries<'a> {
 
     /// The children of an entry: just those that links reach from its child, which it marks. A refusal marks none.
     ///
-    /// Refused: `BadEntry` for an id outside the directory, `TreeCycle` where an entry is marked or reached twice.
+    /// Refused: `BadEntry` for an id outside the directory; then `NoMemory`, before any link is followed; then `BadEntry`
+    /// where a link leaves the directory, `TreeCycle` where an entry is marked or reached twice.
     pub fn children(&mut self, alloc: Global, id: u32) -> Result<Vec<u32>, DirFault>
         ensures linked { IfOk result (λ v. AreLinked self.old.directory (child (entry_at self.old.directory id)) v.items) }
         ensures free { IfOk result (λ v. AreFree self.old v.items) }
@@ -165,8 +180,16 @@ impl<'a> Entries<'a> {
         ensures kept { OnErr result (self.new ≡ self.old) }
     {
         let top = self.child(id)?;
-        let mut found = Vec::new(alloc);
-        match self.walk(alloc, top, &mut found) {
+        let count = self.used.len();
+        let mut found = match Vec::with_capacity(alloc, count) {
+            Ok(found) => found,
+            Err(_) => return Err(DirFault::NoMemory),
+        };
+        let mut waiting = match Vec::with_capacity(alloc, 2 * count + 1) {
+            Ok(waiting) => waiting,
+            Err(_) => return Err(DirFault::NoMemory),
+        };
+        match self.walk(top, &mut waiting, &mut found) {
             Ok(()) => Ok(found),
             Err(fault) => {
                 self.unmark(found);
@@ -175,17 +198,24 @@ impl<'a> Entries<'a> {
         }
     }
 
-    /// Finds and marks what links reach from an entry, a parent before what it links to. A refusal leaves those that were
-    /// found marked.
-    fn walk(&mut self, alloc: Global, top: u32, found: &mut Vec<u32>) -> Result<(), DirFault>
-        requires { found.old.items ≡ [] }
+    /// Finds and marks what links reach from an entry, a parent before what it links to, in lists with room for all entries.
+    /// A refusal leaves those that were found marked.
+    fn walk(
+        &mut self,
+        top: u32,
+        waiting: &mut Vec<u32>,
+        found: &mut Vec<u32>,
+    ) -> Result<(), DirFault>
+        requires nobody_waits { waiting.old.items ≡ [] }
+        requires none_found { found.old.items ≡ [] }
+        requires room_to_wait { 2 * length self.old.used < vec_capacity waiting.old }
+        requires room { length self.old.used ≤ vec_capacity found.old }
         ensures linked { OnOk result (AreLinked self.old.directory top found.new.items) }
         ensures free { AreFree self.old found.new.items }
         ensures marks { self.new ≡ marked self.old found.new.items }
         ensures refused { IfErr result (MayRefuseLinked self.old top) }
     {
-        let mut waiting = Vec::new(alloc);
-        waiting.push(top)?;
+        push_within(waiting, top);
         while let Some(id) = waiting.pop() {
             if id == NO_STREAM {
                 continue;
@@ -194,11 +224,11 @@ impl<'a> Entries<'a> {
                 Ok(()) => {}
                 Err(fault) => return Err(fault),
             }
-            found.push(id)?;
+            push_within(found, id);
             self.mark(id);
             let (left, right) = self.links(id);
-            waiting.push(right)?;
-            waiting.push(left)?;
+            push_within(waiting, right);
+            push_within(waiting, left);
         }
         Ok(())
     }

@@ -6,6 +6,4 @@ pub mod entries;
 pub mod fault;
 pub mod links;
 pub mod name;
-#[cfg(test)]
-mod tests;
 pub mod write;

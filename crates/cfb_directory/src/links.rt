@@ -38,6 +38,7 @@ pub fn balanced(alloc: Global, count: u32) -> Result<Links, AllocError>
 ///
 /// Refused: `DuplicateName` where two names are equal in upper case.
 pub fn build(alloc: Global, names: &[Name]) -> Result<Links, DirFault>
+    requires { length names.now ≤ 0xFFFFFFFF }
     ensures built { IfOk result (IsBuilt names.now) }
     ensures refused { IfErr result (MayRefuseBuild names.now) }
 {
@@ -55,13 +56,10 @@ pub fn build(alloc: Global, names: &[Name]) -> Result<Links, DirFault>
 
 /// The names' keys, each with its place.
 fn keyed(alloc: Global, names: &[Name]) -> Result<Vec<([u8; 32], u32)>, DirFault>
+    requires { length names.now ≤ 0xFFFFFFFF }
     ensures keyed { IfOk result (λ v. v.items ≡ keyed_names names.now) }
-    ensures few { IfOk result (λ v. length names.now ≤ 0xFFFFFFFF) }
     ensures refused { IfErr result (λ e. e ≡ NoMemory) }
 {
-    if names.len() > u32::MAX as usize {
-        return Err(DirFault::NoMemory);
-    }
     let mut siblings = Vec::new(alloc);
     for (k, name) in names.iter().enumerate() {
         siblings.push((name.key(), k as u32))?;

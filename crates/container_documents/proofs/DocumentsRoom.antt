@@ -6,7 +6,7 @@ use Rattle.storage_tree.specs.declared.streams.NamedStream.{NamedStream}
 use Rattle.file_model.specs.Need.{entries_of, mini_sectors, over_streams_of, short_pieces}
 use Rattle.file_model.specs.Refusals.{has_long_in, has_storage_in, writable}
 use Rattle.file_model.specs.declared.fault.WriteFault.{WriteFault}
-use Rattle.stream_io.proofs.Refused.{allowed_room, needed, refused_long, refused_room}
+use Rattle.file_model.proofs.Refused.{allowed_room, needed, refused_long, refused_room}
 use Rattle.container_model.specs.Saves.{children_of, root_class}
 
 pub flat : (ss : List NamedStream) → has_storage_in (children_of ss) ≡ false

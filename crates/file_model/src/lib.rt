@@ -2,3 +2,4 @@
 #![tactic(auto)]
 
 pub mod fault;
+pub mod law;

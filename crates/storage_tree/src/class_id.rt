@@ -35,16 +35,3 @@ impl ClassId {
         &self.bytes
     }
 }
-
-#[cfg(test)]
-mod tests {
-    use super::*;
-
-    #[test]
-    fn a_class_id_is_its_bytes(rt: HostRuntime) {
-        let mut bytes = [0; 16];
-        bytes[0] = 0xab;
-        assert_eq!(rt; ClassId::from_bytes(bytes).as_bytes(), &bytes);
-        assert!(rt; ClassId::from_bytes(bytes) != ClassId::from_bytes([0; 16]));
-    }
-}

@@ -126,6 +126,3 @@ impl Streams {
         Ok(Streams { items })
     }
 }
-
-#[cfg(test)]
-mod tests;

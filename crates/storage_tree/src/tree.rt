@@ -165,6 +165,3 @@ impl Tree {
         }
     }
 }
-
-#[cfg(test)]
-mod tests;

@@ -4,13 +4,13 @@ use Rattle.std.proofs.Props.{props}
 use Rattle.storage_tree.specs.Tree.{Tree}
 use Rattle.storage_tree.specs.Whole.{IsTree}
 use Rattle.file_model.specs.Denotes.{Denotes}
-use Rattle.stream_io.specs.Directory.{IsCovered, IsSpelled, balanced, parts_of}
-use Rattle.stream_io.specs.Image.{Parts, image}
-use Rattle.stream_io.specs.Placed.{Fits}
+use Rattle.file_model.specs.Directory.{IsCovered, IsSpelled, balanced, parts_of}
+use Rattle.file_model.specs.Image.{Parts, image}
+use Rattle.file_model.specs.Placed.{Fits}
 use Rattle.stream_io.specs.View.{AreEnough}
 use Rattle.stream_io.specs.declared.entries.Counts.{Counts}
-use Rattle.stream_io.proofs.Contents.{fits-tree, image-denotes}
-use Rattle.stream_io.proofs.ContentsBalanced.{are-balanced}
+use Rattle.file_model.proofs.Contents.{fits-tree, image-denotes}
+use Rattle.file_model.proofs.ContentsBalanced.{are-balanced}
 
 module _ (c : Counts) (t : Tree) (are : AreEnough c t) (spelled : IsSpelled t) (whole : IsTree 32 t) where
   covered : IsCovered c.fat t

@@ -18,7 +18,7 @@ use Rattle.storage_tree.specs.Kept.{Kept, put, tree_of}
 use Rattle.storage_tree.specs.Tree.{Tree, Children, tree, none, stream, storage, keys}
 use Rattle.storage_tree.specs.declared.fault.TreeFault.{TreeFault}
 use Rattle.stream_io.specs.Reads.{AreRead, IsPut, IsStreamRead, children_in, fat_after, filled, key_at, mini_after, table_for, with_children}
-use Rattle.stream_io.proofs.Lists.{Contains-cons_cases}
+use Rattle.file_model.proofs.Lists.{Contains-cons_cases}
 use Rattle.stream_io.proofs.ReadingLists.{contains-none}
 
 -- children with others behind them

@@ -5,7 +5,9 @@ use Rattle.std.proofs.lemmas.List.{drop_all}
 use Rattle.std.specs.List.{Contains, list_any}
 use Rattle.cfb_chain.specs.Bytes.{block}
 use Rattle.cfb_directory.specs.Names.{IsName, is_forbidden}
-use Rattle.cfb_directory.specs.Entries.{IsNamed, MayRefuseEntry, entry_at, kind}
+use Rattle.cfb_directory.specs.Entries.{IsNamed, MayRefuseEntry, entry_at, kind, kind_number}
+use Rattle.cfb_directory.specs.declared.entries.EntryKind.{EntryKind}
+use Rattle.cfb_directory.specs.declared.entries.EntryKind.TheVariants as kinds
 use Rattle.cfb_directory.specs.declared.fault.DirFault.{DirFault}
 use Rattle.cfb_directory.specs.declared.fault.DirFault.TheVariants.{NameEmpty, NameTooLong, NameNotAscii, NameForbidden, DuplicateName, BadEntry, TreeCycle, TooNested, NoMemory}
 use Rattle.cfb_chain.specs.Bytes.{joined}
@@ -14,8 +16,8 @@ use Rattle.cfb_directory.specs.Names.{key}
 use Rattle.cfb_directory.specs.Entries.{first_of, size_of}
 use Rattle.cfb_directory.specs.declared.entries.Entry.{Entry}
 use Rattle.storage_tree.specs.Kept.{Kept, put}
-use Rattle.stream_io.specs.Reads.{IsPut, IsStream, fat_after, mini_after, table_for}
-use Rattle.stream_io.proofs.Lists.{Contains-cons_cases}
+use Rattle.stream_io.specs.Reads.{IsPut, IsStream, MayRefuseStream, directory_fault, fat_after, mini_after, table_for}
+use Rattle.file_model.proofs.Lists.{Contains-cons_cases}
 use Rattle.stream_io.proofs.ReadingLists.{contains-none}
 
 -- past the directory all bytes are zero
@@ -71,6 +73,23 @@ stream_not_refused dir (suc id) name BadEntry k n v ne r =
 stream_not_refused dir (suc id) name TreeCycle k n v ne r = r
 stream_not_refused dir (suc id) name TooNested k n v ne r = r
 stream_not_refused dir (suc id) name NoMemory k n v ne r = r
+
+-- what refuses an entry refuses that of a stream
+pub stream_refused : (dir : List ℕ) (id : ℕ) (fault : DirFault) → MayRefuseEntry dir id fault → MayRefuseStream dir id (directory_fault fault)
+stream_refused dir id NameEmpty r = r
+stream_refused dir id NameTooLong r = r
+stream_refused dir id NameNotAscii r = r
+stream_refused dir id NameForbidden r = r
+stream_refused dir id DuplicateName r = r
+stream_refused dir id BadEntry r = inr r
+stream_refused dir id TreeCycle r = r
+stream_refused dir id TooNested r = r
+stream_refused dir id NoMemory r = r
+
+pub stream_kind : (k : EntryKind) → kind_number k ≡ 2 → k ≡ kinds.Stream
+stream_kind kinds.Storage h = absurd (omega (arith, h))
+stream_kind kinds.Stream h = refl
+stream_kind kinds.Root h = absurd (omega (arith, h))
 
 -- an entry, its bytes and its change of the tree
 pub is_put : (dir : List ℕ) (id : ℕ) (e : Entry) (bytes : List ℕ) (fat mini fat' mini' : FatValue) (old new : Kept) → IsStream dir id e

@@ -19,7 +19,7 @@ use Rattle.cfb_directory.specs.declared.fault.DirFault.TheVariants.{NameEmpty, N
 use Rattle.stream_io.specs.Reads.{IsKeyed, MayRefuseNames, directory_fault, key_at}
 use Rattle.stream_io.specs.declared.fault.ReadFault.{ReadFault}
 use Rattle.stream_io.specs.declared.fault.ReadFault.TheVariants.{Directory}
-use Rattle.stream_io.proofs.Lists.{Contains-cons_cases, Contains-front, Contains-behind}
+use Rattle.file_model.proofs.Lists.{Contains-cons_cases, Contains-front, Contains-behind}
 
 none_head : (b : Bool) (v : ℕ) (o : Option ℕ) → cond b (Some v) o ≡ None → b ≡ false
 none_head true v o h = cc

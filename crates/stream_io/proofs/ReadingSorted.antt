@@ -18,8 +18,8 @@ use Rattle.storage_tree.specs.Tree.{Children}
 use Rattle.stream_io.specs.Reads.{AreRead, AreSorted, MayRefuseNames, key_at}
 use Rattle.stream_io.specs.declared.fault.ReadFault.{ReadFault}
 use Rattle.stream_io.specs.declared.fault.ReadFault.TheVariants as told
-use Rattle.stream_io.proofs.Lists.{sorted_unique}
-use Rattle.stream_io.proofs.Unique.{linked_unique}
+use Rattle.file_model.proofs.Lists.{sorted_unique}
+use Rattle.file_model.proofs.Unique.{linked_unique}
 use Rattle.stream_io.proofs.ReadingChildren.{each_read}
 use Rattle.stream_io.proofs.ReadingEntries.{stream_not_refused}
 use Rattle.stream_io.proofs.ReadingLists.{all-from}
@@ -53,15 +53,16 @@ linked_inside d top id ids (around n before after other lt l r) (by_right m to l
 pub children_not_refused : (e : EntriesValue) (id : ℕ) (ids : List ℕ) (fault : DirFault) → 128 * id < length e.directory → AreSorted e id ids
     → MayRefuseChildren e id fault → fault ≡ NoMemory
 children_not_refused e id ids fault lt h (inl r) = absurd (omega (arith, r.0))
-children_not_refused e id ids NameEmpty lt h (inr r) = absurd r
-children_not_refused e id ids NameTooLong lt h (inr r) = absurd r
-children_not_refused e id ids NameNotAscii lt h (inr r) = absurd r
-children_not_refused e id ids NameForbidden lt h (inr r) = absurd r
-children_not_refused e id ids DuplicateName lt h (inr r) = absurd r
-children_not_refused e id ids BadEntry lt h (inr r) = absurd (linked_inside e.directory (child (entry_at e.directory id)) r.0 h.reached h.linked r.1 r.2 r.3)
-children_not_refused e id ids TreeCycle lt h (inr r) = absurd (r h.reached h.linked h.free)
-children_not_refused e id ids TooNested lt h (inr r) = absurd r
-children_not_refused e id ids NoMemory lt h (inr r) = refl
+children_not_refused e id ids NameEmpty lt h (inr (inl r)) = absurd r
+children_not_refused e id ids NameTooLong lt h (inr (inl r)) = absurd r
+children_not_refused e id ids NameNotAscii lt h (inr (inl r)) = absurd r
+children_not_refused e id ids NameForbidden lt h (inr (inl r)) = absurd r
+children_not_refused e id ids DuplicateName lt h (inr (inl r)) = absurd r
+children_not_refused e id ids BadEntry lt h (inr (inl r)) = absurd (linked_inside e.directory (child (entry_at e.directory id)) r.0 h.reached h.linked r.1 r.2 r.3)
+children_not_refused e id ids TreeCycle lt h (inr (inl r)) = absurd (r h.reached h.linked h.free)
+children_not_refused e id ids TooNested lt h (inr (inl r)) = absurd r
+children_not_refused e id ids NoMemory lt h (inr (inl r)) = refl
+children_not_refused e id ids fault lt h (inr (inr m)) = m.1
 
 -- ---- names
 not_less : (k : List ℕ) → key_cmp k k ≡ Less → ⊥

@@ -12,7 +12,8 @@ use Rattle.cfb_chain.proofs.Blocks.{length_block, length_joined}
 use Rattle.cfb_chain.proofs.Chains.{chain_below, chain_of_same, chain_same, same_back}
 use Rattle.cfb_chain.proofs.Marks.{distinct_left, free_when, marks_load}
 use Rattle.cfb_directory.specs.Names.{key, key_cmp}
-use Rattle.cfb_directory.specs.Entries.{AreLinked, EntriesValue, IsFree, MayRefuseEntry, MayRefuseLoad, around, child, entry_at, first_of, kind, left, name_of, nobody, right, size_of, set_all}
+use Rattle.cfb_directory.specs.Entries.{AreLinked, EntriesValue, IsFree, MayRefuseEntry, MayRefuseLoad, around, child, entry_at, first_of, kind, left, name_of, nobody, right, size_of}
+use Rattle.cfb_chain.specs.Fat.{set_all}
 use Rattle.cfb_directory.specs.declared.fault.DirFault.{DirFault}
 use Rattle.cfb_directory.specs.declared.fault.DirFault.TheVariants.{NameEmpty, NameTooLong, NameNotAscii, NameForbidden, DuplicateName, BadEntry, TreeCycle, TooNested, NoMemory}
 use Rattle.cfb_directory.proofs.Marks.{set_all-there}
@@ -25,7 +26,7 @@ use Rattle.stream_io.proofs.ReadingEntries.{kind_inside}
 use Rattle.stream_io.proofs.ReadingFile.{IsOpened, IsReady}
 use Rattle.stream_io.proofs.ReadingLists.{all-from, distinct-head}
 use Rattle.stream_io.proofs.ReadingStreams.{held_ids, held_read}
-use Rattle.stream_io.proofs.Unique.{chain_unique, layout_unique}
+use Rattle.file_model.proofs.Unique.{chain_unique, layout_unique}
 
 -- the root of loaded entries is marked
 pub root_marked : (e : EntriesValue) (count : ℕ) → e.used ≡ set_all (replicate count false) (0 ∷ []) → get_or e.used 0 true ≡ true

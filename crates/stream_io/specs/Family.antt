@@ -1,13 +1,12 @@
 -- The entries of siblings as the writer keeps them.
-use Rattle.std.specs.Prelude.{◌≡◌, ◌<◌, ◌≤◌, ◌^◌, ◌+◌, ◌⊎◌, ◌++◌, ℕ, List, length}
-use Rattle.cfb_directory.specs.Entries.{NO_STREAM}
+use Rattle.std.specs.Prelude.{◌≡◌, ◌<◌, ◌≤◌, ◌^◌, ◌+◌, ◌++◌, ℕ, List, length}
 use Rattle.cfb_directory.specs.SearchTree.{IsSearchTree}
 use Rattle.cfb_directory.specs.Written.{entry_bytes}
 use Rattle.storage_tree.specs.Tree.{Tree, Children}
 use Rattle.storage_tree.specs.Change.{Seen, bytes, inner}
 use Rattle.file_model.specs.Need.{entries, mini_sectors, entries_of, over_streams_of, short_pieces, long_pieces}
 use Rattle.stream_io.specs.Streams.{minis_with, sectors_with}
-use Rattle.stream_io.specs.Directory.{IsSpelled, ids_from, entries_with, stream_says, storage_says, entries_below, each_entry, balanced}
+use Rattle.file_model.specs.Directory.{IsSpelled, ids_from, entries_with, stream_says, storage_says, entries_below, each_entry, balanced}
 use Rattle.stream_io.specs.declared.entries.Family.{Family}
 use Rattle.stream_io.specs.declared.entries.Counts.{Counts}
 use Rattle.stream_io.specs.declared.entries.Cursor.{Cursor}
@@ -22,10 +21,6 @@ pub record IsJoined (family : Family) : Type 0 where
 pub record IsFamily (family : Family) (first : ℕ) (cs : Children) : Type 0 where
   pub ids : family.ids.items ≡ ids_from first cs
   pub joined : IsJoined family
-
--- a link to one of so many siblings, or to nobody
-abbrev pub IsLink : ℕ → ℕ → Type 0
-IsLink count place = (place ≡ NO_STREAM) ⊎ (place < count)
 
 -- where the next entry, mini sector and sector stand behind a child
 abbrev pub past : Cursor → Seen → Cursor

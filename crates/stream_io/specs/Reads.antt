@@ -1,5 +1,5 @@
 -- How a file is read, and which files are refused.
-use Rattle.std.specs.Prelude.{◌≡◌, ◌≢◌, ◌↔◌, ℕ, List, [], ◌∷◌, map, take, if◌then◌else◌, nat_lt, Ok, codes}
+use Rattle.std.specs.Prelude.{◌≡◌, ◌≢◌, ◌↔◌, ◌⊎◌, ℕ, List, [], ◌∷◌, map, take, if◌then◌else◌, nat_lt, Ok, codes}
 use Rattle.std.specs.List.{Contains}
 use Rattle.std.specs.List.Sorted.{IsStrictlySortedBy}
 use Rattle.cfb_chain.specs.Bytes.{joined}
@@ -54,6 +54,13 @@ pub record IsStream (directory : List ℕ) (id : ℕ) (e : Entry) : Type 0 where
   pub valid : IsName e.name
   pub first : e.first ≡ first_of (entry_at directory id)
   pub size : e.size ≡ size_of (entry_at directory id)
+
+-- when a fault may be answered for the entry of a stream: what any entry is refused for, or another kind
+abbrev pub MayRefuseStream : List ℕ → ℕ → ReadFault → Type 0
+MayRefuseStream dir id (Directory directory.BadEntry) = (kind (entry_at dir id) ≢ 2) ⊎ MayRefuseEntry dir id directory.BadEntry
+MayRefuseStream dir id (Directory fault) = MayRefuseEntry dir id fault
+MayRefuseStream dir id (Chain fault) = ⊥
+MayRefuseStream dir id NoMemory = ⊥
 
 -- An entry of a stream, its name, its unused sectors and its bytes.
 pub record IsStreamRead (directory : List ℕ) (id : ℕ) (fat mini : FatValue) (k name bytes ns : List ℕ) : Type 0 where

@@ -1,9 +1,9 @@
 -- What the writer's own types stand for.
 use Rattle.std.specs.Prelude.{◌≡◌, ◌≤◌, ◌+◌, ◌*◌, []}
 use Rattle.storage_tree.specs.Tree.{Tree}
-use Rattle.stream_io.specs.Directory.{long_streams}
+use Rattle.file_model.specs.Directory.{long_streams}
 use Rattle.stream_io.specs.Family.{AreCounts}
-use Rattle.stream_io.specs.Image.{Parts}
+use Rattle.file_model.specs.Image.{Parts}
 use Rattle.file_model.specs.Need.{data_sectors}
 use Rattle.stream_io.specs.declared.entries.Counts.{Counts}
 use Rattle.stream_io.specs.declared.write.Parts as written

@@ -8,8 +8,8 @@ ghost use Rattle.storage_tree.specs.View.{seen, view};
 ghost use Rattle.file_model.specs.Need.{entries, long_sectors};
 ghost use Rattle.stream_io.specs.Family.{AreCounts, IsBelow, IsChildSpelled, IsFamily, IsJoined, child_entries, past, past_all, sibling_entries};
 ghost use Rattle.storage_tree.specs.Change.{bytes as seen_bytes};
-ghost use Rattle.stream_io.specs.Image.{start};
-ghost use Rattle.stream_io.specs.Directory.{AreSpelled, IsSpelled, balanced as balanced_links, children_in, entries_with, first_of_stream, directory_of_tree, ids_from, long_start, root_says, storage_says, stream_says};
+ghost use Rattle.file_model.specs.Image.{start};
+ghost use Rattle.file_model.specs.Directory.{AreSpelled, IsSpelled, balanced as balanced_links, children_in, entries_with, first_of_stream, directory_of_tree, ids_from, long_start, root_says, storage_says, stream_says};
 
 use cfb_chain::fat::END_OF_CHAIN;
 use cfb_directory::entries::{EntryKind, NO_STREAM};
@@ -80,8 +80,9 @@ fn family_of(alloc: Global, storage: &Storage, first: u32) -> Result<Family, All
 
 impl Family {
     ghost use Rattle.std.specs.Prelude.{◌≡◌, ◌<◌, ℕ, length, slice_index};
-    ghost use Rattle.stream_io.specs.Family.{IsJoined, IsLink};
-    ghost use Rattle.stream_io.specs.Directory.{balanced, linked};
+    ghost use Rattle.stream_io.specs.Family.{IsJoined};
+    ghost use Rattle.file_model.specs.Directory.{IsLink};
+    ghost use Rattle.file_model.specs.Directory.{balanced, linked};
 
     /// The entry that a link to one of the siblings names.
     fn entry_id(&self, place: u32) -> u32

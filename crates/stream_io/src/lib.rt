@@ -3,9 +3,6 @@
 
 mod entries;
 pub mod fault;
-pub mod law;
 pub mod read;
-#[cfg(test)]
-mod read_tests;
 mod streams;
 pub mod write;

@@ -16,7 +16,7 @@ ghost use Rattle.storage_tree.specs.Tree as tree;
 ghost use Rattle.storage_tree.specs.Tree.{Children, none};
 ghost use Rattle.file_model.specs.Denotes.{Denotes};
 ghost use Rattle.file_model.specs.Refusals.{has_storage};
-ghost use Rattle.stream_io.specs.Reads.{AreChildrenRead, AreRead, AreSorted, children_in, IsKeyed, IsPut, IsStream, IsStreamRead, MayRefuseNames, chain_fault, fat_after, key_at, mini_after, table_for};
+ghost use Rattle.stream_io.specs.Reads.{AreChildrenRead, AreRead, AreSorted, children_in, IsKeyed, IsPut, IsStream, IsStreamRead, MayRefuseNames, MayRefuseStream, chain_fault, fat_after, key_at, mini_after, table_for};
 ghost use Rattle.stream_io.specs.declared.fault.ReadFault.TheVariants.{NoMemory};
 
 use crate::fault::ReadFault;
@@ -96,6 +96,7 @@ fn by_name(alloc: Global, entries: &Entries<'_>, ids: &[u32]) -> Result<Vec<u32>
 fn stream_entry(entries: &Entries<'_>, id: u32) -> Result<Entry, ReadFault>
     requires { id ≢ 0 }
     ensures read { IfOk result (IsStream entries.now.directory id) }
+    ensures refused { IfErr result (MayRefuseStream entries.now.directory id) }
     ensures there { (name : List ℕ) → kind (entry_at entries.now.directory id) ≡ 2 → IsNamed (entry_at entries.now.directory id) name → IsName name → IsOk result }
 {
     let entry = entries.entry(id)?;

@@ -2,9 +2,9 @@
 
 ghost use Rattle.std.specs.Prelude.{◌≡◌, ◌++◌, ◌<◌, OnOk, min, replicate};
 ghost use Rattle.storage_tree.specs.View.{seen, view};
-ghost use Rattle.stream_io.specs.Image.{padded};
+ghost use Rattle.file_model.specs.Image.{padded};
 ghost use Rattle.file_model.specs.Need.{long_sectors, mini_sectors};
-ghost use Rattle.stream_io.specs.Directory.{long_streams, pieces_of, short_streams, whole_pieces};
+ghost use Rattle.file_model.specs.Directory.{long_streams, pieces_of, short_streams, whole_pieces};
 ghost use Rattle.stream_io.specs.Streams.{long_within, minis_with, sectors_with, short_within};
 
 use std::alloc::AllocError;

@@ -9,19 +9,19 @@ ghost use Rattle.std.specs.Vec.{vec_len};
 ghost use Rattle.storage_tree.specs.Kept.{kept};
 ghost use Rattle.storage_tree.specs.Whole.{IsTree};
 ghost use Rattle.file_model.specs.Denotes.{Denotes};
-ghost use Rattle.stream_io.specs.Directory.{IsSpelled, balanced, parts_of as parts_of_tree};
-ghost use Rattle.stream_io.specs.Image.{image, run, runs, start, table_bytes};
+ghost use Rattle.file_model.specs.Directory.{IsSpelled, balanced, parts_of as parts_of_tree};
+ghost use Rattle.file_model.specs.Image.{image, run, runs, start, table_bytes};
 ghost use Rattle.file_model.specs.Need.{pieces};
-ghost use Rattle.stream_io.specs.Placed.{Fits};
+ghost use Rattle.file_model.specs.Placed.{Fits};
 ghost use Rattle.file_model.specs.Refusals.{Refuses, has_long, has_storage, writable};
 ghost use Rattle.stream_io.specs.View.{AreEnough, seen};
 ghost use Rattle.storage_tree.specs.View.{view};
 
 use crate::entries::{Counts, chain_start, count_below, push_directory};
-use file_model::fault::WriteFault;
 use crate::streams::{count_minis, push_mini_counts, push_mini_stream};
 use cfb_chain::fat::END_OF_CHAIN;
 use cfb_chain::header::Header;
+use file_model::fault::WriteFault;
 use std::alloc::{AllocError, Global};
 use storage_tree::storage::{Node, Storage};
 use storage_tree::tree::Tree;
@@ -175,7 +175,7 @@ fn mini_table(alloc: Global, minis: &[u32]) -> Result<Vec<u32>, AllocError>
 }
 
 /// The file of these parts, with so many FAT sectors.
-#[tactic(auto, unfolding(crate::specs::Image::image))]
+#[tactic(auto, unfolding(file_model::specs::Image::image))]
 fn lay_out(alloc: Global, fat_count: u32, parts: &Parts) -> Result<Vec<u8>, AllocError>
     requires { Fits fat_count (seen parts.now) }
     ensures { IfOk result (λ v. v.items ≡ image fat_count (seen parts.now)) }
@@ -237,6 +237,18 @@ fn count(root: &Storage) -> Result<Counts, WriteFault>
     Ok(counts)
 }
 
+/// Whether a file can hold a tree with this root. It takes no memory.
+///
+/// Refused: as for `write_file`, but never `NoMemory`.
+pub fn fits(root: &Storage) -> Result<(), WriteFault>
+    ensures { result ≡ writable (view root.now) }
+{
+    match count(root) {
+        Ok(_) => Ok(()),
+        Err(fault) => Err(fault),
+    }
+}
+
 /// The parts of the file of a tree without long streams.
 fn parts_of(alloc: Global, root: &Storage, counts: Counts) -> Result<Parts, AllocError>
     requires { AreEnough counts (view root.now) }
@@ -280,6 +292,3 @@ pub fn write_file(alloc: Global, tree: &Tree) -> Result<Vec<u8>, WriteFault>
     let file = write_root(alloc, tree.root())?;
     Ok(file)
 }
-
-#[cfg(test)]
-mod tests;

@@ -67,6 +67,8 @@ returns-clause-built c =
     let left = written c.join-top.new.left (drop (length c.join-top.new.left) c.in_ok-left.left.items) c.in_ok-left.left.len (omega (arith, c.deref_mut.ensures.len)) in
     let right = written c.join-top.new.right (drop (length c.join-top.new.right) c.in_ok-right.right.items) c.in_ok-right.right.len (omega (arith, c.deref_mut-2.ensures.len)) in
     record {
+      left_count = ap length left ∙ omega (arith, c.deref_mut.ensures.len, c.in_ok-left.ensures.len);
+      right_count = ap length right ∙ omega (arith, c.deref_mut-2.ensures.len, c.in_ok-right.ensures.len);
       siblings = c.deref-3.result.now;
       tree = subst (λ (xs : List ℕ). IsTree xs rights c.join-top.result c.deref-3.result.now) (sym left)
           (subst (λ (xs : List ℕ). IsTree c.join-top.new.left xs c.join-top.result c.deref-3.result.now) (sym right) c.join-top.ensures.tree);

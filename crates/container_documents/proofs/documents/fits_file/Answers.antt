@@ -1,5 +1,5 @@
 use Rattle.std.proofs.Common.{◌≡◌, ◌+◌, nat_le, sym, ◌∙◌, ap, arith}
-use Rattle.stream_io.proofs.Refused.{needed}
+use Rattle.file_model.proofs.Refused.{needed}
 use Rattle.container_documents.proofs.DocumentsRoom.{fits_told}
 use Rattle.container_documents.proofs.documents.fits_file.Goals as goal
 

@@ -1,6 +1,6 @@
 use Rattle.std.proofs.Common.{◌≡◌, ◌+◌, ◌++◌, length}
 use Rattle.storage_tree.specs.View.{children}
-use Rattle.stream_io.specs.Directory.{AreSpelled, ids_from}
+use Rattle.file_model.specs.Directory.{AreSpelled, ids_from}
 use Rattle.stream_io.specs.Family.{past_all, sibling_entries}
 use Rattle.stream_io.proofs.entries.+push_entries.Given as goal
 

@@ -4,7 +4,8 @@ use Rattle.std.specs.Result.{IsErrAnd}
 use Rattle.cfb_chain.specs.Chain.{IsChain}
 use Rattle.cfb_chain.specs.Fat.{AreFree, store_of}
 use Rattle.cfb_chain.specs.Header.{HeaderValue, IsHeader, header_of, listed}
-use Rattle.cfb_directory.specs.Entries.{EntriesValue, set_all}
+use Rattle.cfb_directory.specs.Entries.{EntriesValue}
+use Rattle.cfb_chain.specs.Fat.{set_all}
 use Rattle.storage_tree.specs.Kept.{kept}
 use Rattle.file_model.specs.Denotes.{Layout}
 use Rattle.stream_io.proofs.ReadingFile.{IsOpened, IsReady, denoted, opened_at, read_header, ready}

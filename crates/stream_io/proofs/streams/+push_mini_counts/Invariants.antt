@@ -1,6 +1,6 @@
 use Rattle.std.proofs.Common.{◌≡◌, ◌++◌}
 use Rattle.storage_tree.specs.View.{children}
-use Rattle.stream_io.specs.Directory.{short_streams_of, pieces_of}
+use Rattle.file_model.specs.Directory.{short_streams_of, pieces_of}
 use Rattle.stream_io.proofs.streams.+push_mini_counts.Given as goal
 
 abbrev pub invariant-push_mini_counts-loop-child : goal.invariant-push_mini_counts-loop-child

@@ -1,6 +1,6 @@
 use Rattle.std.proofs.Common.{◌≡◌, ◌++◌}
 use Rattle.storage_tree.specs.View.{children}
-use Rattle.stream_io.specs.Directory.{short_streams_of, whole_pieces}
+use Rattle.file_model.specs.Directory.{short_streams_of, whole_pieces}
 use Rattle.stream_io.proofs.streams.+push_short.Given as goal
 
 abbrev pub invariant-push_short-loop-child : goal.invariant-push_short-loop-child

@@ -1,7 +1,7 @@
 use Rattle.std.proofs.Common.{arith, ◌≡◌, ◌∙◌, sym, false}
 use Rattle.storage_tree.specs.View.{view}
 use Rattle.file_model.specs.Refusals.{has_long, has_storage}
-use Rattle.stream_io.proofs.Refused.{all_short, allowed_room, data_is, refused_long, refused_room}
+use Rattle.file_model.proofs.Refused.{all_short, allowed_room, data_is, refused_long, refused_room}
 use Rattle.stream_io.proofs.write.count.Goals as goal
 use Rattle.stream_io.proofs.write.count.Goals.{then-long-via-then-long, then-long-via-else-long+then-data_sectors-gt127}
 

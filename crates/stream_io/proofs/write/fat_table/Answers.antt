@@ -2,8 +2,8 @@ use Rattle.std.proofs.Common.{arith, rules, ap, length, replicate, length-append
 use Rattle.std.proofs.lemmas.List.{length-replicate}
 use Rattle.std.specs.Vec.{vec_len}
 use Rattle.cfb_chain.specs.Chain.{FAT_SECTOR}
-use Rattle.stream_io.specs.Image.{runs}
-use Rattle.stream_io.proofs.Tables.{length-runs}
+use Rattle.file_model.specs.Image.{runs}
+use Rattle.file_model.proofs.Tables.{length-runs}
 use Rattle.stream_io.proofs.write.fat_table.Goals as goal
 
 pub returns-clause-len : goal.returns-clause-len

@@ -1,7 +1,7 @@
 use Rattle.std.proofs.Common.{rules, ap, length, ◌≡◌, ◌∙◌}
 use Rattle.std.specs.Vec.{vec_len}
-use Rattle.stream_io.specs.Image.{runs}
-use Rattle.stream_io.proofs.Tables.{length-runs}
+use Rattle.file_model.specs.Image.{runs}
+use Rattle.file_model.proofs.Tables.{length-runs}
 use Rattle.stream_io.proofs.write.mini_table.Goals as goal
 
 pub returns-clause-len : goal.returns-clause-len

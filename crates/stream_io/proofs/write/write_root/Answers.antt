@@ -2,9 +2,9 @@ use Rattle.std.proofs.Common.{◌≡◌, ◌∙◌, ap, sym, subst, List, ℕ}
 use Rattle.std.proofs.Math.Logic.{∥∥₁_elim, ∥∥₁_map}
 use Rattle.storage_tree.specs.View.{view}
 use Rattle.file_model.specs.Denotes.{Denotes}
-use Rattle.stream_io.specs.Directory.{balanced, parts_of}
-use Rattle.stream_io.specs.Image.{Parts, image}
-use Rattle.stream_io.specs.Placed.{Fits}
+use Rattle.file_model.specs.Directory.{balanced, parts_of}
+use Rattle.file_model.specs.Image.{Parts, image}
+use Rattle.file_model.specs.Placed.{Fits}
 use Rattle.stream_io.specs.View.{seen}
 use Rattle.stream_io.proofs.Denoted.{fits_prop, file_denotes, parts_fit}
 use Rattle.stream_io.proofs.write.write_root.Goals as goal

@@ -1,17 +1,26 @@
-use Rattle.std.proofs.Common.{◌≤◌, ◌≡◌, ◌*◌, ◌+◌, ℕ, List, arith, length, ap, ◌∙◌, sym, subst, min}
+use Rattle.std.proofs.Common.{◌<◌, ◌≤◌, ◌≡◌, ◌*◌, ◌+◌, ℕ, List, arith, length, ap, ◌∙◌, sym, subst, min}
 use Rattle.cfb_chain.specs.Bytes.{joined, sector}
-use Rattle.cfb_chain.specs.Fat.{IsTableOf, MayRefuseFat, sectors_in}
+use Rattle.std.specs.List.{All}
+use Rattle.cfb_chain.specs.Chain.{IsPresent}
+use Rattle.cfb_chain.specs.Fat.{IsTableOf, MayRefuseFat, sectors_in, sectors_of}
 use Rattle.cfb_chain.specs.declared.fault.ChainFault.TheVariants.{NoMemory, OutOfFile, CrossLinked}
 use Rattle.cfb_chain.proofs.Blocks.{length_block, length_joined}
 use Rattle.cfb_chain.proofs.Chains.{refused_not_fat}
 use Rattle.cfb_chain.proofs.Results.{refused_with}
-use Rattle.cfb_chain.proofs.Tables.{absent, crossed, loaded}
+use Rattle.cfb_chain.proofs.Tables.{absent, all_present, crossed, loaded}
 use Rattle.cfb_chain.proofs.fat.Fat.load.Goals as goal
 
 -- the number of sectors, by the list as it was read
 counted : (fat ns file : List ℕ) (count a b : ℕ) → ns ≡ fat → count ≡ min (128 * a) b → a ≡ length fat → b ≡ sectors_in file
     → count ≡ min (128 * length ns) (sectors_in file)
 counted fat ns file count a b same h ea eb = h ∙ (λ i. min (128 * (ea ∙ ap length (sym same)) i) (eb i))
+
+-- the sectors are there, where want of memory is told
+memory_last : (file fat ns : List ℕ) (count a b : ℕ) → ns ≡ fat → count ≡ min (128 * a) b → a ≡ length fat → b ≡ sectors_in file → a ≤ 109
+    → All (λ n. n < count) ns → MayRefuseFat file fat NoMemory
+memory_last file fat ns count a b same h ea eb few below =
+    subst (λ xs. All (IsPresent (sectors_of file xs)) xs) same
+    (all_present file ns count (counted fat ns file count a b same h ea eb) (omega (arith, ap length same, ea, few)) below)
 
 absent_one : (c : goal.After-from_residual) → MayRefuseFat c.args.file.now c.args.header.now.fat c.in_err-check_present.field-0.0
 absent_one c =
@@ -68,3 +77,24 @@ returns-clause-table c =
     c.in_ok-check_present.ensures.present (c.deref.ensures.value ∙ c.in_ok-bytes.ensures) c.in_ok-next.ensures.count c.in_ok-next.ensures.each
     (c.in_ok-used.ensures.items_if_clones_equal (λ y e. e))
     c.in_ok-mark_apart.ensures.free c.in_ok-mark_apart.ensures.marks)
+
+pub returns-in_err-bytes-clause-refused : goal.returns-in_err-bytes-clause-refused
+returns-in_err-bytes-clause-refused c =
+    refused_with c.from_residual-in_err-bytes.result NoMemory (MayRefuseFat c.args.file.now c.args.header.now.fat) c.from_residual-in_err-bytes.ensures.1
+    (memory_last c.args.file.now c.args.header.now.fat c.fat-listed.result.now c.min-count.result c.fat_count.result c.count_sectors.result
+    c.fat-listed.ensures c.min-count.ensures c.fat_count.ensures.count c.count_sectors.ensures c.fat_count.ensures.few
+    c.in_ok-check_present.ensures.present)
+
+pub returns-in_err-next-clause-refused : goal.returns-in_err-next-clause-refused
+returns-in_err-next-clause-refused c =
+    refused_with c.from_residual-in_err-next.result NoMemory (MayRefuseFat c.args.file.now c.args.header.now.fat) c.from_residual-in_err-next.ensures.1
+    (memory_last c.args.file.now c.args.header.now.fat c.fat-listed.result.now c.min-count.result c.fat_count.result c.count_sectors.result
+    c.fat-listed.ensures c.min-count.ensures c.fat_count.ensures.count c.count_sectors.ensures c.fat_count.ensures.few
+    c.in_ok-check_present.ensures.present)
+
+pub returns-in_err-used-clause-refused : goal.returns-in_err-used-clause-refused
+returns-in_err-used-clause-refused c =
+    refused_with c.from_residual-in_err-used.result NoMemory (MayRefuseFat c.args.file.now c.args.header.now.fat) c.from_residual-in_err-used.ensures.1
+    (memory_last c.args.file.now c.args.header.now.fat c.fat-listed.result.now c.min-count.result c.fat_count.result c.count_sectors.result
+    c.fat-listed.ensures c.min-count.ensures c.fat_count.ensures.count c.count_sectors.ensures c.fat_count.ensures.few
+    c.in_ok-check_present.ensures.present)

@@ -4,10 +4,10 @@ use Rattle.cfb_directory.proofs.entries.Entries.children.Goals as goal
 
 pub unmark-requires : goal.unmark-requires
 unmark-requires c = λ k d lt.
-    let inside = marked-inside c.args.self.now c.walk.new.found.items c.in-Err.ensures.free k d lt in
-    let same = ap (λ v. length v.used) c.in-Err.ensures.marks in
+    let inside = marked-inside c.args.self.now c.walk.new.found.items c.in-Err-walk.ensures.free k d lt in
+    let same = ap (λ v. length v.used) c.in-Err-walk.ensures.marks in
     omega (arith, inside, same)
 
-pub returns-in-Err-clause-kept : goal.returns-in-Err-clause-kept
-returns-in-Err-clause-kept c =
-    c.unmark.ensures ∙ unmarked-all c.args.self.now c.walk.new.self c.walk.new.found.items c.in-Err.ensures.free c.in-Err.ensures.marks
+pub returns-clause-kept : goal.returns-clause-kept
+returns-clause-kept c =
+    c.unmark.ensures ∙ unmarked-all c.args.self.now c.walk.new.self c.walk.new.found.items c.in-Err-walk.ensures.free c.in-Err-walk.ensures.marks

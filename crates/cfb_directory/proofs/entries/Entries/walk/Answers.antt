@@ -1,25 +1,28 @@
-use Rattle.std.proofs.Common.{◌≡◌, ◌<◌, ◌*◌, ℕ, List, [], ◌∷◌, ◌++◌, length, sym, ◌∙◌, ap, subst, arith, length-append}
+use Rattle.std.proofs.Common.{◌≡◌, ◌<◌, ◌≤◌, ◌*◌, ℕ, List, [], ◌∷◌, ◌++◌, length, sym, ◌∙◌, ap, subst, arith, length-append}
 use Rattle.std.proofs.lemmas.List.{nil_from_length}
 use Rattle.std.proofs.lemmas.List.Elements.{All-push}
 use Rattle.std.specs.List.{All}
 use Rattle.cfb_directory.specs.Entries.{AreFree, EntriesValue, IsFree, Reaches, here, left, right, entry_at, marked}
 use Rattle.cfb_directory.proofs.Linked.{Completes, Completes-start, Completes-nobody, Completes-step, Completes-end, reaches_left, reaches_right}
-use Rattle.cfb_directory.proofs.Marks.{All-front, All-last, AreFree-none, AreFree-push, marked-push, unused, unused-set}
+use Rattle.cfb_directory.proofs.Marks.{All-front, All-last, AreFree-none, AreFree-push, marked-push, unused, unused-le, unused-set}
 use Rattle.cfb_directory.proofs.Walk.{taken_refused}
 use Rattle.cfb_directory.proofs.entries.Entries.walk.Goals as goal
 
 pub loop-id-init : goal.loop-id-init
 loop-id-init c =
     let e : EntriesValue = c.args.self.now in
-    let none : c.args.found.now.items ≡ [] = c.requires in
-    let start : c.push.new.self.items ≡ c.args.top ∷ [] = c.in_ok-push.ensures.items ∙ ap (λ xs. xs ++ c.args.top ∷ []) c.new-waiting.ensures.items in
+    let none : c.args.found.now.items ≡ [] = c.requires.none_found in
+    let start : c.push_within.new.list.items ≡ c.args.top ∷ [] = c.push_within.ensures.items ∙ ap (λ xs. xs ++ c.args.top ∷ []) c.requires.nobody_waits in
+    let few : unused e.used ≤ length e.used = unused-le e.used in
     let R : ℕ → Type 0 = Reaches e.directory c.args.top in
     record {
       marks = ap (marked e) (sym none);
       free = subst (AreFree e) (sym none) (AreFree-none e);
       reached = subst (All R) (sym start) (All-push R [] c.args.top (λ k d lt. absurd (omega arith)) (here c.args.top));
-      linked = subst (λ (xs : List ℕ). Completes e.directory c.args.top xs c.push.new.self.items) (sym none)
+      linked = subst (λ (xs : List ℕ). Completes e.directory c.args.top xs c.push_within.new.list.items) (sym none)
           (subst (Completes e.directory c.args.top []) (sym start) (Completes-start e.directory c.args.top));
+      room = omega (arith, ap length none, c.requires.room, few);
+      room_to_wait = omega (arith, ap length start, c.requires.room_to_wait, c.push_within.ensures.room, few);
     }
 
 pub loop-id-preserved-then-id : goal.loop-id-preserved-then-id
@@ -33,6 +36,8 @@ loop-id-preserved-then-id c =
       reached = All-front (Reaches d c.args.top) c.pop.new.self.items c.in-Some.id (subst (All (Reaches d c.args.top)) popped i.reached);
       linked = Completes-nobody d c.args.top c.loop-id.found.items c.pop.new.self.items c.in-Some.id c.if-id.true
           (subst (Completes d c.args.top c.loop-id.found.items) popped i.linked);
+      room = i.room;
+      room_to_wait = omega (arith, i.room_to_wait, ap length popped, length-append c.pop.new.self.items (c.in-Some.id ∷ []), c.in-Some.ensures.capacity);
     }
 
 pub returns-in-Err-clause-refused : goal.returns-in-Err-clause-refused
@@ -58,8 +63,8 @@ loop-id-smaller c =
       arith,
       unused-set c.loop-id.self.used c.in-Some.id free.1,
       ap (λ v. unused v.used) c.mark.ensures,
-      ap length c.in_ok-push-4.ensures.items,
-      ap length c.in_ok-push-3.ensures.items,
+      ap length c.push_within-in-Some-3.ensures.items,
+      ap length c.push_within-in-Some-2.ensures.items,
       ap length c.in-Some.ensures.items,
       length-append {A = ℕ},
     )
@@ -73,16 +78,6 @@ found_free e s found more id is h f m =
 found_marks : (e s t : EntriesValue) (found more : List ℕ) (id : ℕ) → s ≡ marked e found → t ≡ marked s (id ∷ []) → more ≡ found ++ id ∷ [] → t ≡ marked e more
 found_marks e s t found more id is u m = u ∙ marked-push e s found id is ∙ ap (marked e) (sym m)
 
-pub returns-in_err-push-4-clause-free : goal.returns-in_err-push-4-clause-free
-returns-in_err-push-4-clause-free c =
-    found_free c.args.self.now c.loop-id.self c.loop-id.found.items c.push-in-Some.new.self.items c.in-Some.id
-    c.loop-id.invariant.marks c.loop-id.invariant.free c.in-Ok.ensures.free c.in_ok-push-2.ensures.items
-
-pub returns-in_err-push-4-clause-marks : goal.returns-in_err-push-4-clause-marks
-returns-in_err-push-4-clause-marks c =
-    found_marks c.args.self.now c.loop-id.self c.mark.new.self c.loop-id.found.items c.push-in-Some.new.self.items c.in-Some.id
-    c.loop-id.invariant.marks c.mark.ensures c.in_ok-push-2.ensures.items
-
 pub loop-id-preserved : goal.loop-id-preserved
 loop-id-preserved c =
     let i = c.loop-id.invariant in
@@ -91,17 +86,19 @@ loop-id-preserved c =
     let id : ℕ = c.in-Some.id in
     let ws : List ℕ = c.pop.new.self.items in
     let popped : c.loop-id.waiting.items ≡ ws ++ id ∷ [] = c.in-Some.ensures.items in
-    let pushed : c.push-in-Some.new.self.items ≡ c.loop-id.found.items ++ id ∷ [] = c.in_ok-push-2.ensures.items in
+    let pushed : c.push_within-in-Some.new.list.items ≡ c.loop-id.found.items ++ id ∷ [] = c.push_within-in-Some.ensures.items in
     let free : IsFree c.loop-id.self id = c.in-Ok.ensures.free in
     let before : c.loop-id.self.directory ≡ d = ap (λ v. v.directory) i.marks in
     let same : c.mark.new.self.directory ≡ d = ap (λ v. v.directory) c.mark.ensures ∙ before in
     let inside : 128 * id < length d = subst (λ (x : List ℕ). 128 * id < length x) before free.0 in
+    let fewer = unused-set c.loop-id.self.used id free.1 in
+    let marks_less = ap (λ v. unused v.used) c.mark.ensures in
     let l : ℕ = left (entry_at d id) in
     let r : ℕ = right (entry_at d id) in
     let left_is : c.links-left.result.0 ≡ l = c.links-left.ensures.left ∙ ap (λ x. left (entry_at x id)) same in
     let right_is : c.links-left.result.1 ≡ r = c.links-left.ensures.right ∙ ap (λ x. right (entry_at x id)) same in
-    let waits : c.push-in-Some-3.new.self.items ≡ (ws ++ r ∷ []) ++ l ∷ [] =
-    c.in_ok-push-4.ensures.items ∙ ap (λ xs. xs ++ c.links-left.result.0 ∷ []) c.in_ok-push-3.ensures.items
+    let waits : c.push_within-in-Some-3.new.list.items ≡ (ws ++ r ∷ []) ++ l ∷ [] =
+    c.push_within-in-Some-3.ensures.items ∙ ap (λ xs. xs ++ c.links-left.result.0 ∷ []) c.push_within-in-Some-2.ensures.items
     ∙ (λ t. (ws ++ right_is t ∷ []) ++ left_is t ∷ []) in
     let R : ℕ → Type 0 = Reaches d c.args.top in
     let reached : All R (ws ++ id ∷ []) = subst (All R) popped i.reached in
@@ -109,11 +106,48 @@ loop-id-preserved c =
     let step : Completes d c.args.top (c.loop-id.found.items ++ id ∷ []) ((ws ++ r ∷ []) ++ l ∷ []) =
     Completes-step d c.args.top c.loop-id.found.items ws id c.if-id.false inside (subst (Completes d c.args.top c.loop-id.found.items) popped i.linked) in
     record {
-      marks = found_marks e c.loop-id.self c.mark.new.self c.loop-id.found.items c.push-in-Some.new.self.items id i.marks c.mark.ensures pushed;
-      free = found_free e c.loop-id.self c.loop-id.found.items c.push-in-Some.new.self.items id i.marks i.free free pushed;
+      marks = found_marks e c.loop-id.self c.mark.new.self c.loop-id.found.items c.push_within-in-Some.new.list.items id i.marks c.mark.ensures pushed;
+      free = found_free e c.loop-id.self c.loop-id.found.items c.push_within-in-Some.new.list.items id i.marks i.free free pushed;
       reached = subst (All R) (sym waits)
           (All-push R (ws ++ r ∷ []) l (All-push R ws r (All-front R ws id reached) (reaches_right d c.args.top id c.if-id.false inside met))
           (reaches_left d c.args.top id c.if-id.false inside met));
-      linked = subst (λ (xs : List ℕ). Completes d c.args.top xs c.push-in-Some-3.new.self.items) (sym pushed)
+      linked = subst (λ (xs : List ℕ). Completes d c.args.top xs c.push_within-in-Some-3.new.list.items) (sym pushed)
           (subst (Completes d c.args.top (c.loop-id.found.items ++ id ∷ [])) (sym waits) step);
+      room = omega (arith, i.room, fewer, marks_less, ap length pushed, length-append c.loop-id.found.items (id ∷ []), c.push_within-in-Some.ensures.room);
+      room_to_wait = omega (
+        arith,
+        i.room_to_wait,
+        fewer,
+        marks_less,
+        ap length popped,
+        ap length waits,
+        length-append ws (id ∷ []),
+        length-append ws (r ∷ []),
+        length-append (ws ++ r ∷ []) (l ∷ []),
+        c.in-Some.ensures.capacity,
+        c.push_within-in-Some-2.ensures.room,
+        c.push_within-in-Some-3.ensures.room,
+      );
     }
+
+-- what is pushed has room
+pub push_within-requires : goal.push_within-requires
+push_within-requires c = omega (arith, ap length c.requires.nobody_waits, c.requires.room_to_wait)
+
+pub push_within-requires-in-Some : goal.push_within-requires-in-Some
+push_within-requires-in-Some c =
+    omega (arith, c.loop-id.invariant.room, unused-set c.loop-id.self.used c.in-Some.id c.in-Ok.ensures.free.1)
+
+pub push_within-requires-in-Some-3 : goal.push_within-requires-in-Some-3
+push_within-requires-in-Some-3 c =
+    omega (
+      arith,
+      c.loop-id.invariant.room_to_wait,
+      ap length c.in-Some.ensures.items,
+      length-append c.pop.new.self.items (c.in-Some.id ∷ []),
+      ap length c.push_within-in-Some-2.ensures.items,
+      length-append c.pop.new.self.items (c.links-left.result.1 ∷ []),
+      c.push_within-in-Some-2.ensures.room,
+      c.in-Some.ensures.capacity,
+      unused-set c.loop-id.self.used c.in-Some.id c.in-Ok.ensures.free.1,
+    )

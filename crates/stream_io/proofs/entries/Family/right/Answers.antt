@@ -1,7 +1,7 @@
 use Rattle.std.proofs.Common.{◌<◌, sym, ◌∙◌, ap, subst, length, ℕ, arith}
 use Rattle.std.proofs.lemmas.Grind.{get_or_default_zero}
-use Rattle.stream_io.specs.Directory.{linked}
-use Rattle.stream_io.specs.Family.{IsLink}
+use Rattle.file_model.specs.Directory.{linked}
+use Rattle.file_model.specs.Directory.{IsLink}
 use Rattle.stream_io.proofs.ContentsFamily.{right-named, right-same}
 use Rattle.stream_io.proofs.entries.Family.right.Goals as goal
 

@@ -1,0 +1,36 @@
+use Rattle.std.proofs.Common.{length-append, ◌≡◌, ◌≤◌, ◌∷◌, ◌++◌, [], ℕ, Bool, length, subst, get_or, arith}
+use Rattle.std.proofs.lemmas.List.Elements.{All-push}
+use Rattle.std.proofs.lemmas.Grind.{common_steps}
+use Rattle.std.proofs.lemmas.List.{get_or_default}
+use Rattle.cfb_chain.specs.Chain.{Leads}
+use Rattle.cfb_chain.specs.Fat.{IsFree}
+use Rattle.cfb_chain.proofs.Chains.{free_chain, leads_push, met_when_long}
+use Rattle.cfb_chain.proofs.fat.Fat.count.Goals as goal
+
+pub returns-clause-counted : goal.returns-clause-counted
+returns-clause-counted c =
+    let P : ℕ → Type 0 = λ x. Leads (λ n. get_or c.args.self.now.table n 0) c.args.start c.loop-at.invariant.0 x in
+    let few : length c.args.self.now.table ≤ 0xFFFFFFF9 = rw (← c.self.view_is) c.self.invariant.1 in
+    (c.loop-at.invariant.0, free_chain c.args.self.now few c.args.start c.loop-at.invariant.0 (subst P c.loop-at-test.false c.loop-at.invariant.1) c.loop-at.invariant.2, c.loop-at.invariant.3)
+
+pub returns-then-count-len-clause-refused : goal.returns-then-count-len-clause-refused
+returns-then-count-len-clause-refused c =
+    let ns = c.loop-at.invariant.0 in
+    met_when_long (λ n. get_or c.args.self.now.table n 0) (IsFree c.args.self.now) c.args.start ns c.loop-at.at (length c.args.self.now.table)
+    c.loop-at.invariant.1
+    c.loop-at.invariant.2
+    (λ k d lt. (c.loop-at.invariant.2 k d lt).0)
+    (rw (← c.self.view_is) (grind (arith, common_steps)))
+    (rw (← c.self.view_is) (grind (arith, common_steps)))
+
+pub loop-at-preserved : goal.loop-at-preserved
+loop-at-preserved c =
+    let ns = c.loop-at.invariant.0 in
+    let e : c.index-at.result.now ≡ get_or c.args.self.now.table c.loop-at.at 0 = grind (arith, common_steps, c.index-at.ensures, c.self.view_is) in
+    rw e (
+      ns ++ c.loop-at.at ∷ [],
+      leads_push _ _ _ _ c.loop-at.invariant.1,
+      All-push (IsFree c.args.self.now) _ _ c.loop-at.invariant.2 (rw (← c.self.view_is) (grind (arith, common_steps), grind (arith, common_steps, c.index.ensures, get_or_default {X = Bool}))),
+      omega (arith, length-append ns (c.loop-at.at ∷ []), c.loop-at.invariant.3),
+      rw (← c.self.view_is) (grind (arith, common_steps)),
+    )

@@ -1,0 +1,17 @@
+pub mod Lists
+pub mod Unique
+pub mod ContentsBlocks
+pub mod ContentsKeys
+pub mod ContentsLists
+pub mod Tables
+pub mod ContentsPieces
+pub mod ContentsIds
+pub mod ContentsRead
+pub mod ContentsNext
+pub mod ContentsTree
+pub mod ContentsBalanced
+pub mod PlacedParts
+pub mod Placed
+pub mod Contents
+pub mod Refused
+pub mod EmptyDocument

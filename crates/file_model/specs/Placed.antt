@@ -1,0 +1,39 @@
+-- Where the parts of a file lie once it is laid out.
+use Rattle.std.specs.Prelude.{◌≡◌, ◌<◌, ◌≤◌, ◌+◌, ◌*◌, ℕ, List, [], ◌++◌, length, slice_index}
+use Rattle.std.specs.List.{range_with_len, sum}
+use Rattle.cfb_chain.specs.Bytes.{block}
+use Rattle.cfb_chain.specs.Chain.{AreDistinct}
+use Rattle.cfb_chain.specs.Header.{IsHeader}
+use Rattle.cfb_directory.specs.Entries.{entry_at, first_of, size_of}
+use Rattle.file_model.specs.Need.{pieces}
+use Rattle.file_model.specs.Denotes.{Layout, IsLaidOut, directory_of, minis}
+use Rattle.file_model.specs.Image.{Parts, directory_count, mini_fat_need, mini_stream_count, mini_stream_start, runs}
+
+abbrev pub layout_of : ℕ → Parts → Layout
+layout_of f p = record {
+  fat = range_with_len 0 f;
+  directory = range_with_len f (directory_count p);
+  mini_fat = range_with_len (f + directory_count p) (mini_fat_need p);
+  mini_stream = range_with_len (f + directory_count p + mini_fat_need p) (mini_stream_count p);
+}
+
+-- parts in whole sectors that f FAT sectors cover, and a root that says where the mini stream lies
+pub record Fits (f : ℕ) (p : Parts) : Type 0 where
+  pub whole_directory : length p.directory ≡ 512 * directory_count p
+  pub some_directory : 0 < directory_count p
+  pub whole_stream : length p.mini_stream ≡ 512 * mini_stream_count p
+  pub stream_size : mini_stream_count p ≡ pieces 512 (64 * sum p.minis)
+  pub few : f ≤ 109
+  pub covered : f + directory_count p + mini_fat_need p + mini_stream_count p ≤ 128 * f
+  pub root_first : first_of (entry_at p.directory 0) ≡ mini_stream_start f p
+  pub root_size : size_of (entry_at p.directory 0) ≡ 64 * sum p.minis
+
+-- the parts lie in the file, as the layout says
+pub record IsPlaced (file : List ℕ) (p : Parts) (l : Layout) : Type 0 where
+  pub header : IsHeader file
+  pub laid_out : IsLaidOut file l
+  pub directory : directory_of file l ≡ p.directory
+  pub mini_count : (minis file l).count ≡ sum p.minis
+  pub mini_piece : (m : ℕ) → m < sum p.minis → (minis file l).piece m ≡ block 64 p.mini_stream (64 * m)
+  pub mini_next : (m : ℕ) → m < sum p.minis → (minis file l).next m ≡ slice_index (runs 0 p.minis) m
+  pub apart : AreDistinct (l.fat ++ l.directory ++ l.mini_fat ++ l.mini_stream ++ [])

@@ -1,0 +1,17 @@
+//! Tests of sectors, directories, trees and whole files by their public calls.
+#![tactic(auto)]
+
+#[cfg(test)]
+mod chains;
+#[cfg(test)]
+mod directories;
+#[cfg(test)]
+mod made;
+#[cfg(test)]
+mod reading;
+#[cfg(test)]
+mod streams;
+#[cfg(test)]
+mod trees;
+#[cfg(test)]
+mod writing;

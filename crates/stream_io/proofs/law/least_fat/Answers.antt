@@ -1,5 +1,0 @@
-use Rattle.std.proofs.Common.{arith}
-use Rattle.stream_io.proofs.law.least_fat.Goals as goal
-
-pub returns : goal.returns
-returns c d = record { covers = omega arith; least = λ g h. omega (arith, h) }
