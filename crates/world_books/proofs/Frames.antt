@@ -11,13 +11,13 @@ use Rattle.world_books.specs.Keeping.{IsSameFrame, AreSameFrames}
 use Rattle.world_books.proofs.Lookups.{length_set_nth, nth_set}
 
 pub same_frame : (frame : Frame) → IsSameFrame frame frame
-same_frame frame = record { name = refl; asked = refl; stored = refl; below = λ n h. h }
+same_frame frame = record { name = refl; asked = refl; stored = refl; sure = λ h. h; below = λ n h. h }
 
 pub same_frames : (frames : List Frame) → AreSameFrames frames frames
 same_frames frames = record { many = refl; from = λ f frame e. (frame, e, same_frame frame) }
 
 pub same_after : (a b c : Frame) → IsSameFrame a b → IsSameFrame b c → IsSameFrame a c
-same_after a b c p q = record { name = q.name ∙ p.name; asked = q.asked ∙ p.asked; stored = q.stored ∙ p.stored; below = λ n h. q.below n (p.below n h) }
+same_after a b c p q = record { name = q.name ∙ p.name; asked = q.asked ∙ p.asked; stored = q.stored ∙ p.stored; sure = λ h. q.sure (p.sure h); below = λ n h. q.below n (p.below n h) }
 
 pub same_frames_after : (xs ys zs : List Frame) → AreSameFrames xs ys → AreSameFrames ys zs → AreSameFrames xs zs
 same_frames_after xs ys zs p q = record {
@@ -36,7 +36,7 @@ ready_saving InDoubt w e = cc
 pub same_settled : (f : ℕ) (os : List Object) (frame : Frame) → IsSameFrame frame (settled_frame f os frame)
 same_settled f os frame =
     elim (is_ready f os frame) as (λ b. is_ready f os frame ≡ b → IsSameFrame frame (if b then record frame { phase = Committing } else frame)) [
-      | true ↦ (λ t. record { name = refl; asked = refl; stored = refl; below = λ n h. record { last = h.last; under = λ ne. h.under (ready_saving frame.phase (awaits f os) t) } })
+      | true ↦ (λ t. record { name = refl; asked = refl; stored = refl; sure = λ h. refl; below = λ n h. record { last = h.last; under = λ ne. h.under (ready_saving frame.phase (awaits f os) t) } })
       | false ↦ (λ t. same_frame frame)
     ] refl
 
@@ -58,7 +58,7 @@ settled_same n os frames = record { many = length_settled n os frames; from = se
 
 -- a frame that begins to save
 pub saving_same : (frame : Frame) → IsSameFrame frame (saving_frame frame)
-saving_same frame = record { name = refl; asked = refl; stored = refl; below = λ n h. (let l : n ≤ frame.k = h.last in record { last = omega arith; under = λ ne. omega arith }) }
+saving_same frame = record { name = refl; asked = refl; stored = refl; sure = λ h. refl; below = λ n h. (let l : n ≤ frame.k = h.last in record { last = omega arith; under = λ ne. omega arith }) }
 
 -- one frame changed
 pub set_same : (frames : List Frame) (f : ℕ) (old new : Frame) → nth frames f ≡ Some old → IsSameFrame old new → AreSameFrames frames (set_nth frames f new)

@@ -33,12 +33,13 @@ use Rattle.world_model.specs.declared.event.Event.{Event}
 use Rattle.world_model.specs.declared.event.Event.TheVariants as event
 use Rattle.world_model.specs.declared.event.Stop.{Stop}
 use Rattle.world_model.specs.declared.event.Stop.TheVariants.{EventLimit}
-use Rattle.world_model.specs.World.{World, Instance, empty_world, joined, took, commanded, served, stocked, called_wanting, called_in, called, delivered, deliver, crashed, crash, ended, reap, kept_commit, done_taken, done_imaged, done_in, happened, limited, IsImage, Run, is_of, frame_file_in, MOST_EVENTS}
-use Rattle.world_model.specs.Safe.{IsKept}
-use Rattle.world_books.specs.Keeping.{id_of, Book, Shelf, Keeps}
+use Rattle.world_model.specs.World.{World, Instance, document_in, empty_world, joined, took, commanded, served, stocked, called_wanting, called_in, called, delivered, deliver, crashed, crash, ended, reap, kept_commit, done_taken, done_imaged, done_in, happened, limited, IsImage, Run, is_of, frame_file_in, MOST_EVENTS}
+use Rattle.world_model.specs.Safe.{Commit, IsCounted, IsKept}
+use Rattle.world_books.specs.Keeping.{id_of, Book, Shelf, Counted, Keeps}
 use Rattle.world_books.proofs.Lookups.{map_map_same, nth_aligned}
 use Rattle.world_books.proofs.Quiet.{IsQuiet, unless_ok, start_quiet, run_quiet, edit_quiet, save_quiet, message_quiet, reap_quiet, id_asked}
 use Rattle.world_books.proofs.Books.{book_same, book_framed, book_object, book_committed}
+use Rattle.world_books.proofs.Commits.{counted_framed, counted_committed}
 use Rattle.world_books.proofs.Shelves.{shelf_same, shelf_framed, shelf_committed}
 
 -- the world in which nothing has happened
@@ -46,11 +47,16 @@ pub empty_keeps : (numbers : ℕ) (stock : List Kind) → Keeps (empty_world num
 empty_keeps numbers stock = record {
   book = record { distinct = tt; drawn = λ x h. absurd h; placed = λ x h. absurd h; counted = λ d h. absurd h; below = λ x d frame h g e at. absurd h; once = tt };
   shelf = record { aligned = refl; apart = λ f g a b name fa gb x y. none_there f a fa; filed = λ f d frame c at. none_there f frame at };
+  commits = ([], record { entries = refl; last = λ f. none_counted f });
 }
   where
     none_there : {B : Type 0} (f : ℕ) (a : Frame) → nth {A = Frame} [] f ≡ Some a → B
     none_there zero a e = cc
     none_there (suc i) a e = cc
+
+    none_counted : (f : ℕ) → document_in (nth [] f) ≡ None
+    none_counted zero = refl
+    none_counted (suc i) = refl
 
 -- a step that leaves the book and the files alone
 pub keeps_quiet : (w : World) (t : Took) → Keeps w → IsQuiet w.rec t → Keeps (joined w t)
@@ -60,15 +66,16 @@ keeps_quiet w t k q = record {
       (book_same w.rec.frames t.rec.frames (map id_of w.rec.objects) w.rec.last_object w.container_done q.frames k.book));
   shelf = rw q.frame (subst (λ cs. Shelf t.rec.frames w.files cs w.container_done) (sym (append-nil w.counted))
       (shelf_same w.rec.frames t.rec.frames w.files w.counted w.container_done q.frames k.shelf));
+  commits = rw q.frame (subst (λ cs. Counted cs w.container_done) (sym (append-nil w.counted)) k.commits);
 }
 
 keeps_took : (w : World) (told : Result Took ContainerFault) → Keeps w → ((t : Took) → told ≡ Ok t → IsQuiet w.rec t) → Keeps (took w told)
-keeps_took w (Err fault) k q = record { book = k.book; shelf = k.shelf }
+keeps_took w (Err fault) k q = record { book = k.book; shelf = k.shelf; commits = k.commits }
 keeps_took w (Ok t) k q = keeps_quiet w t k (q t refl)
 
 keeps_commanded : (w : World) (c : Command) (told : Result Took ContainerFault) → Keeps w → ((t : Took) → told ≡ Ok t → Keeps (joined w t)) → Keeps (commanded w c told)
-keeps_commanded w c (Err fault) k q = record { book = k.book; shelf = k.shelf }
-keeps_commanded w c (Ok t) k q = (let h = q t refl in record { book = h.book; shelf = h.shelf })
+keeps_commanded w c (Err fault) k q = record { book = k.book; shelf = k.shelf; commits = k.commits }
+keeps_commanded w c (Ok t) k q = (let h = q t refl in record { book = h.book; shelf = h.shelf; commits = h.commits })
 
 -- New
 keeps_new : (w : World) (name : List ℕ) (x y : ℕ) (t : Took) → Keeps w → new w.rec name x y ≡ Ok t → Keeps (joined w t)
@@ -82,6 +89,7 @@ keeps_new w name x y t k e =
     subst (λ (v : Took). Keeps (joined w v)) at (record {
       book = book_framed r.frames (new_frame name x y) (map id_of r.objects) r.last_object w.container_done k.book;
       shelf = shelf_framed r.frames name x y w.files w.counted w.container_done a.0 k.shelf;
+      commits = counted_framed w.counted w.container_done k.commits;
     })
 
 -- Insert
@@ -102,6 +110,7 @@ insert_framed w f kind area (Some frame) t k at e =
     subst (λ (v : Took). Keeps (joined w v)) is (record {
       book = subst (λ ids. Book r.frames ids (r.last_object + 1) w.container_done) (sym (map_one id_of r.objects _)) (book_object r.frames frame (map id_of r.objects) r.last_object f w.container_done at k.book);
       shelf = subst (λ cs. Shelf r.frames w.files cs w.container_done) (sym (append-nil w.counted)) k.shelf;
+      commits = subst (λ cs. Counted cs w.container_done) (sym (append-nil w.counted)) k.commits;
     })
 
 keeps_command : (w : World) (c : Command) (t : Took) → Keeps w → on_command w.rec c ≡ Ok t → Keeps (joined w t)
@@ -114,8 +123,8 @@ keeps_command w (command.Save f) t k e = keeps_quiet w t k (save_quiet w.rec f t
 
 -- deliveries
 keeps_served : (w : World) (inc act n : ℕ) (i : Instance) (stock : List Kind) (told : Result Served ServerFault) → Keeps w → Keeps (served w inc act n i stock told)
-keeps_served w inc act n i stock (Err fault) k = record { book = k.book; shelf = k.shelf }
-keeps_served w inc act n i stock (Ok v) k = record { book = k.book; shelf = k.shelf }
+keeps_served w inc act n i stock (Err fault) k = record { book = k.book; shelf = k.shelf; commits = k.commits }
+keeps_served w inc act n i stock (Ok v) k = record { book = k.book; shelf = k.shelf; commits = k.commits }
 
 keeps_stocked : (w : World) (inc act n : ℕ) (op : Operation) (i : Instance) (class : List ℕ) (kind : Option Kind) (v : World) → Keeps w → stocked w inc act n op i class kind ≡ Ok v → Keeps v
 keeps_stocked w inc act n op i class None v k e = cc
@@ -133,11 +142,11 @@ keeps_wanting w inc act n op i (Some class) v k e = keeps_stocked w inc act n op
 
 keeps_called_in : (w : World) (inc act n : ℕ) (op : Operation) (i : Instance) (life : Life) (v : World) → Keeps w → called_in w inc act n op i life ≡ Ok v → Keeps v
 keeps_called_in w inc act n op i Running v k e = keeps_wanting w inc act n op i (wanted i.core (Call inc act n op)) v k e
-keeps_called_in w inc act n op i Ended v k e = subst Keeps (ok_is _ v e) (record { book = k.book; shelf = k.shelf })
-keeps_called_in w inc act n op i Reaped v k e = subst Keeps (ok_is _ v e) (record { book = k.book; shelf = k.shelf })
+keeps_called_in w inc act n op i Ended v k e = subst Keeps (ok_is _ v e) (record { book = k.book; shelf = k.shelf; commits = k.commits })
+keeps_called_in w inc act n op i Reaped v k e = subst Keeps (ok_is _ v e) (record { book = k.book; shelf = k.shelf; commits = k.commits })
 
 keeps_called : (w : World) (inc act n : ℕ) (op : Operation) (i : Option Instance) (v : World) → Keeps w → called w inc act n op i ≡ Ok v → Keeps v
-keeps_called w inc act n op None v k e = subst Keeps (ok_is _ v e) (record { book = k.book; shelf = k.shelf })
+keeps_called w inc act n op None v k e = subst Keeps (ok_is _ v e) (record { book = k.book; shelf = k.shelf; commits = k.commits })
 keeps_called w inc act n op (Some i) v k e = keeps_called_in w inc act n op i i.life v k e
 
 keeps_delivered : (w : World) (m : Message) (v : World) → Keeps w → delivered w m ≡ Ok v → Keeps v
@@ -152,7 +161,7 @@ keeps_deliver w (Some sent) v k e = keeps_delivered w sent.message v k e
 
 -- crashes and reaps
 keeps_crashed : (w : World) (inc : ℕ) (i : Instance) (life : Life) (v : World) → Keeps w → crashed w inc i life ≡ Ok v → Keeps v
-keeps_crashed w inc i Running v k e = subst Keeps (ok_is _ v e) (record { book = k.book; shelf = k.shelf })
+keeps_crashed w inc i Running v k e = subst Keeps (ok_is _ v e) (record { book = k.book; shelf = k.shelf; commits = k.commits })
 keeps_crashed w inc i Ended v k e = cc
 keeps_crashed w inc i Reaped v k e = cc
 
@@ -162,7 +171,7 @@ keeps_crash w inc (Some i) v k e = keeps_crashed w inc i i.life v k e
 
 keeps_ended : (w : World) (inc : ℕ) (i : Instance) (life : Life) (v : World) → Keeps w → ended w inc i life ≡ Ok v → Keeps v
 keeps_ended w inc i Running v k e = cc
-keeps_ended w inc i Ended v k e = subst Keeps (ok_is _ v e) (keeps_took (record w { instances = set_nth w.instances inc (record i { life = Reaped }) }) (on_reap w.rec inc) (record { book = k.book; shelf = k.shelf }) (reap_quiet w.rec inc))
+keeps_ended w inc i Ended v k e = subst Keeps (ok_is _ v e) (keeps_took (record w { instances = set_nth w.instances inc (record i { life = Reaped }) }) (on_reap w.rec inc) (record { book = k.book; shelf = k.shelf; commits = k.commits }) (reap_quiet w.rec inc))
 keeps_ended w inc i Reaped v k e = cc
 
 keeps_reap : (w : World) (inc : ℕ) (i : Option Instance) (v : World) → Keeps w → reap w inc i ≡ Ok v → Keeps v
@@ -218,6 +227,8 @@ keeps_done_taken w f bytes frame parts (Ok t) v k at im cd den e =
           (book_committed r.frames f frame r.objects r.last_object w.container_done at (committing_not_idle frame.phase c.0) k.book);
       shelf = subst (λ cs. Shelf (set_nth r.frames f (committed_frame frame)) after.files cs after.container_done) (sym (append-nil _))
           (shelf_committed r.frames f frame w.files w.counted w.container_done (parts_in f r.objects) bytes at den2 k.shelf);
+      commits = subst (λ cs. Counted cs after.container_done) (sym (append-nil _))
+          (counted_committed w.counted r.frames f frame w.container_done (parts_in f r.objects) k.shelf.aligned at k.commits);
     } in
     let one : Keeps (joined (kept_commit w f frame parts bytes) (commit_made r f frame)) = subst (λ x. Keeps (joined (kept_commit w f frame x bytes) (commit_made r f frame))) ps keeps in
     let two : Keeps (joined (kept_commit w f frame parts bytes) t) = subst (λ x. Keeps (joined (kept_commit w f frame parts bytes) x)) c.1 one in
@@ -248,6 +259,10 @@ pub keeps_run : (w : World) (es : List Event) (v : World) → Keeps w → Run w 
 keeps_run w [] v k r = subst Keeps (sym r) k
 keeps_run w (e ∷ es) v k r = keeps_run r.1 es v (keeps_happened w r.0 e r.1 k r.2 (limited_ok w (happened w r.0 e) r.1 r.3)) r.4
 
+-- the commits of a world that keeps them
+pub commits_kept : (w : World) → Keeps w → (commits : List Commit) × IsCounted w commits
+commits_kept w k = (k.commits.0, record { entries = k.commits.1.entries; last = k.commits.1.last })
+
 -- the files of a world that keeps them
 pub files_kept : (w : World) → Keeps w → (f : ℕ) (document : Document) → nth w.counted f ≡ Some (Some document) → IsKept w f document
 files_kept w k f document c =
@@ -255,7 +270,7 @@ files_kept w k f document c =
     let s = k.shelf.filed f document p.0 c p.1 in
     record {
       bytes = s.file.bytes;
-      file = ap (frame_file_in w) p.1 ∙ rw (s.stored, s.found) refl;
+      file = ap (frame_file_in w) p.1 ∙ rw (s.sure, s.stored, s.found) refl;
       denotes = s.denotes;
       counted = s.counted;
     }

@@ -16,10 +16,10 @@ use Rattle.world_books.proofs.Lookups.{among_old, among_new, among_map, nth_old,
 
 -- what is counted stays counted
 filed_more : (files : List File) (frame : Frame) (document : Document) (dones more : List Done) → IsFiled files frame document dones → IsFiled files frame document (dones ++ more)
-filed_more files frame document dones more s = record { stored = s.stored; file = s.file; found = s.found; denotes = s.denotes; counted = λ p g. among_old dones more (done_entry document.k p) (s.counted p g) }
+filed_more files frame document dones more s = record { sure = s.sure; stored = s.stored; file = s.file; found = s.found; denotes = s.denotes; counted = λ p g. among_old dones more (done_entry document.k p) (s.counted p g) }
 
 filed_same : (files : List File) (old new : Frame) (document : Document) (dones : List Done) → IsSameFrame old new → IsFiled files old document dones → IsFiled files new document dones
-filed_same files old new document dones e s = record { stored = e.stored ∙ s.stored; file = s.file; found = ap (λ n. find (is_file n) files) e.name ∙ s.found; denotes = s.denotes; counted = s.counted }
+filed_same files old new document dones e s = record { sure = e.sure s.sure; stored = e.stored ∙ s.stored; file = s.file; found = ap (λ n. find (is_file n) files) e.name ∙ s.found; denotes = s.denotes; counted = s.counted }
 
 bears_same : (old new : Frame) (name : List ℕ) → IsSameFrame old new → Bears new name → Bears old name
 bears_same old new name e (inl h) = inl (sym e.name ∙ h)
@@ -137,6 +137,7 @@ module _ (frames : List Frame) (f : ℕ) (frame : Frame) (files : List File) (co
 
   here : IsFiled (put_file name bytes files) (committed_frame frame) document (dones ++ entries)
   here = record {
+    sure = refl;
     stored = refl;
     file = record { name = name; bytes = bytes };
     found = found_put name bytes files;
@@ -146,6 +147,7 @@ module _ (frames : List Frame) (f : ℕ) (frame : Frame) (files : List File) (co
 
   elsewhere : (g : ℕ) (d : Document) (other : Frame) → g ≢ f → nth frames g ≡ Some other → IsFiled files other d dones → IsFiled (put_file name bytes files) other d (dones ++ entries)
   elsewhere g d other ne e h = (let more = filed_more files other d dones entries h in record {
+    sure = more.sure;
     stored = more.stored;
     file = more.file;
     found = found_other name other.name bytes files (λ q. ne (s.apart g f other frame name e at (inl q) (bears_after frame name (inl refl)))) ∙ more.found;

@@ -1,8 +1,10 @@
 -- How a world keeps its files and its book: the facts that each event keeps. No reader has to believe them; what they are
 -- for stands in Safe.
-use Rattle.std.specs.Prelude.{◌≡◌, ◌≢◌, ◌⊎◌, ◌≤◌, ◌<◌, ℕ, true, List, [], ◌∷◌, length, map, Option, Some, ⊤}
+use Rattle.std.specs.Prelude.{◌≡◌, ◌≢◌, ◌⊎◌, ◌≤◌, ◌<◌, ℕ, true, false, List, [], ◌∷◌, length, map, Option, Some, ⊤}
+use Rattle.std.specs.List.{flat_map}
 use Rattle.wire_msgs.specs.Found.{find, nth}
 use Rattle.file_model.specs.Denotes.{Denotes}
+use Rattle.container_model.specs.Record.{is_doubtful}
 use Rattle.container_model.specs.Saves.{document_tree}
 use Rattle.container_model.specs.declared.answer.Part.{Part}
 use Rattle.container_model.specs.declared.record.Frame.{Frame}
@@ -11,8 +13,8 @@ use Rattle.container_model.specs.declared.record.Phase.TheVariants.{Idle}
 use Rattle.world_model.specs.declared.logs.Done.{Done}
 use Rattle.world_model.specs.declared.logs.Document.{Document}
 use Rattle.world_model.specs.declared.logs.File.{File}
-use Rattle.world_model.specs.World.{World, done_entry, is_file}
-use Rattle.world_model.specs.Safe.{Among, CountedOnce}
+use Rattle.world_model.specs.World.{World, document_in, done_entry, is_file}
+use Rattle.world_model.specs.Safe.{Among, Commit, CountedOnce, entries_of, last_commit}
 
 -- the objects by their numbers and frames, which no step changes
 pub record Id : Type 0 where
@@ -49,6 +51,7 @@ pub record Book (frames : List Frame) (ids : List Id) (last_object : ℕ) (dones
 
 -- the file of a frame
 pub record IsFiled (files : List File) (frame : Frame) (document : Document) (dones : List Done) : Type 0 where
+  pub sure : is_doubtful frame.phase ≡ false
   pub stored : frame.stored ≡ true
   pub file : File
   pub found : find (is_file frame.name) files ≡ Some file
@@ -60,15 +63,25 @@ pub record Shelf (frames : List Frame) (files : List File) (counted : List (Opti
   pub apart : Apart frames
   pub filed : (f : ℕ) (document : Document) (frame : Frame) → nth counted f ≡ Some (Some document) → nth frames f ≡ Some frame → IsFiled files frame document dones
 
+-- what was counted, commit by commit
+pub record Counts (counted : List (Option Document)) (dones : List Done) (commits : List Commit) : Type 0 where
+  pub entries : dones ≡ flat_map entries_of commits
+  pub last : (f : ℕ) → document_in (nth counted f) ≡ last_commit f commits
+
+abbrev pub Counted : List (Option Document) → List Done → Type 0
+Counted counted dones = (commits : List Commit) × Counts counted dones commits
+
 pub record Keeps (w : World) : Type 0 where
   pub book : Book w.rec.frames (map id_of w.rec.objects) w.rec.last_object w.container_done
   pub shelf : Shelf w.rec.frames w.files w.counted w.container_done
+  pub commits : Counted w.counted w.container_done
 
 -- a frame after a step that isn't a commit
 pub record IsSameFrame (old new : Frame) : Type 0 where
   pub name : new.name ≡ old.name
   pub asked : new.asked ≡ old.asked
   pub stored : new.stored ≡ old.stored
+  pub sure : is_doubtful old.phase ≡ false → is_doubtful new.phase ≡ false
   pub below : (n : ℕ) → IsBelow old n → IsBelow new n
 
 pub record AreSameFrames (old new : List Frame) : Type 0 where
