@@ -1,7 +1,7 @@
 //! The report of a world.
 
 ghost use Rattle.std.specs.Io.KnownBytes.{Appends};
-ghost use Rattle.std.specs.Prelude.{◌≢◌, IfErr, OnOk};
+ghost use Rattle.std.specs.Prelude.{◌≡◌, ◌≢◌, IfErr, OnOk};
 ghost use Rattle.world_model.specs.Report.{report};
 ghost use Rattle.world_run.specs.Shown.{shown};
 
