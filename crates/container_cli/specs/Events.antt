@@ -9,7 +9,7 @@ use Rattle.container_model.specs.declared.command.ObjectKind.{ObjectKind}
 use Rattle.container_model.specs.declared.command.ObjectKind.TheVariants.{Note, Table, Drawing}
 use Rattle.world_model.specs.declared.event.Event.{Event}
 use Rattle.world_model.specs.declared.event.Event.TheVariants as event
-use Rattle.container_cli.specs.Commands.{is_skipped}
+use Rattle.file_commands.specs.Commands.{is_skipped}
 use Rattle.container_cli.specs.declared.fault.LineFault.{LineFault}
 use Rattle.container_cli.specs.declared.fault.LineFault.TheVariants.{Bad}
 

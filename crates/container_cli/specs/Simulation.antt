@@ -10,9 +10,9 @@ use Rattle.world_model.specs.World.{World, empty_world, Run}
 use Rattle.world_model.specs.declared.event.Event.{Event}
 use Rattle.world_model.specs.declared.event.Stop.{Stop}
 use Rattle.container_cli.specs.Answers.{answer_lines, stop_line}
-use Rattle.container_cli.specs.Description.{RefusesLine}
+use Rattle.file_commands.specs.Description.{RefusesLine}
 use Rattle.container_cli.specs.Events.{events_read}
-use Rattle.container_cli.specs.Input.{MayRefuseInput}
+use Rattle.texts.specs.Input.{MayRefuseInput}
 use Rattle.container_cli.specs.declared.fault.SimulateFault.{SimulateFault}
 use Rattle.container_cli.specs.declared.fault.SimulateFault.TheVariants as simulate
 

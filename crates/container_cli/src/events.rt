@@ -1,6 +1,6 @@
 //! Texts of events.
 
-ghost use Rattle.container_cli.specs.Description.{RefusesLine};
+ghost use Rattle.file_commands.specs.Description.{RefusesLine};
 ghost use Rattle.container_cli.specs.Events.{area_of, edit_read, end_named, event_named, event_read, events_read, insert_read, is_file_name, is_printable, kind_read, new_read, numbers_named, run_read, short_read, sole_number};
 ghost use Rattle.embed_core.specs.Words.{lines, words};
 ghost use Rattle.std.specs.List.{list_all};

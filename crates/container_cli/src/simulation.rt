@@ -1,7 +1,7 @@
 //! Runs of events.
 
 ghost use Rattle.container_cli.specs.Answers.{answer_lines};
-ghost use Rattle.container_cli.specs.Input.{most};
+ghost use Rattle.texts.specs.Input.{most};
 ghost use Rattle.container_cli.specs.Simulation.{IsSimulated, MayRefuseSimulate, Simulates, stop_text};
 ghost use Rattle.std.specs.Prelude.{◌≡◌, ◌≢◌, ◌≤◌, ◌<◌, ◌++◌, IfErr, IfOk, IfSome, OnOk, length, map};
 ghost use Rattle.world_model.specs.Report.{report};

@@ -1,7 +1,7 @@
 use Rattle.std.proofs.Common.{◌≡◌, ◌+◌, ◌∷◌, ap, sym, ◌∙◌, length, arith}
 use Rattle.container_cli.specs.Events.{events_read}
 use Rattle.embed_core.specs.Words.{lines}
-use Rattle.container_cli.proofs.Described.{behind, behind-nothing, events_read-turn, length-pieces}
+use Rattle.file_commands.proofs.Described.{behind, behind-nothing, events_read-turn, length-pieces}
 use Rattle.container_cli.proofs.events.parse_events.Goals as goal
 
 pub loop-line-init : goal.loop-line-init

@@ -1,7 +1,7 @@
 use Rattle.std.proofs.Common.{◌≡◌, ◌≤◌, ◌+◌, length}
 use Rattle.embed_core.specs.Words.{lines}
 use Rattle.container_cli.specs.Events.{events_read}
-use Rattle.container_cli.proofs.Described.{behind}
+use Rattle.file_commands.proofs.Described.{behind}
 use Rattle.container_cli.proofs.events.parse_events.Given as goal
 
 abbrev pub invariant-loop-line : goal.invariant-loop-line

@@ -1,0 +1,5 @@
+pub mod Described
+pub mod Outlines
+pub mod Totals
+pub mod Room
+pub mod Built
