@@ -1,0 +1,13 @@
+-- What is printed of the faults of a simulation.
+use Rattle.std.specs.Prelude.{ℕ, List, codes}
+use Rattle.texts.specs.Faults.{input_fault_name, syntax_fault_name}
+use Rattle.texts.specs.Reports.{of_file, of_line, standard}
+use Rattle.container_cli.specs.declared.fault.SimulateFault.{SimulateFault}
+use Rattle.container_cli.specs.declared.fault.SimulateFault.TheVariants as simulate
+
+-- where the events of the file of this name are read, and what they lead to is written on standard output
+abbrev pub simulate_report : SimulateFault → List ℕ → List ℕ
+simulate_report (simulate.Input fault) name = of_file name (input_fault_name fault)
+simulate_report (simulate.Line n fault) name = of_line n (syntax_fault_name fault)
+simulate_report simulate.NoMemory name = of_file name (codes "NoMemory")
+simulate_report simulate.Unwritable name = of_file standard (codes "Unwritable")
