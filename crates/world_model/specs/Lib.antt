@@ -2,4 +2,5 @@ pub mod World
 pub mod Safe
 pub mod Runs
 pub mod StopNames
+pub mod Texts
 pub mod Report

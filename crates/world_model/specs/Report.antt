@@ -1,49 +1,25 @@
 -- The report of a world, as bytes: a line for each frame, for each object and for each content that was counted.
-use Rattle.std.specs.Prelude.{◌+◌, ◌/◌, ◌%◌, ◌||◌, ◌++◌, ℕ, Bool, List, [], ◌∷◌, Option, Some, None, if◌then◌else◌, nat_le, nat_lt, nat_eq, codes}
+use Rattle.std.specs.Prelude.{◌+◌, ◌++◌, ℕ, List, [], ◌∷◌, Option, Some, None, if◌then◌else◌, codes}
 use Rattle.std.specs.List.{flat_map}
 use Rattle.std.specs.Fmt.{decimal}
+use Rattle.std.specs.Str.{bytes_eq}
 use Rattle.object_state.specs.declared.object_states.ObjectState.{ObjectState}
 use Rattle.object_state.specs.declared.object_states.ObjectState.TheVariants.{Passive, Loaded, Running, InPlaceActive, UiActive, Open}
 use Rattle.object_state.specs.declared.persist_states.PersistState.{PersistState}
 use Rattle.object_state.specs.declared.persist_states.PersistState.TheVariants.{Unset, Normal, NoScribble, HandsOff}
 use Rattle.grant_core.specs.declared.grant_states.GrantState.{GrantState}
 use Rattle.grant_core.specs.declared.grant_states.GrantState.TheVariants.{Free, Granting, Held, Revoking}
+use Rattle.embed_core.specs.Kinds.{Note, Table, Drawing, class_of}
 use Rattle.storage_tree.specs.declared.streams.NamedStream.{NamedStream}
-use Rattle.container_model.specs.Record.{Record, is_doubtful}
+use Rattle.container_model.specs.Record.{is_doubtful}
+use Rattle.container_model.specs.Commands.{user_type}
 use Rattle.container_model.specs.declared.record.Frame.{Frame}
 use Rattle.container_model.specs.declared.record.Object.{Object}
 use Rattle.container_model.specs.declared.record.Link.{Link}
 use Rattle.world_model.specs.declared.logs.Done.{Done}
 use Rattle.world_model.specs.declared.logs.ServerDone.{ServerDone}
+use Rattle.world_model.specs.Texts.{line, hex, name_text, class_text}
 use Rattle.world_model.specs.World.{World}
-
--- words parted by one space, and the line's end
-abbrev pub line : List (List ℕ) → List ℕ
-line [] = 10 ∷ []
-line (word ∷ []) = word ++ 10 ∷ []
-line (word ∷ next ∷ words) = word ++ 32 ∷ line (next ∷ words)
-
--- the lower-case hexadecimal digit of a number below 16
-abbrev pub digit_text : ℕ → ℕ
-digit_text n = if nat_lt n 10 then 48 + n else 87 + n
-
-abbrev pub byte_hex : ℕ → List ℕ
-byte_hex c = digit_text (c / 16) ∷ digit_text (c % 16) ∷ []
-
--- bytes, two hexadecimal digits each
-abbrev pub hex : List ℕ → List ℕ
-hex bytes = flat_map byte_hex bytes
-
--- a byte up to 32, or 127: one that ends a word or can't be seen
-abbrev pub is_hidden : ℕ → Bool
-is_hidden c = nat_le c 32 || nat_eq c 127
-
--- how a byte of a name is spelled: a hidden one as a backslash and two digits
-abbrev pub byte_text : ℕ → List ℕ
-byte_text c = if is_hidden c then 92 ∷ byte_hex c else c ∷ []
-
-abbrev pub name_text : List ℕ → List ℕ
-name_text name = flat_map byte_text name
 
 -- Frames, by their numbers: who has the frame or is to get it, the number of the last save, and whether there is a file.
 abbrev pub grant_text : GrantState → List ℕ
@@ -63,7 +39,12 @@ abbrev pub frame_lines : ℕ → List Frame → List ℕ
 frame_lines f [] = []
 frame_lines f (frame ∷ frames) = frame_line f frame ++ frame_lines (f + 1) frames
 
--- Objects: the states as far as calls were answered, the activation and its storage grant.
+-- Objects: the kind, or the class id where it is none of the three; the states as far as calls were answered, the
+-- activation and its storage grant.
+abbrev pub type_text : List ℕ → List ℕ
+type_text class =
+    if bytes_eq class (class_of Note) then user_type Note else if bytes_eq class (class_of Table) then user_type Table else if bytes_eq class (class_of Drawing) then user_type Drawing else class_text class
+
 abbrev pub object_state_name : ObjectState → List ℕ
 object_state_name Passive = codes "Passive"
 object_state_name Loaded = codes "Loaded"
@@ -97,7 +78,7 @@ content_text [] = codes "-"
 content_text (s ∷ ss) = stream_text s ++ flat_map further_text ss
 
 unfoldable pub object_line : Object → List ℕ
-object_line o = line (codes "object" ∷ decimal o.number ∷ codes "frame" ∷ decimal o.frame ∷ o.user_type ∷ state_text o.link ∷ content_text o.work.streams ∷ [])
+object_line o = line (codes "object" ∷ decimal o.number ∷ codes "frame" ∷ decimal o.frame ∷ type_text o.class ∷ state_text o.link ∷ content_text o.work.streams ∷ [])
 
 -- What was counted: the object and the number of the save.
 unfoldable pub done_line : List ℕ → ℕ → ℕ → List ℕ
@@ -109,9 +90,9 @@ container_line d = done_line (codes "container") d.object d.k
 abbrev pub server_line : ServerDone → List ℕ
 server_line d = done_line (codes "server") d.object d.k
 
--- the report of a container's record and of both logs
-abbrev pub report_of : Record → List Done → List ServerDone → List ℕ
-report_of r container_done server_done = frame_lines 1 r.frames ++ flat_map object_line r.objects ++ flat_map container_line container_done ++ flat_map server_line server_done
+-- the report of a container's frames and objects, and of both logs
+abbrev pub report_of : List Frame → List Object → List Done → List ServerDone → List ℕ
+report_of frames objects container_done server_done = frame_lines 1 frames ++ flat_map object_line objects ++ flat_map container_line container_done ++ flat_map server_line server_done
 
 abbrev pub report : World → List ℕ
-report w = report_of w.rec w.container_done w.server_done
+report w = report_of w.rec.frames w.rec.objects w.container_done w.server_done

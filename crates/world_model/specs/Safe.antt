@@ -1,5 +1,6 @@
 -- What holds of every world, whatever happened in it.
-use Rattle.std.specs.Prelude.{◌≡◌, ◌≢◌, ◌⊎◌, ℕ, List, [], ◌∷◌, map, Option, Some, None, Ok, ⊤}
+use Rattle.std.specs.Prelude.{◌≡◌, ◌≢◌, ◌⊎◌, ◌==◌, ℕ, List, [], ◌∷◌, map, Option, Some, None, Ok, if◌then◌else◌, ⊤}
+use Rattle.std.specs.List.{flat_map}
 use Rattle.wire_msgs.specs.Found.{find, nth}
 use Rattle.wire_msgs.specs.declared.message.Message.{Message}
 use Rattle.wire_msgs.specs.declared.message.Message.TheVariants.{Call, Reply}
@@ -17,7 +18,7 @@ use Rattle.world_model.specs.declared.logs.Sent.{Sent}
 use Rattle.world_model.specs.declared.logs.Done.{Done}
 use Rattle.world_model.specs.declared.logs.ServerDone.{ServerDone}
 use Rattle.world_model.specs.declared.logs.Document.{Document}
-use Rattle.world_model.specs.World.{World, Instance, delivered, done_entry, frame_file}
+use Rattle.world_model.specs.World.{World, Instance, counted_document, delivered, done_entry, frame_file}
 
 -- x stands in the list
 abbrev pub Among : {A : Type 0} → List A → A → Type 0
@@ -60,6 +61,36 @@ abbrev pub ServedOnce : List ServerDone → Type 0
 ServedOnce [] = ⊤
 ServedOnce (d ∷ ds) = ((e : ServerDone) → Among ds e → IsOther d e) × ServedOnce ds
 
+-- A log of commits: the frame, the number of its save, and the parts of its document.
+pub record Commit : Type 0 where
+  pub frame : ℕ
+  pub k : ℕ
+  pub parts : List Part
+
+abbrev pub entries_of : Commit → List Done
+entries_of c = map (done_entry c.k) c.parts
+
+abbrev pub committed : Commit → Document
+committed c = record { k = c.k; parts = c.parts }
+
+-- the document of the last commit of a frame
+abbrev pub or_else : {A : Type 0} → Option A → Option A → Option A
+or_else (Some x) other = Some x
+or_else None other = other
+
+abbrev pub commit_of : ℕ → Commit → Option Document
+commit_of f c = if c.frame == f then Some (committed c) else None
+
+abbrev pub last_commit : ℕ → List Commit → Option Document
+last_commit f [] = None
+last_commit f (c ∷ cs) = or_else (last_commit f cs) (commit_of f c)
+
+-- The container counted these commits, one after the other: what it counted are just their entries, and the document
+-- counted for a frame is that of its last commit.
+pub record IsCounted (w : World) (commits : List Commit) : Type 0 where
+  pub entries : w.container_done ≡ flat_map entries_of commits
+  pub last : (f : ℕ) → counted_document w f ≡ last_commit f commits
+
 -- The file of a frame holds the document of its last counted commit, whose contents are those counted with it.
 pub record IsKept (w : World) (f : ℕ) (document : Document) : Type 0 where
   pub bytes : List ℕ
@@ -82,5 +113,7 @@ pub record Safe (w : World) : Type 0 where
   pub container_once : CountedOnce w.container_done
   pub server_once : ServedOnce w.server_done
   pub agreed : (e : ServerDone) → Among w.server_done e → Among w.container_done (record { object = e.object; k = e.k; content = e.content })
+  -- the container counts by commits alone
+  pub commits : (commits : List Commit) × IsCounted w commits
   -- the file of each frame with a counted commit
   pub files : (f : ℕ) (document : Document) → nth w.counted f ≡ Some (Some document) → IsKept w f document

@@ -11,7 +11,7 @@ use Rattle.embed_core.specs.Kinds.{Kind, class_of}
 use Rattle.server_model.specs.Server.{Server, Activation, Served, on_call, wanted, is_act}
 use Rattle.server_model.specs.declared.counted.Counted.{Counted}
 use Rattle.server_model.specs.declared.fault.ServerFault.{ServerFault}
-use Rattle.container_model.specs.Record.{Record, Took, empty}
+use Rattle.container_model.specs.Record.{Record, Took, empty, is_doubtful}
 use Rattle.container_model.specs.Commands.{on_command}
 use Rattle.container_model.specs.Messages.{on_message, on_reap}
 use Rattle.container_model.specs.Saves.{commit_done, image, document_tree, name_after}
@@ -295,14 +295,14 @@ Refuses told stop = told ≡ Err stop
 abbrev pub StopsAt : World → Event → Stop → Type 0
 StopsAt w e stop = (bytes : List ℕ) → Refuses (step w bytes e) stop
 
--- The file of a frame that was opened, or whose commit was counted.
+-- The file of a frame, where it is known which: not while it is in doubt whether its last commit was done.
 abbrev pub file_bytes : Option File → Option (List ℕ)
 file_bytes None = None
 file_bytes (Some file) = Some file.bytes
 
 abbrev pub frame_file_in : World → Option Frame → Option (List ℕ)
 frame_file_in w None = None
-frame_file_in w (Some frame) = if frame.stored then file_bytes (find (is_file frame.name) w.files) else None
+frame_file_in w (Some frame) = if is_doubtful frame.phase then None else if frame.stored then file_bytes (find (is_file frame.name) w.files) else None
 
 abbrev pub frame_file : World → ℕ → Option (List ℕ)
 frame_file w f = frame_file_in w (nth w.rec.frames f)

@@ -10,6 +10,6 @@ use Rattle.world_run.proofs.Alike.{ties_alike, acts_alike, lives_alike, many_ali
 module _ {X : Type 0} {V : X → Type 0} (c d : Seat X V → Content) where
   pub held_seen : (st : State X V) → Holds (seen c st) → Holds (seen d st)
   held_seen st h = record {
-    keeps = record { book = h.keeps.book; shelf = h.keeps.shelf };
+    keeps = record { book = h.keeps.book; shelf = h.keeps.shelf; commits = h.keeps.commits };
     tied = ties_alike _ _ _ _ _ _ _ (many_alike c d st.instances.items) (acts_alike c d st.instances.items) (lives_alike c d st.instances.items) h.tied;
   }

@@ -14,7 +14,7 @@ use Rattle.world_run.specs.declared.plan.Plan.TheVariants.{Quiet, Tell, Serve, B
 use Rattle.world_model.specs.declared.logs.EventAnswer.TheVariants as told
 use Rattle.world_model.specs.declared.event.Stop.{Stop}
 use Rattle.world_model.specs.declared.event.Stop.TheVariants.{NotEnabled}
-use Rattle.world_model.specs.World.{World, Instance, served, took, quiet_outcome, is_of, without_first}
+use Rattle.world_model.specs.World.{World, Instance, limited, served, took, quiet_outcome, is_of, without_first}
 
 abbrev pub quiet : World → World
 quiet w = record w { answers = w.answers ++ told.Took quiet_outcome ∷ [] }
@@ -35,6 +35,14 @@ carried w (Call inc act n op) plan = carried_call w inc act n op plan
 carried w (Reply inc act n answer) plan = Ok (took w (on_message w.rec inc (Reply inc act n answer)))
 carried w (Write inc act s number content) plan = Ok (took w (on_message w.rec inc (Write inc act s number content)))
 carried w (Ask inc act g) plan = Ok (took w (on_message w.rec inc (Ask inc act g)))
+
+-- what is made of a world that takes no more events than it may
+abbrev pub carry : World → Message → Plan → Result World Stop
+carry w message plan = limited w (carried w message plan)
+
+-- a message that comes to the container
+abbrev pub tell : World → ℕ → Message → Result World Stop
+tell w inc message = limited w (Ok (took w (on_message w.rec inc message)))
 
 -- the places that a plan names are those of the server that is called, and of an object in stock
 abbrev pub FitsCall : World → ℕ → Plan → Type 0

@@ -171,7 +171,7 @@ impl Ledger {
         }
     }
 
-    /// The file of a frame whose commit was counted.
+    /// The file of a frame whose commit was counted, none while it is in doubt whether the last one was done.
     pub(crate) fn frame_file(&self, f: u32) -> Option<&[u8]>
         ensures { option_copied result ≡ frame_file (bare self.now) f }
     {
@@ -179,6 +179,10 @@ impl Ledger {
             Some(frame) => frame,
             None => return None,
         };
+        match frame.phase {
+            Phase::InDoubt => return None,
+            _ => {}
+        }
         if !frame.stored {
             return None;
         }

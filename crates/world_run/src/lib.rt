@@ -9,5 +9,4 @@ mod readers;
 pub mod report;
 mod state;
 pub mod stock;
-mod text;
 pub mod world;

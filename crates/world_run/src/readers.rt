@@ -70,7 +70,7 @@ impl World {
         }
     }
 
-    /// The file of a frame whose commit was counted.
+    /// The file of a frame whose commit was counted, none while it is in doubt whether the last one was done.
     pub fn frame_file(&self, frame: u32) -> Option<&[u8]>
         ensures { option_copied result ≡ frame_file (shown (λ s. content s.boxed) self.now) frame }
     {

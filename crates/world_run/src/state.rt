@@ -1,16 +1,15 @@
 //! What a world is made of, and the events that happen in it.
 
 ghost use Rattle.std.specs.Prelude.{◌≡◌, ◌≤◌, ◌<◌, ◌+◌, ◌++◌, [], List, ℕ, IfErr, IfOk, IfSome, IsSome, MatchOption, None, OnErr, OnOk, Ok, Err, Some, length, map, option_map, slice_get, take, vec_len, vec_capacity};
-ghost use Rattle.container_model.specs.Commands.{on_command};
-ghost use Rattle.container_model.specs.Messages.{on_message, on_reap};
 ghost use Rattle.container_core.specs.Numbered.{IsNth};
 ghost use Rattle.wire_msgs.specs.Found.{nth, set_nth};
 ghost use Rattle.embed_core.specs.Kinds.{kind_of};
 ghost use Rattle.world_model.specs.declared.event.Event.{Event};
 ghost use Rattle.world_run.specs.declared.plan.Plan.TheVariants as plan;
-ghost use Rattle.world_run.specs.Plans.{Fits, IsCallOf, carried, carried_call, stock_with};
+ghost use Rattle.world_run.specs.Plans.{Fits, IsCallOf, carried, carry, stock_with, tell};
 ghost use Rattle.world_run.specs.View.{seen, seen_instance, seen_stocked};
-ghost use Rattle.world_model.specs.World.{IsImage, Refuses, Run, StopsAt, called, commanded, crash, deliver, delivered, done, empty_world, fresh, limited, reap, step, took, view_in};
+ghost use Rattle.world_model.specs.World.{IsImage, Refuses, Run, StopsAt, delivered, empty_world, fresh, step, view_in};
+ghost use Rattle.wire_msgs.specs.declared.message.Message.TheVariants as message;
 ghost use Rattle.world_model.specs.declared.event.Event.TheVariants as event;
 
 use world_model::event::{Event, Stop};
@@ -87,8 +86,8 @@ impl State {
 
     // A command of a user.
     fn command(&mut self, alloc: Global, command: &Command) -> Result<(), Stop>
-        ensures taken { OnOk result (limited (seen (λ s. content s.boxed) self.old) (Ok (commanded (seen (λ s. content s.boxed) self.old) command.now (on_command self.old.ledger.core command.now))) ≡ Ok (seen (λ s. content s.boxed) self.new)) }
-        ensures refused { IfErr result (Refuses (limited (seen (λ s. content s.boxed) self.old) (Ok (commanded (seen (λ s. content s.boxed) self.old) command.now (on_command self.old.ledger.core command.now))))) }
+        ensures taken { OnOk result (step (seen (λ s. content s.boxed) self.old) [] (event.Command command.now) ≡ Ok (seen (λ s. content s.boxed) self.new)) }
+        ensures refused { IfErr result (Refuses (step (seen (λ s. content s.boxed) self.old) [] (event.Command command.now))) }
         ensures kept { OnErr result (seen (λ s. content s.boxed) self.new ≡ seen (λ s. content s.boxed) self.old) }
     {
         self.ledger.open()?;
@@ -106,8 +105,8 @@ impl State {
 
     // A message comes to the container.
     fn tell(&mut self, alloc: Global, inc: u32, message: Message) -> Result<(), Stop>
-        ensures taken { OnOk result (limited (seen (λ s. content s.boxed) self.old) (Ok (took (seen (λ s. content s.boxed) self.old) (on_message self.old.ledger.core inc message))) ≡ Ok (seen (λ s. content s.boxed) self.new)) }
-        ensures refused { IfErr result (Refuses (limited (seen (λ s. content s.boxed) self.old) (Ok (took (seen (λ s. content s.boxed) self.old) (on_message self.old.ledger.core inc message))))) }
+        ensures taken { OnOk result (tell (seen (λ s. content s.boxed) self.old) inc message ≡ Ok (seen (λ s. content s.boxed) self.new)) }
+        ensures refused { IfErr result (Refuses (tell (seen (λ s. content s.boxed) self.old) inc message)) }
         ensures kept { OnErr result (seen (λ s. content s.boxed) self.new ≡ seen (λ s. content s.boxed) self.old) }
     {
         self.ledger.open()?;
@@ -148,8 +147,8 @@ impl State {
 
     // A server crashes.
     fn crash(&mut self, alloc: Global, inc: u32) -> Result<(), Stop>
-        ensures taken { OnOk result (limited (seen (λ s. content s.boxed) self.old) (crash (seen (λ s. content s.boxed) self.old) inc (nth (seen (λ s. content s.boxed) self.old).instances inc)) ≡ Ok (seen (λ s. content s.boxed) self.new)) }
-        ensures refused { IfErr result (Refuses (limited (seen (λ s. content s.boxed) self.old) (crash (seen (λ s. content s.boxed) self.old) inc (nth (seen (λ s. content s.boxed) self.old).instances inc)))) }
+        ensures taken { OnOk result (step (seen (λ s. content s.boxed) self.old) [] (event.Crash inc) ≡ Ok (seen (λ s. content s.boxed) self.new)) }
+        ensures refused { IfErr result (Refuses (step (seen (λ s. content s.boxed) self.old) [] (event.Crash inc))) }
         ensures kept { OnErr result (seen (λ s. content s.boxed) self.new ≡ seen (λ s. content s.boxed) self.old) }
     {
         let Some((i, life)) = self.life(inc) else {
@@ -167,8 +166,8 @@ impl State {
 
     // The end of a server is told.
     fn reap(&mut self, alloc: Global, inc: u32) -> Result<(), Stop>
-        ensures taken { OnOk result (limited (seen (λ s. content s.boxed) self.old) (reap (seen (λ s. content s.boxed) self.old) inc (nth (seen (λ s. content s.boxed) self.old).instances inc)) ≡ Ok (seen (λ s. content s.boxed) self.new)) }
-        ensures refused { IfErr result (Refuses (limited (seen (λ s. content s.boxed) self.old) (reap (seen (λ s. content s.boxed) self.old) inc (nth (seen (λ s. content s.boxed) self.old).instances inc)))) }
+        ensures taken { OnOk result (step (seen (λ s. content s.boxed) self.old) [] (event.Reap inc) ≡ Ok (seen (λ s. content s.boxed) self.new)) }
+        ensures refused { IfErr result (Refuses (step (seen (λ s. content s.boxed) self.old) [] (event.Reap inc))) }
         ensures kept { OnErr result (seen (λ s. content s.boxed) self.new ≡ seen (λ s. content s.boxed) self.old) }
     {
         let Some((i, life)) = self.life(inc) else {
@@ -194,8 +193,8 @@ impl State {
 
     // The commit of a frame's file is done.
     fn done(&mut self, alloc: Global, f: u32) -> Result<(), Stop>
-        ensures taken { OnOk result ((bytes : List ℕ) × IsImage (seen (λ s. content s.boxed) self.old) bytes (event.Done f) × (limited (seen (λ s. content s.boxed) self.old) (done (seen (λ s. content s.boxed) self.old) f bytes) ≡ Ok (seen (λ s. content s.boxed) self.new))) }
-        ensures refused { IfErr result (λ stop. (bytes : List ℕ) → Refuses (limited (seen (λ s. content s.boxed) self.old) (done (seen (λ s. content s.boxed) self.old) f bytes)) stop) }
+        ensures taken { OnOk result ((bytes : List ℕ) × IsImage (seen (λ s. content s.boxed) self.old) bytes (event.Done f) × (step (seen (λ s. content s.boxed) self.old) bytes (event.Done f) ≡ Ok (seen (λ s. content s.boxed) self.new))) }
+        ensures refused { IfErr result (StopsAt (seen (λ s. content s.boxed) self.old) (event.Done f)) }
         ensures kept { OnErr result (seen (λ s. content s.boxed) self.new ≡ seen (λ s. content s.boxed) self.old) }
     {
         let room = self.instances.reserve(self.ledger.most()).is_ok();
@@ -234,8 +233,8 @@ impl State {
         operation: Operation,
     ) -> Result<(), Stop>
         requires { IsNth inc self.old.instances.items i }
-        ensures taken { OnOk result (limited (seen (λ s. content s.boxed) self.old) (carried_call (seen (λ s. content s.boxed) self.old) inc act n operation (plan.Serve i)) ≡ Ok (seen (λ s. content s.boxed) self.new)) }
-        ensures refused { IfErr result (Refuses (limited (seen (λ s. content s.boxed) self.old) (carried_call (seen (λ s. content s.boxed) self.old) inc act n operation (plan.Serve i)))) }
+        ensures taken { OnOk result (carry (seen (λ s. content s.boxed) self.old) (message.Call inc act n operation) (plan.Serve i) ≡ Ok (seen (λ s. content s.boxed) self.new)) }
+        ensures refused { IfErr result (Refuses (carry (seen (λ s. content s.boxed) self.old) (message.Call inc act n operation) (plan.Serve i))) }
         ensures kept { OnErr result (seen (λ s. content s.boxed) self.new ≡ seen (λ s. content s.boxed) self.old) }
     {
         self.ledger.open()?;
@@ -294,8 +293,8 @@ impl State {
     ) -> Result<(), Stop>
         requires place { IsNth inc self.old.instances.items i }
         requires stock { at < length self.old.stock.boxes.items }
-        ensures taken { OnOk result (limited (seen (λ s. content s.boxed) self.old) (carried_call (seen (λ s. content s.boxed) self.old) inc act n operation (plan.Begin i at)) ≡ Ok (seen (λ s. content s.boxed) self.new)) }
-        ensures refused { IfErr result (Refuses (limited (seen (λ s. content s.boxed) self.old) (carried_call (seen (λ s. content s.boxed) self.old) inc act n operation (plan.Begin i at)))) }
+        ensures taken { OnOk result (carry (seen (λ s. content s.boxed) self.old) (message.Call inc act n operation) (plan.Begin i at) ≡ Ok (seen (λ s. content s.boxed) self.new)) }
+        ensures refused { IfErr result (Refuses (carry (seen (λ s. content s.boxed) self.old) (message.Call inc act n operation) (plan.Begin i at))) }
         ensures kept { OnErr result (seen (λ s. content s.boxed) self.new ≡ seen (λ s. content s.boxed) self.old) }
     {
         self.ledger.open()?;
@@ -368,8 +367,8 @@ impl State {
     // What a plan says is done.
     fn carry_out(&mut self, alloc: Global, plan: Plan, message: Message) -> Result<(), Stop>
         requires { Fits (seen (λ s. content s.boxed) self.old) message plan }
-        ensures taken { OnOk result (limited (seen (λ s. content s.boxed) self.old) (carried (seen (λ s. content s.boxed) self.old) message plan) ≡ Ok (seen (λ s. content s.boxed) self.new)) }
-        ensures refused { IfErr result (Refuses (limited (seen (λ s. content s.boxed) self.old) (carried (seen (λ s. content s.boxed) self.old) message plan))) }
+        ensures taken { OnOk result (carry (seen (λ s. content s.boxed) self.old) message plan ≡ Ok (seen (λ s. content s.boxed) self.new)) }
+        ensures refused { IfErr result (Refuses (carry (seen (λ s. content s.boxed) self.old) message plan)) }
         ensures kept { OnErr result (seen (λ s. content s.boxed) self.new ≡ seen (λ s. content s.boxed) self.old) }
     {
         match message {
@@ -426,8 +425,8 @@ impl State {
 
     // A message that was sent is delivered.
     fn deliver(&mut self, alloc: Global, p: u32) -> Result<(), Stop>
-        ensures taken { OnOk result (limited (seen (λ s. content s.boxed) self.old) (deliver (seen (λ s. content s.boxed) self.old) (nth self.old.ledger.sent.items p)) ≡ Ok (seen (λ s. content s.boxed) self.new)) }
-        ensures refused { IfErr result (Refuses (limited (seen (λ s. content s.boxed) self.old) (deliver (seen (λ s. content s.boxed) self.old) (nth self.old.ledger.sent.items p)))) }
+        ensures taken { OnOk result (step (seen (λ s. content s.boxed) self.old) [] (event.Deliver p) ≡ Ok (seen (λ s. content s.boxed) self.new)) }
+        ensures refused { IfErr result (Refuses (step (seen (λ s. content s.boxed) self.old) [] (event.Deliver p))) }
         ensures kept { OnErr result (seen (λ s. content s.boxed) self.new ≡ seen (λ s. content s.boxed) self.old) }
     {
         let Some(i) = place(&self.ledger.sent, p) else {

@@ -37,7 +37,7 @@ use Rattle.server_model.specs.declared.counted.Counted.{Counted}
 use Rattle.world_model.specs.World.{Instance}
 use Rattle.world_safety.specs.Tying.{Ahead}
 use Rattle.world_model.specs.Safe.{act_at, acts_of}
-use Rattle.world_safety.proofs.Lookups.{find_passes}
+use Rattle.world_books.proofs.Lookups.{find_passes}
 use Rattle.world_safety.proofs.CallsServed.{Makes, Begins, How, again, next, begun, Changed}
 
 -- an edit leaves the states

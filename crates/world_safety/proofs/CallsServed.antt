@@ -14,7 +14,7 @@ use Rattle.container_model.specs.declared.record.Link.{Link}
 use Rattle.world_model.specs.declared.life.Life.TheVariants.{Running}
 use Rattle.world_model.specs.Safe.{Among}
 use Rattle.world_safety.specs.Tying.{Links, Acts, Lives, Ahead, AtPending, InStep, HasSaved, IsClosed, IsPending, Drawn, Calls, Steps, Ended, Replies}
-use Rattle.world_safety.proofs.Lookups.{among_join}
+use Rattle.world_books.proofs.Lookups.{among_join}
 
 -- What a call does to the activation a, with the answer r and perhaps a save that is counted.
 pub record Makes (a : Activation) (op : Operation) (after : Activation) (r : Answer) (counted : Option Counted) : Type 0 where

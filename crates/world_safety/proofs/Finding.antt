@@ -15,8 +15,8 @@ use Rattle.container_model.specs.declared.record.Object.{Object}
 use Rattle.world_model.specs.World.{messages_of, of_container}
 use Rattle.world_model.specs.declared.logs.Sent.{Sent}
 use Rattle.world_model.specs.Safe.{Among, link_at, links_of, messages}
-use Rattle.world_safety.specs.Keeping.{id_of, Distinct}
-use Rattle.world_safety.proofs.Lookups.{among_join, among_map, find_passes, find_among}
+use Rattle.world_books.specs.Keeping.{id_of, Distinct}
+use Rattle.world_books.proofs.Lookups.{among_join, among_map, find_passes, find_among}
 
 -- the object that stands in the list is found by its number
 pub find_number : (os : List Object) (o : Object) → Distinct (map id_of os) → Among os o → find (is_object o.number) os ≡ Some o

@@ -8,7 +8,7 @@ use Rattle.world_model.specs.World.{World, empty_world, Run}
 use Rattle.world_model.specs.Safe.{Safe, acts_of}
 use Rattle.world_safety.specs.Tying.{HasSaved}
 use Rattle.world_safety.specs.Holding.{Holds}
-use Rattle.world_safety.proofs.Kept.{empty_keeps, keeps_run, files_kept}
+use Rattle.world_books.proofs.Kept.{empty_keeps, keeps_run, commits_kept, files_kept}
 use Rattle.world_safety.proofs.Once.{once_answered}
 use Rattle.world_safety.proofs.Tied.{empty_tied}
 use Rattle.world_safety.proofs.TiedEvents.{tied_run}
@@ -28,6 +28,7 @@ safe_held w h = record {
   container_once = h.keeps.book.once;
   server_once = h.tied.once;
   agreed = h.tied.books.same;
+  commits = commits_kept w h.keeps;
   files = files_kept w h.keeps;
 }
 

@@ -1,17 +1,11 @@
 pub mod Answering
-pub mod Books
 pub mod CallsServed
 pub mod Finding
-pub mod Frames
-pub mod Kept
-pub mod Lookups
 pub mod Moving
 pub mod Once
 pub mod Phases
-pub mod Quiet
 pub mod Replying
 pub mod ServingBooks
-pub mod Shelves
 pub mod Steps1
 pub mod Steps2
 pub mod Steps3

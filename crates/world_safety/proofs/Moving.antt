@@ -17,7 +17,7 @@ use Rattle.world_model.specs.declared.logs.Done.{Done}
 use Rattle.world_model.specs.declared.logs.ServerDone.{ServerDone}
 use Rattle.world_model.specs.Safe.{Among}
 use Rattle.world_safety.specs.Tying.{Links, Acts, Lives, InStep, InStepAt, HasSaved, IsClosed, IsPending, Drawn, Calls, Steps, Ended, Replies, IsCounted, Books}
-use Rattle.world_safety.proofs.Lookups.{among_join, among_old, among_new, nth_old, nth_bound}
+use Rattle.world_books.proofs.Lookups.{among_join, among_old, among_new, nth_old, nth_bound}
 
 -- a link with the same activation, whose save is as it was or over
 pub record IsSame (l after : Link) : Type 0 where

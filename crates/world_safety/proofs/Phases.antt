@@ -11,7 +11,7 @@ use Rattle.container_model.specs.declared.record.Phase.{Phase}
 use Rattle.container_model.specs.declared.record.Phase.TheVariants.{Idle, Saving, HandingOff, Committing, InDoubt}
 use Rattle.world_model.specs.Safe.{Among}
 use Rattle.world_safety.specs.Tying.{Phased, AllPhased, HasContent}
-use Rattle.world_safety.proofs.Lookups.{find_among}
+use Rattle.world_books.proofs.Lookups.{find_among}
 
 settled_number : (n : ℕ) (os : List Object) (frames : List Frame) (i : ℕ) (new : Frame) → slice_get (settled_frames n os frames) i ≡ Some new → (old : Frame) × (slice_get frames i ≡ Some old) × (new ≡ settled_frame (n + i) os old)
 settled_number n os [] i new e = cc

@@ -16,7 +16,7 @@ use Rattle.world_model.specs.declared.logs.ServerDone.{ServerDone}
 use Rattle.world_model.specs.World.{nth_or_zero}
 use Rattle.world_model.specs.Safe.{Among, IsOther, ServedOnce}
 use Rattle.world_safety.specs.Tying.{Links, Acts, Lives, InStep, IsClosed, Drawn, Calls, Steps, Ended, Replies, IsCounted, Books}
-use Rattle.world_safety.proofs.Lookups.{among_join, among_old}
+use Rattle.world_books.proofs.Lookups.{among_join, among_old}
 use Rattle.world_safety.proofs.CallsServed.{How, again, next, begun, Changed, same_act, pending_next, old_call}
 
 -- what is counted with a call

@@ -20,9 +20,9 @@ use Rattle.grant_core.specs.Grants.{waiting}
 use Rattle.world_model.specs.declared.life.Life.{Life}
 use Rattle.world_model.specs.World.{messages_of, started_by}
 use Rattle.world_model.specs.Safe.{Among, links_of}
-use Rattle.world_safety.specs.Keeping.{id_of, Distinct}
+use Rattle.world_books.specs.Keeping.{id_of, Distinct}
 use Rattle.world_safety.specs.Tying.{Acts, Lives, IsSave, Phased, AllPhased}
-use Rattle.world_safety.proofs.Quiet.{unless_ok}
+use Rattle.world_books.proofs.Quiet.{unless_ok}
 use Rattle.world_safety.proofs.Finding.{found_number, found_put, find_put_here, find_put_there, linked_object, link_found, messages_sends}
 use Rattle.world_safety.proofs.Moving.{IsSame, Came, same, asked, fresh, IsCallOf, Goes}
 

@@ -28,10 +28,10 @@ use Rattle.container_model.specs.Commands.{any_busy, all_have_numbers, save, sav
 use Rattle.container_model.specs.Messages.{Replied, replied, next_at, next_link, next_sent, replied_object, replied_record, reply_taken, reply_pending, reply_link, reply_found, on_message}
 use Rattle.world_model.specs.World.{messages_of, started_by}
 use Rattle.world_model.specs.Safe.{Among, links_of}
-use Rattle.world_safety.specs.Keeping.{id_of, Distinct}
+use Rattle.world_books.specs.Keeping.{id_of, Distinct}
 use Rattle.world_safety.specs.Tying.{Acts, Lives, IsSave, HasContent, HasSaved, IsClosed, Phased, AllPhased, Calls, Steps, Replies, InStep, InStepAt, AtPending, Ahead}
-use Rattle.world_safety.proofs.Lookups.{find_among, find_passes, nth_set_apart}
-use Rattle.world_safety.proofs.Quiet.{unless_ok}
+use Rattle.world_books.proofs.Lookups.{find_among, find_passes, nth_set_apart}
+use Rattle.world_books.proofs.Quiet.{unless_ok}
 use Rattle.world_safety.proofs.Phases.{phased_settled}
 use Rattle.world_safety.proofs.Replying.{Settles, Ends, settles, gone, reply_ends}
 use Rattle.world_safety.proofs.Finding.{found_number, find_number, found_put, find_put_here, find_put_there, found_mapped, find_mapped, linked_object, link_found, messages_sends, messages_join, messages_settled, asked_of}

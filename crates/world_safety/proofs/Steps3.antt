@@ -25,10 +25,10 @@ use Rattle.world_model.specs.declared.life.Life.TheVariants.{Running}
 use Rattle.world_model.specs.declared.logs.Done.{Done}
 use Rattle.world_model.specs.World.{started_by, done_entry}
 use Rattle.world_model.specs.Safe.{Among, links_of}
-use Rattle.world_safety.specs.Keeping.{Id, id_of, Distinct}
+use Rattle.world_books.specs.Keeping.{Id, id_of, Distinct}
 use Rattle.world_safety.specs.Tying.{Acts, Lives, HasContent, HasSaved, Phased, AllPhased, Steps, IsCounted}
-use Rattle.world_safety.proofs.Lookups.{find_among, among_map, nth_old, nth_set_apart, length_set_nth}
-use Rattle.world_safety.proofs.Quiet.{unless_ok}
+use Rattle.world_books.proofs.Lookups.{find_among, among_map, nth_old, nth_set_apart, length_set_nth}
+use Rattle.world_books.proofs.Quiet.{unless_ok}
 use Rattle.world_safety.proofs.Phases.{phased_settled}
 use Rattle.world_safety.proofs.Finding.{find_number, found_mapped, find_mapped, linked_object, link_found, messages_sends, messages_settled, asked_of}
 use Rattle.world_safety.proofs.Moving.{IsSame, Came, same, IsCallOf}

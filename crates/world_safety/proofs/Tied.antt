@@ -20,9 +20,9 @@ use Rattle.world_model.specs.declared.life.Life.{Life}
 use Rattle.world_model.specs.declared.life.Life.TheVariants.{Running}
 use Rattle.world_model.specs.World.{World, Instance, empty_world, messages_of, of_container, started_by, nth_or_zero, counted_by}
 use Rattle.world_model.specs.Safe.{Among, links_of, acts_of, messages, ServedOnce}
-use Rattle.world_safety.specs.Keeping.{id_of, Book, Keeps}
+use Rattle.world_books.specs.Keeping.{id_of, Book, Keeps}
 use Rattle.world_safety.specs.Tying.{Links, life_at, lives_of, InStep, HasSaved, IsClosed, Phased, AllPhased, Drawn, Calls, Ended as Ends, Replies, Books, Ties, Tied}
-use Rattle.world_safety.proofs.Lookups.{among_map, find_among, length_set_nth}
+use Rattle.world_books.proofs.Lookups.{among_map, find_among, length_set_nth}
 use Rattle.world_safety.proofs.CallsServed.{drawn_served, calls_served, steps_served, ended_served, replies_served}
 use Rattle.world_safety.proofs.ServingBooks.{entries_of, books_served, once_served}
 use Rattle.world_safety.proofs.Moving.{calls_moved, drawn_moved, steps_moved, ended_moved, replies_moved, books_moved}

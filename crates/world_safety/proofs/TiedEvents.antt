@@ -31,16 +31,16 @@ use Rattle.world_model.specs.declared.event.Event.TheVariants as event
 use Rattle.world_model.specs.declared.event.Stop.{Stop}
 use Rattle.world_model.specs.World.{World, Instance, fresh, messages_of, of_container, started_by, done_entry, joined, took, commanded, owners_by, served, stocked, called_wanting, called_in, called, delivered, deliver, crashed, crash, ended, reap, kept_commit, done_taken, done_imaged, done_in, happened, Run, is_of}
 use Rattle.world_model.specs.Safe.{Among, links_of, act_at, acts_of, messages}
-use Rattle.world_safety.specs.Keeping.{id_of, Keeps}
+use Rattle.world_books.specs.Keeping.{id_of, Keeps}
 use Rattle.world_safety.specs.Tying.{life_at, lives_of, Books, Ties, Tied}
-use Rattle.world_safety.proofs.Lookups.{among_map, nth_old, nth_one, nth_aligned, length_set_nth}
-use Rattle.world_safety.proofs.Shelves.{length_more}
-use Rattle.world_safety.proofs.Quiet.{unless_ok}
-use Rattle.world_safety.proofs.Books.{parts_of_frame}
+use Rattle.world_books.proofs.Lookups.{among_map, nth_old, nth_one, nth_aligned, length_set_nth}
+use Rattle.world_books.proofs.Shelves.{length_more}
+use Rattle.world_books.proofs.Quiet.{unless_ok}
+use Rattle.world_books.proofs.Books.{parts_of_frame}
 use Rattle.world_safety.proofs.Finding.{messages_sends}
 use Rattle.world_safety.proofs.Moving.{books_counted}
 use Rattle.world_safety.proofs.Answering.{nth_same, nth_other}
-use Rattle.world_safety.proofs.Kept.{commit_is_at, image_is_at, limited_ok, keeps_happened}
+use Rattle.world_books.proofs.Kept.{commit_is_at, image_is_at, limited_ok, keeps_happened}
 use Rattle.world_safety.proofs.Tied.{ties_instances, served_tied, moved_tied, moved_quiet}
 use Rattle.world_safety.proofs.Steps1.{Moves, NoCompletion, run_moves, edit_moves}
 use Rattle.world_safety.proofs.Steps2.{save_moves, reply_moves}

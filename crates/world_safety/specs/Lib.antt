@@ -1,3 +1,2 @@
-pub mod Keeping
 pub mod Tying
 pub mod Holding

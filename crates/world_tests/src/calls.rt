@@ -1,8 +1,8 @@
 //! What tests call. These functions have no contracts, so that the tests stay quick to prove.
 
-use container_model::answer::Answer;
+use container_core::container::{ContainerCore, Limits};
+use container_model::answer::{Answer, Part};
 use container_model::command::Command;
-use container_core::container::ContainerCore;
 use container_model::fault::ContainerFault;
 use embed_core::embedded::Embedded;
 use server_core::refusal::{Reaction, Refusal};
@@ -10,23 +10,19 @@ use server_core::server::ServerCore;
 use std::alloc::Global;
 use std::test::Fail;
 use storage_tree::bytes::Bytes;
-use wire_msgs::answer as said;
+use wire_msgs::items::Items;
 use wire_msgs::message::Message;
 use world_model::event::{Event, Stop};
+use world_run::stock::Stock;
 use world_run::world::World;
 
 pub(crate) fn bytes(alloc: Global, bytes: &[u8]) -> Result<Bytes, Fail> {
     Ok(Bytes::from_vec(Vec::from_slice(alloc, bytes)?))
 }
 
-/// The reply to a call of activation 1 of server 1.
-pub(crate) fn reply(n: u32, answer: said::Answer) -> Message {
-    Message::Reply {
-        inc: 1,
-        act: 1,
-        n,
-        answer,
-    }
+/// A container that gives numbers up to 100.
+pub(crate) fn container(alloc: Global) -> ContainerCore {
+    ContainerCore::new(alloc, Limits { numbers: 100 })
 }
 
 /// A container carries out a command.
@@ -66,6 +62,14 @@ pub(crate) fn commit_done(
     core.commit_done(alloc, frame)
 }
 
+/// The document of a frame whose commit is asked for, and its file.
+pub(crate) fn commit_image(
+    alloc: Global,
+    core: &ContainerCore,
+) -> Result<(Items<Part>, Vec<u8>), ContainerFault> {
+    core.commit_image(alloc, 1)
+}
+
 /// A server takes a call.
 pub(crate) fn on_call(
     core: &mut ServerCore,
@@ -74,6 +78,11 @@ pub(crate) fn on_call(
     boxed: Option<Box<dyn Embedded>>,
 ) -> Result<Reaction, Refusal> {
     core.on_call(alloc, message, boxed)
+}
+
+/// A world that gives numbers up to 1000.
+pub(crate) fn new_world(alloc: Global, stock: Stock) -> World {
+    World::new(alloc, Limits { numbers: 1000 }, stock)
 }
 
 /// A world takes events.

@@ -1,8 +1,9 @@
 //! Laws: functions that take nothing, and whose contracts are what they say.
 
-use container_core::{commit_laws, laws as container, steady_laws};
+use container_laws::{commit_laws, laws as container, steady_laws};
 use server_model::laws as server;
-use world_run::{safe_laws, worked};
+use world_model::worked;
+use world_safety::safe_laws;
 
 #[test]
 fn laws_take_nothing(_rt: HostRuntime) {

@@ -4,13 +4,9 @@
 #[cfg(test)]
 mod calls;
 #[cfg(test)]
-mod commands;
-#[cfg(test)]
-mod commits;
+mod containers;
 #[cfg(test)]
 mod laws;
-#[cfg(test)]
-mod messages;
 #[cfg(test)]
 mod servers;
 #[cfg(test)]

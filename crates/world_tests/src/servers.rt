@@ -1,3 +1,5 @@
+//! Servers: the calls that they take, and what they make of them.
+
 use crate::calls::on_call;
 use cfb_directory::name::Name;
 use embed_core::embedded::Embedded;
@@ -6,10 +8,10 @@ use embed_core::{Bytes, Stored, Streams, classes};
 use embed_note::note::Note;
 use embed_table::table::Table;
 use object_state::{CloseOption, ObjectState};
-use server_model::fault::ServerFault;
 use server_core::refusal::{Reaction, Refusal};
 use server_core::server::ServerCore;
-use std::alloc::Global;
+use server_model::fault::ServerFault;
+use std::alloc::{AllocError, Global};
 use std::test::Fail;
 use storage_tree::streams::NamedStream;
 use wire_msgs::answer::Answer;
@@ -17,13 +19,41 @@ use wire_msgs::message::Message;
 use wire_msgs::operation::Operation;
 use wire_msgs::refusal::Refusal as Why;
 
-fn note(alloc: Global, tally: &Tally) -> Result<Box<dyn Embedded>, Fail> {
+/// What a call asks.
+#[derive(Clone, Copy)]
+enum Ask {
+    InitNote,
+    InitTable,
+    /// A note of this text.
+    Load(&'static [u8]),
+    Edit(&'static [u8]),
+    Save(u32),
+    /// The save of this number is counted, and a storage is given.
+    Completed(u32),
+    InPlace,
+    UiActivate(u32),
+    Close,
+}
+
+/// The object that is handed in with a call.
+#[derive(Clone, Copy)]
+enum Handed {
+    Nothing,
+    Note,
+    Table,
+}
+
+/// A call of an activation, the object that is handed in, and what becomes of it: the reply or the fault, and `back`
+/// where the object comes back.
+type Row = (u32, u32, u32, Ask, Handed, &'static str);
+
+fn note(alloc: Global, tally: &Tally) -> Result<Box<dyn Embedded>, AllocError> {
     let note = Note::new(alloc, tally.share()?);
     let boxed: Box<dyn Embedded> = Box::new(alloc, note)?;
     Ok(boxed)
 }
 
-fn table(alloc: Global, tally: &Tally) -> Result<Box<dyn Embedded>, Fail> {
+fn table(alloc: Global, tally: &Tally) -> Result<Box<dyn Embedded>, AllocError> {
     let table = Table::new(alloc, tally.share()?);
     let boxed: Box<dyn Embedded> = Box::new(alloc, table)?;
     Ok(boxed)
@@ -41,229 +71,213 @@ fn text(alloc: Global, bytes: &[u8]) -> Result<Stored, Fail> {
     })
 }
 
-fn edit(alloc: Global, bytes: &[u8]) -> Result<Operation, Fail> {
-    let bytes = Bytes::from_vec(Vec::from_slice(alloc, bytes)?);
-    Ok(Operation::Edit(bytes))
+fn operation(alloc: Global, ask: Ask) -> Result<Operation, Fail> {
+    match ask {
+        Ask::InitNote => Ok(Operation::InitNew(classes::note())),
+        Ask::InitTable => Ok(Operation::InitNew(classes::table())),
+        Ask::Load(bytes) => Ok(Operation::Load(classes::note(), text(alloc, bytes)?)),
+        Ask::Edit(bytes) => Ok(Operation::Edit(Bytes::from_vec(Vec::from_slice(
+            alloc, bytes,
+        )?))),
+        Ask::Save(save) => Ok(Operation::Save(save)),
+        Ask::Completed(save) => Ok(Operation::SaveCompleted {
+            save,
+            storage: true,
+        }),
+        Ask::InPlace => Ok(Operation::InPlace),
+        Ask::UiActivate(grant) => Ok(Operation::UiActivate(grant)),
+        Ask::Close => Ok(Operation::Close(CloseOption::NoSave)),
+    }
 }
 
-/// A call of incarnation 1.
-fn call(act: u32, n: u32, operation: Operation) -> Message {
-    Message::Call {
-        inc: 1,
+fn call(alloc: Global, inc: u32, act: u32, n: u32, ask: Ask) -> Result<Message, Fail> {
+    Ok(Message::Call {
+        inc,
         act,
         n,
-        operation,
+        operation: operation(alloc, ask)?,
+    })
+}
+
+fn given(
+    alloc: Global,
+    tally: &Tally,
+    given: Handed,
+) -> Result<Option<Box<dyn Embedded>>, AllocError> {
+    match given {
+        Handed::Nothing => Ok(None),
+        Handed::Note => Ok(Some(note(alloc, tally)?)),
+        Handed::Table => Ok(Some(table(alloc, tally)?)),
     }
 }
 
-fn is_done(message: &Message) -> bool {
-    match message {
-        Message::Reply { answer, .. } => matches!(answer, Answer::Done),
-        _ => false,
-    }
-}
-
-fn why(message: &Message) -> Option<Why> {
-    match message {
-        Message::Reply {
-            answer: Answer::Refused(why),
-            ..
-        } => Some(*why),
-        _ => None,
-    }
-}
-
-/// The bytes of the first stream that a Reply or a Write holds.
-fn told(message: &Message) -> Option<&[u8]> {
-    let content = match message {
-        Message::Reply {
-            answer: Answer::Content(content),
-            ..
-        } => content,
-        Message::Write { content, .. } => content,
-        _ => return None,
-    };
+/// The bytes of the first stream of a content.
+fn first(content: &Stored) -> &[u8] {
     match content.streams.as_slice().first() {
-        Some(stream) => Some(stream.bytes.as_slice()),
-        None => None,
+        Some(stream) => stream.bytes.as_slice(),
+        None => &[],
     }
 }
 
-fn taken(outcome: Result<Reaction, Refusal>) -> Result<Reaction, Fail> {
-    match outcome {
-        Ok(reaction) => Ok(reaction),
-        Err(refusal) => Err(refusal.fault.into()),
+fn reply_text(reply: &Message) -> &'static str {
+    match reply {
+        Message::Reply { answer, .. } => match answer {
+            Answer::Done => "Done",
+            Answer::Refused(Why::BadContent) => "BadContent",
+            Answer::Content(content) if first(content) == b"abc".as_slice() => "Content abc",
+            Answer::Tools { .. } => "Tools",
+            _ => "another answer",
+        },
+        Message::Write { content, .. } if first(content) == b"abc".as_slice() => "Write abc",
+        Message::Ask { inc: 1, act: 5, g: 7 } => "Ask 7",
+        _ => "another message",
     }
 }
 
-/// The fault, and whether the object came back.
-fn refused(outcome: Result<Reaction, Refusal>) -> Option<(ServerFault, bool)> {
-    match outcome {
-        Ok(_) => None,
-        Err(refusal) => Some((refusal.fault, refusal.back.is_some())),
+fn fault_text(fault: ServerFault) -> &'static str {
+    match fault {
+        ServerFault::WrongIncarnation => "WrongIncarnation",
+        ServerFault::Ignored => "Ignored",
+        ServerFault::NumbersSpent => "NumbersSpent",
+        ServerFault::NeedObject => "NeedObject",
+        ServerFault::WrongClass => "WrongClass",
+        ServerFault::NoMemory => "NoMemory",
     }
 }
 
-/// A server whose activation 5 is a new note.
-fn with_note(alloc: Global, tally: &Tally) -> Result<ServerCore, Fail> {
+/// What became of a call, what was counted, and whether the object came back.
+fn outcome_text(
+    alloc: Global,
+    outcome: Result<Reaction, Refusal>,
+) -> Result<String, AllocError> {
+    let (text, counted, back) = match outcome {
+        Ok(Reaction {
+            reply,
+            counted,
+            back,
+        }) => (reply_text(&reply), counted, back),
+        Err(Refusal { fault, back }) => (fault_text(fault), None, back),
+    };
+    let mut text = String::from_str(alloc, text)?;
+    if let Some(counted) = counted {
+        let (act, k) = (counted.act, counted.k);
+        text.push_str(&format!(in alloc; ", counted {act} {k}")?)?;
+    }
+    if back.is_some() {
+        text.push_str(", back")?;
+    }
+    Ok(text)
+}
+
+fn played(
+    alloc: Global,
+    core: &mut ServerCore,
+    tally: &Tally,
+    row: &Row,
+) -> Result<String, Fail> {
+    let (inc, act, n, ask, object, _) = *row;
+    let message = call(alloc, inc, act, n, ask)?;
+    let object = given(alloc, tally, object)?;
+    Ok(outcome_text(alloc, on_call(core, alloc, message, object))?)
+}
+
+/// Each server is told these calls in turn; then so many of the objects that were handed in are dropped, and all of them
+/// once the server is.
+#[test]
+fn calls_are_answered(rt: HostRuntime) -> Result<(), Fail> {
+    let again: [Row; 2] = [
+        (1, 5, 1, Ask::InitNote, Handed::Note, "Done"),
+        (1, 5, 1, Ask::InitNote, Handed::Note, "Done, back"),
+    ];
+    let loads: [Row; 3] = [
+        (1, 5, 1, Ask::Load(b"\x07"), Handed::Note, "BadContent"),
+        (1, 5, 1, Ask::Load(b"\x07"), Handed::Note, "BadContent, back"),
+        (1, 5, 2, Ask::Edit(b"i 0 a"), Handed::Nothing, "Ignored"),
+    ];
+    let needs: [Row; 3] = [
+        (1, 5, 1, Ask::Load(b"a"), Handed::Nothing, "NeedObject"),
+        (1, 5, 1, Ask::InitNote, Handed::Table, "WrongClass, back"),
+        (2, 5, 1, Ask::InPlace, Handed::Nothing, "WrongIncarnation"),
+    ];
+    let saves: [Row; 4] = [
+        (1, 5, 1, Ask::InitNote, Handed::Note, "Done"),
+        (1, 5, 2, Ask::Edit(b"i 0 abc"), Handed::Nothing, "Done"),
+        (1, 5, 3, Ask::Save(8), Handed::Nothing, "Content abc"),
+        (1, 5, 4, Ask::Completed(8), Handed::Nothing, "Done, counted 5 8"),
+    ];
+    let two: [Row; 3] = [
+        (1, 5, 1, Ask::InitNote, Handed::Note, "Done"),
+        (1, 6, 1, Ask::InitTable, Handed::Table, "Done"),
+        (1, 5, 2, Ask::Close, Handed::Nothing, "Done"),
+    ];
+    for (rows, dropped, all) in [
+        (again.as_slice(), 1, 2),
+        (loads.as_slice(), 2, 2),
+        (needs.as_slice(), 1, 1),
+        (saves.as_slice(), 0, 1),
+        (two.as_slice(), 1, 2),
+    ] {
+        let tally = Tally::new(rt.alloc())?;
+        let mut core = ServerCore::new(rt.alloc(), 1, 9);
+        for (i, row) in rows.iter().enumerate() {
+            let text = played(rt.alloc(), &mut core, &tally, row)?;
+            assert_eq!(rt; text.as_str(), row.5, "{i}");
+        }
+        assert_eq!(rt; tally.count(), dropped);
+        drop(core);
+        assert_eq!(rt; tally.count(), all);
+    }
+    Ok(())
+}
+
+/// A server whose activation 5 is a note, told these calls.
+fn with_note(alloc: Global, tally: &Tally, asked: &[Ask]) -> Result<ServerCore, Fail> {
     let mut core = ServerCore::new(alloc, 1, 9);
-    let boxed = note(alloc, tally)?;
-    let init = call(5, 1, Operation::InitNew(classes::note()));
-    taken(on_call(&mut core, alloc, init, Some(boxed)))?;
+    played(
+        alloc,
+        &mut core,
+        tally,
+        &(1, 5, 1, Ask::InitNote, Handed::Note, ""),
+    )?;
+    let mut n = 2;
+    for ask in asked.iter().take(9) {
+        played(alloc, &mut core, tally, &(1, 5, n, *ask, Handed::Nothing, ""))?;
+        n += 1;
+    }
     Ok(core)
 }
 
 #[test]
-fn a_first_call_is_done_and_kept(rt: HostRuntime) -> Result<(), Fail> {
+fn servers_write_and_ask(rt: HostRuntime) -> Result<(), Fail> {
     let tally = Tally::new(rt.alloc())?;
-    let mut core = ServerCore::new(rt.alloc(), 1, 9);
-    let init = call(5, 1, Operation::InitNew(classes::note()));
-    assert!(rt; core.wants(&init) == Some(classes::note()));
-    let reaction = taken(on_call(&mut core, rt.alloc(), init, Some(note(rt.alloc(), &tally)?)))?;
-    assert!(rt; is_done(&reaction.reply));
-    assert!(rt; reaction.back.is_none());
-    let kept = core.last_reply(rt.alloc(), 5)?;
-    assert!(rt; matches!(&kept, Some(reply) if is_done(reply)));
-    assert!(rt; core.last_reply(rt.alloc(), 6)?.is_none());
-    Ok(())
-}
-
-#[test]
-fn a_repeated_call_is_answered_again(rt: HostRuntime) -> Result<(), Fail> {
-    let tally = Tally::new(rt.alloc())?;
-    let mut core = with_note(rt.alloc(), &tally)?;
-    let init = call(5, 1, Operation::InitNew(classes::note()));
-    assert!(rt; core.wants(&init).is_none());
-    let other = note(rt.alloc(), &tally)?;
-    let reaction = taken(on_call(&mut core, rt.alloc(), init, Some(other)))?;
-    assert!(rt; is_done(&reaction.reply));
-    assert!(rt; reaction.back.is_some());
-    assert_eq!(rt; tally.count(), 0);
-    Ok(())
-}
-
-#[test]
-fn a_refused_load_closes(rt: HostRuntime) -> Result<(), Fail> {
-    let tally = Tally::new(rt.alloc())?;
-    let mut core = ServerCore::new(rt.alloc(), 1, 9);
-    let load = Operation::Load(classes::note(), text(rt.alloc(), b"\x07")?);
-    let first = note(rt.alloc(), &tally)?;
-    let reaction = taken(on_call(&mut core, rt.alloc(), call(5, 1, load), Some(first)))?;
-    assert!(rt; why(&reaction.reply) == Some(Why::BadContent));
-    assert!(rt; reaction.back.is_none());
-    assert_eq!(rt; tally.count(), 1);
-    let again = Operation::Load(classes::note(), text(rt.alloc(), b"\x07")?);
-    let second = note(rt.alloc(), &tally)?;
-    let reaction = taken(on_call(&mut core, rt.alloc(), call(5, 1, again), Some(second)))?;
-    assert!(rt; why(&reaction.reply) == Some(Why::BadContent));
-    assert!(rt; reaction.back.is_some());
-    assert_eq!(rt; tally.count(), 1);
-    let late = call(5, 2, edit(rt.alloc(), b"i 0 a")?);
-    assert_eq!(rt;
-        refused(on_call(&mut core, rt.alloc(), late, None)),
-        Some((ServerFault::Ignored, false))
-    );
-    Ok(())
-}
-
-#[test]
-fn a_first_call_needs_an_object_of_its_class(rt: HostRuntime) -> Result<(), Fail> {
-    let tally = Tally::new(rt.alloc())?;
-    let mut core = ServerCore::new(rt.alloc(), 1, 9);
-    let load = Operation::Load(classes::note(), text(rt.alloc(), b"a")?);
-    assert_eq!(rt;
-        refused(on_call(&mut core, rt.alloc(), call(5, 1, load), None)),
-        Some((ServerFault::NeedObject, false))
-    );
-    let init = call(5, 1, Operation::InitNew(classes::note()));
-    let other = table(rt.alloc(), &tally)?;
-    assert_eq!(rt;
-        refused(on_call(&mut core, rt.alloc(), init, Some(other))),
-        Some((ServerFault::WrongClass, true))
-    );
-    let elsewhere = Message::Call {
-        inc: 2,
-        act: 5,
-        n: 1,
-        operation: Operation::InPlace,
-    };
-    assert_eq!(rt;
-        refused(on_call(&mut core, rt.alloc(), elsewhere, None)),
-        Some((ServerFault::WrongIncarnation, false))
-    );
-    assert_eq!(rt; tally.count(), 1);
-    Ok(())
-}
-
-#[test]
-fn an_edit_is_saved_and_written(rt: HostRuntime) -> Result<(), Fail> {
-    let tally = Tally::new(rt.alloc())?;
-    let mut core = with_note(rt.alloc(), &tally)?;
-    let typed = call(5, 2, edit(rt.alloc(), b"i 0 abc")?);
-    assert!(rt; is_done(&taken(on_call(&mut core, rt.alloc(), typed, None))?.reply));
-    let write = core.scribble(rt.alloc(), 5)?;
-    assert!(rt; told(&write) == Some(b"abc".as_slice()));
-    let save = call(5, 3, Operation::Save(8));
-    let saved = taken(on_call(&mut core, rt.alloc(), save, None))?;
-    assert!(rt; told(&saved.reply) == Some(b"abc".as_slice()));
+    let mut core = with_note(rt.alloc(), &tally, &[Ask::Edit(b"i 0 abc")])?;
+    assert_eq!(rt; reply_text(&core.scribble(rt.alloc(), 5)?), "Write abc");
+    let mut core = with_note(rt.alloc(), &tally, &[Ask::Save(8)])?;
     assert!(rt; core.scribble(rt.alloc(), 5).is_err());
-    let completed = Operation::SaveCompleted {
-        save: 8,
-        storage: true,
-    };
-    let reaction = taken(on_call(&mut core, rt.alloc(), call(5, 4, completed), None))?;
-    assert!(rt; is_done(&reaction.reply));
-    assert!(rt; matches!(&reaction.counted, Some(counted) if counted.act == 5 && counted.k == 8));
+    assert!(rt; core.ask_deactivate(5).is_err());
+    let core = with_note(rt.alloc(), &tally, &[Ask::InPlace, Ask::UiActivate(7)])?;
+    assert_eq!(rt; reply_text(&core.ask_deactivate(5)?), "Ask 7");
     Ok(())
 }
 
 #[test]
-fn an_activation_is_seen(rt: HostRuntime) -> Result<(), Fail> {
+fn servers_show_their_activations(rt: HostRuntime) -> Result<(), Fail> {
     let tally = Tally::new(rt.alloc())?;
-    let mut core = with_note(rt.alloc(), &tally)?;
-    assert!(rt; core.ask_deactivate(5).is_err());
-    taken(on_call(&mut core, rt.alloc(), call(5, 2, Operation::InPlace), None))?;
-    taken(on_call(
-        &mut core,
-        rt.alloc(),
-        call(5, 3, Operation::UiActivate(7)),
-        None,
-    ))?;
-    let asked = core.ask_deactivate(5)?;
-    assert!(rt;
-        matches!(
-            asked,
-            Message::Ask {
-                inc: 1,
-                act: 5,
-                g: 7
-            }
-        )
-    );
+    let core = with_note(rt.alloc(), &tally, &[Ask::InPlace, Ask::UiActivate(7)])?;
     let view = core.activation(5).expect(&rt, "activation 5");
     assert!(rt; view.opened);
     assert_eq!(rt; view.states.object, ObjectState::UiActive);
     assert_eq!(rt; (view.s, view.last, view.g, view.w), (1, 3, Some(7), 0));
     assert!(rt; core.activation(6).is_none());
-    Ok(())
-}
-
-#[test]
-fn objects_are_dropped_once(rt: HostRuntime) -> Result<(), Fail> {
-    let tally = Tally::new(rt.alloc())?;
-    let mut core = with_note(rt.alloc(), &tally)?;
-    let init = call(6, 1, Operation::InitNew(classes::table()));
-    taken(on_call(
-        &mut core,
-        rt.alloc(),
-        init,
-        Some(table(rt.alloc(), &tally)?),
-    ))?;
-    assert_eq!(rt; tally.count(), 0);
-    let close = call(5, 2, Operation::Close(CloseOption::NoSave));
-    taken(on_call(&mut core, rt.alloc(), close, None))?;
-    assert_eq!(rt; tally.count(), 1);
-    drop(core);
-    assert_eq!(rt; tally.count(), 2);
+    assert!(rt; core.last_reply(rt.alloc(), 6)?.is_none());
+    let new = ServerCore::new(rt.alloc(), 1, 9);
+    let init = call(rt.alloc(), 1, 5, 1, Ask::InitNote)?;
+    assert!(rt; new.wants(&init) == Some(classes::note()));
+    assert!(rt; core.wants(&init).is_none());
+    let noted = with_note(rt.alloc(), &tally, &[])?;
+    match noted.last_reply(rt.alloc(), 5)? {
+        Some(reply) => assert_eq!(rt; reply_text(&reply), "Done"),
+        None => panic!(rt; "no reply"),
+    }
     Ok(())
 }

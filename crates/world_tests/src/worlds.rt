@@ -1,18 +1,16 @@
 //! Worlds, and what they show.
 
-use crate::calls::{bytes, run};
+use crate::calls::{bytes, new_world, run};
 use cfb_directory::name::Name;
 use container_model::command::{Command, ObjectKind};
-use container_core::container::Limits;
-use object_parts::area::Area;
 use embed_core::embedded::Embedded;
 use embed_core::tally::Tally;
 use embed_note::note::Note;
+use object_parts::area::Area;
 use std::alloc::Global;
 use std::io;
 use std::io::{ErrorKind, Write};
 use std::test::Fail;
-use storage_tree::bytes::Bytes;
 use storage_tree::storage::Found;
 use stream_io::read::read_file;
 use world_model::event::{Event, Stop};
@@ -20,6 +18,85 @@ use world_model::logs::EventAnswer;
 use world_run::report::ReportFault;
 use world_run::stock::Stock;
 use world_run::world::World;
+
+/// An event of a world with frame, object and server 1.
+#[derive(Clone, Copy)]
+enum Step {
+    New,
+    Insert,
+    Start,
+    Run,
+    /// An edit by these bytes, and so many more of a letter.
+    Edit(&'static [u8], usize),
+    Save,
+    Deliver(u32),
+    Crash,
+    Reap,
+    Done,
+}
+
+/// A note is made, edited and saved, and both are told so.
+const SAVED: [Step; 15] = [
+    Step::New,
+    Step::Insert,
+    Step::Start,
+    Step::Run,
+    Step::Deliver(1),
+    Step::Deliver(2),
+    Step::Edit(b"i 0 ab", 0),
+    Step::Deliver(3),
+    Step::Deliver(4),
+    Step::Save,
+    Step::Deliver(5),
+    Step::Deliver(6),
+    Step::Done,
+    Step::Deliver(7),
+    Step::Deliver(8),
+];
+
+fn command(alloc: Global, step: Step) -> Result<Command, Fail> {
+    match step {
+        Step::New => Ok(Command::New(bytes(alloc, b"a")?, 40, 10)),
+        Step::Insert => Ok(Command::Insert(
+            1,
+            ObjectKind::Note,
+            Area {
+                x: 0,
+                y: 0,
+                w: 20,
+                h: 5,
+            },
+        )),
+        Step::Run => Ok(Command::Run(1, 1)),
+        Step::Edit(text, more) => {
+            let mut edit = bytes(alloc, text)?.into_vec();
+            for _ in 0..more {
+                edit.push(b'a')?;
+            }
+            Ok(Command::Edit(1, bytes(alloc, &edit)?))
+        }
+        Step::Save => Ok(Command::Save(1)),
+        _ => Ok(Command::Start),
+    }
+}
+
+fn event(alloc: Global, step: Step) -> Result<Event, Fail> {
+    match step {
+        Step::Deliver(place) => Ok(Event::Deliver(place)),
+        Step::Crash => Ok(Event::Crash(1)),
+        Step::Reap => Ok(Event::Reap(1)),
+        Step::Done => Ok(Event::Done(1)),
+        _ => Ok(Event::Command(command(alloc, step)?)),
+    }
+}
+
+fn events(alloc: Global, steps: &[Step]) -> Result<Vec<Event>, Fail> {
+    let mut events = Vec::new(alloc);
+    for step in steps {
+        events.push(event(alloc, *step)?)?;
+    }
+    Ok(events)
+}
 
 /// A world with one note in stock, or none.
 fn world(alloc: Global, stocked: bool) -> Result<World, Fail> {
@@ -30,42 +107,20 @@ fn world(alloc: Global, stocked: bool) -> Result<World, Fail> {
             return Err(Fail::from("no memory"));
         }
     }
-    Ok(World::new(alloc, Limits { numbers: 1000 }, stock))
+    Ok(new_world(alloc, stock))
 }
 
-/// A note is made, edited and saved.
-fn a_save(alloc: Global, edit: &[u8]) -> Result<Vec<Event>, Fail> {
-    let area = Area {
-        x: 0,
-        y: 0,
-        w: 20,
-        h: 5,
-    };
-    let mut events = Vec::new(alloc);
-    events.push(Event::Command(Command::New(bytes(alloc, b"a")?, 40, 10)))?;
-    events.push(Event::Command(Command::Insert(1, ObjectKind::Note, area)))?;
-    events.push(Event::Command(Command::Start))?;
-    events.push(Event::Command(Command::Run(1, 1)))?;
-    events.push(Event::Deliver(1))?;
-    events.push(Event::Deliver(2))?;
-    events.push(Event::Command(Command::Edit(1, bytes(alloc, edit)?)))?;
-    events.push(Event::Deliver(3))?;
-    events.push(Event::Deliver(4))?;
-    events.push(Event::Command(Command::Save(1)))?;
-    events.push(Event::Deliver(5))?;
-    events.push(Event::Deliver(6))?;
-    events.push(Event::Done(1))?;
-    Ok(events)
+/// A world in which the note is saved.
+fn saved(alloc: Global) -> Result<World, Fail> {
+    let mut world = world(alloc, true)?;
+    run(alloc, &mut world, &events(alloc, SAVED.as_slice())?);
+    Ok(world)
 }
 
 #[test]
 fn a_note_is_saved(rt: HostRuntime) -> Result<(), Fail> {
     let alloc = rt.alloc();
-    let mut world = world(alloc, true)?;
-    assert_eq!(rt;
-        run(alloc, &mut world, &a_save(alloc, b"i 0 ab")?),
-        (13, None)
-    );
+    let world = saved(alloc)?;
     match world.frame_file(1) {
         Some(file) => match read_file(alloc, file)?.get(&[Name::new(b"Text")?]) {
             Ok(Found::Stream(text)) => assert_eq!(rt; text.as_slice(), b"ab".as_slice()),
@@ -73,10 +128,13 @@ fn a_note_is_saved(rt: HostRuntime) -> Result<(), Fail> {
         },
         None => panic!(rt; "no file"),
     }
-    assert_eq!(rt;
-        run(alloc, &mut world, &[Event::Deliver(7), Event::Deliver(8)]),
-        (2, None)
-    );
+    assert!(rt; world.frame_file(2).is_none());
+    Ok(())
+}
+
+#[test]
+fn a_world_shows_its_logs(rt: HostRuntime) -> Result<(), Fail> {
+    let world = saved(rt.alloc())?;
     assert_eq!(rt; world.events_taken(), 15);
     assert_eq!(rt; world.sent().len(), 8);
     match (world.container_done(), world.server_done()) {
@@ -95,41 +153,28 @@ fn a_note_is_saved(rt: HostRuntime) -> Result<(), Fail> {
 }
 
 #[test]
-fn without_stock_no_activation_is_made(rt: HostRuntime) -> Result<(), Fail> {
-    let alloc = rt.alloc();
-    let mut world = world(alloc, false)?;
-    assert_eq!(rt;
-        run(alloc, &mut world, &a_save(alloc, b"i 0 ab")?),
-        (4, Some(Stop::OutOfStock))
-    );
-    assert!(rt; world.frame_file(1).is_none());
-    Ok(())
-}
-
-#[test]
-fn a_long_text_is_not_committed(rt: HostRuntime) -> Result<(), Fail> {
-    let alloc = rt.alloc();
-    let mut world = world(alloc, true)?;
-    let mut edit = Vec::from_slice(alloc, b"i 0 ")?;
-    for _ in 0..4096 {
-        edit.push(b'a')?;
+fn runs_stop_before_what_cannot_happen(rt: HostRuntime) -> Result<(), Fail> {
+    let mut long = SAVED;
+    long[6] = Step::Edit(b"i 0 ", 4096);
+    for (stocked, steps, taken, stop) in [
+        (true, SAVED.as_slice(), 15, None),
+        (false, SAVED.as_slice(), 4, Some(Stop::OutOfStock)),
+        (true, long.as_slice(), 12, Some(Stop::NotEnabled)),
+        (true, &[Step::Deliver(99)], 0, Some(Stop::NotEnabled)),
+        (false, &[Step::Start, Step::Reap], 1, Some(Stop::NotEnabled)),
+        (
+            false,
+            &[Step::Start, Step::Crash, Step::Reap, Step::Crash],
+            3,
+            Some(Stop::NotEnabled),
+        ),
+    ] {
+        let mut world = world(rt.alloc(), stocked)?;
+        let events = events(rt.alloc(), steps)?;
+        assert_eq!(rt; run(rt.alloc(), &mut world, &events), (taken, stop));
+        assert_eq!(rt; world.frame_file(1).is_some(), stop.is_none());
+        assert_eq!(rt; world.container_done().is_empty(), stop.is_some());
     }
-    assert_eq!(rt;
-        run(alloc, &mut world, &a_save(alloc, &edit)?),
-        (12, Some(Stop::NotEnabled))
-    );
-    assert!(rt; world.container_done().is_empty());
-    Ok(())
-}
-
-#[test]
-fn no_message_stands_at_a_place_behind_all(rt: HostRuntime) -> Result<(), Fail> {
-    let alloc = rt.alloc();
-    let mut world = world(alloc, true)?;
-    assert_eq!(rt;
-        run(alloc, &mut world, &[Event::Deliver(99)]),
-        (0, Some(Stop::NotEnabled))
-    );
     Ok(())
 }
 
@@ -150,20 +195,6 @@ fn a_world_takes_ten_thousand_events(rt: HostRuntime) -> Result<(), Fail> {
     Ok(())
 }
 
-#[test]
-fn a_server_ends_once(rt: HostRuntime) -> Result<(), Fail> {
-    let alloc = rt.alloc();
-    let mut world = world(alloc, false)?;
-    let start = Event::Command(Command::Start);
-    assert_eq!(rt;
-        run(alloc, &mut world, &[start, Event::Reap(1)]),
-        (1, Some(Stop::NotEnabled))
-    );
-    let ends = [Event::Crash(1), Event::Reap(1), Event::Crash(1)];
-    assert_eq!(rt; run(alloc, &mut world, &ends), (2, Some(Stop::NotEnabled)));
-    Ok(())
-}
-
 /// Runs events one after the other, and each again where memory ran out.
 fn run_on(alloc: Global, world: &mut World, events: &[Event]) -> Option<Stop> {
     for event in events.chunks(1) {
@@ -179,14 +210,18 @@ fn run_on(alloc: Global, world: &mut World, events: &[Event]) -> Option<Stop> {
     None
 }
 
+fn report<W: Write>(alloc: Global, world: &World, writer: &mut W) -> Result<(), ReportFault> {
+    world.report(alloc, writer)
+}
+
 /// A world's report, tried twice.
 fn told(alloc: Global, world: &World) -> Option<Vec<u8>> {
     let mut text = Vec::new(alloc);
-    match world.report(alloc, &mut text) {
+    match report(alloc, world, &mut text) {
         Ok(()) => return Some(text),
         Err(_) => {}
     }
-    match world.report(alloc, &mut text) {
+    match report(alloc, world, &mut text) {
         Ok(()) => Some(text),
         Err(_) => None,
     }
@@ -196,9 +231,7 @@ fn told(alloc: Global, world: &World) -> Option<Vec<u8>> {
 #[test]
 fn a_run_goes_on_where_memory_ran_out(rt: HostRuntime) -> Result<(), Fail> {
     let alloc = rt.alloc();
-    let mut events = a_save(alloc, b"i 0 ab")?;
-    events.push(Event::Deliver(7))?;
-    events.push(Event::Deliver(8))?;
+    let events = events(alloc, SAVED.as_slice())?;
     let mut world = world(alloc, true)?;
     assert_eq!(rt; run_on(alloc, &mut world, &events), None);
     match told(alloc, &world) {
@@ -230,9 +263,9 @@ fn a_world_in_which_nothing_happened_has_no_lines(rt: HostRuntime) -> Result<(),
     let alloc = rt.alloc();
     let world = world(alloc, false)?;
     let mut text = Vec::new(alloc);
-    world.report(alloc, &mut text)?;
+    report(alloc, &world, &mut text)?;
     assert!(rt; text.is_empty());
-    let closed = world.report(alloc, &mut Closed);
+    let closed = report(alloc, &world, &mut Closed);
     assert_eq!(rt; closed, Err(ReportFault::Unwritable));
     Ok(())
 }
