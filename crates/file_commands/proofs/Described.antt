@@ -1,5 +1,5 @@
 -- Commands of a description, one after another.
-use Rattle.std.proofs.Common.{◌≡◌, ◌++◌, ℕ, List, [], ◌∷◌, Result, Ok, Err, refl, sym, ap, ◌∙◌, subst, inl, inr}
+use Rattle.std.proofs.Common.{◌≡◌, ◌++◌, ℕ, List, [], ◌∷◌, Result, Ok, Err, refl, sym, ap, ◌∙◌, subst, inl, inr, rules}
 use Rattle.std.specs.Prelude.{IsOk}
 use Rattle.storage_tree.specs.Kept.{Kept}
 use Rattle.texts.specs.Lines.{RefusesText, MayLackMemory}
@@ -35,9 +35,12 @@ refused-at before behind n command k fault so is =
     ∙ ap (λ r. then_by r (carried ((n, command) ∷ behind))) so
     ∙ ap (λ r. then_by (at_line n r) (carried behind)) is
 
+no-ok : (fault : LineFault) → IsOk {T = Kept} (Err fault) → ⊥
+no-ok fault h = search rules
+
 ok-at : (n : ℕ) (r : Result Kept LineFault) → IsOk r → IsOk (then_by (at_line n r) (carried []))
 ok-at n (Ok k) is = is
-ok-at n (Err fault) is = absurd (search is)
+ok-at n (Err fault) is = absurd (no-ok fault is)
 
 lacking-at : (before behind : List (ℕ × Command)) (n : ℕ) (command : Command) (k : Kept) → carried before nothing ≡ Ok k → IsOk (carried_out command k)
     → MayLackRoom (before ++ (n, command) ∷ behind) n
@@ -63,18 +66,18 @@ stopped commands before behind n command k fault all so told =
 ran : (text : List ℕ) (commands : List (ℕ × Command)) → commands_read text ≡ Ok commands → described text ≡ carried commands nothing
 ran text commands read = ap (λ r. then_by (of_syntax r) (λ cs. carried cs nothing)) read
 
-pub ran-through : (text : List ℕ) (commands : List (ℕ × Command)) (k : Kept) → commands_read text ≡ Ok commands → carried commands nothing ≡ Ok k → described text ≡ Ok k
-ran-through text commands k read so = ran text commands read ∙ so
+pub ran_through : (text : List ℕ) (commands : List (ℕ × Command)) (k : Kept) → commands_read text ≡ Ok commands → carried commands nothing ≡ Ok k → described text ≡ Ok k
+ran_through text commands k read so = ran text commands read ∙ so
 
 -- a description whose commands are refused
-pub refused-commands : (text : List ℕ) (commands : List (ℕ × Command)) (n : ℕ) (fault : LineFault) → commands_read text ≡ Ok commands
+pub refused_commands : (text : List ℕ) (commands : List (ℕ × Command)) (n : ℕ) (fault : LineFault) → commands_read text ≡ Ok commands
     → RefusesCommands commands (n, fault) → RefusesDescription text (n, fault)
-refused-commands text commands n Bad read told = ran text commands read ∙ told
-refused-commands text commands n (Name fault) read told = ran text commands read ∙ told
-refused-commands text commands n (Tree fault) read told = ran text commands read ∙ told
-refused-commands text commands n NoMemory read told = inr (commands, read, told)
+refused_commands text commands n Bad read told = ran text commands read ∙ told
+refused_commands text commands n (Name fault) read told = ran text commands read ∙ told
+refused_commands text commands n (Tree fault) read told = ran text commands read ∙ told
+refused_commands text commands n NoMemory read told = inr (commands, read, told)
 
 -- one whose lines are
-pub refused-lines : (text : List ℕ) (n : ℕ) (fault : SyntaxFault) → RefusesText numbered_read text (n, fault) → RefusesDescription text (n, of_syntax_fault fault)
-refused-lines text n syntax_fault.Bad told = ap (λ r. then_by (of_syntax r) (λ cs. carried cs nothing)) told
-refused-lines text n syntax_fault.NoMemory told = inl told
+pub refused_lines : (text : List ℕ) (n : ℕ) (fault : SyntaxFault) → RefusesText numbered_read text (n, fault) → RefusesDescription text (n, of_syntax_fault fault)
+refused_lines text n syntax_fault.Bad told = ap (λ r. then_by (of_syntax r) (λ cs. carried cs nothing)) told
+refused_lines text n syntax_fault.NoMemory told = inl told

@@ -3,3 +3,4 @@ pub mod Outlines
 pub mod Totals
 pub mod Room
 pub mod Built
+pub mod Streams

@@ -7,7 +7,7 @@ use embed_core::words::{Pieces, number};
 use std::alloc::{AllocError, Global};
 use storage_tree::bytes::Bytes;
 use texts::lines::Grammar;
-use texts::path::Path;
+use texts::path::{Path, is_path};
 use texts::words::{byte, content, is_content};
 
 /// What a line of a description asks for.
@@ -58,6 +58,7 @@ fn storage(alloc: Global, mut words: Pieces<'_>) -> Result<Option<Command>, Allo
 }
 
 /// The stream that the words behind `stream` ask for.
+#[tactic(auto, using(crate::proofs::Streams::stream_within))]
 fn stream(alloc: Global, mut words: Pieces<'_>) -> Result<Option<Command>, AllocError>
     ensures read { IfOk result (λ command. command ≡ stream_read words.entry) }
     ensures within { IfErr result (λ _. IsSome (stream_read words.entry)) }
@@ -69,6 +70,9 @@ fn stream(alloc: Global, mut words: Pieces<'_>) -> Result<Option<Command>, Alloc
     ) else {
         return Ok(None);
     };
+    if !is_path(path) {
+        return Ok(None);
+    }
     if !is_content(bytes) {
         return Ok(None);
     }

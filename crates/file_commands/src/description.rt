@@ -15,6 +15,7 @@ use texts::lines::parse_lines;
 ///
 /// Refused: the first line that is outside the grammar (`Bad`), or else the first that can't be carried out, with its
 /// number from 1; `NoMemory` at the line at which no memory was left.
+#[tactic(auto, using(crate::proofs::Described::ran_through, crate::proofs::Described::refused_commands, crate::proofs::Described::refused_lines))]
 pub fn describe(alloc: Global, text: &[u8]) -> Result<Described, (usize, LineFault)>
     requires { length text.now < 2 ^ 32 }
     ensures made { IfOk result (λ d. (k : Kept) × (described text.now ≡ Ok k) × IsDescribed k d) }

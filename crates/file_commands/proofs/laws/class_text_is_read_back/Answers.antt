@@ -1,7 +1,7 @@
 use Rattle.std.proofs.Common.{◌≡◌, Some, ap, sym, ◌∙◌}
 use Rattle.uuid.specs.Parts.{swap_fields}
 use Rattle.uuid.specs.Text.{hyphenated_text, lower, parsed}
-use Rattle.texts.proofs.laws.class_text_is_read_back.Goals as goal
+use Rattle.file_commands.proofs.laws.class_text_is_read_back.Goals as goal
 
 pub returns : goal.returns
 returns c =
