@@ -106,11 +106,18 @@ fn reads_and_writes_of_a_run_that_fail_are_told(rt: HostRuntime) -> Result<(), F
     match run(alloc, &mut events, &mut out)? {
         Ok(_) => panic!(rt; "the events are run"),
         Err(fault) => {
-            assert_eq!(rt; fault.report("e").to_string(alloc)?.as_str(), "file e: Unreadable");
+            assert_eq!(rt;
+                fault.report("e").to_string(alloc)?.as_str(),
+                "file e: Unreadable"
+            );
         }
     }
     assert!(rt; out.is_empty());
-    for (room, want) in [(0, "file -: Unwritable"), (10, "file -: Unwritable"), (11, "run")] {
+    for (room, want) in [
+        (0, "file -: Unwritable"),
+        (10, "file -: Unwritable"),
+        (11, "run"),
+    ] {
         let told = match run(alloc, &mut b"start\n".as_slice(), &mut Full { room })? {
             Ok(_) => String::from_str(alloc, "run")?,
             Err(fault) => fault.report("e").to_string(alloc)?,

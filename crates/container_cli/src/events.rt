@@ -138,10 +138,7 @@ fn are_visible(name: &[u8]) -> bool
 fn is_file_name(name: &[u8]) -> bool
     ensures { result ≡ is_file_name name.now }
 {
-    !name.is_empty()
-        && name.len() <= NAME_SIZE
-        && are_visible(name)
-        && !name.ends_with(b".journal")
+    !name.is_empty() && name.len() <= NAME_SIZE && are_visible(name) && !name.ends_with(b".journal")
 }
 
 /// The frame that what stands behind `new` spells.

@@ -10,16 +10,16 @@ ghost use Rattle.std.specs.Prelude.{◌≡◌, Err, ◌≢◌, ◌≤◌, length
 use crate::building::Described;
 use crate::description::describe;
 use crate::fault::{ListFault, MakeFault};
-use texts::input::read_all;
 use crate::listing::list;
-use texts::output::write_all;
+use file_model::fault::WriteFault;
 use std::alloc::Global;
 use std::io::{Read, Write};
 use storage_tree::storage::Node;
 use storage_tree::tree::Tree;
-use file_model::fault::WriteFault;
 use stream_io::read::read_file;
 use stream_io::write::write_file;
+use texts::input::read_all;
+use texts::output::write_all;
 
 /// Writes the compound file of the tree that a description describes, and gives its length.
 ///

@@ -1,8 +1,8 @@
 //! Why a description or a file is refused.
 
 use cfb_directory::fault::DirFault;
-use storage_tree::fault::TreeFault;
 use file_model::fault::WriteFault;
+use storage_tree::fault::TreeFault;
 use stream_io::fault::ReadFault;
 use texts::input::InputFault;
 use texts::lines::SyntaxFault;

@@ -42,11 +42,7 @@ pub trait Grammar {
     ghost read: { ℕ → List ℕ → Option Self.Line };
 
     /// What the line of a number asks for; none where it is outside the grammar. Memory is taken for a line within it.
-    fn parse(
-        alloc: Global,
-        number: usize,
-        line: &[u8],
-    ) -> Result<Option<Self::Line>, AllocError>
+    fn parse(alloc: Global, number: usize, line: &[u8]) -> Result<Option<Self::Line>, AllocError>
         ensures read { IfOk result (λ asked. asked ≡ read number line.now) }
         ensures within { IfErr result (λ _. IsSome (read number line.now)) };
 }

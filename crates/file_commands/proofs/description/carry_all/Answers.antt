@@ -6,8 +6,7 @@ use Rattle.file_commands.proofs.description.carry_all.Goals as goal
 pub loop-number-preserved : goal.loop-number-preserved
 loop-number-preserved c =
     let taken : into_iter_items c.loop-number.number-iterator ≡ (c.in-Some.number, c.in-Some.command) ∷ into_iter_items c.next.new.self = search (rules, c.in-Some.ensures.steps) in
-    let carried = c.in-Ok.ensures c.loop-number.invariant.0 c.loop-number.invariant.1 in
-    (
+    let carried = c.in-Ok.ensures c.loop-number.invariant.0 c.loop-number.invariant.1 in (
       carried.0,
       carried.2,
       carried-turn c.loop-number.yielded c.in-Some.number c.in-Some.command c.loop-number.invariant.0 carried.0 c.loop-number.invariant.2 carried.1,
