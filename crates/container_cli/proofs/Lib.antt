@@ -1,14 +1,5 @@
 pub mod Behind
 pub mod Ending
-pub mod Hex
 pub mod Counted
-pub mod Described
 pub mod Lines
-pub mod Inputs
-pub mod Outlines
-pub mod Totals
-pub mod Room
-pub mod Built
-pub mod Spelled
 pub mod Texts
-pub mod Numbers

@@ -2,6 +2,7 @@
 use Rattle.std.specs.Prelude.{◌+◌, ◌++◌, ℕ, Bool, true, false, List, [], ◌∷◌, Option, Some, None, codes}
 use Rattle.std.specs.Fmt.{decimal}
 use Rattle.std.specs.List.{flat_map}
+use Rattle.texts.specs.Written.{numbered}
 use Rattle.wire_msgs.specs.Refusals.{code_of}
 use Rattle.wire_msgs.specs.declared.refusal.Refusal.{Refusal}
 use Rattle.container_model.specs.FaultNames.{fault_name}
@@ -13,10 +14,7 @@ use Rattle.world_model.specs.declared.logs.Outcome.{Outcome}
 use Rattle.world_model.specs.declared.logs.EventAnswer.{EventAnswer}
 use Rattle.world_model.specs.declared.logs.EventAnswer.TheVariants.{Took, Refused, Unheard}
 
--- each thing that an event led to, behind a space
-abbrev pub numbered : List ℕ → ℕ → List ℕ
-numbered word n = word ++ decimal n
-
+-- each thing that an event led to stands behind a space
 abbrev pub frame_text : Option ℕ → List ℕ
 frame_text None = []
 frame_text (Some f) = numbered (codes " frame ") f

@@ -1,5 +1,5 @@
 -- The lines of a text of events and the events that they spell.
-use Rattle.std.specs.Prelude.{◌+◌, ◌&&◌, ℕ, Bool, not, List, [], ◌∷◌, length, nat_le, nat_eq, cond, codes, if◌then◌else◌, Option, Some, None, option_map, Result, Ok, Err}
+use Rattle.std.specs.Prelude.{◌&&◌, ℕ, Bool, not, List, [], ◌∷◌, length, nat_le, nat_eq, cond, codes, if◌then◌else◌, Option, Some, None, option_map, Result}
 use Rattle.std.specs.List.{ends_with, join_with_byte, list_all}
 use Rattle.std.specs.Str.{bytes_eq}
 use Rattle.embed_core.specs.Words.{words, number_read}
@@ -9,9 +9,9 @@ use Rattle.container_model.specs.declared.command.ObjectKind.{ObjectKind}
 use Rattle.container_model.specs.declared.command.ObjectKind.TheVariants.{Note, Table, Drawing}
 use Rattle.world_model.specs.declared.event.Event.{Event}
 use Rattle.world_model.specs.declared.event.Event.TheVariants as event
-use Rattle.container_cli.specs.Commands.{is_skipped}
-use Rattle.container_cli.specs.declared.fault.LineFault.{LineFault}
-use Rattle.container_cli.specs.declared.fault.LineFault.TheVariants.{Bad}
+use Rattle.texts.specs.Lines.{text_read}
+use Rattle.texts.specs.Words.{is_visible}
+use Rattle.texts.specs.declared.lines.SyntaxFault.{SyntaxFault}
 
 -- a number of 16 bits
 abbrev pub short_of : Option ℕ → Option ℕ
@@ -22,11 +22,8 @@ abbrev pub short_read : List ℕ → Option ℕ
 short_read word = short_of (number_read word)
 
 -- the name of a frame's file: 1 to 64 printable characters, no space, and not the name of a journal
-abbrev pub is_printable : ℕ → Bool
-is_printable c = nat_le 33 c && nat_le c 126
-
 abbrev pub is_file_name : List ℕ → Bool
-is_file_name name = nat_le 1 (length name) && nat_le (length name) 64 && list_all is_printable name && not (ends_with nat_eq name (codes ".journal"))
+is_file_name name = nat_le 1 (length name) && nat_le (length name) 64 && list_all is_visible name && not (ends_with nat_eq name (codes ".journal"))
 
 abbrev pub name_read : List ℕ → Option (List ℕ)
 name_read word = if is_file_name word then Some word else None
@@ -120,13 +117,10 @@ event_in (name ∷ others) = event_named name others
 abbrev pub event_read : List ℕ → Option Event
 event_read line = event_in (words line)
 
-abbrev pub put_first : ℕ → Option Event → Result (List Event) (ℕ × LineFault) → Result (List Event) (ℕ × LineFault)
-put_first n None others = Err (n, Bad)
-put_first n (Some e) (Ok es) = Ok (e ∷ es)
-put_first n (Some e) (Err fault) = Err fault
+-- the event of line n
+abbrev pub line_read : ℕ → List ℕ → Option Event
+line_read n line = event_read line
 
--- The events of lines, the first of which has number n, or the first line that spells none. Empty lines and lines that
--- begin with `#` are skipped.
-abbrev pub events_read : ℕ → List (List ℕ) → Result (List Event) (ℕ × LineFault)
-events_read n [] = Ok []
-events_read n (line ∷ lines) = cond (is_skipped line) (events_read (n + 1) lines) (put_first n (event_read line) (events_read (n + 1) lines))
+-- the events of a text, or the first line that spells none
+abbrev pub events_read : List ℕ → Result (List Event) (ℕ × SyntaxFault)
+events_read text = text_read line_read text

@@ -1,25 +1,13 @@
--- Faults, their names, and where they are told to be.
+-- What is printed of the faults of a simulation.
 use Rattle.std.specs.Prelude.{ℕ, List, codes}
-use Rattle.cfb_directory.specs.Faults.{name_of_fault}
-use Rattle.storage_tree.specs.FaultNames.{fault_name}
-use Rattle.storage_tree.specs.declared.fault.TreeFault.{TreeFault}
-use Rattle.storage_tree.specs.declared.fault.TreeFault.TheVariants as tree
-use Rattle.container_cli.specs.declared.fault.LineFault.{LineFault}
-use Rattle.container_cli.specs.declared.fault.LineFault.TheVariants.{Bad, Name, Tree, NoMemory}
-use Rattle.container_cli.specs.declared.fault.InputFault.{InputFault}
-use Rattle.container_cli.specs.declared.fault.InputFault.TheVariants as input
+use Rattle.texts.specs.Faults.{input_fault_name, syntax_fault_name}
+use Rattle.texts.specs.Reports.{of_file, of_line, standard}
+use Rattle.container_cli.specs.declared.fault.SimulateFault.{SimulateFault}
+use Rattle.container_cli.specs.declared.fault.SimulateFault.TheVariants as simulate
 
-abbrev pub of_tree_fault : TreeFault → LineFault
-of_tree_fault tree.NoMemory = NoMemory
-of_tree_fault fault = Tree fault
-
-abbrev pub line_fault_name : LineFault → List ℕ
-line_fault_name Bad = codes "Bad"
-line_fault_name (Name fault) = name_of_fault fault
-line_fault_name (Tree fault) = fault_name fault
-line_fault_name NoMemory = codes "NoMemory"
-
-abbrev pub input_fault_name : InputFault → List ℕ
-input_fault_name input.Unreadable = codes "Unreadable"
-input_fault_name input.TooBig = codes "TooBig"
-input_fault_name input.NoMemory = codes "NoMemory"
+-- where the events of the file of this name are read, and what they lead to is written on standard output
+abbrev pub simulate_report : SimulateFault → List ℕ → List ℕ
+simulate_report (simulate.Input fault) name = of_file name (input_fault_name fault)
+simulate_report (simulate.Line n fault) name = of_line n (syntax_fault_name fault)
+simulate_report simulate.NoMemory name = of_file name (codes "NoMemory")
+simulate_report simulate.Unwritable name = of_file standard (codes "Unwritable")

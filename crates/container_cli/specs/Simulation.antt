@@ -1,8 +1,7 @@
 -- What is printed of a run of events, and when none is.
-use Rattle.std.specs.Prelude.{◌≡◌, ◌+◌, ◌++◌, ℕ, List, [], ◌∷◌, take, drop, Option, Some, None, Ok}
+use Rattle.std.specs.Prelude.{◌≡◌, ◌+◌, ◌++◌, ℕ, List, [], ◌∷◌, take, drop, Option, Some, None, Ok, IsOk}
 use Rattle.std.specs.Io.KnownBytes.{Appends}
 use Rattle.embed_core.specs.Kinds.{Kind}
-use Rattle.embed_core.specs.Words.{lines}
 use Rattle.world_model.specs.Report.{report}
 use Rattle.world_model.specs.Safe.{Safe}
 use Rattle.world_model.specs.World.{StopsAt}
@@ -10,9 +9,9 @@ use Rattle.world_model.specs.World.{World, empty_world, Run}
 use Rattle.world_model.specs.declared.event.Event.{Event}
 use Rattle.world_model.specs.declared.event.Stop.{Stop}
 use Rattle.container_cli.specs.Answers.{answer_lines, stop_line}
-use Rattle.container_cli.specs.Description.{RefusesLine}
-use Rattle.container_cli.specs.Events.{events_read}
-use Rattle.container_cli.specs.Input.{MayRefuseInput}
+use Rattle.container_cli.specs.Events.{events_read, line_read}
+use Rattle.texts.specs.Input.{MayRefuseInput}
+use Rattle.texts.specs.Lines.{RefusesText}
 use Rattle.container_cli.specs.declared.fault.SimulateFault.{SimulateFault}
 use Rattle.container_cli.specs.declared.fault.SimulateFault.TheVariants as simulate
 
@@ -44,14 +43,14 @@ pub record IsSimulated (numbers : ℕ) (stock : List Kind) (events : List Event)
 -- Such a text was written of the events that a text spells.
 pub record Simulates (numbers : ℕ) (stock : List Kind) (text : List ℕ) (stop : Option Stop) (old new : Option (List ℕ)) : Type 0 where
   pub events : List Event
-  pub read : events_read 1 (lines text) ≡ Ok events
+  pub read : events_read text ≡ Ok events
   pub out : List ℕ
   pub simulated : IsSimulated numbers stock events stop out
   pub written : Appends old new out
 
--- when a text may be refused
+-- When a text may be refused. What stands behind its reading can fail only where all its lines spell events.
 abbrev pub MayRefuseSimulate : List ℕ → SimulateFault → Type 0
 MayRefuseSimulate text (simulate.Input fault) = MayRefuseInput text fault
-MayRefuseSimulate text (simulate.Line n fault) = RefusesLine (events_read 1 (lines text)) (n, fault)
-MayRefuseSimulate text simulate.NoMemory = Unit {0}
-MayRefuseSimulate text simulate.Unwritable = Unit {0}
+MayRefuseSimulate text (simulate.Line n fault) = RefusesText line_read text (n, fault)
+MayRefuseSimulate text simulate.NoMemory = IsOk (events_read text)
+MayRefuseSimulate text simulate.Unwritable = IsOk (events_read text)

@@ -1,12 +1,12 @@
 //! What is printed of the answers of events.
 
-ghost use Rattle.container_cli.specs.Answers.{answer_line, answer_text, asked_text, commit_text, made_text, numbered, object_text, outcome_text, sent_text, server_fault_name, stop_line, told_text};
-ghost use Rattle.std.specs.Fmt.{decimal};
+ghost use Rattle.container_cli.specs.Answers.{answer_line, answer_text, asked_text, commit_text, made_text, object_text, outcome_text, sent_text, server_fault_name, stop_line, told_text};
 ghost use Rattle.std.specs.List.{flat_map};
-ghost use Rattle.std.specs.Prelude.{◌≡◌, ◌++◌, ◌∷◌, OnOk};
+ghost use Rattle.std.specs.Prelude.{◌≡◌, ◌++◌, OnOk};
 
 use server_model::fault::ServerFault;
 use std::alloc::{AllocError, Global};
+use texts::writing::{push_numbered, push_word};
 use world_model::event::Stop;
 use world_model::logs::{EventAnswer, Outcome};
 
@@ -35,23 +35,8 @@ pub fn push_stop(
     ensures { OnOk result (text.new.items ≡ text.old.items ++ stop_line event stop) }
 {
     push_numbered(alloc, text, "stop ", event)?;
-    text.push(b' ')?;
-    text.extend_from_slice(stop.name().as_bytes())?;
+    push_word(text, stop.name().as_bytes())?;
     text.push(b'\n')?;
-    Ok(())
-}
-
-/// Writes a number behind a word.
-fn push_numbered(
-    alloc: Global,
-    text: &mut Vec<u8>,
-    word: &str,
-    number: usize,
-) -> Result<(), AllocError>
-    ensures { OnOk result (text.new.items ≡ text.old.items ++ numbered word.now number) }
-{
-    text.extend_from_slice(word.as_bytes())?;
-    text.extend_from_slice(number.to_string(alloc)?.as_bytes())?;
     Ok(())
 }
 
@@ -61,18 +46,9 @@ fn push_text(alloc: Global, text: &mut Vec<u8>, answer: &EventAnswer) -> Result<
 {
     match answer {
         EventAnswer::Took(outcome) => push_outcome(alloc, text, outcome),
-        EventAnswer::Refused(fault) => push_name(text, fault.name()),
-        EventAnswer::Unheard(fault) => push_name(text, server_fault_name(fault)),
+        EventAnswer::Refused(fault) => push_word(text, fault.name().as_bytes()),
+        EventAnswer::Unheard(fault) => push_word(text, server_fault_name(fault).as_bytes()),
     }
-}
-
-/// Writes a fault's name.
-fn push_name(text: &mut Vec<u8>, name: &str) -> Result<(), AllocError>
-    ensures { OnOk result (text.new.items ≡ text.old.items ++ 32 ∷ name.now) }
-{
-    text.push(b' ')?;
-    text.extend_from_slice(name.as_bytes())?;
-    Ok(())
 }
 
 /// The name of a server's fault.

@@ -1,54 +1,43 @@
 //! Texts of events.
 
-ghost use Rattle.container_cli.specs.Description.{RefusesLine};
-ghost use Rattle.container_cli.specs.Events.{area_of, edit_read, end_named, event_named, event_read, events_read, insert_read, is_file_name, is_printable, kind_read, new_read, numbers_named, run_read, short_read, sole_number};
-ghost use Rattle.embed_core.specs.Words.{lines, words};
+ghost use Rattle.container_cli.specs.Events.{area_of, edit_read, end_named, event_named, event_read, insert_read, is_file_name, kind_read, new_read, numbers_named, run_read, short_read, sole_number};
+ghost use Rattle.embed_core.specs.Words.{words};
 ghost use Rattle.std.specs.List.{list_all};
-ghost use Rattle.std.specs.Prelude.{◌≡◌, ◌<◌, ◌^◌, [], Ok, length, IfErr, IfOk};
+ghost use Rattle.std.specs.Prelude.{◌≡◌, [], IfErr, IfOk, IsSome};
+ghost use Rattle.texts.specs.Words.{is_visible};
 
-use crate::description::is_skipped;
-use crate::fault::LineFault;
 use container_model::command::{Command, ObjectKind};
-use object_parts::area::Area;
 use embed_core::words::{Pieces, cut, number};
+use object_parts::area::Area;
 use std::alloc::{AllocError, Global};
 use storage_tree::bytes::Bytes;
+use texts::lines::Grammar;
+use texts::words::is_visible;
 use world_model::event::Event;
 
 /// The most characters that the name of a file has.
 const NAME_SIZE: usize = 64;
 
-/// The events of a text. Empty lines and lines that begin with `#` are skipped.
-///
-/// Refused: the first line that spells no event (`Bad`), with its number from 1.
-pub fn parse_events(alloc: Global, text: &[u8]) -> Result<Vec<Event>, (usize, LineFault)>
-    requires { length text.now < 2 ^ 32 }
-    ensures read { IfOk result (λ events. events_read 1 (lines text.now) ≡ Ok events.items) }
-    ensures refused { IfErr result (RefusesLine (events_read 1 (lines text.now))) }
-{
-    let mut events = Vec::new(alloc);
-    let mut left = Pieces::new(text, b'\n');
-    let mut line_number: usize = 0;
-    while let Some(line) = left.next_piece() {
-        line_number += 1;
-        if is_skipped(line) {
-            continue;
-        }
-        match parse(alloc, line) {
-            Ok(Some(event)) => match events.push(event) {
-                Ok(()) => {}
-                Err(_) => return Err((line_number, LineFault::NoMemory)),
-            },
-            Ok(None) => return Err((line_number, LineFault::Bad)),
-            Err(_) => return Err((line_number, LineFault::NoMemory)),
-        }
+/// The events of a text.
+pub struct Events;
+
+impl Grammar for Events {
+    type Line = Event;
+
+    ghost use Rattle.container_cli.specs.Events.{line_read};
+
+    ghost read = { line_read };
+
+    fn parse(alloc: Global, _number: usize, line: &[u8]) -> Result<Option<Event>, AllocError> {
+        let event = parse(alloc, line)?;
+        Ok(event)
     }
-    Ok(events)
 }
 
-/// The event that a line spells.
+/// The event that a line spells. Memory is taken for a line that spells one.
 fn parse(alloc: Global, line: &[u8]) -> Result<Option<Event>, AllocError>
-    ensures { IfOk result (λ event. event ≡ event_read line.now) }
+    ensures read { IfOk result (λ event. event ≡ event_read line.now) }
+    ensures within { IfErr result (λ _. IsSome (event_read line.now)) }
 {
     match cut(line, b' ') {
         (name, Some(rest)) => parse_with(alloc, name, rest),
@@ -70,7 +59,8 @@ fn parse_alone(name: &[u8]) -> Option<Event>
 /// The event that a name and what stands behind its space spell.
 #[tactic(auto, using(crate::proofs::Behind::readings))]
 fn parse_with(alloc: Global, name: &[u8], rest: &[u8]) -> Result<Option<Event>, AllocError>
-    ensures { IfOk result (λ event. event ≡ event_named name.now (words rest.now)) }
+    ensures read { IfOk result (λ event. event ≡ event_named name.now (words rest.now)) }
+    ensures within { IfErr result (λ _. IsSome (event_named name.now (words rest.now))) }
 {
     if name == b"start".as_slice() {
         Ok(None)
@@ -137,26 +127,24 @@ fn short(word: &[u8]) -> Option<u16>
     Some(number as u16)
 }
 
-/// Whether all characters can be seen.
-fn are_printable(name: &[u8]) -> bool
-    ensures { result ≡ list_all is_printable name.now }
+/// Whether all characters are printable, and no spaces.
+fn are_visible(name: &[u8]) -> bool
+    ensures { result ≡ list_all is_visible name.now }
 {
-    name.iter().all(|c| 33 <= *c && *c <= 126)
+    name.iter().all(|c| is_visible(*c))
 }
 
 /// Whether a frame's file may have this name.
 fn is_file_name(name: &[u8]) -> bool
     ensures { result ≡ is_file_name name.now }
 {
-    !name.is_empty()
-        && name.len() <= NAME_SIZE
-        && are_printable(name)
-        && !name.ends_with(b".journal")
+    !name.is_empty() && name.len() <= NAME_SIZE && are_visible(name) && !name.ends_with(b".journal")
 }
 
 /// The frame that what stands behind `new` spells.
 fn new_frame(alloc: Global, rest: &[u8]) -> Result<Option<Event>, AllocError>
-    ensures { IfOk result (λ event. event ≡ new_read (words rest.now)) }
+    ensures read { IfOk result (λ event. event ≡ new_read (words rest.now)) }
+    ensures within { IfErr result (λ _. IsSome (new_read (words rest.now))) }
 {
     let mut words = Pieces::new(rest, b' ');
     let (Some(name), Some(width), Some(height), None) = (
@@ -241,7 +229,8 @@ fn run(rest: &[u8]) -> Option<Event>
 /// The edit that what stands behind `edit` spells.
 #[tactic(auto, using(crate::proofs::Behind::readings))]
 fn edit(alloc: Global, rest: &[u8]) -> Result<Option<Event>, AllocError>
-    ensures { IfOk result (λ event. event ≡ edit_read (words rest.now)) }
+    ensures read { IfOk result (λ event. event ≡ edit_read (words rest.now)) }
+    ensures within { IfErr result (λ _. IsSome (edit_read (words rest.now))) }
 {
     let (object, Some(bytes)) = cut(rest, b' ') else {
         return Ok(None);

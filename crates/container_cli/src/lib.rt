@@ -1,20 +1,10 @@
-//! The texts that the program reads and writes, and its commands over readers and writers.
+//! The program's commands over readers and writers: those over compound files, and the simulation of a world.
 #![tactic(auto)]
 
 mod answers;
-mod building;
-mod command;
-pub mod commands;
-mod description;
 mod events;
 pub mod fault;
-mod input;
-pub mod laws;
-mod listing;
-mod output;
-mod path;
-pub mod report;
 pub mod simulation;
-#[cfg(test)]
-mod tests;
-mod words;
+
+pub use file_commands::commands;
+pub use texts::report;

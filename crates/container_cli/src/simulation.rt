@@ -1,7 +1,7 @@
 //! Runs of events.
 
 ghost use Rattle.container_cli.specs.Answers.{answer_lines};
-ghost use Rattle.container_cli.specs.Input.{most};
+ghost use Rattle.texts.specs.Input.{most};
 ghost use Rattle.container_cli.specs.Simulation.{IsSimulated, MayRefuseSimulate, Simulates, stop_text};
 ghost use Rattle.std.specs.Prelude.{◌≡◌, ◌≢◌, ◌≤◌, ◌<◌, ◌++◌, IfErr, IfOk, IfSome, OnOk, length, map};
 ghost use Rattle.world_model.specs.Report.{report};
@@ -10,14 +10,15 @@ ghost use Rattle.world_run.specs.View.{seen_stocked};
 ghost use Rattle.world_model.specs.World.{MOST_EVENTS};
 
 use crate::answers::{push_answer, push_stop};
-use crate::events::parse_events;
+use crate::events::Events;
 use crate::fault::SimulateFault;
-use crate::input::read_all;
-use crate::output::write_all;
 use container_core::container::Limits;
 use embed_core::embedded::Embedded;
 use std::alloc::{AllocError, Global};
 use std::io::{Read, Write};
+use texts::input::read_all;
+use texts::lines::parse_lines;
+use texts::output::write_all;
 use world_model::event::{Event, Stop};
 use world_run::stock::Stock;
 use world_run::world::World;
@@ -43,7 +44,7 @@ pub fn simulate<R: Read, W: Write>(
         Ok(text) => text,
         Err(fault) => return Err(SimulateFault::Input(fault)),
     };
-    let events = match parse_events(alloc, &text) {
+    let events = match parse_lines::<Events>(alloc, &text) {
         Ok(events) => events,
         Err((line, fault)) => return Err(SimulateFault::Line(line, fault)),
     };

@@ -1,7 +1,0 @@
-use Rattle.std.proofs.Common.{◌≡◌, ◌++◌}
-use Rattle.storage_tree.specs.View.{children}
-use Rattle.container_cli.specs.Listing.{each}
-use Rattle.container_cli.proofs.listing.+listing.Given as goal
-
-abbrev pub invariant-push_below-loop-child : goal.invariant-push_below-loop-child
-invariant-push_below-loop-child l = l.text.items ++ each l.within (children l.child-iterator) ≡ l.initial.text.items ++ each l.within (children l.storage.children.entries)

@@ -1,0 +1,25 @@
+-- Bytes in hexadecimal.
+use Rattle.std.proofs.Common.{◌≡◌, ◌≤◌, ◌-◌, ◌++◌, ℕ, List, [], ◌∷◌, Option, Some, None, true, false, is_some, length, get_or, take, drop, sym, ap, ◌∙◌, arith, append_assoc, refl, rules}
+use Rattle.std.specs.Option.{option_map}
+use Rattle.std.proofs.lemmas.List.{take_rest}
+use Rattle.texts.specs.Words.{hex_read, hex_digit, pair_value, onto}
+
+-- one more byte, behind those read so far
+pub onto-behind : {A : Type 0} (out : List A) (b : A) (told : Option A) (more : Option (List A)) → told ≡ Some b
+    → option_map (λ bs. (out ++ b ∷ []) ++ bs) more ≡ option_map (λ bs. out ++ bs) (onto told more)
+onto-behind out b told None is = ap (λ t. option_map (λ bs. out ++ bs) (onto t None)) (sym is)
+onto-behind out b told (Some bs) is = ap Some (append_assoc out (b ∷ []) bs) ∙ ap (λ t. option_map (λ bs. out ++ bs) (onto t (Some bs))) (sym is)
+
+pub hex_turn : (word out rest : List ℕ) (b : ℕ) → 2 ≤ length rest
+    → pair_value (hex_digit (get_or rest 0 0)) (hex_digit (get_or rest 1 0)) ≡ Some b
+    → option_map (λ bs. out ++ bs) (hex_read rest) ≡ hex_read word
+    → option_map (λ bs. (out ++ b ∷ []) ++ bs) (hex_read (take (length rest - 2) (drop 2 rest))) ≡ hex_read word
+hex_turn word out [] b long is same = absurd (omega arith)
+hex_turn word out (a ∷ []) b long is same = absurd (omega arith)
+hex_turn word out (a ∷ d ∷ cs) b long is same =
+    ap (λ r. option_map (λ bs. (out ++ b ∷ []) ++ bs) (hex_read r)) (take_rest (a ∷ d ∷ cs) 2) ∙ onto-behind out b (pair_value (hex_digit a) (hex_digit d)) (hex_read cs) is ∙ same
+
+-- what is no value
+pub absent : {A : Type 0} (o : Option A) → false ≡ is_some o → None ≡ o
+absent None is = refl
+absent (Some a) is = absurd (search rules)

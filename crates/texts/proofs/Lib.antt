@@ -1,0 +1,6 @@
+pub mod Hex
+pub mod Inputs
+pub mod LineByLine
+pub mod Named
+pub mod Numbers
+pub mod Spelled

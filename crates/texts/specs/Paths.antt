@@ -1,0 +1,64 @@
+-- How paths are spelled.
+use Rattle.std.specs.Prelude.{◌||◌, ℕ, Option, Some, None, List, [], ◌∷◌, Result, Ok, Err, nat_eq, if◌then◌else◌, map}
+use Rattle.std.specs.List.{flat_map, join_with_byte}
+use Rattle.std.specs.Option.{option_map}
+use Rattle.cfb_directory.specs.Names.{name_read as taken_name}
+use Rattle.cfb_directory.specs.declared.fault.DirFault.{DirFault}
+use Rattle.embed_core.specs.Words.{pieces}
+use Rattle.texts.specs.Words.{is_hidden, lower_digit, pair_value, onto}
+use Rattle.texts.specs.Written.{byte_hex}
+
+-- how a byte of a name is spelled: a hidden one as a backslash and two digits
+abbrev pub byte_text : ℕ → List ℕ
+byte_text c = if is_hidden c then 92 ∷ byte_hex c else c ∷ []
+
+abbrev pub name_text : List ℕ → List ℕ
+name_text name = flat_map byte_text name
+
+-- the names of a path, joined by slashes
+abbrev pub path_text : List (List ℕ) → List ℕ
+path_text names = join_with_byte 47 (map name_text names)
+
+-- what stands for itself in a name
+abbrev pub plain_byte : ℕ → Option ℕ
+plain_byte c = if is_hidden c || nat_eq c 92 then None else Some c
+
+abbrev pub hidden_byte : Option ℕ → Option ℕ
+hidden_byte None = None
+hidden_byte (Some c) = if is_hidden c then Some c else None
+
+-- what the name of these bytes is
+abbrev pub name_read : List ℕ → Option (List ℕ)
+name_read [] = Some []
+name_read (c ∷ []) = onto (plain_byte c) (Some [])
+name_read (c ∷ d ∷ []) = onto (plain_byte c) (name_read (d ∷ []))
+name_read (c ∷ d ∷ e ∷ cs) = if nat_eq c 92 then onto (hidden_byte (pair_value (lower_digit d) (lower_digit e))) (name_read cs)
+    else onto (plain_byte c) (name_read (d ∷ e ∷ cs))
+
+abbrev pub names_read : List (List ℕ) → Option (List (List ℕ))
+names_read [] = Some []
+names_read (part ∷ parts) = onto (name_read part) (names_read parts)
+
+-- the names that a word spells
+abbrev pub spelled_names : List ℕ → Option (List (List ℕ))
+spelled_names [] = None
+spelled_names (c ∷ cs) = names_read (pieces 47 (c ∷ cs))
+
+abbrev pub named_onto : Result (List ℕ) DirFault → Result (List (List ℕ)) DirFault → Result (List (List ℕ)) DirFault
+named_onto (Ok name) (Ok names) = Ok (name ∷ names)
+named_onto (Ok name) (Err fault) = Err fault
+named_onto (Err fault) others = Err fault
+
+-- these names, where a directory takes all of them, or why it doesn't take the first that it doesn't
+abbrev pub named : List (List ℕ) → Result (List (List ℕ)) DirFault
+named [] = Ok []
+named (name ∷ names) = named_onto (taken_name name) (named names)
+
+-- the path that a word spells
+abbrev pub path_read : List ℕ → Option (Result (List (List ℕ)) DirFault)
+path_read word = option_map named (spelled_names word)
+
+-- a path of these names, or of this fault of one
+abbrev pub path_of : Option DirFault → List (List ℕ) → Result (List (List ℕ)) DirFault
+path_of None names = Ok names
+path_of (Some fault) names = Err fault

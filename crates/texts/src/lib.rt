@@ -1,0 +1,11 @@
+//! The texts that the program reads and writes: lines, words, paths and numbers, whole inputs and outputs.
+#![tactic(auto)]
+
+pub mod input;
+pub mod laws;
+pub mod lines;
+pub mod output;
+pub mod path;
+pub mod report;
+pub mod words;
+pub mod writing;

@@ -1,0 +1,121 @@
+//! Bytes in the words of texts.
+
+ghost use Rattle.std.specs.Option.{option_map};
+ghost use Rattle.std.specs.Prelude.{◌≡◌, ◌<◌, vec_items, is_some, IfErr, IfOk, IfSome, IsSome};
+ghost use Rattle.texts.specs.Words.{byte_read, content_read, hex_digit, hex_read, is_hidden, is_visible, lower_digit, pair_value};
+
+use std::alloc::{AllocError, Global};
+
+/// The value of a lower-case hexadecimal digit.
+pub fn lower_digit(digit: u8) -> Option<u8>
+    ensures bound { IfSome result (λ n. n < 16) }
+    ensures value { result ≡ lower_digit digit }
+{
+    match digit {
+        b'0'..=b'9' => Some(digit - b'0'),
+        b'a'..=b'f' => Some(digit - b'a' + 10),
+        _ => None,
+    }
+}
+
+/// The value of a hexadecimal digit of either case.
+fn hex_digit(digit: u8) -> Option<u8>
+    ensures bound { IfSome result (λ n. n < 16) }
+    ensures value { result ≡ hex_digit digit }
+{
+    match digit {
+        b'A'..=b'F' => Some(digit - b'A' + 10),
+        _ => lower_digit(digit),
+    }
+}
+
+/// The byte of two hexadecimal digits.
+fn pair(high: u8, low: u8) -> Option<u8>
+    ensures { result ≡ pair_value (hex_digit high) (hex_digit low) }
+{
+    Some(16 * hex_digit(high)? + hex_digit(low)?)
+}
+
+/// A byte in two hexadecimal digits.
+pub fn byte(word: &[u8]) -> Option<u8>
+    ensures { result ≡ byte_read word.now }
+{
+    match word {
+        [high, low] => pair(*high, *low),
+        _ => None,
+    }
+}
+
+/// Whether a word is bytes in two hexadecimal digits each.
+fn is_hex(word: &[u8]) -> bool
+    ensures { result ≡ is_some (hex_read word.now) }
+{
+    let mut rest = word;
+    while let [high, low, more @ ..] = rest {
+        if pair(*high, *low).is_none() {
+            return false;
+        }
+        rest = more;
+    }
+    rest.is_empty()
+}
+
+/// Whether a word is the bytes of a stream: hexadecimal, or `-` for none.
+pub fn is_content(word: &[u8]) -> bool
+    ensures { result ≡ is_some (content_read word.now) }
+{
+    match word {
+        [] => false,
+        [b'-'] => true,
+        _ => is_hex(word),
+    }
+}
+
+/// Bytes in two hexadecimal digits each.
+fn hex(alloc: Global, word: &[u8]) -> Result<Option<Vec<u8>>, AllocError>
+    ensures { IfOk result (λ bytes. option_map vec_items bytes ≡ hex_read word.now) }
+{
+    let mut bytes = Vec::with_capacity(alloc, word.len() / 2)?;
+    let mut rest = word;
+    while let [high, low, more @ ..] = rest {
+        match pair(*high, *low) {
+            Some(byte) => bytes.push(byte)?,
+            None => return Ok(None),
+        }
+        rest = more;
+    }
+    if rest.is_empty() {
+        Ok(Some(bytes))
+    } else {
+        Ok(None)
+    }
+}
+
+/// The bytes of a stream: hexadecimal, or `-` for none. Memory is taken for a word that spells them.
+pub fn content(alloc: Global, word: &[u8]) -> Result<Option<Vec<u8>>, AllocError>
+    ensures read { IfOk result (λ bytes. option_map vec_items bytes ≡ content_read word.now) }
+    ensures within { IfErr result (λ _. IsSome (content_read word.now)) }
+{
+    if !is_content(word) {
+        return Ok(None);
+    }
+    match word {
+        [] => Ok(None),
+        [b'-'] => Ok(Some(Vec::new(alloc))),
+        _ => hex(alloc, word),
+    }
+}
+
+/// Whether a byte ends a word or can't be seen.
+pub fn is_hidden(byte: u8) -> bool
+    ensures { result ≡ is_hidden byte }
+{
+    byte <= 32 || byte == 127
+}
+
+/// Whether a byte is printable ASCII, and no space.
+pub fn is_visible(byte: u8) -> bool
+    ensures { result ≡ is_visible byte }
+{
+    33 <= byte && byte <= 126
+}
