@@ -154,6 +154,3 @@ impl Embedded for Note {
         [0, 1, 0, 0]
     }
 }
-
-#[cfg(test)]
-mod tests;
