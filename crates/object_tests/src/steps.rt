@@ -1,6 +1,7 @@
-//! Tables of calls to an object. The functions have no contracts, so that the tests stay quick to prove.
+//! Tables of calls to an object, a line each: the call, what the object is stored as from then on (of `picture`: what
+//! it looks like), and the answer, each behind ` => `. Tables are texts, and the functions have no contracts: so the tests are quick to prove.
 
-use crate::texts::spelled;
+use crate::texts::{halves, spelled};
 use cfb_directory::name::Name;
 use embed_core::embedded::Embedded;
 use embed_core::fault::EmbedFault;
@@ -10,74 +11,109 @@ use std::process::Abort;
 use std::test::Fail;
 use storage_tree::streams::NamedStream;
 
-/// A call to an object.
-#[derive(Clone, Copy, Debug)]
-pub(crate) enum Step {
-    /// Makes it a new one.
-    Init,
-    /// Carries out the edit that is spelled so.
-    Edit(&'static str),
-    /// Loads streams of these names and bytes.
-    Load(&'static [(&'static str, &'static str)]),
-    /// Draws it.
-    Picture,
-}
-
-/// A call, its answer (`Ok` or the fault's name), and what the object is stored as from then on, or what its picture is.
-pub(crate) type Row = (Step, &'static str, &'static str);
-
-/// The object answers each call as its row says, and is stored in a stream of this name.
+/// The object answers each call as its line says, and is stored in a stream of this name.
 pub(crate) fn play(
     rt: &impl Abort,
     alloc: Global,
     object: &mut Box<dyn Embedded>,
     name: &str,
-    rows: &[Row],
+    rows: &str,
 ) -> Result<(), Fail> {
-    for (step, answer, shows) in rows {
-        let want = spelled(alloc, shows)?;
-        assert_eq!(rt; carry_out(alloc, object, *step)?, *answer, "{step:?}");
-        let shown = match step {
-            Step::Picture => picture(alloc, object)?,
-            _ => stored(alloc, object, name)?,
-        };
-        assert!(rt; shown == want, "{step:?} shows {shows}");
+    for row in rows.split('\n') {
+        if is_row(row) {
+            expect(rt, alloc, object, name, row)?;
+        }
     }
     Ok(())
 }
 
+fn is_row(line: &str) -> bool {
+    !line.is_empty() && !line.starts_with("#")
+}
+
+fn expect(
+    rt: &impl Abort,
+    alloc: Global,
+    object: &mut Box<dyn Embedded>,
+    name: &str,
+    row: &str,
+) -> Result<(), Fail> {
+    let (step, wants) = halves(row, " => ");
+    let (shows, answer) = halves(wants, " => ");
+    let told = carry_out(alloc, object, step)?;
+    assert!(rt; told == answer, "{row}: {told}");
+    let shown = shown(alloc, object, name, step)?;
+    assert!(rt; shown == spelled(alloc, shows)?, "{row}");
+    Ok(())
+}
+
+fn shown(
+    alloc: Global,
+    object: &Box<dyn Embedded>,
+    name: &str,
+    step: &str,
+) -> Result<Vec<u8>, Fail> {
+    if step == "picture" {
+        picture(alloc, object)
+    } else {
+        stored(alloc, object, name)
+    }
+}
+
+/// Carries out a call: `init`, `edit BYTES` or `load NAME=BYTES;NAME=BYTES`.
 fn carry_out(
     alloc: Global,
     object: &mut Box<dyn Embedded>,
-    step: Step,
+    step: &str,
 ) -> Result<&'static str, Fail> {
-    Ok(told(match step {
-        Step::Init => {
-            object.init();
-            Ok(())
-        }
-        Step::Edit(edit) => object.edit(alloc, &spelled(alloc, edit)?),
-        Step::Load(streams) => object.load(alloc, &streams_of(alloc, streams)?),
-        Step::Picture => Ok(()),
-    }))
+    let (call, rest) = halves(step, " ");
+    match call.as_bytes() {
+        [b'e', ..] => edit(alloc, object, rest),
+        [b'l', ..] => load(alloc, object, rest),
+        [b'i', ..] => Ok(init(object)),
+        _ => Ok("Ok"),
+    }
+}
+
+fn init(object: &mut Box<dyn Embedded>) -> &'static str {
+    object.init();
+    "Ok"
+}
+
+fn edit(alloc: Global, object: &mut Box<dyn Embedded>, text: &str) -> Result<&'static str, Fail> {
+    let bytes = spelled(alloc, text)?;
+    Ok(told(object.edit(alloc, &bytes)))
+}
+
+fn load(alloc: Global, object: &mut Box<dyn Embedded>, text: &str) -> Result<&'static str, Fail> {
+    let streams = streams_of(alloc, text)?;
+    Ok(told(object.load(alloc, &streams)))
 }
 
 /// `Ok`, or the fault's name.
-pub(crate) fn told(answer: Result<(), EmbedFault>) -> &'static str {
+fn told(answer: Result<(), EmbedFault>) -> &'static str {
     match answer {
         Ok(()) => "Ok",
         Err(fault) => fault.name(),
     }
 }
 
-fn streams_of(alloc: Global, streams: &[(&str, &str)]) -> Result<Streams, Fail> {
-    let mut made = Streams::new(alloc);
-    for (name, text) in streams {
-        let name = Name::new(name.as_bytes())?;
-        let bytes = Bytes::from_vec(spelled(alloc, text)?);
-        made.push(NamedStream { name, bytes })?;
+fn streams_of(alloc: Global, text: &str) -> Result<Streams, Fail> {
+    let mut streams = Streams::new(alloc);
+    for stream in text.split(';') {
+        if !stream.is_empty() {
+            push(alloc, &mut streams, stream)?;
+        }
     }
-    Ok(made)
+    Ok(streams)
+}
+
+fn push(alloc: Global, streams: &mut Streams, text: &str) -> Result<(), Fail> {
+    let (name, bytes) = halves(text, "=");
+    let name = Name::new(name.as_bytes())?;
+    let bytes = Bytes::from_vec(spelled(alloc, bytes)?);
+    streams.push(NamedStream { name, bytes })?;
+    Ok(())
 }
 
 fn picture(alloc: Global, object: &Box<dyn Embedded>) -> Result<Vec<u8>, Fail> {
@@ -85,7 +121,7 @@ fn picture(alloc: Global, object: &Box<dyn Embedded>) -> Result<Vec<u8>, Fail> {
 }
 
 /// The bytes of the one stream that an object is stored in, which is to be of this name.
-pub(crate) fn stored(alloc: Global, object: &Box<dyn Embedded>, name: &str) -> Result<Vec<u8>, Fail> {
+fn stored(alloc: Global, object: &Box<dyn Embedded>, name: &str) -> Result<Vec<u8>, Fail> {
     let streams = object.save(alloc)?;
     match streams.as_slice() {
         [stream] if stream.name.as_bytes() == name.as_bytes() => {
