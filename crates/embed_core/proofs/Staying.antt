@@ -5,7 +5,8 @@ use Rattle.embed_core.specs.Objects.{EditsStay, edit_told}
 use Rattle.embed_core.specs.Reading.{edit_of}
 use Rattle.std.specs.List.{list_all, list_any}
 use Rattle.std.proofs.lemmas.List.Folds.{list_all-append}
-use Rattle.embed_core.specs.Content.{Cell, Shape, Content, note, table, drawing, is_content, is_note_text, is_printable, is_cell, is_cell_text, is_entry, is_rising, is_shape, cell_place, NOTE_SIZE, CELL_SIZE, DRAWING_SIZE}
+use Rattle.embed_core.specs.Content.{Cell, Shape, Content, note, table, drawing, is_content, is_note_text, is_cell, is_cell_text, is_entry, is_rising, is_shape, cell_place, NOTE_SIZE, CELL_SIZE, DRAWING_SIZE}
+use Rattle.object_state.specs.Printable.{is_printable}
 use Rattle.embed_core.specs.Edits.{Edit, insert, delete, set, clear, add, remove, raise, edited, within, with_cell, without_cell, is_at}
 use Rattle.embed_core.specs.Kinds.{kind_of}
 use Rattle.embed_core.proofs.Passing.{both, first_of_both, second_of_both, told_cond, lt_passes, lt_told, le_told_false, eq_told, ne_told, le_passes, le_told}

@@ -7,7 +7,8 @@ use Rattle.std.proofs.lemmas.Bool.{ne_eqb}
 use Rattle.std.proofs.lemmas.List.Folds.{list_all-append}
 use Rattle.std.proofs.lemmas.List.Splits.{join_with_byte-slice_split}
 use Rattle.cfb_directory.specs.Names.{key, key_eq}
-use Rattle.embed_core.specs.Content.{Cell, Shape, box, line, Direction, across, down, Content, note, table, drawing, is_content, is_printable, is_cell, is_cell_text, is_entry, is_rising, is_shape, cell_place, cell_bytes, direction_byte, entry_bytes, shape_bytes, shape_line, spaced, stream_name, stream_bytes, stored, CELL_SIZE, DRAWING_SIZE}
+use Rattle.embed_core.specs.Content.{Cell, Shape, box, line, Direction, across, down, Content, note, table, drawing, is_content, is_cell, is_cell_text, is_entry, is_rising, is_shape, cell_place, cell_bytes, direction_byte, entry_bytes, shape_bytes, shape_line, spaced, stream_name, stream_bytes, stored, CELL_SIZE, DRAWING_SIZE}
+use Rattle.object_state.specs.Printable.{is_printable}
 use Rattle.embed_core.specs.Edits.{IsSmallShape}
 use Rattle.embed_core.specs.Kinds.{Kind, Note, Table, Drawing, kind_of, empty}
 use Rattle.embed_core.specs.Objects.{StoredIsLoaded, LoadedWasStored, load_told, sole_bytes}

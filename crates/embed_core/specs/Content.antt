@@ -3,6 +3,7 @@ use Rattle.std.specs.Prelude.{◌+◌, ◌*◌, ◌&&◌, ◌||◌, ℕ, Bool, t
 use Rattle.std.specs.List.{list_all, flat_map}
 use Rattle.std.specs.Fmt.{decimal}
 use Rattle.storage_tree.specs.declared.streams.NamedStream.{NamedStream}
+use Rattle.object_state.specs.Printable.{is_printable}
 
 -- a cell by its column, from 0 for A, and its row, from 1
 pub record Cell : Type 0 where
@@ -24,10 +25,6 @@ pub data Content : Type 0 where
   note : List ℕ → Content
   table : List (Cell × List ℕ) → Content
   drawing : List Shape → Content
-
--- printable ASCII
-abbrev pub is_printable : ℕ → Bool
-is_printable c = nat_le 32 c && nat_le c 126
 
 -- what a note may have: printable characters and line feeds
 abbrev pub is_note_text : ℕ → Bool

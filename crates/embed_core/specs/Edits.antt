@@ -2,7 +2,8 @@
 use Rattle.std.specs.Prelude.{◌<◌, ◌^◌, ◌+◌, ◌-◌, ◌&&◌, ℕ, Bool, true, List, [], ◌∷◌, ◌++◌, length, take, drop, nat_le, nat_eq, nat_lt, cond, Result, Ok, Err, filter, not}
 use Rattle.std.specs.List.{list_all, list_any}
 use Rattle.std.specs.Fmt.{decimal}
-use Rattle.embed_core.specs.Content.{Cell, Shape, box, line, Content, note, table, drawing, is_note_text, is_printable, is_cell, is_shape, cell_place, cell_bytes, shape_bytes, spaced, NOTE_SIZE, CELL_SIZE, DRAWING_SIZE}
+use Rattle.embed_core.specs.Content.{Cell, Shape, box, line, Content, note, table, drawing, is_note_text, is_cell, is_shape, cell_place, cell_bytes, shape_bytes, spaced, NOTE_SIZE, CELL_SIZE, DRAWING_SIZE}
+use Rattle.object_state.specs.Printable.{is_printable}
 use Rattle.embed_core.specs.Kinds.{Kind, Note, Table, Drawing}
 use Rattle.embed_core.specs.declared.fault.EmbedFault.{EmbedFault}
 use Rattle.embed_core.specs.declared.fault.EmbedFault.TheVariants.{BadEdit, TooBig}

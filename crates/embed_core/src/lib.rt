@@ -17,6 +17,3 @@ pub use storage_tree::bytes::Bytes;
 pub use storage_tree::class_id::ClassId;
 pub use storage_tree::stored::Stored;
 pub use storage_tree::streams::Streams;
-
-#[cfg(test)]
-mod tests;

@@ -17,7 +17,7 @@ pub const WIDTH: usize = 40;
 pub const HEIGHT: usize = 12;
 
 /// How many characters a canvas has.
-pub const AREA: usize = 480;
+pub const AREA: usize = WIDTH * HEIGHT;
 
 /// Paints shapes, each over those before it.
 pub fn paint_all(cells: &mut [u8], figures: &[Figure])
@@ -123,9 +123,9 @@ pub fn picture(alloc: Global, figures: &[Figure]) -> Result<Vec<u8>, AllocError>
 /// A line of a canvas.
 fn line(cells: &[u8], row: usize) -> &[u8]
     requires whole { length cells.now ≡ AREA }
-    requires low { row < 12 }
-    ensures wide { length result.now ≡ 40 }
-    ensures cells { (column : ℕ) → column < 40 → slice_index result.now column ≡ cell_at cells.now column row }
+    requires low { row < HEIGHT }
+    ensures wide { length result.now ≡ WIDTH }
+    ensures cells { (column : ℕ) → column < WIDTH → slice_index result.now column ≡ cell_at cells.now column row }
 {
     &cells[WIDTH * row..WIDTH * (row + 1)]
 }

@@ -145,6 +145,3 @@ impl Embedded for Drawing {
         [3, 0, 0, 0]
     }
 }
-
-#[cfg(test)]
-mod tests;

@@ -11,6 +11,12 @@ ghost use Rattle.std.specs.String.{string_bytes};
 use embed_core::words::{cut, number};
 use std::alloc::AllocError;
 
+/// The last column and the last line in which a shape begins.
+const LAST_START: u32 = 99;
+
+/// How wide, high or long a shape is at most.
+const LONGEST: u32 = 100;
+
 /// Where a line goes from its first cell.
 #[derive(Debug, Clone, Copy, PartialEq, Eq)]
 pub enum Heading {
@@ -52,8 +58,8 @@ impl Figure {
                 y,
                 width,
                 height,
-            } => x <= 99 && y <= 99 && 1 <= width && width <= 100 && 1 <= height && height <= 100,
-            Figure::Line { x, y, length, .. } => x <= 99 && y <= 99 && 1 <= length && length <= 100,
+            } => x <= LAST_START && y <= LAST_START && 1 <= width && width <= LONGEST && 1 <= height && height <= LONGEST,
+            Figure::Line { x, y, length, .. } => x <= LAST_START && y <= LAST_START && 1 <= length && length <= LONGEST,
         }
     }
 }

@@ -19,9 +19,10 @@ use std::marker::Model;
 /// The most characters that a note has.
 const SIZE: usize = 65_536;
 
-/// How many lines a picture shows, and how many characters of each.
+/// How many lines a picture shows.
 const PICTURE_LINES: usize = 20;
 
+/// How many characters a picture shows of a line.
 const PICTURE_WIDTH: usize = 60;
 
 /// A note.
@@ -50,7 +51,7 @@ impl Drop for Note {
 
 /// What a picture shows of a line.
 fn first_part(line: &[u8]) -> &[u8]
-    ensures { result.now ≡ take 60 line.now }
+    ensures { result.now ≡ take PICTURE_WIDTH line.now }
 {
     &line[..line.len().min(PICTURE_WIDTH)]
 }
@@ -154,6 +155,3 @@ impl Embedded for Note {
         [0, 1, 0, 0]
     }
 }
-
-#[cfg(test)]
-mod tests;

@@ -4,13 +4,14 @@ ghost use Rattle.embed_core.specs.Content.{is_note_text};
 ghost use Rattle.std.specs.List.{list_all};
 ghost use Rattle.std.specs.Prelude.{◌+◌, ◌++◌, ◌≡◌, ◌≤◌, OnErr, OnOk, drop, length, take};
 
+use object_state::is_printable;
 use std::alloc::AllocError;
 
 /// Whether all characters are printable or line feeds.
 pub fn is_note_text(text: &[u8]) -> bool
     ensures { result ≡ list_all is_note_text text.now }
 {
-    text.iter().all(|c| (32 <= *c && *c <= 126) || *c == b'\n')
+    text.iter().all(|c| is_printable(*c) || *c == b'\n')
 }
 
 /// Puts more into a text, at a place.

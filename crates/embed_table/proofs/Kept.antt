@@ -11,7 +11,8 @@ use Rattle.std.specs.declared.cmp.Ordering.TheVariants.{Less, Equal, Greater}
 use Rattle.std.specs.BTreeMap as tree
 use Rattle.std.specs.BTreeMap.{insert_entry}
 use Rattle.std.proofs.lemmas.Bool.{ne_eqb}
-use Rattle.embed_core.specs.Content.{Cell, Content, table, is_cell, is_cell_text, is_content, is_entry, is_printable, is_rising, cell_place, CELL_SIZE}
+use Rattle.embed_core.specs.Content.{Cell, Content, table, is_cell, is_cell_text, is_content, is_entry, is_rising, cell_place, CELL_SIZE}
+use Rattle.object_state.specs.Printable.{is_printable}
 use Rattle.embed_core.specs.Edits.{set, clear, edited, with_cell, within, without_cell, is_at}
 use Rattle.embed_core.specs.declared.fault.EmbedFault.{EmbedFault}
 use Rattle.embed_core.specs.declared.fault.EmbedFault.TheVariants.{BadEdit, TooBig}

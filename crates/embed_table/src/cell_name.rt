@@ -7,6 +7,12 @@ ghost use Rattle.std.specs.Prelude.{◌≡◌};
 
 use embed_core::words::number;
 
+/// How many columns a table has, A to Z.
+pub const COLUMNS: u16 = 26;
+
+/// How many rows a table has.
+pub const ROWS: u32 = 99;
+
 /// A cell as a name spells it: its column, from 0 for A, and its row. It may lie outside of a table.
 #[derive(Debug, Clone, Copy)]
 pub struct CellName {
@@ -40,8 +46,8 @@ impl CellName {
     pub fn place(self) -> Option<u16>
         ensures { result ≡ place_of (named self) }
     {
-        if self.column < 26 && 1 <= self.row && self.row <= 99 {
-            Some(26 * self.row as u16 + u16::from(self.column))
+        if u16::from(self.column) < COLUMNS && 1 <= self.row && self.row <= ROWS {
+            Some(COLUMNS * self.row as u16 + u16::from(self.column))
         } else {
             None
         }

@@ -7,6 +7,7 @@ ghost use Rattle.embed_table.specs.Placed.{cell_at, entries_at};
 ghost use Rattle.std.specs.Fmt.{decimal};
 ghost use Rattle.std.specs.Prelude.{◌++◌, ◌≡◌, IfOk, OnOk};
 
+use crate::cell_name::COLUMNS;
 use std::alloc::{AllocError, Global};
 use std::collections::BTreeMap;
 
@@ -28,8 +29,8 @@ fn push_number(out: &mut Vec<u8>, number: u16) -> Result<(), AllocError>
 fn push_cell(out: &mut Vec<u8>, place: u16) -> Result<(), AllocError>
     ensures { OnOk result (out.new.items ≡ out.old.items ++ cell_bytes (cell_at place)) }
 {
-    out.push(b'A' + (place % 26) as u8)?;
-    push_number(out, place / 26)?;
+    out.push(b'A' + (place % COLUMNS) as u8)?;
+    push_number(out, place / COLUMNS)?;
     Ok(())
 }
 

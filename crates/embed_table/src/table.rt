@@ -13,6 +13,7 @@ use embed_core::embedded::Embedded;
 use embed_core::fault::EmbedFault;
 use embed_core::tally::Tally;
 use embed_core::{ClassId, Menus, Streams, classes, kind_menus, sole_stream, stream_names};
+use object_state::are_printable;
 use std::alloc::Global;
 use std::collections::BTreeMap;
 use std::marker::Model;
@@ -61,7 +62,7 @@ impl Table {
         let Some(place) = cell.place() else {
             return Err(EmbedFault::BadEdit);
         };
-        if text.is_empty() || !text::is_printable(text) {
+        if text.is_empty() || !are_printable(text) {
             return Err(EmbedFault::BadEdit);
         }
         if text.len() > text::SIZE {
@@ -132,6 +133,3 @@ impl Embedded for Table {
         [2, 1, 0, 0]
     }
 }
-
-#[cfg(test)]
-mod tests;

@@ -6,8 +6,6 @@ mod faults;
 mod frame_ui;
 mod grant_states;
 pub mod laws;
-#[cfg(test)]
-mod tests;
 
 pub use faults::GrantFault;
 pub use frame_ui::FrameUi;

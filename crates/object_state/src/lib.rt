@@ -10,8 +10,7 @@ mod menu_texts;
 mod object_states;
 mod operations;
 mod persist_states;
-#[cfg(test)]
-mod tests;
+mod printable;
 mod verbs;
 
 pub use both_states::States;
@@ -20,4 +19,5 @@ pub use menu_texts::{MENU_TEXT_MAX, MenuText, Menus};
 pub use object_states::ObjectState;
 pub use operations::{CloseOption, Op};
 pub use persist_states::{Persist, PersistState};
+pub use printable::{are_printable, is_printable};
 pub use verbs::{Step, Verb};

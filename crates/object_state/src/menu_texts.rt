@@ -1,9 +1,9 @@
 //! The menu texts that an object shows while it is active in place.
 ghost use Rattle.std.specs.Prelude.{◌≡◌, Some, None, if◌then◌else◌, IsTrue};
-ghost use Rattle.std.specs.List.{list_all};
-ghost use Rattle.object_state.specs.MenuTexts.{is_printable, is_menu_text};
+ghost use Rattle.object_state.specs.MenuTexts.{is_menu_text};
 ghost use Rattle.object_state.specs.Menus.{menus_of};
 
+use crate::printable::are_printable;
 use std::marker::Model;
 
 /// The greatest length of a menu text, in bytes.
@@ -12,7 +12,7 @@ pub const MENU_TEXT_MAX: usize = 16;
 /// A menu text: at most 16 bytes of printable ASCII (32 to 126), kept inline.
 #[derive(Clone, Copy, Debug, PartialEq, Eq)]
 pub struct MenuText {
-    bytes: [u8; 16],
+    bytes: [u8; MENU_TEXT_MAX],
     len: u8,
 }
 
@@ -87,18 +87,4 @@ fn is_menu_text(text: &[u8]) -> bool
     ensures { result ≡ is_menu_text text.now }
 {
     text.len() <= MENU_TEXT_MAX && are_printable(text)
-}
-
-// Whether all bytes are printable ASCII.
-fn are_printable(bytes: &[u8]) -> bool
-    ensures { result ≡ list_all is_printable bytes.now }
-{
-    bytes.iter().all(|b| is_printable(*b))
-}
-
-// Whether a byte is printable ASCII.
-fn is_printable(byte: u8) -> bool
-    ensures { result ≡ is_printable byte }
-{
-    32 <= byte && byte <= 126
 }

@@ -1,0 +1,75 @@
+//! How tests spell bytes: `$` for a line feed, `c{60}` for sixty times `c`, `<ab>{60}` for sixty times `ab`.
+
+use std::alloc::{AllocError, Global};
+
+/// Bytes that are being spelled.
+#[derive(Drop)]
+struct Spelling {
+    bytes: Vec<u8>,
+    /// Where the last group begins.
+    group: usize,
+    /// Where that begins which braces repeat.
+    unit: usize,
+    /// The number in braces so far.
+    braces: Option<usize>,
+}
+
+/// The bytes that a text spells.
+pub(crate) fn spelled(alloc: Global, text: &str) -> Result<Vec<u8>, AllocError> {
+    let mut spelling = Spelling {
+        bytes: Vec::new(alloc),
+        group: 0,
+        unit: 0,
+        braces: None,
+    };
+    for c in text.as_bytes() {
+        spelling.take(alloc, *c)?;
+    }
+    Ok(spelling.bytes)
+}
+
+impl Spelling {
+    fn take(&mut self, alloc: Global, c: u8) -> Result<(), AllocError> {
+        match (self.braces, c) {
+            (None, b'{') => self.braces = Some(0),
+            (None, b'<') => self.group = self.bytes.len(),
+            (None, b'>') => self.unit = self.group,
+            (None, c) => self.push(c)?,
+            (Some(count), b'}') => {
+                self.braces = None;
+                self.repeat(alloc, count)?;
+            }
+            (Some(count), digit) => self.braces = Some(with_digit(count, digit)),
+        }
+        Ok(())
+    }
+
+    fn push(&mut self, c: u8) -> Result<(), AllocError> {
+        self.unit = self.bytes.len();
+        let c = if c == b'$' { b'\n' } else { c };
+        self.bytes.push(c)?;
+        Ok(())
+    }
+
+    /// What stands last comes to stand there so often.
+    fn repeat(&mut self, alloc: Global, count: usize) -> Result<(), AllocError> {
+        let unit = Vec::from_slice(alloc, self.bytes.get(self.unit..).unwrap_or(&[]))?;
+        for _ in 1..count {
+            self.bytes.extend_from_slice(&unit)?;
+        }
+        Ok(())
+    }
+}
+
+fn with_digit(count: usize, digit: u8) -> usize {
+    let digit = usize::from(digit.saturating_sub(b'0'));
+    count.saturating_mul(10).saturating_add(digit)
+}
+
+/// What stands before a mark, and what behind it, which is nothing where there is no such mark.
+pub(crate) fn halves<'a>(text: &'a str, mark: &str) -> (&'a str, &'a str) {
+    match text.split_once(mark) {
+        Some(halves) => halves,
+        None => (text, ""),
+    }
+}
