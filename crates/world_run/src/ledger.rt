@@ -11,7 +11,8 @@ ghost use Rattle.world_run.specs.Rooms.{HasLogRoom, HasReplyRoom, IsBarred, IsRo
 ghost use Rattle.world_run.specs.View.{bare, started};
 
 use world_model::event::{Stop, copy_command};
-use world_model::logs::{Document, Done, EventAnswer, File, Outcome, Sent, ServerDone, View};
+use container_model::answer::Done;
+use world_model::logs::{Document, EventAnswer, File, Outcome, Sent, ServerDone, View};
 use container_model::answer::{Action, Answer};
 use container_model::command::Command;
 use container_core::container::{ContainerCore, Limits};

@@ -5,7 +5,8 @@ ghost use Rattle.wire_msgs.specs.Found.{nth};
 ghost use Rattle.world_run.specs.Shown.{shown};
 ghost use Rattle.world_model.specs.World.{counted_document, frame_file};
 
-use world_model::logs::{Document, Done, EventAnswer, Sent, ServerDone};
+use container_model::answer::Done;
+use world_model::logs::{Document, EventAnswer, Sent, ServerDone};
 use crate::state::place;
 use crate::world::World;
 use container_core::container::ContainerCore;
