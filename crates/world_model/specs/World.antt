@@ -155,7 +155,7 @@ abbrev pub quiet_outcome : Outcome
 quiet_outcome = record { frame = None; objects = []; server = None; taken = false; refused = None; no_tools = false; sent = []; commits = [] }
 
 abbrev pub served : World → ℕ → ℕ → ℕ → Instance → List Kind → Result Served ServerFault → World
-served w inc act n i stock (Err fault) = record w { answers = w.answers ++ told.Unheard fault ∷ [] }
+served w inc act n i stock (Err fault) = record w { answers = w.answers ++ told.Dropped fault ∷ [] }
 served w inc act n i stock (Ok v) = record w {
   instances = set_nth w.instances inc (record i { core = v.server });
   stock = stock;

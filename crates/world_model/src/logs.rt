@@ -123,6 +123,6 @@ pub enum EventAnswer {
     Took(Outcome),
     /// The container refused it.
     Refused(ContainerFault),
-    /// The server did nothing with it.
-    Unheard(ServerFault),
+    /// The server did nothing with it, and dropped it.
+    Dropped(ServerFault),
 }

@@ -11,15 +11,15 @@ ghost use Rattle.world_run.specs.Files.{IsFileAt, IsNoFile, is_committing_in};
 ghost use Rattle.world_run.specs.Rooms.{most};
 ghost use Rattle.world_run.specs.View.{bare, started};
 
-use world_model::event::Stop;
-use crate::ledger::{Ledger, Room, add, add_all};
-use world_model::logs::{Document, Done, File};
+use crate::host::{Host, Room, add, add_all};
 use container_model::answer::Part;
 use container_model::fault::ContainerFault;
 use container_model::record::{Frame, Phase};
 use std::alloc::{AllocError, Global};
 use storage_tree::bytes::Bytes;
 use wire_msgs::items::Items;
+use world_model::event::Stop;
+use world_model::logs::{Document, Done, File};
 
 // The name that a frame has once its commit is done.
 fn name_after(alloc: Global, frame: &Frame) -> Result<Bytes, AllocError>
@@ -85,7 +85,7 @@ fn set_counted(counted: &mut Vec<Option<Document>>, frame: u32, document: Docume
     }
 }
 
-impl Ledger {
+impl Host {
     // Whether a commit of the frame is asked for.
     fn is_committing(&self, f: u32) -> bool
         ensures { result ≡ is_committing_in (nth self.now.core.frames f) }

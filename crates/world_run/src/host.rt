@@ -1,4 +1,4 @@
-//! What a world keeps besides its servers and its stock.
+//! The host of a container: what a world keeps besides its servers and its stock.
 
 ghost use Rattle.std.specs.Prelude.{[], ◌∷◌, ◌++◌, ◌+◌, ◌≤◌, ◌<◌, ◌^◌, ◌≡◌, IfErr, IfOk, OnErr, OnOk, Ok, length, map, nat_le, false, vec_len, vec_capacity};
 ghost use Rattle.std.specs.List.{range_with_len};
@@ -10,21 +10,22 @@ ghost use Rattle.world_run.specs.Starts.{starts_of};
 ghost use Rattle.world_run.specs.Rooms.{HasLogRoom, HasReplyRoom, IsBarred, IsRoom, most, replied};
 ghost use Rattle.world_run.specs.View.{bare, started};
 
-use world_model::event::{Stop, copy_command};
-use world_model::logs::{Document, Done, EventAnswer, File, Outcome, Sent, ServerDone, View};
+use container_core::container::{ContainerCore, Limits};
 use container_model::answer::{Action, Answer};
 use container_model::command::Command;
-use container_core::container::{ContainerCore, Limits};
 use container_model::fault::ContainerFault;
 use server_model::counted::Counted;
 use server_model::fault::ServerFault;
 use std::alloc::{AllocError, Global};
 use wire_msgs::items::Items;
 use wire_msgs::message::Message;
+use world_model::event::{Stop, copy_command};
+use world_model::logs::{Document, Done, EventAnswer, File, Outcome, Sent, ServerDone, View};
 
-/// What a world keeps besides its servers and its stock: the container, the files and the logs.
+/// The host of a world's container: what the world keeps besides its servers and its stock, the container, the files and the
+/// logs.
 #[derive(Drop)]
-pub struct Ledger {
+pub struct Host {
     pub(crate) core: ContainerCore,
     pub(crate) files: Vec<File>,
     pub(crate) sent: Vec<Sent>,
@@ -141,13 +142,13 @@ impl Room {
     }
 }
 
-impl Ledger {
+impl Host {
     /// Nothing has happened.
-    pub(crate) fn new(alloc: Global, limits: Limits) -> Ledger
+    pub(crate) fn new(alloc: Global, limits: Limits) -> Host
         requires { limits.numbers ≤ 1000000 }
         ensures { bare result ≡ empty_world limits.numbers [] }
     {
-        Ledger {
+        Host {
             core: ContainerCore::new(alloc, limits),
             files: Vec::new(alloc),
             sent: Vec::new(alloc),
@@ -334,11 +335,11 @@ impl Ledger {
     }
 
     /// A message that a server did nothing with.
-    pub(crate) fn unheard(&mut self, fault: ServerFault)
+    pub(crate) fn dropped(&mut self, fault: ServerFault)
         requires { vec_len self.old.answers < vec_capacity self.old.answers }
-        ensures { bare self.new ≡ record (bare self.old) { answers = self.old.answers.items ++ told.Unheard fault ∷ [] } }
+        ensures { bare self.new ≡ record (bare self.old) { answers = self.old.answers.items ++ told.Dropped fault ∷ [] } }
     {
-        add(&mut self.answers, EventAnswer::Unheard(fault));
+        add(&mut self.answers, EventAnswer::Dropped(fault));
     }
 
     // The object that an activation was made for, 0 where there is none.
