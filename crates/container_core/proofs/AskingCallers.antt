@@ -3,9 +3,9 @@ use Rattle.wire_msgs.specs.declared.operation.Operation.{Operation}
 use Rattle.container_model.specs.declared.record.Frame.{Frame}
 use Rattle.container_model.specs.declared.record.Link.{Link}
 use Rattle.container_model.specs.declared.record.Object.{Object}
-use Rattle.container_core.specs.Asking.{HasNumber}
+use Rattle.container_links.specs.Asking.{HasNumber}
 use Rattle.container_model.specs.Record.{Record, ask_at, asked_link, asked_object}
-use Rattle.container_laws.specs.Room.{IfLinked, IsRoomy, IsSound}
+use Rattle.container_model.specs.Room.{IfLinked, IsRoomy, IsSound}
 use Rattle.container_model.specs.Saves.{cleared, completed, completion, counted_object, kept_by, kept_in}
 
 -- a container's activations have numbers left

@@ -1,5 +1,5 @@
 -- An object that is asked for an edit, in its container.
-use Rattle.std.proofs.Common.{◌≡◌, ◌<◌, ℕ, List, length, Option, Some, None, Result, Ok, Err, get_or, set, refl, sym, ◌∙◌, ap, subst, arith, IfSome, slice_get, slice_set}
+use Rattle.std.proofs.Common.{◌≡◌, ◌<◌, ℕ, List, [], length, Some, Ok, get_or, set, refl, sym, ◌∙◌, ap, subst, IfSome, slice_get}
 use Rattle.std.proofs.lemmas.Option.{slice_get_read}
 use Rattle.std.proofs.lemmas.List.Elements.{All-set}
 use Rattle.wire_msgs.specs.Found.{IsPlace, put}
@@ -9,9 +9,9 @@ use Rattle.container_model.specs.declared.fault.ContainerFault.{ContainerFault}
 use Rattle.container_model.specs.declared.record.Frame.{Frame}
 use Rattle.container_model.specs.declared.record.Object.{Object}
 use Rattle.container_model.specs.Commands.{edit_linked}
-use Rattle.container_core.specs.Numbered.{IsObjectAt}
-use Rattle.container_model.specs.Record.{Record, Refuses, Took, acts, is_object, with_object}
-use Rattle.container_laws.specs.Room.{HasRoom, IsSound}
+use Rattle.container_model.specs.Numbered.{IsObjectAt}
+use Rattle.container_model.specs.Record.{Record, Refuses, acts, is_object, with_object}
+use Rattle.container_model.specs.Room.{HasRoom, IsSound}
 
 -- what holds of the object that stands there
 here : (P : Object → Type 0) (s r : Record) (i : ℕ) (x : Object) → s ≡ r → i < length r.objects → x ≡ get_or s.objects i x → P x → IfSome (slice_get r.objects i) P
@@ -34,12 +34,12 @@ place_of s r i x e p at =
     subst (λ t. IfSome t (λ o. IsPlace (is_object o.number) r.objects i)) h p.own
 
 pub edit_taken : (s r r2 : Record) (i : ℕ) (x y : Object) (bytes : List ℕ) (actions : List Action) (a : Answer) → s ≡ r → IsObjectAt r.objects i → x ≡ get_or s.objects i x
-    → ((q : Record) → q.numbers ≡ s.numbers → edit_linked q x bytes x.link ≡ Ok (record { rec = with_object q y; answer = acts actions }))
+    → ((q : Record) → q.numbers ≡ s.numbers → edit_linked q x bytes x.link ≡ Ok (record { rec = with_object q y; answer = acts actions; counted = [] }))
     → y.number ≡ x.number → r2 ≡ record s { objects = set s.objects i y } → a ≡ acts actions
-    → IfSome (slice_get r.objects i) (λ o. edit_linked r o bytes o.link ≡ Ok (record { rec = r2; answer = a }))
+    → IfSome (slice_get r.objects i) (λ o. edit_linked r o bytes o.link ≡ Ok (record { rec = r2; answer = a; counted = [] }))
 edit_taken s r r2 i x y bytes actions a e p at h number is told =
-    here (λ o. edit_linked r o bytes o.link ≡ Ok (record { rec = r2; answer = a })) s r i x e p.fits at
-    (h r (ap (λ t. t.numbers) (sym e)) ∙ (ap (λ t. Ok (record { rec = t; answer = acts actions })) (changed s r r2 i x y e (place_of s r i x e p at) number is) ∙ ap (λ t. Ok (record { rec = r2; answer = t })) (sym told)))
+    here (λ o. edit_linked r o bytes o.link ≡ Ok (record { rec = r2; answer = a; counted = [] })) s r i x e p.fits at
+    (h r (ap (λ t. t.numbers) (sym e)) ∙ (ap (λ t. Ok (record { rec = t; answer = acts actions; counted = [] })) (changed s r r2 i x y e (place_of s r i x e p at) number is) ∙ ap (λ t. Ok (record { rec = r2; answer = t; counted = [] })) (sym told)))
 
 -- one object that keeps its room is changed
 pub sound_changed : (r t : Record) (i : ℕ) (x y : Object) → r ≡ t → IsSound r → i < length t.objects → x ≡ get_or r.objects i x

@@ -1,20 +1,14 @@
 -- Commands leave a record sound.
-use Rattle.std.proofs.Common.{◌≡◌, ◌≢◌, ◌≤◌, ◌<◌, ◌+◌, ◌==◌, ◌++◌, ℕ, zero, suc, Bool, true, false, List, [], ◌∷◌, length, map, Option, Some, None, get_or, set, refl, sym, ◌∙◌, ap, arith, if◌then◌else◌, nat_lt, not, IfSome, slice_get, slice_set}
+use Rattle.std.proofs.Common.{◌≡◌, ◌≤◌, ◌+◌, ℕ, true, [], ◌∷◌, length, Option, Some, None, refl, arith}
 use Rattle.std.proofs.lemmas.List.{length-append}
-use Rattle.std.proofs.lemmas.List.Elements.{All-set}
-use Rattle.std.specs.List.{All}
-use Rattle.wire_msgs.specs.Found.{nth, set_nth}
 use Rattle.wire_msgs.specs.declared.operation.Operation.{Operation}
 use Rattle.container_model.specs.declared.record.Frame.{Frame}
 use Rattle.container_model.specs.declared.record.Link.{Link}
-use Rattle.container_model.specs.declared.record.Object.{Object}
 use Rattle.container_model.specs.declared.record.Phase.{Phase}
 use Rattle.container_model.specs.declared.record.Phase.TheVariants.{Idle, Saving, HandingOff, Committing, InDoubt}
-use Rattle.container_model.specs.declared.fault.ContainerFault.{ContainerFault}
-use Rattle.container_model.specs.declared.fault.ContainerFault.TheVariants.{NumbersSpent, WrongState}
-use Rattle.container_model.specs.Record.{MARGIN, Record, ask, ask_at, asked_link, has_numbers}
-use Rattle.container_laws.specs.Room.{HasRoom, IfLinked, IsRoomy, IsSound, count_pending, debt, debt_in}
-use Rattle.container_model.specs.Commands.{MOST_EDIT, edit_fault, link_has_numbers}
+use Rattle.container_model.specs.Record.{ask_at, asked_link, has_numbers}
+use Rattle.container_model.specs.Room.{IfLinked, IsRoomy, debt, debt_in}
+use Rattle.container_model.specs.Commands.{link_has_numbers}
 
 -- ---- what an activation has left once it is asked
 asked_room_at : (numbers more : ℕ) (l : Link) (op : Operation) (p : Option Operation) → l.pending ≡ p → l.last + length l.waiting + (more + 1) ≤ numbers → IsRoomy numbers 0 l → IsRoomy numbers more (ask_at l op p).link

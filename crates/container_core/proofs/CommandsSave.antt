@@ -1,25 +1,23 @@
 -- A frame that begins a save.
-use Rattle.std.proofs.Common.{◌≡◌, ◌≢◌, ◌≤◌, ◌<◌, ◌+◌, ◌==◌, ◌++◌, ℕ, zero, suc, Bool, true, false, List, [], ◌∷◌, length, map, Option, Some, None, Result, Ok, inl, inr, get_or, set, refl, sym, ◌∙◌, ap, subst, arith, IfSome, slice_get, if◌then◌else◌, All, nat_le}
+use Rattle.std.proofs.Common.{◌≡◌, ◌≢◌, ◌≤◌, ◌<◌, ◌+◌, ◌==◌, ◌++◌, ℕ, zero, suc, Bool, true, false, List, [], ◌∷◌, length, map, Some, Ok, inl, inr, get_or, set, refl, sym, ◌∙◌, ap, subst, arith, IfSome, slice_get, if◌then◌else◌, All, nat_le}
 use Rattle.std.proofs.lemmas.Bool.Decides.{eqb_tells}
 use Rattle.std.proofs.lemmas.List.{get_or_default, length-set}
 use Rattle.std.proofs.lemmas.List.Elements.{All-cons, All-head, All-nil, All-set, All-tail}
-use Rattle.std.proofs.lemmas.Option.{get_or_from_slice_get, slice_get-get_or, slice_get_within}
+use Rattle.std.proofs.lemmas.Option.{slice_get-get_or}
 use Rattle.wire_msgs.specs.Found.{nth, set_nth}
 use Rattle.wire_msgs.specs.declared.operation.Operation.{Operation}
 use Rattle.wire_msgs.specs.declared.operation.Operation.TheVariants.{Save}
 use Rattle.container_model.specs.declared.answer.Action.{Action}
 use Rattle.container_model.specs.declared.answer.Answer.{Answer}
-use Rattle.container_model.specs.declared.fault.ContainerFault.{ContainerFault}
 use Rattle.container_model.specs.declared.record.Frame.{Frame}
 use Rattle.container_model.specs.declared.record.Object.{Object}
 use Rattle.container_model.specs.Commands.{all_have_numbers, link_has_numbers, save_made, save_numbered, saving, saving_frame}
-use Rattle.container_core.specs.Numbered.{IsNth}
+use Rattle.container_model.specs.Numbered.{IsNth}
 use Rattle.container_model.specs.Record.{Record, Took, acts, asked_all, asked_link, asked_object, sends}
-use Rattle.container_laws.specs.Room.{HasRoom, IfLinked, IsRoomy, IsSound, debt_in}
+use Rattle.container_model.specs.Room.{HasRoom, IfLinked, IsRoomy, IsSound, debt_in}
 use Rattle.container_model.specs.Saves.{settle, settle_actions, settled_actions, settled_frames}
 use Rattle.container_core.proofs.CommandsRoom.{asked_room, debt_in_few, less_linked}
-use Rattle.container_core.proofs.CommitsDone.{frame_here}
-use Rattle.container_laws.proofs.CommitsRoom.{nth_set_other}
+use Rattle.container_core.proofs.CommitsRoom.{nth_set_other}
 use Rattle.container_core.proofs.MessageSound.{settled_sound}
 
 -- ---- all objects of the frame have room for what they are asked
@@ -98,14 +96,14 @@ module _ (r : Record) (f : ℕ) (a : Frame) where
   pub saved_is : (i : ℕ) (b new : Frame) (os : List Object) (fs : List Frame) (actions more : List Action) (answer : Answer)
       → IsNth f r.frames i → a ≡ get_or r.frames i a → b ≡ get_or r.frames i b → new ≡ saving_frame b → os ≡ map (asked_object f (Save (a.k + 1))) r.objects
       → fs ≡ settled_frames 1 os (set r.frames i new) → actions ≡ sends (asked_all f (Save (a.k + 1)) r.objects) → more ≡ actions ++ settled_actions 1 os (set r.frames i new) → answer ≡ acts more
-      → ◌≡◌ {A = Took} (save_made r f a) (record { rec = record r { frames = fs; objects = os }; answer = answer })
+      → ◌≡◌ {A = Took} (save_made r f a) (record { rec = record r { frames = fs; objects = os }; answer = answer; counted = [] })
   saved_is i b new os fs actions more answer at e g n o settled sent all told =
       let made : ◌≡◌ {A = Record} (record r { frames = set r.frames i new; objects = os }) (saving r f a) = saving_is i b new os at e g n o in
       let done : ◌≡◌ {A = Record} (settle (saving r f a)) (record r { frames = fs; objects = os }) =
       ap settle (sym made) ∙ ap {A = List Frame} (λ x. record r { frames = x; objects = os }) (sym settled) in
       let asked : more ≡ sends (asked_all f (Save (a.k + 1)) r.objects) ++ settle_actions (saving r f a) = all ∙ (ap (λ t. t ++ settled_actions 1 os (set r.frames i new)) sent ∙ ap (λ t. sends (asked_all f (Save (a.k + 1)) r.objects) ++ settle_actions t) made) in
       let said : acts (sends (asked_all f (Save (a.k + 1)) r.objects) ++ settle_actions (saving r f a)) ≡ answer = ap acts (sym asked) ∙ sym told in
-      λ t. record { rec = done t; answer = said t }
+      λ t. record { rec = done t; answer = said t; counted = [] }
 
 -- the command's answer
 unspent : (r : Record) (f : ℕ) (a : Frame) (t : Took) → a.k < r.numbers → all_have_numbers f r.numbers r.objects ≡ true → save_made r f a ≡ t → save_numbered r f a ≡ Ok t

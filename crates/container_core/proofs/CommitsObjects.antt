@@ -7,7 +7,7 @@ use Rattle.std.specs.List.{All}
 use Rattle.wire_msgs.specs.declared.operation.Operation.{Operation}
 use Rattle.container_model.specs.declared.record.Link.{Link}
 use Rattle.container_model.specs.declared.record.Object.{Object}
-use Rattle.container_core.specs.Asking.{HasNumber, prepared, prepared_at, prepared_link}
+use Rattle.container_links.specs.Asking.{HasNumber, prepared, prepared_at, prepared_link}
 use Rattle.container_model.specs.Record.{asked_object}
 use Rattle.container_model.specs.Saves.{cleared, counted_object, kept}
 

@@ -1,12 +1,10 @@
 pub mod LookupPlaces
-pub mod DocumentsTree
-pub mod DocumentsRoom
 pub mod CommitsObjects
 pub mod CommitsDone
 pub mod MessageSound
 pub mod ServersCounted
-pub mod AskingAll
 pub mod AskingCallers
 pub mod CommandsRoom
 pub mod CommandsEdit
 pub mod CommandsSave
+pub mod CommitsRoom

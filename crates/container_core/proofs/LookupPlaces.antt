@@ -4,7 +4,7 @@ use Rattle.std.proofs.lemmas.Option.{slice_get-get_or}
 use Rattle.std.proofs.Math.ListN.{drop_of_length-le, set}
 use Rattle.std.proofs.Math.Numerals.{add-one}
 use Rattle.wire_msgs.specs.Found.{find, put, IsPlace}
-use Rattle.container_core.specs.Numbered.{IsObjectAt, IsPast}
+use Rattle.container_model.specs.Numbered.{IsObjectAt, IsPast}
 use Rattle.container_model.specs.Record.{is_object}
 use Rattle.container_model.specs.declared.record.Object.{Object}
 

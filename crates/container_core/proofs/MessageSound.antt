@@ -11,8 +11,8 @@ use Rattle.container_model.specs.declared.record.Phase.TheVariants.{Idle, Saving
 use Rattle.container_model.specs.declared.fault.ContainerFault.{ContainerFault}
 use Rattle.container_model.specs.declared.fault.ContainerFault.TheVariants.{Stale}
 use Rattle.container_model.specs.Record.{Record, is_linked}
-use Rattle.container_laws.specs.Replies.{Went, went}
-use Rattle.container_laws.proofs.MessageReplies.{link_in}
+use Rattle.container_model.specs.Replies.{Went, went}
+use Rattle.container_links.proofs.MessageReplies.{link_in}
 use Rattle.object_state.specs.Both as both
 use Rattle.object_state.specs.declared.operations.Op.TheVariants as op
 use Rattle.object_state.specs.declared.both_states.States.{States}
@@ -22,7 +22,7 @@ use Rattle.wire_msgs.specs.declared.answer.Answer.{Answer}
 use Rattle.wire_msgs.specs.declared.answer.Answer.TheVariants as told
 use Rattle.wire_msgs.specs.declared.operation.Operation.{Operation}
 use Rattle.wire_msgs.specs.declared.operation.Operation.TheVariants as operation
-use Rattle.container_laws.specs.Room.{HasRoom, count_pending, IfLinked, IsRoomy, IsSound, debt, debt_in}
+use Rattle.container_model.specs.Room.{HasRoom, count_pending, IfLinked, IsRoomy, IsSound, debt, debt_in}
 use Rattle.container_model.specs.Saves.{is_ready, is_ready_at, kept, awaits, settle, settled_frame, settled_frames}
 use Rattle.container_model.specs.Messages.{Replied, done_link, next_at, next_link, reaped, reaped_object, replied, reply_link, reply_pending, saved_link}
 

@@ -1,6 +1,6 @@
 use Rattle.std.proofs.Common.{◌≡◌, ℕ, ◌+◌, ◌≤◌, Bool, List, zero, suc, [], ◌∷◌, ◌++◌, length, refl, ap, true, false, arith, slice_get, slice_set, sym, ◌∙◌}
 use Rattle.wire_msgs.specs.Found.{nth}
-use Rattle.container_core.specs.Numbered.{IsNth}
+use Rattle.container_model.specs.Numbered.{IsNth}
 use Rattle.container_model.specs.Record.{count_alive, is_unreaped}
 
 -- no more are alive than were started

@@ -1,17 +1,16 @@
 //! What commands are refused for.
 
 ghost use Rattle.std.specs.Prelude.{◌&&◌, ◌+◌, ◌≡◌, ◌≤◌, ◌||◌, All, length};
-ghost use Rattle.std.specs.Str.{bytes_eq};
-ghost use Rattle.container_core.specs.Asking.{HasNumber};
+ghost use Rattle.container_links.specs.Asking.{HasNumber};
 ghost use Rattle.container_model.specs.Commands.{all_have_numbers, any_busy, is_empty_area, is_known_class, is_name, is_named, is_size, link_has_numbers};
 ghost use Rattle.container_model.specs.Record.{count_objects, has_numbers, is_asked, is_busy, is_claim, is_doubtful, is_moving, is_saving};
-ghost use Rattle.container_laws.specs.Room.{IfLinked};
+ghost use Rattle.container_model.specs.Room.{IfLinked};
 ghost use Rattle.grant_core.specs.Grants.{waiting};
 
 use container_model::record::{Frame, Link, Object, Phase};
-use object_parts::area::Area;
 use embed_core::classes;
 use grant_core::{Claim, GrantState};
+use object_parts::area::Area;
 use storage_tree::bytes::Bytes;
 use storage_tree::class_id::ClassId;
 

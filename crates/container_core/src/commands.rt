@@ -1,9 +1,9 @@
 //! What a container does with a command of a user.
 
-ghost use Rattle.std.specs.Prelude.{◌++◌, ◌+◌, ◌<◌, ◌≡◌, ◌≤◌, IfErr, IfOk, Ok, OnErr, OnOk, [], ◌∷◌, All, List, length, map, vec_capacity, vec_len, ℕ};
-ghost use Rattle.container_core.specs.Asking.{HasNumber, IsAsking, prepared};
-ghost use Rattle.container_model.specs.Record.{Record, Refuses, acts, asked_link, asked_object, asked_sent, sends, with_object};
-ghost use Rattle.container_laws.specs.Room.{HasRoom, IfLinked};
+ghost use Rattle.std.specs.Prelude.{◌+◌, ◌<◌, ◌≡◌, ◌≤◌, IfErr, IfOk, Ok, OnErr, OnOk, [], ◌∷◌, All, List, length};
+ghost use Rattle.container_links.specs.Asking.{HasNumber, IsAsking};
+ghost use Rattle.container_model.specs.Record.{Record, Refuses, acts, asked_link, asked_sent, counts_none, sends, with_object};
+ghost use Rattle.container_model.specs.Room.{HasRoom, IfLinked};
 ghost use Rattle.container_model.specs.Commands.{begun_link, edit_fault, edit_linked, first_operation, kind_of, new_object, saving_frame, user_type};
 ghost use Rattle.embed_core.specs.Kinds.{class_of};
 ghost use Rattle.wire_msgs.specs.declared.operation.Operation as asked;
@@ -12,18 +12,18 @@ ghost use Rattle.wire_msgs.specs.declared.message.Message.TheVariants.{Call};
 ghost use Rattle.container_model.specs.declared.record.Frame.{Frame};
 ghost use Rattle.container_model.specs.declared.answer.Action.TheVariants.{Send};
 
-use container_model::answer::{Action, Answer};
-use crate::asking::{Asking, Prepared, ask, install_all, prepare};
 use crate::checks;
-use container_model::command::{Command, ObjectKind};
 use crate::container::ContainerCore;
-use container_model::fault::ContainerFault;
 use crate::lookups::{place, place_object};
+use container_links::asking::{Asking, ask_link, prepare, take_up};
+use container_links::settling::settle_into;
+use container_model::answer::{Action, Answer};
+use container_model::command::{Command, ObjectKind};
+use container_model::fault::ContainerFault;
 use container_model::record::{Frame, Link, Object, Phase};
-use object_parts::area::Area;
-use crate::settling::settle_into;
 use embed_core::classes;
 use grant_core::FrameUi;
+use object_parts::area::Area;
 use object_state::States;
 use std::alloc::{AllocError, Global};
 use storage_tree::bytes::Bytes;
@@ -45,8 +45,8 @@ const MOST_EDIT: usize = 65_536;
 impl ContainerCore {
     ghost use Rattle.std.specs.Prelude.{◌+◌, ◌≡◌, ◌≤◌, IfErr, IfOk, IfSome, Ok, OnErr, length, slice_get};
     ghost use Rattle.container_model.specs.Commands.{edit, edit_linked, insert, insert_into, kind_of, new, on_command, run, run_object, save, save_numbered, start};
-    ghost use Rattle.container_model.specs.Record.{Refuses};
-    ghost use Rattle.container_core.specs.Numbered.{IsNth, IsObjectAt};
+    ghost use Rattle.container_model.specs.Record.{Refuses, counts_none};
+    ghost use Rattle.container_model.specs.Numbered.{IsNth, IsObjectAt};
 
     /// A command of a user. The answer has what was made, what is sent and which files are to be committed.
     ///
@@ -64,7 +64,7 @@ impl ContainerCore {
     ///
     /// Last of all `NoMemory`. A refusal changes nothing.
     pub fn command(&mut self, alloc: Global, command: Command) -> Result<Answer, ContainerFault>
-        ensures taken { IfOk result (λ a. on_command self.old command ≡ Ok (record { rec = self.new; answer = a })) }
+        ensures taken { IfOk result (λ a. on_command self.old command ≡ Ok (counts_none self.new a)) }
         ensures few { IfOk result (λ a. length a.actions ≤ length self.old.objects + length self.old.frames + 1) }
         ensures refused { IfErr result (Refuses (on_command self.old command)) }
         ensures kept { OnErr result (self.new ≡ self.old) }
@@ -87,7 +87,7 @@ impl ContainerCore {
         w: u16,
         h: u16,
     ) -> Result<Answer, ContainerFault>
-        ensures taken { IfOk result (λ a. new self.old name w h ≡ Ok (record { rec = self.new; answer = a })) }
+        ensures taken { IfOk result (λ a. new self.old name w h ≡ Ok (counts_none self.new a)) }
         ensures few { IfOk result (λ a. length a.actions ≤ 1) }
         ensures refused { IfErr result (Refuses (new self.old name w h)) }
         ensures kept { OnErr result (self.new ≡ self.old) }
@@ -123,7 +123,7 @@ impl ContainerCore {
 
     // A new server.
     fn start(&mut self, alloc: Global) -> Result<Answer, ContainerFault>
-        ensures taken { IfOk result (λ a. start self.old ≡ Ok (record { rec = self.new; answer = a })) }
+        ensures taken { IfOk result (λ a. start self.old ≡ Ok (counts_none self.new a)) }
         ensures few { IfOk result (λ a. length a.actions ≤ 1) }
         ensures refused { IfErr result (Refuses (start self.old)) }
         ensures kept { OnErr result (self.new ≡ self.old) }
@@ -155,7 +155,7 @@ impl ContainerCore {
         kind: ObjectKind,
         area: Area,
     ) -> Result<Answer, ContainerFault>
-        ensures taken { IfOk result (λ a. insert self.old frame (kind_of kind) area ≡ Ok (record { rec = self.new; answer = a })) }
+        ensures taken { IfOk result (λ a. insert self.old frame (kind_of kind) area ≡ Ok (counts_none self.new a)) }
         ensures few { IfOk result (λ a. length a.actions ≤ 1) }
         ensures refused { IfErr result (Refuses (insert self.old frame (kind_of kind) area)) }
         ensures kept { OnErr result (self.new ≡ self.old) }
@@ -183,7 +183,7 @@ impl ContainerCore {
         kind: ObjectKind,
         area: Area,
     ) -> Result<Answer, ContainerFault>
-        ensures taken { IfOk result (λ a. insert_into self.old frame (kind_of kind) area ≡ Ok (record { rec = self.new; answer = a })) }
+        ensures taken { IfOk result (λ a. insert_into self.old frame (kind_of kind) area ≡ Ok (counts_none self.new a)) }
         ensures few { IfOk result (λ a. length a.actions ≤ 1) }
         ensures refused { IfErr result (Refuses (insert_into self.old frame (kind_of kind) area)) }
         ensures kept { OnErr result (self.new ≡ self.old) }
@@ -211,7 +211,7 @@ impl ContainerCore {
 
     // A new activation of a passive object.
     fn run(&mut self, alloc: Global, object: u32, inc: u32) -> Result<Answer, ContainerFault>
-        ensures taken { IfOk result (λ a. run self.old object inc ≡ Ok (record { rec = self.new; answer = a })) }
+        ensures taken { IfOk result (λ a. run self.old object inc ≡ Ok (counts_none self.new a)) }
         ensures few { IfOk result (λ a. length a.actions ≤ 1) }
         ensures refused { IfErr result (Refuses (run self.old object inc)) }
         ensures kept { OnErr result (self.new ≡ self.old) }
@@ -238,7 +238,7 @@ impl ContainerCore {
     // A new activation of the object that stands there.
     fn run_object(&mut self, alloc: Global, i: usize, inc: u32) -> Result<Answer, ContainerFault>
         requires { IsObjectAt self.old.objects i }
-        ensures taken { IfOk result (λ a. IfSome (slice_get self.old.objects i) (λ o. run_object self.old o inc ≡ Ok (record { rec = self.new; answer = a }))) }
+        ensures taken { IfOk result (λ a. IfSome (slice_get self.old.objects i) (λ o. run_object self.old o inc ≡ Ok (counts_none self.new a))) }
         ensures few { IfOk result (λ a. length a.actions ≤ 1) }
         ensures refused { IfErr result (λ e. IfSome (slice_get self.old.objects i) (λ o. Refuses (run_object self.old o inc) e)) }
         ensures kept { OnErr result (self.new ≡ self.old) }
@@ -263,7 +263,7 @@ impl ContainerCore {
 
     // A running object is asked for an edit.
     fn edit(&mut self, alloc: Global, object: u32, bytes: Bytes) -> Result<Answer, ContainerFault>
-        ensures taken { IfOk result (λ a. edit self.old object bytes ≡ Ok (record { rec = self.new; answer = a })) }
+        ensures taken { IfOk result (λ a. edit self.old object bytes ≡ Ok (counts_none self.new a)) }
         ensures few { IfOk result (λ a. length a.actions ≤ 1) }
         ensures refused { IfErr result (Refuses (edit self.old object bytes)) }
         ensures kept { OnErr result (self.new ≡ self.old) }
@@ -292,7 +292,7 @@ impl ContainerCore {
         bytes: Bytes,
     ) -> Result<Answer, ContainerFault>
         requires { IsObjectAt self.old.objects i }
-        ensures taken { IfOk result (λ a. IfSome (slice_get self.old.objects i) (λ o. edit_linked self.old o bytes o.link ≡ Ok (record { rec = self.new; answer = a }))) }
+        ensures taken { IfOk result (λ a. IfSome (slice_get self.old.objects i) (λ o. edit_linked self.old o bytes o.link ≡ Ok (counts_none self.new a))) }
         ensures few { IfOk result (λ a. length a.actions ≤ 1) }
         ensures refused { IfErr result (λ e. IfSome (slice_get self.old.objects i) (λ o. Refuses (edit_linked self.old o bytes o.link) e)) }
         ensures kept { OnErr result (self.new ≡ self.old) }
@@ -306,7 +306,7 @@ impl ContainerCore {
 
     // The objects of a frame are asked for their contents.
     fn save(&mut self, alloc: Global, frame: u32) -> Result<Answer, ContainerFault>
-        ensures taken { IfOk result (λ a. save self.old frame ≡ Ok (record { rec = self.new; answer = a })) }
+        ensures taken { IfOk result (λ a. save self.old frame ≡ Ok (counts_none self.new a)) }
         ensures few { IfOk result (λ a. length a.actions ≤ length self.old.objects + length self.old.frames) }
         ensures refused { IfErr result (Refuses (save self.old frame)) }
         ensures kept { OnErr result (self.new ≡ self.old) }
@@ -335,7 +335,7 @@ impl ContainerCore {
         at: usize,
     ) -> Result<Answer, ContainerFault>
         requires { IsNth frame self.old.frames at }
-        ensures taken { IfOk result (λ a. IfSome (slice_get self.old.frames at) (λ x. save_numbered self.old frame x ≡ Ok (record { rec = self.new; answer = a }))) }
+        ensures taken { IfOk result (λ a. IfSome (slice_get self.old.frames at) (λ x. save_numbered self.old frame x ≡ Ok (counts_none self.new a))) }
         ensures few { IfOk result (λ a. length a.actions ≤ length self.old.objects + length self.old.frames) }
         ensures refused { IfErr result (λ e. IfSome (slice_get self.old.frames at) (λ x. Refuses (save_numbered self.old frame x) e)) }
         ensures kept { OnErr result (self.new ≡ self.old) }
@@ -482,7 +482,7 @@ fn edit_one(
     bytes: Bytes,
 ) -> Result<Items<Action>, ContainerFault>
     requires { HasNumber object.old }
-    ensures taken { IfOk result (λ actions. (r : Record) → r.numbers ≡ numbers → edit_linked r object.old bytes object.old.link ≡ Ok (record { rec = with_object r object.new; answer = acts actions })) }
+    ensures taken { IfOk result (λ actions. (r : Record) → r.numbers ≡ numbers → edit_linked r object.old bytes object.old.link ≡ Ok (counts_none (with_object r object.new) (acts actions))) }
     ensures few { IfOk result (λ actions. length actions ≤ 1) }
     ensures refused { IfErr result (λ e. (r : Record) → r.numbers ≡ numbers → Refuses (edit_linked r object.old bytes object.old.link) e) }
     ensures same { object.new.number ≡ object.old.number }
@@ -513,40 +513,6 @@ fn ask_object(
     ask_link(alloc, &mut object.link, operation)
 }
 
-// The same for what the object has as its activation.
-fn ask_link(
-    alloc: Global,
-    link: &mut Option<Link>,
-    operation: Operation,
-) -> Result<Items<Action>, AllocError>
-    requires { IfLinked (λ l. l.last + length l.waiting ≤ 1000000) link.old }
-    ensures asked { OnOk result (link.new ≡ asked_link operation link.old) }
-    ensures sent { IfOk result (λ a. a ≡ sends (asked_sent operation link.old)) }
-    ensures few { IfOk result (λ a. length a ≤ 1) }
-    ensures kept { OnErr result (link.new ≡ link.old) }
-{
-    let mut actions = Vec::with_capacity(alloc, 1)?;
-    match link {
-        None => {}
-        Some(link) => match ask(alloc, link, operation)? {
-            None => {}
-            Some(message) => add(&mut actions, message),
-        },
-    }
-    Ok(Items::from_vec(actions))
-}
-
-// Adds a message that room was taken for.
-fn add(actions: &mut Vec<Action>, message: Message)
-    requires { vec_len actions.old < vec_capacity actions.old }
-    ensures { actions.new.items ≡ actions.old.items ++ Send message ∷ [] }
-{
-    match actions.push(Action::Send(message)) {
-        Ok(()) => {}
-        Err(_) => unreachable!(),
-    }
-}
-
 // What is needed to ask the objects of a frame for their contents.
 fn prepare_save(alloc: Global, frame: u32, k: u32, objects: &[Object]) -> Result<Asking, AllocError>
     requires { All HasNumber objects.now }
@@ -562,13 +528,4 @@ fn begin_save(frame: &mut Frame)
 {
     frame.k += 1;
     frame.phase = Phase::Saving;
-}
-
-// The objects take up what was prepared for them.
-fn take_up(objects: &mut Vec<Object>, takes: Vec<Prepared>)
-    requires numbers { All HasNumber objects.old.items }
-    requires each { vec_len takes ≡ length objects.old.items }
-    ensures { (f : ℕ) (op : asked.Operation) → takes.items ≡ map (prepared f op) objects.old.items → objects.new.items ≡ map (asked_object f op) objects.old.items }
-{
-    install_all(objects, takes);
 }

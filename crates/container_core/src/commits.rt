@@ -1,19 +1,18 @@
 //! Commits that are done.
 
-ghost use Rattle.std.specs.Prelude.{◌≡◌, All, length, map, vec_len, ℕ};
-ghost use Rattle.container_core.specs.Asking.{HasNumber, prepared};
-ghost use Rattle.container_model.specs.Saves.{committed_frame, completed, completion, counted_object, is_committing};
-ghost use Rattle.container_model.specs.Record.{asked_object};
+ghost use Rattle.std.specs.Prelude.{◌≡◌, All, IfOk, length, map, vec_len};
+ghost use Rattle.container_links.specs.Asking.{HasNumber, prepared};
+ghost use Rattle.container_model.specs.Saves.{committed_frame, completed, completion, counted_object, done_entry, is_committing, part_of, parts_in};
 ghost use Rattle.container_model.specs.declared.record.Frame as declared;
-ghost use Rattle.wire_msgs.specs.declared.operation.Operation as declared_operation;
 
-use container_model::answer::Answer;
-use crate::asking::{Prepared, install_all, prepare};
 use crate::container::ContainerCore;
+use crate::lookups::place;
+use container_documents::documents::kept;
+use container_links::asking::{Prepared, prepare, take_up};
+use container_model::answer::{Answer, Committed, Done};
 use container_model::fault::ContainerFault;
-use crate::lookups::frame_place;
 use container_model::record::{Frame, Object, Phase};
-use std::alloc::Global;
+use std::alloc::{AllocError, Global};
 use wire_msgs::items::Items;
 use wire_msgs::operation::Operation;
 
@@ -67,14 +66,6 @@ fn count_all(f: u32, objects: &mut Vec<Object>)
     count_objects(f, objects);
 }
 
-fn install(objects: &mut Vec<Object>, takes: Vec<Prepared>)
-    requires numbers { All HasNumber objects.old.items }
-    requires each { vec_len takes ≡ length objects.old.items }
-    ensures { (f : ℕ) (op : declared_operation.Operation) → takes.items ≡ map (prepared f op) objects.old.items → objects.new.items ≡ map (asked_object f op) objects.old.items }
-{
-    install_all(objects, takes);
-}
-
 /// The contents that are counted are work contents, and each object that isn't passive takes up what was prepared.
 fn complete_objects(f: u32, objects: &mut Vec<Object>, takes: Vec<Prepared>)
     requires numbers { All HasNumber objects.old.items }
@@ -82,7 +73,31 @@ fn complete_objects(f: u32, objects: &mut Vec<Object>, takes: Vec<Prepared>)
     ensures { (frame : declared.Frame) → takes.items ≡ map (prepared f (completion frame)) objects.old.items → objects.new.items ≡ map (completed f frame) objects.old.items }
 {
     count_all(f, objects);
-    install(objects, takes);
+    take_up(objects, takes);
+}
+
+/// What is counted of an object.
+fn entry(alloc: Global, k: u32, object: &Object) -> Result<Done, AllocError>
+    ensures { IfOk result (λ d. d ≡ done_entry k (part_of object.now)) }
+{
+    Ok(Done {
+        object: object.number,
+        k,
+        content: kept(object).copy(alloc)?,
+    })
+}
+
+/// What is counted of the objects of a frame, in order.
+fn entries(alloc: Global, f: u32, k: u32, objects: &[Object]) -> Result<Vec<Done>, AllocError>
+    ensures { IfOk result (λ v. v.items ≡ map (done_entry k) (parts_in f objects.now)) }
+{
+    let mut done = Vec::new(alloc);
+    for object in objects {
+        if object.frame == f {
+            done.push(entry(alloc, k, object)?)?;
+        }
+    }
+    Ok(done)
 }
 
 /// Whether a frame's commit is asked for.
@@ -98,7 +113,7 @@ fn is_committing(phase: Phase) -> bool
 impl ContainerCore {
     ghost use Rattle.std.specs.Prelude.{◌≡◌, ◌≤◌, ◌+◌, IfErr, IfOk, OnErr, OnOk, Ok, Some, length, true};
     ghost use Rattle.wire_msgs.specs.Found.{nth};
-    ghost use Rattle.container_core.specs.Numbered.{IsNth};
+    ghost use Rattle.container_model.specs.Numbered.{IsNth};
     ghost use Rattle.container_model.specs.Record.{Refuses};
     ghost use Rattle.container_model.specs.Saves.{commit_done, commit_made, is_committing};
     ghost use Rattle.container_model.specs.declared.record.Frame as declared;
@@ -111,7 +126,7 @@ impl ContainerCore {
         ensures told { OnOk result ((frame : declared.Frame) → nth self.now.frames f ≡ Some frame → (is_committing frame.phase ≡ true) × (commit_done self.now f ≡ Ok (commit_made self.now f frame))) }
         ensures refused { IfErr result (Refuses (commit_done self.now f)) }
     {
-        let Some(place) = frame_place(self.frames.as_slice(), f) else {
+        let Some(place) = place(self.frames.as_slice(), f) else {
             return Err(ContainerFault::NoSuch);
         };
         if !is_committing(self.frames[place].phase) {
@@ -121,14 +136,14 @@ impl ContainerCore {
         Ok(place)
     }
 
-    /// The file of a frame was committed. The contents that it holds are the objects' work contents, the asked name is
-    /// the frame's, and each object that isn't passive is told that the save is counted.
+    /// The file of a frame was committed. The contents that it holds are counted, each once, and are the objects' work
+    /// contents; the asked name is the frame's, and each object that isn't passive is told that the save is counted.
     ///
     /// Refused: `NoSuch` where there is no such frame; `WrongState` where its commit isn't asked for; `Full` where no
     /// file holds its document; then `NoMemory`. A refusal changes nothing.
-    pub fn commit_done(&mut self, alloc: Global, f: u32) -> Result<Answer, ContainerFault>
-        ensures taken { IfOk result (λ a. commit_done self.old f ≡ Ok (record { rec = self.new; answer = a })) }
-        ensures few { IfOk result (λ a. length a.actions ≤ length self.old.objects + length self.old.frames + 1) }
+    pub fn commit_done(&mut self, alloc: Global, f: u32) -> Result<Committed, ContainerFault>
+        ensures taken { IfOk result (λ a. commit_done self.old f ≡ Ok (record { rec = self.new; answer = a.answer; counted = a.counted })) }
+        ensures few { IfOk result (λ a. length a.answer.actions ≤ length self.old.objects + length self.old.frames + 1) }
         ensures refused { IfErr result (Refuses (commit_done self.old f)) }
         ensures kept { OnErr result (self.new ≡ self.old) }
     {
@@ -137,10 +152,17 @@ impl ContainerCore {
         let Ok(asking) = prepare(alloc, f, &operation, self.objects.as_slice()) else {
             return Err(ContainerFault::NoMemory);
         };
+        let k = self.frames[place].k;
+        let Ok(counted) = entries(alloc, f, k, self.objects.as_slice()) else {
+            return Err(ContainerFault::NoMemory);
+        };
         commit_frame(&mut self.frames[place]);
         complete_objects(f, &mut self.objects, asking.takes);
         let mut answer = Answer::quiet(alloc);
         answer.actions = Items::from_vec(asking.actions);
-        Ok(answer)
+        Ok(Committed {
+            answer,
+            counted: Items::from_vec(counted),
+        })
     }
 }

@@ -1,23 +1,14 @@
 //! The container.
 
-ghost use Rattle.std.specs.Prelude.{◌≡◌, ◌≤◌, IfErr, IfOk, OnErr, Ok, Some, None, option_copied, length, map};
-ghost use Rattle.container_model.specs.Record.{Record, Refuses, empty, is_object};
-ghost use Rattle.container_model.specs.Commands.{on_command};
-ghost use Rattle.container_model.specs.Messages.{on_message, on_reap};
-ghost use Rattle.container_model.specs.Saves.{commit_done, document_tree, image};
+ghost use Rattle.std.specs.Prelude.{◌≡◌, ◌≤◌, Some, None, option_copied};
+ghost use Rattle.container_model.specs.Record.{Record, empty, is_object};
 ghost use Rattle.wire_msgs.specs.Found.{find, nth};
-ghost use Rattle.file_model.specs.Denotes.{Denotes};
 
-use container_model::answer::{Answer, Part};
-use container_model::command::Command;
-use container_model::fault::ContainerFault;
 use crate::lookups::{place, place_object};
-use container_model::record::{Frame, Object};
 use crate::servers::Servers;
+use container_model::record::{Frame, Object};
 use std::alloc::Global;
 use std::marker::Model;
-use wire_msgs::items::Items;
-use wire_msgs::message::Message;
 
 /// The limits of a container.
 #[derive(Debug, Clone, Copy, PartialEq, Eq)]
@@ -39,7 +30,7 @@ pub struct ContainerCore {
 
 impl Model for ContainerCore {
     ghost use Rattle.container_model.specs.Record.{Record};
-    ghost use Rattle.container_laws.specs.Room.{IsSound};
+    ghost use Rattle.container_model.specs.Room.{IsSound};
 
     ghost Value = { Record };
 

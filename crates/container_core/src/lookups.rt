@@ -3,9 +3,9 @@
 ghost use Rattle.std.specs.Prelude.{◌≡◌, ◌&&◌, ◌==◌, IfSome, MatchOption, None};
 ghost use Rattle.wire_msgs.specs.Found.{find, nth, IsPlace};
 ghost use Rattle.container_model.specs.Record.{is_linked, is_object};
-ghost use Rattle.container_core.specs.Numbered.{IsNth, IsObjectAt};
+ghost use Rattle.container_model.specs.Numbered.{IsNth, IsObjectAt};
 
-use container_model::record::{Frame, Object};
+use container_model::record::Object;
 
 /// Where the item of this number stands.
 pub(crate) fn place<T>(items: &[T], number: u32) -> Option<usize>
@@ -20,13 +20,6 @@ pub(crate) fn place<T>(items: &[T], number: u32) -> Option<usize>
     } else {
         None
     }
-}
-
-/// Where the frame of this number stands.
-pub(crate) fn frame_place(frames: &[Frame], number: u32) -> Option<usize>
-    ensures { MatchOption result (nth frames.now number ≡ None) (IsNth number frames.now) }
-{
-    place(frames, number)
 }
 
 /// Where the object of this number stands.

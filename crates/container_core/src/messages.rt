@@ -2,18 +2,18 @@
 
 ghost use Rattle.std.specs.Prelude.{◌≡◌, ◌+◌, ◌≤◌, IfErr, IfOk, OnErr, Ok, length, map, vec_len, vec_capacity};
 ghost use Rattle.wire_msgs.specs.Found.{find, IsPlace};
-ghost use Rattle.container_model.specs.Record.{Record, Refuses, is_linked, quiet_answer};
+ghost use Rattle.container_model.specs.Record.{Refuses, is_linked, quiet_answer};
 ghost use Rattle.container_model.specs.Messages.{on_message, on_reap, on_reply, reaped_object, reply_found, reply_link};
-ghost use Rattle.container_laws.specs.Replies.{is_of, went};
-ghost use Rattle.container_laws.specs.Room.{IfLinked, IsRoomy};
+ghost use Rattle.container_model.specs.Replies.{is_of, went};
+ghost use Rattle.container_model.specs.Room.{IfLinked, IsRoomy};
 
-use container_model::answer::{Action, Answer};
 use crate::container::ContainerCore;
-use container_model::fault::ContainerFault;
 use crate::lookups::place_linked;
+use container_links::replies::{Replied, told};
+use container_links::settling::settle_into;
+use container_model::answer::{Action, Answer};
+use container_model::fault::ContainerFault;
 use container_model::record::{Link, Object};
-use crate::replies::{Replied, told};
-use crate::settling::settle_into;
 use std::alloc::Global;
 use wire_msgs::answer as reply;
 use wire_msgs::items::Items;
@@ -98,7 +98,7 @@ fn reap_all(inc: u32, objects: &mut Vec<Object>)
 impl ContainerCore {
     ghost use Rattle.std.specs.Prelude.{◌≡◌, ◌+◌, ◌≤◌, IfErr, IfOk, OnErr, Ok, length};
     ghost use Rattle.wire_msgs.specs.Found.{find, IsPlace};
-    ghost use Rattle.container_model.specs.Record.{Refuses, is_linked};
+    ghost use Rattle.container_model.specs.Record.{Refuses, counts_none, is_linked};
     ghost use Rattle.container_model.specs.Messages.{on_message, on_reap, on_reply, reply_found};
 
     /// A message on the link of a server. The answer has what is sent and which files are to be committed.
@@ -111,7 +111,7 @@ impl ContainerCore {
         link: u32,
         message: Message,
     ) -> Result<Answer, ContainerFault>
-        ensures taken { IfOk result (λ a. on_message self.old link message ≡ Ok (record { rec = self.new; answer = a })) }
+        ensures taken { IfOk result (λ a. on_message self.old link message ≡ Ok (counts_none self.new a)) }
         ensures few { IfOk result (λ a. length a.actions ≤ length self.old.objects + length self.old.frames + 1) }
         ensures refused { IfErr result (Refuses (on_message self.old link message)) }
         ensures kept { OnErr result (self.new ≡ self.old) }
@@ -149,7 +149,7 @@ impl ContainerCore {
         n: u32,
         answer: reply::Answer,
     ) -> Result<Answer, ContainerFault>
-        ensures taken { IfOk result (λ a. on_reply self.old inc act n answer ≡ Ok (record { rec = self.new; answer = a })) }
+        ensures taken { IfOk result (λ a. on_reply self.old inc act n answer ≡ Ok (counts_none self.new a)) }
         ensures few { IfOk result (λ a. length a.actions ≤ length self.old.objects + length self.old.frames + 1) }
         ensures refused { IfErr result (Refuses (on_reply self.old inc act n answer)) }
         ensures kept { OnErr result (self.new ≡ self.old) }
@@ -174,7 +174,7 @@ impl ContainerCore {
         answer: reply::Answer,
     ) -> Result<Answer, ContainerFault>
         requires { IsPlace (is_linked inc act) self.old.objects place }
-        ensures taken { IfOk result (λ a. reply_found self.old inc act n answer (find (is_linked inc act) self.old.objects) ≡ Ok (record { rec = self.new; answer = a })) }
+        ensures taken { IfOk result (λ a. reply_found self.old inc act n answer (find (is_linked inc act) self.old.objects) ≡ Ok (counts_none self.new a)) }
         ensures few { IfOk result (λ a. length a.actions ≤ length self.old.objects + length self.old.frames + 1) }
         ensures refused { IfErr result (Refuses (reply_found self.old inc act n answer (find (is_linked inc act) self.old.objects))) }
         ensures kept { OnErr result (self.new ≡ self.old) }
@@ -196,7 +196,7 @@ impl ContainerCore {
     ///
     /// Refused if there is no such server that isn't reaped, and last for want of memory. Then nothing changes.
     pub fn on_reap(&mut self, alloc: Global, inc: u32) -> Result<Answer, ContainerFault>
-        ensures taken { IfOk result (λ a. on_reap self.old inc ≡ Ok (record { rec = self.new; answer = a })) }
+        ensures taken { IfOk result (λ a. on_reap self.old inc ≡ Ok (counts_none self.new a)) }
         ensures few { IfOk result (λ a. length a.actions ≤ length self.old.objects + length self.old.frames + 1) }
         ensures refused { IfErr result (Refuses (on_reap self.old inc)) }
         ensures kept { OnErr result (self.new ≡ self.old) }

@@ -1,6 +1,6 @@
 //! The servers that a container started.
 
-ghost use Rattle.std.specs.Prelude.{◌≡◌, ◌≤◌, ◌+◌, ◌++◌, [], ◌∷◌, OnErr, OnOk, false, length, true, vec_len};
+ghost use Rattle.std.specs.Prelude.{◌≡◌, ◌+◌, ◌++◌, [], ◌∷◌, OnErr, OnOk, false, length, true};
 ghost use Rattle.container_model.specs.Record.{count_alive, is_unreaped};
 ghost use Rattle.wire_msgs.specs.Found.{nth, set_nth};
 

@@ -20,7 +20,7 @@ use Rattle.container_model.specs.declared.fault.ContainerFault.TheVariants.{Wron
 use Rattle.container_model.specs.Record.{Record, Took, ask_at, asked_all, asked_sent, sends}
 use Rattle.container_model.specs.Saves.{awaits, commit_at, commit_done, commit_fitting, commit_made, completed, completion, document_tree, fitting, has_image, image, image_at, is_awaited_link, is_committing, is_ready_at, kept_by, kept_in, part_of, parts_in}
 use Rattle.container_laws.specs.CommitLaws.{AreParts, CommitCounts, CommitTells, Gives, HasAnswered, IsPart, SaveWaits, free_link, free_links, none, one, other, stored_part, stored_parts, telling}
-use Rattle.container_laws.proofs.CommitsRoom.{completed_in, completed_out}
+use Rattle.container_model.proofs.Completing.{completed_in, completed_out}
 
 -- ---- a commit that succeeds
 fitting_parts : (parts ps : List Part) (told : Result (Unit {0}) WriteFault) → fitting parts told ≡ Ok ps → ps ≡ parts

@@ -1,8 +1,6 @@
 pub mod EditsTaken
 pub mod MessageLaws
-pub mod MessageReplies
 pub mod CommitsLaws
-pub mod CommitsRoom
 pub mod SteadyCommands
 pub mod SteadyCommits
 pub mod SteadyFinds

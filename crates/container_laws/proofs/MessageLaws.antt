@@ -12,7 +12,7 @@ use Rattle.container_model.specs.declared.fault.ContainerFault.TheVariants.{NoSu
 use Rattle.container_model.specs.Record.{Record, Took, is_alive, is_linked, quiet_answer}
 use Rattle.container_model.specs.Saves.{kept, settle, settle_actions}
 use Rattle.container_model.specs.Messages.{Replied, on_reap, on_reply, reaped, reaped_object, replied, replied_object, reply_found, reply_link, reply_pending, reply_taken}
-use Rattle.container_laws.specs.Replies.{is_of}
+use Rattle.container_model.specs.Replies.{is_of}
 use Rattle.container_laws.specs.Laws.{MessagesKeepOthers, OnlyPendingReplies, OtherServersAreRefused, OthersAreStale, ReapsEndTheirs, ReapsKeepOthers, pending_in, pending_number}
 
 -- what is done on a test that holds, where it is refused otherwise
@@ -131,7 +131,7 @@ ended_object inc o (Some l) h = rw h refl
 
 reap_objects : (r : Record) (inc : ℕ) (t : Took) → on_reap r inc ≡ Ok t → t.rec.objects ≡ map (λ (x : Object). reaped_object inc x x.link) r.objects
 reap_objects r inc t e =
-    let b = taken_if (is_alive r inc) (Ok (record { rec = settle (reaped r inc); answer = record quiet_answer { actions = settle_actions (reaped r inc) } })) NoSuch t e in
+    let b = taken_if (is_alive r inc) (Ok (record { rec = settle (reaped r inc); answer = record quiet_answer { actions = settle_actions (reaped r inc) }; counted = [] })) NoSuch t e in
     sym (ap (λ (y : Result Took ContainerFault). elim y [ Ok z ↦ z.rec.objects | Err fault ↦ [] ]) b.1)
 
 pub reaps-keep_others : ReapsKeepOthers

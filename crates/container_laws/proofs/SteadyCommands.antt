@@ -17,7 +17,7 @@ use Rattle.container_model.specs.declared.record.Phase.TheVariants.{Idle, Saving
 use Rattle.container_model.specs.declared.command.Command.TheVariants as command
 use Rattle.container_model.specs.declared.fault.ContainerFault.TheVariants.{NoSuch, Busy, InDoubt as Doubtful, Full, NumbersSpent, WrongState, UnknownClass}
 use Rattle.container_laws.proofs.EditsTaken.{edited, edit_taken}
-use Rattle.container_model.specs.Record.{Record, Took, MOST_FRAMES, MOST_OBJECTS, MOST_SERVERS, MARGIN, is_object, is_alive, is_asked, is_busy, is_claim, is_moving, is_saving, is_doubtful, count_alive, count_objects, has_numbers, is_unreaped, ask, ask_at, asked_link, asked_object}
+use Rattle.container_model.specs.Record.{Record, Took, MOST_FRAMES, MOST_OBJECTS, MOST_SERVERS, MARGIN, is_object, is_alive, is_asked, is_busy, is_claim, is_moving, is_saving, is_doubtful, count_alive, count_objects, is_unreaped, ask, ask_at, asked_link, asked_object}
 use Rattle.grant_core.specs.Grants.{waiting}
 use Rattle.container_model.specs.Commands
 use Rattle.container_laws.specs.Steady.{SteadyLink, SteadyObject, SteadyFrame, InOrder, Steady, SteadyAfterCommands, IsBeginning}

@@ -18,7 +18,7 @@ use Rattle.container_model.specs.declared.command.Command.TheVariants as command
 use Rattle.container_model.specs.declared.fault.ContainerFault.{ContainerFault}
 use Rattle.container_model.specs.declared.fault.ContainerFault.TheVariants.{NoSuch, Busy, InDoubt as Doubtful, Full, NumbersSpent, WrongState, UnknownClass, WrongLink, Stale}
 use Rattle.container_laws.proofs.EditsTaken.{edited, edit_taken}
-use Rattle.container_model.specs.Record.{Record, Took, MOST_FRAMES, MOST_OBJECTS, MOST_SERVERS, MARGIN, is_object, is_alive, count_alive, count_objects, has_numbers, is_busy, is_moving, is_saving, is_doubtful}
+use Rattle.container_model.specs.Record.{Record, Took, MOST_FRAMES, MOST_OBJECTS, MOST_SERVERS, MARGIN, is_object, is_alive, count_alive, count_objects, is_busy, is_moving, is_saving, is_doubtful}
 use Rattle.container_model.specs.Saves.{settle, settled_frame, is_ready, awaits, committed_frame, commit_made, is_committing, commit_fitting, commit_at, commit_done, image}
 use Rattle.container_model.specs.Messages.{replied_record, on_message, reaped, on_reap}
 use Rattle.container_model.specs.Commands

@@ -20,7 +20,7 @@ use Rattle.container_model.specs.declared.command.Command.TheVariants as command
 use Rattle.container_model.specs.declared.fault.ContainerFault.{ContainerFault}
 use Rattle.container_model.specs.declared.fault.ContainerFault.TheVariants.{NoSuch, Busy, InDoubt as Doubtful, Full, NumbersSpent, WrongState, UnknownClass, WrongLink, Stale}
 use Rattle.container_laws.proofs.EditsTaken.{edited, edit_taken}
-use Rattle.container_model.specs.Record.{Record, Took, MOST_FRAMES, MOST_OBJECTS, MOST_SERVERS, MARGIN, is_object, is_link, is_linked, is_alive, is_busy, is_moving, is_saving, is_doubtful, count_alive, count_objects, has_numbers, ask, asked_link, asked_sent, asked_object, asked_all, sends}
+use Rattle.container_model.specs.Record.{Record, Took, MOST_FRAMES, MOST_OBJECTS, MOST_SERVERS, MARGIN, is_object, is_link, is_linked, is_alive, is_busy, is_moving, is_saving, is_doubtful, count_alive, count_objects, ask, asked_link, asked_sent, asked_object, asked_all, sends}
 use Rattle.container_model.specs.Saves.{settle, settle_actions, kept, cleared, completion, completed, commit_made, is_committing, commit_fitting, commit_at, commit_done, image}
 use Rattle.container_model.specs.Messages.{Replied, replied, replied_object, replied_record, next_sent, reply_pending, reply_link, reply_taken, reply_found, on_reply, on_message, reaped_object, reaped, on_reap}
 use Rattle.container_model.specs.Commands

@@ -10,7 +10,7 @@ use Rattle.container_model.specs.declared.fault.ContainerFault.TheVariants.{Stal
 use Rattle.container_model.specs.Record.{Record, Took, is_alive, is_linked}
 use Rattle.container_model.specs.Saves.{kept}
 use Rattle.container_model.specs.Messages.{on_message, on_reap}
-use Rattle.container_laws.specs.Replies.{is_of}
+use Rattle.container_model.specs.Replies.{is_of}
 
 -- the number of the call that an object is to answer, if it is to answer one
 abbrev pub pending_in : Option Link → Option ℕ

@@ -1,5 +1,3 @@
 pub mod Laws
 pub mod CommitLaws
 pub mod Steady
-pub mod Replies
-pub mod Room

@@ -49,6 +49,7 @@ abbrev pub new_made : Record → List ℕ → ℕ → ℕ → Took
 new_made r name w h = record {
   rec = record r { frames = r.frames ++ new_frame name w h ∷ [] };
   answer = record quiet_answer { frame = Some (length r.frames + 1) };
+  counted = [];
 }
 
 abbrev pub new : Record → List ℕ → ℕ → ℕ → Result Took ContainerFault
@@ -80,6 +81,7 @@ abbrev pub insert_made : Record → ℕ → Kind → Area → Took
 insert_made r f kind area = record {
   rec = record r { objects = r.objects ++ new_object (r.last_object + 1) f kind area ∷ []; last_object = r.last_object + 1 };
   answer = record quiet_answer { objects = (r.last_object + 1) ∷ [] };
+  counted = [];
 }
 
 abbrev pub is_empty_area : Area → Bool
@@ -107,6 +109,7 @@ abbrev pub start_made : Record → Took
 start_made r = record {
   rec = record r { servers = r.servers ++ false ∷ [] };
   answer = record quiet_answer { server = Some (length r.servers + 1); actions = Start (length r.servers + 1) ∷ [] };
+  counted = [];
 }
 
 abbrev pub start : Record → Result Took ContainerFault
@@ -129,6 +132,7 @@ run_made r o inc =
     record {
       rec = record r { objects = put (is_object o.number) (record o { link = Some (begun_link inc (r.last_act + 1) op) }) r.objects; last_act = r.last_act + 1 };
       answer = acts (sends (Call inc (r.last_act + 1) 1 op ∷ []));
+      counted = [];
     }
 
 abbrev pub is_known_class : List ℕ → Bool
@@ -164,6 +168,7 @@ abbrev pub edit_made : Record → Object → List ℕ → Took
 edit_made r o bytes = record {
   rec = with_object r (record o { link = asked_link (Edit bytes) o.link });
   answer = acts (sends (asked_sent (Edit bytes) o.link));
+  counted = [];
 }
 
 -- why an activation isn't asked for an edit of so many bytes
@@ -218,6 +223,7 @@ abbrev pub save_made : Record → ℕ → Frame → Took
 save_made r f frame = record {
   rec = settle (saving r f frame);
   answer = acts (sends (asked_all f (Save (frame.k + 1)) r.objects) ++ settle_actions (saving r f frame));
+  counted = [];
 }
 
 abbrev pub save_numbered : Record → ℕ → Frame → Result Took ContainerFault

@@ -3,3 +3,6 @@ pub mod Commands
 pub mod Messages
 pub mod Saves
 pub mod FaultNames
+pub mod Room
+pub mod Replies
+pub mod Numbered

@@ -17,7 +17,7 @@ use Rattle.container_model.specs.declared.record.Link.{Link}
 use Rattle.container_model.specs.declared.record.Object.{Object}
 use Rattle.container_model.specs.declared.fault.ContainerFault.{ContainerFault}
 use Rattle.container_model.specs.declared.fault.ContainerFault.TheVariants.{NoSuch, WrongLink, Stale, BadAnswer}
-use Rattle.container_model.specs.Record.{Record, Took, quiet_answer, acts, sends, is_linked, is_alive}
+use Rattle.container_model.specs.Record.{Record, Took, counts_none, quiet_answer, acts, sends, is_linked, is_alive}
 use Rattle.container_model.specs.Saves.{settle, settle_actions, kept}
 
 -- A link after an answer, the reply's content, and why the object refused.
@@ -96,6 +96,7 @@ reply_taken r inc act o (Ok replied) = Ok (record {
     refused = replied.refused;
     actions = sends (next_sent replied.link) ++ settle_actions (replied_record r inc act o replied);
   };
+  counted = [];
 })
 
 -- the answer to call n, which is to be the pending one
@@ -131,4 +132,4 @@ abbrev pub reaped : Record → ℕ → Record
 reaped r inc = record r { objects = map (λ o. reaped_object inc o o.link) r.objects; servers = set_nth r.servers inc true }
 
 abbrev pub on_reap : Record → ℕ → Result Took ContainerFault
-on_reap r inc = if is_alive r inc then Ok (record { rec = settle (reaped r inc); answer = acts (settle_actions (reaped r inc)) }) else Err NoSuch
+on_reap r inc = if is_alive r inc then Ok (counts_none (settle (reaped r inc)) (acts (settle_actions (reaped r inc)))) else Err NoSuch

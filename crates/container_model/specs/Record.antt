@@ -16,6 +16,7 @@ use Rattle.container_model.specs.declared.record.Phase.TheVariants.{Idle, Saving
 use Rattle.container_model.specs.declared.answer.Action.{Action}
 use Rattle.container_model.specs.declared.answer.Action.TheVariants.{Send}
 use Rattle.container_model.specs.declared.answer.Answer.{Answer}
+use Rattle.container_model.specs.declared.answer.Done.{Done}
 use Rattle.container_model.specs.declared.fault.ContainerFault.{ContainerFault}
 use Rattle.container_model.specs.declared.fault.ContainerFault.TheVariants.{NoMemory}
 
@@ -46,10 +47,15 @@ MOST_SERVERS = 1
 abbrev pub MARGIN : ℕ
 MARGIN = 8
 
--- What a step gives: the record after it, and the answer.
+-- What a step gives: the record after it, the answer, and the contents that it counted.
 pub record Took : Type 0 where
   pub rec : Record
   pub answer : Answer
+  pub counted : List Done
+
+-- a step that counts nothing
+abbrev pub counts_none : Record → Answer → Took
+counts_none r answer = record { rec = r; answer = answer; counted = [] }
 
 abbrev pub quiet_answer : Answer
 quiet_answer = record { frame = None; objects = []; server = None; taken = false; refused = None; no_tools = false; actions = [] }

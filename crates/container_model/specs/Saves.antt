@@ -16,6 +16,7 @@ use Rattle.container_model.specs.declared.record.Phase.{Phase}
 use Rattle.container_model.specs.declared.record.Phase.TheVariants.{Idle, Saving, Committing, InDoubt}
 use Rattle.container_model.specs.declared.answer.Action.{Action}
 use Rattle.container_model.specs.declared.answer.Action.TheVariants.{Commit}
+use Rattle.container_model.specs.declared.answer.Done.{Done}
 use Rattle.container_model.specs.declared.answer.Part.{Part}
 use Rattle.container_model.specs.declared.fault.ContainerFault.{ContainerFault}
 use Rattle.container_model.specs.declared.fault.ContainerFault.TheVariants.{NoSuch, WrongState, Full}
@@ -81,6 +82,10 @@ abbrev pub parts_in : ℕ → List Object → List Part
 parts_in f [] = []
 parts_in f (o ∷ os) = if o.frame == f then part_of o ∷ parts_in f os else parts_in f os
 
+-- what the save of number k counts of an object
+abbrev pub done_entry : ℕ → Part → Done
+done_entry k part = record { object = part.object; k = k; content = part.content }
+
 -- The tree of a document: for now a root that holds the streams of its one object, and nothing else.
 abbrev pub root_class : List ℕ
 root_class = 0 ∷ 0 ∷ 0 ∷ 0 ∷ 0 ∷ 0 ∷ 0 ∷ 0 ∷ 0 ∷ 0 ∷ 0 ∷ 0 ∷ 0 ∷ 0 ∷ 0 ∷ 0 ∷ []
@@ -141,6 +146,7 @@ abbrev pub commit_made : Record → ℕ → Frame → Took
 commit_made r f frame = record {
   rec = record r { frames = set_nth r.frames f (committed_frame frame); objects = map (completed f frame) r.objects };
   answer = acts (sends (asked_all f (completion frame) r.objects));
+  counted = map (done_entry frame.k) (parts_in f r.objects);
 }
 
 abbrev pub is_committing : Phase → Bool

@@ -68,6 +68,26 @@ impl Answer {
     }
 }
 
+/// A content that a commit counts.
+#[derive(Drop)]
+pub struct Done {
+    /// The object.
+    pub object: u32,
+    /// The number of the save.
+    pub k: u32,
+    /// The content.
+    pub content: Stored,
+}
+
+/// What a commit that is done led to.
+#[derive(Drop)]
+pub struct Committed {
+    /// What is to be done.
+    pub answer: Answer,
+    /// What was counted.
+    pub counted: Items<Done>,
+}
+
 /// An object of a document.
 #[derive(Drop)]
 pub struct Part {

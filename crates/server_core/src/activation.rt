@@ -1,18 +1,16 @@
 //! What an activation does with a call.
 
-ghost use Rattle.std.specs.Prelude.{◌≡◌, ◌+◌, Some, None, IfErr, IfOk, OnErr, option_map};
-ghost use Rattle.object_state.specs.Both as both;
-ghost use Rattle.wire_msgs.specs.Operations.{op_of};
+ghost use Rattle.std.specs.Prelude.{◌≡◌, ◌+◌, Some, None, IfErr, IfOk, OnErr};
 ghost use Rattle.wire_msgs.specs.declared.operation.Operation.TheVariants as op;
-ghost use Rattle.server_model.specs.Opened.{Acts, Writes, does_open, stored_open, write_open};
+ghost use Rattle.server_model.specs.Opened.{Acts, Writes, does_now, stored_open, write_open};
 ghost use Rattle.server_model.specs.Server.{Refuses, known_call, next_call, refuses};
 ghost use Rattle.server_core.specs.View.{seen_activation};
 
 use crate::facts::Answered;
-use server_model::fault::ServerFault;
 use crate::server::Activation;
 use embed_core::fault::EmbedFault;
 use object_state::{CloseOption, States};
+use server_model::fault::ServerFault;
 use std::alloc::Global;
 use storage_tree::bytes::Bytes;
 use storage_tree::stored::Stored;
@@ -47,8 +45,8 @@ impl Activation {
         edit: Bytes,
     ) -> Result<Answered, ServerFault>
         requires { n ≡ self.old.facts.last + 1 }
-        ensures acted { IfOk result (λ t. Acts (does_open (seen_activation (λ s. content s.boxed) self.old) states (op.Edit edit) (seen_activation (λ s. content s.boxed) self.old).content) (seen_activation (λ s. content s.boxed) self.new) t.answer t.counted) }
-        ensures refused { IfErr result (Refuses (does_open (seen_activation (λ s. content s.boxed) self.old) states (op.Edit edit) (seen_activation (λ s. content s.boxed) self.old).content)) }
+        ensures acted { IfOk result (λ t. Acts (does_now (seen_activation (λ s. content s.boxed) self.old) states (op.Edit edit)) (seen_activation (λ s. content s.boxed) self.new) t.answer t.counted) }
+        ensures refused { IfErr result (Refuses (does_now (seen_activation (λ s. content s.boxed) self.old) states (op.Edit edit))) }
         ensures kept { OnErr result (seen_activation (λ s. content s.boxed) self.new ≡ seen_activation (λ s. content s.boxed) self.old) }
     {
         let Some(mut seat) = self.seat.take() else {
@@ -75,8 +73,8 @@ impl Activation {
         k: u32,
     ) -> Result<Answered, ServerFault>
         requires { n ≡ self.old.facts.last + 1 }
-        ensures acted { IfOk result (λ t. Acts (does_open (seen_activation (λ s. content s.boxed) self.old) states (op.Save k) (seen_activation (λ s. content s.boxed) self.old).content) (seen_activation (λ s. content s.boxed) self.new) t.answer t.counted) }
-        ensures refused { IfErr result (Refuses (does_open (seen_activation (λ s. content s.boxed) self.old) states (op.Save k) (seen_activation (λ s. content s.boxed) self.old).content)) }
+        ensures acted { IfOk result (λ t. Acts (does_now (seen_activation (λ s. content s.boxed) self.old) states (op.Save k)) (seen_activation (λ s. content s.boxed) self.new) t.answer t.counted) }
+        ensures refused { IfErr result (Refuses (does_now (seen_activation (λ s. content s.boxed) self.old) states (op.Save k))) }
         ensures kept { OnErr result (seen_activation (λ s. content s.boxed) self.new ≡ seen_activation (λ s. content s.boxed) self.old) }
     {
         let saved = self.stored(alloc)?;
@@ -96,8 +94,8 @@ impl Activation {
         storage: bool,
     ) -> Result<Answered, ServerFault>
         requires { n ≡ self.old.facts.last + 1 }
-        ensures acted { IfOk result (λ t. Acts (does_open (seen_activation (λ s. content s.boxed) self.old) states (op.SaveCompleted k storage) (seen_activation (λ s. content s.boxed) self.old).content) (seen_activation (λ s. content s.boxed) self.new) t.answer t.counted) }
-        ensures refused { IfErr result (Refuses (does_open (seen_activation (λ s. content s.boxed) self.old) states (op.SaveCompleted k storage) (seen_activation (λ s. content s.boxed) self.old).content)) }
+        ensures acted { IfOk result (λ t. Acts (does_now (seen_activation (λ s. content s.boxed) self.old) states (op.SaveCompleted k storage)) (seen_activation (λ s. content s.boxed) self.new) t.answer t.counted) }
+        ensures refused { IfErr result (Refuses (does_now (seen_activation (λ s. content s.boxed) self.old) states (op.SaveCompleted k storage))) }
         ensures kept { OnErr result (seen_activation (λ s. content s.boxed) self.new ≡ seen_activation (λ s. content s.boxed) self.old) }
     {
         if self.seat.is_none() {
@@ -113,8 +111,8 @@ impl Activation {
 
     fn ui_activate(&mut self, n: u32, states: States, grant: u32) -> Result<Answered, ServerFault>
         requires { n ≡ self.old.facts.last + 1 }
-        ensures acted { IfOk result (λ t. Acts (does_open (seen_activation (λ s. content s.boxed) self.old) states (op.UiActivate grant) (seen_activation (λ s. content s.boxed) self.old).content) (seen_activation (λ s. content s.boxed) self.new) t.answer t.counted) }
-        ensures refused { IfErr result (Refuses (does_open (seen_activation (λ s. content s.boxed) self.old) states (op.UiActivate grant) (seen_activation (λ s. content s.boxed) self.old).content)) }
+        ensures acted { IfOk result (λ t. Acts (does_now (seen_activation (λ s. content s.boxed) self.old) states (op.UiActivate grant)) (seen_activation (λ s. content s.boxed) self.new) t.answer t.counted) }
+        ensures refused { IfErr result (Refuses (does_now (seen_activation (λ s. content s.boxed) self.old) states (op.UiActivate grant))) }
         ensures kept { OnErr result (seen_activation (λ s. content s.boxed) self.new ≡ seen_activation (λ s. content s.boxed) self.old) }
     {
         let (menus, border) = match &self.seat {
@@ -132,8 +130,8 @@ impl Activation {
         option: CloseOption,
     ) -> Result<Answered, ServerFault>
         requires { n ≡ self.old.facts.last + 1 }
-        ensures acted { IfOk result (λ t. Acts (does_open (seen_activation (λ s. content s.boxed) self.old) states (op.Close option) (seen_activation (λ s. content s.boxed) self.old).content) (seen_activation (λ s. content s.boxed) self.new) t.answer t.counted) }
-        ensures refused { IfErr result (Refuses (does_open (seen_activation (λ s. content s.boxed) self.old) states (op.Close option) (seen_activation (λ s. content s.boxed) self.old).content)) }
+        ensures acted { IfOk result (λ t. Acts (does_now (seen_activation (λ s. content s.boxed) self.old) states (op.Close option)) (seen_activation (λ s. content s.boxed) self.new) t.answer t.counted) }
+        ensures refused { IfErr result (Refuses (does_now (seen_activation (λ s. content s.boxed) self.old) states (op.Close option))) }
         ensures kept { OnErr result (seen_activation (λ s. content s.boxed) self.new ≡ seen_activation (λ s. content s.boxed) self.old) }
     {
         match option {
@@ -163,8 +161,8 @@ impl Activation {
         operation: Operation,
     ) -> Result<Answered, ServerFault>
         requires { n ≡ self.old.facts.last + 1 }
-        ensures acted { IfOk result (λ t. Acts (does_open (seen_activation (λ s. content s.boxed) self.old) states operation (seen_activation (λ s. content s.boxed) self.old).content) (seen_activation (λ s. content s.boxed) self.new) t.answer t.counted) }
-        ensures refused { IfErr result (Refuses (does_open (seen_activation (λ s. content s.boxed) self.old) states operation (seen_activation (λ s. content s.boxed) self.old).content)) }
+        ensures acted { IfOk result (λ t. Acts (does_now (seen_activation (λ s. content s.boxed) self.old) states operation) (seen_activation (λ s. content s.boxed) self.new) t.answer t.counted) }
+        ensures refused { IfErr result (Refuses (does_now (seen_activation (λ s. content s.boxed) self.old) states operation)) }
         ensures kept { OnErr result (seen_activation (λ s. content s.boxed) self.new ≡ seen_activation (λ s. content s.boxed) self.old) }
     {
         if self.seat.is_none() {

@@ -1,20 +1,20 @@
 //! What a server does with calls.
 
-ghost use Rattle.std.specs.Prelude.{◌≡◌, ◌++◌, ◌∷◌, [], ℕ, Some, None, Option, true, false, IfErr, IfOk, OnErr, Ok, option_map, is_some, vec_capacity, vec_len, ◌<◌};
+ghost use Rattle.std.specs.Prelude.{◌≡◌, ◌++◌, ◌∷◌, [], Some, None, Option, true, IfErr, IfOk, OnErr, Ok, option_map, is_some, vec_capacity, vec_len, ◌<◌};
 ghost use Rattle.wire_msgs.specs.Found.{IsPlace, find};
 ghost use Rattle.embed_core.specs.Kinds.{Kind, kind_of};
 ghost use Rattle.server_model.specs.Server.{Refuses, Takes, after_begun, begins, begun_class, begun_content, begun_states, called, answers, fresh, offered, is_act, on_call, unknown_call, unless_wanted, wanted, wanted_unknown};
-ghost use Rattle.server_model.specs.Opened.{TakesCall, first_class};
+ghost use Rattle.server_model.specs.Opened.{TakesCall, TakesKnown, first_class};
 ghost use Rattle.server_core.specs.View.{seen};
 ghost use Rattle.wire_msgs.specs.declared.answer.Answer.TheVariants as answer;
 
 use crate::facts::{Answered, Facts};
-use server_model::fault::ServerFault;
 use crate::refusal::{Reaction, Refusal};
 use crate::server::{Activation, Seat, ServerCore};
 use embed_core::embedded::Embedded;
 use embed_core::fault::EmbedFault;
 use object_state::States;
+use server_model::fault::ServerFault;
 use std::alloc::Global;
 use storage_tree::class_id::ClassId;
 use wire_msgs::answer::Answer;
@@ -54,7 +54,7 @@ impl ServerCore {
         operation: Operation,
     ) -> Result<Answered, ServerFault>
         requires { IsPlace (is_act act) (seen (λ s. content s.boxed) self.old).acts i }
-        ensures acted { IfOk result (λ t. (box : Option Kind) → called (seen (λ s. content s.boxed) self.old) act n operation box (find (is_act act) (seen (λ s. content s.boxed) self.old).acts) ≡ Ok (record { server = seen (λ s. content s.boxed) self.new; answer = t.answer; counted = t.counted; used = false })) }
+        ensures acted { IfOk result (λ t. TakesKnown (seen (λ s. content s.boxed) self.old) act n operation (find (is_act act) (seen (λ s. content s.boxed) self.old).acts) (seen (λ s. content s.boxed) self.new) t.answer t.counted) }
         ensures refused { IfErr result (λ e. (box : Option Kind) → Refuses (called (seen (λ s. content s.boxed) self.old) act n operation box (find (is_act act) (seen (λ s. content s.boxed) self.old).acts)) e) }
         ensures kept { OnErr result (seen (λ s. content s.boxed) self.new ≡ seen (λ s. content s.boxed) self.old) }
     {

@@ -2,15 +2,14 @@
 
 ghost use Rattle.std.specs.Prelude.{◌≡◌, ◌+◌, ◌<◌, ◌^◌, Some, None, IfOk, option_map, IsTrue, ◌↔◌};
 ghost use Rattle.object_state.specs.Both as both;
-ghost use Rattle.wire_msgs.specs.Operations.{op_of};
 ghost use Rattle.server_model.specs.Server.{fresh};
 ghost use Rattle.wire_msgs.specs.declared.answer.Answer.TheVariants as answer;
 ghost use Rattle.wire_msgs.specs.declared.message.Message.TheVariants as message;
 ghost use Rattle.object_state.specs.Persists.{may_write};
 
+use object_state::{Menus, Op, StateFault, States};
 use server_model::activation_view::ActivationView;
 use server_model::counted::Counted;
-use object_state::{Menus, Op, StateFault, States};
 use std::alloc::{AllocError, Global};
 use std::marker::Model;
 use storage_tree::class_id::ClassId;

@@ -5,8 +5,8 @@ ghost use Rattle.wire_msgs.specs.Found.{IsPlace, find};
 ghost use Rattle.server_model.specs.Server.{Refuses, Tells, ask_deactivate, is_act, scribble, scribbled};
 ghost use Rattle.server_core.specs.View.{seen};
 
-use server_model::fault::ServerFault;
 use crate::server::ServerCore;
+use server_model::fault::ServerFault;
 use std::alloc::Global;
 use wire_msgs::message::Message;
 

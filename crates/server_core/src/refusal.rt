@@ -2,9 +2,9 @@
 
 ghost use Rattle.std.specs.Prelude.{◌≡◌, Some};
 
+use embed_core::embedded::Embedded;
 use server_model::counted::Counted;
 use server_model::fault::ServerFault;
-use embed_core::embedded::Embedded;
 use wire_msgs::message::Message;
 
 /// What a server did with a call.

@@ -4,13 +4,13 @@ ghost use Rattle.std.specs.Prelude.{◌≡◌, Some, None, [], IfErr, IfOk, Matc
 ghost use Rattle.wire_msgs.specs.Found.{IsPlace, find};
 ghost use Rattle.embed_core.specs.Kinds.{kind_of};
 ghost use Rattle.embed_core.specs.Objects as object;
-ghost use Rattle.server_model.specs.Server.{Server, begun_content, is_act, last_reply, view_of};
+ghost use Rattle.server_model.specs.Server.{begun_content, is_act, last_reply, view_of};
 ghost use Rattle.server_core.specs.View.{seen, seen_activation};
 
-use server_model::activation_view::ActivationView;
 use crate::facts::Facts;
 use embed_core::embedded::Embedded;
 use embed_core::fault::EmbedFault;
+use server_model::activation_view::ActivationView;
 use std::alloc::{AllocError, Global};
 use wire_msgs::message::Message;
 use wire_msgs::operation::Operation;

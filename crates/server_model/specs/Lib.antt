@@ -1,3 +1,4 @@
 pub mod Server
 pub mod Laws
 pub mod Opened
+pub mod FaultNames

@@ -1,5 +1,5 @@
 -- What an activation does with an operation, where it is open.
-use Rattle.std.specs.Prelude.{◌≡◌, ◌+◌, ℕ, Option, Some, None, is_some, Result, Ok, Err, List, length, cond, nat_le}
+use Rattle.std.specs.Prelude.{◌≡◌, ◌+◌, ℕ, Option, Some, None, is_some, false, Result, Ok, Err, List, length, cond, nat_le}
 use Rattle.object_state.specs.Persists.{may_write}
 use Rattle.object_state.specs.declared.both_states.States.{States}
 use Rattle.storage_tree.specs.declared.stored.Stored.{Stored}
@@ -19,6 +19,10 @@ abbrev pub does_open : Activation → States → Operation → Option Content �
 does_open a v op None = Err Ignored
 does_open a v op (Some c) = Ok (does a c v op)
 
+-- the same of the content that it has
+abbrev pub does_now : Activation → States → Operation → Result Acted ServerFault
+does_now a v op = does_open a v op a.content
+
 -- what is stored of the content
 abbrev pub stored_open : Option Content → Result Stored ServerFault
 stored_open None = Err Ignored
@@ -32,6 +36,11 @@ Acts told after answer counted = told ≡ Ok (record { activation = after; answe
 abbrev pub TakesCall : Server → ℕ → ℕ → Operation → Option Kind → Option Activation → Server → Message → Option Counted → Type 0
 TakesCall v act n op box a after reply counted =
     (told : Answer) × (called v act n op box a ≡ Ok (record { server = after; answer = told; counted = counted; used = is_some (wanted_unknown v (begun_class n op) a) })) × (reply ≡ Reply v.inc act n told)
+
+-- a call of a known activation was taken, which uses no object, whatever is handed in
+abbrev pub TakesKnown : Server → ℕ → ℕ → Operation → Option Activation → Server → Answer → Option Counted → Type 0
+TakesKnown v act n op a after told counted =
+    (box : Option Kind) → called v act n op box a ≡ Ok (record { server = after; answer = told; counted = counted; used = false })
 
 -- the class that a call begins an activation of, where the server may have one more
 abbrev pub first_class : Server → Option (List ℕ) → Result (List ℕ) ServerFault

@@ -26,6 +26,25 @@ pub enum ServerFault {
     NoMemory,
 }
 
+impl ServerFault {
+    ghost use Rattle.std.specs.Prelude.{◌≡◌};
+    ghost use Rattle.server_model.specs.FaultNames.{fault_name};
+
+    /// The fault's name, as it is printed.
+    pub fn name(&self) -> &'static str
+        ensures { result.now ≡ fault_name self.now }
+    {
+        match self {
+            ServerFault::WrongIncarnation => "WrongIncarnation",
+            ServerFault::Ignored => "Ignored",
+            ServerFault::NumbersSpent => "NumbersSpent",
+            ServerFault::NeedObject => "NeedObject",
+            ServerFault::WrongClass => "WrongClass",
+            ServerFault::NoMemory => "NoMemory",
+        }
+    }
+}
+
 impl From<AllocError> for ServerFault {
     ghost use Rattle.std.specs.Prelude.{◌≡◌};
     ghost use Rattle.server_model.specs.declared.fault.ServerFault.TheVariants.{NoMemory};

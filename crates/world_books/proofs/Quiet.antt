@@ -1,5 +1,5 @@
 -- Steps of the container that leave its book and its files alone.
-use Rattle.std.proofs.Common.{◌≡◌, ◌||◌, ◌==◌, ℕ, ◌+◌, Bool, true, false, not, List, ◌++◌, length, map, Option, Some, None, is_some, Result, Ok, Err, refl, ap, ◌∙◌, subst, nat_le, nat_lt, if◌then◌else◌}
+use Rattle.std.proofs.Common.{◌≡◌, ◌||◌, ◌==◌, ℕ, ◌+◌, Bool, true, false, not, List, [], ◌++◌, length, map, Option, Some, None, is_some, Result, Ok, Err, refl, ap, ◌∙◌, subst, nat_le, nat_lt, if◌then◌else◌}
 use Rattle.std.proofs.lemmas.Bool.{eqb-true}
 use Rattle.wire_msgs.specs.Found.{find, put, nth}
 use Rattle.wire_msgs.specs.declared.message.Message.{Message}
@@ -108,7 +108,7 @@ reply_quiet_taken r inc act x (Err fault) t f e = cc
 reply_quiet_taken r inc act x (Ok p) t f e =
     let os = put (is_linked inc act) (replied_object x p) r.objects in
     let ids : map id_of os ≡ map id_of r.objects = map_put id_of (is_linked inc act) (replied_object x p) x r.objects f refl in
-    let made : Took = record { rec = settle (replied_record r inc act x p); answer = record quiet_answer { refused = p.refused; actions = sends (next_sent p.link) ++ settle_actions (replied_record r inc act x p) } } in
+    let made : Took = record { rec = settle (replied_record r inc act x p); answer = record quiet_answer { refused = p.refused; actions = sends (next_sent p.link) ++ settle_actions (replied_record r inc act x p) }; counted = [] } in
     let at : made ≡ t = cc in
     subst (IsQuiet r) at (record { frames = settled_same 1 os r.frames; ids = ids; last = refl; frame = refl })
 
@@ -137,7 +137,7 @@ id_reaped inc o (Some l) = elim (l.inc == inc) as (λ b. id_of (if b then record
 pub reap_quiet : (r : Record) (inc : ℕ) (t : Took) → on_reap r inc ≡ Ok t → IsQuiet r t
 reap_quiet r inc t e =
     let v = reaped r inc in
-    let made : Took = record { rec = settle v; answer = acts (settle_actions v) } in
+    let made : Took = record { rec = settle v; answer = acts (settle_actions v); counted = [] } in
     let a : Ok made ≡ Ok t = if_ok (is_alive r inc) (Ok made) NoSuch t e in
     let at : made ≡ t = cc in
     subst (IsQuiet r) at (record { frames = settled_same 1 v.objects r.frames; ids = map_map_same id_of (λ o. reaped_object inc o o.link) r.objects (λ o. id_reaped inc o o.link); last = refl; frame = refl })

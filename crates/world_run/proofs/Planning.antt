@@ -6,7 +6,7 @@ use Rattle.wire_msgs.specs.declared.message.Message.{Message}
 use Rattle.wire_msgs.specs.declared.message.Message.TheVariants.{Call, Reply, Write, Ask}
 use Rattle.wire_msgs.specs.declared.operation.Operation.{Operation}
 use Rattle.server_model.specs.Server.{wanted}
-use Rattle.container_core.specs.Numbered.{IsNth}
+use Rattle.container_model.specs.Numbered.{IsNth}
 use Rattle.world_model.specs.declared.event.Stop.TheVariants.{OutOfStock}
 use Rattle.world_model.specs.declared.life.Life.TheVariants.{Running}
 use Rattle.world_run.specs.declared.plan.Plan.TheVariants.{Serve, Begin}

@@ -8,7 +8,7 @@ use Rattle.embed_core.specs.Kinds.{Kind}
 use Rattle.server_model.specs.Server.{on_call}
 use Rattle.container_model.specs.Messages.{on_message}
 use Rattle.wire_msgs.specs.Found.{find}
-use Rattle.container_core.specs.Numbered.{IsNth}
+use Rattle.container_model.specs.Numbered.{IsNth}
 use Rattle.world_run.specs.declared.plan.Plan.{Plan}
 use Rattle.world_run.specs.declared.plan.Plan.TheVariants.{Quiet, Tell, Serve, Begin}
 use Rattle.world_model.specs.declared.logs.EventAnswer.TheVariants as told

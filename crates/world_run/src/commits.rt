@@ -12,7 +12,7 @@ ghost use Rattle.world_run.specs.Rooms.{most};
 ghost use Rattle.world_run.specs.View.{bare, started};
 
 use crate::host::{Host, Room, add, add_all};
-use container_model::answer::Part;
+use container_model::answer::{Committed, Part};
 use container_model::fault::ContainerFault;
 use container_model::record::{Frame, Phase};
 use std::alloc::{AllocError, Global};
@@ -124,7 +124,9 @@ impl Host {
         self.files.reserve(1)?;
         self.container_done.reserve(entries.len())?;
         match self.core.commit_done(alloc, f) {
-            Ok(answer) => {
+            Ok(committed) => {
+                let Committed { answer, counted } = committed;
+                drop(counted);
                 put_file(&mut self.files, name, Bytes::from_vec(bytes));
                 add_all(&mut self.container_done, entries);
                 set_counted(&mut self.counted, f, Document { k, parts });

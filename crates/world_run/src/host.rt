@@ -4,6 +4,7 @@ ghost use Rattle.std.specs.Prelude.{[], ◌∷◌, ◌++◌, ◌+◌, ◌≤◌,
 ghost use Rattle.std.specs.List.{range_with_len};
 ghost use Rattle.container_model.specs.Commands.{on_command};
 ghost use Rattle.container_model.specs.Messages.{on_message, on_reap};
+ghost use Rattle.container_model.specs.Record.{counts_none};
 ghost use Rattle.world_model.specs.World.{messages_of, commits_of, of_container, joined, uncounted, took, owner, counted_by, quiet_outcome, limited, commanded, owners_by, empty_world, Refuses, MOST_EVENTS};
 ghost use Rattle.world_model.specs.declared.logs.EventAnswer.TheVariants as told;
 ghost use Rattle.world_run.specs.Starts.{starts_of};
@@ -192,7 +193,7 @@ impl Host {
     pub(crate) fn join(&mut self, answer: Answer, room: Room) -> Vec<u32>
         requires logs { HasLogRoom (length answer.actions) self.old }
         requires room { IsRoom (length answer.actions) room }
-        ensures joined { joined (bare self.old) (record { rec = self.old.core; answer = answer }) ≡ started (bare self.new) self.old.core.numbers result.items }
+        ensures joined { joined (bare self.old) (counts_none self.old.core answer) ≡ started (bare self.new) self.old.core.numbers result.items }
         ensures few { length result.items ≤ length answer.actions }
     {
         let Answer {

@@ -1,7 +1,7 @@
 //! What a world is made of, and the events that happen in it.
 
 ghost use Rattle.std.specs.Prelude.{◌≡◌, ◌≤◌, ◌<◌, ◌+◌, ◌++◌, [], List, ℕ, IfErr, IfOk, IfSome, IsSome, MatchOption, None, OnErr, OnOk, Ok, Err, Some, length, map, option_map, slice_get, take, vec_len, vec_capacity};
-ghost use Rattle.container_core.specs.Numbered.{IsNth};
+ghost use Rattle.container_model.specs.Numbered.{IsNth};
 ghost use Rattle.wire_msgs.specs.Found.{nth, set_nth};
 ghost use Rattle.embed_core.specs.Kinds.{kind_of};
 ghost use Rattle.world_model.specs.declared.event.Event.{Event};

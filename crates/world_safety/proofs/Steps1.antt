@@ -176,7 +176,7 @@ edit_moves_linked r acts lives owners n bytes x frame (Some l0) t d f at idle un
     let free : l0.pending ≡ None = unasked l0 (ap is_asked (sym xl) ∙ un) in
     let new : Link = record l0 { last = l0.last + 1; pending = Some op } in
     let asks : ask l0 op ≡ record { link = new; sent = Call l0.inc l0.act (l0.last + 1) op ∷ [] } = ap (ask_at l0 op) free in
-    let made : Took = record { rec = with_object r (record x { link = Some new }); answer = (edited r x l0 bytes).answer } in
+    let made : Took = record { rec = with_object r (record x { link = Some new }); answer = (edited r x l0 bytes).answer; counted = [] } in
     let at_made : made ≡ edited r x l0 bytes = rw asks refl in
     let was : Phased Idle l0 = subst (λ v. Phased v l0) idle (ph n x l0 frame f xl at) in
     subst (λ (v : Took). Moves r acts lives owners v × (v.rec.last_act ≡ r.last_act) × NoCompletion v) (at_made ∙ is) (

@@ -390,7 +390,7 @@ module _ (r : Record) (acts0 : Acts) (lives : Lives) (owners : List ℕ) (sent :
             let was : Phased fr.phase l = ph x.number x l fr (find_number r.objects x d (find_among (is_linked inc act) r.objects x found)) xl at in
             subst (Phased fr.phase) am (in_phase fr.phase after was s)
 
-    pub reply_made : Moves r acts0 lives owners (record { rec = settle (replied_record r inc act x p); answer = record quiet_answer { refused = p.refused; actions = sends (next_sent p.link) ++ settle_actions (replied_record r inc act x p) } })
+    pub reply_made : Moves r acts0 lives owners (record { rec = settle (replied_record r inc act x p); answer = record quiet_answer { refused = p.refused; actions = sends (next_sent p.link) ++ settle_actions (replied_record r inc act x p) }; counted = [] })
     reply_made = record {
       came = came_reply;
       sends = λ m h. (let g : Among (next_sent p.link) m = subst (λ v. Among v m) (sent_of (next_sent p.link) 1 objects r.frames) h in absurd (subst (λ v. Among v m) no_next g));
@@ -407,7 +407,7 @@ module _ (r : Record) (acts0 : Acts) (lives : Lives) (owners : List ℕ) (sent :
   reply_taken_moves x (Err fault) t f g e = cc
   reply_taken_moves x (Ok p) t f g e =
       let k = passed_link n x.link answer p g in
-      let made : Took = record { rec = settle (replied_record r inc act x p); answer = record quiet_answer { refused = p.refused; actions = sends (next_sent p.link) ++ settle_actions (replied_record r inc act x p) } } in
+      let made : Took = record { rec = settle (replied_record r inc act x p); answer = record quiet_answer { refused = p.refused; actions = sends (next_sent p.link) ++ settle_actions (replied_record r inc act x p) }; counted = [] } in
       let is : made ≡ t = cc in
       subst (λ v. Moves r acts0 lives owners v × (v.rec.last_act ≡ r.last_act) × NoCompletion v) is (reply_made x p k.0 k.1 f k.2 k.3 k.4 k.5, refl, reply_quiet x p k.0 k.1 f k.2 k.3 k.4 k.5)
 

@@ -111,7 +111,7 @@ insert_moves r acts0 lives owners f kind area t e ph = insert_moves_in r acts0 l
 pub reap_moves : (r : Record) (acts0 : Acts) (lives : Lives) (owners : List ℕ) (inc : ℕ) (t : Took) → on_reap r inc ≡ Ok t → AllPhased r → (lives inc ≡ Some Running → ⊥) → Moves r acts0 lives owners t × (t.rec.last_act ≡ r.last_act) × NoCompletion t
 reap_moves r acts0 lives owners inc t e ph stopped =
     let v = reaped r inc in
-    let made : Took = record { rec = settle v; answer = acts (settle_actions v) } in
+    let made : Took = record { rec = settle v; answer = acts (settle_actions v); counted = [] } in
     let is : made ≡ t = passed (is_alive r inc) made e in
     subst (λ x. Moves r acts0 lives owners x × (x.rec.last_act ≡ r.last_act) × NoCompletion x) is (
       record {

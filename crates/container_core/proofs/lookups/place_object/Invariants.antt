@@ -1,4 +1,4 @@
-use Rattle.container_core.specs.Numbered.{IsPast}
+use Rattle.container_model.specs.Numbered.{IsPast}
 use Rattle.container_model.specs.Record.{is_object}
 use Rattle.container_core.proofs.lookups.place_object.Given as goal
 

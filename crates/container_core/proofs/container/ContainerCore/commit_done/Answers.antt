@@ -1,15 +1,15 @@
 use Rattle.std.proofs.Common.{◌≡◌, ℕ, List, map, Some, Ok, Result, sym, ◌∙◌, ap, subst}
 use Rattle.wire_msgs.specs.Found.{nth}
 use Rattle.wire_msgs.specs.declared.operation.Operation.{Operation}
-use Rattle.container_core.specs.Asking.{IsAsking}
-use Rattle.container_core.specs.Numbered.{IsNth}
+use Rattle.container_links.specs.Asking.{IsAsking}
+use Rattle.container_model.specs.Numbered.{IsNth}
 use Rattle.container_model.specs.Record.{Record, Took, asked_all, sends}
-use Rattle.container_laws.specs.Room.{IsSound}
+use Rattle.container_model.specs.Room.{IsSound}
 use Rattle.container_model.specs.Saves.{commit_made, completed, completion}
 use Rattle.container_model.specs.declared.fault.ContainerFault.{ContainerFault}
 use Rattle.container_model.specs.declared.record.Frame.{Frame}
 use Rattle.container_model.specs.declared.record.Object.{Object}
-use Rattle.container_core.proofs.CommitsDone.{after_is, answer_is, frame_here, sound_made, took_is}
+use Rattle.container_core.proofs.CommitsDone.{after_is, answer_is, counted_is, frame_here, sound_made, took_is}
 use Rattle.container_core.proofs.container.ContainerCore.commit_done.Goals as goal
 
 pub invariant_of-self : goal.invariant_of-self
@@ -45,4 +45,5 @@ returns-clause-taken c =
     let ok : Took → Result Took ContainerFault = λ t. Ok t in
     (c.in_ok-place.ensures.told frame there).1
     ∙ ap (λ (x : Record). ok (commit_made x f frame)) (sym view)
-    ∙ ap ok (took_is _ (commit_made r f frame) _ after (answer_is c.quiet-answer.result c.from_vec.result (sends (asked_all f (completion frame) r.objects)) c.quiet-answer.ensures (c.from_vec.ensures ∙ asking.sent)))
+    ∙ ap ok (took_is _ (commit_made r f frame) _ _ after (answer_is c.quiet-answer.result c.from_vec.result (sends (asked_all f (completion frame) r.objects)) c.quiet-answer.ensures (c.from_vec.ensures ∙ asking.sent))
+    (counted_is r f c.in_ok-place.place frame c.index-2.result.now c.as_slice-2.result.now c.in-Ok-entries.counted.items c.from_vec-2.result place c.index.ensures c.index-2.ensures c.as_slice-2.ensures.value c.in-Ok-entries.ensures c.from_vec-2.ensures))

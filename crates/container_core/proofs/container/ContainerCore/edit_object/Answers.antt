@@ -1,4 +1,4 @@
-use Rattle.std.proofs.Common.{◌≡◌, ◌≤◌, ◌<◌, refl, rules, arith}
+use Rattle.std.proofs.Common.{refl}
 use Rattle.container_core.proofs.CommandsEdit.{edit_refused, edit_taken, sound_changed}
 use Rattle.container_core.proofs.container.ContainerCore.edit_object.Goals as goal
 

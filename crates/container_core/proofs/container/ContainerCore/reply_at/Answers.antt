@@ -2,8 +2,8 @@ use Rattle.std.proofs.Common.{◌≡◌, Some, slice_get, slice_set, ap, subst, 
 use Rattle.std.proofs.lemmas.Option.{slice_get-get_or}
 use Rattle.wire_msgs.specs.Found.{IsPlace}
 use Rattle.container_model.specs.Record.{Record, is_linked}
-use Rattle.container_laws.specs.Replies.{Went}
-use Rattle.container_laws.proofs.MessageReplies.{reply_made}
+use Rattle.container_model.specs.Replies.{Went}
+use Rattle.container_links.proofs.MessageReplies.{reply_made}
 use Rattle.container_core.proofs.MessageSound.{reply_sound, settled_sound}
 use Rattle.container_core.proofs.container.ContainerCore.reply_at.Goals as goal
 

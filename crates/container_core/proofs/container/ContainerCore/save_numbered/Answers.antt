@@ -1,9 +1,9 @@
-use Rattle.std.proofs.Common.{◌≡◌, ◌≤◌, ◌<◌, ◌+◌, ℕ, List, true, map, refl, rules, arith, sym, ◌∙◌, ap, subst, set, ◌++◌}
+use Rattle.std.proofs.Common.{◌≡◌, ◌+◌, ℕ, List, true, map, arith, sym, ◌∙◌, ap, subst, set, ◌++◌}
 use Rattle.container_model.specs.Saves.{settled_actions}
 use Rattle.wire_msgs.specs.declared.operation.Operation.TheVariants.{Save}
-use Rattle.container_core.specs.Asking.{IsAsking}
+use Rattle.container_links.specs.Asking.{IsAsking}
 use Rattle.container_model.specs.Commands.{all_have_numbers}
-use Rattle.container_core.specs.Numbered.{IsNth}
+use Rattle.container_model.specs.Numbered.{IsNth}
 use Rattle.container_model.specs.Record.{Record, acts, asked_object}
 use Rattle.container_model.specs.declared.record.Frame.{Frame}
 use Rattle.container_model.specs.declared.record.Object.{Object}

@@ -1,5 +1,5 @@
 use Rattle.std.proofs.Common.{◌≡◌, ◌∙◌, sym}
-use Rattle.container_core.specs.Numbered.{IsNth}
+use Rattle.container_model.specs.Numbered.{IsNth}
 use Rattle.world_model.specs.declared.life.Life.TheVariants.{Running}
 use Rattle.world_run.specs.View.{seen, seen_instance}
 use Rattle.world_run.proofs.Servers.{nth_at, seen_nth}

@@ -1,2 +1,0 @@
-pub mod Numbered
-pub mod Asking

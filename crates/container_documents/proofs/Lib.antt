@@ -1,0 +1,2 @@
+pub mod DocumentsTree
+pub mod DocumentsRoom

@@ -1,0 +1,4 @@
+//! The documents of frames, and the files that hold them.
+#![tactic(auto)]
+
+pub mod documents;

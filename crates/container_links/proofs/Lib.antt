@@ -1,0 +1,2 @@
+pub mod AskingAll
+pub mod MessageReplies

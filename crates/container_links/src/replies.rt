@@ -1,0 +1,225 @@
+//! What an answer makes of an object's link, and what is called next.
+
+ghost use Rattle.std.specs.Prelude.{◌≡◌, ◌+◌, ◌≤◌, IfErr, IfOk, OnErr, Ok, Some, None, length, vec_len, vec_capacity};
+ghost use Rattle.object_state.specs.Both as both;
+ghost use Rattle.container_model.specs.Record.{Refuses, sends};
+ghost use Rattle.container_model.specs.Messages.{done_link, lost, next_at, noted, reply_link, saved_link};
+ghost use Rattle.container_model.specs.Replies.{first_call, went};
+ghost use Rattle.container_model.specs.Room.{IfLinked, IsRoomy};
+
+use container_model::answer::Action;
+use container_model::fault::ContainerFault;
+use container_model::record::Link;
+use object_state::Op;
+use std::alloc::{AllocError, Global};
+use storage_tree::stored::Stored;
+use wire_msgs::answer::Answer;
+use wire_msgs::message::Message;
+use wire_msgs::operation::Operation;
+use wire_msgs::refusal::Refusal;
+
+/// What a reply gives.
+#[derive(Drop)]
+pub struct Replied {
+    /// Why the object refused the call.
+    pub refused: Option<Refusal>,
+    /// The call that is sent next, if any.
+    pub actions: Vec<Action>,
+}
+
+// The call of the first operation that waits.
+fn next_call(alloc: Global, link: &Link) -> Result<Option<Action>, AllocError>
+    requires { link.now.last + length link.now.waiting ≤ 1000000 }
+    ensures { IfOk result (λ a. first_call link.now link.now.waiting ≡ a) }
+{
+    match link.waiting.as_slice().first() {
+        None => Ok(None),
+        Some(operation) => Ok(Some(Action::Send(Message::Call {
+            inc: link.inc,
+            act: link.act,
+            n: link.last + 1,
+            operation: operation.copy(alloc)?,
+        }))),
+    }
+}
+
+// The first operation that waits is pending, or none is.
+fn go_on(link: &mut Link)
+    requires { link.old.last + length link.old.waiting ≤ 1000000 }
+    ensures { link.new ≡ (next_at (record link.old { pending = None }) link.old.waiting).link }
+{
+    link.pending = link.waiting.take_first();
+    if link.pending.is_some() {
+        link.last += 1;
+    }
+}
+
+// The call that is sent next, in a list with room for so many actions more.
+fn next_actions(alloc: Global, link: &Link, more: usize) -> Result<Vec<Action>, AllocError>
+    requires numbers { link.now.last + length link.now.waiting ≤ 1000000 }
+    requires few { more ≤ 1000000 }
+    ensures sent { IfOk result (λ v. v.items ≡ sends (next_at link.now link.now.waiting).sent) }
+    ensures few { IfOk result (λ v. vec_len v ≤ 1) }
+    ensures room { IfOk result (λ v. vec_len v + more ≤ vec_capacity v) }
+{
+    let mut actions = Vec::with_capacity(alloc, more + 1)?;
+    if let Some(call) = next_call(alloc, link)? {
+        match actions.push(call) {
+            Ok(()) => {}
+            Err(_) => unreachable!(),
+        }
+    }
+    Ok(actions)
+}
+
+// An operation was done, with this storage grant after it.
+fn done(
+    alloc: Global,
+    link: &mut Link,
+    op: Op,
+    s: u32,
+    more: usize,
+) -> Result<Replied, ContainerFault>
+    requires numbers { link.old.last + length link.old.waiting ≤ 1000000 }
+    requires few { more ≤ 1000000 }
+    ensures taken { IfOk result (λ t. went (done_link link.old s (both.step link.old.states op)) ≡ Ok (record { link = Some link.new; refused = t.refused; actions = t.actions.items })) }
+    ensures few { IfOk result (λ t. vec_len t.actions ≤ 1) }
+    ensures room { IfOk result (λ t. vec_len t.actions + more ≤ vec_capacity t.actions) }
+    ensures refused { IfErr result (Refuses (done_link link.old s (both.step link.old.states op))) }
+    ensures kept { OnErr result (link.new ≡ link.old) }
+{
+    let Ok(states) = link.states.step(op) else {
+        return Err(ContainerFault::BadAnswer);
+    };
+    let Ok(actions) = next_actions(alloc, link, more) else {
+        return Err(ContainerFault::NoMemory);
+    };
+    go_on(link);
+    link.states = states;
+    link.s = s;
+    Ok(Replied {
+        refused: None,
+        actions,
+    })
+}
+
+// An operation was done and answered the content.
+fn saved(
+    alloc: Global,
+    link: &mut Link,
+    op: Op,
+    content: Stored,
+    more: usize,
+) -> Result<Replied, ContainerFault>
+    requires numbers { link.old.last + length link.old.waiting ≤ 1000000 }
+    requires few { more ≤ 1000000 }
+    ensures taken { IfOk result (λ t. went (saved_link content (done_link link.old link.old.s (both.step link.old.states op))) ≡ Ok (record { link = Some link.new; refused = t.refused; actions = t.actions.items })) }
+    ensures few { IfOk result (λ t. vec_len t.actions ≤ 1) }
+    ensures room { IfOk result (λ t. vec_len t.actions + more ≤ vec_capacity t.actions) }
+    ensures refused { IfErr result (Refuses (saved_link content (done_link link.old link.old.s (both.step link.old.states op)))) }
+    ensures kept { OnErr result (link.new ≡ link.old) }
+{
+    let s = link.s;
+    match done(alloc, link, op, s, more) {
+        Ok(replied) => {
+            link.saved = Some(content);
+            Ok(replied)
+        }
+        Err(fault) => Err(fault),
+    }
+}
+
+// The refusal of an operation is noted, and all else stays.
+fn noted(
+    alloc: Global,
+    link: &mut Link,
+    why: Refusal,
+    more: usize,
+) -> Result<Replied, ContainerFault>
+    requires numbers { link.old.last + length link.old.waiting ≤ 1000000 }
+    requires few { more ≤ 1000000 }
+    ensures taken { IfOk result (λ t. went (noted link.old why) ≡ Ok (record { link = Some link.new; refused = t.refused; actions = t.actions.items })) }
+    ensures few { IfOk result (λ t. vec_len t.actions ≤ 1) }
+    ensures room { IfOk result (λ t. vec_len t.actions + more ≤ vec_capacity t.actions) }
+    ensures refused { IfErr result (Refuses (noted link.old why)) }
+    ensures kept { OnErr result (link.new ≡ link.old) }
+{
+    let Ok(actions) = next_actions(alloc, link, more) else {
+        return Err(ContainerFault::NoMemory);
+    };
+    go_on(link);
+    Ok(Replied {
+        refused: Some(why),
+        actions,
+    })
+}
+
+// The object is passive again.
+fn lost(
+    alloc: Global,
+    link: &mut Option<Link>,
+    why: Refusal,
+    more: usize,
+) -> Result<Replied, ContainerFault>
+    requires { more ≤ 1000000 }
+    ensures taken { IfOk result (λ t. went (lost why) ≡ Ok (record { link = link.new; refused = t.refused; actions = t.actions.items })) }
+    ensures few { IfOk result (λ t. vec_len t.actions ≤ 1) }
+    ensures room { IfOk result (λ t. vec_len t.actions + more ≤ vec_capacity t.actions) }
+    ensures refused { IfErr result (Refuses (lost why)) }
+    ensures kept { OnErr result (link.new ≡ link.old) }
+{
+    let Ok(actions) = Vec::with_capacity(alloc, more) else {
+        return Err(ContainerFault::NoMemory);
+    };
+    *link = None;
+    Ok(Replied {
+        refused: Some(why),
+        actions,
+    })
+}
+
+/// The answer to the call of this number; then the first operation that waits is called. The actions have room for so
+/// many more.
+///
+/// Refused as stale unless the call is pending, as a bad answer if it doesn't fit the operation or its states, and last
+/// for want of memory. Then nothing changes.
+pub fn told(
+    alloc: Global,
+    link: &mut Option<Link>,
+    n: u32,
+    answer: Answer,
+    more: usize,
+) -> Result<Replied, ContainerFault>
+    requires numbers { IfLinked (IsRoomy 1000000 0) link.old }
+    requires few { more ≤ 1000000 }
+    ensures taken { IfOk result (λ t. went (reply_link n answer link.old) ≡ Ok (record { link = link.new; refused = t.refused; actions = t.actions.items })) }
+    ensures few { IfOk result (λ t. vec_len t.actions ≤ 1) }
+    ensures room { IfOk result (λ t. vec_len t.actions + more ≤ vec_capacity t.actions) }
+    ensures refused { IfErr result (Refuses (reply_link n answer link.old)) }
+    ensures kept { OnErr result (link.new ≡ link.old) }
+{
+    let Some(l) = link else {
+        return Err(ContainerFault::Stale);
+    };
+    let Some(operation) = &l.pending else {
+        return Err(ContainerFault::Stale);
+    };
+    if n != l.last {
+        return Err(ContainerFault::Stale);
+    }
+    let op = operation.op();
+    let s = l.s;
+    match (operation, answer) {
+        (Operation::InitNew(_) | Operation::Load(_, _), Answer::Done) => done(
+            alloc, l, op, 1, more,
+        ),
+        (Operation::InitNew(_) | Operation::Load(_, _), Answer::Refused(why)) => lost(
+            alloc, link, why, more,
+        ),
+        (Operation::Edit(_), Answer::Done) => done(alloc, l, op, s, more),
+        (Operation::Edit(_), Answer::Refused(why)) => noted(alloc, l, why, more),
+        (Operation::Save(_), Answer::Content(content)) => saved(alloc, l, op, content, more),
+        (Operation::SaveCompleted { .. }, Answer::Done) => done(alloc, l, op, s + 1, more),
+        _ => Err(ContainerFault::BadAnswer),
+    }
+}

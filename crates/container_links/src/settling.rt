@@ -1,0 +1,97 @@
+//! How saves go on once nothing is waited for.
+
+ghost use Rattle.std.specs.Prelude.{◌≡◌, ◌+◌, ◌≤◌, ◌<◌, ◌++◌, length, vec_len, vec_capacity};
+ghost use Rattle.container_model.specs.Saves.{awaits, is_awaited_link, is_ready, settled_action, settled_actions, settled_frame, settled_frames};
+
+use container_model::answer::Action;
+use container_model::record::{Frame, Link, Object, Phase};
+
+// Whether a save waits for the object of this link.
+fn is_awaited(link: &Option<Link>) -> bool
+    ensures { result ≡ is_awaited_link link.now }
+{
+    match link {
+        Some(link) => link.saved.is_none(),
+        None => false,
+    }
+}
+
+// Whether a save of the frame waits for an object.
+fn awaits(frame: u32, objects: &[Object]) -> bool
+    ensures { result ≡ awaits frame objects.now }
+{
+    for object in objects {
+        if object.frame == frame && is_awaited(&object.link) {
+            return true;
+        }
+    }
+    false
+}
+
+// Whether a frame goes on to its commit.
+fn is_ready(number: u32, frame: &Frame, objects: &[Object]) -> bool
+    ensures { result ≡ is_ready number objects.now frame.now }
+{
+    match frame.phase {
+        Phase::Saving => !awaits(number, objects),
+        _ => false,
+    }
+}
+
+// Asks for the commit of a frame that goes on.
+fn push_commit(actions: &mut Vec<Action>, number: u32, frame: &Frame, objects: &[Object])
+    requires { vec_len actions.old < vec_capacity actions.old }
+    ensures pushed { actions.new.items ≡ actions.old.items ++ settled_action number objects.now frame.now }
+    ensures few { vec_len actions.new ≤ vec_len actions.old + 1 }
+    ensures room { vec_capacity actions.old ≤ vec_capacity actions.new }
+{
+    if is_ready(number, frame, objects) {
+        match actions.push(Action::Commit(number)) {
+            Ok(()) => {}
+            Err(_) => unreachable!(),
+        }
+    }
+}
+
+// Asks for the commits of the frames that go on.
+fn push_commits(actions: &mut Vec<Action>, frames: &[Frame], objects: &[Object])
+    requires room { vec_len actions.old + length frames.now ≤ vec_capacity actions.old }
+    requires few { length frames.now ≤ 1000000 }
+    ensures asked { actions.new.items ≡ actions.old.items ++ settled_actions 1 objects.now frames.now }
+    ensures few { vec_len actions.new ≤ vec_len actions.old + length frames.now }
+{
+    for (i, frame) in frames.iter().enumerate() {
+        push_commit(actions, i as u32 + 1, frame, objects);
+    }
+}
+
+// A frame that goes on.
+fn settle_frame(number: u32, frame: &mut Frame, objects: &[Object])
+    ensures { frame.new ≡ settled_frame number objects.now frame.old }
+{
+    if is_ready(number, frame, objects) {
+        frame.phase = Phase::Committing;
+    }
+}
+
+// The frames that go on.
+fn settle_slice(frames: &mut [Frame], objects: &[Object])
+    requires { length frames.old ≤ 1000000 }
+    ensures { frames.new ≡ settled_frames 1 objects.now frames.old }
+{
+    for (i, frame) in frames.iter_mut().enumerate() {
+        settle_frame(i as u32 + 1, frame, objects);
+    }
+}
+
+/// Saves go on, by rising frame, and their commits are asked for. It takes no memory.
+pub fn settle_into(actions: &mut Vec<Action>, frames: &mut Vec<Frame>, objects: &Vec<Object>)
+    requires room { vec_len actions.old + length frames.old.items ≤ vec_capacity actions.old }
+    requires few { length frames.old.items ≤ 1000000 }
+    ensures asked { actions.new.items ≡ actions.old.items ++ settled_actions 1 objects.now.items frames.old.items }
+    ensures few { vec_len actions.new ≤ vec_len actions.old + length frames.old.items }
+    ensures settled { frames.new.items ≡ settled_frames 1 objects.now.items frames.old.items }
+{
+    push_commits(actions, frames.as_slice(), objects.as_slice());
+    settle_slice(frames, objects.as_slice());
+}
