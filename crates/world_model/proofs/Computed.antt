@@ -2,7 +2,7 @@
 use Rattle.std.proofs.Common.{refl}
 use Rattle.std.specs.Fmt.{digits}
 use Rattle.world_model.specs.Report.{frame_line, object_line, done_line}
-use Rattle.world_model.specs.Runs.{IsSaved, IsLost, IsKept, IsRepeated, IsReloaded, IsMisedited, IsLimited, IsSpelled, IsWorked}
+use Rattle.world_model.specs.Runs.{IsSaved, IsLost, IsKept, IsRepeated, IsReloaded, IsMisedited, IsLimited, IsSpelled, HasFile, IsWorked}
 
 pub is_saved : IsSaved
 unfolding digits frame_line object_line done_line
@@ -34,5 +34,8 @@ pub is_spelled : IsSpelled
 unfolding digits frame_line
 is_spelled = record { in_doubt = refl; streams = refl; empty = refl }
 
+pub has_file : HasFile
+has_file = record { stored = refl; in_doubt = refl }
+
 pub is_worked : IsWorked
-is_worked = record { is_saved = is_saved; is_lost = is_lost; is_kept = is_kept; is_repeated = is_repeated; is_reloaded = is_reloaded; is_misedited = is_misedited; is_limited = is_limited; is_spelled = is_spelled }
+is_worked = record { is_saved = is_saved; is_lost = is_lost; is_kept = is_kept; is_repeated = is_repeated; is_reloaded = is_reloaded; is_misedited = is_misedited; is_limited = is_limited; is_spelled = is_spelled; has_file = has_file }

@@ -6,7 +6,7 @@ use Rattle.storage_tree.specs.declared.streams.NamedStream.{NamedStream}
 use Rattle.grant_core.specs.declared.grant_states.GrantState.TheVariants.{Granting}
 use Rattle.object_parts.specs.declared.area.Area.{Area}
 use Rattle.container_model.specs.declared.record.Frame.{Frame}
-use Rattle.container_model.specs.declared.record.Phase.TheVariants.{InDoubt}
+use Rattle.container_model.specs.declared.record.Phase.TheVariants.{Idle, InDoubt}
 use Rattle.container_model.specs.declared.command.Command.TheVariants.{New, Insert, Start, Run, Edit, Save}
 use Rattle.container_model.specs.declared.command.ObjectKind.TheVariants as chosen
 use Rattle.container_model.specs.declared.fault.ContainerFault.TheVariants.{Busy, Full, Stale}
@@ -18,7 +18,7 @@ use Rattle.world_model.specs.declared.logs.EventAnswer.{EventAnswer}
 use Rattle.wire_msgs.specs.declared.refusal.Refusal.TheVariants.{BadEdit}
 use Rattle.world_model.specs.declared.logs.EventAnswer.TheVariants.{Took, Refused}
 use Rattle.world_model.specs.StopNames.{stop_name}
-use Rattle.world_model.specs.World.{World, empty_world, quiet_outcome, step}
+use Rattle.world_model.specs.World.{World, empty_world, frame_file_in, quiet_outcome, step}
 use Rattle.world_model.specs.Report.{report, frame_line, content_text}
 
 -- the world after these events, where each commit that is done makes no bytes the file
@@ -180,6 +180,14 @@ pub record IsSpelled : Type 0 where
   pub streams : content_text (stream (1 ∷ 65 ∷ []) [] ∷ stream (codes "Cells") (195 ∷ 191 ∷ 48 ∷ []) ∷ []) ≡ 92 ∷ codes "01A= Cells=c3bf30"
   pub empty : content_text [] ≡ codes "-"
 
+-- A stored frame has its file, and none while it is in doubt whether its last commit was done.
+abbrev pub filed : World
+filed = record (empty_world 1 []) { files = record { name = codes "b c"; bytes = 7 ∷ [] } ∷ [] }
+
+pub record HasFile : Type 0 where
+  pub stored : frame_file_in filed (Some (record granting { phase = Idle })) ≡ Some (7 ∷ [])
+  pub in_doubt : frame_file_in filed (Some granting) ≡ None
+
 pub record IsWorked : Type 0 where
   pub is_saved : IsSaved
   pub is_lost : IsLost
@@ -189,3 +197,4 @@ pub record IsWorked : Type 0 where
   pub is_misedited : IsMisedited
   pub is_limited : IsLimited
   pub is_spelled : IsSpelled
+  pub has_file : HasFile

@@ -35,6 +35,17 @@ pub struct Sent {
     pub view: Option<View>,
 }
 
+/// A content that the container counted.
+#[derive(Drop)]
+pub struct Done {
+    /// The object.
+    pub object: u32,
+    /// The number of the save.
+    pub k: u32,
+    /// The content.
+    pub content: Stored,
+}
+
 /// A content that a server counted.
 #[derive(Drop)]
 pub struct ServerDone {
@@ -112,6 +123,6 @@ pub enum EventAnswer {
     Took(Outcome),
     /// The container refused it.
     Refused(ContainerFault),
-    /// The server did nothing with it.
-    Unheard(ServerFault),
+    /// The server did nothing with it, and dropped it.
+    Dropped(ServerFault),
 }

@@ -4,6 +4,7 @@ use Rattle.std.specs.List.{range_with_len}
 use Rattle.container_model.specs.declared.answer.Action.{Action}
 use Rattle.container_model.specs.declared.answer.Action.TheVariants.{Send, Start, End, Commit}
 use Rattle.container_model.specs.declared.answer.Answer.{Answer}
+use Rattle.container_model.specs.Record.{counts_none}
 use Rattle.world_model.specs.declared.logs.Sent.{Sent}
 use Rattle.world_model.specs.declared.logs.Document.{Document}
 use Rattle.world_model.specs.declared.logs.EventAnswer.{EventAnswer}
@@ -33,5 +34,5 @@ pub joins : (w : World) (a : Answer) (sent : List Sent) (starts places commits :
     → commits ≡ commits_of a.actions
     → answers ≡ w.answers ++ told.Took (record { frame = a.frame; objects = a.objects; server = a.server; taken = a.taken; refused = a.refused; no_tools = a.no_tools; sent = places; commits = commits }) ∷ []
     → counted ≡ w.counted ++ uncounted a.frame
-    → joined (record w { instances = [] }) (record { rec = w.rec; answer = a }) ≡ started (record w { sent = sent; answers = answers; counted = counted }) w.rec.numbers starts
+    → joined (record w { instances = [] }) (counts_none w.rec a) ≡ started (record w { sent = sent; answers = answers; counted = counted }) w.rec.numbers starts
 joins w a sent starts places commits answers counted es et ep ec ea en = rw (started_starts w.rec.numbers a.actions, es, ea, et, ep, ec, en) refl

@@ -52,16 +52,16 @@ serve_taken w b inc act n op stock kind o z is back box after view reply counted
     ∙ (ap (λ r. Ok (served w inc act n z stock r)) (ap (on_call z.core (Call inc act n op)) ek ∙ t.1)
     ∙ rw (eb, ei, ev, t.2, es) refl)
 
-pub serve_unheard : (w b : World) (inc act n : ℕ) (op : Operation) (stock : List Kind) (kind : Option Kind) (o : Option Instance) (z : Instance) (is : List Instance) (back : List Kind) (box : Option Kind) (fault : ServerFault)
+pub serve_dropped : (w b : World) (inc act n : ℕ) (op : Operation) (stock : List Kind) (kind : Option Kind) (o : Option Instance) (z : Instance) (is : List Instance) (back : List Kind) (box : Option Kind) (fault : ServerFault)
     → o ≡ Some z
     → nat_le MOST_EVENTS (length w.answers) ≡ false
     → kind ≡ box
     → on_call z.core (Call inc act n op) box ≡ Err fault
-    → b ≡ record (emptied w) { answers = w.answers ++ told.Unheard fault ∷ [] }
+    → b ≡ record (emptied w) { answers = w.answers ++ told.Dropped fault ∷ [] }
     → is ≡ w.instances
     → back ≡ w.stock
     → limited w (serving w inc act n op stock kind o) ≡ Ok (record b { instances = is; stock = back })
-serve_unheard w b inc act n op stock kind o z is back box fault e free ek t eb ei es =
+serve_dropped w b inc act n op stock kind o z is back box fault e free ek t eb ei es =
     served_some w inc act n op stock kind o z e free
     ∙ (ap (λ r. Ok (served w inc act n z stock r)) (ap (on_call z.core (Call inc act n op)) ek ∙ t)
     ∙ rw (eb, ei, es) refl)

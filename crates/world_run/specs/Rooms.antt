@@ -8,15 +8,15 @@ use Rattle.world_model.specs.declared.event.Stop.TheVariants.{NotEnabled, OutOfS
 use Rattle.world_model.specs.declared.logs.View.{View}
 use Rattle.world_model.specs.declared.logs.EventAnswer.TheVariants as told
 use Rattle.world_model.specs.World.{World, quiet_outcome, places, counted_by}
-use Rattle.world_run.specs.declared.ledger.Ledger.{Ledger}
-use Rattle.world_run.specs.declared.ledger.Room.{Room}
+use Rattle.world_run.specs.declared.host.Host.{Host}
+use Rattle.world_run.specs.declared.host.Room.{Room}
 
 -- no step of the container asks for more actions
 abbrev pub most : Record → ℕ
 most r = length r.objects + length r.frames + 1
 
 -- room in the logs for a step with so many actions; places of messages stay numbers of 32 bits
-pub record HasLogRoom (n : ℕ) (l : Ledger) : Type 0 where
+pub record HasLogRoom (n : ℕ) (l : Host) : Type 0 where
   pub sent : vec_len l.sent + n ≤ vec_capacity l.sent
   pub last : vec_len l.sent + n < 2 ^ 32
   pub answers : vec_len l.answers < vec_capacity l.answers
@@ -31,7 +31,7 @@ pub record IsRoom (n : ℕ) (r : Room) : Type 0 where
   pub places : n ≤ vec_capacity r.places
 
 -- room for the reply to a call
-pub record HasReplyRoom (l : Ledger) : Type 0 where
+pub record HasReplyRoom (l : Host) : Type 0 where
   pub sent : vec_len l.sent < vec_capacity l.sent
   pub last : vec_len l.sent + 1 < 2 ^ 32
   pub done : vec_len l.server_done < vec_capacity l.server_done

@@ -6,12 +6,12 @@ use Rattle.server_core.specs.declared.server.Seat.{Seat}
 use Rattle.server_core.specs.View as server
 use Rattle.world_run.specs.declared.instance.Instance as code
 use Rattle.world_run.specs.declared.instance.Stocked.{Stocked}
-use Rattle.world_run.specs.declared.ledger.Ledger.{Ledger}
+use Rattle.world_run.specs.declared.host.Host.{Host}
 use Rattle.world_run.specs.declared.state.State.{State}
 use Rattle.world_model.specs.World.{World, Instance, fresh}
 
--- a ledger as a world without servers and stock
-abbrev pub bare : Ledger → World
+-- a host as a world without servers and stock
+abbrev pub bare : Host → World
 bare l = record {
   rec = l.core;
   instances = [];
@@ -37,7 +37,7 @@ module _ {X : Type 0} {V : X → Type 0} (content : Seat X V → Content) where
   seen_stocked s = kind_of (content (record { boxed = s.boxed }))
 
   abbrev pub seen : State X V → World
-  seen w = record (bare w.ledger) {
+  seen w = record (bare w.host) {
     instances = map seen_instance w.instances.items;
     stock = map seen_stocked w.stock.boxes.items;
   }

@@ -2,8 +2,8 @@
 #![tactic(auto)]
 
 mod commits;
+pub mod host;
 pub mod instance;
-pub mod ledger;
 mod plan;
 mod readers;
 pub mod report;

@@ -5,34 +5,33 @@ ghost use Rattle.wire_msgs.specs.Found.{nth};
 ghost use Rattle.world_run.specs.Shown.{shown};
 ghost use Rattle.world_model.specs.World.{counted_document, frame_file};
 
-use container_model::answer::Done;
-use world_model::logs::{Document, EventAnswer, Sent, ServerDone};
 use crate::state::place;
 use crate::world::World;
 use container_core::container::ContainerCore;
 use embed_core::embedded::Embedded;
+use world_model::logs::{Document, Done, EventAnswer, Sent, ServerDone};
 
 impl World {
     /// The container.
     pub fn container(&self) -> &ContainerCore
         ensures { result.now ≡ (shown (λ s. content s.boxed) self.now).rec }
     {
-        &self.state.ledger.core
+        &self.state.host.core
     }
 
     /// How many events were taken.
     pub fn events_taken(&self) -> usize
         ensures { result ≡ length (shown (λ s. content s.boxed) self.now).answers }
     {
-        self.state.ledger.answers.len()
+        self.state.host.answers.len()
     }
 
     /// What an event was answered, by its number from 1.
     pub fn answer(&self, event: u32) -> Option<&EventAnswer>
         ensures { option_copied result ≡ nth (shown (λ s. content s.boxed) self.now).answers event }
     {
-        match place(&self.state.ledger.answers, event) {
-            Some(i) => Some(&self.state.ledger.answers[i]),
+        match place(&self.state.host.answers, event) {
+            Some(i) => Some(&self.state.host.answers[i]),
             None => None,
         }
     }
@@ -41,29 +40,29 @@ impl World {
     pub fn sent(&self) -> &[Sent]
         ensures { result.now ≡ (shown (λ s. content s.boxed) self.now).sent }
     {
-        &self.state.ledger.sent
+        &self.state.host.sent
     }
 
     /// What the container counted.
     pub fn container_done(&self) -> &[Done]
         ensures { result.now ≡ (shown (λ s. content s.boxed) self.now).container_done }
     {
-        &self.state.ledger.container_done
+        &self.state.host.container_done
     }
 
     /// What the servers counted.
     pub fn server_done(&self) -> &[ServerDone]
         ensures { result.now ≡ (shown (λ s. content s.boxed) self.now).server_done }
     {
-        &self.state.ledger.server_done
+        &self.state.host.server_done
     }
 
     /// The document of a frame's last counted commit.
     pub fn counted(&self, frame: u32) -> Option<&Document>
         ensures { option_copied result ≡ counted_document (shown (λ s. content s.boxed) self.now) frame }
     {
-        match place(&self.state.ledger.counted, frame) {
-            Some(i) => match &self.state.ledger.counted[i] {
+        match place(&self.state.host.counted, frame) {
+            Some(i) => match &self.state.host.counted[i] {
                 Some(document) => Some(document),
                 None => None,
             },
@@ -75,6 +74,6 @@ impl World {
     pub fn frame_file(&self, frame: u32) -> Option<&[u8]>
         ensures { option_copied result ≡ frame_file (shown (λ s. content s.boxed) self.now) frame }
     {
-        self.state.ledger.frame_file(frame)
+        self.state.host.frame_file(frame)
     }
 }

@@ -9,9 +9,8 @@ use crate::world::World;
 use embed_core::embedded::Embedded;
 use std::alloc::Global;
 use std::io::Write;
-use world_report::report::write_report;
-
 pub use world_report::report::ReportFault;
+use world_report::report::write_report;
 
 impl World {
     /// Writes the report: a line for each frame, for each object, and for each content that was counted, by the
@@ -23,10 +22,10 @@ impl World {
         write_report(
             alloc,
             writer,
-            self.state.ledger.core.frames(),
-            self.state.ledger.core.objects(),
-            &self.state.ledger.container_done,
-            &self.state.ledger.server_done,
+            self.state.host.core.frames(),
+            self.state.host.core.objects(),
+            &self.state.host.container_done,
+            &self.state.host.server_done,
         )
     }
 }

@@ -12,28 +12,28 @@ ghost use Rattle.world_model.specs.World.{IsImage, Refuses, Run, StopsAt, delive
 ghost use Rattle.wire_msgs.specs.declared.message.Message.TheVariants as message;
 ghost use Rattle.world_model.specs.declared.event.Event.TheVariants as event;
 
-use world_model::event::{Event, Stop};
+use crate::host::{Host, add};
 use crate::instance::{Instance, Stocked};
-use world_model::life::Life;
-use crate::ledger::{Ledger, add};
-use world_model::logs::View;
 use crate::plan::Plan;
 use crate::stock::Stock;
-use container_model::command::Command;
 use container_core::container::Limits;
+use container_model::command::Command;
 use embed_core::embedded::Embedded;
-use server_model::fault::ServerFault;
 use server_core::refusal::Refusal;
 use server_core::server::ServerCore;
+use server_model::fault::ServerFault;
 use std::alloc::Global;
 use wire_msgs::message::Message;
 use wire_msgs::operation::Operation;
+use world_model::event::{Event, Stop};
+use world_model::life::Life;
+use world_model::logs::View;
 
 // A container with its books and files, its servers, and the objects in stock. A `World` holds it, with what stays true
 // of it.
 #[derive(Drop)]
 pub(crate) struct State {
-    pub(crate) ledger: Ledger,
+    pub(crate) host: Host,
     pub(crate) instances: Vec<Instance>,
     pub(crate) stock: Stock,
 }
@@ -60,7 +60,7 @@ impl State {
         ensures { seen (λ s. content s.boxed) result ≡ empty_world limits.numbers (map (seen_stocked (λ s. content s.boxed)) stock.boxes.items) }
     {
         State {
-            ledger: Ledger::new(alloc, limits),
+            host: Host::new(alloc, limits),
             instances: Vec::new(alloc),
             stock,
         }
@@ -69,9 +69,9 @@ impl State {
     // Starts servers of these incarnations.
     fn start(&mut self, alloc: Global, starts: Vec<u32>)
         requires { vec_len self.old.instances + vec_len starts ≤ vec_capacity self.old.instances }
-        ensures { seen (λ s. content s.boxed) self.new ≡ record (seen (λ s. content s.boxed) self.old) { instances = map (seen_instance (λ s. content s.boxed)) self.old.instances.items ++ map (fresh self.old.ledger.core.numbers) starts.items } }
+        ensures { seen (λ s. content s.boxed) self.new ≡ record (seen (λ s. content s.boxed) self.old) { instances = map (seen_instance (λ s. content s.boxed)) self.old.instances.items ++ map (fresh self.old.host.core.numbers) starts.items } }
     {
-        let numbers = self.ledger.core.numbers();
+        let numbers = self.host.core.numbers();
         for inc in starts {
             let core = ServerCore::new(alloc, inc, numbers);
             add(
@@ -90,11 +90,11 @@ impl State {
         ensures refused { IfErr result (Refuses (step (seen (λ s. content s.boxed) self.old) [] (event.Command command.now))) }
         ensures kept { OnErr result (seen (λ s. content s.boxed) self.new ≡ seen (λ s. content s.boxed) self.old) }
     {
-        self.ledger.open()?;
-        if self.instances.reserve(self.ledger.most()).is_err() {
+        self.host.open()?;
+        if self.instances.reserve(self.host.most()).is_err() {
             return Err(Stop::NoMemory);
         }
-        match self.ledger.command(alloc, command) {
+        match self.host.command(alloc, command) {
             Ok(starts) => {
                 self.start(alloc, starts);
                 Ok(())
@@ -109,11 +109,11 @@ impl State {
         ensures refused { IfErr result (Refuses (tell (seen (λ s. content s.boxed) self.old) inc message)) }
         ensures kept { OnErr result (seen (λ s. content s.boxed) self.new ≡ seen (λ s. content s.boxed) self.old) }
     {
-        self.ledger.open()?;
-        if self.instances.reserve(self.ledger.most()).is_err() {
+        self.host.open()?;
+        if self.instances.reserve(self.host.most()).is_err() {
             return Err(Stop::NoMemory);
         }
-        match self.ledger.tell(alloc, inc, message) {
+        match self.host.tell(alloc, inc, message) {
             Ok(starts) => {
                 self.start(alloc, starts);
                 Ok(())
@@ -127,7 +127,7 @@ impl State {
     fn set_life(&mut self, i: usize, inc: u32, life: Life)
         requires { IsNth inc self.old.instances.items i }
         ensures set { IfSome (nth (seen (λ s. content s.boxed) self.old).instances inc) (λ x. seen (λ s. content s.boxed) self.new ≡ record (seen (λ s. content s.boxed) self.old) { instances = set_nth (seen (λ s. content s.boxed) self.old).instances inc (record x { life = life }) }) }
-        ensures ledger { self.new.ledger ≡ self.old.ledger }
+        ensures host { self.new.host ≡ self.old.host }
         ensures capacity { vec_capacity self.new.instances ≡ vec_capacity self.old.instances }
         ensures length { vec_len self.new.instances ≡ vec_len self.old.instances }
     {
@@ -158,9 +158,9 @@ impl State {
             Life::Running => {}
             Life::Ended | Life::Reaped => return Err(Stop::NotEnabled),
         }
-        self.ledger.open()?;
+        self.host.open()?;
         self.set_life(i, inc, Life::Ended);
-        self.ledger.quiet(alloc);
+        self.host.quiet(alloc);
         Ok(())
     }
 
@@ -177,11 +177,11 @@ impl State {
             Life::Ended => {}
             Life::Running | Life::Reaped => return Err(Stop::NotEnabled),
         }
-        self.ledger.open()?;
-        if self.instances.reserve(self.ledger.most()).is_err() {
+        self.host.open()?;
+        if self.instances.reserve(self.host.most()).is_err() {
             return Err(Stop::NoMemory);
         }
-        match self.ledger.reap(alloc, inc) {
+        match self.host.reap(alloc, inc) {
             Ok(starts) => {
                 self.set_life(i, inc, Life::Reaped);
                 self.start(alloc, starts);
@@ -197,8 +197,8 @@ impl State {
         ensures refused { IfErr result (StopsAt (seen (λ s. content s.boxed) self.old) (event.Done f)) }
         ensures kept { OnErr result (seen (λ s. content s.boxed) self.new ≡ seen (λ s. content s.boxed) self.old) }
     {
-        let room = self.instances.reserve(self.ledger.most()).is_ok();
-        match self.ledger.done(alloc, f, room) {
+        let room = self.instances.reserve(self.host.most()).is_ok();
+        match self.host.done(alloc, f, room) {
             Ok(starts) => {
                 self.start(alloc, starts);
                 Ok(())
@@ -237,8 +237,8 @@ impl State {
         ensures refused { IfErr result (Refuses (carry (seen (λ s. content s.boxed) self.old) (message.Call inc act n operation) (plan.Serve i))) }
         ensures kept { OnErr result (seen (λ s. content s.boxed) self.new ≡ seen (λ s. content s.boxed) self.old) }
     {
-        self.ledger.open()?;
-        let Ok(room) = self.ledger.reply_room(alloc) else {
+        self.host.open()?;
+        let Ok(room) = self.host.reply_room(alloc) else {
             return Err(Stop::NoMemory);
         };
         let view = self.view(i, act);
@@ -250,14 +250,14 @@ impl State {
         };
         match self.instances[i].core.on_call(alloc, message, None) {
             Ok(reaction) => {
-                self.ledger
+                self.host
                     .replied(alloc, inc, view, reaction.reply, reaction.counted, room);
                 Ok(())
             }
             Err(refusal) => match refusal.fault {
                 ServerFault::NoMemory => Err(Stop::NoMemory),
                 fault => {
-                    self.ledger.unheard(fault);
+                    self.host.dropped(fault);
                     Ok(())
                 }
             },
@@ -268,7 +268,7 @@ impl State {
     fn put_back(&mut self, at: usize, back: Option<Box<dyn Embedded>>)
         requires place { at ≤ length self.old.stock.boxes.items }
         requires room { vec_len self.old.stock.boxes < vec_capacity self.old.stock.boxes }
-        ensures ledger { self.new.ledger ≡ self.old.ledger }
+        ensures host { self.new.host ≡ self.old.host }
         ensures put { seen (λ s. content s.boxed) self.new ≡ record (seen (λ s. content s.boxed) self.old) { stock = stock_with (map (seen_stocked (λ s. content s.boxed)) self.old.stock.boxes.items) at (option_map (λ b. kind_of (content b)) back) } }
     {
         match back {
@@ -297,8 +297,8 @@ impl State {
         ensures refused { IfErr result (Refuses (carry (seen (λ s. content s.boxed) self.old) (message.Call inc act n operation) (plan.Begin i at))) }
         ensures kept { OnErr result (seen (λ s. content s.boxed) self.new ≡ seen (λ s. content s.boxed) self.old) }
     {
-        self.ledger.open()?;
-        let Ok(room) = self.ledger.reply_room(alloc) else {
+        self.host.open()?;
+        let Ok(room) = self.host.reply_room(alloc) else {
             return Err(Stop::NoMemory);
         };
         let view = self.view(i, act);
@@ -311,7 +311,7 @@ impl State {
         let Stocked { boxed } = self.stock.boxes.remove(at);
         match self.instances[i].core.on_call(alloc, message, Some(boxed)) {
             Ok(reaction) => {
-                self.ledger
+                self.host
                     .replied(alloc, inc, view, reaction.reply, reaction.counted, room);
                 Ok(())
             }
@@ -321,7 +321,7 @@ impl State {
                 match fault {
                     ServerFault::NoMemory => Err(Stop::NoMemory),
                     fault => {
-                        self.ledger.unheard(fault);
+                        self.host.dropped(fault);
                         Ok(())
                     }
                 }
@@ -379,8 +379,8 @@ impl State {
                 operation,
             } => match plan {
                 Plan::Quiet => {
-                    self.ledger.open()?;
-                    self.ledger.quiet(alloc);
+                    self.host.open()?;
+                    self.host.quiet(alloc);
                     Ok(())
                 }
                 Plan::Serve(i) => self.serve(alloc, i, inc, act, n, operation),
@@ -429,12 +429,12 @@ impl State {
         ensures refused { IfErr result (Refuses (step (seen (λ s. content s.boxed) self.old) [] (event.Deliver p))) }
         ensures kept { OnErr result (seen (λ s. content s.boxed) self.new ≡ seen (λ s. content s.boxed) self.old) }
     {
-        let Some(i) = place(&self.ledger.sent, p) else {
+        let Some(i) = place(&self.host.sent, p) else {
             return Err(Stop::NotEnabled);
         };
-        let plan = self.plan(&self.ledger.sent[i].message)?;
-        self.ledger.open()?;
-        let Ok(message) = self.ledger.sent[i].message.copy(alloc) else {
+        let plan = self.plan(&self.host.sent[i].message)?;
+        self.host.open()?;
+        let Ok(message) = self.host.sent[i].message.copy(alloc) else {
             return Err(Stop::NoMemory);
         };
         self.carry_out(alloc, plan, message)

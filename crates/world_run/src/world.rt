@@ -5,12 +5,12 @@ ghost use Rattle.embed_core.specs.Content.{note};
 ghost use Rattle.world_safety.specs.Holding.{Holds};
 ghost use Rattle.world_run.specs.View.{seen};
 
-use world_model::event::{Event, Stop};
 use crate::state::State;
 use crate::stock::Stock;
 use container_core::container::Limits;
 use embed_core::embedded::Embedded;
 use std::alloc::Global;
+use world_model::event::{Event, Stop};
 
 /// A container, its servers, the messages between them, and the files.
 ///

@@ -9,6 +9,7 @@ use container_model::fault::ContainerFault;
 use container_model::record::{Object, Phase};
 use object_parts::area::Area;
 use std::alloc::{AllocError, Global};
+use std::process::Abort;
 use std::test::Fail;
 use storage_tree::storage::Found;
 use storage_tree::stored::Stored;
@@ -51,6 +52,9 @@ enum Told {
     /// The file of frame 1.
     Image,
 }
+
+/// What is told, and what is answered.
+type Row = (Told, &'static str);
 
 fn reply(n: u32, answer: Said) -> Message {
     Message::Reply {
@@ -199,10 +203,7 @@ fn seen_image(alloc: Global, core: &ContainerCore) -> Result<String, AllocError>
     }
 }
 
-fn answered(
-    alloc: Global,
-    answer: Result<Answer, ContainerFault>,
-) -> Result<String, AllocError> {
+fn answered(alloc: Global, answer: Result<Answer, ContainerFault>) -> Result<String, AllocError> {
     match answer {
         Ok(answer) => answer_text(alloc, &answer),
         Err(fault) => String::from_str(alloc, fault.name()),
@@ -245,10 +246,30 @@ fn tell(alloc: Global, core: &mut ContainerCore, told: Told) -> Result<String, F
     }
 }
 
+fn assert_rows(
+    rt: &impl Abort,
+    alloc: Global,
+    core: &mut ContainerCore,
+    rows: &[Row],
+) -> Result<(), Fail> {
+    for (told, want) in rows {
+        let text = tell(alloc, core, *told)?;
+        assert_eq!(rt; text.as_str(), *want);
+    }
+    Ok(())
+}
+
+/// A new container is told these rows, and then those.
+fn assert_told(rt: &impl Abort, alloc: Global, before: &[Row], rows: &[Row]) -> Result<(), Fail> {
+    let mut core = container(alloc);
+    assert_rows(rt, alloc, &mut core, before)?;
+    assert_rows(rt, alloc, &mut core, rows)
+}
+
 #[test]
 fn containers_answer_what_they_are_told(rt: HostRuntime) -> Result<(), Fail> {
     let note = Told::Insert(ObjectKind::Note, 10);
-    let run = [
+    let run: [Row; 6] = [
         (Told::New(b"a.ole"), " frame 1"),
         (note, " object 1"),
         (Told::Start, " server 1 start 1"),
@@ -256,7 +277,7 @@ fn containers_answer_what_they_are_told(rt: HostRuntime) -> Result<(), Fail> {
         (Told::Edit, "Busy"),
         (Told::Done(1, 1), ""),
     ];
-    let refused = [
+    let refused: [Row; 9] = [
         (Told::New(b"a.ole"), "Busy"),
         (Told::New(b"b.ole"), "Full"),
         (Told::Save(2), "NoSuch"),
@@ -267,7 +288,7 @@ fn containers_answer_what_they_are_told(rt: HostRuntime) -> Result<(), Fail> {
         (Told::Object, "active, empty"),
         (Told::Document, "WrongState"),
     ];
-    let saved = [
+    let saved: [Row; 16] = [
         (Told::Edit, " call 2 Edit"),
         (Told::Done(1, 2), ""),
         (Told::Save(1), " call 3 Save 1"),
@@ -285,19 +306,19 @@ fn containers_answer_what_they_are_told(rt: HostRuntime) -> Result<(), Fail> {
         (Told::Object, "active"),
         (Told::Document, "WrongState"),
     ];
-    let reaped = [
+    let reaped: [Row; 4] = [
         (Told::Save(1), " call 2 Save 1"),
         (Told::Reap, " commit 1"),
         (Told::Object, "passive, empty"),
         (Told::Reap, "NoSuch"),
     ];
-    let answered = [
+    let answered: [Row; 4] = [
         (Told::Save(1), " call 2 Save 1"),
         (Told::Content(2), " commit 1"),
         (Told::Reap, ""),
         (Told::Object, "passive"),
     ];
-    let alone = [
+    let alone: [Row; 8] = [
         (Told::Document, "NoSuch"),
         (Told::Image, "NoSuch"),
         (Told::Committed, "NoSuch"),
@@ -307,20 +328,11 @@ fn containers_answer_what_they_are_told(rt: HostRuntime) -> Result<(), Fail> {
         (Told::Save(1), " commit 1"),
         (Told::Phase, "Committing"),
     ];
-    for (before, rows) in [
-        (run.as_slice(), refused.as_slice()),
-        (run.as_slice(), saved.as_slice()),
-        (run.as_slice(), reaped.as_slice()),
-        (run.as_slice(), answered.as_slice()),
-        (alone.as_slice(), [].as_slice()),
-    ] {
-        let mut core = container(rt.alloc());
-        for (i, (told, want)) in before.iter().chain(rows).enumerate() {
-            let text = tell(rt.alloc(), &mut core, *told)?;
-            assert_eq!(rt; text.as_str(), *want, "{i}");
-        }
-    }
-    Ok(())
+    assert_told(&rt, rt.alloc(), &run, &refused)?;
+    assert_told(&rt, rt.alloc(), &run, &saved)?;
+    assert_told(&rt, rt.alloc(), &run, &reaped)?;
+    assert_told(&rt, rt.alloc(), &run, &answered)?;
+    assert_told(&rt, rt.alloc(), &alone, &[])
 }
 
 /// A frame whose commit is asked for, with an object that answered two streams, or without any.

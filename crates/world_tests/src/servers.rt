@@ -12,6 +12,7 @@ use server_core::refusal::{Reaction, Refusal};
 use server_core::server::ServerCore;
 use server_model::fault::ServerFault;
 use std::alloc::{AllocError, Global};
+use std::process::Abort;
 use std::test::Fail;
 use storage_tree::streams::NamedStream;
 use wire_msgs::answer::Answer;
@@ -76,9 +77,7 @@ fn operation(alloc: Global, ask: Ask) -> Result<Operation, Fail> {
         Ask::InitNote => Ok(Operation::InitNew(classes::note())),
         Ask::InitTable => Ok(Operation::InitNew(classes::table())),
         Ask::Load(bytes) => Ok(Operation::Load(classes::note(), text(alloc, bytes)?)),
-        Ask::Edit(bytes) => Ok(Operation::Edit(Bytes::from_vec(Vec::from_slice(
-            alloc, bytes,
-        )?))),
+        Ask::Edit(bytes) => Ok(Operation::Edit(Bytes::from_vec(Vec::from_slice(alloc, bytes)?))),
         Ask::Save(save) => Ok(Operation::Save(save)),
         Ask::Completed(save) => Ok(Operation::SaveCompleted {
             save,
@@ -129,7 +128,11 @@ fn reply_text(reply: &Message) -> &'static str {
             _ => "another answer",
         },
         Message::Write { content, .. } if first(content) == b"abc".as_slice() => "Write abc",
-        Message::Ask { inc: 1, act: 5, g: 7 } => "Ask 7",
+        Message::Ask {
+            inc: 1,
+            act: 5,
+            g: 7,
+        } => "Ask 7",
         _ => "another message",
     }
 }
@@ -146,16 +149,15 @@ fn fault_text(fault: ServerFault) -> &'static str {
 }
 
 /// What became of a call, what was counted, and whether the object came back.
-fn outcome_text(
-    alloc: Global,
-    outcome: Result<Reaction, Refusal>,
-) -> Result<String, AllocError> {
+fn outcome_text(alloc: Global, outcome: Result<Reaction, Refusal>) -> Result<String, AllocError> {
     let (text, counted, back) = match outcome {
-        Ok(Reaction {
-            reply,
-            counted,
-            back,
-        }) => (reply_text(&reply), counted, back),
+        Ok(
+            Reaction {
+                reply,
+                counted,
+                back,
+            },
+        ) => (reply_text(&reply), counted, back),
         Err(Refusal { fault, back }) => (fault_text(fault), None, back),
     };
     let mut text = String::from_str(alloc, text)?;
@@ -169,20 +171,34 @@ fn outcome_text(
     Ok(text)
 }
 
-fn played(
-    alloc: Global,
-    core: &mut ServerCore,
-    tally: &Tally,
-    row: &Row,
-) -> Result<String, Fail> {
+fn played(alloc: Global, core: &mut ServerCore, tally: &Tally, row: &Row) -> Result<String, Fail> {
     let (inc, act, n, ask, object, _) = *row;
     let message = call(alloc, inc, act, n, ask)?;
     let object = given(alloc, tally, object)?;
     Ok(outcome_text(alloc, on_call(core, alloc, message, object))?)
 }
 
-/// Each server is told these calls in turn; then so many of the objects that were handed in are dropped, and all of them
-/// once the server is.
+/// A new server is told these calls in turn; then so many of the objects that were handed in are dropped, and so many once
+/// the server is.
+fn assert_calls(
+    rt: &impl Abort,
+    alloc: Global,
+    rows: &[Row],
+    dropped: u32,
+    all: u32,
+) -> Result<(), Fail> {
+    let tally = Tally::new(alloc)?;
+    let mut core = ServerCore::new(alloc, 1, 9);
+    for row in rows {
+        let text = played(alloc, &mut core, &tally, row)?;
+        assert_eq!(rt; text.as_str(), row.5);
+    }
+    assert_eq!(rt; tally.count(), dropped);
+    drop(core);
+    assert_eq!(rt; tally.count(), all);
+    Ok(())
+}
+
 #[test]
 fn calls_are_answered(rt: HostRuntime) -> Result<(), Fail> {
     let again: [Row; 2] = [
@@ -191,7 +207,14 @@ fn calls_are_answered(rt: HostRuntime) -> Result<(), Fail> {
     ];
     let loads: [Row; 3] = [
         (1, 5, 1, Ask::Load(b"\x07"), Handed::Note, "BadContent"),
-        (1, 5, 1, Ask::Load(b"\x07"), Handed::Note, "BadContent, back"),
+        (
+            1,
+            5,
+            1,
+            Ask::Load(b"\x07"),
+            Handed::Note,
+            "BadContent, back",
+        ),
         (1, 5, 2, Ask::Edit(b"i 0 a"), Handed::Nothing, "Ignored"),
     ];
     let needs: [Row; 3] = [
@@ -203,31 +226,25 @@ fn calls_are_answered(rt: HostRuntime) -> Result<(), Fail> {
         (1, 5, 1, Ask::InitNote, Handed::Note, "Done"),
         (1, 5, 2, Ask::Edit(b"i 0 abc"), Handed::Nothing, "Done"),
         (1, 5, 3, Ask::Save(8), Handed::Nothing, "Content abc"),
-        (1, 5, 4, Ask::Completed(8), Handed::Nothing, "Done, counted 5 8"),
+        (
+            1,
+            5,
+            4,
+            Ask::Completed(8),
+            Handed::Nothing,
+            "Done, counted 5 8",
+        ),
     ];
     let two: [Row; 3] = [
         (1, 5, 1, Ask::InitNote, Handed::Note, "Done"),
         (1, 6, 1, Ask::InitTable, Handed::Table, "Done"),
         (1, 5, 2, Ask::Close, Handed::Nothing, "Done"),
     ];
-    for (rows, dropped, all) in [
-        (again.as_slice(), 1, 2),
-        (loads.as_slice(), 2, 2),
-        (needs.as_slice(), 1, 1),
-        (saves.as_slice(), 0, 1),
-        (two.as_slice(), 1, 2),
-    ] {
-        let tally = Tally::new(rt.alloc())?;
-        let mut core = ServerCore::new(rt.alloc(), 1, 9);
-        for (i, row) in rows.iter().enumerate() {
-            let text = played(rt.alloc(), &mut core, &tally, row)?;
-            assert_eq!(rt; text.as_str(), row.5, "{i}");
-        }
-        assert_eq!(rt; tally.count(), dropped);
-        drop(core);
-        assert_eq!(rt; tally.count(), all);
-    }
-    Ok(())
+    assert_calls(&rt, rt.alloc(), &again, 1, 2)?;
+    assert_calls(&rt, rt.alloc(), &loads, 2, 2)?;
+    assert_calls(&rt, rt.alloc(), &needs, 1, 1)?;
+    assert_calls(&rt, rt.alloc(), &saves, 0, 1)?;
+    assert_calls(&rt, rt.alloc(), &two, 1, 2)
 }
 
 /// A server whose activation 5 is a note, told these calls.
@@ -241,7 +258,12 @@ fn with_note(alloc: Global, tally: &Tally, asked: &[Ask]) -> Result<ServerCore, 
     )?;
     let mut n = 2;
     for ask in asked.iter().take(9) {
-        played(alloc, &mut core, tally, &(1, 5, n, *ask, Handed::Nothing, ""))?;
+        played(
+            alloc,
+            &mut core,
+            tally,
+            &(1, 5, n, *ask, Handed::Nothing, ""),
+        )?;
         n += 1;
     }
     Ok(core)

@@ -9,7 +9,7 @@ invariant-loop-inc g l = record {
   can_next : (goal.iterator-loop-inc g).can_next l.inc-iterator;
   is_finite : (goal.iterator-loop-inc g).is_finite l.inc-iterator;
   room : vec_len l.self.instances + into_iter_len l.inc-iterator ≤ vec_capacity l.self.instances;
-  ledger : l.self.ledger ≡ l.initial.self.ledger;
+  host : l.self.host ≡ l.initial.self.host;
   stock : l.self.stock ≡ l.initial.self.stock;
   instances : map (seen_instance (λ s. (goal.Embedded-dyn g (s.boxed.vtable, s.boxed.value)).content s.boxed.value)) l.self.instances.items ++ map (fresh l.numbers) (into_iter_items l.inc-iterator) ≡ map (seen_instance (λ s. (goal.Embedded-dyn g (s.boxed.vtable, s.boxed.value)).content s.boxed.value)) l.initial.self.instances.items ++ map (fresh l.numbers) (into_iter_items l.initial.inc-iterator);
 }

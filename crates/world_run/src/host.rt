@@ -1,31 +1,32 @@
-//! What a world keeps besides its servers and its stock.
+//! The host of a container: what a world keeps besides its servers and its stock.
 
 ghost use Rattle.std.specs.Prelude.{[], ◌∷◌, ◌++◌, ◌+◌, ◌≤◌, ◌<◌, ◌^◌, ◌≡◌, IfErr, IfOk, OnErr, OnOk, Ok, length, map, nat_le, false, vec_len, vec_capacity};
 ghost use Rattle.std.specs.List.{range_with_len};
 ghost use Rattle.container_model.specs.Commands.{on_command};
 ghost use Rattle.container_model.specs.Messages.{on_message, on_reap};
+ghost use Rattle.container_model.specs.Record.{counts_none};
 ghost use Rattle.world_model.specs.World.{messages_of, commits_of, of_container, joined, uncounted, took, owner, counted_by, quiet_outcome, limited, commanded, owners_by, empty_world, Refuses, MOST_EVENTS};
 ghost use Rattle.world_model.specs.declared.logs.EventAnswer.TheVariants as told;
 ghost use Rattle.world_run.specs.Starts.{starts_of};
 ghost use Rattle.world_run.specs.Rooms.{HasLogRoom, HasReplyRoom, IsBarred, IsRoom, most, replied};
 ghost use Rattle.world_run.specs.View.{bare, started};
 
-use world_model::event::{Stop, copy_command};
-use container_model::answer::Done;
-use world_model::logs::{Document, EventAnswer, File, Outcome, Sent, ServerDone, View};
+use container_core::container::{ContainerCore, Limits};
 use container_model::answer::{Action, Answer};
 use container_model::command::Command;
-use container_core::container::{ContainerCore, Limits};
 use container_model::fault::ContainerFault;
 use server_model::counted::Counted;
 use server_model::fault::ServerFault;
 use std::alloc::{AllocError, Global};
 use wire_msgs::items::Items;
 use wire_msgs::message::Message;
+use world_model::event::{Stop, copy_command};
+use world_model::logs::{Document, Done, EventAnswer, File, Outcome, Sent, ServerDone, View};
 
-/// What a world keeps besides its servers and its stock: the container, the files and the logs.
+/// The host of a world's container: what the world keeps besides its servers and its stock, the container, the files and the
+/// logs.
 #[derive(Drop)]
-pub struct Ledger {
+pub struct Host {
     pub(crate) core: ContainerCore,
     pub(crate) files: Vec<File>,
     pub(crate) sent: Vec<Sent>,
@@ -142,13 +143,13 @@ impl Room {
     }
 }
 
-impl Ledger {
+impl Host {
     /// Nothing has happened.
-    pub(crate) fn new(alloc: Global, limits: Limits) -> Ledger
+    pub(crate) fn new(alloc: Global, limits: Limits) -> Host
         requires { limits.numbers ≤ 1000000 }
         ensures { bare result ≡ empty_world limits.numbers [] }
     {
-        Ledger {
+        Host {
             core: ContainerCore::new(alloc, limits),
             files: Vec::new(alloc),
             sent: Vec::new(alloc),
@@ -192,7 +193,7 @@ impl Ledger {
     pub(crate) fn join(&mut self, answer: Answer, room: Room) -> Vec<u32>
         requires logs { HasLogRoom (length answer.actions) self.old }
         requires room { IsRoom (length answer.actions) room }
-        ensures joined { joined (bare self.old) (record { rec = self.old.core; answer = answer }) ≡ started (bare self.new) self.old.core.numbers result.items }
+        ensures joined { joined (bare self.old) (counts_none self.old.core answer) ≡ started (bare self.new) self.old.core.numbers result.items }
         ensures few { length result.items ≤ length answer.actions }
     {
         let Answer {
@@ -335,11 +336,11 @@ impl Ledger {
     }
 
     /// A message that a server did nothing with.
-    pub(crate) fn unheard(&mut self, fault: ServerFault)
+    pub(crate) fn dropped(&mut self, fault: ServerFault)
         requires { vec_len self.old.answers < vec_capacity self.old.answers }
-        ensures { bare self.new ≡ record (bare self.old) { answers = self.old.answers.items ++ told.Unheard fault ∷ [] } }
+        ensures { bare self.new ≡ record (bare self.old) { answers = self.old.answers.items ++ told.Dropped fault ∷ [] } }
     {
-        add(&mut self.answers, EventAnswer::Unheard(fault));
+        add(&mut self.answers, EventAnswer::Dropped(fault));
     }
 
     // The object that an activation was made for, 0 where there is none.
