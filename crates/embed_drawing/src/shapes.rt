@@ -58,8 +58,16 @@ impl Figure {
                 y,
                 width,
                 height,
-            } => x <= LAST_START && y <= LAST_START && 1 <= width && width <= LONGEST && 1 <= height && height <= LONGEST,
-            Figure::Line { x, y, length, .. } => x <= LAST_START && y <= LAST_START && 1 <= length && length <= LONGEST,
+            } => x <= LAST_START
+                && y <= LAST_START
+                && 1 <= width
+                && width <= LONGEST
+                && 1 <= height
+                && height <= LONGEST,
+            Figure::Line { x, y, length, .. } => x <= LAST_START
+                && y <= LAST_START
+                && 1 <= length
+                && length <= LONGEST,
         }
     }
 }

@@ -1,9 +1,8 @@
 //! What a drawing does.
 
+use crate::objects::drawing;
 use crate::steps::play;
-use embed_core::embedded::Embedded;
 use embed_core::tally::Tally;
-use embed_drawing::drawing::Drawing;
 use std::test::Fail;
 
 const ROWS: &str = "
@@ -81,7 +80,6 @@ picture => -- {36}+-$ {38}+-$< {40}$>{10} => Ok
 
 #[test]
 fn a_drawing_answers_its_calls(rt: HostRuntime) -> Result<(), Fail> {
-    let drawing = Drawing::new(rt.alloc(), Tally::new(rt.alloc())?);
-    let mut object: Box<dyn Embedded> = Box::new(rt.alloc(), drawing)?;
+    let mut object = drawing(rt.alloc(), &Tally::new(rt.alloc())?)?;
     play(&rt, rt.alloc(), &mut object, "Shapes", ROWS)
 }

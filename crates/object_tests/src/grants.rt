@@ -43,7 +43,7 @@ const OBJECT_OF_A: Claim = Claim {
     g: C.g,
 };
 
-#[derive(Clone, Copy, Debug)]
+#[derive(Clone, Copy)]
 enum Event {
     Ask(Claim),
     Granted(Claim),
@@ -51,7 +51,7 @@ enum Event {
     Lost(Claim),
 }
 
-#[derive(Clone, Copy, Debug)]
+#[derive(Clone, Copy)]
 enum At {
     Free,
     Asked,
@@ -164,7 +164,7 @@ fn state(ui: &FrameUi) -> GrantState {
 fn frame_at(rt: &impl Abort, at: At, tools: &Tools) -> FrameUi {
     let mut ui = FrameUi::new(40, 10);
     for event in path_to(at) {
-        assert!(rt; apply(&mut ui, *event, tools).is_ok(), "{event:?}");
+        assert!(rt; apply(&mut ui, *event, tools).is_ok());
     }
     ui
 }

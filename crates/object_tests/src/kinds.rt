@@ -1,13 +1,11 @@
 //! What the kinds are.
 
+use crate::objects::{drawing, note, table};
 use cfb_directory::name::Name;
 use embed_core::embedded::Embedded;
 use embed_core::fault::EmbedFault;
 use embed_core::tally::Tally;
 use embed_core::{ClassId, Menus, classes, kind_menus, laws, stream_names};
-use embed_drawing::drawing::Drawing;
-use embed_note::note::Note;
-use embed_table::table::Table;
 use std::process::Abort;
 use std::test::Fail;
 
@@ -43,14 +41,10 @@ fn expect_object(
 
 #[test]
 fn kinds_have_their_classes_menus_and_borders(rt: HostRuntime) -> Result<(), Fail> {
-    let alloc = rt.alloc();
-    let tally = Tally::new(alloc)?;
-    let note: Box<dyn Embedded> = Box::new(alloc, Note::new(alloc, tally.share()?))?;
-    let table: Box<dyn Embedded> = Box::new(alloc, Table::new(alloc, tally.share()?))?;
-    let drawing: Box<dyn Embedded> = Box::new(alloc, Drawing::new(alloc, tally.share()?))?;
-    expect_object(&rt, &note, 1, "Note", [0, 1, 0, 0]);
-    expect_object(&rt, &table, 2, "Table", [2, 1, 0, 0]);
-    expect_object(&rt, &drawing, 3, "Draw", [3, 0, 0, 0]);
+    let tally = Tally::new(rt.alloc())?;
+    expect_object(&rt, &note(rt.alloc(), &tally)?, 1, "Note", [0, 1, 0, 0]);
+    expect_object(&rt, &table(rt.alloc(), &tally)?, 2, "Table", [2, 1, 0, 0]);
+    expect_object(&rt, &drawing(rt.alloc(), &tally)?, 3, "Draw", [3, 0, 0, 0]);
     Ok(())
 }
 

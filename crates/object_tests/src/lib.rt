@@ -10,6 +10,8 @@ mod kinds;
 #[cfg(test)]
 mod notes;
 #[cfg(test)]
+mod objects;
+#[cfg(test)]
 mod states;
 #[cfg(test)]
 mod steps;

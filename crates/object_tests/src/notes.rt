@@ -1,9 +1,8 @@
 //! What a note does.
 
+use crate::objects::note;
 use crate::steps::play;
-use embed_core::embedded::Embedded;
 use embed_core::tally::Tally;
-use embed_note::note::Note;
 use std::test::Fail;
 
 const ROWS: &str = "
@@ -68,7 +67,6 @@ picture => <e$>{20} => Ok
 
 #[test]
 fn a_note_answers_its_calls(rt: HostRuntime) -> Result<(), Fail> {
-    let note = Note::new(rt.alloc(), Tally::new(rt.alloc())?);
-    let mut object: Box<dyn Embedded> = Box::new(rt.alloc(), note)?;
+    let mut object = note(rt.alloc(), &Tally::new(rt.alloc())?)?;
     play(&rt, rt.alloc(), &mut object, "Text", ROWS)
 }

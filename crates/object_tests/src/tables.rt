@@ -1,9 +1,8 @@
 //! What a table does.
 
+use crate::objects::table;
 use crate::steps::play;
-use embed_core::embedded::Embedded;
 use embed_core::tally::Tally;
-use embed_table::table::Table;
 use std::test::Fail;
 
 const ROWS: &str = "
@@ -81,7 +80,6 @@ picture => A1=x$B1=x$C1=x$D1=x$E1=x$F1=x$G1=x$H1=x$I1=x$J1=x$K1=x$L1=x$M1=x$N1=x
 
 #[test]
 fn a_table_answers_its_calls(rt: HostRuntime) -> Result<(), Fail> {
-    let table = Table::new(rt.alloc(), Tally::new(rt.alloc())?);
-    let mut object: Box<dyn Embedded> = Box::new(rt.alloc(), table)?;
+    let mut object = table(rt.alloc(), &Tally::new(rt.alloc())?)?;
     play(&rt, rt.alloc(), &mut object, "Cells", ROWS)
 }

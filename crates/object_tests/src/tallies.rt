@@ -1,10 +1,8 @@
 //! Tallies: each object tells its own once, as it is dropped.
 
+use crate::objects::{drawing, note, table};
 use embed_core::embedded::Embedded;
 use embed_core::tally::Tally;
-use embed_drawing::drawing::Drawing;
-use embed_note::note::Note;
-use embed_table::table::Table;
 use std::alloc::Global;
 use std::process::Abort;
 use std::test::Fail;
@@ -20,36 +18,34 @@ fn edited(alloc: Global, mut object: Box<dyn Embedded>, edit: &[u8]) -> Option<B
 /// Of two objects the second is dropped as its edit is refused, and the first behind it.
 fn expect_counts(
     rt: &impl Abort,
-    alloc: Global,
     tally: &Tally,
     objects: (Box<dyn Embedded>, Box<dyn Embedded>),
-    taken: &[u8],
-    refused: &[u8],
+    edits: (&[u8], &[u8]),
+    alloc: Global,
 ) {
     let before = tally.count();
-    let first = edited(alloc, objects.0, taken);
-    assert!(rt; first.is_some());
-    assert_eq!(rt; tally.count(), before);
-    let second = edited(alloc, objects.1, refused);
-    assert!(rt; second.is_none());
-    assert_eq!(rt; tally.count().checked_sub(before), Some(1));
+    let first = edited(alloc, objects.0, edits.0);
+    assert!(rt; first.is_some() && is_past(tally, before, 0));
+    let second = edited(alloc, objects.1, edits.1);
+    assert!(rt; second.is_none() && is_past(tally, before, 1));
     drop(first);
-    assert_eq!(rt; tally.count().checked_sub(before), Some(2));
+    assert!(rt; is_past(tally, before, 2));
+}
+
+fn is_past(tally: &Tally, before: u32, count: u32) -> bool {
+    tally.count().checked_sub(before) == Some(count)
 }
 
 #[test]
 fn each_object_is_counted_once(rt: HostRuntime) -> Result<(), Fail> {
     let alloc = rt.alloc();
     let tally = Tally::new(alloc)?;
-    let first = Box::new(alloc, Note::new(alloc, tally.share()?))?;
-    let second = Box::new(alloc, Note::new(alloc, tally.share()?))?;
-    expect_counts(&rt, alloc, &tally, (first, second), b"i 0 ab", b"d 0 2");
-    let first = Box::new(alloc, Table::new(alloc, tally.share()?))?;
-    let second = Box::new(alloc, Table::new(alloc, tally.share()?))?;
-    expect_counts(&rt, alloc, &tally, (first, second), b"s A1 x", b"c A1");
-    let first = Box::new(alloc, Drawing::new(alloc, tally.share()?))?;
-    let second = Box::new(alloc, Drawing::new(alloc, tally.share()?))?;
-    expect_counts(&rt, alloc, &tally, (first, second), b"b 0 0 3 2", b"r 1");
+    let notes = (note(alloc, &tally)?, note(alloc, &tally)?);
+    expect_counts(&rt, &tally, notes, (b"i 0 ab", b"d 0 2"), alloc);
+    let tables = (table(alloc, &tally)?, table(alloc, &tally)?);
+    expect_counts(&rt, &tally, tables, (b"s A1 x", b"c A1"), alloc);
+    let drawings = (drawing(alloc, &tally)?, drawing(alloc, &tally)?);
+    expect_counts(&rt, &tally, drawings, (b"b 0 0 3 2", b"r 1"), alloc);
     Ok(())
 }
 
