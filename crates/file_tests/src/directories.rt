@@ -3,7 +3,7 @@
 use cfb_directory::entries::{Entries, EntryKind, NO_STREAM};
 use cfb_directory::fault::DirFault;
 use cfb_directory::links::{Links, balanced, build};
-use cfb_directory::name::{Name, keys_agree};
+use cfb_directory::name::{LONGEST, Name, keys_agree};
 use cfb_directory::write::{EntryFields, write_entry, write_free_entry};
 use std::alloc::{AllocError, Global};
 use std::cmp::Ordering;
@@ -86,6 +86,9 @@ fn fields(kind: EntryKind, left: u32, right: u32, child: u32) -> EntryFields {
 }
 
 fn push(out: &mut Vec<u8>, name: &[u8], fields: &EntryFields) -> Result<(), AllocError> {
+    if name.len() > LONGEST {
+        return Err(AllocError);
+    }
     write_entry(out, name, fields)
 }
 
