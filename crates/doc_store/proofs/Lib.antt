@@ -1,0 +1,4 @@
+mod Closed
+mod Gates
+mod Moments
+mod Recovered

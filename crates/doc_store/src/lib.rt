@@ -1,0 +1,12 @@
+//! A document on a disk, committed through a journal: a crash at any moment leaves the document from before a commit,
+//! or the one after it.
+#![tactic(auto)]
+
+pub mod area;
+pub mod disk;
+pub mod fault;
+mod found;
+pub mod limit;
+mod runs;
+mod steps;
+pub mod store;
