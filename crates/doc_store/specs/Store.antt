@@ -46,6 +46,14 @@ CurrentRefuses was now before after TooBig = ⊥
 CurrentRefuses was now before after Damaged = ⊥
 CurrentRefuses was now before after NoMemory = (was ≡ false) × (now ≡ false)
 
+-- When the document isn't read, with each fault.
+abbrev pub ReadRefuses : ℕ → ℕ → StoreFault → Type 0
+ReadRefuses before after Device = Rose before after
+ReadRefuses before after NeedsReopen = ⊥
+ReadRefuses before after TooBig = ⊥
+ReadRefuses before after Damaged = ⊥
+ReadRefuses before after NoMemory = ⊤
+
 -- When `commit` of so many bytes refuses with each fault.
 abbrev pub CommitRefuses : ℕ → Bool → Bool → ℕ → ℕ → StoreFault → Type 0
 CommitRefuses size was now before after Device = (was ≡ false) × (size ≤ MAX_DOCUMENT) × (now ≡ true) × Rose before after

@@ -7,6 +7,7 @@ pub mod disk;
 pub mod fault;
 mod found;
 pub mod limit;
+pub mod refused;
 mod runs;
 mod steps;
 pub mod store;

@@ -4,7 +4,7 @@
 ghost use Rattle.doc_store.specs.Crash.{Counts, LeavesOnly, Only, Quiet};
 ghost use Rattle.doc_store.specs.Image.{changed, put};
 ghost use Rattle.doc_store.specs.Steps.{Finds, IsGating, IsInstalling, IsStaging, staged};
-ghost use Rattle.doc_store.specs.Store.{IsClosed, OpenRefuses, Rests};
+ghost use Rattle.doc_store.specs.Store.{IsClosed, OpenRefuses, ReadRefuses, Rests};
 ghost use Rattle.doc_store.specs.declared.area.Area.TheVariants.{Document, Journal};
 ghost use Rattle.std.specs.Prelude.{◌≡◌, ◌<◌, ◌≤◌, [], ◌∷◌, IfErr, IfOk, OnOk, length};
 
@@ -63,6 +63,18 @@ pub(crate) fn find_image<D: Disk>(alloc: Global, disk: &mut D) -> Result<Found, 
     let mut image = vec![in alloc; 0u8; said as usize]?;
     disk.read(Area::Journal, HEADER, &mut image)?;
     Ok(Found::Whole(image))
+}
+
+/// Reads the document area.
+pub(crate) fn read_document<D: Disk>(alloc: Global, disk: &mut D) -> Result<Vec<u8>, StoreFault>
+    ensures document { D.follows_model → IfOk result (λ bytes. bytes.items ≡ (D.reads disk.old).document) }
+    ensures quiet { D.follows_model → Quiet D.reads D.may_leave D.moment D.left_since disk.old disk.new }
+    ensures refuses { IfErr result (ReadRefuses (D.failed disk.old) (D.failed disk.new)) }
+{
+    let size = disk.length(Area::Document)?;
+    let mut bytes = vec![in alloc; 0u8; size as usize]?;
+    disk.read(Area::Document, 0, &mut bytes)?;
+    Ok(bytes)
 }
 
 /// Writes a document behind the closed gate.
