@@ -1,7 +1,7 @@
 -- Writes and cuts behind a closed gate leave it closed.
 use Rattle.std.proofs.Common.{◌≡◌, ◌<◌, ◌≤◌, ◌+◌, ℕ, zero, suc, List, [], ◌∷◌, length, get_or, take, drop, min, refl, sym, ◌∙◌, ap, subst, arith, length-take}
 use Rattle.std.proofs.lemmas.List.{get_or-take}
-use Rattle.doc_store.specs.Crash.{Torn, Cut}
+use Rattle.doc_store.specs.Crash.{Torn, CutShort}
 use Rattle.doc_store.specs.Store.{IsClosed}
 
 pub torn_keeps_closed : (at n : ℕ) (old new : List ℕ) → 1 ≤ at → IsClosed old → Torn at n old new → IsClosed new
@@ -14,7 +14,7 @@ torn_keeps_closed at n old new behind closed torn =
       ∙ get_or-take at old 0 0 (omega (arith, behind)) in
     record { there = omega (arith, there, longer); shut = λ is. closed.shut (sym front ∙ is) }
 
-pub cut_keeps_closed : (size : ℕ) (old new : List ℕ) → 1 ≤ size → IsClosed old → Cut size old new → IsClosed new
+pub cut_keeps_closed : (size : ℕ) (old new : List ℕ) → 1 ≤ size → IsClosed old → CutShort size old new → IsClosed new
 cut_keeps_closed size old new behind closed cut =
     let there = closed.there in
     let longer = cut.no_shorter in

@@ -14,7 +14,7 @@ pub record Torn (at n : ℕ) (old new : List ℕ) : Type 0 where
   pub no_longer : length new ≤ max (length old) (at + n)
 
 -- A cut: some length between, and the bytes up to it stay.
-pub record Cut (size : ℕ) (old new : List ℕ) : Type 0 where
+pub record CutShort (size : ℕ) (old new : List ℕ) : Type 0 where
   pub no_shorter : min size (length old) ≤ length new
   pub front : new ≡ take (length new) old
 

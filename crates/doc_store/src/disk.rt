@@ -1,6 +1,6 @@
 //! A disk as the store sees it: what reads give, and what a crash may leave.
 
-ghost use Rattle.doc_store.specs.Crash.{Counts, Cut, Elapses, Follows, InArea, IsWithin, Torn};
+ghost use Rattle.doc_store.specs.Crash.{Counts, CutShort, Elapses, Follows, InArea, IsWithin, Torn};
 ghost use Rattle.doc_store.specs.Image.{Image, bytes_of, changed, put};
 ghost use Rattle.std.specs.Prelude.{◌≡◌, ◌≤◌, IfOk, List, OnOk, drop, length, take, ℕ};
 
@@ -65,7 +65,7 @@ pub trait Disk {
     /// Cuts an area that is longer to this length. Until a sync, a crash may leave any length between.
     fn cut(&mut self, area: Area, size: u64) -> Result<(), DiskFailure>
         ensures cut { follows_model → OnOk result (reads self.new ≡ changed area (take size (bytes_of area (reads self.old))) (reads self.old)) }
-        ensures crash { follows_model → Follows (InArea area (Cut size)) (may_leave self.old) (may_leave self.new) }
+        ensures crash { follows_model → Follows (InArea area (CutShort size)) (may_leave self.old) (may_leave self.new) }
         ensures time { follows_model → Elapses (moment self.old) (moment self.new) (left_since self.old) (left_since self.new) (may_leave self.new) }
         ensures count { Counts (failed self.old) (failed self.new) result };
 

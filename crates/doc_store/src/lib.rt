@@ -3,10 +3,12 @@
 #![tactic(auto)]
 
 pub mod area;
+pub mod areas;
 pub mod disk;
 pub mod fault;
 mod found;
 pub mod limit;
+pub mod memory_disk;
 pub mod refused;
 mod runs;
 mod steps;
