@@ -9,9 +9,9 @@ torn_keeps_closed at n old new behind closed torn =
     let there = closed.there in
     let longer = torn.no_shorter in
     let front : get_or new 0 0 ≡ get_or old 0 0 =
-      sym (get_or-take (min at (length old)) new 0 0 (omega (arith, behind, there)))
-      ∙ ap (λ (l : List ℕ). get_or l 0 0) torn.before
-      ∙ get_or-take at old 0 0 (omega (arith, behind)) in
+    sym (get_or-take (min at (length old)) new 0 0 (omega (arith, behind, there)))
+    ∙ ap (λ (l : List ℕ). get_or l 0 0) torn.before
+    ∙ get_or-take at old 0 0 (omega (arith, behind)) in
     record { there = omega (arith, there, longer); shut = λ is. closed.shut (sym front ∙ is) }
 
 pub cut_keeps_closed : (size : ℕ) (old new : List ℕ) → 1 ≤ size → IsClosed old → CutShort size old new → IsClosed new

@@ -29,9 +29,9 @@ elapses_push first calls call = record { later = omega (arith, longer); nothing_
 
     nothing_else : (t : ℕ) (c : Image) → t ≤ length calls → LeftSince first (calls ++ call ∷ []) t c → LeftSince first calls t c ⊎ LeftAfter first (calls ++ call ∷ []) c
     nothing_else t c le since = ⊎_elim
-      (λ after. inr (subst (λ (l : List Call). LeftAfter first l c) (take_all since.0 (calls ++ call ∷ []) (omega (arith, longer, after))) since.3))
-      (λ before. inl (since.0, since.1, before, subst (λ (l : List Call). LeftAfter first l c) (take-append-le since.0 calls (call ∷ []) before) since.3))
-      (cases_lt (length calls) since.0)
+        (λ after. inr (subst (λ (l : List Call). LeftAfter first l c) (take_all since.0 (calls ++ call ∷ []) (omega (arith, longer, after))) since.3))
+        (λ before. inl (since.0, since.1, before, subst (λ (l : List Call). LeftAfter first l c) (take-append-le since.0 calls (call ∷ []) before) since.3))
+        (cases_lt (length calls) since.0)
 
     keeps : (t : ℕ) (c : Image) → t ≤ length calls → LeftSince first calls t c → LeftSince first (calls ++ call ∷ []) t c
     keeps t c le since = (since.0, since.1, omega (arith, longer, since.2), subst (λ (l : List Call). LeftAfter first l c) (sym (take-append-le since.0 calls (call ∷ []) since.2)) since.3)

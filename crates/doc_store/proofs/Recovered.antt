@@ -29,11 +29,11 @@ module _ {D : Type 0} (reads : D → Image) (may_leave : D → Image → Type 0)
       → LeavesOnly moment left_since old new (StandsAsOneOf (may_leave old))
   quiet_twice old mid new first second =
       weaker moment left_since old new (may_leave old) (StandsAsOneOf (may_leave old)) (λ c left. (c, left, refl))
-        (joined moment left_since old mid new (may_leave old) first.any_moment
-          (weaker moment left_since mid new (may_leave mid) (may_leave old) first.within second.any_moment))
+      (joined moment left_since old mid new (may_leave old) first.any_moment
+      (weaker moment left_since mid new (may_leave mid) (may_leave old) first.within second.any_moment))
 
   pub then_stands : (old mid new : D) (P : Image → Type 0) → may_leave old (reads old) → LeavesOnly moment left_since old mid (StandsAsOneOf (may_leave old))
       → LeavesOnly moment left_since mid new P → ((c : Image) → P c → restored c ≡ restored (reads old)) → LeavesOnly moment left_since old new (StandsAsOneOf (may_leave old))
   then_stands old mid new P here so_far run stands =
       joined moment left_since old mid new (StandsAsOneOf (may_leave old)) so_far
-        (weaker moment left_since mid new P (StandsAsOneOf (may_leave old)) (λ c has. (reads old, here, stands c has)) run)
+      (weaker moment left_since mid new P (StandsAsOneOf (may_leave old)) (λ c has. (reads old, here, stands c has)) run)

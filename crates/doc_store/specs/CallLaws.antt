@@ -40,9 +40,9 @@ cut_take old size = record {
   where
     least : take (min size (length old)) old ≡ take size old
     least = ⊎_elim
-      (λ lt. let is : min size (length old) ≡ length old = omega (arith, lt) in ap (λ n. take n old) is ∙ take_all (length old) old (omega arith) ∙ sym (take_all size old (omega (arith, lt))))
-      (λ le. let is : min size (length old) ≡ size = omega (arith, le) in ap (λ n. take n old) is)
-      (cases_lt (length old) size)
+        (λ lt. let is : min size (length old) ≡ length old = omega (arith, lt) in ap (λ n. take n old) is ∙ take_all (length old) old (omega arith) ∙ sym (take_all size old (omega (arith, lt))))
+        (λ le. let is : min size (length old) ≡ size = omega (arith, le) in ap (λ n. take n old) is)
+        (cases_lt (length old) size)
 
 -- what reads give after a call is one of the images that a crash may leave
 call_stays_left : (call : Call) (reads : Image) (before : Image → Type 0) → before reads → LeftBy call reads before (called call reads)

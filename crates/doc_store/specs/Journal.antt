@@ -20,5 +20,5 @@ is_whole journal = nat_le (said journal) MAX_DOCUMENT && nat_le (9 + said journa
 -- document area's. None where an open journal is damaged.
 abbrev pub restored : Image → Option (List ℕ)
 restored image = if is_open image.journal
-  then (if is_whole image.journal then Some (take (said image.journal) (drop 9 image.journal)) else None)
-  else Some image.document
+    then (if is_whole image.journal then Some (take (said image.journal) (drop 9 image.journal)) else None)
+    else Some image.document

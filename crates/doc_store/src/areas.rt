@@ -30,7 +30,6 @@ pub struct Areas {
 }
 
 impl Areas {
-
     /// The bytes of one area.
     pub fn bytes(&self, area: Area) -> &[u8]
         ensures { result.now ≡ bytes_of area (image_of self.now) }
@@ -105,7 +104,14 @@ fn push(calls: &mut Vec<Call>, call: Call)
 }
 
 /// Writes, and keeps the call. A refusal of memory changes nothing.
-pub(crate) fn log_write(alloc: Global, areas: &mut Areas, calls: &mut Vec<Call>, area: Area, at: u64, bytes: &[u8]) -> Result<(), AllocError>
+pub(crate) fn log_write(
+    alloc: Global,
+    areas: &mut Areas,
+    calls: &mut Vec<Call>,
+    area: Area,
+    at: u64,
+    bytes: &[u8],
+) -> Result<(), AllocError>
     requires { at ≤ length (bytes_of area (image_of areas.old)) }
     ensures written { OnOk result (image_of areas.new ≡ changed area (put (bytes_of area (image_of areas.old)) at bytes.now) (image_of areas.old)) }
     ensures logged { OnOk result ((kept : Vec ℕ Global) × (kept.items ≡ bytes.now) × (calls.new.items ≡ calls.old.items ++ Write area at kept ∷ [])) }
@@ -119,7 +125,12 @@ pub(crate) fn log_write(alloc: Global, areas: &mut Areas, calls: &mut Vec<Call>,
 }
 
 /// Cuts, and keeps the call. A refusal of memory changes nothing.
-pub(crate) fn log_cut(areas: &mut Areas, calls: &mut Vec<Call>, area: Area, size: u64) -> Result<(), AllocError>
+pub(crate) fn log_cut(
+    areas: &mut Areas,
+    calls: &mut Vec<Call>,
+    area: Area,
+    size: u64,
+) -> Result<(), AllocError>
     ensures cut { OnOk result (image_of areas.new ≡ changed area (take size (bytes_of area (image_of areas.old))) (image_of areas.old)) }
     ensures logged { OnOk result (calls.new.items ≡ calls.old.items ++ Cut area size ∷ []) }
     ensures err { OnErr result ((image_of areas.new ≡ image_of areas.old) × (calls.new.items ≡ calls.old.items)) }

@@ -5,7 +5,9 @@
 pub mod area;
 pub mod areas;
 pub mod disk;
+mod failures;
 pub mod fault;
+pub mod file_disk;
 mod found;
 pub mod limit;
 pub mod memory_disk;

@@ -2,13 +2,13 @@
 
 ghost use Rattle.doc_store.specs.CallLaws.{here_now, none_but_now, reads_stay_left};
 ghost use Rattle.doc_store.specs.Calls.{LeftAfter, LeftSince, image_of, reads_after};
-ghost use Rattle.doc_store.specs.Crash.{Rose};
 ghost use Rattle.doc_store.specs.Image.{Image};
-ghost use Rattle.std.specs.Prelude.{◌≡◌, ◌≤◌, length};
+ghost use Rattle.std.specs.Prelude.{◌≡◌, length};
 
 use crate::area::Area;
 use crate::areas::{Areas, Call, log_cut, log_sync, log_write};
 use crate::disk::{Disk, DiskFailure};
+use crate::failures::fail;
 use std::alloc::{AllocError, Global};
 
 /// Which calls of a disk fail.
@@ -108,15 +108,6 @@ impl MemoryDisk {
     {
         &self.calls
     }
-}
-
-/// Counts a failure.
-fn fail(failed: &mut u64) -> DiskFailure
-    ensures later { failed.old ≤ failed.new }
-    ensures rose { Rose failed.old failed.new }
-{
-    *failed = failed.saturating_add(1);
-    DiskFailure
 }
 
 impl Disk for MemoryDisk {

@@ -3,10 +3,10 @@
 ghost use Rattle.doc_store.specs.Store.{Rests};
 ghost use Rattle.std.specs.Prelude.{◌≡◌, false};
 
+use crate::area::Area;
 use crate::disk::Disk;
 use crate::fault::StoreFault;
 use crate::limit::MAX_DOCUMENT;
-use crate::area::Area;
 use crate::refused::Refused;
 use crate::runs::{recover, replace};
 use crate::steps::read_document;
@@ -47,7 +47,11 @@ impl<D: Disk> Store<D> {
     {
         let mut disk = disk;
         match recover(alloc, &mut disk) {
-            Ok(()) => Ok(Store { alloc, disk, needs_reopen: false }),
+            Ok(()) => Ok(Store {
+                alloc,
+                disk,
+                needs_reopen: false,
+            }),
             Err(fault) => Err(Refused { fault, disk }),
         }
     }
