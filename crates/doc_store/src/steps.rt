@@ -115,8 +115,9 @@ pub(crate) fn install<D: Disk>(disk: &mut D, document: &[u8]) -> Result<(), Disk
     ensures any_moment { D.follows_model → LeavesOnly D.moment D.left_since disk.old disk.new (IsInstalling (D.reads disk.old)) }
     ensures count { Counts (D.failed disk.old) (D.failed disk.new) result }
 {
-    disk.write(Area::Document, 0, document)?;
-    disk.cut(Area::Document, document.len() as u64)?;
-    disk.sync(Area::Document)?;
+    let area = Area::Document;
+    disk.write(area, 0, document)?;
+    disk.cut(area, document.len() as u64)?;
+    disk.sync(area)?;
     Ok(())
 }
