@@ -1,5 +1,5 @@
 -- Writes and cuts behind a closed gate leave it closed.
-use Rattle.std.proofs.Common.{◌≡◌, ◌<◌, ◌≤◌, ◌+◌, ℕ, zero, suc, List, [], ◌∷◌, length, get_or, take, drop, min, refl, sym, ◌∙◌, ap, subst, arith, length-take}
+use Rattle.std.proofs.Common.{◌≡◌, ◌<◌, ◌≤◌, ℕ, List, length, get_or, min, sym, ◌∙◌, ap, arith}
 use Rattle.std.proofs.lemmas.List.{get_or-take}
 use Rattle.doc_store.specs.Crash.{Torn, CutShort}
 use Rattle.doc_store.specs.Store.{IsClosed}

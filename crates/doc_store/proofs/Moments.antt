@@ -1,5 +1,5 @@
 -- How a run of device calls goes on.
-use Rattle.std.proofs.Common.{inl, inr, ⊎_elim, ◌≡◌, ◌∙◌, ℕ, ◌≤◌, arith}
+use Rattle.std.proofs.Common.{inl, inr, ⊎_elim, ◌≡◌, ◌∙◌, ℕ, arith}
 use Rattle.doc_store.specs.Crash.{Elapses, IsWithin, LeavesOnly, Quiet}
 use Rattle.doc_store.specs.Image.{Image}
 

@@ -2,7 +2,7 @@
 use Rattle.std.proofs.Common.{◌≡◌, ◌<◌, ℕ, List, length, refl, sym, ◌∙◌, subst}
 use Rattle.doc_store.specs.Image.{Image, changed}
 use Rattle.doc_store.specs.Journal.{restored}
-use Rattle.doc_store.specs.Steps.{IsGating, IsInstalling, IsOpenWith, Finds}
+use Rattle.doc_store.specs.Steps.{IsGating, IsInstalling, IsOpenWith}
 use Rattle.doc_store.specs.Store.{StandsAsOneOf}
 use Rattle.doc_store.specs.Crash.{LeavesOnly, Quiet}
 use Rattle.doc_store.specs.declared.area.Area.TheVariants.{Document}

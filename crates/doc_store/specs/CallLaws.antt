@@ -1,11 +1,10 @@
 -- What holds of each list of calls.
-use Rattle.std.proofs.Common.{◌≡◌, ◌<◌, ◌≤◌, ◌+◌, ◌-◌, ◌⊎◌, inl, inr, ⊎_elim, ℕ, List, [], ◌∷◌, ◌++◌, length, take, drop, min, max, refl, sym, ◌∙◌, ap, subst, arith, length-append, length-take, length-drop, append_assoc}
+use Rattle.std.proofs.Common.{◌≡◌, ◌<◌, ◌≤◌, ◌+◌, ◌-◌, ⊎_elim, ℕ, List, [], ◌∷◌, ◌++◌, length, take, drop, min, refl, sym, ◌∙◌, ap, subst, arith, length-append, length-take, length-drop, append_assoc}
 use Rattle.std.proofs.lemmas.List.{take_at, take_all, drop_at, drop_all}
 use Rattle.std.proofs.lemmas.Bool.{cases_lt}
 use Rattle.doc_store.specs.Calls.{called, LeftBy, LeftAfter, LeftFrom, LeftSince, reads_after}
-use Rattle.doc_store.specs.Crash.{CutShort, InArea, Torn}
-use Rattle.doc_store.specs.Image.{Image, bytes_of, changed, put}
-use Rattle.doc_store.specs.declared.area.Area.{Area}
+use Rattle.doc_store.specs.Crash.{CutShort, Torn}
+use Rattle.doc_store.specs.Image.{Image, put}
 use Rattle.doc_store.specs.declared.area.Area.TheVariants.{Document, Journal}
 use Rattle.doc_store.specs.declared.areas.Call.{Call}
 use Rattle.doc_store.specs.declared.areas.Call.TheVariants.{Write, Cut, Sync}

@@ -1,9 +1,9 @@
 -- What the steps of `open` and `commit` find, write, and may leave.
-use Rattle.std.specs.Prelude.{◌≡◌, ◌<◌, ◌++◌, ℕ, List, [], ◌∷◌, length, take, Bool, true}
+use Rattle.std.specs.Prelude.{◌≡◌, ◌<◌, ◌++◌, ℕ, List, length, take, true}
 use Rattle.std.specs.Int.{w64, to_le_bytes}
 use Rattle.doc_store.specs.Crash.{Torn}
 use Rattle.doc_store.specs.Image.{Image}
-use Rattle.doc_store.specs.Journal.{is_open, restored}
+use Rattle.doc_store.specs.Journal.{is_open}
 use Rattle.doc_store.specs.Store.{IsClosed, StandsFor}
 use Rattle.doc_store.specs.declared.found.Found.{Found}
 use Rattle.doc_store.specs.declared.found.Found.TheVariants.{Closed, NoGate, Whole}

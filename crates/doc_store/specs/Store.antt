@@ -1,5 +1,5 @@
 -- What holds of an opened store, and what a crash leaves of it.
-use Rattle.std.specs.Prelude.{◌≡◌, ◌≢◌, ◌⊎◌, ◌<◌, ◌≤◌, ℕ, List, length, get_or, Bool, true, false, Option, Some, None, IsSome, ⊤}
+use Rattle.std.specs.Prelude.{◌≡◌, ◌≢◌, ◌⊎◌, ◌<◌, ◌≤◌, ℕ, List, length, get_or, Bool, true, false, Some, None, IsSome, ⊤}
 use Rattle.doc_store.specs.Crash.{Rose}
 use Rattle.doc_store.specs.Image.{Image}
 use Rattle.doc_store.specs.Journal.{restored}

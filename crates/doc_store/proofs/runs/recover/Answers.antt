@@ -1,4 +1,4 @@
-use Rattle.std.proofs.Common.{◌≡◌, ◌<◌, ◌∙◌, ap, subst, sym, length}
+use Rattle.std.proofs.Common.{◌≡◌, ◌<◌, ◌∙◌, ap, subst, length}
 use Rattle.doc_store.specs.Image.{Image, changed}
 use Rattle.doc_store.specs.Steps.{Finds, IsGating, IsInstalling, IsOpenWith}
 use Rattle.doc_store.specs.declared.area.Area.TheVariants.{Document}

@@ -1,4 +1,4 @@
-use Rattle.std.proofs.Common.{◌≡◌, List, length, sym, ◌∙◌, ap, subst}
+use Rattle.std.proofs.Common.{length, sym, ◌∙◌, ap, subst}
 use Rattle.doc_store.specs.Calls.{image_of}
 use Rattle.doc_store.specs.Crash.{InArea, Torn}
 use Rattle.doc_store.specs.Image.{bytes_of, changed, put}
