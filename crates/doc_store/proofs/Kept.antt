@@ -1,0 +1,45 @@
+-- One call more in the list of calls of a disk in memory.
+use Rattle.std.proofs.Common.{◌≡◌, ◌⊎◌, ◌+◌, ◌≤◌, inl, inr, ⊎_elim, ℕ, List, [], ◌∷◌, ◌++◌, length, refl, sym, ◌∙◌, ap, subst, arith, length-append}
+use Rattle.std.proofs.lemmas.List.{take-append-le, take_all}
+use Rattle.std.proofs.lemmas.Bool.{cases_lt}
+use Rattle.doc_store.specs.Calls.{called, LeftAfter, LeftBy, LeftFrom, LeftSince, reads_after}
+use Rattle.doc_store.specs.Crash.{Elapses}
+use Rattle.doc_store.specs.Image.{Image}
+use Rattle.doc_store.specs.declared.areas.Call.{Call}
+
+pub reads_push : (reads : Image) (calls : List Call) (call : Call) → reads_after reads (calls ++ call ∷ []) ≡ called call (reads_after reads calls)
+reads_push reads [] call = refl
+reads_push reads (x ∷ calls) call = reads_push (called x reads) calls call
+
+left_push : (before : Image → Type 0) (reads : Image) (calls : List Call) (call : Call) (c : Image) → LeftFrom before reads (calls ++ call ∷ []) c → LeftBy call (reads_after reads calls) (λ d. LeftFrom before reads calls d) c
+left_push before reads [] call c left = left
+left_push before reads (x ∷ calls) call c left = left_push (LeftBy x reads before) (called x reads) calls call c left
+
+pub left_by_last : (first : Image) (calls later : List Call) (call : Call) → later ≡ calls ++ call ∷ [] → (c : Image) → LeftAfter first later c → LeftBy call (reads_after first calls) (λ d. LeftAfter first calls d) c
+left_by_last first calls later call is c left = left_push (λ d. d ≡ first) first calls call c (subst (λ (l : List Call). LeftAfter first l c) is left)
+
+pub elapses_same : (first : Image) (calls : List Call) → Elapses (length calls) (length calls) (LeftSince first calls) (LeftSince first calls) (LeftAfter first calls)
+elapses_same first calls = record { later = omega arith; nothing_else = λ t c le left. inl left; keeps = λ t c le left. left }
+
+elapses_push : (first : Image) (calls : List Call) (call : Call) → Elapses (length calls) (length (calls ++ call ∷ [])) (LeftSince first calls) (LeftSince first (calls ++ call ∷ [])) (LeftAfter first (calls ++ call ∷ []))
+elapses_push first calls call = record { later = omega (arith, longer); nothing_else = nothing_else; keeps = keeps }
+  where
+    longer : length (calls ++ call ∷ []) ≡ length calls + 1
+    longer = length-append calls (call ∷ [])
+
+    nothing_else : (t : ℕ) (c : Image) → t ≤ length calls → LeftSince first (calls ++ call ∷ []) t c → LeftSince first calls t c ⊎ LeftAfter first (calls ++ call ∷ []) c
+    nothing_else t c le since = ⊎_elim
+        (λ after. inr (subst (λ (l : List Call). LeftAfter first l c) (take_all since.0 (calls ++ call ∷ []) (omega (arith, longer, after))) since.3))
+        (λ before. inl (since.0, since.1, before, subst (λ (l : List Call). LeftAfter first l c) (take-append-le since.0 calls (call ∷ []) before) since.3))
+        (cases_lt (length calls) since.0)
+
+    keeps : (t : ℕ) (c : Image) → t ≤ length calls → LeftSince first calls t c → LeftSince first (calls ++ call ∷ []) t c
+    keeps t c le since = (since.0, since.1, omega (arith, longer, since.2), subst (λ (l : List Call). LeftAfter first l c) (sym (take-append-le since.0 calls (call ∷ []) since.2)) since.3)
+
+pub elapses_to : (first : Image) (calls later : List Call) (call : Call) → later ≡ calls ++ call ∷ [] → Elapses (length calls) (length later) (LeftSince first calls) (LeftSince first later) (LeftAfter first later)
+elapses_to first calls later call is = subst (λ (l : List Call). Elapses (length calls) (length l) (LeftSince first calls) (LeftSince first l) (LeftAfter first l)) (sym is) (elapses_push first calls call)
+
+-- what reads give is still what the calls made of the first bytes
+pub replayed_to : (first old new : Image) (calls later : List Call) (call : Call) → old ≡ reads_after first calls → later ≡ calls ++ call ∷ [] → new ≡ called call old → new ≡ reads_after first later
+replayed_to first old new calls later call replayed is done_now =
+    done_now ∙ ap (λ (i : Image). called call i) replayed ∙ sym (reads_push first calls call) ∙ ap (λ (l : List Call). reads_after first l) (sym is)

@@ -1,0 +1,5 @@
+mod Closed
+mod Gates
+mod Kept
+mod Moments
+mod Recovered

@@ -1,0 +1,10 @@
+pub mod CallLaws
+pub mod Calls
+pub mod Crash
+pub mod Fault
+pub mod Image
+pub mod Journal
+pub mod Memory
+pub mod Opened
+pub mod Steps
+pub mod Store

@@ -1,0 +1,176 @@
+//! A disk over two files of the operating system. What real files do is no part of any proof: this disk claims of its
+//! bytes and of crashes nothing, and of its count of failures what each disk claims.
+
+ghost use Rattle.doc_store.specs.Image.{Image};
+ghost use Rattle.std.specs.Prelude.{◌≡◌, []};
+
+use crate::area::Area;
+use crate::disk::{Disk, DiskFailure};
+use crate::failures::counted;
+use std::fs::{self, File, OpenOptions};
+use std::io;
+use std::os::unix::fs::FileExt;
+use std::path::PathBuf;
+
+/// How many bytes go to a file or come from it at once.
+const PIECE: usize = 64 * 1024;
+
+/// A disk over the files NAME, the document, and NAME.journal.
+#[derive(Drop)]
+pub struct FileDisk {
+    document: File,
+    journal: File,
+    folder: File,
+    folder_changed: bool,
+    failed: u64,
+}
+
+impl FileDisk {
+    /// Opens the two files, and makes those that are missing. A link or a folder of either name isn't opened.
+    pub fn open(rt: &HostRuntime, name: &str) -> io::Result<FileDisk> {
+        let journal_name = format!(in rt.alloc(); "{name}.journal")?;
+        let (document, document_made) = open_or_make(rt, name)?;
+        let (journal, journal_made) = open_or_make(rt, journal_name.as_str())?;
+        let folder = open_folder(rt, name)?;
+        Ok(FileDisk {
+            document,
+            journal,
+            folder,
+            folder_changed: document_made || journal_made,
+            failed: 0,
+        })
+    }
+
+    /// The file of an area.
+    fn file(&self, area: Area) -> &File {
+        match area {
+            Area::Document => &self.document,
+            Area::Journal => &self.journal,
+        }
+    }
+
+    /// Syncs the folder where a file was made in it.
+    fn sync_folder(&mut self) -> io::Result<()>
+        ensures { self.new.failed ≡ self.old.failed }
+    {
+        if self.folder_changed {
+            self.folder.sync_all()?;
+            self.folder_changed = false;
+        }
+        Ok(())
+    }
+}
+
+/// The file of this name, and whether this call made it.
+fn open_or_make(rt: &HostRuntime, name: &str) -> io::Result<(File, bool)> {
+    match OpenOptions::new()
+        .read(true)
+        .write(true)
+        .create_new(true)
+        .open(rt, name)
+    {
+        Ok(file) => Ok((file, true)),
+        Err(error) if error.kind() == io::ErrorKind::AlreadyExists => {
+            if !fs::symlink_metadata(rt, name)?.is_file() {
+                return Err(io::ErrorKind::Unsupported.into());
+            }
+            let file = OpenOptions::new().read(true).write(true).open(rt, name)?;
+            Ok((file, false))
+        }
+        Err(error) => Err(error),
+    }
+}
+
+/// The folder that a file of this name stands in.
+fn open_folder(rt: &HostRuntime, name: &str) -> io::Result<File> {
+    let mut path = PathBuf::from_str(rt.alloc(), name)?;
+    path.pop();
+    if path.as_str().is_empty() {
+        return File::open(rt, ".");
+    }
+    File::open(rt, path.as_str())
+}
+
+/// Fills the buffer from an offset on, a piece at a time.
+fn read_pieces(file: &File, at: u64, into: &mut [u8]) -> io::Result<()> {
+    let mut offset = at;
+    for piece in into.chunks_mut(PIECE) {
+        file.read_exact_at(piece, offset)?;
+        offset = offset.saturating_add(piece.len() as u64);
+    }
+    Ok(())
+}
+
+/// Writes the bytes from an offset on, a piece at a time.
+fn write_pieces(file: &File, at: u64, bytes: &[u8]) -> io::Result<()> {
+    let mut offset = at;
+    for piece in bytes.chunks(PIECE) {
+        file.write_all_at(piece, offset)?;
+        offset = offset.saturating_add(piece.len() as u64);
+    }
+    Ok(())
+}
+
+/// Cuts a file that is longer.
+fn cut_file(file: &File, size: u64) -> io::Result<()> {
+    if file.metadata()?.len() > size {
+        file.set_len(size)?;
+    }
+    Ok(())
+}
+
+/// The length of a file.
+fn file_length(file: &File) -> io::Result<u64> {
+    Ok(file.metadata()?.len())
+}
+
+impl Disk for FileDisk {
+    ghost follows_model = { ⊥ };
+
+    ghost reads = { λ d. record { document = []; journal = [] } };
+
+    ghost may_leave = { λ d c. Unit {0} };
+
+    ghost moment = { λ d. 0 };
+
+    ghost left_since = { λ d t c. Unit {0} };
+
+    ghost failed = { λ d. d.failed };
+
+    ghost reads_are_left = { λ d. tt };
+
+    ghost counts_now = { λ d t c le now. tt };
+
+    ghost only_now = { λ d c left. tt };
+
+    fn failures(&self) -> u64 {
+        self.failed
+    }
+
+    fn length(&mut self, area: Area) -> Result<u64, DiskFailure> {
+        let outcome = file_length(self.file(area));
+        counted(&mut self.failed, outcome)
+    }
+
+    fn read(&mut self, area: Area, at: u64, into: &mut [u8]) -> Result<(), DiskFailure> {
+        let outcome = read_pieces(self.file(area), at, into);
+        counted(&mut self.failed, outcome)
+    }
+
+    fn write(&mut self, area: Area, at: u64, bytes: &[u8]) -> Result<(), DiskFailure> {
+        let outcome = write_pieces(self.file(area), at, bytes);
+        counted(&mut self.failed, outcome)
+    }
+
+    fn cut(&mut self, area: Area, size: u64) -> Result<(), DiskFailure> {
+        let outcome = cut_file(self.file(area), size);
+        counted(&mut self.failed, outcome)
+    }
+
+    fn sync(&mut self, area: Area) -> Result<(), DiskFailure> {
+        let synced = self.file(area).sync_all();
+        counted(&mut self.failed, synced)?;
+        let outcome = self.sync_folder();
+        counted(&mut self.failed, outcome)
+    }
+}

@@ -1,0 +1,185 @@
+//! A disk in memory, which keeps the list of its calls, and can be told to fail.
+
+ghost use Rattle.doc_store.specs.CallLaws.{here_now, none_but_now, reads_stay_left};
+ghost use Rattle.doc_store.specs.Calls.{LeftAfter, LeftSince, image_of, reads_after};
+ghost use Rattle.doc_store.specs.Image.{Image};
+ghost use Rattle.std.specs.Prelude.{◌≡◌, length};
+
+use crate::area::Area;
+use crate::areas::{Areas, Call, log_cut, log_sync, log_write};
+use crate::disk::{Disk, DiskFailure};
+use crate::failures::fail;
+use std::alloc::{AllocError, Global};
+
+/// Which calls of a disk fail.
+#[derive(Debug, Clone, Copy, PartialEq, Eq)]
+pub enum Faults {
+    /// None.
+    Never,
+    /// The call after so many, and no other.
+    Once(u64),
+    /// Each call after so many.
+    From(u64),
+}
+
+impl Faults {
+    /// Whether the next call fails.
+    fn strike(&mut self) -> bool {
+        match *self {
+            Faults::Never => false,
+            Faults::Once(0) => {
+                *self = Faults::Never;
+                true
+            }
+            Faults::Once(left) => {
+                *self = Faults::Once(left - 1);
+                false
+            }
+            Faults::From(0) => true,
+            Faults::From(left) => {
+                *self = Faults::From(left - 1);
+                false
+            }
+        }
+    }
+}
+
+/// A disk in memory. It keeps what its areas held at first and each call that changed one or made it last, so that the
+/// images which a crash at any moment may leave can be named.
+#[derive(Drop)]
+pub struct MemoryDisk {
+    alloc: Global,
+    first: Areas,
+    held: Areas,
+    calls: Vec<Call>,
+    faults: Faults,
+    failed: u64,
+    ghost replayed: { image_of held ≡ reads_after (image_of first) calls.items },
+}
+
+impl MemoryDisk {
+    ghost use Rattle.doc_store.specs.Memory.{calls_of, failed_of, first_of, held_of};
+    ghost use Rattle.std.specs.Prelude.{[], IfOk};
+
+    /// A disk with these bytes, all of them synced. `NoMemory` of the allocator is handed on.
+    pub fn new(alloc: Global, document: Vec<u8>, journal: Vec<u8>) -> Result<MemoryDisk, AllocError>
+        ensures first { IfOk result (λ disk. first_of disk ≡ record { document = document.items; journal = journal.items }) }
+        ensures calls { IfOk result (λ disk. calls_of disk ≡ []) }
+        ensures failed { IfOk result (λ disk. failed_of disk ≡ 0) }
+    {
+        let held = Areas { document, journal };
+        let first = held.copy(alloc)?;
+        Ok(MemoryDisk {
+            alloc,
+            first,
+            held,
+            calls: Vec::new(alloc),
+            faults: Faults::Never,
+            failed: 0,
+        })
+    }
+
+    /// From now on these calls fail, counted from here.
+    pub fn set_faults(&mut self, faults: Faults)
+        ensures first { first_of self.new ≡ first_of self.old }
+        ensures calls { calls_of self.new ≡ calls_of self.old }
+        ensures failed { failed_of self.new ≡ failed_of self.old }
+    {
+        self.faults = faults;
+    }
+
+    /// What the areas held at first.
+    pub fn first(&self) -> &Areas
+        ensures { image_of result.now ≡ first_of self.now }
+    {
+        &self.first
+    }
+
+    /// What reads give now.
+    pub fn held(&self) -> &Areas
+        ensures { image_of result.now ≡ held_of self.now }
+    {
+        &self.held
+    }
+
+    /// The calls that changed an area or made it last, the first of them first.
+    pub fn calls(&self) -> &[Call]
+        ensures { result.now ≡ calls_of self.now }
+    {
+        &self.calls
+    }
+}
+
+impl Disk for MemoryDisk {
+    ghost follows_model = { Unit {0} };
+
+    ghost reads = { λ d. reads_after (image_of d.first) d.calls.items };
+
+    ghost may_leave = { λ d c. LeftAfter (image_of d.first) d.calls.items c };
+
+    ghost moment = { λ d. length d.calls.items };
+
+    ghost left_since = { λ d t c. LeftSince (image_of d.first) d.calls.items t c };
+
+    ghost failed = { λ d. d.failed };
+
+    ghost reads_are_left = { λ d. reads_stay_left (image_of d.first) d.calls.items };
+
+    ghost counts_now = { λ d t c le now. here_now (image_of d.first) d.calls.items t c le now };
+
+    ghost only_now = { λ d c left. none_but_now (image_of d.first) d.calls.items c left };
+
+    fn failures(&self) -> u64 {
+        self.failed
+    }
+
+    fn length(&mut self, area: Area) -> Result<u64, DiskFailure> {
+        if self.faults.strike() {
+            return Err(fail(&mut self.failed));
+        }
+        Ok(self.held.bytes(area).len() as u64)
+    }
+
+    fn read(&mut self, area: Area, at: u64, into: &mut [u8]) -> Result<(), DiskFailure> {
+        if self.faults.strike() {
+            return Err(fail(&mut self.failed));
+        }
+        let bytes = self.held.bytes(area);
+        let at = at as usize;
+        if at > bytes.len() || into.len() > bytes.len() - at {
+            return Err(fail(&mut self.failed));
+        }
+        into.copy_from_slice(&bytes[at..at + into.len()]);
+        Ok(())
+    }
+
+    fn write(&mut self, area: Area, at: u64, bytes: &[u8]) -> Result<(), DiskFailure> {
+        if self.faults.strike() || at > self.held.bytes(area).len() as u64 {
+            return Err(fail(&mut self.failed));
+        }
+        match log_write(self.alloc, &mut self.held, &mut self.calls, area, at, bytes) {
+            Ok(()) => Ok(()),
+            Err(_) => Err(fail(&mut self.failed)),
+        }
+    }
+
+    fn cut(&mut self, area: Area, size: u64) -> Result<(), DiskFailure> {
+        if self.faults.strike() {
+            return Err(fail(&mut self.failed));
+        }
+        match log_cut(&mut self.held, &mut self.calls, area, size) {
+            Ok(()) => Ok(()),
+            Err(_) => Err(fail(&mut self.failed)),
+        }
+    }
+
+    fn sync(&mut self, area: Area) -> Result<(), DiskFailure> {
+        if self.faults.strike() {
+            return Err(fail(&mut self.failed));
+        }
+        match log_sync(&mut self.calls, area) {
+            Ok(()) => Ok(()),
+            Err(_) => Err(fail(&mut self.failed)),
+        }
+    }
+}

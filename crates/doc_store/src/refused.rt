@@ -1,0 +1,12 @@
+//! A disk that couldn't be opened.
+
+use crate::fault::StoreFault;
+
+/// Why a disk couldn't be opened, and the disk.
+#[derive(Debug, Drop)]
+pub struct Refused<D> {
+    /// Why.
+    pub fault: StoreFault,
+    /// The disk, handed back.
+    pub disk: D,
+}
