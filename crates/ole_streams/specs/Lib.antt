@@ -1,0 +1,5 @@
+pub mod FaultNames
+pub mod Fields
+pub mod OleStreams
+pub mod CompObjs
+pub mod Presentations
