@@ -1,2 +1,4 @@
 pub mod Tests
 pub mod Lines
+pub mod Writing
+pub mod Opening

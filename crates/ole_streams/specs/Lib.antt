@@ -3,3 +3,7 @@ pub mod Fields
 pub mod OleStreams
 pub mod CompObjs
 pub mod Presentations
+pub mod Layouts
+pub mod DocTree
+pub mod DocOf
+pub mod Docs

@@ -2,7 +2,12 @@
 #![tactic(auto)]
 
 pub mod comp_obj;
+pub mod doc;
+pub mod document_of;
+pub mod document_tree;
 pub mod fault;
 mod fields;
+mod layout;
+pub mod names;
 pub mod ole_stream;
 pub mod presentation;

@@ -127,5 +127,7 @@ impl Streams {
     }
 }
 
+mod owned;
+
 #[cfg(test)]
 mod tests;

@@ -166,5 +166,7 @@ impl Tree {
     }
 }
 
+mod owned;
+
 #[cfg(test)]
 mod tests;
