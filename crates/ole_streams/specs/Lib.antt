@@ -7,3 +7,4 @@ pub mod Layouts
 pub mod DocTree
 pub mod DocOf
 pub mod Docs
+pub mod Laws

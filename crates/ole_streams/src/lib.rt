@@ -7,6 +7,7 @@ pub mod document_of;
 pub mod document_tree;
 pub mod fault;
 mod fields;
+pub mod laws;
 mod layout;
 pub mod names;
 pub mod ole_stream;
