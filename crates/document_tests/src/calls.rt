@@ -78,7 +78,7 @@ pub(crate) fn picture_told(alloc: Global, stream: &[u8]) -> Result<(bool, Bytes)
 pub(crate) fn name(text: &[u8]) -> Result<Name, Fail> {
     match Name::new(text) {
         Ok(name) => Ok(name),
-        Err(_) => Err(Fail),
+        Err(_) => Err(Fail::from("refused")),
     }
 }
 
@@ -96,12 +96,17 @@ pub(crate) fn object(
     };
     match streams.push(text) {
         Ok(()) => {}
-        Err(_) => return Err(Fail),
+        Err(_) => return Err(Fail::from("refused")),
     }
     Ok(DocObject {
         class: ClassId::from_bytes([7; 16]),
         user_type: bytes(alloc, b"Note")?,
-        area: Area { x, y: 2, w: 300, h: 4 },
+        area: Area {
+            x,
+            y: 2,
+            w: 300,
+            h: 4,
+        },
         stored: Stored {
             streams,
             picture: bytes(alloc, picture)?,
@@ -139,25 +144,25 @@ pub(crate) fn doc_told(alloc: Global, tree: Tree) -> &'static str {
 pub(crate) fn put(tree: &mut Tree, path: &[Name], bytes: Bytes) -> Result<(), Fail> {
     match tree.put_stream(path, bytes) {
         Ok(()) => Ok(()),
-        Err(_) => Err(Fail),
+        Err(_) => Err(Fail::from("refused")),
     }
 }
 
 pub(crate) fn remove(tree: &mut Tree, path: &[Name]) -> Result<(), Fail> {
     match tree.remove(path) {
         Ok(()) => Ok(()),
-        Err(_) => Err(Fail),
+        Err(_) => Err(Fail::from("refused")),
     }
 }
 
 /// Makes the storage of an object with its OLE streams.
 pub(crate) fn make_object(alloc: Global, tree: &mut Tree, number: usize) -> Result<(), Fail> {
     if number >= 100 {
-        return Err(Fail);
+        return Err(Fail::from("refused"));
     }
     match tree.make_storage(&[names::object(number)], ClassId::from_bytes([7; 16]), 0) {
         Ok(()) => {}
-        Err(_) => return Err(Fail),
+        Err(_) => return Err(Fail::from("refused")),
     }
     let says_ole = bytes(alloc, &OleStream.write())?;
     put(tree, &[names::object(number), ole()], says_ole)?;
@@ -183,6 +188,10 @@ pub(crate) fn tree_with(alloc: Global, first: usize, last: usize, count: u8) -> 
     for number in first..=last {
         make_object(alloc, &mut tree, number)?;
     }
-    put(&mut tree, &[names::layout()], layout(alloc, count, usize::from(count))?)?;
+    put(
+        &mut tree,
+        &[names::layout()],
+        layout(alloc, count, usize::from(count))?,
+    )?;
     Ok(tree)
 }

@@ -16,7 +16,10 @@ fn ole_is_read_and_written(rt: HostRuntime) -> Result<(), Fail> {
     assert_eq!(rt; ole_told(&cut(alloc, &stream, 19)?), "Truncated");
     assert_eq!(rt; ole_told(&edited(alloc, &stream, 4, &[1])?), "Linked");
     assert_eq!(rt; ole_told(&edited(alloc, &stream, 4, &[0, 16])?), "read");
-    assert_eq!(rt; ole_told(&edited(alloc, &stream, 3, &[3, 1])?), "BadVersion");
+    assert_eq!(rt;
+        ole_told(&edited(alloc, &stream, 3, &[3, 1])?),
+        "BadVersion"
+    );
     assert_eq!(rt; ole_told(&edited(alloc, &stream, 8, &[3; 14])?), "read");
     Ok(())
 }
@@ -32,7 +35,10 @@ fn comp_obj_is_read_and_written(rt: HostRuntime) -> Result<(), Fail> {
     };
     let stream = note.write(alloc, ClassId::from_bytes([7; 16]))?;
     assert_eq!(rt; stream.len(), 45);
-    assert_eq!(rt; cut(alloc, stream.as_slice(), 12)?.as_slice(), [1, 0, 0xfe, 0xff, 3, 10, 0, 0, 0xff, 0xff, 0xff, 0xff].as_slice());
+    assert_eq!(rt;
+        cut(alloc, stream.as_slice(), 12)?.as_slice(),
+        [1, 0, 0xfe, 0xff, 3, 10, 0, 0, 0xff, 0xff, 0xff, 0xff].as_slice()
+    );
     let stream = stream.as_slice();
     let cases: [(Vec<u8>, &[u8]); 8] = [
         (cut(alloc, stream, 45)?, b"Note"),
@@ -55,7 +61,10 @@ fn comp_obj_of_others_is_read(rt: HostRuntime) -> Result<(), Fail> {
     let alloc = rt.alloc();
     let cases: [(&[u8], &[u8]); 8] = [
         // A clipboard format by its number, and one by its name, with what Office writes behind them.
-        (b"\x06\0\0\0Sheet\0\xff\xff\xff\xff\x03\0\0\0\0\0\0\0\xf4\x39\xb2\x71", b"Sheet"),
+        (
+            b"\x06\0\0\0Sheet\0\xff\xff\xff\xff\x03\0\0\0\0\0\0\0\xf4\x39\xb2\x71",
+            b"Sheet",
+        ),
         (b"\x06\0\0\0Sheet\0\xfe\xff\xff\xff\x03\0\0\0", b"Sheet"),
         (b"\x06\0\0\0Sheet\0\x06\0\0\0Biff8\0\x0e\0\0\0", b"Sheet"),
         (b"\0\0\0\0\0\0\0\0", b""),
@@ -77,13 +86,13 @@ fn pictures_are_read_and_written(rt: HostRuntime) -> Result<(), Fail> {
     let alloc = rt.alloc();
     let picture = match Presentation::write(alloc, b"ab\n")? {
         Some(picture) => picture,
-        None => return Err(Fail),
+        None => return Err(Fail::from("refused")),
     };
     assert_eq!(rt; picture.len(), 51);
     assert_eq!(rt; lines(picture.as_slice()), Some(b"ab\n".as_slice()));
     let wide = match Presentation::write(alloc, b"ab\nabcd\n\n")? {
         Some(picture) => picture,
-        None => return Err(Fail),
+        None => return Err(Fail::from("refused")),
     };
     assert_eq!(rt; wide.as_slice().get(36).copied(), Some(4));
     assert_eq!(rt; wide.as_slice().get(40).copied(), Some(3));

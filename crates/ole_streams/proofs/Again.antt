@@ -39,7 +39,7 @@ characters-written xs rest size e =
     let some : nat_eq size 0 ≡ false = grind (arith, nat_tests) in
     let closed : get_or (xs ++ 0 ∷ rest) (size - 1) 0 ≡ 0 = rw back (at-end xs rest 0) in
     let behind : drop size (xs ++ 0 ∷ rest) ≡ rest =
-        ap (λ n. drop n (xs ++ 0 ∷ rest)) (e ∙ sym (length-append xs (0 ∷ []))) ∙ ap (drop (length (xs ++ 0 ∷ []))) (sym (append_assoc xs (0 ∷ []) rest)) ∙ drop-front (xs ++ 0 ∷ []) rest in
+    ap (λ n. drop n (xs ++ 0 ∷ rest)) (e ∙ sym (length-append xs (0 ∷ []))) ∙ ap (drop (length (xs ++ 0 ∷ []))) (sym (append_assoc xs (0 ∷ []) rest)) ∙ drop-front (xs ++ 0 ∷ []) rest in
     cond_false _ _ _ some
     ∙ cond_false _ _ _ (not_lt (length (xs ++ 0 ∷ rest)) size long)
     ∙ cond_false _ _ _ (ap (λ n. not (nat_eq n 0)) closed)
@@ -52,7 +52,7 @@ string-written (x ∷ xs) rest h =
     let ys : List ℕ = x ∷ xs in
     let fits : length ys + 1 < 2 ^ 32 = omega arith in
     let bytes : string_bytes ys ++ rest ≡ to_le_bytes w32 (length ys + 1) ++ (ys ++ 0 ∷ rest) =
-        append_assoc (to_le_bytes w32 (length ys + 1)) (ys ++ 0 ∷ []) rest ∙ ap (λ zs. to_le_bytes w32 (length ys + 1) ++ zs) (append_assoc ys (0 ∷ []) rest) in
+    append_assoc (to_le_bytes w32 (length ys + 1)) (ys ++ 0 ∷ []) rest ∙ ap (λ zs. to_le_bytes w32 (length ys + 1) ++ zs) (append_assoc ys (0 ∷ []) rest) in
     ap string bytes ∙ ap (on_ok (λ f. characters f.0 f.1)) (number-written (length ys + 1) (ys ++ 0 ∷ rest) fits) ∙ characters-written ys rest (length ys + 1) refl
 
 pub format-written : (rest : List ℕ) → format (string_bytes [] ++ rest) ≡ Ok rest

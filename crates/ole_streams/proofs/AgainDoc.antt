@@ -241,9 +241,9 @@ objects-again before (o ∷ os) n all few low =
     let k = key (object_name n) in
     let c : List ℕ × Seen = (object_name n, inner (object_tree o)) in
     let here : object_pushed before n o.area (place k c rest) ≡ Ok (before ++ o ∷ []) =
-        ap (λ f. on_ok (λ x. pushed before x) (on_ok (λ t. object_read o.area t) (as_storage f))) (find-place k c rest)
-        ∙ ap (on_ok (λ x. pushed before x)) (object-again o all.0)
-        ∙ pushed-ok before o (omega arith) all.0.within in
+    ap (λ f. on_ok (λ x. pushed before x) (on_ok (λ t. object_read o.area t) (as_storage f))) (find-place k c rest)
+    ∙ ap (on_ok (λ x. pushed before x)) (object-again o all.0)
+    ∙ pushed-ok before o (omega arith) all.0.within in
     let alone : find k rest ≡ None = not_among k (n + 1) os (λ m l h. names-apart n m (omega (arith, l)) (omega (arith, h))) in
     let more : length (before ++ o ∷ []) + length os ≤ 64 = simp length-append (omega arith) in
     ap (on_ok (λ objects. objects_behind objects (n + 1) (map (λ x. x.area) os) (without k (place k c rest)))) here

@@ -9,6 +9,7 @@ use std::alloc::AllocError;
 
 /// The marks of a clipboard format that is a number, of the system or of a Macintosh.
 const WINDOWS_FORMAT: u32 = 0xffff_ffff;
+
 const MACINTOSH_FORMAT: u32 = 0xffff_fffe;
 
 /// A number in four bytes, least byte first.

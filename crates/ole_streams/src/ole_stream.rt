@@ -14,9 +14,7 @@ const VERSION: u32 = 0x0200_0001;
 pub struct OleStream;
 
 /// The stream as it is written: the version, and zeros.
-const BYTES: [u8; 20] = [
-    1, 0, 0, 2, 0, 0, 0, 0, 0, 0, 0, 0, 0, 0, 0, 0, 0, 0, 0, 0,
-];
+const BYTES: [u8; 20] = [1, 0, 0, 2, 0, 0, 0, 0, 0, 0, 0, 0, 0, 0, 0, 0, 0, 0, 0, 0];
 
 impl OleStream {
     /// Reads the stream. It takes no memory.

@@ -16,7 +16,6 @@ const FRONT: [u8; 28] = *b"\x0c\0\0\0OleCon Text\0\x04\0\0\0\x01\0\0\0\xff\xff\x
 /// The first number that doesn't fit the field of the size.
 const PAST_SIZE: usize = 0x1_0000_0000;
 
-
 /// A picture.
 #[derive(Drop)]
 pub enum Presentation {

@@ -128,6 +128,5 @@ impl Streams {
 }
 
 mod owned;
-
 #[cfg(test)]
 mod tests;

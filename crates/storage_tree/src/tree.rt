@@ -167,6 +167,5 @@ impl Tree {
 }
 
 mod owned;
-
 #[cfg(test)]
 mod tests;

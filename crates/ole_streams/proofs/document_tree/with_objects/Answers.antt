@@ -19,9 +19,9 @@ loop-object-preserved c =
     let W : Seen → Type 0 = λ s. IsWhole 32 s in
     record {
       value = ap (with_objects 1 c.pop.new.self.items)
-      (c.in_ok-place.ensures.value
-      ∙ ap (λ n. placed n (seen (Storage c.in_ok-storage.storage)) cs) (c.object-name.ensures ∙ ap (λ n. object_name (n + 1)) (c.len.ensures ∙ c.pop.new.self.ok.0))
-      ∙ ap (λ s. placed (object_name (length c.pop.new.self.items + 1)) s cs) seen_so)
+          (c.in_ok-place.ensures.value
+          ∙ ap (λ n. placed n (seen (Storage c.in_ok-storage.storage)) cs) (c.object-name.ensures ∙ ap (λ n. object_name (n + 1)) (c.len.ensures ∙ c.pop.new.self.ok.0))
+          ∙ ap (λ s. placed (object_name (length c.pop.new.self.items + 1)) s cs) seen_so)
           ∙ sym (with_objects-last 1 c.pop.new.self.items c.in-Some.object cs)
           ∙ ap (λ os. with_objects 1 os cs) (sym c.in-Some.ensures.items)
           ∙ c.loop-object.invariant.value;

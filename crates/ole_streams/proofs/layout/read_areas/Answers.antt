@@ -13,9 +13,9 @@ loop-index-preserved c =
     let left = c.args.count - (c.loop-index.index + 1) in
     record {
       value = ap (λ xs. map_ok (λ x. xs ++ x) (areas_read left c.in-Some.behind.now)) c.in_ok-push-in-Some.ensures.items
-    ∙ ap (λ a. map_ok (λ x. (c.loop-index.areas.items ++ a ∷ []) ++ x) (areas_read left c.in-Some.behind.now)) (c.area_at.ensures ∙ ap area_at c.in-Some.ensures.cases.0)
-    ∙ ap (λ b. map_ok (λ x. (c.loop-index.areas.items ++ area_at (take 8 rest) ∷ []) ++ x) (areas_read left b)) c.in-Some.ensures.cases.1
-    ∙ sym (areas_read-more c.args.count c.loop-index.index c.loop-index.areas.items rest c.loop-index-test.true (omega (arith, c.in-Some.ensures.cases.2)))
-    ∙ c.loop-index.invariant.value;
+          ∙ ap (λ a. map_ok (λ x. (c.loop-index.areas.items ++ a ∷ []) ++ x) (areas_read left c.in-Some.behind.now)) (c.area_at.ensures ∙ ap area_at c.in-Some.ensures.cases.0)
+          ∙ ap (λ b. map_ok (λ x. (c.loop-index.areas.items ++ area_at (take 8 rest) ∷ []) ++ x) (areas_read left b)) c.in-Some.ensures.cases.1
+          ∙ sym (areas_read-more c.args.count c.loop-index.index c.loop-index.areas.items rest c.loop-index-test.true (omega (arith, c.in-Some.ensures.cases.2)))
+          ∙ c.loop-index.invariant.value;
       len = rw c.in_ok-push-in-Some.ensures.items (simp length-append (omega arith));
     }

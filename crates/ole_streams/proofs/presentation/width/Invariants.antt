@@ -6,5 +6,5 @@ abbrev pub invariant-loop-c : goal.invariant-loop-c
 invariant-loop-c l = record {
   rest : longest l.longest l.before (drop l.c-index l.lines) ≡ longest 0 0 l.fn.lines;
   behind : l.before ≤ l.c-index;
-  within : l.longest ≤ l.c-index
+  within : l.longest ≤ l.c-index;
 }
