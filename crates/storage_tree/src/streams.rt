@@ -126,3 +126,10 @@ impl Streams {
         Ok(Streams { items })
     }
 }
+<<<<<<< HEAD
+=======
+
+mod owned;
+#[cfg(test)]
+mod tests;
+>>>>>>> oledocs

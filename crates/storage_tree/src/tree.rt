@@ -165,3 +165,10 @@ impl Tree {
         }
     }
 }
+<<<<<<< HEAD
+=======
+
+mod owned;
+#[cfg(test)]
+mod tests;
+>>>>>>> oledocs

@@ -1,0 +1,57 @@
+-- Steps of writing a document.
+use Rattle.std.proofs.Common.{◌≡◌, ◌≤◌, ◌<◌, ◌+◌, ◌-◌, ◌++◌, ◌∷◌, ◌∙◌, ℕ, suc, zero, List, [], Bool, true, false, cond, Result, Ok, Err, map, length, take, drop, refl, sym, ap, subst, arith, append_assoc}
+use Rattle.storage_tree.specs.Tree.{Children}
+use Rattle.storage_tree.specs.Change.{bytes, inner}
+use Rattle.storage_tree.specs.declared.streams.NamedStream.{NamedStream}
+use Rattle.object_parts.specs.declared.area.Area.{Area}
+use Rattle.ole_streams.specs.DocOf.{is_object}
+use Rattle.ole_streams.specs.DocTree.{object_name, object_tree, placed, with_objects, with_streams}
+use Rattle.ole_streams.specs.Docs.{AreObjects}
+use Rattle.ole_streams.specs.Fields.{map_ok}
+use Rattle.ole_streams.specs.Layouts.{area_at, areas_read}
+use Rattle.ole_streams.specs.declared.doc.DocObject.{DocObject}
+use Rattle.ole_streams.specs.declared.fault.OleFault.{OleFault}
+use Rattle.ole_streams.specs.declared.fault.OleFault.TheVariants.{NotADocument}
+use Rattle.ole_streams.proofs.Tests.{cond_false, cond_true, not_lt, is_lt}
+
+pub with_streams-last : (ss : List NamedStream) (s : NamedStream) (cs : Children) → with_streams (ss ++ s ∷ []) cs ≡ with_streams ss (placed s.name (bytes s.bytes) cs)
+with_streams-last [] s cs = refl
+with_streams-last (t ∷ ss) s cs = ap (placed t.name (bytes t.bytes)) (with_streams-last ss s cs)
+
+pub with_objects-last : (n : ℕ) (os : List DocObject) (o : DocObject) (cs : Children)
+    → with_objects n (os ++ o ∷ []) cs ≡ with_objects n os (placed (object_name (length os + n)) (inner (object_tree o)) cs)
+with_objects-last n [] o cs = let e : 0 + n ≡ n = omega arith in rw e refl
+with_objects-last n (p ∷ os) o cs =
+    let e : length os + (n + 1) ≡ length (p ∷ os) + n = omega arith in
+    ap (placed (object_name n) (inner (object_tree p))) (with_objects-last (n + 1) os o cs ∙ ap (λ m. with_objects (n + 1) os (placed (object_name m) (inner (object_tree o)) cs)) e)
+
+pub AreObjects-push : (os : List DocObject) (o : DocObject) → AreObjects os → is_object o ≡ true → AreObjects (os ++ o ∷ [])
+AreObjects-push [] o all h = (h, tt)
+AreObjects-push (p ∷ os) o all h = (all.0, AreObjects-push os o all.1 h)
+
+pub AreObjects-front : (os ps : List DocObject) → AreObjects (os ++ ps) → AreObjects os
+AreObjects-front [] ps all = tt
+AreObjects-front (p ∷ os) ps all = (all.0, AreObjects-front os ps all.1)
+
+pub AreObjects-last : (os : List DocObject) (o : DocObject) → AreObjects (os ++ o ∷ []) → is_object o ≡ true
+AreObjects-last [] o all = all.0
+AreObjects-last (p ∷ os) o all = AreObjects-last os o all.1
+
+map-twice : (xs : List Area) (a : Area) (r : Result (List Area) OleFault) → map_ok (λ x. xs ++ x) (map_ok (λ x. a ∷ x) r) ≡ map_ok (λ x. (xs ++ a ∷ []) ++ x) r
+map-twice xs a (Ok x) = ap Ok (sym (append_assoc xs (a ∷ []) x))
+map-twice xs a (Err e) = refl
+
+fewer : (n i : ℕ) → i < n → n - i ≡ suc (n - (i + 1))
+fewer n i h = omega arith
+
+pub areas_read-more : (n i : ℕ) (xs : List Area) (rest : List ℕ) → i < n → 8 ≤ length rest
+    → map_ok (λ x. xs ++ x) (areas_read (n - i) rest) ≡ map_ok (λ x. (xs ++ area_at (take 8 rest) ∷ []) ++ x) (areas_read (n - (i + 1)) (drop 8 rest))
+areas_read-more n i xs rest h l =
+    ap (λ k. map_ok (λ x. xs ++ x) (areas_read k rest)) (fewer n i h)
+    ∙ ap (map_ok (λ x. xs ++ x)) (cond_false _ _ _ (not_lt (length rest) 8 l))
+    ∙ map-twice xs (area_at (take 8 rest)) (areas_read (n - (i + 1)) (drop 8 rest))
+
+pub areas_read-short : (n i : ℕ) (xs : List Area) (rest : List ℕ) → i < n → length rest < 8 → map_ok (λ x. xs ++ x) (areas_read (n - i) rest) ≡ Err NotADocument
+areas_read-short n i xs rest h l =
+    ap (λ k. map_ok (λ x. xs ++ x) (areas_read k rest)) (fewer n i h)
+    ∙ ap (map_ok (λ x. xs ++ x)) (cond_true _ _ _ (is_lt (length rest) 8 l))

@@ -1,0 +1,18 @@
+use Rattle.std.proofs.Common.{ℕ, ◌≡◌, ◌≤◌, length}
+use Rattle.ole_streams.specs.DocTree.{with_objects}
+use Rattle.ole_streams.specs.Docs.{AreObjects}
+use Rattle.storage_tree.specs.Tree.{none}
+use Rattle.storage_tree.specs.View.{children}
+use Rattle.storage_tree.specs.Whole.{AreTrees}
+use Rattle.ole_streams.proofs.document_tree.with_objects.Given as goal
+
+abbrev pub invariant-loop-object : goal.invariant-loop-object
+invariant-loop-object l = record {
+  value : with_objects 1 l.objects.items (children l.entries.entries) ≡ with_objects 1 l.fn.objects.items none;
+  whole : AreTrees 32 (children l.entries.entries);
+  few : length l.objects.items ≤ 64;
+  within : AreObjects l.objects.items;
+}
+
+abbrev pub decreases-loop-object : goal.decreases-loop-object
+decreases-loop-object l = length l.objects.items

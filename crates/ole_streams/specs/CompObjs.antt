@@ -1,0 +1,21 @@
+-- The stream "\1CompObj" (MS-OLEDS 2.3.8).
+use Rattle.std.specs.Prelude.{ℕ, ◌∷◌, ◌++◌, List, [], cond, length, drop, nat_lt, Result, Ok, Err}
+use Rattle.ole_streams.specs.declared.fault.OleFault.{OleFault}
+use Rattle.ole_streams.specs.declared.fault.OleFault.TheVariants.{Truncated}
+use Rattle.ole_streams.specs.Fields.{map_ok, on_ok, string, format, string_bytes}
+
+-- A header of 28 bytes, the user type, a clipboard format. What is read is the user type; the header is free, and so is
+-- what stands behind the format.
+unfoldable pub user_type_behind : List ℕ → Result (List ℕ) OleFault
+user_type_behind bytes = on_ok (λ user. map_ok (λ rest. user.0) (format user.1)) (string bytes)
+
+abbrev pub user_type_read : List ℕ → Result (List ℕ) OleFault
+user_type_read bytes = cond (nat_lt (length bytes) 28) (Err Truncated) (user_type_behind (drop 28 bytes))
+
+-- the first twelve bytes of the header, before the class id
+abbrev pub header : List ℕ
+header = 0x01 ∷ 0x00 ∷ 0xFE ∷ 0xFF ∷ 0x03 ∷ 0x0A ∷ 0x00 ∷ 0x00 ∷ 0xFF ∷ 0xFF ∷ 0xFF ∷ 0xFF ∷ []
+
+-- it is written with the class id in its header, without a clipboard format, and with one more string, which is empty
+abbrev pub comp_obj_bytes : List ℕ → List ℕ → List ℕ
+comp_obj_bytes class user_type = header ++ class ++ string_bytes user_type ++ string_bytes [] ++ string_bytes []

@@ -1,0 +1,275 @@
+//! The document that a tree holds.
+
+ghost use Rattle.std.specs.Prelude.{[], ◌≡◌, ◌≢◌, ◌<◌, ◌≤◌, Err, IfOk, length};
+ghost use Rattle.std.specs.Option.{option_map};
+ghost use Rattle.cfb_directory.specs.Names.{key};
+ghost use Rattle.object_parts.specs.Limits.{COMP_OBJ, OLE, OLE_PRES};
+ghost use Rattle.ole_streams.specs.CompObjs.{user_type_read};
+ghost use Rattle.ole_streams.specs.DocOf.{as_picture, as_storage, as_stream, behind_comp_obj, behind_picture, doc_read, object_of, object_pushed, object_read, objects_behind, streams_behind};
+ghost use Rattle.ole_streams.specs.DocTree.{LAYOUT, object_name};
+ghost use Rattle.ole_streams.specs.Fields.{map_ok, on_ok};
+ghost use Rattle.ole_streams.specs.Layouts.{layout_read};
+ghost use Rattle.ole_streams.specs.OleStreams.{ole_read};
+ghost use Rattle.ole_streams.specs.declared.fault.OleFault.TheVariants.{NoMemory};
+ghost use Rattle.storage_tree.specs.Change.{find, without};
+ghost use Rattle.storage_tree.specs.Kept.{kept};
+ghost use Rattle.storage_tree.specs.View.{children, shown, view};
+
+use crate::comp_obj::CompObj;
+use crate::doc::{Doc, DocObject};
+use crate::fault::OleFault;
+use crate::layout::read_layout;
+use crate::names;
+use crate::ole_stream::OleStream;
+use cfb_directory::name::Name;
+use object_parts::area::Area;
+use object_parts::limits::{comp_obj, ole, ole_pres};
+use std::alloc::Global;
+use std::collections::BTreeMap;
+use storage_tree::bytes::Bytes;
+use storage_tree::class_id::ClassId;
+use storage_tree::fault::StreamsFault;
+use storage_tree::storage::{Node, Storage};
+use storage_tree::stored::Stored;
+use storage_tree::streams::{NamedStream, Streams};
+use storage_tree::tree::Tree;
+
+/// The children of a storage.
+type Entries = BTreeMap<[u8; 32], (Name, Node)>;
+
+/// Takes away what stands under a name.
+fn take(entries: &mut Entries, name: &Name) -> Option<(Name, Node)>
+    ensures value { option_map shown result ≡ find (key name.now) (children entries.old.entries) }
+    ensures rest { children entries.new.entries ≡ without (key name.now) (children entries.old.entries) }
+{
+    entries.remove(&name.key())
+}
+
+/// Takes away the stream of a name.
+fn take_stream(entries: &mut Entries, name: &Name) -> Result<Bytes, OleFault>
+    ensures value { result ≡ as_stream (find (key name.now) (children entries.old.entries)) }
+    ensures rest { children entries.new.entries ≡ without (key name.now) (children entries.old.entries) }
+{
+    match take(entries, name) {
+        Some((_, Node::Stream(bytes))) => Ok(bytes),
+        Some((_, Node::Storage(_))) => Err(OleFault::NotADocument),
+        None => Err(OleFault::NotADocument),
+    }
+}
+
+/// Takes away the storage of a name.
+fn take_storage(entries: &mut Entries, name: &Name) -> Result<Storage, OleFault>
+    ensures value { map_ok view result ≡ as_storage (find (key name.now) (children entries.old.entries)) }
+    ensures rest { children entries.new.entries ≡ without (key name.now) (children entries.old.entries) }
+{
+    match take(entries, name) {
+        Some((_, Node::Storage(storage))) => Ok(storage),
+        Some((_, Node::Stream(_))) => Err(OleFault::NotADocument),
+        None => Err(OleFault::NotADocument),
+    }
+}
+
+/// Takes away the picture; where there is no stream of it, it is empty.
+fn take_picture(alloc: Global, entries: &mut Entries) -> Result<Bytes, OleFault>
+    ensures value { result ≡ as_picture (find (key OLE_PRES) (children entries.old.entries)) }
+    ensures rest { children entries.new.entries ≡ without (key OLE_PRES) (children entries.old.entries) }
+{
+    match take(entries, &ole_pres()) {
+        Some((_, Node::Stream(bytes))) => Ok(bytes),
+        Some((_, Node::Storage(_))) => Err(OleFault::NotADocument),
+        None => Ok(Bytes::new(alloc)),
+    }
+}
+
+/// Takes away `\1CompObj`, and gives the user type that it says.
+fn take_user_type(alloc: Global, entries: &mut Entries) -> Result<Bytes, OleFault>
+    ensures value { result ≢ Err NoMemory → result ≡ on_ok user_type_read (as_stream (find (key COMP_OBJ) (children entries.old.entries))) }
+    ensures rest { children entries.new.entries ≡ without (key COMP_OBJ) (children entries.old.entries) }
+{
+    match take_stream(entries, &comp_obj()) {
+        Ok(bytes) => match CompObj::read(alloc, bytes.as_slice()) {
+            Ok(read) => Ok(read.user_type),
+            Err(fault) => Err(fault),
+        },
+        Err(fault) => Err(fault),
+    }
+}
+
+/// Takes away `\1Ole`.
+fn take_ole(entries: &mut Entries) -> Result<OleStream, OleFault>
+    ensures value { map_ok (λ _. tt) result ≡ on_ok ole_read (as_stream (find (key OLE) (children entries.old.entries))) }
+    ensures rest { children entries.new.entries ≡ without (key OLE) (children entries.old.entries) }
+{
+    match take_stream(entries, &ole()) {
+        Ok(bytes) => OleStream::read(bytes.as_slice()),
+        Err(fault) => Err(fault),
+    }
+}
+
+/// The streams that are left of an object, where there is no storage among them.
+fn streams_of(alloc: Global, entries: Entries) -> Result<Streams, OleFault>
+    ensures { result ≢ Err NoMemory → result ≡ streams_behind [] (children entries.entries) }
+{
+    let mut streams = Streams::new(alloc);
+    for (_, (name, node)) in entries {
+        match node {
+            Node::Stream(bytes) => match streams.push(NamedStream { name, bytes }) {
+                Ok(()) => {}
+                Err(StreamsFault::OutOfOrder) => return Err(OleFault::NotADocument),
+                Err(StreamsFault::NoMemory) => return Err(OleFault::NoMemory),
+            },
+            Node::Storage(_) => return Err(OleFault::NotADocument),
+        }
+    }
+    Ok(streams)
+}
+
+/// The object whose own streams these are.
+fn object_of(
+    alloc: Global,
+    area: Area,
+    class: ClassId,
+    picture: Bytes,
+    user_type: Bytes,
+    entries: Entries,
+) -> Result<DocObject, OleFault>
+    ensures { result ≢ Err NoMemory → result ≡ object_of area class picture user_type (children entries.entries) }
+{
+    match streams_of(alloc, entries) {
+        Ok(streams) => Ok(DocObject {
+            class,
+            user_type,
+            area,
+            stored: Stored { streams, picture },
+        }),
+        Err(fault) => Err(fault),
+    }
+}
+
+/// The object whose picture and user type are known.
+fn behind_comp_obj(
+    alloc: Global,
+    area: Area,
+    class: ClassId,
+    picture: Bytes,
+    user_type: Bytes,
+    entries: Entries,
+) -> Result<DocObject, OleFault>
+    ensures { result ≢ Err NoMemory → result ≡ behind_comp_obj area class picture user_type (children entries.entries) }
+{
+    let mut entries = entries;
+    match take_ole(&mut entries) {
+        Ok(_) => object_of(alloc, area, class, picture, user_type, entries),
+        Err(fault) => Err(fault),
+    }
+}
+
+/// The object whose picture is known.
+fn behind_picture(
+    alloc: Global,
+    area: Area,
+    class: ClassId,
+    picture: Bytes,
+    entries: Entries,
+) -> Result<DocObject, OleFault>
+    ensures { result ≢ Err NoMemory → result ≡ behind_picture area class picture (children entries.entries) }
+{
+    let mut entries = entries;
+    match take_user_type(alloc, &mut entries) {
+        Ok(user_type) => behind_comp_obj(alloc, area, class, picture, user_type, entries),
+        Err(fault) => Err(fault),
+    }
+}
+
+/// The object of a storage.
+fn read_object(alloc: Global, area: Area, storage: Storage) -> Result<DocObject, OleFault>
+    ensures { result ≢ Err NoMemory → result ≡ object_read area (view storage) }
+{
+    let Storage {
+        class,
+        state: _,
+        children,
+    } = storage;
+    let mut entries = children;
+    match take_picture(alloc, &mut entries) {
+        Ok(picture) => behind_picture(alloc, area, class, picture, entries),
+        Err(fault) => Err(fault),
+    }
+}
+
+/// Puts the object of this number to the end of a document.
+fn push_object(
+    alloc: Global,
+    doc: &mut Doc,
+    number: usize,
+    area: Area,
+    entries: &mut Entries,
+) -> Result<(), OleFault>
+    requires { number < 100 }
+    ensures value { result ≢ Err NoMemory → map_ok (λ _. doc.new) result ≡ object_pushed doc.old number area (children entries.old.entries) }
+    ensures rest { children entries.new.entries ≡ without (key (object_name number)) (children entries.old.entries) }
+{
+    match take_storage(entries, &names::object(number)) {
+        Ok(storage) => match read_object(alloc, area, storage) {
+            Ok(object) => doc.push(object),
+            Err(fault) => Err(fault),
+        },
+        Err(fault) => Err(fault),
+    }
+}
+
+/// The document of these areas and storages, where there is nothing else.
+fn objects_of(alloc: Global, areas: &[Area], entries: Entries) -> Result<Doc, OleFault>
+    requires { length areas.now ≤ 64 }
+    ensures { result ≢ Err NoMemory → result ≡ objects_behind [] 1 areas.now (children entries.entries) }
+{
+    let mut entries = entries;
+    let mut doc = Doc::new(alloc);
+    for (index, area) in areas.iter().enumerate() {
+        match push_object(alloc, &mut doc, index + 1, *area, &mut entries) {
+            Ok(()) => {}
+            Err(fault) => return Err(fault),
+        }
+    }
+    if !entries.is_empty() {
+        return Err(OleFault::NotADocument);
+    }
+    Ok(doc)
+}
+
+/// Takes away the stream `Layout`, and gives the areas that it says.
+fn take_areas(alloc: Global, entries: &mut Entries) -> Result<Vec<Area>, OleFault>
+    ensures value { result ≢ Err NoMemory → map_ok (λ areas. areas.items) result ≡ on_ok layout_read (as_stream (find (key LAYOUT) (children entries.old.entries))) }
+    ensures rest { children entries.new.entries ≡ without (key LAYOUT) (children entries.old.entries) }
+    ensures few { IfOk result (λ areas. length areas.items ≤ 64) }
+{
+    match take_stream(entries, &names::layout()) {
+        Ok(bytes) => read_layout(alloc, bytes.as_slice()),
+        Err(fault) => Err(fault),
+    }
+}
+
+/// The document that a tree holds, whatever its root's class id and all state bits are. What open transactions kept is
+/// dropped. What the tree's streams hold is moved into the document, and not copied.
+///
+/// The stream `Layout` is read first, then the objects one after another, of each its picture, `\1CompObj`, `\1Ole` and
+/// its own streams. Refused, whichever comes first: `TooManyObjects` where `Layout` counts more than 64 objects;
+/// `Truncated`, `BadVersion`, `Linked` and `BadString` where an object's `\1CompObj` or `\1Ole` is so; `NotADocument`
+/// where `Layout` is missing or bad, where an object's storage or one of these streams is missing, where a storage stands
+/// in an object or a content is past its limits, and where anything else stands in the root. Each object's strings and
+/// streams take memory as they are read, so `NoMemory` may come before a fault that stands further on. A refusal drops
+/// the tree.
+pub fn document_of(alloc: Global, tree: Tree) -> Result<Doc, OleFault>
+    ensures { result ≢ Err NoMemory → result ≡ doc_read (kept tree).now }
+{
+    let Storage {
+        class: _,
+        state: _,
+        children,
+    } = tree.into_root();
+    let mut entries = children;
+    match take_areas(alloc, &mut entries) {
+        Ok(areas) => objects_of(alloc, &areas, entries),
+        Err(fault) => Err(fault),
+    }
+}
