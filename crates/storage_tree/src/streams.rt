@@ -126,10 +126,5 @@ impl Streams {
         Ok(Streams { items })
     }
 }
-<<<<<<< HEAD
-=======
 
 mod owned;
-#[cfg(test)]
-mod tests;
->>>>>>> oledocs

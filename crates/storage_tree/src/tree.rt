@@ -165,10 +165,5 @@ impl Tree {
         }
     }
 }
-<<<<<<< HEAD
-=======
 
 mod owned;
-#[cfg(test)]
-mod tests;
->>>>>>> oledocs
