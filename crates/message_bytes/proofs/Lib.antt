@@ -1,0 +1,5 @@
+pub mod Fields
+pub mod Contents
+pub mod Bodies
+pub mod Lengths
+pub mod Readings
