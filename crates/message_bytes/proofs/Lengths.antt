@@ -71,7 +71,7 @@ length-operation (op.SaveCompleted save storage) fit valid = let l = length-two 
 length-operation (op.SaveDropped save) fit valid = let l = length-number save in omega (arith, l)
 length-operation (op.Close option) fit valid = lit≤ tt
 
-length-widths : (ns : List ℕ) → length (widths ns) ≡ 2 * length ns
+pub length-widths : (ns : List ℕ) → length (widths ns) ≡ 2 * length ns
 length-widths [] = refl
 length-widths (n ∷ ns) = omega (arith, length-append (two_bytes n) (widths ns), length-two_bytes n, length-widths ns)
 

@@ -3,3 +3,4 @@ pub mod Contents
 pub mod Bodies
 pub mod Lengths
 pub mod Readings
+pub mod Adding

@@ -223,6 +223,16 @@ fn push_completed(out: &mut Vec<u8>, save: u32, storage: bool) -> Result<(), All
     Ok(())
 }
 
+// Adds a write's numbers and content.
+fn push_write(out: &mut Vec<u8>, w: u32, content: &Stored) -> Result<(), AllocError>
+    requires { is_within content.now ≡ true }
+    ensures { OnOk result (Adds out.old.items out.new.items (four_bytes w ++ stored content.now) 300000) }
+{
+    push_u32(out, w)?;
+    push_stored(out, content)?;
+    Ok(())
+}
+
 // Adds an operation.
 fn push_operation(out: &mut Vec<u8>, op: &Operation) -> Result<(), AllocError>
     requires { operation_fits op.now ≡ true }
@@ -257,10 +267,9 @@ fn push_menu(out: &mut Vec<u8>, menu: &MenuText) -> Result<(), AllocError>
 fn push_widths(out: &mut Vec<u8>, border: &[u16; 4]) -> Result<(), AllocError>
     ensures { OnOk result (Adds out.old.items out.new.items (widths border.now) 8) }
 {
-    push_u16(out, border[0])?;
-    push_u16(out, border[1])?;
-    push_u16(out, border[2])?;
-    push_u16(out, border[3])?;
+    for width in border {
+        push_u16(out, *width)?;
+    }
     Ok(())
 }
 
@@ -329,8 +338,7 @@ fn push_body(out: &mut Vec<u8>, frame: &Frame) -> Result<(), AllocError>
             content,
         }) => {
             push_three(out, *inc, *act, *s)?;
-            push_u32(out, *w)?;
-            push_stored(out, content)?;
+            push_write(out, *w, content)?;
         }
         Frame::Message(Message::Ask { inc, act, g }) => push_three(out, *inc, *act, *g)?,
         Frame::Turn => {}
