@@ -4,3 +4,5 @@ pub mod Bodies
 pub mod Lengths
 pub mod Readings
 pub mod Adding
+pub mod Parts
+pub mod Fronts

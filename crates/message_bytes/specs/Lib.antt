@@ -4,3 +4,5 @@ pub mod Spelling
 pub mod Frames
 pub mod Reading
 pub mod Encoding
+pub mod Decoding
+pub mod Fronts
