@@ -340,7 +340,7 @@ tools_found k xs f are e =
       value = ans.Tools (menus_of t1.value t2.value t3.value) (widths_in b.front);
       rest = b.rest;
       parts = ap (λ a. 3 ∷ a) (t1.parts ∙ ap (λ a. spelling.text t1.value ++ a) (t2.parts ∙ ap (λ a. spelling.text t2.value ++ a) (t3.parts ∙ ap (λ a. spelling.text t3.value ++ a) (b.parts ∙ ap (λ a. a ++ b.rest) (sym w.spelled))))
-      ∙ regrouped (spelling.text t1.value) (spelling.text t2.value) (spelling.text t3.value) (widths (widths_in b.front)) b.rest);
+          ∙ regrouped (spelling.text t1.value) (spelling.text t2.value) (spelling.text t3.value) (widths (widths_in b.front)) b.rest);
       fits_all = refl;
       valid = (is_true _ t1.valid, is_true _ t2.valid, is_true _ t3.valid, refl, w.small);
       next = b.next;

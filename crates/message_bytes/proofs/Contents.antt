@@ -176,7 +176,7 @@ more_found (suc left) before room k xs f are order e =
       value = s ∷ t.value;
       rest = t.rest;
       parts = n.parts ∙ ap (λ a. text n.value ++ a) (b.parts ∙ ap (λ a. spelling.blob b.value ++ a) t.parts)
-      ∙ sym (append_assoc (text n.value) (spelling.blob b.value ++ streams t.value) t.rest ∙ ap (λ a. text n.value ++ a) (append_assoc (spelling.blob b.value) (streams t.value) t.rest));
+          ∙ sym (append_assoc (text n.value) (spelling.blob b.value ++ streams t.value) t.rest ∙ ap (λ a. text n.value ++ a) (append_assoc (spelling.blob b.value) (streams t.value) t.rest));
       count = ap suc t.count;
       names = (n.valid, t.names);
       order = subst AreInOrder (append_assoc before (s ∷ []) t.value) t.order;

@@ -106,11 +106,11 @@ whole_front k len bytes f are is_head enough read =
       some = omega arith;
       within = omega arith;
       spelled =
-        take_both 10 len bytes long
-        ∙ ap (λ a. a ++ take len (drop 10 bytes)) h.head_is
-        ∙ ap (λ a. (79 ∷ 76 ∷ 67 ∷ 77 ∷ 1 ∷ kind_number k ∷ a) ++ take len (drop 10 bytes)) cells
-        ∙ ap (λ a. (79 ∷ 76 ∷ 67 ∷ 77 ∷ 1 ∷ a ∷ four_bytes (length (body f))) ++ take len (drop 10 bytes)) (sym r.kind_is)
-        ∙ ap (λ a. head (spelling.kind f) (length (body f)) ++ a) r.body_is;
+          take_both 10 len bytes long
+          ∙ ap (λ a. a ++ take len (drop 10 bytes)) h.head_is
+          ∙ ap (λ a. (79 ∷ 76 ∷ 67 ∷ 77 ∷ 1 ∷ kind_number k ∷ a) ++ take len (drop 10 bytes)) cells
+          ∙ ap (λ a. (79 ∷ 76 ∷ 67 ∷ 77 ∷ 1 ∷ a ∷ four_bytes (length (body f))) ++ take len (drop 10 bytes)) (sym r.kind_is)
+          ∙ ap (λ a. head (spelling.kind f) (length (body f)) ++ a) r.body_is;
     }
 
 spelled_otherwise : (k : Kind) (len : ℕ) (cells rest more : List ℕ) (f : Frame) (behind : List ℕ) → length cells ≡ 4 → number_in cells ≡ len → len ≤ length rest → read_body k (take len rest) ≡ None → IsFrame f
@@ -211,7 +211,7 @@ took_more old now new bytes used n f t w pushed =
       grew = pushed ∙ ap (λ a. a ++ f ∷ []) t.grew ∙ append_assoc old t.added (f ∷ []);
       each = all_both t.added (f ∷ []) t.each (w.frame, tt);
       parts = t.parts ∙ ap (λ a. joined t.added ++ a) behind ∙ sym (append_assoc (joined t.added) (spell f) (drop (used + n) bytes))
-        ∙ ap (λ a. a ++ drop (used + n) bytes) (ap (λ a. joined t.added ++ a) (sym (append-nil (spell f))) ∙ sym (joined-append t.added (f ∷ [])));
+          ∙ ap (λ a. a ++ drop (used + n) bytes) (ap (λ a. joined t.added ++ a) (sym (append-nil (spell f))) ∙ sym (joined-append t.added (f ∷ [])));
       within = omega (arith, length-drop used bytes);
     }
 
@@ -236,8 +236,8 @@ fed_more old new piece fed taken used none t ends bytes s =
     let stands : Stands new (fed ++ piece) taken = record {
       rest = rest;
       whole =
-        ap (λ a. a ++ piece) s.whole ∙ append_assoc (joined all) s.rest piece ∙ ap (λ a. joined all ++ (a ++ piece)) (sym kept)
-        ∙ ap (λ a. joined all ++ a) t.parts ∙ sym (append_assoc (joined all) (joined t.added) rest) ∙ ap (λ a. a ++ rest) (sym (joined-append all t.added)) ∙ ap (λ a. joined a ++ rest) grown;
+          ap (λ a. a ++ piece) s.whole ∙ append_assoc (joined all) s.rest piece ∙ ap (λ a. joined all ++ (a ++ piece)) (sym kept)
+          ∙ ap (λ a. joined all ++ a) t.parts ∙ sym (append_assoc (joined all) (joined t.added) rest) ∙ ap (λ a. a ++ rest) (sym (joined-append all t.added)) ∙ ap (λ a. joined a ++ rest) grown;
       each = subst (AllByRecursion IsFrame) grown (all_both all t.added s.each t.each);
       keeps = keeps_ends new.fault new.bytes.items rest bytes ends;
     } in
@@ -277,6 +277,6 @@ pub fed_whole : (old new : Decoder) (fault : Option WireFault) (piece all fed : 
     → Stands new (fed ++ piece) taken × AreRead (fed ++ piece) taken fault
 fed_whole old new fault piece all fed taken used none e took kept told s =
     let here : Took old.waiting.items new.waiting.items (old.bytes.items ++ piece) used × Ends new.fault (drop used (old.bytes.items ++ piece)) =
-        subst (λ (x : List ℕ). Took old.waiting.items new.waiting.items x used × Ends new.fault (drop used x)) e took in
+    subst (λ (x : List ℕ). Took old.waiting.items new.waiting.items x used × Ends new.fault (drop used x)) e took in
     let m = fed_more old new piece fed taken used none here.0 here.1 kept s in
     (m.0, subst (λ (x : Option WireFault). AreRead (fed ++ piece) taken x) told m.1)

@@ -8,7 +8,9 @@ ghost use Rattle.message_bytes.specs.Frames.{number_in};
 ghost use Rattle.message_bytes.specs.Reading.{answer, blob, byte, bytes, flag_of, more, may_follow, name, number, operation, option_of, pictured, read_body, stored, text, tools, whole, width_in, widths_in};
 ghost use Rattle.std.specs.Prelude.{[], ◌∷◌, ◌++◌, ◌≡◌, ◌≤◌, ◌<◌, ◌-◌, ◌^◌, ℕ, List, None, IfOk, true, length, take, drop};
 
-use crate::codes::{AnswerCode, Kind, OperationCode, answer_code_of, operation_code_of, refusal_of};
+use crate::codes::{
+    AnswerCode, Kind, OperationCode, answer_code_of, operation_code_of, refusal_of,
+};
 use crate::encode::MOST_EDIT;
 use crate::frame::Frame;
 use cfb_directory::name::Name;

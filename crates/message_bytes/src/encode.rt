@@ -53,25 +53,31 @@ pub fn fits(frame: &Frame) -> bool
     ensures { result ≡ fits frame.now }
 {
     match frame {
-        Frame::Message(Message::Call {
-            inc,
-            act,
-            n,
-            operation,
-        }) => *inc > 0 && *act > 0 && *n > 0 && operation_fits(operation),
-        Frame::Message(Message::Reply {
-            inc,
-            act,
-            n,
-            answer,
-        }) => *inc > 0 && *act > 0 && *n > 0 && answer_fits(answer),
-        Frame::Message(Message::Write {
-            inc,
-            act,
-            s,
-            w,
-            content,
-        }) => *inc > 0 && *act > 0 && *s > 0 && *w > 0 && is_within(content),
+        Frame::Message(
+            Message::Call {
+                inc,
+                act,
+                n,
+                operation,
+            },
+        ) => *inc > 0 && *act > 0 && *n > 0 && operation_fits(operation),
+        Frame::Message(
+            Message::Reply {
+                inc,
+                act,
+                n,
+                answer,
+            },
+        ) => *inc > 0 && *act > 0 && *n > 0 && answer_fits(answer),
+        Frame::Message(
+            Message::Write {
+                inc,
+                act,
+                s,
+                w,
+                content,
+            },
+        ) => *inc > 0 && *act > 0 && *s > 0 && *w > 0 && is_within(content),
         Frame::Message(Message::Ask { inc, act, g }) => *inc > 0 && *act > 0 && *g > 0,
         Frame::Turn => true,
     }
@@ -312,31 +318,37 @@ fn push_body(out: &mut Vec<u8>, frame: &Frame) -> Result<(), AllocError>
     ensures { OnOk result (Adds out.old.items out.new.items (body frame.now) 1048576) }
 {
     match frame {
-        Frame::Message(Message::Call {
-            inc,
-            act,
-            n,
-            operation,
-        }) => {
+        Frame::Message(
+            Message::Call {
+                inc,
+                act,
+                n,
+                operation,
+            },
+        ) => {
             push_three(out, *inc, *act, *n)?;
             push_operation(out, operation)?;
         }
-        Frame::Message(Message::Reply {
-            inc,
-            act,
-            n,
-            answer,
-        }) => {
+        Frame::Message(
+            Message::Reply {
+                inc,
+                act,
+                n,
+                answer,
+            },
+        ) => {
             push_three(out, *inc, *act, *n)?;
             push_answer(out, answer)?;
         }
-        Frame::Message(Message::Write {
-            inc,
-            act,
-            s,
-            w,
-            content,
-        }) => {
+        Frame::Message(
+            Message::Write {
+                inc,
+                act,
+                s,
+                w,
+                content,
+            },
+        ) => {
             push_three(out, *inc, *act, *s)?;
             push_write(out, *w, content)?;
         }
@@ -378,7 +390,10 @@ pub fn encode(alloc: Global, frame: &Frame) -> Result<Vec<u8>, WireFault>
         return Err(WireFault::BadField);
     }
     let mut out = Vec::new(alloc);
-    push_bytes(&mut out, &[79, 76, 67, 77, 1, kind_number(frame), 0, 0, 0, 0])?;
+    push_bytes(
+        &mut out,
+        &[79, 76, 67, 77, 1, kind_number(frame), 0, 0, 0, 0],
+    )?;
     push_body(&mut out, frame)?;
     let len = (out.len() - 10) as u32;
     set_length(&mut out, len);
