@@ -1,13 +1,12 @@
 -- Bytes that are added one after another.
-use Rattle.std.proofs.Common.{◌≡◌, ℕ, ◌+◌, ◌^◌, ◌<◌, ◌≤◌, Bool, true, ◌&&◌, List, [], ◌∷◌, ◌++◌, length, drop, refl, sym, ap, ◌∙◌, append_assoc, arith, rules, nat_le, suc, zero, get_or}
-use Rattle.std.specs.Prelude.{not}
+use Rattle.std.proofs.Common.{◌≡◌, ℕ, ◌+◌, ◌<◌, ◌≤◌, true, List, [], ◌∷◌, ◌++◌, length, refl, ap, ◌∙◌, append_assoc, arith, suc, zero, get_or}
 use Rattle.std.proofs.lemmas.List.{length-append}
-use Rattle.object_parts.specs.Limits.{is_within, has_ole_name, total}
+use Rattle.object_parts.specs.Limits.{is_within, total}
 use Rattle.storage_tree.specs.declared.streams.NamedStream.{NamedStream}
 use Rattle.storage_tree.specs.declared.stored.Stored.{Stored}
 use Rattle.message_bytes.specs.Encoding.{Adds, AreNamed}
-use Rattle.message_bytes.specs.Spelling.{two_bytes, four_bytes, blob, streams, stored, widths}
-use Rattle.message_bytes.proofs.Fields.{first_of, second_of, le_told, length-two_bytes, length-four_bytes}
+use Rattle.message_bytes.specs.Spelling.{four_bytes, blob, streams, stored}
+use Rattle.message_bytes.proofs.Fields.{length-four_bytes}
 use Rattle.message_bytes.proofs.Lengths.{length-stored}
 
 pub adds : (old mid new x y : List ℕ) (most : ℕ) → mid ≡ old ++ x → new ≡ mid ++ y → length (x ++ y) ≤ most → Adds old new (x ++ y) most

@@ -1,5 +1,5 @@
 -- Bodies: what was spelled is read, and what is read was spelled.
-use Rattle.std.proofs.Common.{◌≡◌, ℕ, zero, suc, ◌+◌, ◌-◌, ◌^◌, ◌<◌, ◌≤◌, Bool, true, false, cond, ◌&&◌, List, [], ◌∷◌, ◌++◌, length, get_or, take, drop, Option, Some, None, refl, sym, ap, subst, ◌∙◌, append_assoc, arith, rules, lit<, nat_le, nat_lt, nat_eq}
+use Rattle.std.proofs.Common.{◌≡◌, ℕ, zero, suc, ◌^◌, ◌<◌, Bool, true, false, cond, ◌&&◌, List, [], ◌∷◌, ◌++◌, length, Option, Some, None, refl, sym, ap, subst, ◌∙◌, append_assoc, arith, lit<, nat_le, nat_lt, nat_eq}
 use Rattle.std.specs.Prelude.{IsTrue}
 use Rattle.std.specs.List.{AllByRecursion, list_all}
 use Rattle.std.proofs.lemmas.Bool.{eqb-true}
@@ -29,8 +29,8 @@ use Rattle.message_bytes.specs.declared.codes.AnswerCode.TheVariants as said
 use Rattle.message_bytes.specs.Codes.{listed, kinds, kind_of, kind_number, operations, operation_code_of, operation_number, answers, answer_code_of, answer_number, refusals, refusal_of}
 use Rattle.message_bytes.specs.Spelling as spelling
 use Rattle.message_bytes.specs.Spelling.{two_bytes, four_bytes, flag, option_number, widths}
-use Rattle.message_bytes.specs.Frames.{operation_fits, answer_fits, fits, IsOperation, IsAnswer, IsValue, IsFrame}
-use Rattle.message_bytes.specs.Reading.{Reader, bad, whole, bytes, byte, number, blob, some, flag_of, option_of, stored, operation, texted, text_of, text, width_in, widths_in, tools, answer, read_body}
+use Rattle.message_bytes.specs.Frames.{operation_fits, answer_fits, IsOperation, IsAnswer, IsFrame}
+use Rattle.message_bytes.specs.Reading.{Reader, bad, whole, bytes, byte, number, some, flag_of, option_of, stored, operation, texted, text_of, text, widths_in, tools, answer, read_body}
 use Rattle.message_bytes.proofs.Fields.{chosen, both, first_of, second_of, le_told, le_passes, some_is, IsBytes, bytes_again, bytes_found, Taken, TakenByte, byte_found, whole_found, TakenNumber, number_again, number_found, TakenBlob, blob_again, blob_found, tested, width_in-two_bytes, two_bytes-width_in, width_in-below}
 use Rattle.message_bytes.proofs.Contents.{stored_again, stored_found, TakenContent}
 

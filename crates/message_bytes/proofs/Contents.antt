@@ -1,9 +1,9 @@
 -- Contents: what was spelled is read, and what is read was spelled.
-use Rattle.std.proofs.Common.{◌≡◌, ℕ, zero, suc, ◌+◌, ◌-◌, ◌^◌, ◌<◌, ◌≤◌, Bool, true, false, cond, ◌&&◌, ◌||◌, List, [], ◌∷◌, ◌++◌, length, Option, Some, None, Result, Ok, Err, refl, sym, ap, subst, ◌∙◌, append_assoc, arith, rules, lit<, nat_le, nat_lt, nat_eq}
+use Rattle.std.proofs.Common.{◌≡◌, ℕ, zero, suc, ◌+◌, ◌-◌, ◌^◌, ◌<◌, ◌≤◌, Bool, true, false, cond, ◌&&◌, ◌||◌, List, [], ◌∷◌, ◌++◌, length, Some, Result, Ok, Err, refl, sym, ap, subst, ◌∙◌, append_assoc, arith, rules, lit<, nat_le, nat_lt, nat_eq}
 use Rattle.std.specs.Prelude.{not}
 use Rattle.std.specs.List.{list_any, AllByRecursion}
 use Rattle.std.specs.Ordering.{is_lt}
-use Rattle.std.proofs.lemmas.Bool.{ltb-false, le-ltb, ne_eqb, eqb-true}
+use Rattle.std.proofs.lemmas.Bool.{ltb-false, le-ltb, ne_eqb}
 use Rattle.std.proofs.lemmas.List.{append-nil}
 use Rattle.cfb_directory.specs.Names.{IsName, name_read, is_forbidden}
 use Rattle.object_parts.specs.Limits.{is_within, is_ole_name, has_ole_name, total}
@@ -15,7 +15,7 @@ use Rattle.message_bytes.specs.declared.frame.Frame.{Frame}
 use Rattle.message_bytes.specs.Spelling as spelling
 use Rattle.message_bytes.specs.Spelling.{text, streams}
 use Rattle.message_bytes.specs.Frames.{IsContent}
-use Rattle.message_bytes.specs.Reading.{Reader, bad, bytes, byte, blob, named, name, name_of, more, may_follow, pictured, counted, stored}
+use Rattle.message_bytes.specs.Reading.{Reader, bad, bytes, blob, named, name, name_of, more, may_follow, pictured, counted, stored}
 use Rattle.message_bytes.proofs.Fields.{both, first_of, second_of, le_told, le_passes, IsBytes, bytes_again, bytes_found, Taken, TakenByte, byte_found, TakenBlob, blob_again, blob_found, tested}
 
 not_false : (b : Bool) → not b ≡ true → b ≡ false

@@ -1,15 +1,15 @@
 -- What stands at the front of bytes.
-use Rattle.std.proofs.Common.{◌≡◌, ◌≢◌, ℕ, suc, zero, ◌+◌, ◌-◌, ◌^◌, ◌<◌, ◌≤◌, Bool, true, false, cond, List, [], ◌∷◌, ◌++◌, length, take, drop, get_or, Option, Some, None, Ok, refl, sym, ap, subst, ◌∙◌, append_assoc, arith, nat_lt}
+use Rattle.std.proofs.Common.{◌≡◌, ◌≢◌, ℕ, suc, zero, ◌+◌, ◌-◌, ◌≤◌, false, cond, List, [], ◌∷◌, ◌++◌, length, take, drop, Option, Some, None, Ok, refl, sym, ap, subst, ◌∙◌, append_assoc, arith, nat_lt}
 use Rattle.std.specs.Prelude.{is_some}
 use Rattle.std.specs.List.{AllByRecursion}
 use Rattle.std.proofs.lemmas.Bool.{le-ltb}
-use Rattle.std.proofs.lemmas.List.{take_at, drop_at, take-append-drop, append-nil, length-append, length-take, length-drop, nil_from_length}
+use Rattle.std.proofs.lemmas.List.{take_at, take-append-drop, append-nil, length-append, length-take, length-drop}
 use Rattle.message_bytes.specs.declared.codes.Kind.{Kind}
 use Rattle.message_bytes.specs.declared.decoder.Decoder.{Decoder}
 use Rattle.message_bytes.specs.declared.fault.WireFault.{WireFault}
-use Rattle.message_bytes.specs.declared.fault.WireFault.TheVariants.{BadMagic, BadKind, TooLong, BadField, NoMemory}
+use Rattle.message_bytes.specs.declared.fault.WireFault.TheVariants.{BadKind, TooLong, BadField}
 use Rattle.message_bytes.specs.declared.frame.Frame.{Frame}
-use Rattle.message_bytes.specs.Codes.{kind_of, kind_number}
+use Rattle.message_bytes.specs.Codes.{kind_number}
 use Rattle.message_bytes.specs.Spelling as spelling
 use Rattle.message_bytes.specs.Spelling.{four_bytes, body, head, spell, joined}
 use Rattle.message_bytes.specs.Frames.{IsFrame, Reads, number_in, shown, shown_body, shown_length}

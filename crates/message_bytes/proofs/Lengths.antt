@@ -1,7 +1,7 @@
 -- How long bodies are.
-use Rattle.std.proofs.Common.{◌≡◌, ℕ, zero, suc, ◌+◌, ◌-◌, ◌*◌, ◌^◌, ◌<◌, ◌≤◌, Bool, true, false, ◌&&◌, List, [], ◌∷◌, ◌++◌, length, refl, sym, ap, subst, ◌∙◌, arith, rules, lit<, lit≤, nat_le, nat_lt}
+use Rattle.std.proofs.Common.{◌≡◌, ℕ, suc, ◌+◌, ◌*◌, ◌≤◌, true, ◌&&◌, List, [], ◌∷◌, ◌++◌, length, refl, arith, lit≤, nat_le, nat_lt}
 use Rattle.std.specs.Prelude.{not}
-use Rattle.std.specs.List.{AllByRecursion, list_all}
+use Rattle.std.specs.List.{list_all}
 use Rattle.std.proofs.lemmas.List.{length-append}
 use Rattle.object_parts.specs.Limits.{is_within, has_ole_name, total}
 use Rattle.object_state.specs.MenuTexts.{is_menu_text, is_printable}
@@ -15,7 +15,7 @@ use Rattle.wire_msgs.specs.declared.message.Message.TheVariants.{Call, Reply, Wr
 use Rattle.message_bytes.specs.declared.frame.Frame.{Frame}
 use Rattle.message_bytes.specs.declared.frame.Frame.TheVariants.{Message, Turn}
 use Rattle.message_bytes.specs.Spelling.{two_bytes, four_bytes, blob, text, streams, stored, flag, operation, widths, answer, body}
-use Rattle.message_bytes.specs.Frames.{operation_fits, answer_fits, IsContent, IsOperation, IsAnswer, IsFrame}
+use Rattle.message_bytes.specs.Frames.{operation_fits, answer_fits, IsOperation, IsAnswer, IsFrame}
 use Rattle.message_bytes.proofs.Fields.{first_of, second_of, le_told, length-two_bytes, length-four_bytes}
 use Rattle.message_bytes.proofs.Contents.{Names}
 

@@ -1,17 +1,11 @@
 -- Byte forms are apart, so bytes are read in one way.
-use Rattle.std.proofs.Common.{◌≡◌, ℕ, suc, ◌+◌, ◌^◌, ◌<◌, ◌≤◌, true, List, [], ◌∷◌, ◌++◌, length, take, drop, Option, Some, None, refl, sym, ap, subst, ◌∙◌, append_assoc, arith, lit<}
+use Rattle.std.proofs.Common.{◌≡◌, ℕ, ◌≤◌, List, [], ◌∷◌, ◌++◌, length, take, drop, Some, refl, sym, ap, ◌∙◌, append_assoc, arith}
 use Rattle.std.specs.List.{AllByRecursion}
-use Rattle.std.proofs.lemmas.List.{take_at, drop_at, append-nil, length-append}
-use Rattle.wire_msgs.specs.declared.message.Message.TheVariants.{Call, Reply, Write, Ask}
-use Rattle.message_bytes.specs.declared.fault.WireFault.{WireFault}
+use Rattle.std.proofs.lemmas.List.{take_at, drop_at, append-nil}
 use Rattle.message_bytes.specs.declared.frame.Frame.{Frame}
-use Rattle.message_bytes.specs.declared.frame.Frame.TheVariants.{Message, Turn}
-use Rattle.message_bytes.specs.declared.codes.Kind.{Kind}
-use Rattle.message_bytes.specs.declared.codes.Kind.TheVariants as kind
-use Rattle.message_bytes.specs.Codes.{kind_number}
 use Rattle.message_bytes.specs.Spelling as spelling
 use Rattle.message_bytes.specs.Spelling.{four_bytes, body, head, spell, joined}
-use Rattle.message_bytes.specs.Frames.{IsFrame, Reads, number_in, shown, SpellingsAreApart, ReadingIsOne, FramesAreLongest, SpelledIsRead}
+use Rattle.message_bytes.specs.Frames.{IsFrame, number_in, shown, SpellingsAreApart, ReadingIsOne, FramesAreLongest, SpelledIsRead}
 use Rattle.message_bytes.specs.Reading.{read_body}
 use Rattle.message_bytes.proofs.Fields.{some_is, length-four_bytes, number_in-four_bytes}
 use Rattle.message_bytes.proofs.Bodies.{kind_in, kind_in-number, same_kind, body_again}

@@ -1,12 +1,8 @@
 -- What reading parts of a body answers, and how a decoder stands.
-use Rattle.std.specs.Prelude.{◌≡◌, ◌⊎◌, ◌<◌, ℕ, suc, Bool, true, false, List, [], ◌∷◌, ◌++◌, drop, Option, Some, None, Result, Ok, Err, slice_index}
-use Rattle.std.specs.List.{AllByRecursion}
+use Rattle.std.specs.Prelude.{◌≡◌, ℕ, suc, List, Option, Some, None, Result, Ok, Err}
 use Rattle.message_bytes.specs.declared.body.BodyFault.{BodyFault}
 use Rattle.message_bytes.specs.declared.body.BodyFault.TheVariants.{Bad, Memory}
 use Rattle.storage_tree.specs.declared.streams.NamedStream.{NamedStream}
-use Rattle.message_bytes.specs.declared.codes.OperationCode.{OperationCode}
-use Rattle.message_bytes.specs.declared.codes.OperationCode.TheVariants.{UiActivate, Save, SaveDropped}
-use Rattle.message_bytes.specs.declared.fault.WireFault.{WireFault}
 use Rattle.message_bytes.specs.declared.frame.Frame.{Frame}
 use Rattle.message_bytes.specs.Reading.{Reader, more}
 

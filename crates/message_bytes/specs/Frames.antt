@@ -1,5 +1,5 @@
 -- Which frames have a byte form, and what bytes are as frames.
-use Rattle.std.specs.Prelude.{◌≡◌, ◌<◌, ◌^◌, ℕ, Bool, true, false, cond, ◌&&◌, List, [], ◌∷◌, ◌++◌, length, Option, Some, None, is_some, nat_lt, nat_le, nat_eq, IsTrue}
+use Rattle.std.specs.Prelude.{◌≡◌, ◌<◌, ◌^◌, ℕ, Bool, true, cond, ◌&&◌, List, [], ◌∷◌, ◌++◌, length, Option, Some, None, is_some, nat_lt, nat_le, nat_eq, IsTrue}
 use Rattle.std.specs.Int.{w32, from_le_bytes}
 use Rattle.std.specs.List.{AllByRecursion}
 use Rattle.cfb_directory.specs.Names.{IsName}

@@ -1,5 +1,5 @@
 -- What stands at the front of bytes, and how a decoder stands.
-use Rattle.std.specs.Prelude.{◌≡◌, ◌≢◌, ◌⊎◌, ◌<◌, ◌≤◌, ◌+◌, ℕ, List, [], ◌∷◌, ◌++◌, length, take, drop, Option, Some, None, Result, Ok, Err, slice_index}
+use Rattle.std.specs.Prelude.{◌≡◌, ◌≢◌, ◌⊎◌, ◌<◌, ◌≤◌, ℕ, List, [], ◌∷◌, ◌++◌, length, take, drop, Option, Some, None, Result, Ok, Err}
 use Rattle.std.specs.List.{AllByRecursion}
 use Rattle.message_bytes.specs.declared.codes.Kind.{Kind}
 use Rattle.message_bytes.specs.declared.front.Head.{Head}
@@ -11,7 +11,7 @@ use Rattle.message_bytes.specs.declared.fault.WireFault.{WireFault}
 use Rattle.message_bytes.specs.declared.fault.WireFault.TheVariants.{TooLong, BadField, NoMemory}
 use Rattle.message_bytes.specs.declared.frame.Frame.{Frame}
 use Rattle.message_bytes.specs.Codes.{kind_number}
-use Rattle.message_bytes.specs.Frames.{IsFrame, Reads, number_in, shown, shown_length, shown_kind, shown_version}
+use Rattle.message_bytes.specs.Frames.{IsFrame, Reads, number_in, shown, shown_length}
 use Rattle.message_bytes.specs.Spelling.{spell, joined}
 
 -- A head that is whole: so many bytes of a body of this kind come behind it.

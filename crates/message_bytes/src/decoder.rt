@@ -85,7 +85,7 @@ impl Decoder {
                 self.fault = shown;
                 match shown {
                     None => Ok(()),
-                    Some(fault) => Err(fault),
+                    Some(found) => Err(found),
                 }
             }
             Err(_) => {

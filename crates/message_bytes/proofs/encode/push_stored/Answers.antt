@@ -1,6 +1,5 @@
-use Rattle.std.proofs.Common.{subst, sym, ap, ◌∙◌, ◌++◌, ◌≡◌, List, ℕ}
+use Rattle.std.proofs.Common.{subst}
 use Rattle.message_bytes.specs.Encoding.{AreNamed}
-use Rattle.message_bytes.specs.Spelling.{streams}
 use Rattle.message_bytes.proofs.Adding.{content_added}
 use Rattle.message_bytes.proofs.encode.push_stored.Goals as goal
 

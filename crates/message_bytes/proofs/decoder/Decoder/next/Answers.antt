@@ -1,4 +1,4 @@
-use Rattle.std.proofs.Common.{refl, sym, ◌∙◌, ap, drop, subst, Option}
+use Rattle.std.proofs.Common.{refl, ◌∙◌, ap, drop, subst, Option}
 use Rattle.message_bytes.specs.declared.fault.WireFault.{WireFault}
 use Rattle.message_bytes.specs.Frames.{Reads}
 use Rattle.message_bytes.proofs.Fronts.{next_some, next_none, emptied}
