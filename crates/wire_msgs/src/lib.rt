@@ -6,5 +6,3 @@ pub mod items;
 pub mod message;
 pub mod operation;
 pub mod refusal;
-#[cfg(test)]
-mod tests;

@@ -1,13 +1,13 @@
-use crate::answer::Answer;
-use crate::items::Items;
-use crate::message::Message;
-use crate::operation::Operation;
-use crate::refusal::Refusal;
 use object_state::{CloseOption, Menus, Op, StateFault};
 use std::test::Fail;
 use storage_tree::bytes::Bytes;
 use storage_tree::class_id::ClassId;
 use storage_tree::stored::Stored;
+use wire_msgs::answer::Answer;
+use wire_msgs::items::Items;
+use wire_msgs::message::Message;
+use wire_msgs::operation::Operation;
+use wire_msgs::refusal::Refusal;
 
 #[test]
 fn refusals_stand_by_their_codes(rt: HostRuntime) {

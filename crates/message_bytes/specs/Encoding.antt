@@ -1,0 +1,29 @@
+-- What encode answers.
+use Rattle.std.specs.Prelude.{◌≡◌, ◌≤◌, ℕ, List, ◌++◌, length, true, false, Result, Ok, Err}
+use Rattle.std.specs.Global.{Vec}
+use Rattle.std.specs.List.{AllByRecursion}
+use Rattle.cfb_directory.specs.Names.{IsName}
+use Rattle.storage_tree.specs.declared.streams.NamedStream.{NamedStream}
+use Rattle.message_bytes.specs.declared.fault.WireFault.{WireFault}
+use Rattle.message_bytes.specs.declared.fault.WireFault.TheVariants.{BadMagic, BadVersion, BadKind, TooLong, BadField, NoMemory}
+use Rattle.message_bytes.specs.declared.frame.Frame.{Frame}
+use Rattle.message_bytes.specs.Frames.{fits}
+use Rattle.message_bytes.specs.Spelling.{spell}
+
+-- The byte form of a frame that may be sent, and BadField for any other.
+abbrev pub Encodes : Result (Vec ℕ) WireFault → Frame → Type 0
+Encodes (Ok v) frame = (fits frame ≡ true) × (v.items ≡ spell frame)
+Encodes (Err BadField) frame = fits frame ≡ false
+Encodes (Err NoMemory) frame = fits frame ≡ true
+Encodes (Err BadMagic) frame = ⊥
+Encodes (Err BadVersion) frame = ⊥
+Encodes (Err BadKind) frame = ⊥
+Encodes (Err TooLong) frame = ⊥
+
+-- bytes with these at their end, which are at most so many
+pub record Adds (old new text : List ℕ) (most : ℕ) : Type 0 where
+  pub added : new ≡ old ++ text
+  pub short : length text ≤ most
+
+abbrev pub AreNamed : List NamedStream → Type 0
+AreNamed ss = AllByRecursion (λ (t : NamedStream). IsName t.name) ss

@@ -1,0 +1,94 @@
+-- What stands at the front of bytes, and how a decoder stands.
+use Rattle.std.specs.Prelude.{◌≡◌, ◌≢◌, ◌⊎◌, ◌<◌, ◌≤◌, ℕ, List, [], ◌∷◌, ◌++◌, length, take, drop, Option, Some, None, Result, Ok, Err}
+use Rattle.std.specs.List.{AllByRecursion}
+use Rattle.message_bytes.specs.declared.codes.Kind.{Kind}
+use Rattle.message_bytes.specs.declared.front.Head.{Head}
+use Rattle.message_bytes.specs.declared.front.Head.TheVariants.{Short, Bad, Body}
+use Rattle.message_bytes.specs.declared.front.Front.{Front}
+use Rattle.message_bytes.specs.declared.front.Front.TheVariants as front
+use Rattle.message_bytes.specs.declared.decoder.Decoder.{Decoder}
+use Rattle.message_bytes.specs.declared.fault.WireFault.{WireFault}
+use Rattle.message_bytes.specs.declared.fault.WireFault.TheVariants.{TooLong, BadField, NoMemory}
+use Rattle.message_bytes.specs.declared.frame.Frame.{Frame}
+use Rattle.message_bytes.specs.Codes.{kind_number}
+use Rattle.message_bytes.specs.Frames.{IsFrame, Reads, number_in, shown, shown_length}
+use Rattle.message_bytes.specs.Spelling.{spell, joined}
+
+-- A head that is whole: so many bytes of a body of this kind come behind it.
+pub record IsHead (kind : Kind) (len : ℕ) (bytes : List ℕ) : Type 0 where
+  pub long : 10 ≤ length bytes
+  pub parts : take 10 bytes ≡ 79 ∷ 76 ∷ 67 ∷ 77 ∷ 1 ∷ kind_number kind ∷ take 4 (drop 6 bytes)
+  pub says : number_in (take 4 (drop 6 bytes)) ≡ len
+  pub short : len ≤ 1048576
+
+abbrev pub HeadIs : Head → List ℕ → Type 0
+HeadIs Short bytes = shown bytes ≡ None
+HeadIs (Bad fault) bytes = (fault ≢ BadField) × ((more : List ℕ) → shown (bytes ++ more) ≡ Some fault)
+HeadIs (Body kind len) bytes = IsHead kind len bytes
+
+-- the four bytes of a length, behind the rest of a head
+abbrev pub LengthIs : Head → Kind → List ℕ → Type 0
+LengthIs Short kind bytes = shown_length bytes ≡ None
+LengthIs (Bad fault) kind bytes = (fault ≡ TooLong) × ((more : List ℕ) → shown_length (bytes ++ more) ≡ Some fault)
+LengthIs (Body k len) kind bytes = (k ≡ kind) × (4 ≤ length bytes) × (number_in (take 4 bytes) ≡ len) × (len ≤ 1048576)
+
+-- no frame's byte form begins these bytes
+abbrev pub BeginsNone : List ℕ → Type 0
+BeginsNone bytes = (f : Frame) (more : List ℕ) → IsFrame f → bytes ≡ spell f ++ more → ⊥
+
+-- these bytes show this fault, whatever follows
+pub record IsFaulty (fault : WireFault) (bytes : List ℕ) : Type 0 where
+  pub stays : (more : List ℕ) → shown (bytes ++ more) ≡ Some fault
+  pub none : (more : List ℕ) → BeginsNone (bytes ++ more)
+
+-- a frame's byte form, and n bytes in all
+pub record IsWhole (f : Frame) (n : ℕ) (bytes : List ℕ) : Type 0 where
+  pub frame : IsFrame f
+  pub some : 0 < n
+  pub within : n ≤ length bytes
+  pub spelled : take n bytes ≡ spell f
+
+abbrev pub FrontIs : Front → List ℕ → Type 0
+FrontIs front.Partial bytes = shown bytes ≡ None
+FrontIs (front.Whole f n) bytes = IsWhole f n bytes
+FrontIs (front.Faulty fault) bytes = IsFaulty fault bytes
+
+-- what is kept of the bytes behind the last whole frame
+abbrev pub Keeps : Option WireFault → List ℕ → List ℕ → Type 0
+Keeps None kept rest = (kept ≡ rest) × (shown rest ≡ None)
+Keeps (Some fault) kept rest = IsFaulty fault rest
+
+-- A decoder that was fed these bytes in all, and handed out these frames.
+pub record Stands (d : Decoder) (fed : List ℕ) (taken : List Frame) : Type 0 where
+  pub rest : List ℕ
+  pub whole : fed ≡ joined (taken ++ d.waiting.items) ++ rest
+  pub each : AllByRecursion IsFrame (taken ++ d.waiting.items)
+  pub keeps : Keeps d.fault d.bytes.items rest
+
+-- the frames that are handed out are read, and more of them may come, and then this fault or none
+abbrev pub AreRead : List ℕ → List Frame → Option WireFault → Type 0
+AreRead fed taken fault = (more : List Frame) × Reads fed (taken ++ more) fault
+
+-- What feed does: a piece that shows no fault; want of memory, which changes nothing; or the fault that is shown.
+abbrev pub Feeds : Result (Unit {0}) WireFault → List ℕ → List ℕ → List Frame → Decoder → Type 0
+Feeds (Ok u) fed piece taken new = Stands new (fed ++ piece) taken × AreRead (fed ++ piece) taken None
+Feeds (Err fault) fed piece taken new =
+    ((fault ≡ NoMemory) × Stands new fed taken) ⊎ (Stands new (fed ++ piece) taken × AreRead (fed ++ piece) taken (Some fault))
+
+-- What next does: the next frame, that there is none yet, or the fault behind the last one.
+abbrev pub HandsOut : Result (Option Frame) WireFault → List ℕ → List Frame → Decoder → Type 0
+HandsOut (Ok (Some f)) fed taken new = Stands new fed (taken ++ f ∷ []) × ((fault : Option WireFault) × AreRead fed (taken ++ f ∷ []) fault)
+HandsOut (Ok None) fed taken new = Stands new fed taken × Reads fed taken None
+HandsOut (Err fault) fed taken new = Stands new fed taken × Reads fed taken (Some fault)
+
+-- Frames that were put behind others: those that so many of these bytes spell.
+pub record Took (old new : List Frame) (bytes : List ℕ) (used : ℕ) : Type 0 where
+  pub added : List Frame
+  pub grew : new ≡ old ++ added
+  pub each : AllByRecursion IsFrame added
+  pub parts : bytes ≡ joined added ++ drop used bytes
+  pub within : used ≤ length bytes
+
+abbrev pub Ends : Option WireFault → List ℕ → Type 0
+Ends None rest = shown rest ≡ None
+Ends (Some fault) rest = IsFaulty fault rest

@@ -1,0 +1,98 @@
+//! Bytes as frames, in whatever pieces they come.
+
+ghost use Rattle.std.specs.Prelude.{◌≡◌, ◌≤◌, drop, length};
+
+use crate::fault::WireFault;
+use crate::frame::Frame;
+use crate::front::take_frames;
+use std::alloc::Global;
+use std::collections::VecDeque;
+
+/// Takes bytes as they come, and gives the frames that they spell.
+///
+/// The frames that were handed out, and those that wait, are the longest list whose byte forms, joined, are a prefix of all
+/// bytes that were fed. Once the rest shows a fault, that stays.
+#[derive(Drop)]
+pub struct Decoder {
+    alloc: Global,
+    waiting: VecDeque<Frame>,
+    bytes: Vec<u8>,
+    fault: Option<WireFault>,
+}
+
+// Takes so many bytes away from the front.
+fn cut_front(bytes: &mut Vec<u8>, used: usize)
+    requires { used ≤ length bytes.old.items }
+    ensures { bytes.new.items ≡ drop used bytes.old.items }
+{
+    let left = bytes.len() - used;
+    bytes.rotate_left(used);
+    bytes.truncate(left);
+}
+
+impl Decoder {
+    ghost use Rattle.message_bytes.specs.Fronts.{Feeds, HandsOut, Stands};
+    ghost use Rattle.message_bytes.specs.declared.frame.Frame.{Frame};
+    ghost use Rattle.std.specs.Prelude.{[], ℕ, List};
+
+    /// A decoder that was fed nothing.
+    pub fn new(alloc: Global) -> Decoder
+        ensures { Stands result [] [] }
+    {
+        Decoder {
+            alloc,
+            waiting: VecDeque::new(alloc),
+            bytes: Vec::new(alloc),
+            fault: None,
+        }
+    }
+
+    /// The next frame, none where none is whole.
+    ///
+    /// Refused: the fault that the bytes show, once all frames before it are handed out, and ever after.
+    pub fn next(&mut self) -> Result<Option<Frame>, WireFault>
+        ensures { (fed : List ℕ) (taken : List Frame) → Stands self.old fed taken → HandsOut result fed taken self.new }
+    {
+        match self.waiting.pop_front() {
+            Some(frame) => Ok(Some(frame)),
+            None => match self.fault {
+                Some(fault) => Err(fault),
+                None => Ok(None),
+            },
+        }
+    }
+
+    /// Takes the next piece of the bytes.
+    ///
+    /// Refused: the fault that all bytes so far show, at the call that shows it and ever after; `NoMemory`, before that.
+    /// After `NoMemory` the decoder is as before, and the same piece can be fed again.
+    pub fn feed(&mut self, piece: &[u8]) -> Result<(), WireFault>
+        ensures { (fed : List ℕ) (taken : List Frame) → Stands self.old fed taken → Feeds result fed piece.now taken self.new }
+    {
+        match self.fault {
+            Some(fault) => return Err(fault),
+            None => {}
+        }
+        let kept = self.bytes.len();
+        let before = self.waiting.len();
+        match self.bytes.extend_from_slice(piece) {
+            Ok(()) => {}
+            Err(_) => return Err(WireFault::NoMemory),
+        }
+        match take_frames(self.alloc, &self.bytes, &mut self.waiting) {
+            Ok((used, shown)) => {
+                cut_front(&mut self.bytes, used);
+                self.fault = shown;
+                match shown {
+                    None => Ok(()),
+                    Some(found) => Err(found),
+                }
+            }
+            Err(_) => {
+                self.bytes.truncate(kept);
+                self.waiting.truncate(before);
+                Err(WireFault::NoMemory)
+            }
+        }
+    }
+}

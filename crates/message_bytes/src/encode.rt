@@ -1,0 +1,401 @@
+//! Frames as bytes.
+
+ghost use Rattle.cfb_directory.specs.Names.{IsName};
+ghost use Rattle.message_bytes.specs.Encoding.{Adds, AreNamed, Encodes};
+ghost use Rattle.message_bytes.specs.Frames.{answer_fits, fits, operation_fits};
+ghost use Rattle.message_bytes.specs.Spelling.{answer, blob, body, four_bytes, kind, operation, option_number, stored, streams, text, two_bytes, widths};
+ghost use Rattle.object_parts.specs.Limits.{is_within, total};
+ghost use Rattle.wire_msgs.specs.declared.operation.Operation.TheVariants.{SaveCompleted};
+ghost use Rattle.std.specs.Prelude.{[], ◌∷◌, ◌++◌, ◌≡◌, ◌≤◌, ◌<◌, ◌^◌, OnOk, drop, length, take, true};
+
+use crate::fault::WireFault;
+use crate::frame::Frame;
+use object_parts::limits::is_within;
+use object_state::{CloseOption, MenuText};
+use std::alloc::{AllocError, Global};
+use storage_tree::stored::Stored;
+use storage_tree::streams::NamedStream;
+use wire_msgs::answer::Answer;
+use wire_msgs::message::Message;
+use wire_msgs::operation::Operation;
+
+/// The greatest length of an edit, in bytes.
+pub const MOST_EDIT: usize = 65_536;
+
+// Whether an operation may be sent.
+fn operation_fits(operation: &Operation) -> bool
+    ensures { result ≡ operation_fits operation.now }
+{
+    match operation {
+        Operation::Load(_, content) => is_within(content),
+        Operation::UiActivate(grant) => *grant > 0,
+        Operation::Edit(bytes) => bytes.len() <= MOST_EDIT,
+        Operation::Save(save) => *save > 0,
+        Operation::SaveCompleted { save, .. } => *save > 0,
+        Operation::SaveDropped(save) => *save > 0,
+        _ => true,
+    }
+}
+
+// Whether an answer may be sent.
+fn answer_fits(answer: &Answer) -> bool
+    ensures { result ≡ answer_fits answer.now }
+{
+    match answer {
+        Answer::Content(content) => is_within(content),
+        _ => true,
+    }
+}
+
+/// Whether a frame may be sent: no number in it is 0, an edit has at most 65,536 bytes, and a content may be stored
+/// (`object_parts::limits::is_within`).
+pub fn fits(frame: &Frame) -> bool
+    ensures { result ≡ fits frame.now }
+{
+    match frame {
+        Frame::Message(
+            Message::Call {
+                inc,
+                act,
+                n,
+                operation,
+            },
+        ) => *inc > 0 && *act > 0 && *n > 0 && operation_fits(operation),
+        Frame::Message(
+            Message::Reply {
+                inc,
+                act,
+                n,
+                answer,
+            },
+        ) => *inc > 0 && *act > 0 && *n > 0 && answer_fits(answer),
+        Frame::Message(
+            Message::Write {
+                inc,
+                act,
+                s,
+                w,
+                content,
+            },
+        ) => *inc > 0 && *act > 0 && *s > 0 && *w > 0 && is_within(content),
+        Frame::Message(Message::Ask { inc, act, g }) => *inc > 0 && *act > 0 && *g > 0,
+        Frame::Turn => true,
+    }
+}
+
+// Adds a byte.
+fn push_byte(out: &mut Vec<u8>, byte: u8) -> Result<(), AllocError>
+    ensures { OnOk result (out.new.items ≡ out.old.items ++ byte ∷ []) }
+{
+    out.push(byte)?;
+    Ok(())
+}
+
+// Adds bytes.
+fn push_bytes(out: &mut Vec<u8>, bytes: &[u8]) -> Result<(), AllocError>
+    ensures { OnOk result (out.new.items ≡ out.old.items ++ bytes.now) }
+{
+    out.extend_from_slice(bytes)?;
+    Ok(())
+}
+
+// Adds a number in two bytes.
+#[tactic(auto, unfolding(crate::specs::Spelling::two_bytes))]
+fn push_u16(out: &mut Vec<u8>, n: u16) -> Result<(), AllocError>
+    ensures { OnOk result (out.new.items ≡ out.old.items ++ two_bytes n) }
+{
+    out.extend_from_slice(&n.to_le_bytes())?;
+    Ok(())
+}
+
+// Adds a number in four bytes.
+#[tactic(auto, unfolding(crate::specs::Spelling::four_bytes))]
+fn push_u32(out: &mut Vec<u8>, n: u32) -> Result<(), AllocError>
+    ensures { OnOk result (out.new.items ≡ out.old.items ++ four_bytes n) }
+{
+    out.extend_from_slice(&n.to_le_bytes())?;
+    Ok(())
+}
+
+// Adds a name or a text behind its length.
+fn push_text(out: &mut Vec<u8>, bytes: &[u8]) -> Result<(), AllocError>
+    requires { length bytes.now < 256 }
+    ensures { OnOk result (out.new.items ≡ out.old.items ++ text bytes.now) }
+{
+    push_byte(out, bytes.len() as u8)?;
+    push_bytes(out, bytes)?;
+    Ok(())
+}
+
+// Adds bytes behind their length.
+fn push_blob(out: &mut Vec<u8>, bytes: &[u8]) -> Result<(), AllocError>
+    requires { length bytes.now < 2 ^ 32 }
+    ensures { OnOk result (out.new.items ≡ out.old.items ++ blob bytes.now) }
+{
+    push_u32(out, bytes.len() as u32)?;
+    push_bytes(out, bytes)?;
+    Ok(())
+}
+
+// Adds a stream.
+fn push_stream(out: &mut Vec<u8>, stream: &NamedStream) -> Result<(), AllocError>
+    requires { length stream.now.bytes < 2 ^ 32 }
+    ensures added { OnOk result (out.new.items ≡ out.old.items ++ (text stream.now.name ++ blob stream.now.bytes)) }
+    ensures named { IsName stream.now.name }
+{
+    push_text(out, stream.name.as_bytes())?;
+    push_blob(out, stream.bytes.as_slice())?;
+    Ok(())
+}
+
+// Adds streams.
+fn push_streams(out: &mut Vec<u8>, list: &[NamedStream]) -> Result<(), AllocError>
+    requires { total list.now < 2 ^ 32 }
+    ensures added { OnOk result (out.new.items ≡ out.old.items ++ streams list.now) }
+    ensures named { OnOk result (AreNamed list.now) }
+{
+    for stream in list {
+        push_stream(out, stream)?;
+    }
+    Ok(())
+}
+
+// Adds a content.
+fn push_stored(out: &mut Vec<u8>, content: &Stored) -> Result<(), AllocError>
+    requires { is_within content.now ≡ true }
+    ensures { OnOk result (Adds out.old.items out.new.items (stored content.now) 262437) }
+{
+    push_byte(out, content.streams.len() as u8)?;
+    push_streams(out, content.streams.as_slice())?;
+    push_blob(out, content.picture.as_slice())?;
+    Ok(())
+}
+
+// Adds the number of an operation that carries a number, and that number.
+fn push_numbered(out: &mut Vec<u8>, code: u8, n: u32) -> Result<(), AllocError>
+    ensures { OnOk result (Adds out.old.items out.new.items (code ∷ four_bytes n) 5) }
+{
+    push_byte(out, code)?;
+    push_u32(out, n)?;
+    Ok(())
+}
+
+// How a close stands.
+fn option_number(option: CloseOption) -> u8
+    ensures { result ≡ option_number option }
+{
+    match option {
+        CloseOption::SaveIfDirty => 0,
+        CloseOption::NoSave => 1,
+    }
+}
+
+// Adds a Load.
+fn push_load(out: &mut Vec<u8>, class: &[u8; 16], content: &Stored) -> Result<(), AllocError>
+    requires { is_within content.now ≡ true }
+    ensures { OnOk result (Adds out.old.items out.new.items (2 ∷ (class.now ++ stored content.now)) 300000) }
+{
+    push_byte(out, 2)?;
+    push_bytes(out, class)?;
+    push_stored(out, content)?;
+    Ok(())
+}
+
+// Adds an InitNew.
+fn push_init_new(out: &mut Vec<u8>, class: &[u8; 16]) -> Result<(), AllocError>
+    ensures { OnOk result (Adds out.old.items out.new.items (1 ∷ class.now) 300000) }
+{
+    push_byte(out, 1)?;
+    push_bytes(out, class)?;
+    Ok(())
+}
+
+// Adds an Edit.
+fn push_edit(out: &mut Vec<u8>, bytes: &[u8]) -> Result<(), AllocError>
+    requires { length bytes.now ≤ 65536 }
+    ensures { OnOk result (Adds out.old.items out.new.items (8 ∷ blob bytes.now) 300000) }
+{
+    push_byte(out, 8)?;
+    push_blob(out, bytes)?;
+    Ok(())
+}
+
+// Adds a SaveCompleted.
+fn push_completed(out: &mut Vec<u8>, save: u32, storage: bool) -> Result<(), AllocError>
+    ensures { OnOk result (Adds out.old.items out.new.items (operation (SaveCompleted save storage)) 300000) }
+{
+    push_numbered(out, 11, save)?;
+    push_byte(out, if storage { 1 } else { 0 })?;
+    Ok(())
+}
+
+// Adds a write's numbers and content.
+fn push_write(out: &mut Vec<u8>, w: u32, content: &Stored) -> Result<(), AllocError>
+    requires { is_within content.now ≡ true }
+    ensures { OnOk result (Adds out.old.items out.new.items (four_bytes w ++ stored content.now) 300000) }
+{
+    push_u32(out, w)?;
+    push_stored(out, content)?;
+    Ok(())
+}
+
+// Adds an operation.
+fn push_operation(out: &mut Vec<u8>, op: &Operation) -> Result<(), AllocError>
+    requires { operation_fits op.now ≡ true }
+    ensures { OnOk result (Adds out.old.items out.new.items (operation op.now) 300000) }
+{
+    match op {
+        Operation::InitNew(class) => push_init_new(out, class.as_bytes()),
+        Operation::Load(class, content) => push_load(out, class.as_bytes(), content),
+        Operation::InPlace => push_byte(out, 3),
+        Operation::UiActivate(grant) => push_numbered(out, 4, *grant),
+        Operation::UiDeactivate => push_byte(out, 5),
+        Operation::InPlaceDeactivate => push_byte(out, 6),
+        Operation::OpenWindow => push_byte(out, 7),
+        Operation::Edit(bytes) => push_edit(out, bytes.as_slice()),
+        Operation::Save(save) => push_numbered(out, 9, *save),
+        Operation::HandsOff => push_byte(out, 10),
+        Operation::SaveCompleted { save, storage } => push_completed(out, *save, *storage),
+        Operation::SaveDropped(save) => push_numbered(out, 12, *save),
+        Operation::Close(option) => push_bytes(out, &[13, option_number(*option)]),
+    }
+}
+
+// Adds a menu text.
+fn push_menu(out: &mut Vec<u8>, menu: &MenuText) -> Result<(), AllocError>
+    ensures { OnOk result (Adds out.old.items out.new.items (text menu.now) 17) }
+{
+    push_text(out, menu.as_bytes())?;
+    Ok(())
+}
+
+// Adds four widths.
+fn push_widths(out: &mut Vec<u8>, border: &[u16; 4]) -> Result<(), AllocError>
+    ensures { OnOk result (Adds out.old.items out.new.items (widths border.now) 8) }
+{
+    for width in border {
+        push_u16(out, *width)?;
+    }
+    Ok(())
+}
+
+// Adds an answer.
+fn push_answer(out: &mut Vec<u8>, said: &Answer) -> Result<(), AllocError>
+    requires { answer_fits said.now ≡ true }
+    ensures { OnOk result (Adds out.old.items out.new.items (answer said.now) 300000) }
+{
+    match said {
+        Answer::Done => push_byte(out, 0)?,
+        Answer::Refused(refusal) => push_bytes(out, &[1, refusal.code()])?,
+        Answer::Content(content) => {
+            push_byte(out, 2)?;
+            push_stored(out, content)?;
+        }
+        Answer::Tools { menus, border } => {
+            push_byte(out, 3)?;
+            push_menu(out, &menus.edit)?;
+            push_menu(out, &menus.object)?;
+            push_menu(out, &menus.help)?;
+            push_widths(out, border)?;
+        }
+    }
+    Ok(())
+}
+
+// Adds three numbers.
+fn push_three(out: &mut Vec<u8>, a: u32, b: u32, c: u32) -> Result<(), AllocError>
+    ensures { OnOk result (Adds out.old.items out.new.items (four_bytes a ++ (four_bytes b ++ four_bytes c)) 12) }
+{
+    push_u32(out, a)?;
+    push_u32(out, b)?;
+    push_u32(out, c)?;
+    Ok(())
+}
+
+// Adds a frame's body.
+fn push_body(out: &mut Vec<u8>, frame: &Frame) -> Result<(), AllocError>
+    requires { fits frame.now ≡ true }
+    ensures { OnOk result (Adds out.old.items out.new.items (body frame.now) 1048576) }
+{
+    match frame {
+        Frame::Message(
+            Message::Call {
+                inc,
+                act,
+                n,
+                operation,
+            },
+        ) => {
+            push_three(out, *inc, *act, *n)?;
+            push_operation(out, operation)?;
+        }
+        Frame::Message(
+            Message::Reply {
+                inc,
+                act,
+                n,
+                answer,
+            },
+        ) => {
+            push_three(out, *inc, *act, *n)?;
+            push_answer(out, answer)?;
+        }
+        Frame::Message(
+            Message::Write {
+                inc,
+                act,
+                s,
+                w,
+                content,
+            },
+        ) => {
+            push_three(out, *inc, *act, *s)?;
+            push_write(out, *w, content)?;
+        }
+        Frame::Message(Message::Ask { inc, act, g }) => push_three(out, *inc, *act, *g)?,
+        Frame::Turn => {}
+    }
+    Ok(())
+}
+
+// The number of a frame's kind.
+fn kind_number(frame: &Frame) -> u8
+    ensures { result ≡ kind frame.now }
+{
+    match frame {
+        Frame::Message(Message::Call { .. }) => 1,
+        Frame::Message(Message::Reply { .. }) => 2,
+        Frame::Message(Message::Write { .. }) => 3,
+        Frame::Message(Message::Ask { .. }) => 4,
+        Frame::Turn => 5,
+    }
+}
+
+// Writes the length of the body into its place.
+#[tactic(auto, unfolding(crate::specs::Spelling::four_bytes))]
+fn set_length(out: &mut [u8], len: u32)
+    requires { 10 ≤ length out.old }
+    ensures { out.new ≡ take 6 out.old ++ (four_bytes len ++ drop 10 out.old) }
+{
+    out[6..10].copy_from_slice(&len.to_le_bytes());
+}
+
+/// The byte form of a frame.
+///
+/// Refused: `BadField` for a frame that may not be sent (see `fits`); then `NoMemory`.
+pub fn encode(alloc: Global, frame: &Frame) -> Result<Vec<u8>, WireFault>
+    ensures { Encodes result frame.now }
+{
+    if !fits(frame) {
+        return Err(WireFault::BadField);
+    }
+    let mut out = Vec::new(alloc);
+    push_bytes(
+        &mut out,
+        &[79, 76, 67, 77, 1, kind_number(frame), 0, 0, 0, 0],
+    )?;
+    push_body(&mut out, frame)?;
+    let len = (out.len() - 10) as u32;
+    set_length(&mut out, len);
+    Ok(out)
+}

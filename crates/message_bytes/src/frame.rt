@@ -1,0 +1,12 @@
+//! Frames: what goes over a link.
+
+use wire_msgs::message::Message;
+
+/// What goes over a link, one after another.
+#[derive(Drop)]
+pub enum Frame {
+    /// A message.
+    Message(Message),
+    /// The sender has said what it had to say, and waits.
+    Turn,
+}
