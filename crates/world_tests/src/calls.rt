@@ -1,7 +1,7 @@
 //! What tests call. These functions have no contracts, so that the tests stay quick to prove.
 
 use container_core::container::{ContainerCore, Limits};
-use container_model::answer::{Answer, Part};
+use container_model::answer::{Answer, Committed, Part};
 use container_model::command::Command;
 use container_model::fault::ContainerFault;
 use embed_core::embedded::Embedded;
@@ -58,7 +58,7 @@ pub(crate) fn commit_done(
     alloc: Global,
     core: &mut ContainerCore,
     frame: u32,
-) -> Result<Answer, ContainerFault> {
+) -> Result<Committed, ContainerFault> {
     core.commit_done(alloc, frame)
 }
 

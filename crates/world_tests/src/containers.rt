@@ -3,7 +3,7 @@
 use crate::calls::{bytes, carry_out, commit_done, commit_image, container, hear, reap};
 use cfb_directory::name::Name;
 use container_core::container::ContainerCore;
-use container_model::answer::{Action, Answer};
+use container_model::answer::{Action, Answer, Committed};
 use container_model::command::{Command, ObjectKind};
 use container_model::fault::ContainerFault;
 use container_model::record::{Object, Phase};
@@ -210,6 +210,23 @@ fn answered(alloc: Global, answer: Result<Answer, ContainerFault>) -> Result<Str
     }
 }
 
+/// What a commit that is done led to, and the objects that were counted.
+fn committed(
+    alloc: Global,
+    outcome: Result<Committed, ContainerFault>,
+) -> Result<String, AllocError> {
+    match outcome {
+        Ok(committed) => {
+            let mut text = answer_text(alloc, &committed.answer)?;
+            for done in committed.counted.as_slice() {
+                push_made(alloc, &mut text, "counted", done.object)?;
+            }
+            Ok(text)
+        }
+        Err(fault) => String::from_str(alloc, fault.name()),
+    }
+}
+
 /// A command, none where it is none.
 fn command(alloc: Global, told: Told) -> Result<Option<Command>, Fail> {
     match told {
@@ -230,7 +247,7 @@ fn heard(alloc: Global, core: &mut ContainerCore, told: Told) -> Result<String, 
         Told::Content(n) => hear(alloc, core, 1, reply(n, Said::Content(content(alloc)?))),
         Told::BadEdit(n) => hear(alloc, core, 1, reply(n, Said::Refused(Refusal::BadEdit))),
         Told::Reap => reap(alloc, core, 1),
-        Told::Committed => commit_done(alloc, core, 1),
+        Told::Committed => return Ok(committed(alloc, commit_done(alloc, core, 1))?),
         Told::Object => return Ok(seen_object(alloc, core)?),
         Told::Phase => return Ok(seen_phase(alloc, core)?),
         Told::Document => return Ok(seen_document(alloc, core)?),
@@ -302,7 +319,7 @@ fn containers_answer_what_they_are_told(rt: HostRuntime) -> Result<(), Fail> {
         (Told::Object, "active, empty"),
         (Told::Document, "1"),
         (Told::Image, "a file"),
-        (Told::Committed, " call 4 SaveCompleted 1"),
+        (Told::Committed, " call 4 SaveCompleted 1 counted 1"),
         (Told::Object, "active"),
         (Told::Document, "WrongState"),
     ];
