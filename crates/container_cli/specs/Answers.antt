@@ -6,13 +6,12 @@ use Rattle.texts.specs.Written.{numbered}
 use Rattle.wire_msgs.specs.Refusals.{code_of}
 use Rattle.wire_msgs.specs.declared.refusal.Refusal.{Refusal}
 use Rattle.container_model.specs.FaultNames.{fault_name}
-use Rattle.server_model.specs.declared.fault.ServerFault.{ServerFault}
-use Rattle.server_model.specs.declared.fault.ServerFault.TheVariants.{WrongIncarnation, Ignored, NumbersSpent, NeedObject, WrongClass, NoMemory}
 use Rattle.world_model.specs.StopNames.{stop_name}
 use Rattle.world_model.specs.declared.event.Stop.{Stop}
 use Rattle.world_model.specs.declared.logs.Outcome.{Outcome}
+use Rattle.server_model.specs.FaultNames.{fault_name as server_fault_name}
 use Rattle.world_model.specs.declared.logs.EventAnswer.{EventAnswer}
-use Rattle.world_model.specs.declared.logs.EventAnswer.TheVariants.{Took, Refused, Unheard}
+use Rattle.world_model.specs.declared.logs.EventAnswer.TheVariants.{Took, Refused, Dropped}
 
 -- each thing that an event led to stands behind a space
 abbrev pub frame_text : Option ℕ → List ℕ
@@ -62,18 +61,10 @@ or_ok (c ∷ cs) = c ∷ cs
 abbrev pub outcome_text : Outcome → List ℕ
 outcome_text o = or_ok (made_text o ++ told_text o ++ asked_text o)
 
-abbrev pub server_fault_name : ServerFault → List ℕ
-server_fault_name WrongIncarnation = codes "WrongIncarnation"
-server_fault_name Ignored = codes "Ignored"
-server_fault_name NumbersSpent = codes "NumbersSpent"
-server_fault_name NeedObject = codes "NeedObject"
-server_fault_name WrongClass = codes "WrongClass"
-server_fault_name NoMemory = codes "NoMemory"
-
 abbrev pub answer_text : EventAnswer → List ℕ
 answer_text (Took outcome) = outcome_text outcome
 answer_text (Refused fault) = 32 ∷ fault_name fault
-answer_text (Unheard fault) = 32 ∷ server_fault_name fault
+answer_text (Dropped fault) = 32 ∷ server_fault_name fault
 
 -- the line of event n
 abbrev pub answer_line : ℕ → EventAnswer → List ℕ

@@ -1,10 +1,9 @@
 //! What is printed of the answers of events.
 
-ghost use Rattle.container_cli.specs.Answers.{answer_line, answer_text, asked_text, commit_text, made_text, object_text, outcome_text, sent_text, server_fault_name, stop_line, told_text};
+ghost use Rattle.container_cli.specs.Answers.{answer_line, answer_text, asked_text, commit_text, made_text, object_text, outcome_text, sent_text, stop_line, told_text};
 ghost use Rattle.std.specs.List.{flat_map};
 ghost use Rattle.std.specs.Prelude.{◌≡◌, ◌++◌, OnOk};
 
-use server_model::fault::ServerFault;
 use std::alloc::{AllocError, Global};
 use texts::writing::{push_numbered, push_word};
 use world_model::event::Stop;
@@ -47,21 +46,7 @@ fn push_text(alloc: Global, text: &mut Vec<u8>, answer: &EventAnswer) -> Result<
     match answer {
         EventAnswer::Took(outcome) => push_outcome(alloc, text, outcome),
         EventAnswer::Refused(fault) => push_word(text, fault.name().as_bytes()),
-        EventAnswer::Unheard(fault) => push_word(text, server_fault_name(fault).as_bytes()),
-    }
-}
-
-/// The name of a server's fault.
-fn server_fault_name(fault: &ServerFault) -> &'static str
-    ensures { result.now ≡ server_fault_name fault.now }
-{
-    match fault {
-        ServerFault::WrongIncarnation => "WrongIncarnation",
-        ServerFault::Ignored => "Ignored",
-        ServerFault::NumbersSpent => "NumbersSpent",
-        ServerFault::NeedObject => "NeedObject",
-        ServerFault::WrongClass => "WrongClass",
-        ServerFault::NoMemory => "NoMemory",
+        EventAnswer::Dropped(fault) => push_word(text, fault.name().as_bytes()),
     }
 }
 
