@@ -67,6 +67,17 @@ pub(crate) fn user_type_told(alloc: Global, stream: &[u8]) -> Result<Bytes, Fail
     }
 }
 
+/// A `\1CompObj` as it is written.
+pub(crate) fn comp_obj_written(alloc: Global, user_type: &[u8]) -> Result<Bytes, Fail> {
+    let kind = CompObj {
+        user_type: bytes(alloc, user_type)?,
+    };
+    if kind.user_type.len() >= 0xffff_ffff {
+        return Err(Fail::from("too long"));
+    }
+    Ok(kind.write(alloc, ClassId::from_bytes([7; 16]))?)
+}
+
 /// A picture as it is read: whether it is text, and its bytes.
 pub(crate) fn picture_told(alloc: Global, stream: &[u8]) -> Result<(bool, Bytes), Fail> {
     match Presentation::read(alloc, stream)? {

@@ -1,11 +1,9 @@
 //! The OLE streams.
 
-use crate::calls::{bytes, cut, edited, ole_told, picture_told, user_type_told};
-use ole_streams::comp_obj::CompObj;
+use crate::calls::{comp_obj_written, cut, edited, ole_told, picture_told, user_type_told};
 use ole_streams::ole_stream::OleStream;
 use ole_streams::presentation::{Presentation, lines};
 use std::test::Fail;
-use storage_tree::class_id::ClassId;
 
 #[test]
 fn ole_is_read_and_written(rt: HostRuntime) -> Result<(), Fail> {
@@ -30,10 +28,7 @@ const HEADER: [u8; 28] = [5; 28];
 #[test]
 fn comp_obj_is_read_and_written(rt: HostRuntime) -> Result<(), Fail> {
     let alloc = rt.alloc();
-    let note = CompObj {
-        user_type: bytes(alloc, b"Note")?,
-    };
-    let stream = note.write(alloc, ClassId::from_bytes([7; 16]))?;
+    let stream = comp_obj_written(alloc, b"Note")?;
     assert_eq!(rt; stream.len(), 45);
     assert_eq!(rt;
         cut(alloc, stream.as_slice(), 12)?.as_slice(),

@@ -1,17 +1,14 @@
 -- What is written is read again.
-use Rattle.std.proofs.Common.{◌≡◌, ◌<◌, ◌≤◌, ◌+◌, ◌-◌, ◌^◌, ◌++◌, ◌∷◌, ◌∙◌, ◌&&◌, ℕ, List, [], Bool, true, false, cond, not, nat_eq, nat_lt, nat_le, Result, Ok, Err, Option, Some, None, length, take, drop, replicate, get_or, refl, sym, ap, subst, arith, rules, append_assoc, length-append, lit<}
-use Rattle.std.specs.Int.{w32, to_le_bytes, from_le_bytes}
+use Rattle.std.proofs.Common.{◌≡◌, ◌<◌, ◌≤◌, ◌+◌, ◌-◌, ◌^◌, ◌++◌, ◌∷◌, ◌∙◌, ◌&&◌, ℕ, List, [], Bool, true, false, cond, not, nat_eq, nat_lt, nat_le, Ok, Some, None, length, take, drop, get_or, refl, sym, ap, arith, rules, append_assoc, length-append, lit<}
+use Rattle.std.specs.Int.{w32, to_le_bytes}
 use Rattle.std.proofs.lemmas.Nat.{from_le_bytes-to_le_bytes_4}
 use Rattle.std.proofs.lemmas.List.{take_all}
 use Rattle.std.proofs.lemmas.Bool.Decides.{nat_tests}
 use Rattle.ole_streams.specs.CompObjs.{comp_obj_bytes, header, user_type_behind, user_type_read}
 use Rattle.ole_streams.specs.Fields.{behind_format, characters, format, map_ok, number, on_ok, string, string_bytes}
 use Rattle.ole_streams.specs.Laws.{LinesAreReadAgain, OleIsReadAgain, UserTypeIsReadAgain}
-use Rattle.ole_streams.specs.OleStreams.{ole_bytes, ole_read}
-use Rattle.ole_streams.specs.Presentations.{are_lines, height, lines_behind, lines_read, lines_written, picture, presentation, presentation_bytes, size_of, whole_lines, width}
-use Rattle.ole_streams.specs.declared.fault.OleFault.{OleFault}
-use Rattle.ole_streams.specs.declared.presentation.Presentation.TheVariants.{Text}
-use Rattle.ole_streams.proofs.Tests.{cond_false, cond_true, is_le, not_lt}
+use Rattle.ole_streams.specs.Presentations.{are_lines, lines_read, picture, presentation, presentation_bytes, size_of, whole_lines}
+use Rattle.ole_streams.proofs.Tests.{cond_false, is_le, not_lt}
 
 pub take-front : (xs ys : List ℕ) → take (length xs) (xs ++ ys) ≡ xs
 take-front [] ys = refl

@@ -1,8 +1,7 @@
 -- The tree of a document holds it.
-use Rattle.std.proofs.Common.{◌≡◌, ◌<◌, ◌≤◌, ◌+◌, ◌-◌, ◌*◌, ◌/◌, ◌%◌, ◌^◌, ◌++◌, ◌∷◌, ◌∙◌, ◌&&◌, ◌||◌, ℕ, suc, zero, List, [], Bool, true, false, cond, not, nat_eq, nat_lt, nat_le, Result, Ok, Err, Option, Some, None, map, length, take, drop, get_or, refl, sym, ap, subst, arith, rules, append_assoc, append-nil, length-append}
+use Rattle.std.proofs.Common.{◌≡◌, ◌<◌, ◌≤◌, ◌+◌, ◌/◌, ◌%◌, ◌++◌, ◌∷◌, ◌∙◌, ◌||◌, ℕ, List, [], Bool, true, false, cond, not, nat_lt, nat_le, Ok, Err, Some, None, map, length, take, get_or, refl, sym, ap, subst, arith, rules, append_assoc, append-nil, length-append}
 use Rattle.std.proofs.lemmas.List.{length-map}
 use Rattle.std.specs.Char.{to_ascii_uppercase}
-use Rattle.std.specs.Int.{w16, w32, to_le_bytes, from_le_bytes}
 use Rattle.std.specs.List.{flat_map}
 use Rattle.std.specs.Ordering.{is_eq, is_lt, match_ordering}
 use Rattle.std.specs.declared.cmp.Ordering.TheVariants.{Less, Equal, Greater}
@@ -12,26 +11,24 @@ use Rattle.cfb_directory.specs.Names.{key, key_cmp, key_eq, name_cmp}
 use Rattle.cfb_directory.proofs.Keys.{keys_agree}
 use Rattle.object_parts.specs.Limits.{OLE, COMP_OBJ, OLE_PRES, has_ole_name, is_ole_name, is_within, total, MOST_STREAMS, MOST_BYTES}
 use Rattle.object_parts.specs.declared.area.Area.{Area}
-use Rattle.storage_tree.specs.Tree.{Children, Tree, tree, none, stream, storage}
+use Rattle.storage_tree.specs.Tree.{Children, tree, none, stream, storage}
 use Rattle.storage_tree.specs.Change.{Seen, bytes, inner, child, find, place, without}
 use Rattle.storage_tree.specs.Streams.{AreAfter, AreInOrder, is_next}
 use Rattle.storage_tree.specs.declared.streams.NamedStream.{NamedStream}
-use Rattle.storage_tree.specs.declared.stored.Stored.{Stored}
 use Rattle.storage_tree.proofs.Entries.{find-child, key_eq-flip, place-child, reflexive, without-child}
 use Rattle.storage_tree.proofs.Lawful.{find-place, find-place-other}
 use Rattle.storage_tree.proofs.Wholes.{tied}
 use Rattle.ole_streams.specs.CompObjs.{comp_obj_bytes, user_type_read}
-use Rattle.ole_streams.specs.DocOf.{as_picture, as_storage, as_stream, behind_comp_obj, behind_picture, doc_read, is_object, object_of, object_pushed, object_read, objects_behind, pushed, streams_behind}
-use Rattle.ole_streams.specs.DocTree.{LAYOUT, ROOT_CLASS, object_children, object_name, object_tree, placed, with_objects, with_ole_streams, with_picture, with_streams}
+use Rattle.ole_streams.specs.DocOf.{as_picture, as_storage, as_stream, behind_comp_obj, behind_picture, is_object, object_of, object_pushed, object_read, objects_behind, pushed, streams_behind}
+use Rattle.ole_streams.specs.DocTree.{LAYOUT, object_name, object_tree, placed, with_objects, with_picture, with_streams}
 use Rattle.ole_streams.specs.Fields.{map_ok, on_ok}
 use Rattle.ole_streams.specs.Laws.{AreHeld, DocumentIsReadAgain, IsArea, IsHeld}
-use Rattle.ole_streams.specs.Layouts.{area_at, area_bytes, areas_behind, areas_read, count_of, layout_bytes, layout_read}
+use Rattle.ole_streams.specs.Layouts.{area_at, area_bytes, areas_read, layout_bytes, layout_read}
 use Rattle.ole_streams.specs.OleStreams.{ole_bytes, ole_read}
 use Rattle.ole_streams.specs.declared.doc.DocObject.{DocObject}
-use Rattle.ole_streams.specs.declared.fault.OleFault.{OleFault}
 use Rattle.ole_streams.specs.declared.fault.OleFault.TheVariants.{NotADocument, TooManyObjects}
 use Rattle.ole_streams.proofs.Again.{and_left, and_right, user_type_again}
-use Rattle.ole_streams.proofs.Tests.{cond_false, cond_true, is_le, not_lt}
+use Rattle.ole_streams.proofs.Tests.{cond_false, cond_true, not_lt}
 
 -- Children that are placed are found, and taken away again.
 some_none : {A : Type 0} {P : Type 0} {x : A} → Some x ≡ None → P

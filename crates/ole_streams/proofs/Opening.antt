@@ -1,5 +1,5 @@
 -- Steps of reading a document.
-use Rattle.std.proofs.Common.{◌≡◌, ◌<◌, ◌≤◌, ◌+◌, ◌∷◌, ◌∙◌, ℕ, List, [], Result, Ok, Err, false, length, drop, get_or, refl, ap, sym, rules, arith, add-one}
+use Rattle.std.proofs.Common.{◌≡◌, ◌<◌, ◌+◌, ◌∷◌, ◌∙◌, ℕ, List, [], Result, Err, false, length, drop, get_or, refl, ap, sym, rules, add-one}
 use Rattle.std.specs.Bool.{IsTrue}
 use Rattle.std.proofs.Math.Seq.{drop-cons}
 use Rattle.cfb_directory.specs.Names.{key}

@@ -1,5 +1,5 @@
 -- Steps of writing a document.
-use Rattle.std.proofs.Common.{◌≡◌, ◌≤◌, ◌<◌, ◌+◌, ◌-◌, ◌++◌, ◌∷◌, ◌∙◌, ℕ, suc, zero, List, [], Bool, true, false, cond, Result, Ok, Err, map, length, take, drop, refl, sym, ap, subst, arith, append_assoc}
+use Rattle.std.proofs.Common.{◌≡◌, ◌≤◌, ◌<◌, ◌+◌, ◌-◌, ◌++◌, ◌∷◌, ◌∙◌, ℕ, suc, List, [], true, Result, Ok, Err, length, take, drop, refl, sym, ap, arith, append_assoc}
 use Rattle.storage_tree.specs.Tree.{Children}
 use Rattle.storage_tree.specs.Change.{bytes, inner}
 use Rattle.storage_tree.specs.declared.streams.NamedStream.{NamedStream}

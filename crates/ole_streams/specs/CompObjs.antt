@@ -1,5 +1,5 @@
 -- The stream "\1CompObj" (MS-OLEDS 2.3.8).
-use Rattle.std.specs.Prelude.{ℕ, ◌∷◌, ◌++◌, List, [], cond, length, drop, nat_lt, Result, Ok, Err}
+use Rattle.std.specs.Prelude.{ℕ, ◌∷◌, ◌++◌, List, [], cond, length, drop, nat_lt, Result, Err}
 use Rattle.ole_streams.specs.declared.fault.OleFault.{OleFault}
 use Rattle.ole_streams.specs.declared.fault.OleFault.TheVariants.{Truncated}
 use Rattle.ole_streams.specs.Fields.{map_ok, on_ok, string, format, string_bytes}

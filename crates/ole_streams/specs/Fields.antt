@@ -1,5 +1,5 @@
 -- Fields of streams, read from the front of the bytes that are left, with what stands behind them.
-use Rattle.std.specs.Prelude.{ℕ, ◌-◌, ◌+◌, ◌||◌, ◌∷◌, ◌++◌, List, [], Bool, not, cond, length, take, drop, nat_eq, nat_lt, slice_index, Result, Ok, Err}
+use Rattle.std.specs.Prelude.{ℕ, ◌-◌, ◌+◌, ◌||◌, ◌∷◌, ◌++◌, List, [], not, cond, length, take, drop, nat_eq, nat_lt, slice_index, Result, Ok, Err}
 use Rattle.std.specs.Int.{w32, from_le_bytes, to_le_bytes}
 use Rattle.ole_streams.specs.declared.fault.OleFault.{OleFault}
 use Rattle.ole_streams.specs.declared.fault.OleFault.TheVariants.{Truncated, BadString}

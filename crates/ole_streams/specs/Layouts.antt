@@ -1,6 +1,6 @@
 -- The stream "Layout" of a document: a version and a count of four bytes each, and for each object the column, the line,
 -- the width and the height of its area, two bytes each; nothing more.
-use Rattle.std.specs.Prelude.{ℕ, zero, suc, ◌∷◌, ◌++◌, List, [], Bool, cond, not, length, take, drop, nat_eq, nat_lt, Result, Ok, Err}
+use Rattle.std.specs.Prelude.{ℕ, zero, suc, ◌∷◌, ◌++◌, List, [], cond, not, length, take, drop, nat_eq, nat_lt, Result, Ok, Err}
 use Rattle.std.specs.Int.{w16, w32, from_le_bytes, to_le_bytes}
 use Rattle.std.specs.List.{flat_map}
 use Rattle.object_parts.specs.declared.area.Area.{Area}

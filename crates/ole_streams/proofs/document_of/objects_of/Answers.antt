@@ -1,4 +1,4 @@
-use Rattle.std.proofs.Common.{◌≡◌, ◌+◌, ap, sym, ◌∙◌, Err}
+use Rattle.std.proofs.Common.{◌+◌, ap, sym, ◌∙◌, Err}
 use Rattle.std.proofs.lemmas.List.{drop_all}
 use Rattle.storage_tree.specs.View.{children}
 use Rattle.ole_streams.specs.DocOf.{objects_behind}

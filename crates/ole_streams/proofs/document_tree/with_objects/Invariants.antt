@@ -1,4 +1,4 @@
-use Rattle.std.proofs.Common.{ℕ, ◌≡◌, ◌≤◌, length}
+use Rattle.std.proofs.Common.{◌≡◌, ◌≤◌, length}
 use Rattle.ole_streams.specs.DocTree.{with_objects}
 use Rattle.ole_streams.specs.Docs.{AreObjects}
 use Rattle.storage_tree.specs.Tree.{none}

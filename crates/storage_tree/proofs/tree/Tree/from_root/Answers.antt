@@ -1,8 +1,5 @@
-use Rattle.std.proofs.Common.{map}
 use Rattle.std.proofs.Math.Logic.{∥∥₁_map}
-use Rattle.storage_tree.specs.View.{view}
-use Rattle.storage_tree.specs.Whole.{AllWhole}
 use Rattle.storage_tree.proofs.tree.Tree.from_root.Goals as goal
 
 pub invariant_of-result : goal.invariant_of-result
-invariant_of-result c = record { whole = ∥∥₁_map c.requires (λ w. (w, (rw c.new.ensures.items tt))) }
+invariant_of-result c = record { whole = ∥∥₁_map c.requires (λ w. (w, rw c.new.ensures.items tt)) }
