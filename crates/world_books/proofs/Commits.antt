@@ -71,13 +71,15 @@ pub counted_committed : (counted : List (Option Document)) (frames : List Frame)
 counted_committed counted frames f frame dones parts many at h =
     let s = h.1 in
     let c : Commit = record { frame = f; k = frame.k; parts = parts } in
-    let there = nth_aligned frames counted f frame (sym many) at in
-    (h.0 ++ c ∷ [], record {
-      entries = ap (λ xs. xs ++ map (done_entry frame.k) parts) s.entries ∙ sym (flat_map_more h.0 c);
-      last = λ g.
-          elim (f == g) as (λ b. (f == g) ≡ b → document_in (nth (set_nth counted f (Some (committed c))) g) ≡ or_else (if b then Some (committed c) else None) (last_commit g h.0)) [
-            | true ↦ (λ t. let e : f ≡ g = eqb-true f g t in ap document_in (subst (λ m. nth (set_nth counted f (Some (committed c))) m ≡ Some (Some (committed c))) e (nth_there counted f there.0 (Some (committed c)) there.1)))
-            | false ↦ (λ t. ap document_in (nth_elsewhere counted f g (Some (committed c)) (λ e. eqb-false f g t (sym e))) ∙ s.last g)
-          ] refl
-          ∙ sym (last_more g h.0 c);
-    })
+    let there = nth_aligned frames counted f frame (sym many) at in (
+      h.0 ++ c ∷ [],
+      record {
+        entries = ap (λ xs. xs ++ map (done_entry frame.k) parts) s.entries ∙ sym (flat_map_more h.0 c);
+        last = λ g.
+            elim (f == g) as (λ b. (f == g) ≡ b → document_in (nth (set_nth counted f (Some (committed c))) g) ≡ or_else (if b then Some (committed c) else None) (last_commit g h.0)) [
+              | true ↦ (λ t. let e : f ≡ g = eqb-true f g t in ap document_in (subst (λ m. nth (set_nth counted f (Some (committed c))) m ≡ Some (Some (committed c))) e (nth_there counted f there.0 (Some (committed c)) there.1)))
+              | false ↦ (λ t. ap document_in (nth_elsewhere counted f g (Some (committed c)) (λ e. eqb-false f g t (sym e))) ∙ s.last g)
+            ] refl
+            ∙ sym (last_more g h.0 c);
+      },
+    )
