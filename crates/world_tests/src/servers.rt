@@ -247,24 +247,14 @@ fn calls_are_answered(rt: HostRuntime) -> Result<(), Fail> {
     assert_calls(&rt, rt.alloc(), &two, 1, 2)
 }
 
-/// A server whose activation 5 is a note, told these calls.
-fn with_note(alloc: Global, tally: &Tally, asked: &[Ask]) -> Result<ServerCore, Fail> {
+/// A server whose activation 5 is a note, told the calls of these numbers.
+fn with_note(alloc: Global, tally: &Tally, asked: &[(u32, Ask)]) -> Result<ServerCore, Fail> {
     let mut core = ServerCore::new(alloc, 1, 9);
-    played(
-        alloc,
-        &mut core,
-        tally,
-        &(1, 5, 1, Ask::InitNote, Handed::Note, ""),
-    )?;
-    let mut n = 2;
-    for ask in asked.iter().take(9) {
-        played(
-            alloc,
-            &mut core,
-            tally,
-            &(1, 5, n, *ask, Handed::Nothing, ""),
-        )?;
-        n += 1;
+    let init: Row = (1, 5, 1, Ask::InitNote, Handed::Note, "");
+    played(alloc, &mut core, tally, &init)?;
+    for (n, ask) in asked {
+        let row: Row = (1, 5, *n, *ask, Handed::Nothing, "");
+        played(alloc, &mut core, tally, &row)?;
     }
     Ok(core)
 }
@@ -272,12 +262,16 @@ fn with_note(alloc: Global, tally: &Tally, asked: &[Ask]) -> Result<ServerCore, 
 #[test]
 fn servers_write_and_ask(rt: HostRuntime) -> Result<(), Fail> {
     let tally = Tally::new(rt.alloc())?;
-    let mut core = with_note(rt.alloc(), &tally, &[Ask::Edit(b"i 0 abc")])?;
+    let mut core = with_note(rt.alloc(), &tally, &[(2, Ask::Edit(b"i 0 abc"))])?;
     assert_eq!(rt; reply_text(&core.scribble(rt.alloc(), 5)?), "Write abc");
-    let mut core = with_note(rt.alloc(), &tally, &[Ask::Save(8)])?;
+    let mut core = with_note(rt.alloc(), &tally, &[(2, Ask::Save(8))])?;
     assert!(rt; core.scribble(rt.alloc(), 5).is_err());
     assert!(rt; core.ask_deactivate(5).is_err());
-    let core = with_note(rt.alloc(), &tally, &[Ask::InPlace, Ask::UiActivate(7)])?;
+    let core = with_note(
+        rt.alloc(),
+        &tally,
+        &[(2, Ask::InPlace), (3, Ask::UiActivate(7))],
+    )?;
     assert_eq!(rt; reply_text(&core.ask_deactivate(5)?), "Ask 7");
     Ok(())
 }
@@ -285,7 +279,11 @@ fn servers_write_and_ask(rt: HostRuntime) -> Result<(), Fail> {
 #[test]
 fn servers_show_their_activations(rt: HostRuntime) -> Result<(), Fail> {
     let tally = Tally::new(rt.alloc())?;
-    let core = with_note(rt.alloc(), &tally, &[Ask::InPlace, Ask::UiActivate(7)])?;
+    let core = with_note(
+        rt.alloc(),
+        &tally,
+        &[(2, Ask::InPlace), (3, Ask::UiActivate(7))],
+    )?;
     let view = core.activation(5).expect(&rt, "activation 5");
     assert!(rt; view.opened);
     assert_eq!(rt; view.states.object, ObjectState::UiActive);
