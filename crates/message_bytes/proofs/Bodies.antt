@@ -5,7 +5,8 @@ use Rattle.std.specs.List.{AllByRecursion, list_all}
 use Rattle.std.proofs.lemmas.Bool.{eqb-true}
 use Rattle.std.proofs.lemmas.List.{append-nil}
 use Rattle.object_parts.specs.Limits.{is_within}
-use Rattle.object_state.specs.MenuTexts.{is_menu_text, is_printable}
+use Rattle.object_state.specs.MenuTexts.{is_menu_text}
+use Rattle.object_state.specs.Printable.{is_printable}
 use Rattle.object_state.specs.declared.operations.CloseOption.{CloseOption}
 use Rattle.object_state.specs.declared.operations.CloseOption.TheVariants.{SaveIfDirty, NoSave}
 use Rattle.object_state.specs.declared.menu_texts.Menus.{Menus}
