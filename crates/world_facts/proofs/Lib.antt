@@ -1,0 +1,10 @@
+pub mod Lookups
+pub mod Issuing
+pub mod Settled
+pub mod Sending
+pub mod SameLinks
+pub mod Asking
+pub mod Counting
+pub mod Beginning
+pub mod Ending
+pub mod Acting

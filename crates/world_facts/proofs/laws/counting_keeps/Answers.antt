@@ -1,0 +1,5 @@
+use Rattle.world_facts.proofs.Counting.{all_counted}
+use Rattle.world_facts.proofs.laws.counting_keeps.Goals as goal
+
+pub returns : goal.returns
+returns c = all_counted

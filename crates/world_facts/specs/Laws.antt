@@ -1,0 +1,53 @@
+-- Laws: each shape of change keeps all facts.
+use Rattle.std.specs.Prelude.{◌≡◌, ◌+◌, ◌++◌, ◌∷◌, ℕ, List, [], length, Option, Some}
+use Rattle.wire_msgs.specs.declared.message.Message.{Message}
+use Rattle.wire_msgs.specs.declared.message.Message.TheVariants.{Call, Reply}
+use Rattle.wire_msgs.specs.declared.operation.Operation.{Operation}
+use Rattle.wire_msgs.specs.declared.answer.Answer.{Answer}
+use Rattle.server_model.specs.Server.{Activation}
+use Rattle.server_model.specs.declared.counted.Counted.{Counted}
+use Rattle.world_model.specs.declared.life.Life.TheVariants.{Running}
+use Rattle.world_model.specs.declared.logs.Done.{Done}
+use Rattle.world_model.specs.declared.logs.ServerDone.{ServerDone}
+use Rattle.world_model.specs.Safe.{Among}
+use Rattle.world_facts.specs.Words.{Links, Acts, Lives, IsHonest}
+use Rattle.world_facts.specs.Facts.{Facts}
+use Rattle.world_facts.specs.Shapes.{AsksAll, IsQuiet, CountsAll, Settles, SendsNext, Begins, EndsSome, IsChanged, ActsOn, IsReady, entries_of}
+
+-- the pending operation of one object was answered
+abbrev pub SettlingKeeps : Type 0
+SettlingKeeps = (links after : Links) (acts : Acts) (lives : Lives) (sent : List Message) (owners : List ℕ) (last : ℕ) (counted : List Done) (served : List ServerDone) (o : ℕ)
+    → Settles links after acts o → Facts links acts lives sent owners last counted served → Facts after acts lives sent owners last counted served
+
+-- the first operation that waits is sent
+abbrev pub SendingNextKeeps : Type 0
+SendingNextKeeps = (links after : Links) (acts : Acts) (lives : Lives) (sent more : List Message) (owners : List ℕ) (last : ℕ) (counted : List Done) (served : List ServerDone) (o : ℕ)
+    → SendsNext links after o more → Facts links acts lives sent owners last counted served → Facts after acts lives (sent ++ more) owners last counted served
+
+-- of each object an operation is asked or none, but no end of a save
+abbrev pub AskingKeeps : Type 0
+AskingKeeps = (links after : Links) (acts : Acts) (lives : Lives) (sent more : List Message) (owners : List ℕ) (last : ℕ) (counted : List Done) (served : List ServerDone)
+    → AsksAll (λ o op. IsQuiet op) links after more → Facts links acts lives sent owners last counted served → Facts after acts lives (sent ++ more) owners last counted served
+
+-- a save is counted, and activations are told of it
+abbrev pub CountingKeeps : Type 0
+CountingKeeps = (links after : Links) (acts : Acts) (lives : Lives) (sent more : List Message) (owners : List ℕ) (last : ℕ) (counted fresh : List Done) (served : List ServerDone) (k : ℕ)
+    → CountsAll links after counted k fresh more → Facts links acts lives sent owners last counted served → Facts after acts lives (sent ++ more) owners last (counted ++ fresh) served
+
+-- an object gets a link, with a number that was drawn now
+abbrev pub BeginningKeeps : Type 0
+BeginningKeeps = (links after : Links) (acts : Acts) (lives : Lives) (sent more : List Message) (owners extra : List ℕ) (last : ℕ) (counted : List Done) (served : List ServerDone) (o : ℕ)
+    → Begins links after lives (owners ++ extra) last o more → length (owners ++ extra) ≡ last + 1 → Facts links acts lives sent owners last counted served
+    → Facts after acts lives (sent ++ more) (owners ++ extra) (last + 1) counted served
+
+-- links go whose activation is closed or whose server doesn't run
+abbrev pub EndingKeeps : Type 0
+EndingKeeps = (links after : Links) (acts : Acts) (lives : Lives) (sent : List Message) (owners : List ℕ) (last : ℕ) (counted : List Done) (served : List ServerDone)
+    → EndsSome links after acts lives → Facts links acts lives sent owners last counted served → Facts after acts lives sent owners last counted served
+
+-- a server that runs takes a call that was sent: it acts, or answers again
+abbrev pub ActingKeeps : Type 0
+ActingKeeps = (links : Links) (acts after : Acts) (lives : Lives) (sent : List Message) (owners : List ℕ) (last : ℕ) (counted : List Done) (served : List ServerDone)
+    (inc act n : ℕ) (op : Operation) (a : Activation) (r : Answer) (told : Option Counted)
+    → Facts links acts lives sent owners last counted served → IsReady links → IsHonest inc → Among sent (Call inc act n op) → lives inc ≡ Some Running → IsChanged acts after inc act a → ActsOn acts inc act n op a r told
+    → Facts links after lives (sent ++ Reply inc act n r ∷ []) owners last counted (served ++ entries_of inc act owners told)

@@ -1,0 +1,4 @@
+pub mod Words
+pub mod Facts
+pub mod Shapes
+pub mod Laws

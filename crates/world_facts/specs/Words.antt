@@ -1,0 +1,50 @@
+-- The words of the invariant: a world by lookups, and the operations that were issued. No reader has to believe them; what
+-- they are for stands in Safe.
+use Rattle.std.specs.Prelude.{◌≡◌, ◌+◌, ℕ, List, Option, Some, None, slice_get, ⊤}
+use Rattle.wire_msgs.specs.Found.{nth}
+use Rattle.wire_msgs.specs.declared.message.Message.{Message}
+use Rattle.wire_msgs.specs.declared.message.Message.TheVariants.{Call}
+use Rattle.wire_msgs.specs.declared.operation.Operation.{Operation}
+use Rattle.server_model.specs.Server.{Activation}
+use Rattle.container_model.specs.declared.record.Link.{Link}
+use Rattle.world_model.specs.declared.life.Life.{Life}
+use Rattle.world_model.specs.World.{Instance}
+use Rattle.world_model.specs.Safe.{Among}
+
+-- links by the numbers of their objects, activations by incarnation and number, lives by incarnation
+abbrev pub Links : Type 0
+Links = ℕ → Option Link
+
+abbrev pub Acts : Type 0
+Acts = ℕ → ℕ → Option Activation
+
+abbrev pub Lives : Type 0
+Lives = ℕ → Option Life
+
+abbrev pub life_at : Option Instance → Option Life
+life_at None = None
+life_at (Some i) = Some i.life
+
+abbrev pub lives_of : List Instance → Lives
+lives_of is inc = life_at (nth is inc)
+
+-- A server that does what the server's step says. Today each does; one whose messages are forged won't.
+abbrev pub IsHonest : ℕ → Type 0
+IsHonest inc = ⊤
+
+-- An operation that an activation was called with, or that waits for it, by the number that its call has or will have.
+-- Sending what waits leaves it as it is.
+pub data Issued (links : Links) (sent : List Message) (inc act n : ℕ) (op : Operation) : Type 0 where
+  called : Among sent (Call inc act n op) → Issued links sent inc act n op
+  waits : (o : ℕ) (l : Link) (i : ℕ) → links o ≡ Some l → l.inc ≡ inc → l.act ≡ act → slice_get l.waiting i ≡ Some op → n ≡ l.last + 1 + i → Issued links sent inc act n op
+
+-- an activation of this number that a link has in this incarnation
+abbrev pub IsLinked : Links → ℕ → ℕ → Type 0
+IsLinked links inc act = (o : ℕ) × (l : Link) × (links o ≡ Some l) × (l.inc ≡ inc) × (l.act ≡ act)
+
+abbrev pub IsOpen : Activation → Type 0
+IsOpen a = (c : _) × (a.content ≡ Some c)
+
+abbrev pub IsClosed : Option Activation → Type 0
+IsClosed None = ⊥
+IsClosed (Some a) = a.content ≡ None

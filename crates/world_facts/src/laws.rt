@@ -1,0 +1,38 @@
+//! Laws: each shape of change keeps the facts. Each function is empty: its contract is the law, which is proved.
+
+ghost use Rattle.world_facts.specs.Laws.{ActingKeeps, AskingKeeps, BeginningKeeps, CountingKeeps, EndingKeeps, SendingNextKeeps, SettlingKeeps};
+
+/// The facts stay where the pending operation of an object was answered.
+pub fn settling_keeps()
+    ensures { SettlingKeeps }
+{}
+
+/// The facts stay where the first operation that waits is sent.
+pub fn sending_next_keeps()
+    ensures { SendingNextKeeps }
+{}
+
+/// The facts stay where operations are asked of objects, sent or queued, that tell no end of a save.
+pub fn asking_keeps()
+    ensures { AskingKeeps }
+{}
+
+/// The facts stay where a save is counted and activations are told of it.
+pub fn counting_keeps()
+    ensures { CountingKeeps }
+{}
+
+/// The facts stay where an activation is begun.
+pub fn beginning_keeps()
+    ensures { BeginningKeeps }
+{}
+
+/// The facts stay where links end.
+pub fn ending_keeps()
+    ensures { EndingKeeps }
+{}
+
+/// The facts stay where a server acts on a call, or answers it again.
+pub fn acting_keeps()
+    ensures { ActingKeeps }
+{}
