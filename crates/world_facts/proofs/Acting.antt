@@ -1,5 +1,5 @@
 -- A server takes a call: what stays of numbers, calls, replies and what is in step.
-use Rattle.std.proofs.Common.{◌≡◌, ◌≢◌, ◌⊎◌, ℕ, Bool, slice_get, ◌+◌, ◌<◌, ◌≤◌, List, [], ◌∷◌, ◌++◌, Option, Some, None, Ok, refl, sym, ap, ◌∙◌, inl, inr, arith, subst}
+use Rattle.std.proofs.Common.{◌≡◌, ◌⊎◌, ℕ, Bool, slice_get, ◌+◌, ◌<◌, ◌≤◌, List, [], ◌∷◌, ◌++◌, Option, Some, None, refl, sym, ap, ◌∙◌, inl, inr, arith, subst}
 use Rattle.wire_msgs.specs.Found.{nth}
 use Rattle.wire_msgs.specs.Operations.{op_of}
 use Rattle.wire_msgs.specs.declared.message.Message.{Message}
@@ -8,7 +8,6 @@ use Rattle.wire_msgs.specs.declared.operation.Operation.{Operation}
 use Rattle.wire_msgs.specs.declared.operation.Operation.TheVariants.{Save, SaveCompleted}
 use Rattle.wire_msgs.specs.declared.answer.Answer.{Answer}
 use Rattle.object_state.specs.Both as both
-use Rattle.object_state.specs.declared.both_states.States.{States}
 use Rattle.storage_tree.specs.declared.stored.Stored.{Stored}
 use Rattle.server_model.specs.Server.{Activation}
 use Rattle.server_model.specs.declared.counted.Counted.{Counted}
@@ -17,9 +16,9 @@ use Rattle.world_model.specs.declared.life.Life.TheVariants.{Running}
 use Rattle.world_model.specs.declared.logs.Done.{Done}
 use Rattle.world_model.specs.declared.logs.ServerDone.{ServerDone}
 use Rattle.world_model.specs.World.{nth_or_zero}
-use Rattle.world_model.specs.Safe.{Among, IsOther, ServedOnce}
+use Rattle.world_model.specs.Safe.{Among}
 use Rattle.world_facts.specs.Words.{Links, Acts, Lives, IsHonest, IsLinked, IsOpen, IsClosed, Issued, called, waits}
-use Rattle.world_facts.specs.Facts.{Drawn, CallsBounded, InStep, not_begun, level, behind, ahead, IsEven, Did, InSteps, UnlinkedClosed, Replies, HasSaved, SavedSame, Counts, Facts}
+use Rattle.world_facts.specs.Facts.{Drawn, CallsBounded, InStep, not_begun, level, behind, ahead, Did, InSteps, UnlinkedClosed, Replies, HasSaved, SavedSame, Counts, Facts}
 use Rattle.world_facts.specs.Shapes.{IsFirst, IsChanged, Makes, ActsOn, again, next, makes, IsReady, entries_of}
 use Rattle.world_facts.proofs.Lookups.{among_join, among_old, among_new}
 use Rattle.world_facts.proofs.Issuing.{same_act, once_join, once_entries}

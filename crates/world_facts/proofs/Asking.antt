@@ -1,5 +1,5 @@
 -- Of each object an operation is asked or none: what stays, and what is issued then.
-use Rattle.std.proofs.Common.{◌≡◌, ◌≢◌, ◌⊎◌, ℕ, zero, suc, ◌+◌, ◌<◌, ◌≤◌, Bool, List, [], ◌∷◌, ◌++◌, length, Option, Some, None, refl, sym, ap, ◌∙◌, inl, inr, arith, subst, slice_get}
+use Rattle.std.proofs.Common.{◌≡◌, ◌⊎◌, ℕ, ◌+◌, ◌≤◌, List, [], ◌∷◌, ◌++◌, length, Option, Some, None, refl, sym, ap, ◌∙◌, inl, inr, arith, subst, slice_get}
 use Rattle.wire_msgs.specs.Found.{nth}
 use Rattle.wire_msgs.specs.declared.message.Message.{Message}
 use Rattle.wire_msgs.specs.declared.message.Message.TheVariants.{Call, Reply}
@@ -10,14 +10,13 @@ use Rattle.storage_tree.specs.declared.stored.Stored.{Stored}
 use Rattle.server_model.specs.Server.{Activation}
 use Rattle.container_model.specs.declared.record.Link.{Link}
 use Rattle.world_model.specs.declared.life.Life.{Life}
-use Rattle.world_model.specs.declared.life.Life.TheVariants.{Running}
 use Rattle.world_model.specs.declared.logs.Done.{Done}
 use Rattle.world_model.specs.declared.logs.ServerDone.{ServerDone}
 use Rattle.world_model.specs.Safe.{Among}
-use Rattle.world_facts.specs.Words.{Links, Acts, Lives, IsHonest, IsLinked, IsOpen, Issued, called, waits}
+use Rattle.world_facts.specs.Words.{Links, Acts, Lives, IsHonest, IsLinked, Issued, called, waits}
 use Rattle.world_facts.specs.Facts.{InStep, HasSaved, Counts, Facts}
 use Rattle.world_facts.specs.Shapes.{IsSame, IsCalled, AskedAt, none, stays, queues, sends, AsksAll, IsQuiet}
-use Rattle.world_facts.proofs.Lookups.{among_join, among_old, among_new, nth_bound, slice_get_one}
+use Rattle.world_facts.proofs.Lookups.{among_join, among_old, nth_bound, slice_get_one}
 use Rattle.world_facts.proofs.Issuing.{NoMoreEnds, counts_kept}
 use Rattle.world_facts.proofs.Sending.{is_behind, saved_kept, only_calls}
 use Rattle.world_facts.proofs.SameLinks.{is_same_step}

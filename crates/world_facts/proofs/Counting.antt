@@ -1,5 +1,5 @@
 -- A save is counted, and activations are told of it: each fact stays.
-use Rattle.std.proofs.Common.{◌≡◌, ◌⊎◌, ℕ, ◌+◌, ◌<◌, Bool, List, ◌∷◌, ◌++◌, length, Option, Some, None, refl, sym, ap, ◌∙◌, inl, inr, arith, subst}
+use Rattle.std.proofs.Common.{◌≡◌, ◌⊎◌, ℕ, ◌+◌, Bool, List, ◌++◌, length, Some, sym, ap, ◌∙◌, inl, inr, subst}
 use Rattle.wire_msgs.specs.Found.{nth}
 use Rattle.wire_msgs.specs.declared.message.Message.{Message}
 use Rattle.wire_msgs.specs.declared.operation.Operation.{Operation}
@@ -10,7 +10,7 @@ use Rattle.container_model.specs.declared.record.Link.{Link}
 use Rattle.world_model.specs.declared.logs.Done.{Done}
 use Rattle.world_model.specs.declared.logs.ServerDone.{ServerDone}
 use Rattle.world_model.specs.Safe.{Among}
-use Rattle.world_facts.specs.Words.{Links, Acts, Lives, IsHonest, IsOpen, Issued}
+use Rattle.world_facts.specs.Words.{Links, Acts, Lives, IsHonest, Issued}
 use Rattle.world_facts.specs.Facts.{HasSaved, Counts, Facts}
 use Rattle.world_facts.specs.Shapes.{IsTold, CountsAll}
 use Rattle.world_facts.proofs.Lookups.{among_old, among_new}

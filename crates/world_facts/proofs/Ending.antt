@@ -1,13 +1,12 @@
 -- Links go whose activation is closed or whose server doesn't run: each fact stays.
-use Rattle.std.proofs.Common.{◌≡◌, ◌≢◌, ◌⊎◌, ℕ, Bool, List, Option, Some, None, refl, sym, ap, ◌∙◌, inl, inr, subst}
+use Rattle.std.proofs.Common.{◌≡◌, ◌⊎◌, ℕ, List, Some, None, sym, ap, ◌∙◌, inl, inr, subst}
 use Rattle.wire_msgs.specs.declared.message.Message.{Message}
-use Rattle.wire_msgs.specs.declared.operation.Operation.TheVariants.{SaveCompleted}
 use Rattle.server_model.specs.Server.{Activation}
 use Rattle.container_model.specs.declared.record.Link.{Link}
 use Rattle.world_model.specs.declared.life.Life.TheVariants.{Running}
 use Rattle.world_model.specs.declared.logs.Done.{Done}
 use Rattle.world_model.specs.declared.logs.ServerDone.{ServerDone}
-use Rattle.world_facts.specs.Words.{Links, Acts, Lives, IsLinked, IsClosed, Issued, called, waits}
+use Rattle.world_facts.specs.Words.{Links, Acts, Lives, IsLinked, IsClosed, called, waits}
 use Rattle.world_facts.specs.Facts.{Facts}
 use Rattle.world_facts.specs.Shapes.{EndsSome}
 use Rattle.world_facts.proofs.Issuing.{NoMoreEnds, counts_kept}

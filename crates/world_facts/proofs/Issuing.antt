@@ -1,17 +1,15 @@
 -- What the counts of saves need of a change: which ends of saves are issued after it.
-use Rattle.std.proofs.Common.{◌≡◌, ◌≢◌, ◌⊎◌, ℕ, ◌+◌, ◌<◌, ◌≤◌, Bool, List, [], ◌∷◌, ◌++◌, Option, Some, None, refl, sym, ap, ◌∙◌, inl, inr, arith, subst}
+use Rattle.std.proofs.Common.{◌≡◌, ◌≢◌, ◌⊎◌, ℕ, Bool, List, [], ◌∷◌, ◌++◌, Option, Some, None, refl, sym, ap, ◌∙◌, inl, inr}
 use Rattle.std.proofs.lemmas.Bool.Decides.{eqb_tells}
-use Rattle.wire_msgs.specs.Found.{nth}
 use Rattle.wire_msgs.specs.declared.message.Message.{Message}
 use Rattle.wire_msgs.specs.declared.message.Message.TheVariants.{Call}
-use Rattle.wire_msgs.specs.declared.operation.Operation.{Operation}
 use Rattle.wire_msgs.specs.declared.operation.Operation.TheVariants.{SaveCompleted}
 use Rattle.container_model.specs.declared.record.Link.{Link}
 use Rattle.server_model.specs.declared.counted.Counted.{Counted}
 use Rattle.world_model.specs.declared.logs.Done.{Done}
 use Rattle.world_model.specs.declared.logs.ServerDone.{ServerDone}
 use Rattle.world_model.specs.Safe.{Among, IsOther, ServedOnce}
-use Rattle.world_facts.specs.Words.{Links, Acts, Lives, IsLinked, Issued, called, waits}
+use Rattle.world_facts.specs.Words.{Links, Acts, IsLinked, Issued}
 use Rattle.world_facts.specs.Facts.{Counts}
 use Rattle.world_facts.specs.Shapes.{entries_of}
 use Rattle.world_facts.proofs.Lookups.{among_join}

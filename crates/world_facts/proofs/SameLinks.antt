@@ -1,10 +1,7 @@
 -- A link whose activation, calls and states are as they were: what is in step with it stays so.
-use Rattle.std.proofs.Common.{◌≡◌, ℕ, Option, Some, None, Result, Ok, refl, sym, ap, ◌∙◌, inl, inr, subst}
-use Rattle.wire_msgs.specs.Operations.{op_of}
+use Rattle.std.proofs.Common.{◌≡◌, Option, sym, ◌∙◌, subst}
 use Rattle.wire_msgs.specs.declared.operation.Operation.{Operation}
 use Rattle.wire_msgs.specs.declared.answer.Answer.{Answer}
-use Rattle.object_state.specs.Both as both
-use Rattle.object_state.specs.declared.both_states.States.{States}
 use Rattle.server_model.specs.Server.{Activation}
 use Rattle.container_model.specs.declared.record.Link.{Link}
 use Rattle.world_facts.specs.Facts.{InStep, not_begun, level, behind, ahead, IsEven, Did}

@@ -1,5 +1,5 @@
 -- The first operation that waits is sent: each fact stays.
-use Rattle.std.proofs.Common.{◌≡◌, ◌≢◌, ◌⊎◌, ℕ, zero, suc, ◌+◌, ◌<◌, ◌≤◌, Bool, List, [], ◌∷◌, ◌++◌, length, Option, Some, None, refl, sym, ap, ◌∙◌, inl, inr, arith, subst, slice_get}
+use Rattle.std.proofs.Common.{◌≡◌, ◌≢◌, ◌⊎◌, ℕ, suc, ◌+◌, ◌≤◌, List, [], ◌∷◌, ◌++◌, Option, Some, None, sym, ap, ◌∙◌, inl, inr, arith, subst, slice_get}
 use Rattle.wire_msgs.specs.Found.{nth}
 use Rattle.wire_msgs.specs.declared.message.Message.{Message}
 use Rattle.wire_msgs.specs.declared.message.Message.TheVariants.{Call, Reply}
@@ -10,13 +10,12 @@ use Rattle.storage_tree.specs.declared.stored.Stored.{Stored}
 use Rattle.server_model.specs.Server.{Activation}
 use Rattle.container_model.specs.declared.record.Link.{Link}
 use Rattle.world_model.specs.declared.life.Life.{Life}
-use Rattle.world_model.specs.declared.life.Life.TheVariants.{Running}
 use Rattle.world_model.specs.declared.logs.Done.{Done}
 use Rattle.world_model.specs.declared.logs.ServerDone.{ServerDone}
 use Rattle.world_model.specs.Safe.{Among}
-use Rattle.world_facts.specs.Words.{Links, Acts, Lives, IsHonest, IsLinked, IsClosed, Issued, called, waits}
-use Rattle.world_facts.specs.Facts.{InStep, not_begun, level, behind, ahead, IsEven, HasSaved, Replies, Facts}
-use Rattle.world_facts.specs.Shapes.{IsSame, IsCalled, SendsNext}
+use Rattle.world_facts.specs.Words.{Links, Acts, Lives, IsHonest, IsLinked, called, waits}
+use Rattle.world_facts.specs.Facts.{InStep, not_begun, level, behind, ahead, HasSaved, Replies, Facts}
+use Rattle.world_facts.specs.Shapes.{IsCalled, SendsNext}
 use Rattle.world_facts.proofs.Lookups.{among_join, among_old, nth_bound}
 use Rattle.world_facts.proofs.Issuing.{NoMoreEnds, counts_kept, which, linked_kept}
 
