@@ -1,4 +1,6 @@
-use Rattle.std.proofs.Common.{◌≡◌, ℕ, ◌-◌, suc, List, [], ◌∷◌, ◌++◌, length, refl, ◌∙◌, ap, true, Some, rules, arith, map, slice_get}
+use Rattle.std.proofs.Common.{◌≡◌, ℕ, ◌-◌, ◌+◌, ◌<◌, ◌≤◌, suc, zero, List, [], ◌∷◌, ◌++◌, length, take, get_or, refl, ◌∙◌, ap, sym, subst, true, Some, rules, arith, map, slice_get}
+use Rattle.std.proofs.lemmas.List.{take_more, get_or-take, length-take}
+use Rattle.std.proofs.lemmas.Option.{slice_get_read}
 use Rattle.std.specs.Cmp.Lexicographic.{nat_list_cmp_total}
 use Rattle.std.specs.Ordering.{is_lt}
 use Rattle.std.specs.Char.{to_ascii_uppercase}
@@ -41,3 +43,22 @@ pub in_order-last : (ss : List NamedStream) (s : NamedStream) → AreInOrder ss 
 in_order-last [] s o h = (tt, tt)
 in_order-last (t ∷ []) s o h = ((less_from _ h, tt), (tt, tt))
 in_order-last (t ∷ u ∷ ss) s o h = (after-last t.name (u ∷ ss) s o.0 (next-greater t.name u ss s.name o.0 h), in_order-last (u ∷ ss) s o.1 h)
+
+-- one more of a vector's streams
+pub order-more : (xs : List NamedStream) (i : ℕ) (a b : NamedStream) → 1 ≤ i → i < length xs → a ≡ get_or xs (i - 1) a → b ≡ get_or xs i b → AreInOrder (take i xs) → is_lt (name_cmp a.name b.name) ≡ true → AreInOrder (take (i + 1) xs)
+order-more xs i a b one lt pa pb o h =
+    let len : length (take i xs) ≡ i = omega (arith, length-take i xs) in
+    let before : slice_get (take i xs) (length (take i xs) - 1) ≡ Some a =
+    ap (λ n. slice_get (take i xs) (n - 1)) len ∙ slice_get_read (take i xs) i (i - 1) a (sym len) (omega arith) (pa ∙ sym (get_or-take i xs (i - 1) a (omega arith))) in
+    let grown : take i xs ++ b ∷ [] ≡ take (i + 1) xs = ap (λ s. take i xs ++ s ∷ []) pb ∙ sym (take_more xs i b lt) in
+    subst AreInOrder grown (in_order-last (take i xs) b o (last-next (take i xs) a b.name before ∙ h))
+
+-- streams in order have each name below the next
+pub order-less : (xs : List NamedStream) (i : ℕ) (a b : NamedStream) → 1 ≤ i → i < length xs → a ≡ get_or xs (i - 1) a → b ≡ get_or xs i b → AreInOrder xs → is_lt (name_cmp a.name b.name) ≡ true
+order-less [] i a b one lt pa pb o = absurd (omega arith)
+order-less (x ∷ []) i a b one lt pa pb o = absurd (omega arith)
+order-less (x ∷ y ∷ ys) zero a b one lt pa pb o = absurd (omega arith)
+order-less (x ∷ y ∷ ys) (suc zero) a b one lt pa pb o = ap (λ s. is_lt (name_cmp s.name b.name)) pa ∙ ap (λ s. is_lt (name_cmp x.name s.name)) pb ∙ ap is_lt o.0.0
+order-less (x ∷ y ∷ ys) (suc (suc n)) a b one lt pa pb o =
+    let e : suc (suc n) - 1 ≡ suc (suc n - 1) = omega arith in
+    order-less (y ∷ ys) (suc n) a b (omega arith) (omega arith) (pa ∙ ap (λ m. get_or (x ∷ y ∷ ys) m a) e) pb o.1

@@ -37,3 +37,8 @@ abbrev pub Pushes : Result (Unit {0}) StreamsFault → Result (List NamedStream)
 Pushes (Ok u) told old new = told ≡ Ok new
 Pushes (Err OutOfOrder) told old new = (told ≡ Err OutOfOrder) × (new ≡ old)
 Pushes (Err NoMemory) told old new = IsOk told × (new ≡ old)
+
+-- these streams, where they are in order
+abbrev pub Orders : Option (List NamedStream) → List NamedStream → Type 0
+Orders (Some streams) items = (streams ≡ items) × AreInOrder items
+Orders None items = AreInOrder items → ⊥
