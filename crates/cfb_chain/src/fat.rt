@@ -290,6 +290,9 @@ impl<'a> Fat<'a> {
     {
         let mut count = 0;
         let mut at = start;
+        // A sector that was met, taken anew each time the way is twice as long: a circle comes back to it soon.
+        let mut met = END_OF_CHAIN;
+        let mut turn = 0;
         while at != END_OF_CHAIN {
             let n = at as usize;
             if n >= self.next.len() {
@@ -298,8 +301,15 @@ impl<'a> Fat<'a> {
             if self.used[n] {
                 return Err(ChainFault::CrossLinked);
             }
+            if at == met {
+                return Err(ChainFault::Cycle);
+            }
             if count >= self.next.len() {
                 return Err(ChainFault::Cycle);
+            }
+            if count >= turn {
+                met = at;
+                turn = 2 * count + 1;
             }
             count += 1;
             at = self.next[n];

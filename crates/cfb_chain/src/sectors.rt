@@ -10,7 +10,6 @@ use std::alloc::{AllocError, Global};
 pub(crate) const SECTOR: usize = 512;
 
 /// Adds the bytes of a sector, zero bytes standing for those past the end.
-
 pub(crate) fn push_block(
     out: &mut Vec<u8>,
     width: usize,
@@ -39,7 +38,7 @@ pub(crate) fn join_blocks(
     requires near { start ≤ 512 }
     ensures { IfOk result (λ v. v.items ≡ joined (λ n. block width bytes.now (start + width * n)) sectors.now) }
 {
-    let mut out = Vec::new(alloc);
+    let mut out = Vec::with_capacity(alloc, width.saturating_mul(sectors.len()))?;
     for n in sectors {
         push_block(&mut out, width, bytes, start + width * *n as usize)?;
     }

@@ -1,6 +1,7 @@
 -- Reading names.
 use Rattle.std.proofs.Common.{◌≡◌, ◌≢◌, ◌<◌, ◌≤◌, ◌+◌, ◌-◌, ◌*◌, ◌/◌, ◌%◌, ℕ, zero, suc, Bool, true, false, cond, inl, inr, List, [], ◌∷◌, length, map, take, get_or, nat_le, nat_lt, nat_eq, Result, IfOk, IfErr, refl, sym, ◌∙◌, ap, subst, arith, ◌||◌}
 use Rattle.std.proofs.lemmas.Bool.{cases_Bool, eqb-true, leb-true, ltb-true}
+use Rattle.std.proofs.lemmas.Bool.Decides.{nat_tests}
 use Rattle.std.proofs.lemmas.Grind.{same_number_lists}
 use Rattle.std.proofs.lemmas.List.FromFn.{get_or-map-range_with_len, length-map-range_with_len}
 use Rattle.std.proofs.lemmas.List.{get_or-take, length-take-le}
@@ -36,6 +37,13 @@ list_any-at p (x ∷ xs) c (suc k, lt, is) h =
     let rest : list_any p xs ≡ true = list_any-at p xs c (k, omega arith, is) h in
     elim (cases_Bool (p x)) [ inl t ↦ ap (λ b. b || list_any p xs) t | inr f ↦ ap (λ b. b || list_any p xs) f ∙ rest ]
 
+some_of : (n : ℕ) → nat_eq n 0 ≡ false → 0 < n
+some_of n e = grind (arith, nat_tests)
+
+short_of : (n : ℕ) → nat_lt 31 n ≡ false → n ≤ 31
+short_of n e = grind (arith, nat_tests)
+
+-- what is read as a name is one
 pub name_read-ok : (bytes : List ℕ) (P : List ℕ → Type 0) → P bytes → IfOk (name_read bytes) P
 name_read-ok bytes P h =
     let Q : Result (List ℕ) DirFault → Type 0 = λ r. IfOk r P in
@@ -43,6 +51,15 @@ name_read-ok bytes P h =
     (λ e. choose Q (nat_lt 31 (length bytes)) _ _ (λ l. tt)
     (λ l. choose Q (list_any (nat_le 128) bytes) _ _ (λ a. tt)
     (λ a. choose Q (list_any is_forbidden bytes) _ _ (λ f. tt) (λ f. h))))
+
+pub name_read-valid : (bytes : List ℕ) → IfOk (name_read bytes) IsName
+name_read-valid bytes =
+    let Q : Result (List ℕ) DirFault → Type 0 = λ r. IfOk r IsName in
+    choose Q (nat_eq (length bytes) 0) _ _ (λ e. tt)
+    (λ e. choose Q (nat_lt 31 (length bytes)) _ _ (λ l. tt)
+    (λ l. choose Q (list_any (nat_le 128) bytes) _ _ (λ a. tt)
+    (λ a. choose Q (list_any is_forbidden bytes) _ _ (λ f. tt)
+    (λ f. record { some = some_of (length bytes) e; short = short_of (length bytes) l; ascii = a; allowed = f }))))
 
 pub name_read-err : (bytes : List ℕ) (P : DirFault → Type 0) → (length bytes ≡ 0 → P NameEmpty) → (31 < length bytes → P NameTooLong)
     → (list_any (nat_le 128) bytes ≡ true → P NameNotAscii) → (list_any is_forbidden bytes ≡ true → P NameForbidden) → IfErr (name_read bytes) P

@@ -2,6 +2,7 @@
 
 ghost use Rattle.cfb_directory.specs.Entries.{AreFree, AreLinked, IsEntry, IsFree, IsKindOf, IsNamed, MayRefuseChildren, MayRefuseEntry, MayRefuseLinked, MayRefuseLoad, child, class_of, entry_at, kind_number, left, marked, right};
 ghost use Rattle.cfb_chain.specs.Fat.{set_all};
+ghost use Rattle.cfb_directory.specs.Names.{IsName};
 ghost use Rattle.cfb_directory.specs.Walk.{IsTaken, MayRefuseName, unmarked};
 ghost use Rattle.cfb_directory.specs.declared.fault.DirFault.TheVariants.{BadEntry};
 ghost use Rattle.std.specs.List.{All};
@@ -71,6 +72,7 @@ fn class_of(entry: &[u8; 128]) -> [u8; 16]
 /// The name of an entry.
 fn read_name(entry: &[u8; 128]) -> Result<Name, DirFault>
     ensures read { IfOk result (IsNamed entry.now) }
+    ensures valid { IfOk result IsName }
     ensures refused { IfErr result (MayRefuseName entry.now) }
 {
     let len = read_u16(entry, 64);
@@ -142,6 +144,7 @@ impl<'a> Entries<'a> {
     /// length with the closing zero is from 4 to 64 bytes (MS-CFB 2.6.1).
     pub fn entry(&self, id: u32) -> Result<Entry, DirFault>
         ensures read { IfOk result (IsEntry self.now.directory id) }
+        ensures valid { IfOk result (λ e. IsName e.name) }
         ensures refused { IfErr result (MayRefuseEntry self.now.directory id) }
     {
         if self.directory.len() <= ENTRY_LEN * id as usize {

@@ -1,8 +1,8 @@
-use Rattle.std.proofs.Common.{◌≡◌, ◌<◌, ◌≤◌, ◌-◌, ◌*◌, ◌/◌, ◌%◌, take, ◌∙◌, ap, sym, arith}
+use Rattle.std.proofs.Common.{◌≡◌, ◌<◌, ◌≤◌, ◌-◌, ◌*◌, ◌/◌, ◌%◌, take, ◌∙◌, ap, sym, subst, IfOk, arith}
 use Rattle.cfb_chain.specs.Bytes.{u16_at}
 use Rattle.cfb_directory.specs.Entries.{name_length}
-use Rattle.cfb_directory.specs.Names.{name_read}
-use Rattle.cfb_directory.proofs.Reading.{named, unnamed, unit_contained}
+use Rattle.cfb_directory.specs.Names.{IsName, name_read}
+use Rattle.cfb_directory.proofs.Reading.{name_read-valid, named, unnamed, unit_contained}
 use Rattle.cfb_directory.proofs.entries.read_name.Goals as goal
 
 pub returns-then-unit-gt127-clause-refused : goal.returns-then-unit-gt127-clause-refused
@@ -27,3 +27,6 @@ returns-clause-refused c =
     let short : name_length c.args.entry.now ≤ 64 = omega arith in
     unnamed c.args.entry.now c.loop-k.units c.loop-k.invariant.room some short (λ k h. c.loop-k.invariant.read k (omega arith)) c.new.result
     (c.new.ensures ∙ ap (λ n. name_read (take (n / 2 - 1) c.loop-k.units)) is)
+
+pub returns-clause-valid : goal.returns-clause-valid
+returns-clause-valid c = subst (λ r. IfOk r IsName) (sym c.new.ensures) (name_read-valid (take (c.read_u16-len.result / 2 - 1) c.loop-k.units))

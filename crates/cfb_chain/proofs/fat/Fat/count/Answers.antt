@@ -1,11 +1,13 @@
-use Rattle.std.proofs.Common.{length-append, ◌≡◌, ◌≤◌, ◌∷◌, ◌++◌, [], ℕ, Bool, length, subst, get_or, arith}
-use Rattle.std.proofs.lemmas.List.Elements.{All-push}
+use Rattle.std.proofs.Common.{length-append, ◌≡◌, ◌≤◌, ◌⊎◌, inl, inr, ◌∷◌, ◌++◌, [], ℕ, List, Bool, length, refl, sym, ◌∙◌, subst, get_or, arith}
+use Rattle.std.proofs.lemmas.List.Elements.{All-push, Contains-append_left, Contains-append_right}
 use Rattle.std.proofs.lemmas.Grind.{common_steps}
 use Rattle.std.proofs.lemmas.List.{get_or_default}
-use Rattle.cfb_chain.specs.Chain.{Leads}
+use Rattle.std.specs.List.{Contains}
+use Rattle.cfb_chain.specs.Chain.{Leads, END_OF_CHAIN}
 use Rattle.cfb_chain.specs.Fat.{IsFree}
 use Rattle.cfb_chain.proofs.Chains.{free_chain, leads_push, met_when_long}
 use Rattle.cfb_chain.proofs.fat.Fat.count.Goals as goal
+use Rattle.cfb_chain.proofs.fat.Fat.count.Goals.{then-count-turn, else-count-turn}
 
 pub returns-clause-counted : goal.returns-clause-counted
 returns-clause-counted c =
@@ -23,6 +25,13 @@ returns-then-count-len-clause-refused c =
     (rw (← c.self.view_is) (grind (arith, common_steps)))
     (rw (← c.self.view_is) (grind (arith, common_steps)))
 
+-- the sector that is kept was met
+met_further : (ns : List ℕ) (at met new : ℕ) → (met ≡ END_OF_CHAIN) ⊎ Contains ns met → (new ≡ at) ⊎ (new ≡ met)
+    → (new ≡ END_OF_CHAIN) ⊎ Contains (ns ++ at ∷ []) new
+met_further ns at met new h (inl e) = inr (subst (Contains (ns ++ at ∷ [])) (sym e) (Contains-append_right ns (at ∷ []) at (0, omega arith, refl)))
+met_further ns at met new (inl m) (inr e) = inl (e ∙ m)
+met_further ns at met new (inr c) (inr e) = inr (subst (Contains (ns ++ at ∷ [])) (sym e) (Contains-append_left ns (at ∷ []) met c))
+
 pub loop-at-preserved : goal.loop-at-preserved
 loop-at-preserved c =
     let ns = c.loop-at.invariant.0 in
@@ -33,4 +42,6 @@ loop-at-preserved c =
       All-push (IsFree c.args.self.now) _ _ c.loop-at.invariant.2 (rw (← c.self.view_is) (grind (arith, common_steps), grind (arith, common_steps, c.index.ensures, get_or_default {X = Bool}))),
       omega (arith, length-append ns (c.loop-at.at ∷ []), c.loop-at.invariant.3),
       rw (← c.self.view_is) (grind (arith, common_steps)),
+      met_further ns c.loop-at.at c.loop-at.met c.if-count-turn.met c.loop-at.invariant.5
+          (elim c.if-count-turn.branch [ then-count-turn w ↦ inl w.met-is | else-count-turn w ↦ inr w.met-is ]),
     )

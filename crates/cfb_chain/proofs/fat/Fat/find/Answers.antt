@@ -1,4 +1,4 @@
-use Rattle.std.proofs.Common.{◌*◌, ◌≡◌, ◌<◌, ◌≤◌, arith, length, sym, subst, ap, ◌∙◌}
+use Rattle.std.proofs.Common.{◌*◌, ◌≡◌, ◌<◌, arith, length, sym, subst}
 use Rattle.std.proofs.lemmas.Grind.{common_steps}
 use Rattle.cfb_chain.specs.Fat.{MayRefuse, store_of}
 use Rattle.cfb_chain.specs.declared.fault.ChainFault.TheVariants.{NoMemory, ShortChain}

@@ -1,4 +1,4 @@
-use Rattle.std.proofs.Common.{ap, length-append, ◌≡◌, ◌<◌, ◌≤◌, ◌∷◌, ◌++◌, [], ℕ, refl, length, subst, get_or, arith}
+use Rattle.std.proofs.Common.{ap, length-append, ◌≡◌, ◌≤◌, ◌∷◌, [], ℕ, refl, length, subst, get_or, arith}
 use Rattle.std.proofs.lemmas.List.Elements.{All-push}
 use Rattle.std.proofs.lemmas.Grind.{common_steps}
 use Rattle.std.specs.List.{All}
