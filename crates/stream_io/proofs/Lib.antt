@@ -1,7 +1,3 @@
-pub mod ContentsWalk
-pub mod ContentsFamily
-pub mod Denoted
-pub mod ContentsPush
 pub mod ReadingLists
 pub mod ReadingRefused
 pub mod ReadingNames

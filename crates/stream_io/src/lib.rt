@@ -1,8 +1,7 @@
 //! Whole compound files.
 #![tactic(auto)]
 
-mod entries;
 pub mod fault;
 pub mod read;
-mod streams;
-pub mod write;
+
+pub use file_writer::write;

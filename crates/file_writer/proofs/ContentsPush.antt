@@ -1,0 +1,72 @@
+-- A step of pushing the entries of siblings.
+use Rattle.std.proofs.Common.{◌≡◌, ◌+◌, ℕ, List, ◌∷◌, ◌++◌, length, sym, ◌∙◌, ap, subst, arith, append_assoc, ◌<◌, ◌^◌}
+use Rattle.cfb_directory.specs.Written.{entry_bytes}
+use Rattle.cfb_directory.specs.declared.write.EntryFields.{EntryFields}
+use Rattle.storage_tree.specs.Tree.{Tree, Children, tree}
+use Rattle.storage_tree.specs.Change.{Seen, bytes, inner, child}
+use Rattle.storage_tree.specs.View.{view, seen, children}
+use Rattle.storage_tree.specs.declared.storage.Node.{Node}
+use Rattle.storage_tree.specs.declared.storage.Node.TheVariants as variant
+use Rattle.storage_tree.specs.declared.storage.Storage.{Storage}
+use Rattle.storage_tree.proofs.Entries.{seen-storage, view-out}
+use Rattle.file_model.specs.Need.{entries_of, over_streams_of, short_pieces, long_pieces}
+use Rattle.file_model.specs.Directory.{IsSpelled, AreSpelled, class_in, state_in, ids_from, children_in, balanced, storage_says, entries_below, each_entry, entries_with}
+use Rattle.file_writer.specs.Streams.{minis_with, sectors_with}
+use Rattle.file_writer.specs.Family.{IsFamily, IsChildSpelled, past, past_all, child_entries, sibling_entries}
+use Rattle.file_writer.specs.declared.entries.Cursor.{Cursor}
+use Rattle.file_writer.specs.declared.entries.Family.{Family}
+use Rattle.file_writer.proofs.ContentsWalk.{Entries, entries-first, ids-first, minis-first, sectors-first, each-first, below-is}
+
+module _ (rest es : Entries) (k : List ℕ) (v : List ℕ × Node) (steps : rest ≡ (k, v) ∷ es) (at next : Cursor) (after : next ≡ past at (seen v.1)) where
+  pub step-places : (place n : ℕ) → place + length (ids_from at.id (children rest)) ≡ n → place + 1 + length (ids_from next.id (children es)) ≡ n
+  step-places place n h =
+      let e : length (ids_from at.id (children rest)) ≡ length (at.id ∷ ids_from (at.id + entries_with (seen v.1)) (children es)) = ap length (ids-first at.id rest es k v steps) in
+      let f : length (ids_from next.id (children es)) ≡ length (ids_from (at.id + entries_with (seen v.1)) (children es)) = ap (λ c. length (ids_from c.id (children es))) after in
+      omega arith
+
+  pub step-next : (last : Cursor) → past_all at (children rest) ≡ last → past_all next (children es) ≡ last
+  step-next last h =
+      let i : at.id + entries_with (seen v.1) + entries_of (children es) ≡ at.id + entries_of (children rest) = omega (arith, entries-first rest es k v steps) in
+      let m : at.mini + minis_with (seen v.1) + over_streams_of short_pieces (children es) ≡ at.mini + over_streams_of short_pieces (children rest) = omega (arith, minis-first rest es k v steps) in
+      let s : at.sector + sectors_with (seen v.1) + over_streams_of long_pieces (children es) ≡ at.sector + over_streams_of long_pieces (children rest) = omega (arith, sectors-first rest es k v steps) in
+      ap (λ c. past_all c (children es)) after ∙ (λ t. record { id = i t; mini = m t; sector = s t }) ∙ h
+
+  pub step-pushed : (ids : List ℕ) (place : ℕ) (out out' whole : List ℕ) → out' ≡ out ++ child_entries ids place at v.0 (seen v.1)
+      → out ++ sibling_entries ids place at (children rest) ≡ whole → out' ++ sibling_entries ids (place + 1) next (children es) ≡ whole
+  step-pushed ids place out out' whole pushed h =
+      let one : List ℕ = child_entries ids place at v.0 (seen v.1) in
+      let more : List ℕ = sibling_entries ids (place + 1) (past at (seen v.1)) (children es) in
+      (λ t. pushed t ++ sibling_entries ids (place + 1) (after t) (children es)) ∙ append_assoc out one more
+      ∙ ap (λ x. out ++ x) (sym (each-first ids place at rest es k v steps)) ∙ h
+
+-- the entry of a storage, and those below it
+pub storage-pushed : (ids : List ℕ) (place : ℕ) (at : Cursor) (name name' : List ℕ) (node : Node) (s : Storage) (family : Family) (e : EntryFields) (old mid new : List ℕ)
+    → node ≡ variant.Storage s → name' ≡ name → IsFamily family (at.id + 1) (children_in (view s)) → e ≡ storage_says balanced ids place at.id (view s)
+    → mid ≡ old ++ entry_bytes name' e → new ≡ mid ++ sibling_entries family.ids.items 0 (record { id = at.id + 1; mini = at.mini; sector = at.sector }) (children_in (view s))
+    → new ≡ old ++ child_entries ids place at name (seen node)
+storage-pushed ids place at name name' node s family e old mid new is named has says first rest =
+    let t : Tree = view s in
+    let one : List ℕ = entry_bytes name (storage_says balanced ids place at.id t) in
+    let more : List ℕ = entries_below balanced at.id at.mini at.sector t in
+    let a : mid ≡ old ++ one = first ∙ (λ i. old ++ entry_bytes (named i) (says i)) in
+    let b : sibling_entries family.ids.items 0 (record { id = at.id + 1; mini = at.mini; sector = at.sector }) (children_in t) ≡ more =
+    ap (λ xs. each_entry balanced xs 0 (at.id + 1) at.mini at.sector (children_in t)) has.ids ∙ sym (below-is at.id at.mini at.sector t) in
+    rest ∙ (λ i. a i ++ b i) ∙ append_assoc old one more ∙ ap (λ x. old ++ child_entries ids place at name x) (sym (ap seen is ∙ seen-storage s))
+
+spelled-child : (k n : List ℕ) (s : Seen) (cs : Children) → IsChildSpelled s → AreSpelled cs → AreSpelled (child k (n, s) cs)
+spelled-child k n (bytes b) cs h i = (h, i)
+spelled-child k n (inner t) cs h i = (h, i)
+
+pub step-spelled : (rest es : Entries) (k : List ℕ) (v : List ℕ × Node) → rest ≡ (k, v) ∷ es → IsChildSpelled (seen v.1) → AreSpelled (children es) → AreSpelled (children rest)
+step-spelled rest es k v e h i = subst (λ (r : Entries). AreSpelled (children r)) (sym e) (spelled-child k v.0 (seen v.1) (children es) h i)
+
+spelled-tree : (t : Tree) → length (class_in t) ≡ 16 → state_in t < 2 ^ 32 → AreSpelled (children_in t) → IsSpelled t
+spelled-tree (tree class state cs) c s h = (c, s, h)
+
+pub spelled-storage : (s : Storage) → length s.class ≡ 16 → s.state < 2 ^ 32 → AreSpelled (children_in (view s)) → IsSpelled (view s)
+spelled-storage s c b h =
+    let out : view s ≡ tree s.class s.state (children s.children.entries) = view-out s in
+    spelled-tree (view s) (ap (λ t. length (class_in t)) out ∙ c) (let e : state_in (view s) ≡ s.state = ap state_in out in omega arith) h
+
+pub child-spelled : (node : Node) (s : Storage) → node ≡ variant.Storage s → IsSpelled (view s) → IsChildSpelled (seen node)
+child-spelled node s e h = subst IsChildSpelled (sym (ap seen e ∙ seen-storage s)) h

@@ -1,0 +1,64 @@
+-- A walk over the children of a storage.
+use Rattle.std.proofs.Common.{◌≡◌, ◌+◌, ℕ, List, ◌∷◌, refl, sym, ◌∙◌, ap, arith, ◌++◌, append_assoc}
+use Rattle.storage_tree.specs.Tree.{Tree, Children, tree}
+use Rattle.storage_tree.specs.Change.{Seen, bytes, inner, child}
+use Rattle.storage_tree.specs.View.{seen, children}
+use Rattle.storage_tree.specs.declared.storage.Node.{Node}
+use Rattle.file_model.specs.Need.{entries, entries_of, over_streams_of, short_pieces, long_pieces, mini_sectors, long_sectors}
+use Rattle.file_model.specs.Directory.{entries_with, ids_from, children_in, balanced, storage_says, entries_below, each_entry}
+use Rattle.cfb_directory.specs.Written.{entry_bytes}
+use Rattle.file_writer.specs.Streams.{minis_with, sectors_with}
+use Rattle.file_writer.specs.Family.{past, child_entries, sibling_entries}
+use Rattle.file_writer.specs.declared.entries.Cursor.{Cursor}
+
+abbrev pub Entries : Type 0
+Entries = List (List ℕ × (List ℕ × Node))
+
+entries-child : (k n : List ℕ) (s : Seen) (cs : Children) → entries_of (child k (n, s) cs) ≡ entries_with s + entries_of cs
+entries-child k n (bytes b) cs = refl
+entries-child k n (inner t) cs = refl
+
+pub entries-first : (rest es : Entries) (k : List ℕ) (v : List ℕ × Node) → rest ≡ (k, v) ∷ es
+    → entries_of (children rest) ≡ entries_with (seen v.1) + entries_of (children es)
+entries-first rest es k v e = ap (λ r. entries_of (children r)) e ∙ entries-child k v.0 (seen v.1) (children es)
+
+ids-child : (id : ℕ) (k n : List ℕ) (s : Seen) (cs : Children) → ids_from id (child k (n, s) cs) ≡ id ∷ ids_from (id + entries_with s) cs
+ids-child id k n (bytes b) cs = refl
+ids-child id k n (inner t) cs = let e : id + 1 + entries t ≡ id + (1 + entries t) = omega arith in ap (λ x. id ∷ ids_from x cs) e
+
+pub ids-first : (id : ℕ) (rest es : Entries) (k : List ℕ) (v : List ℕ × Node) → rest ≡ (k, v) ∷ es
+    → ids_from id (children rest) ≡ id ∷ ids_from (id + entries_with (seen v.1)) (children es)
+ids-first id rest es k v e = ap (λ r. ids_from id (children r)) e ∙ ids-child id k v.0 (seen v.1) (children es)
+
+minis-child : (k n : List ℕ) (s : Seen) (cs : Children) → over_streams_of short_pieces (child k (n, s) cs) ≡ minis_with s + over_streams_of short_pieces cs
+minis-child k n (bytes b) cs = refl
+minis-child k n (inner t) cs = refl
+
+pub minis-first : (rest es : Entries) (k : List ℕ) (v : List ℕ × Node) → rest ≡ (k, v) ∷ es
+    → over_streams_of short_pieces (children rest) ≡ minis_with (seen v.1) + over_streams_of short_pieces (children es)
+minis-first rest es k v e = ap (λ r. over_streams_of short_pieces (children r)) e ∙ minis-child k v.0 (seen v.1) (children es)
+
+sectors-child : (k n : List ℕ) (s : Seen) (cs : Children) → over_streams_of long_pieces (child k (n, s) cs) ≡ sectors_with s + over_streams_of long_pieces cs
+sectors-child k n (bytes b) cs = refl
+sectors-child k n (inner t) cs = refl
+
+pub sectors-first : (rest es : Entries) (k : List ℕ) (v : List ℕ × Node) → rest ≡ (k, v) ∷ es
+    → over_streams_of long_pieces (children rest) ≡ sectors_with (seen v.1) + over_streams_of long_pieces (children es)
+sectors-first rest es k v e = ap (λ r. over_streams_of long_pieces (children r)) e ∙ sectors-child k v.0 (seen v.1) (children es)
+
+each-child : (ids : List ℕ) (place : ℕ) (at : Cursor) (k n : List ℕ) (s : Seen) (cs : Children)
+    → sibling_entries ids place at (child k (n, s) cs) ≡ child_entries ids place at n s ++ sibling_entries ids (place + 1) (past at s) cs
+each-child ids place at k n (bytes b) cs = refl
+each-child ids place at k n (inner t) cs =
+    let e : at.id + 1 + entries t ≡ at.id + (1 + entries t) = omega arith in
+    let one : List ℕ = entry_bytes n (storage_says balanced ids place at.id t) in
+    let more : List ℕ = entries_below balanced at.id at.mini at.sector t in
+    ap (λ x. one ++ (more ++ each_entry balanced ids (place + 1) x (at.mini + mini_sectors t) (at.sector + long_sectors t) cs)) e
+    ∙ sym (append_assoc one more (each_entry balanced ids (place + 1) (at.id + (1 + entries t)) (at.mini + mini_sectors t) (at.sector + long_sectors t) cs))
+
+pub each-first : (ids : List ℕ) (place : ℕ) (at : Cursor) (rest es : Entries) (k : List ℕ) (v : List ℕ × Node) → rest ≡ (k, v) ∷ es
+    → sibling_entries ids place at (children rest) ≡ child_entries ids place at v.0 (seen v.1) ++ sibling_entries ids (place + 1) (past at (seen v.1)) (children es)
+each-first ids place at rest es k v e = ap (λ r. sibling_entries ids place at (children r)) e ∙ each-child ids place at k v.0 (seen v.1) (children es)
+
+pub below-is : (id mini sector : ℕ) (t : Tree) → entries_below balanced id mini sector t ≡ each_entry balanced (ids_from (id + 1) (children_in t)) 0 (id + 1) mini sector (children_in t)
+below-is id mini sector (tree class state cs) = refl

@@ -1,0 +1,4 @@
+pub mod ContentsWalk
+pub mod ContentsFamily
+pub mod Denoted
+pub mod ContentsPush

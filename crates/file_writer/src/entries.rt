@@ -1,0 +1,403 @@
+//! The entries of a tree, as they are written (MS-CFB 2.6).
+
+ghost use Rattle.std.specs.Prelude.{◌≡◌, ◌<◌, ◌+◌, ◌^◌, ◌++◌, ℕ, IfOk, OnOk, length, min, replicate};
+ghost use Rattle.cfb_directory.specs.Written.{free_entry_bytes};
+ghost use Rattle.std.specs.List.{concat};
+ghost use Rattle.std.specs.Vec.{vec_len};
+ghost use Rattle.storage_tree.specs.View.{seen, view};
+ghost use Rattle.file_model.specs.Need.{entries, long_sectors};
+ghost use Rattle.file_writer.specs.Family.{AreCounts, IsBelow, IsChildSpelled, IsFamily, IsJoined, child_entries, past, past_all, sibling_entries};
+ghost use Rattle.storage_tree.specs.Change.{bytes as seen_bytes};
+ghost use Rattle.file_model.specs.Image.{start};
+ghost use Rattle.file_model.specs.Directory.{AreSpelled, IsSpelled, balanced as balanced_links, children_in, entries_with, first_of_stream, directory_of_tree, ids_from, long_start, root_says, storage_says, stream_says};
+
+use cfb_chain::fat::END_OF_CHAIN;
+use cfb_directory::entries::{EntryKind, NO_STREAM};
+use cfb_directory::links::{Links, balanced};
+use cfb_directory::name::Name;
+use cfb_directory::write::{EntryFields, write_entry, write_free_entry};
+use std::alloc::{AllocError, Global};
+use storage_tree::bytes::Bytes;
+use storage_tree::storage::{Node, Storage};
+
+/// More entries than any file that is written has.
+const MANY: u32 = 0x10_0000;
+
+/// How many entries a storage has below its own, or the bound where it has more.
+#[cycle(count_entries)]
+pub(crate) fn count_below(storage: &Storage) -> u32
+    ensures { result ≡ min 1048576 (entries (view storage.now)) }
+{
+    let mut count: u32 = 0;
+    for (_, child) in storage.children.iter() {
+        count = (count + count_with(&child.1)).min(MANY);
+    }
+    count
+}
+
+/// How many entries a child has with its own, or the bound where it has more.
+#[cycle(count_entries)]
+fn count_with(child: &Node) -> u32
+    ensures { result ≡ min 1048576 (entries_with (seen child.now)) }
+{
+    match child {
+        Node::Stream(_) => 1,
+        Node::Storage(inner) => (1 + count_below(inner)).min(MANY),
+    }
+}
+
+/// The ids of a storage's children, of which the first has this one.
+fn child_ids(alloc: Global, storage: &Storage, first: u32) -> Result<Vec<u32>, AllocError>
+    requires { first + entries (view storage.now) < 1048576 }
+    ensures listed { IfOk result (λ ids. ids.items ≡ ids_from first (children_in (view storage.now))) }
+    ensures few { IfOk result (λ ids. vec_len ids < 1048576) }
+{
+    let mut ids = Vec::new(alloc);
+    let mut id = first;
+    for (_, child) in storage.children.iter() {
+        ids.push(id)?;
+        id += count_with(&child.1);
+    }
+    Ok(ids)
+}
+
+/// The entries of siblings, and how they are linked.
+#[derive(Drop)]
+struct Family {
+    ids: Vec<u32>,
+    links: Links,
+}
+
+/// The children of a storage, of which the first has this id.
+fn family_of(alloc: Global, storage: &Storage, first: u32) -> Result<Family, AllocError>
+    requires { first + entries (view storage.now) < 1048576 }
+    ensures { IfOk result (λ family. IsFamily family first (children_in (view storage.now))) }
+{
+    let ids = child_ids(alloc, storage, first)?;
+    let links = balanced(alloc, ids.len() as u32)?;
+    Ok(Family { ids, links })
+}
+
+impl Family {
+    ghost use Rattle.std.specs.Prelude.{◌≡◌, ◌<◌, ℕ, length, slice_index};
+    ghost use Rattle.file_writer.specs.Family.{IsJoined};
+    ghost use Rattle.file_model.specs.Directory.{IsLink};
+    ghost use Rattle.file_model.specs.Directory.{balanced, linked};
+
+    /// The entry that a link to one of the siblings names.
+    fn entry_id(&self, place: u32) -> u32
+        requires { IsLink (length self.now.ids.items) place }
+        ensures { result ≡ linked self.now.ids.items place }
+    {
+        if place == NO_STREAM {
+            NO_STREAM
+        } else {
+            self.ids[place as usize]
+        }
+    }
+
+    /// The entry on top.
+    fn top(&self) -> u32
+        requires { IsJoined self.now }
+        ensures { result ≡ linked self.now.ids.items (balanced (length self.now.ids.items)).top }
+    {
+        self.entry_id(self.links.top)
+    }
+
+    /// The entry to the left of the one at a place.
+    fn left(&self, place: usize) -> u32
+        requires joined { IsJoined self.now }
+        requires there { place < length self.now.ids.items }
+        ensures { result ≡ linked self.now.ids.items (slice_index (balanced (length self.now.ids.items)).left place) }
+    {
+        self.entry_id(self.links.left[place])
+    }
+
+    /// The entry to the right of the one at a place.
+    fn right(&self, place: usize) -> u32
+        requires joined { IsJoined self.now }
+        requires there { place < length self.now.ids.items }
+        ensures { result ≡ linked self.now.ids.items (slice_index (balanced (length self.now.ids.items)).right place) }
+    {
+        self.entry_id(self.links.right[place])
+    }
+}
+
+/// Where the next entry, mini sector and sector stand.
+#[derive(Debug, Clone, Copy, PartialEq, Eq)]
+struct Cursor {
+    id: u32,
+    mini: u32,
+    sector: u32,
+}
+
+/// Where a run of so many sectors starts, which is nowhere where it is empty.
+pub(crate) fn chain_start(at: u32, count: u32) -> u32
+    ensures { result ≡ start at count }
+{
+    if count == 0 { END_OF_CHAIN } else { at }
+}
+
+/// Where a stream of so many bytes starts.
+fn stream_start(at: Cursor, len: u32) -> u32
+    ensures { result ≡ first_of_stream at.mini at.sector len }
+{
+    if len < 4096 {
+        chain_start(at.mini, len.div_ceil(64))
+    } else {
+        chain_start(at.sector, len.div_ceil(512))
+    }
+}
+
+/// What the entry of the stream at a place says.
+fn stream_entry(family: &Family, place: usize, at: Cursor, bytes: &Bytes) -> EntryFields
+    requires joined { IsJoined family.now }
+    requires there { place < length family.now.ids.items }
+    requires few { length bytes.now < 2 ^ 32 }
+    ensures { result ≡ stream_says balanced_links family.now.ids.items place at.mini at.sector (length bytes.now) }
+{
+    EntryFields {
+        kind: EntryKind::Stream,
+        left: family.left(place),
+        right: family.right(place),
+        child: NO_STREAM,
+        class: [0; 16],
+        state: 0,
+        first: stream_start(at, bytes.len() as u32),
+        size: bytes.len() as u32,
+    }
+}
+
+/// The bytes of a class id, of which there are 16.
+fn class_bytes(bytes: &[u8; 16]) -> [u8; 16]
+    ensures same { result ≡ bytes.now }
+    ensures len { length bytes.now ≡ 16 }
+{
+    *bytes
+}
+
+/// State bits, which have four bytes.
+fn state_bits(state: u32) -> u32
+    ensures same { result ≡ state }
+    ensures fits { state < 2 ^ 32 }
+{
+    state
+}
+
+/// What the entry of the storage at a place says, whose children are these.
+fn storage_entry(family: &Family, place: usize, storage: &Storage, children: &Family) -> EntryFields
+    requires joined { IsJoined family.now }
+    requires there { place < length family.now.ids.items }
+    requires below { IsJoined children.now }
+    ensures class_id { length storage.now.class ≡ 16 }
+    ensures state_bits { storage.now.state < 2 ^ 32 }
+    ensures says { (id : ℕ) → IsFamily children.now (id + 1) (children_in (view storage.now)) → result ≡ storage_says balanced_links family.now.ids.items place id (view storage.now) }
+{
+    let state = state_bits(storage.state);
+    EntryFields {
+        kind: EntryKind::Storage,
+        left: family.left(place),
+        right: family.right(place),
+        child: children.top(),
+        class: class_bytes(storage.class.as_bytes()),
+        state,
+        first: 0,
+        size: 0,
+    }
+}
+
+impl Cursor {
+    /// Behind a stream.
+    fn past(self, bytes: &Bytes) -> Cursor
+        requires { IsBelow (past self (seen_bytes bytes.now)) 1048576 }
+        ensures { result ≡ past self (seen_bytes bytes.now) }
+    {
+        let len = bytes.len();
+        if len < 4096 {
+            Cursor {
+                id: self.id + 1,
+                mini: self.mini + len.div_ceil(64) as u32,
+                sector: self.sector,
+            }
+        } else {
+            Cursor {
+                id: self.id + 1,
+                mini: self.mini,
+                sector: self.sector + len.div_ceil(512) as u32,
+            }
+        }
+    }
+}
+
+/// Adds the entries below a storage, whose children these are.
+#[cycle(push_entries)]
+fn push_below(
+    alloc: Global,
+    out: &mut Vec<u8>,
+    storage: &Storage,
+    family: &Family,
+    at: Cursor,
+) -> Result<Cursor, AllocError>
+    requires family { IsFamily family.now at.id (children_in (view storage.now)) }
+    requires few { IsBelow (past_all at (children_in (view storage.now))) 1048576 }
+    ensures pushed { OnOk result (out.new.items ≡ out.old.items ++ sibling_entries family.now.ids.items 0 at (children_in (view storage.now))) }
+    ensures next { IfOk result (λ next. next ≡ past_all at (children_in (view storage.now))) }
+    ensures spelled { OnOk result (AreSpelled (children_in (view storage.now))) }
+{
+    let mut next = at;
+    let mut place = 0;
+    for (_, child) in storage.children.iter() {
+        next = push_child(alloc, out, child, family, place, next)?;
+        place += 1;
+    }
+    Ok(next)
+}
+
+/// Adds the entry of a child at a place, and those below it.
+#[cycle(push_entries)]
+fn push_child(
+    alloc: Global,
+    out: &mut Vec<u8>,
+    child: &(Name, Node),
+    family: &Family,
+    place: usize,
+    at: Cursor,
+) -> Result<Cursor, AllocError>
+    requires joined { IsJoined family.now }
+    requires there { place < length family.now.ids.items }
+    requires few { IsBelow (past at (seen child.now.1)) 1048576 }
+    ensures pushed { OnOk result (out.new.items ≡ out.old.items ++ child_entries family.now.ids.items place at child.now.0 (seen child.now.1)) }
+    ensures next { IfOk result (λ next. next ≡ past at (seen child.now.1)) }
+    ensures spelled { OnOk result (IsChildSpelled (seen child.now.1)) }
+{
+    let name = child.0.as_bytes();
+    match &child.1 {
+        Node::Stream(bytes) => {
+            write_entry(out, name, &stream_entry(family, place, at, bytes))?;
+            Ok(at.past(bytes))
+        }
+        Node::Storage(inner) => {
+            let below = Cursor {
+                id: at.id + 1,
+                mini: at.mini,
+                sector: at.sector,
+            };
+            let children = family_of(alloc, inner, below.id)?;
+            write_entry(out, name, &storage_entry(family, place, inner, &children))?;
+            let next = push_below(alloc, out, inner, &children, below)?;
+            Ok(next)
+        }
+    }
+}
+
+/// What the counts of a tree say of its file: how many FAT sectors, entries below the root and mini sectors it has.
+#[derive(Debug, Clone, Copy, PartialEq, Eq)]
+pub(crate) struct Counts {
+    pub(crate) fat: u32,
+    pub(crate) entries: u32,
+    pub(crate) minis: u32,
+}
+
+impl Counts {
+    ghost use Rattle.std.specs.Prelude.{◌≡◌, ◌≤◌, ◌*◌, ◌+◌};
+    ghost use Rattle.file_model.specs.Need.{pieces};
+
+    /// The sectors of the directory.
+    fn directory_sectors(self) -> u32
+        requires { self.entries ≤ 1048576 }
+        ensures { result ≡ pieces 4 (1 + self.entries) }
+    {
+        (1 + self.entries).div_ceil(4)
+    }
+
+    /// The sectors of the mini FAT.
+    fn mini_fat_sectors(self) -> u32
+        requires { self.minis ≤ 1048576 }
+        ensures { result ≡ pieces 128 self.minis }
+    {
+        self.minis.div_ceil(128)
+    }
+
+    /// The sectors of the mini stream.
+    fn mini_stream_sectors(self) -> u32
+        requires { self.minis ≤ 1048576 }
+        ensures { result ≡ pieces 512 (64 * self.minis) }
+    {
+        (64 * self.minis).div_ceil(512)
+    }
+
+    /// The sectors of all of these.
+    pub(crate) fn data_sectors(self) -> u32
+        requires few_entries { self.entries ≤ 1048576 }
+        requires few_minis { self.minis ≤ 1048576 }
+        ensures { result ≡ pieces 4 (1 + self.entries) + pieces 128 self.minis + pieces 512 (64 * self.minis) }
+    {
+        self.directory_sectors() + self.mini_fat_sectors() + self.mini_stream_sectors()
+    }
+}
+
+/// What the root's entry says, whose children these are.
+fn root_entry(root: &Storage, children: &Family, counts: Counts) -> EntryFields
+    requires children { IsFamily children.now 1 (children_in (view root.now)) }
+    requires counts { AreCounts counts (view root.now) }
+    ensures class_id { length root.now.class ≡ 16 }
+    ensures state_bits { root.now.state < 2 ^ 32 }
+    ensures says { result ≡ root_says balanced_links counts.fat (view root.now) }
+{
+    let state = state_bits(root.state);
+    let before = counts.fat + counts.directory_sectors() + counts.mini_fat_sectors();
+    EntryFields {
+        kind: EntryKind::Root,
+        left: NO_STREAM,
+        right: NO_STREAM,
+        child: children.top(),
+        class: class_bytes(root.class.as_bytes()),
+        state,
+        first: chain_start(before, counts.mini_stream_sectors()),
+        size: 64 * counts.minis,
+    }
+}
+
+/// Adds entries that aren't used.
+fn push_unused(out: &mut Vec<u8>, count: u32) -> Result<(), AllocError>
+    ensures { OnOk result (out.new.items ≡ out.old.items ++ concat (replicate count free_entry_bytes)) }
+{
+    for _ in 0..count {
+        write_free_entry(out)?;
+    }
+    Ok(())
+}
+
+/// Adds the directory of a tree: the root, what is below it, and unused entries up to a whole sector.
+///
+/// Where no memory is left, a part of it may have been added.
+pub(crate) fn push_directory(
+    alloc: Global,
+    out: &mut Vec<u8>,
+    root: &Storage,
+    counts: Counts,
+) -> Result<(), AllocError>
+    requires counts { AreCounts counts (view root.now) }
+    requires few { long_start counts.fat (view root.now) + long_sectors (view root.now) < 1048576 }
+    ensures pushed { OnOk result (out.new.items ≡ out.old.items ++ directory_of_tree balanced_links counts.fat (view root.now)) }
+    ensures spelled { OnOk result (IsSpelled (view root.now)) }
+{
+    let directory = counts.directory_sectors();
+    let sector = counts.fat + directory + counts.mini_fat_sectors() + counts.mini_stream_sectors();
+    let children = family_of(alloc, root, 1)?;
+    let name = Name::root();
+    write_entry(out, name.as_bytes(), &root_entry(root, &children, counts))?;
+    push_below(
+        alloc,
+        out,
+        root,
+        &children,
+        Cursor {
+            id: 1,
+            mini: 0,
+            sector,
+        },
+    )?;
+    push_unused(out, 4 * directory - (1 + counts.entries))?;
+    Ok(())
+}

@@ -1,0 +1,6 @@
+//! Writing whole compound files.
+#![tactic(auto)]
+
+mod entries;
+mod streams;
+pub mod write;
