@@ -8,12 +8,12 @@ use Rattle.cfb_directory.specs.Written.{entry_bytes, free_entry_bytes}
 use Rattle.cfb_directory.specs.declared.write.EntryFields.{EntryFields}
 use Rattle.cfb_directory.proofs.Fields.{length-entry_bytes, length-free_entry_bytes}
 use Rattle.storage_tree.specs.Tree.{Tree}
-use Rattle.file_model.specs.Need.{pieces, entries, mini_sectors, long_sectors, directory_sectors, mini_fat_sectors, mini_stream_sectors}
-use Rattle.file_model.specs.Image.{Parts, image, start, runs, directory_count, mini_fat_need, mini_stream_count, mini_stream_start}
-use Rattle.file_model.specs.Placed.{Fits, IsPlaced, layout_of}
+use Rattle.file_model.specs.Need.{pieces, entries, mini_sectors, long_sectors, directory_sectors, mini_fat_sectors, mini_stream_sectors, data_sectors}
+use Rattle.file_model.specs.Image.{Parts, counts, image, runs, pieces_of, whole_pieces}
+use Rattle.file_model.specs.Placed.{Fits, IsPlaced, ArePlaced, layout_of}
 use Rattle.file_model.specs.Denotes.{Layout, directory_of, minis, sectors, entry, Denotes}
-use Rattle.file_model.specs.Directory.{Siblings, AreBalanced, entries_below, root_says, long_start, short_streams, long_streams, pieces_of, whole_pieces, parts_of, IsCovered, ArePlaced, PlacedDenotes, ImageDenotes, balanced}
-use Rattle.file_model.proofs.Placed.{placed}
+use Rattle.file_model.specs.Directory.{Siblings, AreBalanced, entries_below, root_says, long_start, short_streams, long_streams, parts_of, IsCovered, PlacedDenotes, ImageDenotes, balanced}
+use Rattle.file_model.proofs.Placed.{placed, long-placed, sum-runs}
 use Rattle.file_model.proofs.ContentsBalanced.{are-balanced}
 use Rattle.file_model.proofs.ContentsLists.{distinct_range}
 use Rattle.file_model.proofs.ContentsPieces.{IsStoreFrom, width-64, width-512, length-padded, length-whole}
@@ -24,6 +24,12 @@ use Rattle.file_model.proofs.ContentsTree.{TreeHeld, tree-held}
 length-free : (n : ℕ) → length (concat (replicate n free_entry_bytes)) ≡ 128 * n
 length-free zero = refl
 length-free (suc n) = omega (arith, length-append free_entry_bytes (concat (replicate n free_entry_bytes)), length-free_entry_bytes, length-free n)
+
+-- the runs behind the FAT take as many sectors as the tree needs
+pub counts-sum : (links : ℕ → Siblings) (f : ℕ) (t : Tree) → sum (counts (parts_of links f t)) ≡ data_sectors t
+counts-sum links f t =
+    sum-runs (directory_sectors t) (mini_fat_sectors t) (mini_stream_sectors t) (pieces_of 512 (long_streams t))
+    ∙ ap (λ n. directory_sectors t + mini_fat_sectors t + mini_stream_sectors t + n) (longs-sum t)
 
 module _ (links : ℕ → Siblings) (search : AreBalanced links) (f : ℕ) (t : Tree) (is : IsCovered f t) where
   -- more than any entry, mini sector or sector
@@ -78,41 +84,26 @@ module _ (links : ℕ → Siblings) (search : AreBalanced links) (f : ℕ) (t : 
       let e : length free ≡ 128 * (4 * directory_sectors t - (1 + entries t)) = length-free (4 * directory_sectors t - (1 + entries t)) in
       omega (arith, length-root)
 
-  directory-counted : directory_count p ≡ directory_sectors t
-  directory-counted = omega (arith, length-directory)
-
   mini-counted : sum p.minis ≡ mini_sectors t
   mini-counted = shorts-sum t
 
   length-mini_stream : length p.mini_stream ≡ 512 * mini_stream_sectors t
   length-mini_stream = omega (arith, length-padded 512 width-512 (whole_pieces 64 (short_streams t)), length-whole 64 width-64 (short_streams t), mini-counted)
 
-  stream-counted : mini_stream_count p ≡ mini_stream_sectors t
-  stream-counted = omega (arith, length-mini_stream)
-
-  table-counted : mini_fat_need p ≡ mini_fat_sectors t
-  table-counted = ap (pieces 128) mini-counted
-
   root-says : (directory : List ℕ) → directory ≡ p.directory → Says root_name says (entry_at directory 0)
   root-says directory e = begins-here directory 0 root_name says (below ++ free) fit (record { rest = []; is = e ∙ sym (append-nil p.directory) })
-
-  first-said : start (f + directory_sectors t + mini_fat_sectors t) (mini_stream_sectors t) ≡ mini_stream_start f p
-  first-said =
-      let a : directory_sectors t ≡ directory_count p = sym directory-counted in
-      let b : mini_fat_sectors t ≡ mini_fat_need p = sym table-counted in
-      let c : mini_stream_sectors t ≡ mini_stream_count p = sym stream-counted in
-      (λ i. start (f + a i + b i) (c i))
 
   -- the parts fit
   pub fits-tree : Fits f p
   fits-tree = record {
-    whole_directory = omega (arith, length-directory);
-    some_directory = omega (arith, directory-counted);
-    whole_stream = omega (arith, length-mini_stream, stream-counted);
-    stream_size = stream-counted ∙ ap (λ m. pieces 512 (64 * m)) (sym mini-counted);
+    whole_directory = length-directory;
+    some_directory = omega arith;
+    table_size = ap (pieces 128) (sym mini-counted);
+    whole_stream = length-mini_stream;
+    stream_size = ap (λ m. pieces 512 (64 * m)) (sym mini-counted);
     few = is.few;
-    covered = omega (arith, is.covered, directory-counted, table-counted, stream-counted);
-    root_first = (root-says p.directory refl).starts ∙ first-said;
+    covered = omega (arith, is.covered, longs-sum t);
+    root_first = (root-says p.directory refl).starts;
     root_size = (root-says p.directory refl).sized ∙ ap (λ m. 64 * m) (sym mini-counted);
   }
 
@@ -199,18 +190,9 @@ module _ (links : ℕ → Siblings) (search : AreBalanced links) (f : ℕ) (t : 
 pub placed-denotes : PlacedDenotes
 placed-denotes links f t file l search is placed longs = denotes-tree links search f t is file l placed longs
 
-none-placed : (file : List ℕ) (l : Layout) (base : ℕ) (bs : List (List ℕ)) → bs ≡ [] → AreDistinct (l.fat ++ l.directory ++ l.mini_fat ++ l.mini_stream ++ [])
-    → ArePlaced file l base bs
-none-placed file l base [] e apart = record {
-  there = λ some. absurd (omega arith);
-  piece = λ m lt. absurd (omega arith);
-  next = λ m lt. absurd (omega arith);
-  apart = apart;
-}
-none-placed file l base (b ∷ bs) e apart = absurd (cc)
-
 pub image-denotes : ImageDenotes
-image-denotes f t is none =
+image-denotes f t is =
     let p : Parts = parts_of balanced f t in
-    let at : IsPlaced (image f p) p (layout_of f p) = placed f p (omega (arith, is.covered)) (fits-tree balanced are-balanced f t is) in
-    placed-denotes balanced f t (image f p) (layout_of f p) are-balanced is at (none-placed (image f p) (layout_of f p) (long_start f t) (long_streams t) none at.apart)
+    let some : 0 < f = omega (arith, is.covered) in
+    let fits : Fits f p = fits-tree balanced are-balanced f t is in
+    placed-denotes balanced f t (image f p) (layout_of f p) are-balanced is (placed f p some fits) (long-placed f p some fits)

@@ -7,8 +7,8 @@ use Rattle.cfb_chain.specs.Bytes.{joined}
 use Rattle.cfb_chain.specs.Chain.{Store, IsChainOf}
 use Rattle.storage_tree.specs.Tree.{Tree, Children, tree, none, stream, storage}
 use Rattle.file_model.specs.Need.{pieces, over_streams, over_streams_of, short_pieces, long_pieces}
-use Rattle.file_model.specs.Image.{start}
-use Rattle.file_model.specs.Directory.{short_streams, short_streams_of, long_streams, long_streams_of, pieces_of}
+use Rattle.file_model.specs.Image.{start, pieces_of}
+use Rattle.file_model.specs.Directory.{short_streams, short_streams_of, long_streams, long_streams_of}
 use Rattle.file_model.proofs.ContentsPieces.{sum-cons, IsWidth, IsStoreFrom, AreLeft, left-step, left-chain, left-content}
 
 -- the streams that are left begin at this piece

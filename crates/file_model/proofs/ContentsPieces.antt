@@ -9,8 +9,7 @@ use Rattle.std.specs.List.{range_with_len, sum}
 use Rattle.cfb_chain.specs.Bytes.{block, joined}
 use Rattle.cfb_chain.specs.Chain.{Store, IsChainOf}
 use Rattle.file_model.specs.Need.{pieces}
-use Rattle.file_model.specs.Image.{run, runs, start, padded}
-use Rattle.file_model.specs.Directory.{pieces_of, whole_pieces}
+use Rattle.file_model.specs.Image.{run, runs, start, padded, pieces_of, whole_pieces}
 use Rattle.file_model.proofs.ContentsBlocks.{block-drop, block-append, joined_blocks, take-padded, present_range}
 use Rattle.file_model.proofs.Tables.{leads_run, length-run}
 

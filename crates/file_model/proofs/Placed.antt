@@ -1,8 +1,9 @@
 -- The parts of a file lie where they were laid out.
-use Rattle.std.proofs.Common.{◌≡◌, ◌<◌, ◌≤◌, ◌+◌, ◌*◌, ◌^◌, ℕ, zero, suc, List, [], ◌∷◌, ◌++◌, length, take, get_or, replicate, refl, sym, ◌∙◌, ap, subst, arith, append_assoc, append-nil, length-append}
-use Rattle.std.proofs.lemmas.List.{take_all, length-replicate}
+use Rattle.std.proofs.Common.{◌≡◌, ◌<◌, ◌≤◌, ◌+◌, ◌*◌, ◌^◌, ℕ, zero, suc, List, ◌∷◌, ◌++◌, length, take, get_or, replicate, refl, sym, ◌∙◌, ap, subst, arith, append_assoc, length-append}
+use Rattle.std.proofs.lemmas.List.{take_all, get_or-append-add, length-replicate}
 use Rattle.std.proofs.lemmas.List.Elements.{All-append, All-replicate}
 use Rattle.std.proofs.lemmas.List.FromFn.{length-range_with_len}
+use Rattle.std.proofs.lemmas.List.Sums.{sum_by-cons}
 use Rattle.std.specs.List.{range_with_len, sum, All}
 use Rattle.cfb_chain.specs.Bytes.{u32_at, block}
 use Rattle.cfb_chain.specs.Chain.{Store, IsPresent, IsChain, IsChainOf, AreDistinct, FAT_SECTOR}
@@ -12,86 +13,115 @@ use Rattle.cfb_chain.proofs.Written.{written_is_header, written_header, length_w
 use Rattle.cfb_directory.specs.Entries.{entry_at, first_of, size_of}
 use Rattle.file_model.specs.Need.{pieces}
 use Rattle.file_model.specs.Denotes.{Layout, IsLaidOut, directory_of, root_of, sectors, minis}
-use Rattle.file_model.specs.Image.{Parts, run, runs, start, table_bytes, image, directory_count, mini_fat_need, mini_stream_count, mini_stream_start}
-use Rattle.file_model.specs.Placed.{Fits, IsPlaced, layout_of}
+use Rattle.file_model.specs.Limits.{MOST_FAT_SECTORS}
+use Rattle.file_model.specs.Image.{Parts, run, runs, start, table_bytes, pieces_of, whole_pieces, image, mini_stream_start, longs_start}
+use Rattle.file_model.specs.Placed.{Fits, IsPlaced, ArePlaced, layout_of}
 use Rattle.file_model.proofs.Tables.{IsWord, IsTabled, length-table_bytes, table_number, length-run, length-runs, words_in_runs, words_in_range, present_in_range, chain_in_table, chain_of_in_table, range-append, range_distinct}
 use Rattle.file_model.proofs.PlacedParts.{IsJoined, joined_parts}
+use Rattle.file_model.proofs.ContentsPieces.{width-512, length-whole}
 
 -- the FAT of the parts, before its free entries
-abbrev pub fat_table : (f d m s : ℕ) → List ℕ
-fat_table f d m s = replicate f FAT_SECTOR ++ runs f (d ∷ m ∷ s ∷ [])
+abbrev pub fat_table : (f d m s : ℕ) → List ℕ → List ℕ
+fat_table f d m s ns = replicate f FAT_SECTOR ++ runs f (d ∷ m ∷ s ∷ ns)
 
-length-fat_table : (f d m s : ℕ) → length (fat_table f d m s) ≡ f + d + m + s
-length-fat_table f d m s =
-    length-append (replicate f FAT_SECTOR) (runs f (d ∷ m ∷ s ∷ []))
-    ∙ omega (arith, length-replicate f FAT_SECTOR, length-runs f (d ∷ m ∷ s ∷ []))
+pub sum-runs : (d m s : ℕ) (ns : List ℕ) → sum (d ∷ m ∷ s ∷ ns) ≡ d + m + s + sum ns
+sum-runs d m s ns =
+    omega (arith, sum_by-cons (λ x. x) d (m ∷ s ∷ ns), sum_by-cons (λ x. x) m (s ∷ ns), sum_by-cons (λ x. x) s ns)
 
-words_in_fat_table : (f d m s : ℕ) → f + d + m + s ≤ 2 ^ 32 → All IsWord (fat_table f d m s)
-words_in_fat_table f d m s h =
-    All-append IsWord (replicate f FAT_SECTOR) (runs f (d ∷ m ∷ s ∷ [])) (All-replicate IsWord f FAT_SECTOR (omega arith))
-    (words_in_runs f (d ∷ m ∷ s ∷ []) (omega arith))
+length-fat_table : (f d m s : ℕ) (ns : List ℕ) → length (fat_table f d m s ns) ≡ f + d + m + s + sum ns
+length-fat_table f d m s ns =
+    length-append (replicate f FAT_SECTOR) (runs f (d ∷ m ∷ s ∷ ns))
+    ∙ omega (arith, length-replicate f FAT_SECTOR, length-runs f (d ∷ m ∷ s ∷ ns), sum-runs d m s ns)
+
+words_in_fat_table : (f d m s : ℕ) (ns : List ℕ) → f + d + m + s + sum ns ≤ 2 ^ 32 → All IsWord (fat_table f d m s ns)
+words_in_fat_table f d m s ns h =
+    All-append IsWord (replicate f FAT_SECTOR) (runs f (d ∷ m ∷ s ∷ ns)) (All-replicate IsWord f FAT_SECTOR (omega arith))
+    (words_in_runs f (d ∷ m ∷ s ∷ ns) (omega (arith, sum-runs d m s ns)))
 
 -- the FAT as the table of a file's sectors
-fat_tabled : (file directory mini_fat mini_stream : List ℕ) (f d m s : ℕ) → f ≤ 109 → f + d + m + s ≤ 128 * f
-    → IsJoined file (table_bytes f (fat_table f d m s)) directory mini_fat mini_stream f d m s
-    → IsTabled (sectors_of file (range_with_len 0 f)) (fat_table f d m s)
+fat_tabled : (file directory mini_fat mini_stream longs : List ℕ) (f d m s : ℕ) (ns : List ℕ) → f ≤ MOST_FAT_SECTORS → f + d + m + s + sum ns ≤ 128 * f
+    → IsJoined file (table_bytes f (fat_table f d m s ns)) directory mini_fat mini_stream longs f d m s (sum ns)
+    → IsTabled (sectors_of file (range_with_len 0 f)) (fat_table f d m s ns)
 unfolding sectors_of
-fat_tabled file directory mini_fat mini_stream f d m s few covered j =
-    let long : length (fat_table f d m s) ≡ f + d + m + s = length-fat_table f d m s in
+fat_tabled file directory mini_fat mini_stream longs f d m s ns few covered j =
+    let long : length (fat_table f d m s ns) ≡ f + d + m + s + sum ns = length-fat_table f d m s ns in
     record {
       count = omega (arith, long, j.size, length-range_with_len 0 f);
       next = λ k l. ap (λ bytes. u32_at bytes (4 * k)) j.fat_bytes
-          ∙ table_number f (fat_table f d m s) k (words_in_fat_table f d m s (omega arith)) l;
+          ∙ table_number f (fat_table f d m s ns) k (words_in_fat_table f d m s ns (omega arith)) l;
       small = omega (arith, long);
     }
 
-module _ (s : Store) (f d m n : ℕ) (t : IsTabled s (fat_table f d m n)) where
+module _ (s : Store) (f d m n : ℕ) (ns : List ℕ) (t : IsTabled s (fat_table f d m n ns)) where
   fats : List ℕ
   fats = replicate f FAT_SECTOR
 
   directory_chain : 0 < d → IsChain s f 0 (range_with_len f d)
   unfolding fats
   directory_chain some =
-      chain_in_table s (fat_table f d m n) fats (runs (f + d) (m ∷ n ∷ [])) f d 0 t refl (length-replicate f FAT_SECTOR) some (omega arith)
+      chain_in_table s (fat_table f d m n ns) fats (runs (f + d) (m ∷ n ∷ ns)) f d 0 t refl (length-replicate f FAT_SECTOR) some (omega arith)
 
   mini_fat_chain : (bytes : ℕ) → bytes ≤ s.width * m → (bytes ≡ 0 → m ≡ 0) → IsChainOf s (start (f + d) m) bytes (range_with_len (f + d) m)
   unfolding fats
   mini_fat_chain bytes enough none =
-      chain_of_in_table s (fat_table f d m n) (fats ++ run f d) (runs (f + d + m) (n ∷ [])) (f + d) m bytes t
-      (sym (append_assoc fats (run f d) (runs (f + d) (m ∷ n ∷ []))))
+      chain_of_in_table s (fat_table f d m n ns) (fats ++ run f d) (runs (f + d + m) (n ∷ ns)) (f + d) m bytes t
+      (sym (append_assoc fats (run f d) (runs (f + d) (m ∷ n ∷ ns))))
       (length-append fats (run f d) ∙ omega (arith, length-replicate f FAT_SECTOR, length-run f d)) enough none
 
   mini_stream_chain : (bytes : ℕ) → bytes ≤ s.width * n → (bytes ≡ 0 → n ≡ 0) → IsChainOf s (start (f + d + m) n) bytes (range_with_len (f + d + m) n)
   unfolding fats
   mini_stream_chain bytes enough none =
-      chain_of_in_table s (fat_table f d m n) (fats ++ run f d ++ run (f + d) m) [] (f + d + m) n bytes t
+      chain_of_in_table s (fat_table f d m n ns) (fats ++ run f d ++ run (f + d) m) (runs (f + d + m + n) ns) (f + d + m) n bytes t
       (simp append_assoc)
       (length-append (fats ++ run f d) (run (f + d) m)
       ∙ omega (arith, length-append fats (run f d), length-replicate f FAT_SECTOR, length-run f d, length-run (f + d) m)) enough none
 
   fat_present : 0 < f → All (IsPresent s) (range_with_len 0 f)
-  fat_present some = present_in_range s 0 f (omega (arith, t.count, length-fat_table f d m n)) (omega (arith, t.count, t.small))
+  fat_present some = present_in_range s 0 f (omega (arith, t.count, length-fat_table f d m n ns)) (omega (arith, t.count, t.small))
+
+  -- the runs behind the mini stream's
+  longs_next : (k : ℕ) → k < sum ns → s.next (f + d + m + n + k) ≡ get_or (runs (f + d + m + n) ns) k 0
+  unfolding fats
+  longs_next k l =
+      let front : List ℕ = fats ++ run f d ++ run (f + d) m ++ run (f + d + m) n in
+      let long : length front ≡ f + d + m + n =
+      length-append (fats ++ run f d ++ run (f + d) m) (run (f + d + m) n)
+      ∙ omega (
+        arith,
+        length-append (fats ++ run f d) (run (f + d) m),
+        length-append fats (run f d),
+        length-replicate f FAT_SECTOR,
+        length-run f d,
+        length-run (f + d) m,
+        length-run (f + d + m) n,
+      ) in
+      let parted : fat_table f d m n ns ≡ front ++ runs (f + d + m + n) ns = simp append_assoc in
+      let place : f + d + m + n + k ≡ length front + k = omega arith in
+      t.next (f + d + m + n + k) (omega (arith, length-fat_table f d m n ns))
+      ∙ (λ i. get_or (parted i) (place i) 0) ∙ get_or-append-add front (runs (f + d + m + n) ns) k 0
 
 -- the parts take each sector once
-parts_apart : (f d m n : ℕ) → AreDistinct (range_with_len 0 f ++ range_with_len f d ++ range_with_len (f + d) m ++ range_with_len (f + d + m) n ++ [])
-parts_apart f d m n =
+parts_apart : (f d m n k : ℕ) → AreDistinct (range_with_len 0 f ++ range_with_len f d ++ range_with_len (f + d) m ++ range_with_len (f + d + m) n ++ range_with_len (f + d + m + n) k)
+parts_apart f d m n k =
     let a : range_with_len 0 f ++ range_with_len f d ≡ range_with_len 0 (f + d) =
     let z : 0 + f ≡ f = omega arith in ap (λ k. range_with_len 0 f ++ range_with_len k d) (sym z) ∙ range-append 0 f d in
     let b : range_with_len 0 (f + d) ++ range_with_len (f + d) m ≡ range_with_len 0 (f + d + m) =
     let z : 0 + (f + d) ≡ f + d = omega arith in ap (λ k. range_with_len 0 (f + d) ++ range_with_len k m) (sym z) ∙ range-append 0 (f + d) m in
     let c : range_with_len 0 (f + d + m) ++ range_with_len (f + d + m) n ≡ range_with_len 0 (f + d + m + n) =
     let z : 0 + (f + d + m) ≡ f + d + m = omega arith in ap (λ k. range_with_len 0 (f + d + m) ++ range_with_len k n) (sym z) ∙ range-append 0 (f + d + m) n in
-    let all : range_with_len 0 f ++ range_with_len f d ++ range_with_len (f + d) m ++ range_with_len (f + d + m) n ++ [] ≡ range_with_len 0 (f + d + m + n) =
-    append-nil (range_with_len 0 f ++ range_with_len f d ++ range_with_len (f + d) m ++ range_with_len (f + d + m) n)
-    ∙ ap (λ xs. xs ++ range_with_len (f + d) m ++ range_with_len (f + d + m) n) a ∙ ap (λ xs. xs ++ range_with_len (f + d + m) n) b ∙ c in
-    subst AreDistinct (sym all) (range_distinct 0 (f + d + m + n))
+    let e : range_with_len 0 (f + d + m + n) ++ range_with_len (f + d + m + n) k ≡ range_with_len 0 (f + d + m + n + k) =
+    let z : 0 + (f + d + m + n) ≡ f + d + m + n = omega arith in ap (λ x. range_with_len 0 (f + d + m + n) ++ range_with_len x k) (sym z) ∙ range-append 0 (f + d + m + n) k in
+    let all : range_with_len 0 f ++ range_with_len f d ++ range_with_len (f + d) m ++ range_with_len (f + d + m) n ++ range_with_len (f + d + m + n) k ≡ range_with_len 0 (f + d + m + n + k) =
+    ap (λ xs. xs ++ range_with_len (f + d) m ++ range_with_len (f + d + m) n ++ range_with_len (f + d + m + n) k) a
+    ∙ ap (λ xs. xs ++ range_with_len (f + d + m) n ++ range_with_len (f + d + m + n) k) b ∙ ap (λ xs. xs ++ range_with_len (f + d + m + n) k) c ∙ e in
+    subst AreDistinct (sym all) (range_distinct 0 (f + d + m + n + k))
 
 abbrev pub header_value : ℕ → Parts → HeaderValue
 header_value f p = record {
   fat = range_with_len 0 f;
   first_directory = f;
-  first_mini_fat = start (f + directory_count p) (mini_fat_need p);
-  mini_fat_count = mini_fat_need p;
+  first_mini_fat = start (f + p.directory_count) p.mini_fat_count;
+  mini_fat_count = p.mini_fat_count;
 }
 
 start_word : (at n : ℕ) → at < 2 ^ 32 → start at n < 2 ^ 32
@@ -103,14 +133,21 @@ header_fits f p h = record {
   listed = let e : length (range_with_len 0 f) ≡ f = length-range_with_len 0 f in rw e h.few;
   fat = words_in_range 0 f (omega (arith, h.few));
   first_directory = omega (arith, h.few);
-  first_mini_fat = start_word (f + directory_count p) (mini_fat_need p) (omega (arith, h.few, h.covered));
+  first_mini_fat = start_word (f + p.directory_count) p.mini_fat_count (omega (arith, h.few, h.covered));
   mini_fat_count = omega (arith, h.few, h.covered);
 }
 
+-- the FAT of the parts
+abbrev table_of : ℕ → Parts → List ℕ
+table_of f p = fat_table f p.directory_count p.mini_fat_count p.mini_stream_count (pieces_of 512 p.longs)
+
+-- how many sectors the long streams take
+abbrev longs_count : Parts → ℕ
+longs_count p = sum (pieces_of 512 p.longs)
+
 -- what stands behind the header
 behind_header : ℕ → Parts → List ℕ
-behind_header f p = table_bytes f (fat_table f (directory_count p) (mini_fat_need p) (mini_stream_count p))
-    ++ (p.directory ++ (table_bytes (mini_fat_need p) (runs 0 p.minis) ++ p.mini_stream))
+behind_header f p = table_bytes f (table_of f p) ++ (p.directory ++ (table_bytes p.mini_fat_count (runs 0 p.minis) ++ (p.mini_stream ++ whole_pieces 512 p.longs)))
 
 image_is : (f : ℕ) (p : Parts) → image f p ≡ header_bytes (header_value f p) ++ behind_header f p
 unfolding image behind_header
@@ -128,32 +165,34 @@ minis_in : (total : ℕ) → total ≤ 128 * pieces 128 total
 minis_in total = omega arith
 
 image_joined : (f : ℕ) (p : Parts) → Fits f p
-    → IsJoined (image f p) (table_bytes f (fat_table f (directory_count p) (mini_fat_need p) (mini_stream_count p))) p.directory
-    (table_bytes (mini_fat_need p) (runs 0 p.minis)) p.mini_stream f (directory_count p) (mini_fat_need p) (mini_stream_count p)
+    → IsJoined (image f p) (table_bytes f (table_of f p)) p.directory
+    (table_bytes p.mini_fat_count (runs 0 p.minis)) p.mini_stream (whole_pieces 512 p.longs) f p.directory_count p.mini_fat_count
+    p.mini_stream_count (longs_count p)
 unfolding image
 image_joined f p h =
-    let fat : List ℕ = fat_table f (directory_count p) (mini_fat_need p) (mini_stream_count p) in
-    let listed : length (header_value f p).fat ≤ 109 = (header_fits f p h).listed in
+    let fat : List ℕ = table_of f p in
+    let listed : length (header_value f p).fat ≤ MOST_FAT_SECTORS = (header_fits f p h).listed in
     joined_parts (image f p) (header_bytes (header_value f p)) (table_bytes f fat) p.directory
-    (table_bytes (mini_fat_need p) (runs 0 p.minis)) p.mini_stream f (directory_count p) (mini_fat_need p) (mini_stream_count p)
-    refl (length_written (header_value f p) listed)
-    (length-table_bytes f fat (omega (arith, length-fat_table f (directory_count p) (mini_fat_need p) (mini_stream_count p), h.covered)))
+    (table_bytes p.mini_fat_count (runs 0 p.minis)) p.mini_stream (whole_pieces 512 p.longs) f p.directory_count p.mini_fat_count
+    p.mini_stream_count (longs_count p) refl (length_written (header_value f p) listed)
+    (length-table_bytes f fat (omega (arith, length-fat_table f p.directory_count p.mini_fat_count p.mini_stream_count (pieces_of 512 p.longs), h.covered)))
     h.whole_directory
-    (length-table_bytes (mini_fat_need p) (runs 0 p.minis) (omega (arith, length-runs 0 p.minis, minis_in (sum p.minis))))
-    h.whole_stream
+    (length-table_bytes p.mini_fat_count (runs 0 p.minis) (omega (arith, length-runs 0 p.minis, minis_in (sum p.minis), h.table_size)))
+    h.whole_stream (length-whole 512 width-512 p.longs)
 
 module _ (f : ℕ) (p : Parts) (some : 0 < f) (h : Fits f p) where
   file : List ℕ
   file = image f p
 
-  j : IsJoined file (table_bytes f (fat_table f (directory_count p) (mini_fat_need p) (mini_stream_count p))) p.directory
-      (table_bytes (mini_fat_need p) (runs 0 p.minis)) p.mini_stream f (directory_count p) (mini_fat_need p) (mini_stream_count p)
+  j : IsJoined file (table_bytes f (table_of f p)) p.directory
+      (table_bytes p.mini_fat_count (runs 0 p.minis)) p.mini_stream (whole_pieces 512 p.longs) f p.directory_count p.mini_fat_count
+      p.mini_stream_count (longs_count p)
   unfolding file
   j = image_joined f p h
 
-  tabled : IsTabled (sectors file (layout_of f p)) (fat_table f (directory_count p) (mini_fat_need p) (mini_stream_count p))
-  tabled = fat_tabled file p.directory (table_bytes (mini_fat_need p) (runs 0 p.minis)) p.mini_stream f (directory_count p)
-      (mini_fat_need p) (mini_stream_count p) h.few h.covered j
+  tabled : IsTabled (sectors file (layout_of f p)) (table_of f p)
+  tabled = fat_tabled file p.directory (table_bytes p.mini_fat_count (runs 0 p.minis)) p.mini_stream (whole_pieces 512 p.longs) f
+      p.directory_count p.mini_fat_count p.mini_stream_count (pieces_of 512 p.longs) h.few h.covered j
 
   said : header_of file ≡ header_value f p
   unfolding file
@@ -173,8 +212,8 @@ module _ (f : ℕ) (p : Parts) (some : 0 < f) (h : Fits f p) where
   mini_fat_laid : IsChainOf (sectors file (layout_of f p)) (first_mini_fat file) (512 * mini_fat_count file) (layout_of f p).mini_fat
   mini_fat_laid =
       let s : Store = sectors file (layout_of f p) in
-      let c : IsChainOf s (start (f + directory_count p) (mini_fat_need p)) (512 * mini_fat_need p) (layout_of f p).mini_fat =
-      mini_fat_chain s f (directory_count p) (mini_fat_need p) (mini_stream_count p) tabled (512 * mini_fat_need p)
+      let c : IsChainOf s (start (f + p.directory_count) p.mini_fat_count) (512 * p.mini_fat_count) (layout_of f p).mini_fat =
+      mini_fat_chain s f p.directory_count p.mini_fat_count p.mini_stream_count (pieces_of 512 p.longs) tabled (512 * p.mini_fat_count)
       (rw width (omega arith)) (λ e. omega arith) in
       let P : HeaderValue → Type 0 = λ v. IsChainOf s v.first_mini_fat (512 * v.mini_fat_count) (layout_of f p).mini_fat in
       subst P (sym said) c
@@ -183,7 +222,7 @@ module _ (f : ℕ) (p : Parts) (some : 0 < f) (h : Fits f p) where
   mini_stream_laid =
       let s : Store = sectors file (layout_of f p) in
       let c : IsChainOf s (mini_stream_start f p) (64 * sum p.minis) (layout_of f p).mini_stream =
-      mini_stream_chain s f (directory_count p) (mini_fat_need p) (mini_stream_count p) tabled (64 * sum p.minis)
+      mini_stream_chain s f p.directory_count p.mini_fat_count p.mini_stream_count (pieces_of 512 p.longs) tabled (64 * sum p.minis)
       (rw width (omega (arith, h.stream_size))) (λ e. omega (arith, h.stream_size)) in
       let first : mini_stream_start f p ≡ first_of (root_of file (layout_of f p)) = sym (ap first_of root_is ∙ h.root_first) in
       let size : 64 * sum p.minis ≡ size_of (root_of file (layout_of f p)) = sym (ap size_of root_is ∙ h.root_size) in
@@ -195,11 +234,11 @@ module _ (f : ℕ) (p : Parts) (some : 0 < f) (h : Fits f p) where
       let s : Store = sectors file (layout_of f p) in
       let start_said : f ≡ first_directory file = sym (ap (λ (v : HeaderValue). v.first_directory) said) in
       let c : IsChain s f 0 (layout_of f p).directory =
-      directory_chain s f (directory_count p) (mini_fat_need p) (mini_stream_count p) tabled h.some_directory in
+      directory_chain s f p.directory_count p.mini_fat_count p.mini_stream_count (pieces_of 512 p.longs) tabled h.some_directory in
       record {
         fat_listed = sym (ap (λ (v : HeaderValue). v.fat) said);
         fat_sectors = record {
-          present = fat_present s f (directory_count p) (mini_fat_need p) (mini_stream_count p) tabled some;
+          present = fat_present s f p.directory_count p.mini_fat_count p.mini_stream_count (pieces_of 512 p.longs) tabled some;
           once = range_distinct 0 f;
         };
         directory = subst (λ (a : ℕ). IsChain s a 0 (layout_of f p).directory) start_said c;
@@ -211,9 +250,9 @@ module _ (f : ℕ) (p : Parts) (some : 0 < f) (h : Fits f p) where
   minis_are : minis file (layout_of f p) ≡ mini_sectors_of file (layout_of f p).mini_fat (layout_of f p).mini_stream (64 * sum p.minis)
   minis_are =
       let l : Layout = layout_of f p in
-      let need : mini_fat_count file ≡ mini_fat_need p = ap (λ (v : HeaderValue). v.mini_fat_count) said in
+      let need : mini_fat_count file ≡ p.mini_fat_count = ap (λ (v : HeaderValue). v.mini_fat_count) said in
       let cut : take (mini_fat_count file) l.mini_fat ≡ l.mini_fat =
-      take_all (mini_fat_count file) l.mini_fat (omega (arith, need, length-range_with_len (f + directory_count p) (mini_fat_need p))) in
+      take_all (mini_fat_count file) l.mini_fat (omega (arith, need, length-range_with_len (f + p.directory_count) p.mini_fat_count)) in
       let size : size_of (root_of file l) ≡ 64 * sum p.minis = ap size_of root_is ∙ h.root_size in
       ap (λ ns. mini_sectors_of file ns l.mini_stream (size_of (root_of file l))) cut ∙ ap (λ n. mini_sectors_of file l.mini_fat l.mini_stream n) size
 
@@ -221,7 +260,7 @@ module _ (f : ℕ) (p : Parts) (some : 0 < f) (h : Fits f p) where
   unfolding mini_sectors_of
   minis_count =
       ap (λ (s : Store). s.count) minis_are
-      ∙ omega (arith, length-range_with_len (f + directory_count p) (mini_fat_need p), minis_in (sum p.minis))
+      ∙ omega (arith, length-range_with_len (f + p.directory_count) p.mini_fat_count, minis_in (sum p.minis), h.table_size)
 
   minis_piece : (m : ℕ) → (minis file (layout_of f p)).piece m ≡ block 64 p.mini_stream (64 * m)
   unfolding mini_sectors_of
@@ -231,7 +270,7 @@ module _ (f : ℕ) (p : Parts) (some : 0 < f) (h : Fits f p) where
   unfolding mini_sectors_of
   minis_next m l =
       ap (λ (s : Store). s.next m) minis_are ∙ ap (λ bytes. u32_at bytes (4 * m)) j.mini_fat_bytes
-      ∙ table_number (mini_fat_need p) (runs 0 p.minis) m (words_in_runs 0 p.minis (omega (arith, minis_in (sum p.minis), h.covered, h.few)))
+      ∙ table_number p.mini_fat_count (runs 0 p.minis) m (words_in_runs 0 p.minis (omega (arith, minis_in (sum p.minis), h.table_size, h.covered, h.few)))
       (omega (arith, length-runs 0 p.minis))
 
   placed_in : IsPlaced file p (layout_of f p)
@@ -243,9 +282,21 @@ module _ (f : ℕ) (p : Parts) (some : 0 < f) (h : Fits f p) where
     mini_count = minis_count;
     mini_piece = λ m l. minis_piece m;
     mini_next = minis_next;
-    apart = parts_apart f (directory_count p) (mini_fat_need p) (mini_stream_count p);
+  }
+
+  longs_placed : ArePlaced file (layout_of f p) (longs_start f p) p.longs
+  unfolding sectors_of
+  longs_placed = record {
+    there = λ l. omega (arith, tabled.count, length-fat_table f p.directory_count p.mini_fat_count p.mini_stream_count (pieces_of 512 p.longs));
+    piece = λ m l. j.long_block m;
+    next = λ m l. longs_next (sectors file (layout_of f p)) f p.directory_count p.mini_fat_count p.mini_stream_count (pieces_of 512 p.longs) tabled m l;
+    apart = parts_apart f p.directory_count p.mini_fat_count p.mini_stream_count (longs_count p);
   }
 
 pub placed : (f : ℕ) (p : Parts) → 0 < f → Fits f p → IsPlaced (image f p) p (layout_of f p)
 unfolding file
 placed f p some h = placed_in f p some h
+
+pub long-placed : (f : ℕ) (p : Parts) → 0 < f → Fits f p → ArePlaced (image f p) (layout_of f p) (longs_start f p) p.longs
+unfolding file
+long-placed f p some h = longs_placed f p some h

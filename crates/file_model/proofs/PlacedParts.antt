@@ -1,5 +1,5 @@
 -- Sectors in a row hold the part of a file that stands there.
-use Rattle.std.proofs.Common.{◌≡◌, ◌≤◌, ◌+◌, ◌-◌, ◌*◌, ℕ, zero, suc, List, [], ◌∷◌, ◌++◌, length, take, drop, refl, sym, ◌∙◌, ap, arith, append_assoc, append-nil, length-append, length-drop, drop-drop}
+use Rattle.std.proofs.Common.{◌≡◌, ◌≤◌, ◌+◌, ◌-◌, ◌*◌, ℕ, zero, suc, List, [], ◌∷◌, ◌++◌, length, take, drop, replicate, refl, sym, ◌∙◌, ap, arith, append_assoc, append-nil, length-append, length-drop, drop-drop}
 use Rattle.std.proofs.lemmas.List.{drop-append-le, take-append-le, take-append-drop, drop_at}
 use Rattle.std.specs.List.{range_with_len}
 use Rattle.cfb_chain.specs.Bytes.{block, sector, joined}
@@ -32,36 +32,48 @@ next_part : (file part after : List ℕ) (at next : ℕ) → drop at file ≡ pa
 next_part file part after at next e h =
     ap (λ k. drop k file) (sym h) ∙ sym (drop-drop (length part) at file) ∙ ap (drop (length part)) e ∙ drop_at part after (length part) refl
 
--- A file of a header and four parts of whole sectors: how long it is, and what the sectors of each part hold.
-pub record IsJoined (file fat directory mini_fat mini_stream : List ℕ) (f d m s : ℕ) : Type 0 where
-  pub size : length file ≡ 512 * (1 + f + d + m + s)
+-- the blocks of a file from a place on are those of what stands there
+block_from : (w : ℕ) (file part : List ℕ) (at n : ℕ) → drop at file ≡ part → block w file (at + n) ≡ block w part n
+unfolding block
+block_from w file part at n e =
+    let d : drop (at + n) file ≡ drop n part = sym (drop-drop n at file) ∙ ap (drop n) e in
+    ap (λ xs. take w xs ++ replicate (w - length xs) 0) d
+
+-- A file of a header and five parts of whole sectors: how long it is, and what the sectors of each part hold.
+pub record IsJoined (file fat directory mini_fat mini_stream longs : List ℕ) (f d m s n : ℕ) : Type 0 where
+  pub size : length file ≡ 512 * (1 + f + d + m + s + n)
   pub fat_bytes : joined (sector file) (range_with_len 0 f) ≡ fat
   pub directory_bytes : joined (sector file) (range_with_len f d) ≡ directory
   pub mini_fat_bytes : joined (sector file) (range_with_len (f + d) m) ≡ mini_fat
   pub mini_stream_bytes : joined (sector file) (range_with_len (f + d + m) s) ≡ mini_stream
+  pub long_block : (k : ℕ) → sector file (f + d + m + s + k) ≡ block 512 longs (512 * k)
 
-pub joined_parts : (file header fat directory mini_fat mini_stream : List ℕ) (f d m s : ℕ)
-    → file ≡ header ++ fat ++ directory ++ mini_fat ++ mini_stream → length header ≡ 512 → length fat ≡ 512 * f
-    → length directory ≡ 512 * d → length mini_fat ≡ 512 * m → length mini_stream ≡ 512 * s
-    → IsJoined file fat directory mini_fat mini_stream f d m s
-joined_parts file header fat directory mini_fat mini_stream f d m s e h1 h2 h3 h4 h5 =
-    let nested : header ++ fat ++ directory ++ mini_fat ++ mini_stream ≡ header ++ (fat ++ (directory ++ (mini_fat ++ mini_stream))) =
+pub joined_parts : (file header fat directory mini_fat mini_stream longs : List ℕ) (f d m s n : ℕ)
+    → file ≡ header ++ fat ++ directory ++ mini_fat ++ mini_stream ++ longs → length header ≡ 512 → length fat ≡ 512 * f
+    → length directory ≡ 512 * d → length mini_fat ≡ 512 * m → length mini_stream ≡ 512 * s → length longs ≡ 512 * n
+    → IsJoined file fat directory mini_fat mini_stream longs f d m s n
+joined_parts file header fat directory mini_fat mini_stream longs f d m s n e h1 h2 h3 h4 h5 h6 =
+    let nested : header ++ fat ++ directory ++ mini_fat ++ mini_stream ++ longs ≡ header ++ (fat ++ (directory ++ (mini_fat ++ (mini_stream ++ longs)))) =
     simp append_assoc in
-    let long : length file ≡ 512 * (1 + f + d + m + s) =
+    let long : length file ≡ 512 * (1 + f + d + m + s + n) =
     ap length (e ∙ nested) ∙ simp length-append (omega arith) in
-    let at_header : drop 0 file ≡ header ++ (fat ++ (directory ++ (mini_fat ++ mini_stream))) = e ∙ nested in
-    let at_fat : drop (512 * (0 + 1)) file ≡ fat ++ (directory ++ (mini_fat ++ mini_stream)) =
-    next_part file header (fat ++ (directory ++ (mini_fat ++ mini_stream))) 0 (512 * (0 + 1)) at_header (omega arith) in
-    let at_directory : drop (512 * (f + 1)) file ≡ directory ++ (mini_fat ++ mini_stream) =
-    next_part file fat (directory ++ (mini_fat ++ mini_stream)) (512 * (0 + 1)) (512 * (f + 1)) at_fat (omega arith) in
-    let at_mini_fat : drop (512 * (f + d + 1)) file ≡ mini_fat ++ mini_stream =
-    next_part file directory (mini_fat ++ mini_stream) (512 * (f + 1)) (512 * (f + d + 1)) at_directory (omega arith) in
-    let at_mini_stream : drop (512 * (f + d + m + 1)) file ≡ mini_stream =
-    next_part file mini_fat mini_stream (512 * (f + d + 1)) (512 * (f + d + m + 1)) at_mini_fat (omega arith) in
+    let at_header : drop 0 file ≡ header ++ (fat ++ (directory ++ (mini_fat ++ (mini_stream ++ longs)))) = e ∙ nested in
+    let at_fat : drop (512 * (0 + 1)) file ≡ fat ++ (directory ++ (mini_fat ++ (mini_stream ++ longs))) =
+    next_part file header (fat ++ (directory ++ (mini_fat ++ (mini_stream ++ longs)))) 0 (512 * (0 + 1)) at_header (omega arith) in
+    let at_directory : drop (512 * (f + 1)) file ≡ directory ++ (mini_fat ++ (mini_stream ++ longs)) =
+    next_part file fat (directory ++ (mini_fat ++ (mini_stream ++ longs))) (512 * (0 + 1)) (512 * (f + 1)) at_fat (omega arith) in
+    let at_mini_fat : drop (512 * (f + d + 1)) file ≡ mini_fat ++ (mini_stream ++ longs) =
+    next_part file directory (mini_fat ++ (mini_stream ++ longs)) (512 * (f + 1)) (512 * (f + d + 1)) at_directory (omega arith) in
+    let at_mini_stream : drop (512 * (f + d + m + 1)) file ≡ mini_stream ++ longs =
+    next_part file mini_fat (mini_stream ++ longs) (512 * (f + d + 1)) (512 * (f + d + m + 1)) at_mini_fat (omega arith) in
+    let at_longs : drop (512 * (f + d + m + s + 1)) file ≡ longs =
+    next_part file mini_stream longs (512 * (f + d + m + 1)) (512 * (f + d + m + s + 1)) at_mini_stream (omega arith) in
     record {
       size = long;
-      fat_bytes = joined_range file fat (directory ++ (mini_fat ++ mini_stream)) 0 f h2 at_fat;
-      directory_bytes = joined_range file directory (mini_fat ++ mini_stream) f d h3 at_directory;
-      mini_fat_bytes = joined_range file mini_fat mini_stream (f + d) m h4 at_mini_fat;
-      mini_stream_bytes = joined_range file mini_stream [] (f + d + m) s h5 (at_mini_stream ∙ sym (append-nil mini_stream));
+      fat_bytes = joined_range file fat (directory ++ (mini_fat ++ (mini_stream ++ longs))) 0 f h2 at_fat;
+      directory_bytes = joined_range file directory (mini_fat ++ (mini_stream ++ longs)) f d h3 at_directory;
+      mini_fat_bytes = joined_range file mini_fat (mini_stream ++ longs) (f + d) m h4 at_mini_fat;
+      mini_stream_bytes = joined_range file mini_stream longs (f + d + m) s h5 at_mini_stream;
+      long_block = λ k. let place : 512 + 512 * (f + d + m + s + k) ≡ 512 * (f + d + m + s + 1) + 512 * k = omega arith in
+          ap (block 512 file) place ∙ block_from 512 file longs (512 * (f + d + m + s + 1)) (512 * k) at_longs;
     }

@@ -10,6 +10,7 @@ use Rattle.cfb_directory.specs.Names.{key, key_cmp}
 use Rattle.cfb_directory.specs.Entries.{entry_at, kind, child, class_of, state_of, first_of, size_of, name_of, IsNamed, AreLinked}
 use Rattle.storage_tree.specs.Tree.{Tree, Children, tree, none, stream, storage}
 use Rattle.storage_tree.specs.Whole.{IsTree}
+use Rattle.file_model.specs.Limits.{CUTOFF}
 
 -- Where the system's own parts of a file lie: the sectors of the FAT, of the directory, of the mini FAT and of the
 -- mini stream.
@@ -53,7 +54,7 @@ both u v = record { ids = u.ids ++ v.ids; sectors = u.sectors ++ v.sectors; mini
 
 -- an entry, and a stream's sectors: mini sectors below 4,096 bytes
 abbrev pub taken : ℕ → ℕ → List ℕ → Used
-taken id size ns = if nat_lt size 4096 then record { ids = id ∷ []; sectors = []; minis = ns } else record { ids = id ∷ []; sectors = ns; minis = [] }
+taken id size ns = if nat_lt size CUTOFF then record { ids = id ∷ []; sectors = []; minis = ns } else record { ids = id ∷ []; sectors = ns; minis = [] }
 
 abbrev pub within : ℕ → Used → Used
 within id u = record { ids = id ∷ u.ids; sectors = u.sectors; minis = u.minis }
@@ -64,7 +65,7 @@ module _ (file : List ℕ) (l : Layout) where
 
   -- where a stream of a size lies
   abbrev pub store_for : ℕ → Store
-  store_for size = if nat_lt size 4096 then minis file l else sectors file l
+  store_for size = if nat_lt size CUTOFF then minis file l else sectors file l
 
   -- the sectors and the bytes of a stream
   pub record HoldsBytes (id : ℕ) (ns : List ℕ) (bytes : List ℕ) : Type 0 where

@@ -1,8 +1,6 @@
 -- How the directory of a tree is written: entries stand depth first, siblings in name order (MS-CFB 2.6).
-use Rattle.std.specs.Prelude.{◌≡◌, ◌⊎◌, ◌<◌, ◌≤◌, ◌+◌, ◌-◌, ◌*◌, ◌^◌, ℕ, List, [], ◌∷◌, ◌++◌, length, map, replicate, slice_index, if◌then◌else◌, cond, nat_lt, zero, suc}
-use Rattle.std.specs.List.{concat, flat_map, range_with_len, sum}
-use Rattle.cfb_chain.specs.Bytes.{block}
-use Rattle.cfb_chain.specs.Chain.{AreDistinct}
+use Rattle.std.specs.Prelude.{◌≡◌, ◌⊎◌, ◌<◌, ◌≤◌, ◌+◌, ◌-◌, ◌*◌, ◌^◌, ℕ, List, [], ◌∷◌, ◌++◌, length, replicate, slice_index, if◌then◌else◌, cond, nat_lt, zero, suc}
+use Rattle.std.specs.List.{concat}
 use Rattle.cfb_directory.specs.Entries.{NO_STREAM, root_name}
 use Rattle.cfb_directory.specs.SearchTree.{link_to, middle, IsSearchTree}
 use Rattle.cfb_directory.specs.Written.{entry_bytes, free_entry_bytes}
@@ -12,9 +10,10 @@ use Rattle.storage_tree.specs.Tree.{Tree, Children, tree, none, stream, storage}
 use Rattle.storage_tree.specs.Change.{Seen, bytes, inner}
 use Rattle.storage_tree.specs.Whole.{IsTree}
 use Rattle.file_model.specs.Need.{pieces, entries, mini_sectors, long_sectors, short_pieces, long_pieces, directory_sectors, mini_fat_sectors, mini_stream_sectors, data_sectors}
-use Rattle.file_model.specs.Image.{Parts, start, padded, runs, image}
-use Rattle.file_model.specs.Placed.{IsPlaced}
-use Rattle.file_model.specs.Denotes.{Layout, sectors, Denotes}
+use Rattle.file_model.specs.Limits.{CUTOFF, MOST_FAT_SECTORS}
+use Rattle.file_model.specs.Image.{Parts, start, padded, pieces_of, whole_pieces, image}
+use Rattle.file_model.specs.Placed.{IsPlaced, ArePlaced}
+use Rattle.file_model.specs.Denotes.{Layout, Denotes}
 
 -- The links of so many siblings, by their places: the one on top, and those to the left and right of each.
 pub record Siblings : Type 0 where
@@ -63,7 +62,7 @@ linked ids place = link_to (slice_index ids) place
 
 -- where a stream starts: in the mini stream or, from 4,096 bytes on, in sectors of its own
 abbrev pub first_of_stream : ℕ → ℕ → ℕ → ℕ
-first_of_stream mini sector size = if nat_lt size 4096 then start mini (pieces 64 size) else start sector (pieces 512 size)
+first_of_stream mini sector size = if nat_lt size CUTOFF then start mini (pieces 64 size) else start sector (pieces 512 size)
 
 -- the first sector behind the FAT, the directory, the mini FAT and the mini stream
 abbrev pub long_start : ℕ → Tree → ℕ
@@ -150,7 +149,7 @@ abbrev mutual
 
   pub short_streams_of : Children → List (List ℕ)
   short_streams_of none = []
-  short_streams_of (stream k n b cs) = if nat_lt (length b) 4096 then b ∷ short_streams_of cs else short_streams_of cs
+  short_streams_of (stream k n b cs) = if nat_lt (length b) CUTOFF then b ∷ short_streams_of cs else short_streams_of cs
   short_streams_of (storage k n t cs) = short_streams t ++ short_streams_of cs
 
 abbrev mutual
@@ -159,22 +158,19 @@ abbrev mutual
 
   pub long_streams_of : Children → List (List ℕ)
   long_streams_of none = []
-  long_streams_of (stream k n b cs) = if nat_lt (length b) 4096 then long_streams_of cs else b ∷ long_streams_of cs
+  long_streams_of (stream k n b cs) = if nat_lt (length b) CUTOFF then long_streams_of cs else b ∷ long_streams_of cs
   long_streams_of (storage k n t cs) = long_streams t ++ long_streams_of cs
 
--- how many pieces of a width each takes, and their bytes in whole pieces
-abbrev pub pieces_of : ℕ → List (List ℕ) → List ℕ
-pieces_of width bs = map (λ b. pieces width (length b)) bs
-
-abbrev pub whole_pieces : ℕ → List (List ℕ) → List ℕ
-whole_pieces width bs = flat_map (padded width) bs
-
--- the parts of a file that holds a tree, without the sectors of long streams
+-- the parts of a file that holds a tree
 abbrev pub parts_of : (ℕ → Siblings) → ℕ → Tree → Parts
 parts_of links f t = record {
   directory = directory_of_tree links f t;
+  directory_count = directory_sectors t;
   minis = pieces_of 64 (short_streams t);
+  mini_fat_count = mini_fat_sectors t;
   mini_stream = padded 512 (whole_pieces 64 (short_streams t));
+  mini_stream_count = mini_stream_sectors t;
+  longs = long_streams t;
 }
 
 -- class ids of 16 bytes, numbers of four
@@ -187,18 +183,11 @@ abbrev mutual
   AreSpelled (stream k n b cs) = (length b < 2 ^ 32) × AreSpelled cs
   AreSpelled (storage k n t cs) = IsSpelled t × AreSpelled cs
 
--- The long streams lie one after another from a sector on, each in whole sectors that name the next.
-pub record ArePlaced (file : List ℕ) (l : Layout) (base : ℕ) (bs : List (List ℕ)) : Type 0 where
-  pub there : 0 < sum (pieces_of 512 bs) → base + sum (pieces_of 512 bs) ≤ (sectors file l).count
-  pub piece : (m : ℕ) → m < sum (pieces_of 512 bs) → (sectors file l).piece (base + m) ≡ block 512 (whole_pieces 512 bs) (512 * m)
-  pub next : (m : ℕ) → m < sum (pieces_of 512 bs) → (sectors file l).next (base + m) ≡ slice_index (runs base (pieces_of 512 bs)) m
-  pub apart : AreDistinct (l.fat ++ l.directory ++ l.mini_fat ++ l.mini_stream ++ range_with_len base (sum (pieces_of 512 bs)))
-
 -- a whole tree that f FAT sectors cover
 pub record IsCovered (f : ℕ) (t : Tree) : Type 0 where
   pub whole : IsTree 32 t
   pub spelled : IsSpelled t
-  pub few : f ≤ 109
+  pub few : f ≤ MOST_FAT_SECTORS
   pub covered : f + data_sectors t ≤ 128 * f
 
 -- a file in which all parts of a tree lie denotes the tree
@@ -206,6 +195,6 @@ abbrev pub PlacedDenotes : Type 0
 PlacedDenotes = (links : ℕ → Siblings) (f : ℕ) (t : Tree) (file : List ℕ) (l : Layout) → AreBalanced links → IsCovered f t
     → IsPlaced file (parts_of links f t) l → ArePlaced file l (long_start f t) (long_streams t) → Denotes file t
 
--- a file laid out of the parts of a tree without long streams denotes the tree
+-- a file laid out of the parts of a tree denotes the tree
 abbrev pub ImageDenotes : Type 0
-ImageDenotes = (f : ℕ) (t : Tree) → IsCovered f t → long_streams t ≡ [] → Denotes (image f (parts_of balanced f t)) t
+ImageDenotes = (f : ℕ) (t : Tree) → IsCovered f t → Denotes (image f (parts_of balanced f t)) t

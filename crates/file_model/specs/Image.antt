@@ -1,7 +1,7 @@
 -- How files are laid out: the FAT first, then the directory, the mini FAT and the mini stream, each in one run of
--- sectors (MS-CFB 2; the order is this project's own).
-use Rattle.std.specs.Prelude.{◌+◌, ◌-◌, ◌*◌, ℕ, zero, suc, List, [], ◌∷◌, ◌++◌, length, replicate}
-use Rattle.std.specs.List.{flat_map, range_with_len, sum}
+-- sectors, and then the long streams, each in a run of its own (MS-CFB 2; the order is this project's own).
+use Rattle.std.specs.Prelude.{◌+◌, ◌-◌, ◌*◌, ℕ, zero, suc, List, [], ◌∷◌, ◌++◌, length, map, replicate}
+use Rattle.std.specs.List.{flat_map, range_with_len}
 use Rattle.std.specs.Int.{w32, to_le_bytes}
 use Rattle.cfb_chain.specs.Chain.{END_OF_CHAIN, FREE_SECTOR, FAT_SECTOR}
 use Rattle.cfb_chain.specs.Header.{header_bytes}
@@ -35,39 +35,46 @@ table_bytes count ns = flat_map (to_le_bytes w32) (ns ++ replicate (128 * count 
 abbrev pub padded : ℕ → List ℕ → List ℕ
 padded width bytes = bytes ++ replicate (width * pieces width (length bytes) - length bytes) 0
 
--- The parts of a file behind its FAT: the directory's bytes and the mini stream's, in whole sectors, and how many mini
--- sectors each short stream takes.
+-- how many pieces of a width each of these takes, and their bytes in whole pieces
+abbrev pub pieces_of : ℕ → List (List ℕ) → List ℕ
+pieces_of width bs = map (λ b. pieces width (length b)) bs
+
+abbrev pub whole_pieces : ℕ → List (List ℕ) → List ℕ
+whole_pieces width bs = flat_map (padded width) bs
+
+-- The parts of a file behind its FAT: the directory's bytes and the mini stream's, in so many whole sectors, how many
+-- mini sectors each short stream takes and how many sectors their table, and the long streams.
 pub record Parts : Type 0 where
   pub directory : List ℕ
+  pub directory_count : ℕ
   pub minis : List ℕ
+  pub mini_fat_count : ℕ
   pub mini_stream : List ℕ
-
-abbrev pub directory_count : Parts → ℕ
-directory_count p = pieces 512 (length p.directory)
-
-abbrev pub mini_fat_need : Parts → ℕ
-mini_fat_need p = pieces 128 (sum p.minis)
-
-abbrev pub mini_stream_count : Parts → ℕ
-mini_stream_count p = pieces 512 (length p.mini_stream)
+  pub mini_stream_count : ℕ
+  pub longs : List (List ℕ)
 
 -- the lengths of the runs behind the FAT
 abbrev pub counts : Parts → List ℕ
-counts p = directory_count p ∷ mini_fat_need p ∷ mini_stream_count p ∷ []
+counts p = p.directory_count ∷ p.mini_fat_count ∷ p.mini_stream_count ∷ pieces_of 512 p.longs
 
 -- the file of these parts, with f FAT sectors
 unfoldable pub image : ℕ → Parts → List ℕ
 image f p = header_bytes (record {
   fat = range_with_len 0 f;
   first_directory = f;
-  first_mini_fat = start (f + directory_count p) (mini_fat_need p);
-  mini_fat_count = mini_fat_need p;
+  first_mini_fat = start (f + p.directory_count) p.mini_fat_count;
+  mini_fat_count = p.mini_fat_count;
 })
     ++ table_bytes f (replicate f FAT_SECTOR ++ runs f (counts p))
     ++ p.directory
-    ++ table_bytes (mini_fat_need p) (runs 0 p.minis)
+    ++ table_bytes p.mini_fat_count (runs 0 p.minis)
     ++ p.mini_stream
+    ++ whole_pieces 512 p.longs
 
 -- where the mini stream starts
 abbrev pub mini_stream_start : ℕ → Parts → ℕ
-mini_stream_start f p = start (f + directory_count p + mini_fat_need p) (mini_stream_count p)
+mini_stream_start f p = start (f + p.directory_count + p.mini_fat_count) p.mini_stream_count
+
+-- the first sector behind it
+abbrev pub longs_start : ℕ → Parts → ℕ
+longs_start f p = f + p.directory_count + p.mini_fat_count + p.mini_stream_count

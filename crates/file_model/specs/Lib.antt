@@ -1,3 +1,4 @@
+pub mod Limits
 pub mod Denotes
 pub mod Need
 pub mod Refusals

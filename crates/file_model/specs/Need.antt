@@ -1,6 +1,7 @@
 -- The room that a tree needs in a compound file (MS-CFB 2.3 to 2.6).
 use Rattle.std.specs.Prelude.{◌≤◌, ◌+◌, ◌-◌, ◌*◌, ◌/◌, ℕ, List, length, if◌then◌else◌, nat_lt}
 use Rattle.storage_tree.specs.Tree.{Tree, Children, tree, none, stream, storage}
+use Rattle.file_model.specs.Limits.{CUTOFF}
 
 -- so many pieces of a width as hold so many bytes
 abbrev pub pieces : ℕ → ℕ → ℕ
@@ -28,10 +29,10 @@ abbrev mutual
 
 -- a stream of 4,096 bytes or more lies in sectors, a shorter one in mini sectors
 abbrev pub short_pieces : List ℕ → ℕ
-short_pieces b = if nat_lt (length b) 4096 then pieces 64 (length b) else 0
+short_pieces b = if nat_lt (length b) CUTOFF then pieces 64 (length b) else 0
 
 abbrev pub long_pieces : List ℕ → ℕ
-long_pieces b = if nat_lt (length b) 4096 then 0 else pieces 512 (length b)
+long_pieces b = if nat_lt (length b) CUTOFF then 0 else pieces 512 (length b)
 
 abbrev pub mini_sectors : Tree → ℕ
 mini_sectors t = over_streams short_pieces t
@@ -47,6 +48,10 @@ mini_stream_sectors t = pieces 512 (64 * mini_sectors t)
 
 abbrev pub long_sectors : Tree → ℕ
 long_sectors t = over_streams long_pieces t
+
+-- the same sums for so many entries below the root, mini sectors and sectors of long streams
+abbrev pub needed : ℕ → ℕ → ℕ → ℕ
+needed entries minis longs = pieces 4 (1 + entries) + pieces 128 minis + pieces 512 (64 * minis) + longs
 
 -- all sectors but those of the FAT
 abbrev pub data_sectors : Tree → ℕ

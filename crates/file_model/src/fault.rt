@@ -9,9 +9,6 @@ pub enum WriteFault {
     /// The tree needs more room than a file has.
     #[error("the tree is too big for a file")]
     TooBig,
-    /// The tree has a storage, which isn't written yet.
-    #[error("the tree has a storage")]
-    WrongKind,
     /// No memory was left.
     #[error("no memory is left")]
     NoMemory,
@@ -27,7 +24,6 @@ impl WriteFault {
     {
         match self {
             WriteFault::TooBig => "TooBig",
-            WriteFault::WrongKind => "WrongKind",
             WriteFault::NoMemory => "NoMemory",
         }
     }

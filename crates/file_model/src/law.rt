@@ -23,7 +23,7 @@ pub fn placed_denotes()
     ensures { PlacedDenotes }
 {}
 
-/// A file laid out of the parts of a tree without long streams, with as many FAT sectors as cover it, denotes the tree.
+/// A file laid out of the parts of a tree, with as many FAT sectors as cover it, denotes the tree.
 pub fn image_denotes()
     ensures { ImageDenotes }
 {}

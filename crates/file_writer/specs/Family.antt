@@ -1,14 +1,13 @@
 -- The entries of siblings as the writer keeps them.
-use Rattle.std.specs.Prelude.{◌≡◌, ◌<◌, ◌≤◌, ◌^◌, ◌+◌, ◌++◌, ℕ, List, length}
+use Rattle.std.specs.Prelude.{◌≡◌, ◌<◌, ◌^◌, ◌+◌, ◌++◌, ℕ, List, length}
 use Rattle.cfb_directory.specs.SearchTree.{IsSearchTree}
 use Rattle.cfb_directory.specs.Written.{entry_bytes}
-use Rattle.storage_tree.specs.Tree.{Tree, Children}
+use Rattle.storage_tree.specs.Tree.{Children}
 use Rattle.storage_tree.specs.Change.{Seen, bytes, inner}
-use Rattle.file_model.specs.Need.{entries, mini_sectors, entries_of, over_streams_of, short_pieces, long_pieces}
+use Rattle.file_model.specs.Need.{entries_of, over_streams_of, short_pieces, long_pieces}
 use Rattle.file_writer.specs.Streams.{minis_with, sectors_with}
 use Rattle.file_model.specs.Directory.{IsSpelled, ids_from, entries_with, stream_says, storage_says, entries_below, each_entry, balanced}
 use Rattle.file_writer.specs.declared.entries.Family.{Family}
-use Rattle.file_writer.specs.declared.entries.Counts.{Counts}
 use Rattle.file_writer.specs.declared.entries.Cursor.{Cursor}
 
 -- links of as many siblings as there are
@@ -44,17 +43,6 @@ child_entries ids place at name (inner t) = entry_bytes name (storage_says balan
 -- the entries of siblings
 abbrev pub sibling_entries : List ℕ → ℕ → Cursor → Children → List ℕ
 sibling_entries ids place at cs = each_entry balanced ids place at.id at.mini at.sector cs
-
--- small counts, and those of a tree
-pub record AreSmall (counts : Counts) : Type 0 where
-  pub few_sectors : counts.fat ≤ 109
-  pub few_entries : counts.entries < 1048575
-  pub few_minis : counts.minis < 1048576
-
-pub record AreCounts (counts : Counts) (t : Tree) : Type 0 where
-  pub small : AreSmall counts
-  pub counted : counts.entries ≡ entries t
-  pub minis_counted : counts.minis ≡ mini_sectors t
 
 -- a child whose class ids have 16 bytes and whose numbers have four
 abbrev pub IsChildSpelled : Seen → Type 0

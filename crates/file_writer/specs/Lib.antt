@@ -1,3 +1,3 @@
 pub mod Streams
 pub mod Family
-pub mod View
+pub mod Counted

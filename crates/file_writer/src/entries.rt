@@ -6,27 +6,28 @@ ghost use Rattle.std.specs.List.{concat};
 ghost use Rattle.std.specs.Vec.{vec_len};
 ghost use Rattle.storage_tree.specs.View.{seen, view};
 ghost use Rattle.file_model.specs.Need.{entries, long_sectors};
-ghost use Rattle.file_writer.specs.Family.{AreCounts, IsBelow, IsChildSpelled, IsFamily, IsJoined, child_entries, past, past_all, sibling_entries};
+ghost use Rattle.file_model.specs.declared.limit.TheConstants.{MANY};
+ghost use Rattle.file_writer.specs.Counted.{AreCounts};
+ghost use Rattle.file_writer.specs.Family.{IsBelow, IsChildSpelled, IsFamily, IsJoined, child_entries, past, past_all, sibling_entries};
 ghost use Rattle.storage_tree.specs.Change.{bytes as seen_bytes};
 ghost use Rattle.file_model.specs.Image.{start};
 ghost use Rattle.file_model.specs.Directory.{AreSpelled, IsSpelled, balanced as balanced_links, children_in, entries_with, first_of_stream, directory_of_tree, ids_from, long_start, root_says, storage_says, stream_says};
 
+use crate::streams::{is_short, mini_count, sector_count};
 use cfb_chain::fat::END_OF_CHAIN;
 use cfb_directory::entries::{EntryKind, NO_STREAM};
 use cfb_directory::links::{Links, balanced};
 use cfb_directory::name::Name;
 use cfb_directory::write::{EntryFields, write_entry, write_free_entry};
+use file_model::limit::MANY;
 use std::alloc::{AllocError, Global};
 use storage_tree::bytes::Bytes;
 use storage_tree::storage::{Node, Storage};
 
-/// More entries than any file that is written has.
-const MANY: u32 = 0x10_0000;
-
 /// How many entries a storage has below its own, or the bound where it has more.
 #[cycle(count_entries)]
 pub(crate) fn count_below(storage: &Storage) -> u32
-    ensures { result ≡ min 1048576 (entries (view storage.now)) }
+    ensures { result ≡ min MANY (entries (view storage.now)) }
 {
     let mut count: u32 = 0;
     for (_, child) in storage.children.iter() {
@@ -38,7 +39,7 @@ pub(crate) fn count_below(storage: &Storage) -> u32
 /// How many entries a child has with its own, or the bound where it has more.
 #[cycle(count_entries)]
 fn count_with(child: &Node) -> u32
-    ensures { result ≡ min 1048576 (entries_with (seen child.now)) }
+    ensures { result ≡ min MANY (entries_with (seen child.now)) }
 {
     match child {
         Node::Stream(_) => 1,
@@ -48,9 +49,9 @@ fn count_with(child: &Node) -> u32
 
 /// The ids of a storage's children, of which the first has this one.
 fn child_ids(alloc: Global, storage: &Storage, first: u32) -> Result<Vec<u32>, AllocError>
-    requires { first + entries (view storage.now) < 1048576 }
+    requires { first + entries (view storage.now) < MANY }
     ensures listed { IfOk result (λ ids. ids.items ≡ ids_from first (children_in (view storage.now))) }
-    ensures few { IfOk result (λ ids. vec_len ids < 1048576) }
+    ensures few { IfOk result (λ ids. vec_len ids < MANY) }
 {
     let mut ids = Vec::new(alloc);
     let mut id = first;
@@ -70,7 +71,7 @@ struct Family {
 
 /// The children of a storage, of which the first has this id.
 fn family_of(alloc: Global, storage: &Storage, first: u32) -> Result<Family, AllocError>
-    requires { first + entries (view storage.now) < 1048576 }
+    requires { first + entries (view storage.now) < MANY }
     ensures { IfOk result (λ family. IsFamily family first (children_in (view storage.now))) }
 {
     let ids = child_ids(alloc, storage, first)?;
@@ -138,14 +139,15 @@ pub(crate) fn chain_start(at: u32, count: u32) -> u32
     if count == 0 { END_OF_CHAIN } else { at }
 }
 
-/// Where a stream of so many bytes starts.
-fn stream_start(at: Cursor, len: u32) -> u32
-    ensures { result ≡ first_of_stream at.mini at.sector len }
+/// Where a stream starts.
+fn stream_start(at: Cursor, bytes: &Bytes) -> u32
+    requires { length bytes.now < 2 ^ 32 }
+    ensures { result ≡ first_of_stream at.mini at.sector (length bytes.now) }
 {
-    if len < 4096 {
-        chain_start(at.mini, len.div_ceil(64))
+    if is_short(bytes) {
+        chain_start(at.mini, mini_count(bytes) as u32)
     } else {
-        chain_start(at.sector, len.div_ceil(512))
+        chain_start(at.sector, sector_count(bytes) as u32)
     }
 }
 
@@ -163,7 +165,7 @@ fn stream_entry(family: &Family, place: usize, at: Cursor, bytes: &Bytes) -> Ent
         child: NO_STREAM,
         class: [0; 16],
         state: 0,
-        first: stream_start(at, bytes.len() as u32),
+        first: stream_start(at, bytes),
         size: bytes.len() as u32,
     }
 }
@@ -209,21 +211,20 @@ fn storage_entry(family: &Family, place: usize, storage: &Storage, children: &Fa
 impl Cursor {
     /// Behind a stream.
     fn past(self, bytes: &Bytes) -> Cursor
-        requires { IsBelow (past self (seen_bytes bytes.now)) 1048576 }
+        requires { IsBelow (past self (seen_bytes bytes.now)) MANY }
         ensures { result ≡ past self (seen_bytes bytes.now) }
     {
-        let len = bytes.len();
-        if len < 4096 {
+        if is_short(bytes) {
             Cursor {
                 id: self.id + 1,
-                mini: self.mini + len.div_ceil(64) as u32,
+                mini: self.mini + mini_count(bytes) as u32,
                 sector: self.sector,
             }
         } else {
             Cursor {
                 id: self.id + 1,
                 mini: self.mini,
-                sector: self.sector + len.div_ceil(512) as u32,
+                sector: self.sector + sector_count(bytes) as u32,
             }
         }
     }
@@ -239,7 +240,7 @@ fn push_below(
     at: Cursor,
 ) -> Result<Cursor, AllocError>
     requires family { IsFamily family.now at.id (children_in (view storage.now)) }
-    requires few { IsBelow (past_all at (children_in (view storage.now))) 1048576 }
+    requires few { IsBelow (past_all at (children_in (view storage.now))) MANY }
     ensures pushed { OnOk result (out.new.items ≡ out.old.items ++ sibling_entries family.now.ids.items 0 at (children_in (view storage.now))) }
     ensures next { IfOk result (λ next. next ≡ past_all at (children_in (view storage.now))) }
     ensures spelled { OnOk result (AreSpelled (children_in (view storage.now))) }
@@ -265,7 +266,7 @@ fn push_child(
 ) -> Result<Cursor, AllocError>
     requires joined { IsJoined family.now }
     requires there { place < length family.now.ids.items }
-    requires few { IsBelow (past at (seen child.now.1)) 1048576 }
+    requires few { IsBelow (past at (seen child.now.1)) MANY }
     ensures pushed { OnOk result (out.new.items ≡ out.old.items ++ child_entries family.now.ids.items place at child.now.0 (seen child.now.1)) }
     ensures next { IfOk result (λ next. next ≡ past at (seen child.now.1)) }
     ensures spelled { OnOk result (IsChildSpelled (seen child.now.1)) }
@@ -290,49 +291,75 @@ fn push_child(
     }
 }
 
-/// What the counts of a tree say of its file: how many FAT sectors, entries below the root and mini sectors it has.
+/// What the counts of a tree say of its file: how many FAT sectors, entries below the root, mini sectors and sectors of
+/// long streams it has.
 #[derive(Debug, Clone, Copy, PartialEq, Eq)]
 pub(crate) struct Counts {
     pub(crate) fat: u32,
     pub(crate) entries: u32,
     pub(crate) minis: u32,
+    pub(crate) longs: u32,
 }
 
 impl Counts {
     ghost use Rattle.std.specs.Prelude.{◌≡◌, ◌≤◌, ◌*◌, ◌+◌};
-    ghost use Rattle.file_model.specs.Need.{pieces};
+    ghost use Rattle.file_model.specs.Need.{needed, pieces};
+    ghost use Rattle.file_model.specs.declared.limit.TheConstants.{MANY};
 
     /// The sectors of the directory.
-    fn directory_sectors(self) -> u32
-        requires { self.entries ≤ 1048576 }
+    pub(crate) fn directory_sectors(self) -> u32
+        requires { self.entries ≤ MANY }
         ensures { result ≡ pieces 4 (1 + self.entries) }
     {
         (1 + self.entries).div_ceil(4)
     }
 
     /// The sectors of the mini FAT.
-    fn mini_fat_sectors(self) -> u32
-        requires { self.minis ≤ 1048576 }
+    pub(crate) fn mini_fat_sectors(self) -> u32
+        requires { self.minis ≤ MANY }
         ensures { result ≡ pieces 128 self.minis }
     {
         self.minis.div_ceil(128)
     }
 
     /// The sectors of the mini stream.
-    fn mini_stream_sectors(self) -> u32
-        requires { self.minis ≤ 1048576 }
+    pub(crate) fn mini_stream_sectors(self) -> u32
+        requires { self.minis ≤ MANY }
         ensures { result ≡ pieces 512 (64 * self.minis) }
     {
         (64 * self.minis).div_ceil(512)
     }
 
-    /// The sectors of all of these.
+    /// All sectors but those of the FAT.
     pub(crate) fn data_sectors(self) -> u32
-        requires few_entries { self.entries ≤ 1048576 }
-        requires few_minis { self.minis ≤ 1048576 }
-        ensures { result ≡ pieces 4 (1 + self.entries) + pieces 128 self.minis + pieces 512 (64 * self.minis) }
+        requires few_entries { self.entries ≤ MANY }
+        requires few_minis { self.minis ≤ MANY }
+        requires few_sectors { self.longs ≤ MANY }
+        ensures { result ≡ needed self.entries self.minis self.longs }
     {
-        self.directory_sectors() + self.mini_fat_sectors() + self.mini_stream_sectors()
+        let tables = self.directory_sectors() + self.mini_fat_sectors();
+        tables + self.mini_stream_sectors() + self.longs
+    }
+
+    /// All sectors.
+    pub(crate) fn sectors(self) -> u32
+        requires few_fat { self.fat ≤ MANY }
+        requires few_entries { self.entries ≤ MANY }
+        requires few_minis { self.minis ≤ MANY }
+        requires few_sectors { self.longs ≤ MANY }
+        ensures { result ≡ self.fat + needed self.entries self.minis self.longs }
+    {
+        self.fat + self.data_sectors()
+    }
+
+    /// The bytes of the file: its header and all sectors.
+    pub(crate) fn file_len(self) -> usize
+        requires few_fat { self.fat ≤ MANY }
+        requires few_entries { self.entries ≤ MANY }
+        requires few_minis { self.minis ≤ MANY }
+        requires few_sectors { self.longs ≤ MANY }
+    {
+        512 * (1 + self.sectors() as usize)
     }
 }
 
@@ -378,7 +405,7 @@ pub(crate) fn push_directory(
     counts: Counts,
 ) -> Result<(), AllocError>
     requires counts { AreCounts counts (view root.now) }
-    requires few { long_start counts.fat (view root.now) + long_sectors (view root.now) < 1048576 }
+    requires few { long_start counts.fat (view root.now) + long_sectors (view root.now) < MANY }
     ensures pushed { OnOk result (out.new.items ≡ out.old.items ++ directory_of_tree balanced_links counts.fat (view root.now)) }
     ensures spelled { OnOk result (IsSpelled (view root.now)) }
 {

@@ -1,18 +1,38 @@
 //! The streams of a tree, as they are written (MS-CFB 2.4, 2.5).
 
-ghost use Rattle.std.specs.Prelude.{◌≡◌, ◌++◌, ◌<◌, OnOk, min, replicate};
+ghost use Rattle.std.specs.Prelude.{◌≡◌, ◌++◌, ◌<◌, OnOk, length, min, nat_lt, replicate};
 ghost use Rattle.storage_tree.specs.View.{seen, view};
-ghost use Rattle.file_model.specs.Image.{padded};
-ghost use Rattle.file_model.specs.Need.{long_sectors, mini_sectors};
-ghost use Rattle.file_model.specs.Directory.{long_streams, pieces_of, short_streams, whole_pieces};
+ghost use Rattle.file_model.specs.Directory.{long_streams, short_streams};
+ghost use Rattle.file_model.specs.Image.{padded, pieces_of, whole_pieces};
+ghost use Rattle.file_model.specs.Need.{long_sectors, mini_sectors, pieces};
+ghost use Rattle.file_model.specs.declared.limit.TheConstants.{CUTOFF, MANY};
 ghost use Rattle.file_writer.specs.Streams.{long_within, minis_with, sectors_with, short_within};
 
+use file_model::limit::{CUTOFF, MANY};
 use std::alloc::AllocError;
 use storage_tree::bytes::Bytes;
 use storage_tree::storage::{Node, Storage};
 
-/// More mini sectors, or sectors, than any file that is written has.
-const MANY: usize = 0x10_0000;
+/// Whether a stream lies in the mini stream.
+pub(crate) fn is_short(bytes: &Bytes) -> bool
+    ensures { result ≡ nat_lt (length bytes.now) CUTOFF }
+{
+    bytes.len() < CUTOFF
+}
+
+/// How many mini sectors the bytes of a stream take.
+pub(crate) fn mini_count(bytes: &Bytes) -> usize
+    ensures { result ≡ pieces 64 (length bytes.now) }
+{
+    bytes.len().div_ceil(64)
+}
+
+/// How many sectors the bytes of a stream take.
+pub(crate) fn sector_count(bytes: &Bytes) -> usize
+    ensures { result ≡ pieces 512 (length bytes.now) }
+{
+    bytes.len().div_ceil(512)
+}
 
 /// Adds zero bytes.
 fn push_zeros(out: &mut Vec<u8>, count: usize) -> Result<(), AllocError>
@@ -61,7 +81,7 @@ fn push_short_child(out: &mut Vec<u8>, child: &Node) -> Result<(), AllocError>
 {
     match child {
         Node::Stream(bytes) => {
-            if bytes.len() < 4096 {
+            if is_short(bytes) {
                 push_minis(out, bytes)?;
             }
         }
@@ -73,11 +93,11 @@ fn push_short_child(out: &mut Vec<u8>, child: &Node) -> Result<(), AllocError>
 /// Adds the streams below a storage that have 4,096 bytes or more, in the order of their entries, each in whole
 /// sectors.
 #[cycle(push_long)]
-fn push_long(out: &mut Vec<u8>, storage: &Storage) -> Result<(), AllocError>
+pub(crate) fn push_long(out: &mut Vec<u8>, storage: &Storage) -> Result<(), AllocError>
     ensures { OnOk result (out.new.items ≡ out.old.items ++ whole_pieces 512 (long_streams (view storage.now))) }
 {
-    for (_, child) in storage.children.iter() {
-        push_long_child(out, &child.1)?;
+    for (_, node) in storage.children.iter() {
+        push_long_child(out, &node.1)?;
     }
     Ok(())
 }
@@ -89,7 +109,7 @@ fn push_long_child(out: &mut Vec<u8>, child: &Node) -> Result<(), AllocError>
 {
     match child {
         Node::Stream(bytes) => {
-            if bytes.len() >= 4096 {
+            if !is_short(bytes) {
                 push_sectors(out, bytes)?;
             }
         }
@@ -101,11 +121,11 @@ fn push_long_child(out: &mut Vec<u8>, child: &Node) -> Result<(), AllocError>
 /// How many mini sectors the streams below a storage take, or the bound where they take more.
 #[cycle(count_minis)]
 pub(crate) fn count_minis(storage: &Storage) -> usize
-    ensures { result ≡ min 1048576 (mini_sectors (view storage.now)) }
+    ensures { result ≡ min MANY (mini_sectors (view storage.now)) }
 {
     let mut count: usize = 0;
     for (_, child) in storage.children.iter() {
-        count = (count + count_minis_with(&child.1)).min(MANY);
+        count = (count + count_minis_with(&child.1)).min(MANY as usize);
     }
     count
 }
@@ -113,12 +133,12 @@ pub(crate) fn count_minis(storage: &Storage) -> usize
 /// How many a child's take.
 #[cycle(count_minis)]
 fn count_minis_with(child: &Node) -> usize
-    ensures { result ≡ min 1048576 (minis_with (seen child.now)) }
+    ensures { result ≡ min MANY (minis_with (seen child.now)) }
 {
     match child {
         Node::Stream(bytes) => {
-            if bytes.len() < 4096 {
-                bytes.len().div_ceil(64)
+            if is_short(bytes) {
+                mini_count(bytes)
             } else {
                 0
             }
@@ -129,12 +149,12 @@ fn count_minis_with(child: &Node) -> usize
 
 /// How many sectors of their own the streams below a storage take, or the bound where they take more.
 #[cycle(count_sectors)]
-fn count_sectors(storage: &Storage) -> usize
-    ensures { result ≡ min 1048576 (long_sectors (view storage.now)) }
+pub(crate) fn count_sectors(storage: &Storage) -> usize
+    ensures { result ≡ min MANY (long_sectors (view storage.now)) }
 {
     let mut count: usize = 0;
     for (_, child) in storage.children.iter() {
-        count = (count + count_sectors_with(&child.1)).min(MANY);
+        count = (count + count_sectors_with(&child.1)).min(MANY as usize);
     }
     count
 }
@@ -142,14 +162,14 @@ fn count_sectors(storage: &Storage) -> usize
 /// How many a child's take.
 #[cycle(count_sectors)]
 fn count_sectors_with(child: &Node) -> usize
-    ensures { result ≡ min 1048576 (sectors_with (seen child.now)) }
+    ensures { result ≡ min MANY (sectors_with (seen child.now)) }
 {
     match child {
         Node::Stream(bytes) => {
-            if bytes.len() < 4096 {
+            if is_short(bytes) {
                 0
             } else {
-                bytes.len().div_ceil(512).min(MANY)
+                sector_count(bytes).min(MANY as usize)
             }
         }
         Node::Storage(inner) => count_sectors(inner),
@@ -172,7 +192,7 @@ pub(crate) fn push_mini_stream(out: &mut Vec<u8>, root: &Storage) -> Result<(), 
 /// Adds how many mini sectors each stream below a storage takes that is shorter than 4,096 bytes, in the order of their
 /// entries.
 #[cycle(push_mini_counts)]
-pub(crate) fn push_mini_counts(counts: &mut Vec<u32>, storage: &Storage) -> Result<(), AllocError>
+pub(crate) fn push_mini_counts(counts: &mut Vec<usize>, storage: &Storage) -> Result<(), AllocError>
     ensures { OnOk result (counts.new.items ≡ counts.old.items ++ pieces_of 64 (short_streams (view storage.now))) }
 {
     for (_, child) in storage.children.iter() {
@@ -183,16 +203,46 @@ pub(crate) fn push_mini_counts(counts: &mut Vec<u32>, storage: &Storage) -> Resu
 
 /// Adds a child's.
 #[cycle(push_mini_counts)]
-fn push_mini_counts_with(counts: &mut Vec<u32>, child: &Node) -> Result<(), AllocError>
+fn push_mini_counts_with(counts: &mut Vec<usize>, child: &Node) -> Result<(), AllocError>
     ensures { OnOk result (counts.new.items ≡ counts.old.items ++ pieces_of 64 (short_within (seen child.now))) }
 {
     match child {
         Node::Stream(bytes) => {
-            if bytes.len() < 4096 {
-                counts.push(bytes.len().div_ceil(64) as u32)?;
+            if is_short(bytes) {
+                counts.push(mini_count(bytes))?;
             }
         }
         Node::Storage(inner) => push_mini_counts(counts, inner)?,
+    }
+    Ok(())
+}
+
+/// Adds how many sectors each stream below a storage takes that has 4,096 bytes or more, in the order of their entries.
+#[cycle(push_sector_counts)]
+pub(crate) fn push_sector_counts(
+    counts: &mut Vec<usize>,
+    storage: &Storage,
+) -> Result<(), AllocError>
+    ensures { OnOk result (counts.new.items ≡ counts.old.items ++ pieces_of 512 (long_streams (view storage.now))) }
+{
+    for (_, child) in storage.children.iter() {
+        push_sector_counts_with(counts, &child.1)?;
+    }
+    Ok(())
+}
+
+/// Adds a child's.
+#[cycle(push_sector_counts)]
+fn push_sector_counts_with(counts: &mut Vec<usize>, child: &Node) -> Result<(), AllocError>
+    ensures { OnOk result (counts.new.items ≡ counts.old.items ++ pieces_of 512 (long_within (seen child.now))) }
+{
+    match child {
+        Node::Stream(bytes) => {
+            if !is_short(bytes) {
+                counts.push(sector_count(bytes))?;
+            }
+        }
+        Node::Storage(inner) => push_sector_counts(counts, inner)?,
     }
     Ok(())
 }

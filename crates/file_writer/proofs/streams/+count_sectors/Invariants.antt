@@ -1,10 +1,11 @@
 use Rattle.std.proofs.Common.{◌≡◌, ◌+◌, ◌≤◌, min}
 use Rattle.storage_tree.specs.View.{children}
+use Rattle.file_model.specs.Limits.{MANY}
 use Rattle.file_model.specs.Need.{over_streams_of, long_pieces}
 use Rattle.file_writer.proofs.streams.+count_sectors.Given as goal
 
 abbrev pub invariant-count_sectors-loop-child : goal.invariant-count_sectors-loop-child
 invariant-count_sectors-loop-child l = record {
-  few : l.count ≤ 1048576;
-  counted : min 1048576 (l.count + over_streams_of long_pieces (children l.child-iterator)) ≡ min 1048576 (over_streams_of long_pieces (children l.storage.children.entries));
+  few : l.count ≤ MANY;
+  counted : min MANY (l.count + over_streams_of long_pieces (children l.child-iterator)) ≡ min MANY (over_streams_of long_pieces (children l.storage.children.entries));
 }

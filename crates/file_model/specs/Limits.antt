@@ -1,0 +1,18 @@
+-- The numbers that bound a compound file (MS-CFB 2.2).
+use Rattle.std.specs.Prelude.{ℕ, ◌+◌, ◌*◌}
+
+-- a stream of fewer bytes lies in the mini stream
+abbrev pub CUTOFF : ℕ
+CUTOFF = 4096
+
+-- the most sectors that the FAT of a file has, which are as many as the header can name
+abbrev pub MOST_FAT_SECTORS : ℕ
+MOST_FAT_SECTORS = 109
+
+-- more entries, mini sectors or sectors than any file has whose FAT is within the limit
+abbrev pub MANY : ℕ
+MANY = 1024 * MOST_FAT_SECTORS
+
+-- the most bytes of such a file: its header, and a sector for each entry of its FAT
+abbrev pub MOST_BYTES : ℕ
+MOST_BYTES = 512 * (1 + 128 * MOST_FAT_SECTORS)
