@@ -1,6 +1,6 @@
 //! Commits that are done.
 
-ghost use Rattle.std.specs.Prelude.{◌≡◌, All, IfOk, length, map, vec_len};
+ghost use Rattle.std.specs.Prelude.{◌≡◌, ◌≤◌, All, IfOk, length, map, vec_len};
 ghost use Rattle.container_links.specs.Asking.{HasNumber, prepared};
 ghost use Rattle.container_model.specs.Saves.{committed_frame, completed, completion, counted_object, done_entry, is_committing, part_of, parts_in};
 ghost use Rattle.container_model.specs.declared.record.Frame as declared;
@@ -89,7 +89,8 @@ fn entry(alloc: Global, k: u32, object: &Object) -> Result<Done, AllocError>
 
 /// What is counted of the objects of a frame, in order.
 fn entries(alloc: Global, f: u32, k: u32, objects: &[Object]) -> Result<Vec<Done>, AllocError>
-    ensures { IfOk result (λ v. v.items ≡ map (done_entry k) (parts_in f objects.now)) }
+    ensures counted { IfOk result (λ v. v.items ≡ map (done_entry k) (parts_in f objects.now)) }
+    ensures few { IfOk result (λ v. vec_len v ≤ length objects.now) }
 {
     let mut done = Vec::new(alloc);
     for object in objects {
@@ -144,6 +145,7 @@ impl ContainerCore {
     pub fn commit_done(&mut self, alloc: Global, f: u32) -> Result<Committed, ContainerFault>
         ensures taken { IfOk result (λ a. commit_done self.old f ≡ Ok (record { rec = self.new; answer = a.answer; counted = a.counted })) }
         ensures few { IfOk result (λ a. length a.answer.actions ≤ length self.old.objects + length self.old.frames + 1) }
+        ensures counted_few { IfOk result (λ a. length a.counted ≤ length self.old.objects) }
         ensures refused { IfErr result (Refuses (commit_done self.old f)) }
         ensures kept { OnErr result (self.new ≡ self.old) }
     {

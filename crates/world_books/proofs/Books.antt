@@ -6,7 +6,7 @@ use Rattle.container_model.specs.Saves.{parts_in, part_of, committed_frame}
 use Rattle.container_model.specs.declared.record.Frame.{Frame}
 use Rattle.container_model.specs.declared.record.Object.{Object}
 use Rattle.container_model.specs.declared.record.Phase.TheVariants.{Idle}
-use Rattle.world_model.specs.declared.logs.Done.{Done}
+use Rattle.container_model.specs.declared.answer.Done.{Done}
 use Rattle.world_model.specs.World.{done_entry}
 use Rattle.world_model.specs.Safe.{Among, IsAnother, CountedOnce}
 use Rattle.world_books.specs.Keeping.{Id, id_of, IsBelow, Distinct, Book, AreSameFrames}

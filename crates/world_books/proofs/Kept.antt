@@ -221,7 +221,7 @@ keeps_done_taken w f bytes frame parts (Ok t) v k at im cd den e =
     let ps : parts_in f r.objects ≡ parts = image_is_at r f frame parts (ap (image_at r f) (sym at) ∙ im) in
     let ids : map id_of (map (completed f frame) r.objects) ≡ map id_of r.objects = map_map_same id_of (completed f frame) r.objects (id_completed f frame) in
     let den2 : ∥ Denotes bytes (document_tree (parts_in f r.objects)) ∥₁ = subst (λ x. ∥ Denotes bytes (document_tree x) ∥₁) (sym ps) den in
-    let after : World = joined (kept_commit w f frame (parts_in f r.objects) bytes) (commit_made r f frame) in
+    let after : World = joined (kept_commit w f frame (parts_in f r.objects) (commit_made r f frame).counted bytes) (commit_made r f frame) in
     let keeps : Keeps after = record {
       book = subst (λ x. Book (set_nth r.frames f (committed_frame frame)) x r.last_object after.container_done) (sym ids)
           (book_committed r.frames f frame r.objects r.last_object w.container_done at (committing_not_idle frame.phase c.0) k.book);
@@ -230,8 +230,8 @@ keeps_done_taken w f bytes frame parts (Ok t) v k at im cd den e =
       commits = subst (λ cs. Counted cs after.container_done) (sym (append-nil _))
           (counted_committed w.counted r.frames f frame w.container_done (parts_in f r.objects) k.shelf.aligned at k.commits);
     } in
-    let one : Keeps (joined (kept_commit w f frame parts bytes) (commit_made r f frame)) = subst (λ x. Keeps (joined (kept_commit w f frame x bytes) (commit_made r f frame))) ps keeps in
-    let two : Keeps (joined (kept_commit w f frame parts bytes) t) = subst (λ x. Keeps (joined (kept_commit w f frame parts bytes) x)) c.1 one in
+    let one : Keeps (joined (kept_commit w f frame parts (commit_made r f frame).counted bytes) (commit_made r f frame)) = subst (λ x. Keeps (joined (kept_commit w f frame x (commit_made r f frame).counted bytes) (commit_made r f frame))) ps keeps in
+    let two : Keeps (joined (kept_commit w f frame parts t.counted bytes) t) = subst (λ x. Keeps (joined (kept_commit w f frame parts x.counted bytes) x)) c.1 one in
     subst Keeps (ok_is _ v e) two
 
 keeps_imaged : (w : World) (f : ℕ) (bytes : List ℕ) (frame : Frame) (told : Result (List Part) ContainerFault) (v : World) → Keeps w → nth w.rec.frames f ≡ Some frame → image w.rec f ≡ told

@@ -7,7 +7,7 @@ use Rattle.container_model.specs.Saves.{document_tree, committed_frame, name_aft
 use Rattle.container_model.specs.Commands.{is_named, is_name, new_frame}
 use Rattle.container_model.specs.declared.answer.Part.{Part}
 use Rattle.container_model.specs.declared.record.Frame.{Frame}
-use Rattle.world_model.specs.declared.logs.Done.{Done}
+use Rattle.container_model.specs.declared.answer.Done.{Done}
 use Rattle.world_model.specs.declared.logs.Document.{Document}
 use Rattle.world_model.specs.declared.logs.File.{File}
 use Rattle.world_model.specs.World.{done_entry, is_file, put_file}

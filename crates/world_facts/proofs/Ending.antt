@@ -4,7 +4,7 @@ use Rattle.wire_msgs.specs.declared.message.Message.{Message}
 use Rattle.server_model.specs.Server.{Activation}
 use Rattle.container_model.specs.declared.record.Link.{Link}
 use Rattle.world_model.specs.declared.life.Life.TheVariants.{Running}
-use Rattle.world_model.specs.declared.logs.Done.{Done}
+use Rattle.container_model.specs.declared.answer.Done.{Done}
 use Rattle.world_model.specs.declared.logs.ServerDone.{ServerDone}
 use Rattle.world_facts.specs.Words.{Links, Acts, Lives, IsLinked, IsClosed, called, waits}
 use Rattle.world_facts.specs.Facts.{Facts}

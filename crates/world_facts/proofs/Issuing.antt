@@ -6,7 +6,7 @@ use Rattle.wire_msgs.specs.declared.message.Message.TheVariants.{Call}
 use Rattle.wire_msgs.specs.declared.operation.Operation.TheVariants.{SaveCompleted}
 use Rattle.container_model.specs.declared.record.Link.{Link}
 use Rattle.server_model.specs.declared.counted.Counted.{Counted}
-use Rattle.world_model.specs.declared.logs.Done.{Done}
+use Rattle.container_model.specs.declared.answer.Done.{Done}
 use Rattle.world_model.specs.declared.logs.ServerDone.{ServerDone}
 use Rattle.world_model.specs.Safe.{Among, IsOther, ServedOnce}
 use Rattle.world_facts.specs.Words.{Links, Acts, IsLinked, Issued}

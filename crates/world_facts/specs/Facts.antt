@@ -18,7 +18,7 @@ use Rattle.container_model.specs.Messages.{next_s}
 use Rattle.container_model.specs.declared.record.Link.{Link}
 use Rattle.world_model.specs.declared.life.Life.{Life}
 use Rattle.world_model.specs.declared.life.Life.TheVariants.{Running}
-use Rattle.world_model.specs.declared.logs.Done.{Done}
+use Rattle.container_model.specs.declared.answer.Done.{Done}
 use Rattle.world_model.specs.declared.logs.ServerDone.{ServerDone}
 use Rattle.world_model.specs.Safe.{Among, ServedOnce}
 use Rattle.world_facts.specs.Words.{Links, Acts, Lives, IsHonest, Issued, IsLinked, IsOpen, IsClosed}

@@ -7,7 +7,7 @@ use Rattle.wire_msgs.specs.declared.answer.Answer.{Answer}
 use Rattle.server_model.specs.Server.{Activation}
 use Rattle.server_model.specs.declared.counted.Counted.{Counted}
 use Rattle.world_model.specs.declared.life.Life.TheVariants.{Running}
-use Rattle.world_model.specs.declared.logs.Done.{Done}
+use Rattle.container_model.specs.declared.answer.Done.{Done}
 use Rattle.world_model.specs.declared.logs.ServerDone.{ServerDone}
 use Rattle.world_model.specs.Safe.{Among}
 use Rattle.world_facts.specs.Words.{Links, Acts, Lives, IsHonest}

@@ -16,7 +16,7 @@ use Rattle.container_model.specs.Commands.{begun_link}
 use Rattle.container_model.specs.declared.record.Link.{Link}
 use Rattle.world_model.specs.declared.life.Life.{Life}
 use Rattle.world_model.specs.declared.life.Life.TheVariants.{Running}
-use Rattle.world_model.specs.declared.logs.Done.{Done}
+use Rattle.container_model.specs.declared.answer.Done.{Done}
 use Rattle.world_model.specs.declared.logs.ServerDone.{ServerDone}
 use Rattle.world_model.specs.World.{nth_or_zero}
 use Rattle.world_model.specs.Safe.{Among}

@@ -16,7 +16,7 @@ use Rattle.container_model.specs.Commands.{user_type}
 use Rattle.container_model.specs.declared.record.Frame.{Frame}
 use Rattle.container_model.specs.declared.record.Object.{Object}
 use Rattle.container_model.specs.declared.record.Link.{Link}
-use Rattle.world_model.specs.declared.logs.Done.{Done}
+use Rattle.container_model.specs.declared.answer.Done.{Done}
 use Rattle.world_model.specs.declared.logs.ServerDone.{ServerDone}
 use Rattle.world_model.specs.Texts.{line, hex, name_text, class_text}
 use Rattle.world_model.specs.World.{World}

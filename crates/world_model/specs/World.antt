@@ -14,6 +14,7 @@ use Rattle.server_model.specs.declared.fault.ServerFault.{ServerFault}
 use Rattle.container_model.specs.Record.{Record, Took, empty, is_doubtful}
 use Rattle.container_model.specs.Commands.{on_command}
 use Rattle.container_model.specs.Messages.{on_message, on_reap}
+pub use Rattle.container_model.specs.Saves.{done_entry}
 use Rattle.container_model.specs.Saves.{commit_done, image, document_tree, name_after}
 use Rattle.container_model.specs.declared.answer.Action.{Action}
 use Rattle.container_model.specs.declared.answer.Action.TheVariants.{Send, Start, End, Commit}
@@ -25,7 +26,7 @@ use Rattle.container_model.specs.declared.record.Frame.{Frame}
 use Rattle.container_model.specs.declared.fault.ContainerFault.{ContainerFault}
 use Rattle.world_model.specs.declared.logs.View.{View}
 use Rattle.world_model.specs.declared.logs.Sent.{Sent}
-use Rattle.world_model.specs.declared.logs.Done.{Done}
+use Rattle.container_model.specs.declared.answer.Done.{Done}
 use Rattle.world_model.specs.declared.logs.ServerDone.{ServerDone}
 use Rattle.world_model.specs.declared.logs.Document.{Document}
 use Rattle.world_model.specs.declared.logs.File.{File}
@@ -222,7 +223,7 @@ abbrev pub reap : World → ℕ → Option Instance → Result World Stop
 reap w inc None = Err NotEnabled
 reap w inc (Some i) = ended w inc i i.life
 
--- A commit that is done makes these bytes the file, counts each object's content and keeps the document.
+-- A commit that is done makes these bytes the file, and keeps the document and what the container counted.
 abbrev pub is_file : List ℕ → File → Bool
 is_file name file = bytes_eq file.name name
 
@@ -230,19 +231,16 @@ abbrev pub put_file : List ℕ → List ℕ → List File → List File
 put_file name bytes [] = record { name = name; bytes = bytes } ∷ []
 put_file name bytes (file ∷ files) = if is_file name file then record { name = name; bytes = bytes } ∷ files else file ∷ put_file name bytes files
 
-abbrev pub done_entry : ℕ → Part → Done
-done_entry k p = record { object = p.object; k = k; content = p.content }
-
-abbrev pub kept_commit : World → ℕ → Frame → List Part → List ℕ → World
-kept_commit w f frame parts bytes = record w {
+abbrev pub kept_commit : World → ℕ → Frame → List Part → List Done → List ℕ → World
+kept_commit w f frame parts done bytes = record w {
   files = put_file (name_after frame.name frame.asked) bytes w.files;
-  container_done = w.container_done ++ map (done_entry frame.k) parts;
+  container_done = w.container_done ++ done;
   counted = set_nth w.counted f (Some (record { k = frame.k; parts = parts }));
 }
 
 abbrev pub done_taken : World → ℕ → List ℕ → Frame → List Part → Result Took ContainerFault → Result World Stop
 done_taken w f bytes frame parts (Err fault) = Err NotEnabled
-done_taken w f bytes frame parts (Ok t) = Ok (joined (kept_commit w f frame parts bytes) t)
+done_taken w f bytes frame parts (Ok t) = Ok (joined (kept_commit w f frame parts t.counted bytes) t)
 
 abbrev pub done_imaged : World → ℕ → List ℕ → Frame → Result (List Part) ContainerFault → Result World Stop
 done_imaged w f bytes frame (Err fault) = Err NotEnabled

@@ -35,17 +35,6 @@ pub struct Sent {
     pub view: Option<View>,
 }
 
-/// A content that the container counted.
-#[derive(Drop)]
-pub struct Done {
-    /// The object.
-    pub object: u32,
-    /// The number of the save.
-    pub k: u32,
-    /// The content.
-    pub content: Stored,
-}
-
 /// A content that a server counted.
 #[derive(Drop)]
 pub struct ServerDone {

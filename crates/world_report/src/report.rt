@@ -17,7 +17,8 @@ use std::io;
 use std::io::Write;
 use storage_tree::class_id::ClassId;
 use storage_tree::streams::NamedStream;
-use world_model::logs::{Done, ServerDone};
+use container_model::answer::Done;
+use world_model::logs::ServerDone;
 
 /// Why a report isn't written.
 #[derive(Debug, Clone, Copy, PartialEq, Eq)]

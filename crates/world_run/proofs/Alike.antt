@@ -16,7 +16,7 @@ use Rattle.server_core.specs.declared.server.Activation as code
 use Rattle.container_model.specs.Record.{Record}
 use Rattle.world_run.specs.declared.instance.Instance as held
 use Rattle.world_model.specs.declared.logs.Sent.{Sent}
-use Rattle.world_model.specs.declared.logs.Done.{Done}
+use Rattle.container_model.specs.declared.answer.Done.{Done}
 use Rattle.world_model.specs.declared.logs.ServerDone.{ServerDone}
 use Rattle.world_model.specs.World.{Instance}
 use Rattle.world_run.specs.View.{seen_instance}

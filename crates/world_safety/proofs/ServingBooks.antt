@@ -11,7 +11,7 @@ use Rattle.server_model.specs.Server.{Activation}
 use Rattle.server_model.specs.declared.counted.Counted.{Counted}
 use Rattle.container_model.specs.declared.record.Link.{Link}
 use Rattle.world_model.specs.declared.life.Life.TheVariants.{Running}
-use Rattle.world_model.specs.declared.logs.Done.{Done}
+use Rattle.container_model.specs.declared.answer.Done.{Done}
 use Rattle.world_model.specs.declared.logs.ServerDone.{ServerDone}
 use Rattle.world_model.specs.World.{nth_or_zero}
 use Rattle.world_model.specs.Safe.{Among, IsOther, ServedOnce}

@@ -22,7 +22,7 @@ use Rattle.container_model.specs.Saves.{settle, settle_actions, kept, kept_by, k
 use Rattle.container_model.specs.Commands.{new, new_made, new_frame, insert, insert_at, insert_made, new_object, is_named, is_size, is_empty_area}
 use Rattle.container_model.specs.Messages.{reaped_object, reaped, on_reap}
 use Rattle.world_model.specs.declared.life.Life.TheVariants.{Running}
-use Rattle.world_model.specs.declared.logs.Done.{Done}
+use Rattle.container_model.specs.declared.answer.Done.{Done}
 use Rattle.world_model.specs.World.{started_by, done_entry}
 use Rattle.world_model.specs.Safe.{Among, links_of}
 use Rattle.world_books.specs.Keeping.{Id, id_of, Distinct}

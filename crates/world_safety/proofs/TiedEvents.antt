@@ -23,7 +23,7 @@ use Rattle.container_model.specs.declared.answer.Part.{Part}
 use Rattle.container_model.specs.declared.fault.ContainerFault.{ContainerFault}
 use Rattle.container_model.specs.declared.fault.ContainerFault.TheVariants.{Full, NumbersSpent, Stale, WrongLink}
 use Rattle.world_model.specs.declared.logs.Sent.{Sent}
-use Rattle.world_model.specs.declared.logs.Done.{Done}
+use Rattle.container_model.specs.declared.answer.Done.{Done}
 use Rattle.world_model.specs.declared.life.Life.{Life}
 use Rattle.world_model.specs.declared.life.Life.TheVariants.{Running, Ended, Reaped}
 use Rattle.world_model.specs.declared.event.Event.{Event}
@@ -259,9 +259,9 @@ tied_done_taken w f bytes frame parts (Ok t) v k h at im cd e =
     refl in
     let base : Ties made.rec (w.instances ++ started_by made.rec.numbers made.answer.actions) (w.sent ++ map of_container (messages_of made.answer.actions)) (w.owners ++ []) (w.container_done ++ new) w.server_done =
     moved_tied w h made [] mv (ap length e0 ∙ h.drawn.many) (omega arith) (w.container_done ++ new) bs in
-    let one : Tied (joined (kept_commit w f frame (parts_in f r.objects) bytes) made) = subst (λ o. Ties made.rec (w.instances ++ started_by made.rec.numbers made.answer.actions) (w.sent ++ map of_container (messages_of made.answer.actions)) o (w.container_done ++ new) w.server_done) e0 base in
-    let two : Tied (joined (kept_commit w f frame parts bytes) made) = subst (λ x. Tied (joined (kept_commit w f frame x bytes) made)) ps one in
-    let three : Tied (joined (kept_commit w f frame parts bytes) t) = subst (λ x. Tied (joined (kept_commit w f frame parts bytes) x)) c.1 two in
+    let one : Tied (joined (kept_commit w f frame (parts_in f r.objects) made.counted bytes) made) = subst (λ o. Ties made.rec (w.instances ++ started_by made.rec.numbers made.answer.actions) (w.sent ++ map of_container (messages_of made.answer.actions)) o (w.container_done ++ new) w.server_done) e0 base in
+    let two : Tied (joined (kept_commit w f frame parts made.counted bytes) made) = subst (λ x. Tied (joined (kept_commit w f frame x made.counted bytes) made)) ps one in
+    let three : Tied (joined (kept_commit w f frame parts t.counted bytes) t) = subst (λ x. Tied (joined (kept_commit w f frame parts x.counted bytes) x)) c.1 two in
     subst Tied (ok_is _ v e) three
 
 tied_imaged : (w : World) (f : ℕ) (bytes : List ℕ) (frame : Frame) (told : Result (List Part) ContainerFault) (v : World) → Keeps w → Tied w → nth w.rec.frames f ≡ Some frame → image w.rec f ≡ told → done_imaged w f bytes frame told ≡ Ok v → Tied v

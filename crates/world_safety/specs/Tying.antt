@@ -22,7 +22,7 @@ use Rattle.container_model.specs.declared.record.Phase.TheVariants.{Idle, Saving
 use Rattle.world_model.specs.declared.life.Life.{Life}
 use Rattle.world_model.specs.declared.life.Life.TheVariants.{Running}
 use Rattle.world_model.specs.declared.logs.Sent.{Sent}
-use Rattle.world_model.specs.declared.logs.Done.{Done}
+use Rattle.container_model.specs.declared.answer.Done.{Done}
 use Rattle.world_model.specs.declared.logs.ServerDone.{ServerDone}
 use Rattle.world_model.specs.World.{World, Instance}
 use Rattle.world_model.specs.Safe.{Among, links_of, acts_of, messages, ServedOnce}

@@ -46,4 +46,4 @@ returns-clause-taken c =
     (c.in_ok-place.ensures.told frame there).1
     ∙ ap (λ (x : Record). ok (commit_made x f frame)) (sym view)
     ∙ ap ok (took_is _ (commit_made r f frame) _ _ after (answer_is c.quiet-answer.result c.from_vec.result (sends (asked_all f (completion frame) r.objects)) c.quiet-answer.ensures (c.from_vec.ensures ∙ asking.sent))
-    (counted_is r f c.in_ok-place.place frame c.index-2.result.now c.as_slice-2.result.now c.in-Ok-entries.counted.items c.from_vec-2.result place c.index.ensures c.index-2.ensures c.as_slice-2.ensures.value c.in-Ok-entries.ensures c.from_vec-2.ensures))
+    (counted_is r f c.in_ok-place.place frame c.index-2.result.now c.as_slice-2.result.now c.in-Ok-entries.counted.items c.from_vec-2.result place c.index.ensures c.index-2.ensures c.as_slice-2.ensures.value c.in-Ok-entries.ensures.counted c.from_vec-2.ensures))
