@@ -9,8 +9,8 @@ use Rattle.container_model.specs.declared.answer.Done.{Done}
 use Rattle.world_model.specs.declared.logs.Document.{Document}
 use Rattle.world_model.specs.World.{document_in, done_entry}
 use Rattle.world_model.specs.Safe.{Commit, entries_of, committed, or_else, commit_of, last_commit}
-use Rattle.world_books.specs.Keeping.{Counts, Counted}
-use Rattle.world_books.proofs.Lookups.{nth_aligned}
+use Rattle.world_files.specs.Files.{CommitsCounted, HasCommits}
+use Rattle.world_facts.proofs.Lookups.{nth_aligned}
 
 -- a new frame, which has no counted commit
 none_more : (xs : List (Option Document)) (i : ℕ) → document_in (slice_get (xs ++ None ∷ []) i) ≡ document_in (slice_get xs i)
@@ -23,7 +23,7 @@ none_counted : (xs : List (Option Document)) (f : ℕ) → document_in (nth (xs 
 none_counted xs zero = refl
 none_counted xs (suc i) = none_more xs i
 
-pub counted_framed : (counted : List (Option Document)) (dones : List Done) → Counted counted dones → Counted (counted ++ None ∷ []) dones
+pub counted_framed : (counted : List (Option Document)) (dones : List Done) → HasCommits counted dones → HasCommits (counted ++ None ∷ []) dones
 counted_framed counted dones c = (let s = c.1 in (c.0, record { entries = s.entries; last = λ f. none_counted counted f ∙ s.last f }))
 
 -- one commit more
@@ -67,7 +67,7 @@ nth_elsewhere xs (suc i) zero a ne = refl
 nth_elsewhere xs (suc i) (suc j) a ne = set_elsewhere xs i j a (λ e. ne (ap suc e))
 
 pub counted_committed : (counted : List (Option Document)) (frames : List Frame) (f : ℕ) (frame : Frame) (dones : List Done) (parts : List Part) → length counted ≡ length frames → nth frames f ≡ Some frame
-    → Counted counted dones → Counted (set_nth counted f (Some (record { k = frame.k; parts = parts }))) (dones ++ map (done_entry frame.k) parts)
+    → HasCommits counted dones → HasCommits (set_nth counted f (Some (record { k = frame.k; parts = parts }))) (dones ++ map (done_entry frame.k) parts)
 counted_committed counted frames f frame dones parts many at h =
     let s = h.1 in
     let c : Commit = record { frame = f; k = frame.k; parts = parts } in

@@ -1,4 +1,4 @@
--- Steps of the container that leave its book and its files alone.
+-- Steps of the container that leave files and what was counted alone.
 use Rattle.std.proofs.Common.{◌≡◌, ◌||◌, ◌==◌, ℕ, ◌+◌, Bool, true, false, not, List, [], ◌++◌, length, map, Option, Some, None, is_some, Result, Ok, Err, refl, ap, ◌∙◌, subst, nat_le, nat_lt, if◌then◌else◌}
 use Rattle.std.proofs.lemmas.Bool.{eqb-true}
 use Rattle.wire_msgs.specs.Found.{find, put, nth}
@@ -17,9 +17,9 @@ use Rattle.container_model.specs.Record.{Record, Took, MOST_SERVERS, MARGIN, qui
 use Rattle.container_model.specs.Saves.{settle, settle_actions, settled_frames, kept}
 use Rattle.container_model.specs.Messages.{Replied, reply_link, reply_found, reply_taken, replied_object, replied_record, next_sent, on_reply, on_message, on_reap, reaped, reaped_object}
 use Rattle.container_model.specs.Commands.{unless, is_known_class, any_busy, all_have_numbers, start, start_made, run, run_at, run_in, run_made, edit, edit_at, edit_in, edit_linked, save, save_at, save_made, saving, saving_frame}
-use Rattle.world_books.specs.Keeping.{id_of, AreSameFrames}
-use Rattle.world_books.proofs.Lookups.{map_put, map_map_same, find_passes}
-use Rattle.world_books.proofs.Frames.{same_frames, same_frames_after, settled_same, saving_same, set_same}
+use Rattle.world_files.specs.Files.{id_of, AreSameFrames}
+use Rattle.world_facts.proofs.Lookups.{map_put, map_map_same, find_passes}
+use Rattle.world_files.proofs.Frames.{same_frames, same_frames_after, settled_same, saving_same, set_same}
 
 pub record IsQuiet (r : Record) (t : Took) : Type 0 where
   pub frames : AreSameFrames r.frames t.rec.frames

@@ -7,8 +7,8 @@ use Rattle.container_model.specs.declared.record.Frame.{Frame}
 use Rattle.container_model.specs.declared.record.Object.{Object}
 use Rattle.container_model.specs.declared.record.Phase.{Phase}
 use Rattle.container_model.specs.declared.record.Phase.TheVariants.{Idle, Saving, HandingOff, Committing, InDoubt}
-use Rattle.world_books.specs.Keeping.{IsSameFrame, AreSameFrames}
-use Rattle.world_books.proofs.Lookups.{length_set_nth, nth_set}
+use Rattle.world_files.specs.Files.{IsSameFrame, AreSameFrames}
+use Rattle.world_facts.proofs.Lookups.{length_set_nth, nth_set}
 
 pub same_frame : (frame : Frame) → IsSameFrame frame frame
 same_frame frame = record { name = refl; asked = refl; stored = refl; sure = λ h. h; below = λ n h. h }

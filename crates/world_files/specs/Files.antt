@@ -1,5 +1,5 @@
--- How a world keeps its files and its book: the facts that each event keeps. No reader has to believe them; what they are
--- for stands in Safe.
+-- The files of a world and the container's log of counted saves: the facts that each event keeps. No reader has to believe
+-- them; what they are for stands in Safe.
 use Rattle.std.specs.Prelude.{◌≡◌, ◌≢◌, ◌⊎◌, ◌≤◌, ◌<◌, ℕ, true, false, List, [], ◌∷◌, length, map, Option, Some, ⊤}
 use Rattle.std.specs.List.{flat_map}
 use Rattle.wire_msgs.specs.Found.{find, nth}
@@ -40,41 +40,45 @@ abbrev pub Distinct : List Id → Type 0
 Distinct [] = ⊤
 Distinct (x ∷ xs) = ((y : Id) → Among xs y → x.number ≢ y.number) × Distinct xs
 
--- the book: numbers that were drawn, each object's saves below its frame's
-pub record Book (frames : List Frame) (ids : List Id) (last_object : ℕ) (dones : List Done) : Type 0 where
+-- objects have numbers of their own, which were drawn, and their frames are there; what every container keeps
+pub record AreNumbered (frames : List Frame) (ids : List Id) (last_object : ℕ) : Type 0 where
   pub distinct : Distinct ids
   pub drawn : (x : Id) → Among ids x → x.number ≤ last_object
   pub placed : (x : Id) → Among ids x → (frame : Frame) × (nth frames x.frame ≡ Some frame)
+
+-- The container counted saves of objects whose numbers were drawn, each object's below the number of its frame's last one,
+-- and none twice.
+pub record CountedBounded (frames : List Frame) (ids : List Id) (last_object : ℕ) (dones : List Done) : Type 0 where
   pub counted : (d : Done) → Among dones d → d.object ≤ last_object
   pub below : (x : Id) (d : Done) (frame : Frame) → Among ids x → Among dones d → d.object ≡ x.number → nth frames x.frame ≡ Some frame → IsBelow frame d.k
-  pub once : CountedOnce dones
+  pub counted_once : CountedOnce dones
 
--- the file of a frame
+-- The file under a frame's name holds the document of its last counted commit, whose contents were counted with it.
 pub record IsFiled (files : List File) (frame : Frame) (document : Document) (dones : List Done) : Type 0 where
   pub sure : is_doubtful frame.phase ≡ false
   pub stored : frame.stored ≡ true
   pub file : File
   pub found : find (is_file frame.name) files ≡ Some file
   pub denotes : ∥ Denotes file.bytes (document_tree document.parts) ∥₁
-  pub counted : (p : Part) → Among document.parts p → Among dones (done_entry document.k p)
+  pub counted_with : (p : Part) → Among document.parts p → Among dones (done_entry document.k p)
 
-pub record Shelf (frames : List Frame) (files : List File) (counted : List (Option Document)) (dones : List Done) : Type 0 where
+pub record FilesCounted (frames : List Frame) (files : List File) (counted : List (Option Document)) (dones : List Done) : Type 0 where
   pub aligned : length counted ≡ length frames
-  pub apart : Apart frames
-  pub filed : (f : ℕ) (document : Document) (frame : Frame) → nth counted f ≡ Some (Some document) → nth frames f ≡ Some frame → IsFiled files frame document dones
+  pub names_apart : Apart frames
+  pub file_counted : (f : ℕ) (document : Document) (frame : Frame) → nth counted f ≡ Some (Some document) → nth frames f ≡ Some frame → IsFiled files frame document dones
 
 -- what was counted, commit by commit
-pub record Counts (counted : List (Option Document)) (dones : List Done) (commits : List Commit) : Type 0 where
+pub record CommitsCounted (counted : List (Option Document)) (dones : List Done) (commits : List Commit) : Type 0 where
   pub entries : dones ≡ flat_map entries_of commits
   pub last : (f : ℕ) → document_in (nth counted f) ≡ last_commit f commits
 
-abbrev pub Counted : List (Option Document) → List Done → Type 0
-Counted counted dones = (commits : List Commit) × Counts counted dones commits
+abbrev pub HasCommits : List (Option Document) → List Done → Type 0
+HasCommits counted dones = (commits : List Commit) × CommitsCounted counted dones commits
 
-pub record Keeps (w : World) : Type 0 where
-  pub book : Book w.rec.frames (map id_of w.rec.objects) w.rec.last_object w.container_done
-  pub shelf : Shelf w.rec.frames w.files w.counted w.container_done
-  pub commits : Counted w.counted w.container_done
+pub record Files (w : World) : Type 0 where
+  pub counted_bounded : CountedBounded w.rec.frames (map id_of w.rec.objects) w.rec.last_object w.container_done
+  pub filed : FilesCounted w.rec.frames w.files w.counted w.container_done
+  pub commits : HasCommits w.counted w.container_done
 
 -- a frame after a step that isn't a commit
 pub record IsSameFrame (old new : Frame) : Type 0 where

@@ -11,26 +11,26 @@ use Rattle.container_model.specs.declared.answer.Done.{Done}
 use Rattle.world_model.specs.declared.logs.Document.{Document}
 use Rattle.world_model.specs.declared.logs.File.{File}
 use Rattle.world_model.specs.World.{done_entry, is_file, put_file}
-use Rattle.world_books.specs.Keeping.{Bears, IsFiled, Shelf, IsSameFrame, AreSameFrames}
-use Rattle.world_books.proofs.Lookups.{among_old, among_new, among_map, nth_old, nth_one, nth_aligned, nth_set_apart, length_set_nth}
+use Rattle.world_files.specs.Files.{Bears, IsFiled, FilesCounted, IsSameFrame, AreSameFrames}
+use Rattle.world_facts.proofs.Lookups.{among_old, among_new, among_map, nth_old, nth_one, nth_aligned, nth_set_apart, length_set_nth}
 
 -- what is counted stays counted
 filed_more : (files : List File) (frame : Frame) (document : Document) (dones more : List Done) → IsFiled files frame document dones → IsFiled files frame document (dones ++ more)
-filed_more files frame document dones more s = record { sure = s.sure; stored = s.stored; file = s.file; found = s.found; denotes = s.denotes; counted = λ p g. among_old dones more (done_entry document.k p) (s.counted p g) }
+filed_more files frame document dones more s = record { sure = s.sure; stored = s.stored; file = s.file; found = s.found; denotes = s.denotes; counted_with = λ p g. among_old dones more (done_entry document.k p) (s.counted_with p g) }
 
 filed_same : (files : List File) (old new : Frame) (document : Document) (dones : List Done) → IsSameFrame old new → IsFiled files old document dones → IsFiled files new document dones
-filed_same files old new document dones e s = record { sure = e.sure s.sure; stored = e.stored ∙ s.stored; file = s.file; found = ap (λ n. find (is_file n) files) e.name ∙ s.found; denotes = s.denotes; counted = s.counted }
+filed_same files old new document dones e s = record { sure = e.sure s.sure; stored = e.stored ∙ s.stored; file = s.file; found = ap (λ n. find (is_file n) files) e.name ∙ s.found; denotes = s.denotes; counted_with = s.counted_with }
 
 bears_same : (old new : Frame) (name : List ℕ) → IsSameFrame old new → Bears new name → Bears old name
 bears_same old new name e (inl h) = inl (sym e.name ∙ h)
 bears_same old new name e (inr h) = inr (sym e.asked ∙ h)
 
-pub shelf_same : (frames after : List Frame) (files : List File) (counted : List (Option Document)) (dones : List Done) → AreSameFrames frames after → Shelf frames files counted dones → Shelf after files counted dones
-shelf_same frames after files counted dones s h = record {
+pub stored_same : (frames after : List Frame) (files : List File) (counted : List (Option Document)) (dones : List Done) → AreSameFrames frames after → FilesCounted frames files counted dones → FilesCounted after files counted dones
+stored_same frames after files counted dones s h = record {
   aligned = h.aligned ∙ sym s.many;
-  apart = λ f g a b name fa gb x y. (let p = s.from f a fa in let q = s.from g b gb in
-      h.apart f g p.0 q.0 name p.1 q.1 (bears_same p.0 a name p.2 x) (bears_same q.0 b name q.2 y));
-  filed = λ f document frame c at. (let p = s.from f frame at in filed_same files p.0 frame document dones p.2 (h.filed f document p.0 c p.1));
+  names_apart = λ f g a b name fa gb x y. (let p = s.from f a fa in let q = s.from g b gb in
+      h.names_apart f g p.0 q.0 name p.1 q.1 (bears_same p.0 a name p.2 x) (bears_same q.0 b name q.2 y));
+  file_counted = λ f document frame c at. (let p = s.from f frame at in filed_same files p.0 frame document dones p.2 (h.file_counted f document p.0 c p.1));
 }
 
 -- a name that no frame bears
@@ -72,15 +72,15 @@ length_more [] y = refl
 length_more (x ∷ xs) y = ap suc (length_more xs y)
 
 -- a new frame, which has no counted commit
-pub shelf_framed : (frames : List Frame) (name : List ℕ) (w h : ℕ) (files : List File) (counted : List (Option Document)) (dones : List Done) → is_named name frames ≡ false
-    → Shelf frames files counted dones → Shelf (frames ++ new_frame name w h ∷ []) files (counted ++ None ∷ []) dones
-shelf_framed frames name w h files counted dones un s =
+pub stored_framed : (frames : List Frame) (name : List ℕ) (w h : ℕ) (files : List File) (counted : List (Option Document)) (dones : List Done) → is_named name frames ≡ false
+    → FilesCounted frames files counted dones → FilesCounted (frames ++ new_frame name w h ∷ []) files (counted ++ None ∷ []) dones
+stored_framed frames name w h files counted dones un s =
     let new = new_frame name w h in
     record {
       aligned = length_more counted None ∙ (ap suc s.aligned ∙ sym (length_more frames new));
-      apart = λ f g a b other fa gb x y. elim (nth_one frames new f a fa) [
+      names_apart = λ f g a b other fa gb x y. elim (nth_one frames new f a fa) [
         | inl fo ↦ elim (nth_one frames new g b gb) [
-          | inl go ↦ s.apart f g a b other fo go x y
+          | inl go ↦ s.names_apart f g a b other fo go x y
           | inr gn ↦ absurd (unborne name frames f a un fo (subst (Bears a) (sym (bears_new name other w h (subst (λ v. Bears v other) gn.0 y))) x))
         ]
         | inr fn ↦ elim (nth_one frames new g b gb) [
@@ -88,11 +88,11 @@ shelf_framed frames name w h files counted dones un s =
           | inr gn ↦ fn.1 ∙ sym gn.1
         ]
       ];
-      filed = λ f document frame c at. elim (nth_one counted None f (Some document) c) [
+      file_counted = λ f document frame c at. elim (nth_one counted None f (Some document) c) [
         | inl old ↦ (let p = nth_aligned counted frames f (Some document) s.aligned old in
             let same : Some p.0 ≡ Some frame = sym (nth_old frames (new ∷ []) f p.0 p.1) ∙ at in
             let is : p.0 ≡ frame = cc in
-            subst (λ v. IsFiled files v document dones) is (s.filed f document p.0 old p.1))
+            subst (λ v. IsFiled files v document dones) is (s.file_counted f document p.0 old p.1))
         | inr none ↦ absurd (let e = none.0 in cc)
       ];
     }
@@ -125,7 +125,7 @@ bears_after frame name (inr e) = cc
 
 -- a commit of a frame
 module _ (frames : List Frame) (f : ℕ) (frame : Frame) (files : List File) (counted : List (Option Document)) (dones : List Done) (parts : List Part) (bytes : List ℕ)
-    (at : nth frames f ≡ Some frame) (denotes : ∥ Denotes bytes (document_tree parts) ∥₁) (s : Shelf frames files counted dones) where
+    (at : nth frames f ≡ Some frame) (denotes : ∥ Denotes bytes (document_tree parts) ∥₁) (s : FilesCounted frames files counted dones) where
   abbrev pub name : List ℕ
   name = name_after frame.name frame.asked
 
@@ -142,7 +142,7 @@ module _ (frames : List Frame) (f : ℕ) (frame : Frame) (files : List File) (co
     file = record { name = name; bytes = bytes };
     found = found_put name bytes files;
     denotes = denotes;
-    counted = λ p g. among_new dones entries (done_entry frame.k p) (among_map (done_entry frame.k) parts p g);
+    counted_with = λ p g. among_new dones entries (done_entry frame.k p) (among_map (done_entry frame.k) parts p g);
   }
 
   elsewhere : (g : ℕ) (d : Document) (other : Frame) → g ≢ f → nth frames g ≡ Some other → IsFiled files other d dones → IsFiled (put_file name bytes files) other d (dones ++ entries)
@@ -150,9 +150,9 @@ module _ (frames : List Frame) (f : ℕ) (frame : Frame) (files : List File) (co
     sure = more.sure;
     stored = more.stored;
     file = more.file;
-    found = found_other name other.name bytes files (λ q. ne (s.apart g f other frame name e at (inl q) (bears_after frame name (inl refl)))) ∙ more.found;
+    found = found_other name other.name bytes files (λ q. ne (s.names_apart g f other frame name e at (inl q) (bears_after frame name (inl refl)))) ∙ more.found;
     denotes = more.denotes;
-    counted = more.counted;
+    counted_with = more.counted_with;
   })
 
   bears_at : (g : ℕ) (a : Frame) (n : List ℕ) → nth (set_nth frames f (committed_frame frame)) g ≡ Some a → Bears a n → (b : Frame) × (nth frames g ≡ Some b) × Bears b n
@@ -161,11 +161,11 @@ module _ (frames : List Frame) (f : ℕ) (frame : Frame) (files : List File) (co
     | inr h ↦ (a, h.1, x)
   ]
 
-  pub shelf_committed : Shelf (set_nth frames f (committed_frame frame)) (put_file name bytes files) (set_nth counted f (Some document)) (dones ++ entries)
-  shelf_committed = record {
+  pub stored_committed : FilesCounted (set_nth frames f (committed_frame frame)) (put_file name bytes files) (set_nth counted f (Some document)) (dones ++ entries)
+  stored_committed = record {
     aligned = length_set_nth counted f (Some document) ∙ (s.aligned ∙ sym (length_set_nth frames f (committed_frame frame)));
-    apart = λ g h a b n ga hb x y. (let p = bears_at g a n ga x in let q = bears_at h b n hb y in s.apart g h p.0 q.0 n p.1 q.1 p.2 q.2);
-    filed = λ g d fr c e. elim (nth_set_apart counted f g (Some document) (Some d) c) [
+    names_apart = λ g h a b n ga hb x y. (let p = bears_at g a n ga x in let q = bears_at h b n hb y in s.names_apart g h p.0 q.0 n p.1 q.1 p.2 q.2);
+    file_counted = λ g d fr c e. elim (nth_set_apart counted f g (Some document) (Some d) c) [
       | inl x ↦ elim (nth_set_apart frames f g (committed_frame frame) fr e) [
         | inl y ↦ (let is : d ≡ document = (let q = x.1 in cc) in
             subst (λ v. IsFiled (put_file name bytes files) v d (dones ++ entries)) (sym y.1) (subst (λ v. IsFiled (put_file name bytes files) (committed_frame frame) v (dones ++ entries)) (sym is) here))
@@ -173,7 +173,7 @@ module _ (frames : List Frame) (f : ℕ) (frame : Frame) (files : List File) (co
       ]
       | inr x ↦ elim (nth_set_apart frames f g (committed_frame frame) fr e) [
         | inl y ↦ absurd (x.0 y.0)
-        | inr y ↦ elsewhere g d fr x.0 y.1 (s.filed g d fr x.1 y.1)
+        | inr y ↦ elsewhere g d fr x.0 y.1 (s.file_counted g d fr x.1 y.1)
       ]
     ];
   }

@@ -1,6 +1,6 @@
-pub mod Lookups
-pub mod Books
-pub mod Shelves
+pub mod Numbering
+pub mod Bounding
+pub mod Filing
 pub mod Frames
 pub mod Commits
 pub mod Quiet

@@ -1,4 +1,4 @@
--- The container's book after each step.
+-- What the container counted, after each step.
 use Rattle.std.proofs.Common.{◌≡◌, ◌≢◌, ◌==◌, ℕ, ◌+◌, ◌<◌, ◌≤◌, true, false, List, [], ◌∷◌, ◌++◌, map, Some, refl, sym, ap, ◌∙◌, inl, inr, arith, subst, if◌then◌else◌}
 use Rattle.std.proofs.lemmas.Bool.{eqb-true}
 use Rattle.wire_msgs.specs.Found.{nth, set_nth}
@@ -9,68 +9,43 @@ use Rattle.container_model.specs.declared.record.Phase.TheVariants.{Idle}
 use Rattle.container_model.specs.declared.answer.Done.{Done}
 use Rattle.world_model.specs.World.{done_entry}
 use Rattle.world_model.specs.Safe.{Among, IsAnother, CountedOnce}
-use Rattle.world_books.specs.Keeping.{Id, id_of, IsBelow, Distinct, Book, AreSameFrames}
-use Rattle.world_books.proofs.Lookups.{among_join, among_map, nth_old, nth_aligned, nth_set_apart, length_set_nth}
+use Rattle.world_files.specs.Files.{Id, id_of, IsBelow, Distinct, AreNumbered, CountedBounded, AreSameFrames}
+use Rattle.world_facts.proofs.Lookups.{among_join, among_map, nth_old, nth_set_apart}
 
-pub book_same : (frames after : List Frame) (ids : List Id) (last : ℕ) (dones : List Done) → AreSameFrames frames after → Book frames ids last dones → Book after ids last dones
-book_same frames after ids last dones s b = record {
-  distinct = b.distinct;
-  drawn = b.drawn;
-  placed = λ x h. (let p = b.placed x h in nth_aligned frames after x.frame p.0 (sym s.many) p.1);
+pub bounded_same : (frames after : List Frame) (ids : List Id) (last : ℕ) (dones : List Done) → AreSameFrames frames after → CountedBounded frames ids last dones → CountedBounded after ids last dones
+bounded_same frames after ids last dones s b = record {
   counted = b.counted;
   below = λ x d frame h g e at. (let old = s.from x.frame frame at in old.2.below d.k (b.below x d old.0 h g e old.1));
-  once = b.once;
+  counted_once = b.counted_once;
 }
 
 -- a new frame
-pub book_framed : (frames : List Frame) (new : Frame) (ids : List Id) (last : ℕ) (dones : List Done) → Book frames ids last dones → Book (frames ++ new ∷ []) ids last dones
-book_framed frames new ids last dones b = record {
-  distinct = b.distinct;
-  drawn = b.drawn;
-  placed = λ x h. (let p = b.placed x h in (p.0, nth_old frames (new ∷ []) x.frame p.0 p.1));
+pub bounded_framed : (frames : List Frame) (new : Frame) (ids : List Id) (last : ℕ) (dones : List Done) → AreNumbered frames ids last → CountedBounded frames ids last dones → CountedBounded (frames ++ new ∷ []) ids last dones
+bounded_framed frames new ids last dones a b = record {
   counted = b.counted;
-  below = λ x d frame h g e at. (let p = b.placed x h in
+  below = λ x d frame h g e at. (let p = a.placed x h in
       let same : Some p.0 ≡ Some frame = sym (nth_old frames (new ∷ []) x.frame p.0 p.1) ∙ at in
       let is : p.0 ≡ frame = cc in
       subst (λ v. IsBelow v d.k) is (b.below x d p.0 h g e p.1));
-  once = b.once;
+  counted_once = b.counted_once;
 }
 
 -- a new object
-distinct_one : (xs : List Id) (y : Id) → Distinct xs → ((x : Id) → Among xs x → x.number ≢ y.number) → Distinct (xs ++ y ∷ [])
-distinct_one [] y d h = ((λ z g. absurd g), tt)
-distinct_one (x ∷ xs) y d h = (
-  (λ z g. elim (among_join xs (y ∷ []) z g) [
-    | inl old ↦ d.0 z old
-    | inr new ↦ elim new [ inl e ↦ (λ q. h x (inl refl) (q ∙ ap (λ (v : Id). v.number) e)) | inr none ↦ absurd none ]
-  ]),
-  distinct_one xs y d.1 (λ z g. h z (inr g)),
-)
-
 one_of : {A : Type 0} (y x : A) → Among (y ∷ []) x → x ≡ y
 one_of y x (inl e) = e
 one_of y x (inr h) = absurd h
 
-pub book_object : (frames : List Frame) (frame : Frame) (ids : List Id) (last f : ℕ) (dones : List Done) → nth frames f ≡ Some frame → Book frames ids last dones
-    → Book frames (ids ++ record { number = last + 1; frame = f } ∷ []) (last + 1) dones
-book_object frames frame ids last f dones at b =
+pub bounded_object : (frames : List Frame) (ids : List Id) (last f : ℕ) (dones : List Done) → CountedBounded frames ids last dones
+    → CountedBounded frames (ids ++ record { number = last + 1; frame = f } ∷ []) (last + 1) dones
+bounded_object frames ids last f dones b =
     let new : Id = record { number = last + 1; frame = f } in
     record {
-      distinct = distinct_one ids new b.distinct (λ x g q. (let le : x.number ≤ last = b.drawn x g in absurd (omega arith)));
-      drawn = λ x h. elim (among_join ids (new ∷ []) x h) [
-        | inl old ↦ (let le : x.number ≤ last = b.drawn x old in omega arith)
-        | inr one ↦ (let e : x.number ≡ last + 1 = ap (λ (v : Id). v.number) (one_of new x one) in omega arith)
-      ];
-      placed = λ x h. elim (among_join ids (new ∷ []) x h) [
-        | inl old ↦ b.placed x old
-        | inr one ↦ (frame, ap (λ (v : Id). nth frames v.frame) (one_of new x one) ∙ at)
-      ];
       counted = λ d g. (let le : d.object ≤ last = b.counted d g in omega arith);
       below = λ x d fr h g e here. elim (among_join ids (new ∷ []) x h) [
         | inl old ↦ b.below x d fr old g e here
         | inr one ↦ (let n : x.number ≡ last + 1 = ap (λ (v : Id). v.number) (one_of new x one) in let le : d.object ≤ last = b.counted d g in absurd (omega arith))
       ];
-      once = b.once;
+      counted_once = b.counted_once;
     }
 
 -- what a commit counts
@@ -110,7 +85,7 @@ one_numbered (z ∷ zs) x y d (inr h) (inr g) e = one_numbered zs x y d.1 h g e
 
 -- a commit of a frame that is committing
 module _ (frames : List Frame) (f : ℕ) (frame : Frame) (os : List Object) (last : ℕ) (dones : List Done)
-    (at : nth frames f ≡ Some frame) (committing : frame.phase ≢ Idle) (b : Book frames (map id_of os) last dones) where
+    (at : nth frames f ≡ Some frame) (committing : frame.phase ≢ Idle) (a : AreNumbered frames (map id_of os) last) (b : CountedBounded frames (map id_of os) last dones) where
   abbrev pub entries : List Done
   entries = map (done_entry frame.k) (parts_in f os)
 
@@ -128,7 +103,7 @@ module _ (frames : List Frame) (f : ℕ) (frame : Frame) (os : List Object) (las
           | inr s ↦ b.below x d fr h old e s.1
         ]
         | inr one ↦ (let r = parts_of_frame f frame.k os d one in
-            let is : x ≡ id_of r.0 = one_numbered (map id_of os) x (id_of r.0) b.distinct h (among_map id_of os r.0 r.1) (sym e ∙ r.3) in
+            let is : x ≡ id_of r.0 = one_numbered (map id_of os) x (id_of r.0) a.distinct h (among_map id_of os r.0 r.1) (sym e ∙ r.3) in
             let on : x.frame ≡ f = ap (λ (v : Id). v.frame) is ∙ r.2 in
             elim (nth_set_apart frames f x.frame (committed_frame frame) fr here) [
               | inl s ↦ (let k : d.k ≡ frame.k = r.4 in subst (λ v. IsBelow v d.k) (sym s.1) (record { last = omega arith; under = λ ne. absurd (ne refl) }))
@@ -136,22 +111,16 @@ module _ (frames : List Frame) (f : ℕ) (frame : Frame) (os : List Object) (las
             ])
       ]
 
-  placed_after : (x : Id) → Among (map id_of os) x → (fr : Frame) × (nth (set_nth frames f (committed_frame frame)) x.frame ≡ Some fr)
-  placed_after x h = (let p = b.placed x h in nth_aligned frames (set_nth frames f (committed_frame frame)) x.frame p.0 (sym (length_set_nth frames f (committed_frame frame))) p.1)
-
-  pub book_committed : Book (set_nth frames f (committed_frame frame)) (map id_of os) last (dones ++ entries)
-  book_committed = record {
-    distinct = b.distinct;
-    drawn = b.drawn;
-    placed = placed_after;
+  pub bounded_committed : CountedBounded (set_nth frames f (committed_frame frame)) (map id_of os) last (dones ++ entries)
+  bounded_committed = record {
     counted = λ d g. elim (among_join dones entries d g) [
       | inl old ↦ b.counted d old
       | inr one ↦ (let r = parts_of_frame f frame.k os d one in
-          let le : r.0.number ≤ last = b.drawn (id_of r.0) (among_map id_of os r.0 r.1) in
+          let le : r.0.number ≤ last = a.drawn (id_of r.0) (among_map id_of os r.0 r.1) in
           let e : d.object ≡ r.0.number = r.3 in omega arith)
     ];
     below = below_after;
-    once = once_join dones entries b.once (once_parts f frame.k os b.distinct) (λ d e g h q z. (let r = parts_of_frame f frame.k os e h in
+    counted_once = once_join dones entries b.counted_once (once_parts f frame.k os a.distinct) (λ d e g h q z. (let r = parts_of_frame f frame.k os e h in
         let lt : d.k < frame.k = under d r.0 g r.1 r.2 (q ∙ r.3) in
         let k : e.k ≡ frame.k = r.4 in
         absurd (omega arith)));
