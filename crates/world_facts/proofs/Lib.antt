@@ -8,3 +8,4 @@ pub mod Counting
 pub mod Beginning
 pub mod Ending
 pub mod Acting
+pub mod Starting

@@ -12,7 +12,7 @@ use Rattle.world_model.specs.declared.logs.ServerDone.{ServerDone}
 use Rattle.world_model.specs.Safe.{Among}
 use Rattle.world_facts.specs.Words.{Links, Acts, Lives, IsHonest}
 use Rattle.world_facts.specs.Facts.{Facts}
-use Rattle.world_facts.specs.Shapes.{AsksAll, IsQuiet, CountsAll, Settles, SendsNext, Begins, EndsSome, IsChanged, ActsOn, IsReady, entries_of}
+use Rattle.world_facts.specs.Shapes.{AsksAll, IsQuiet, CountsAll, Settles, SendsNext, Begins, EndsSome, StartsOrEnds, IsChanged, ActsOn, IsReady, entries_of}
 
 -- the pending operation of one object was answered
 abbrev pub SettlingKeeps : Type 0
@@ -44,6 +44,11 @@ BeginningKeeps = (links after : Links) (acts : Acts) (lives : Lives) (sent more 
 abbrev pub EndingKeeps : Type 0
 EndingKeeps = (links after : Links) (acts : Acts) (lives : Lives) (sent : List Message) (owners : List ℕ) (last : ℕ) (counted : List Done) (served : List ServerDone)
     → EndsSome links after acts lives → Facts links acts lives sent owners last counted served → Facts after acts lives sent owners last counted served
+
+-- a server starts or ends
+abbrev pub StartingKeeps : Type 0
+StartingKeeps = (links : Links) (acts after : Acts) (lives now : Lives) (sent : List Message) (owners : List ℕ) (last : ℕ) (counted : List Done) (served : List ServerDone)
+    → StartsOrEnds acts after lives now → Facts links acts lives sent owners last counted served → Facts links after now sent owners last counted served
 
 -- a server that runs takes a call that was sent: it acts, or answers again
 abbrev pub ActingKeeps : Type 0

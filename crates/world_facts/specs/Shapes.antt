@@ -115,6 +115,13 @@ pub record Begins (links after : Links) (lives : Lives) (owners : List ℕ) (las
 pub record EndsSome (links after : Links) (acts : Acts) (lives : Lives) : Type 0 where
   pub each : (o : ℕ) → (after o ≡ links o) ⊎ ((after o ≡ None) × ((l : Link) → links o ≡ Some l → IsClosed (acts l.inc l.act) ⊎ (lives l.inc ≢ Some Running)))
 
+-- Starts or ends: a server is started, which has no activations yet, or one that ran has ended. All activations stay.
+pub record StartsOrEnds (acts after : Acts) (lives now : Lives) : Type 0 where
+  pub same : (inc act : ℕ) → after inc act ≡ acts inc act
+  pub there : (inc : ℕ) (life : Life) → lives inc ≡ Some life → (later : Life) × (now inc ≡ Some later)
+  pub runs : (inc : ℕ) (life : Life) → lives inc ≡ Some life → now inc ≡ Some Running → lives inc ≡ Some Running
+  pub hosted : (inc act : ℕ) (a : Activation) → acts inc act ≡ Some a → (life : Life) × (lives inc ≡ Some life)
+
 -- an operation that makes an activation
 abbrev pub IsFirst : Operation → Type 0
 IsFirst (InitNew class) = ⊤

@@ -1,6 +1,6 @@
 //! Laws: each shape of change keeps the facts. Each function is empty: its contract is the law, which is proved.
 
-ghost use Rattle.world_facts.specs.Laws.{ActingKeeps, AskingKeeps, BeginningKeeps, CountingKeeps, EndingKeeps, SendingNextKeeps, SettlingKeeps};
+ghost use Rattle.world_facts.specs.Laws.{ActingKeeps, AskingKeeps, BeginningKeeps, CountingKeeps, EndingKeeps, SendingNextKeeps, SettlingKeeps, StartingKeeps};
 
 /// The facts stay where the pending operation of an object was answered.
 pub fn settling_keeps()
@@ -30,6 +30,11 @@ pub fn beginning_keeps()
 /// The facts stay where links end.
 pub fn ending_keeps()
     ensures { EndingKeeps }
+{}
+
+/// The facts stay where a server starts or ends.
+pub fn starting_keeps()
+    ensures { StartingKeeps }
 {}
 
 /// The facts stay where a server acts on a call, or answers it again.

@@ -1,39 +1,95 @@
 -- Every world that a run reaches is safe.
-use Rattle.std.proofs.Common.{◌≡◌, ℕ, List, Option, Some, None, refl, sym, ap, ◌∙◌}
+use Rattle.std.proofs.Common.{◌≡◌, ℕ, zero, suc, List, [], ◌∷◌, Option, Some, None, Ok, refl, sym, ap, ◌∙◌, subst}
+use Rattle.wire_msgs.specs.declared.message.Message.{Message}
 use Rattle.embed_core.specs.Kinds.{Kind}
 use Rattle.storage_tree.specs.declared.stored.Stored.{Stored}
 use Rattle.server_model.specs.Server.{Activation}
+use Rattle.container_model.specs.declared.record.Link.{Link}
+use Rattle.container_laws.proofs.SteadyRecords.{empty_steady}
 use Rattle.world_model.specs.declared.event.Event.{Event}
-use Rattle.world_model.specs.World.{World, empty_world, Run}
-use Rattle.world_model.specs.Safe.{Safe, acts_of}
-use Rattle.world_safety.specs.Tying.{HasSaved}
-use Rattle.world_safety.specs.Holding.{Holds}
-use Rattle.world_books.proofs.Kept.{empty_keeps, keeps_run, commits_kept, files_kept}
+use Rattle.world_model.specs.World.{World, empty_world, happened, IsImage, Run}
+use Rattle.world_model.specs.Safe.{Safe, acts_of, links_of}
+use Rattle.container_model.specs.declared.record.Object.{Object}
+use Rattle.wire_msgs.specs.Found.{nth}
+use Rattle.wire_msgs.specs.declared.operation.Operation.{Operation}
+use Rattle.wire_msgs.specs.declared.operation.Operation.TheVariants.{SaveCompleted}
+use Rattle.world_facts.specs.Words.{Issued, called, waits, lives_of}
+use Rattle.world_facts.specs.Facts.{HasSaved}
+use Rattle.world_files.proofs.Kept.{empty_files, files_happened, limited_ok, commits_kept, files_kept}
+use Rattle.world_safety.specs.Holding.{AgreesIn, Holds}
+use Rattle.world_safety.proofs.Events.{agrees_happened}
 use Rattle.world_safety.proofs.Once.{once_answered}
-use Rattle.world_safety.proofs.Tied.{empty_tied}
-use Rattle.world_safety.proofs.TiedEvents.{tied_run}
 
 has_saved : (a : Option Activation) (c : Stored) → HasSaved c a → (b : Activation) × (a ≡ Some b) × (b.saved ≡ Some c)
 has_saved None c h = absurd h
 has_saved (Some b) c h = (b, refl, h)
 
 pub safe_held : (w : World) → Holds w → Safe w
-safe_held w h = record {
-  acts_once = λ inc act n op r next g e. once_answered w inc act n op r h.tied g next e;
-  one_reply = h.tied.replies.one;
-  kept_reply = λ inc act a r e g. (let k = h.tied.replies.known inc act a.last r g in
+safe_held w h = (let f = h.agrees.facts in record {
+  acts_once = λ inc act n op r next g e. once_answered w inc act n op r h.agrees g next e;
+  one_reply = λ inc act n r q g k. f.replies.one_reply inc act n r q tt g k;
+  kept_reply = λ inc act a r e g. (let k = f.replies.replies_kept inc act a.last r tt g in
       let is : a ≡ k.0 = (let z : Some a ≡ Some k.0 = sym e ∙ k.1 in cc) in
       k.3 (ap (λ (x : Activation). x.last) is) ∙ ap (λ (x : Activation). x.reply) (sym is));
-  answered = λ n l content e s. has_saved (acts_of w.instances l.inc l.act) content (h.tied.steps.saved n l content e s);
-  container_once = h.keeps.book.once;
-  server_once = h.tied.once;
-  agreed = h.tied.books.same;
-  commits = commits_kept w h.keeps;
-  files = files_kept w h.keeps;
+  answered = λ n l content e s. has_saved (acts_of w.instances l.inc l.act) content (f.saved_same n l content e tt s);
+  container_once = h.files.counted_bounded.counted_once;
+  server_once = f.counts.server_once;
+  agreed = λ e g. f.counts.server_counted e g tt;
+  commits = commits_kept w h.files;
+  files = files_kept w h.files;
+})
+
+-- the world in which nothing has happened
+no_act : (inc act : ℕ) → acts_of [] inc act ≡ None
+no_act zero act = refl
+no_act (suc k) act = refl
+
+absent : (inc act : ℕ) (a : Activation) → acts_of [] inc act ≡ Some a → ⊥
+absent inc act a e = (let z : None ≡ Some a = sym (no_act inc act) ∙ e in cc)
+
+no_link : (n : ℕ) (l : Link) → links_of [] n ≡ Some l → ⊥
+no_link n l e = (let z : None ≡ Some l = e in cc)
+
+none_issued : (inc act n : ℕ) (op : Operation) → Issued (links_of []) [] inc act n op → ⊥
+none_issued inc act n op (called g) = g
+none_issued inc act n op (waits o l i e ei ea at en) = no_link o l e
+
+empty_agrees : (numbers : ℕ) (stock : List Kind) → AgreesIn (empty_world numbers stock)
+empty_agrees numbers stock = record {
+  steady = empty_steady numbers;
+  servers = refl;
+  facts = record {
+    drawn = record {
+      many = refl;
+      acts_drawn = λ inc act a e. absurd (absent inc act a e);
+      acts_called = λ inc act a e. absurd (absent inc act a e);
+      calls_drawn = λ inc act n op h. absurd h;
+      calls_named = λ o l e. absurd (no_link o l e);
+      servers_told = λ o l e. absurd (no_link o l e);
+      calls_told = λ inc act n op h. absurd h;
+    };
+    calls = record { bounded = λ o inc n op l e h. absurd h; pending = λ o inc op asked l e q h. absurd h };
+    in_step = λ o l e. absurd (no_link o l e);
+    unlinked = record { called = λ inc act n op honest runs h. absurd h; known = λ inc act a honest runs e. absurd (absent inc act a e) };
+    replies = record { reply_numbered = λ inc act a honest e. absurd (absent inc act a e); replies_kept = λ inc act n r honest h. absurd h; one_reply = λ inc act n r q honest h. absurd h };
+    saved_same = λ o l c e. absurd (no_link o l e);
+    counts = record {
+      completed_counted = λ inc act n k s i. absurd (none_issued inc act n (SaveCompleted k s) i);
+      completed_once = λ inc act n inc' act' n' k o s s' i. absurd (none_issued inc act n (SaveCompleted k s) i);
+      completed_content = λ inc act n k o s a i. absurd (none_issued inc act n (SaveCompleted k s) i);
+      server_called = λ e h. absurd h;
+      server_once = tt;
+      server_counted = λ e h. absurd h;
+    };
+  };
 }
 
 pub empty_held : (numbers : ℕ) (stock : List Kind) → Holds (empty_world numbers stock)
-empty_held numbers stock = record { keeps = empty_keeps numbers stock; tied = empty_tied numbers stock }
+empty_held numbers stock = record { agrees = empty_agrees numbers stock; files = empty_files numbers stock }
+
+held_happened : (w : World) (bytes : List ℕ) (e : Event) (v : World) → Holds w → IsImage w bytes e → happened w bytes e ≡ Ok v → Holds v
+held_happened w bytes e v h im ok = record { agrees = agrees_happened w bytes e v h.files h.agrees ok; files = files_happened w bytes e v h.agrees.steady h.files im ok }
 
 pub held_run : (w : World) (es : List Event) (after : World) → Holds w → Run w es after → Holds after
-held_run w es after h r = record { keeps = keeps_run w es after h.keeps r; tied = tied_run w es after h.keeps h.tied r }
+held_run w [] after h r = subst Holds (sym r) h
+held_run w (e ∷ es) after h r = held_run r.1 es after (held_happened w r.0 e r.1 h r.2 (limited_ok w (happened w r.0 e) r.1 r.3)) r.4

@@ -1,14 +1,5 @@
-pub mod Answering
-pub mod CallsServed
-pub mod Finding
-pub mod Moving
+pub mod Joining
+pub mod Serving
+pub mod Events
 pub mod Once
-pub mod Phases
-pub mod Replying
-pub mod ServingBooks
-pub mod Steps1
-pub mod Steps2
-pub mod Steps3
-pub mod Tied
-pub mod TiedEvents
 pub mod Held

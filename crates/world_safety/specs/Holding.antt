@@ -1,8 +1,26 @@
 -- What every world keeps, so that it is safe. No reader has to believe it.
-use Rattle.world_model.specs.World.{World}
-use Rattle.world_books.specs.Keeping.{Keeps}
-use Rattle.world_safety.specs.Tying.{Tied}
+use Rattle.std.specs.Prelude.{◌≡◌, ℕ, List, length}
+use Rattle.container_model.specs.Record.{Record}
+use Rattle.container_model.specs.declared.answer.Done.{Done}
+use Rattle.container_laws.specs.Steady.{Steady}
+use Rattle.world_model.specs.declared.logs.Sent.{Sent}
+use Rattle.world_model.specs.declared.logs.ServerDone.{ServerDone}
+use Rattle.world_model.specs.World.{World, Instance}
+use Rattle.world_model.specs.Safe.{acts_of, links_of, messages}
+use Rattle.world_facts.specs.Words.{lives_of}
+use Rattle.world_facts.specs.Facts.{Facts}
+use Rattle.world_files.specs.Files.{Files}
+
+-- The container's record, the servers, the messages and the logs agree: the record is steady by itself, the servers are
+-- those that it started, and the facts hold of what is looked up.
+pub record Agrees (rec : Record) (instances : List Instance) (sent : List Sent) (owners : List ℕ) (counted : List Done) (served : List ServerDone) : Type 0 where
+  pub steady : Steady rec
+  pub servers : length rec.servers ≡ length instances
+  pub facts : Facts (links_of rec.objects) (acts_of instances) (lives_of instances) (messages sent) owners rec.last_act counted served
+
+abbrev pub AgreesIn : World → Type 0
+AgreesIn w = Agrees w.rec w.instances w.sent w.owners w.container_done w.server_done
 
 pub record Holds (w : World) : Type 0 where
-  pub keeps : Keeps w
-  pub tied : Tied w
+  pub agrees : AgreesIn w
+  pub files : Files w

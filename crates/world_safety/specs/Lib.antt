@@ -1,2 +1,1 @@
-pub mod Tying
 pub mod Holding

@@ -1,0 +1,274 @@
+-- Each event keeps the files and what was counted.
+use Rattle.std.proofs.Common.{◌≡◌, ◌≢◌, ◌==◌, ℕ, zero, suc, ◌+◌, true, false, not, List, [], ◌∷◌, ◌++◌, length, map, Option, Some, None, Result, Ok, Err, refl, sym, ap, ◌∙◌, subst, nat_le, if◌then◌else◌}
+use Rattle.std.proofs.lemmas.List.{append-nil}
+use Rattle.wire_msgs.specs.Found.{find, nth, set_nth}
+use Rattle.wire_msgs.specs.declared.message.Message.{Message}
+use Rattle.wire_msgs.specs.declared.message.Message.TheVariants.{Call, Reply, Write, Ask}
+use Rattle.wire_msgs.specs.declared.operation.Operation.{Operation}
+use Rattle.file_model.specs.Denotes.{Denotes}
+use Rattle.file_model.specs.Refusals.{writable}
+use Rattle.file_model.specs.declared.fault.WriteFault.{WriteFault}
+use Rattle.embed_core.specs.Kinds.{Kind}
+use Rattle.server_model.specs.Server.{Served, on_call, wanted}
+use Rattle.server_model.specs.declared.fault.ServerFault.{ServerFault}
+use Rattle.container_model.specs.Record.{Record, Took, MOST_FRAMES, MOST_OBJECTS, is_doubtful, is_saving, count_objects}
+use Rattle.container_model.specs.Saves.{image, image_at, has_image, fitting, parts_in, document_tree, commit_done, commit_at, commit_fitting, commit_made, committed_frame, completed, completion, counted_object, is_committing, cleared, kept}
+use Rattle.container_model.specs.Messages.{on_message, on_reap}
+use Rattle.container_model.specs.Commands.{on_command, new, new_made, new_frame, insert_at, insert_made, is_named, is_size, is_empty_area, kind_of}
+use Rattle.container_model.specs.declared.command.Command.{Command}
+use Rattle.container_model.specs.declared.command.Command.TheVariants as command
+use Rattle.object_parts.specs.declared.area.Area.{Area}
+use Rattle.container_model.specs.declared.record.Frame.{Frame}
+use Rattle.container_model.specs.declared.record.Object.{Object}
+use Rattle.container_model.specs.declared.record.Phase.{Phase}
+use Rattle.container_model.specs.declared.record.Phase.TheVariants.{Idle, Saving, HandingOff, Committing, InDoubt}
+use Rattle.container_model.specs.declared.answer.Part.{Part}
+use Rattle.container_model.specs.declared.fault.ContainerFault.{ContainerFault}
+use Rattle.container_model.specs.declared.fault.ContainerFault.TheVariants.{Busy, InDoubt as Doubtful, Full, NumbersSpent, WrongState}
+use Rattle.world_model.specs.declared.logs.Sent.{Sent}
+use Rattle.world_model.specs.declared.logs.Document.{Document}
+use Rattle.world_model.specs.declared.life.Life.{Life}
+use Rattle.world_model.specs.declared.life.Life.TheVariants.{Running, Ended, Reaped}
+use Rattle.world_model.specs.declared.event.Event.{Event}
+use Rattle.world_model.specs.declared.event.Event.TheVariants as event
+use Rattle.world_model.specs.declared.event.Stop.{Stop}
+use Rattle.world_model.specs.declared.event.Stop.TheVariants.{EventLimit}
+use Rattle.world_model.specs.World.{World, Instance, document_in, empty_world, joined, took, commanded, served, stocked, called_wanting, called_in, called, delivered, deliver, crashed, crash, ended, reap, kept_commit, done_taken, done_imaged, done_in, happened, limited, IsImage, Run, is_of, frame_file_in, MOST_EVENTS}
+use Rattle.world_model.specs.Safe.{Commit, IsCounted, IsKept}
+use Rattle.container_laws.specs.Steady.{Steady}
+use Rattle.world_files.specs.Files.{id_of, CountedBounded, FilesCounted, HasCommits, Files}
+use Rattle.world_facts.proofs.Lookups.{map_map_same, nth_aligned}
+use Rattle.world_files.proofs.Numbering.{numbered}
+use Rattle.world_files.proofs.Quiet.{IsQuiet, unless_ok, start_quiet, run_quiet, edit_quiet, save_quiet, message_quiet, reap_quiet, id_asked}
+use Rattle.world_files.proofs.Bounding.{bounded_same, bounded_framed, bounded_object, bounded_committed}
+use Rattle.world_files.proofs.Commits.{counted_framed, counted_committed}
+use Rattle.world_files.proofs.Filing.{stored_same, stored_framed, stored_committed}
+
+-- the world in which nothing has happened
+pub empty_files : (numbers : ℕ) (stock : List Kind) → Files (empty_world numbers stock)
+empty_files numbers stock = record {
+  counted_bounded = record { counted = λ d h. absurd h; below = λ x d frame h g e at. absurd h; counted_once = tt };
+  filed = record { aligned = refl; names_apart = λ f g a b name fa gb x y. none_there f a fa; file_counted = λ f d frame c at. none_there f frame at };
+  commits = ([], record { entries = refl; last = λ f. none_counted f });
+}
+  where
+    none_there : {B : Type 0} (f : ℕ) (a : Frame) → nth {A = Frame} [] f ≡ Some a → B
+    none_there zero a e = cc
+    none_there (suc i) a e = cc
+
+    none_counted : (f : ℕ) → document_in (nth [] f) ≡ None
+    none_counted zero = refl
+    none_counted (suc i) = refl
+
+-- a step that leaves the files and what was counted alone
+pub files_quiet : (w : World) (t : Took) → Files w → IsQuiet w.rec t → Files (joined w t)
+files_quiet w t k q = record {
+  counted_bounded = subst (λ ids. CountedBounded t.rec.frames ids t.rec.last_object w.container_done) (sym q.ids)
+      (subst (λ n. CountedBounded t.rec.frames (map id_of w.rec.objects) n w.container_done) (sym q.last)
+      (bounded_same w.rec.frames t.rec.frames (map id_of w.rec.objects) w.rec.last_object w.container_done q.frames k.counted_bounded));
+  filed = rw q.frame (subst (λ cs. FilesCounted t.rec.frames w.files cs w.container_done) (sym (append-nil w.counted))
+      (stored_same w.rec.frames t.rec.frames w.files w.counted w.container_done q.frames k.filed));
+  commits = rw q.frame (subst (λ cs. HasCommits cs w.container_done) (sym (append-nil w.counted)) k.commits);
+}
+
+files_took : (w : World) (told : Result Took ContainerFault) → Files w → ((t : Took) → told ≡ Ok t → IsQuiet w.rec t) → Files (took w told)
+files_took w (Err fault) k q = record { counted_bounded = k.counted_bounded; filed = k.filed; commits = k.commits }
+files_took w (Ok t) k q = files_quiet w t k (q t refl)
+
+files_commanded : (w : World) (c : Command) (told : Result Took ContainerFault) → Files w → ((t : Took) → told ≡ Ok t → Files (joined w t)) → Files (commanded w c told)
+files_commanded w c (Err fault) k q = record { counted_bounded = k.counted_bounded; filed = k.filed; commits = k.commits }
+files_commanded w c (Ok t) k q = (let h = q t refl in record { counted_bounded = h.counted_bounded; filed = h.filed; commits = h.commits })
+
+-- New
+files_new : (w : World) (name : List ℕ) (x y : ℕ) (t : Took) → Steady w.rec → Files w → new w.rec name x y ≡ Ok t → Files (joined w t)
+files_new w name x y t s k e =
+    let r = w.rec in
+    let a = unless_ok (is_named name r.frames) Busy _ t e in
+    let b = (unless_ok (not (is_size x y)) WrongState _ t a.1).1 in
+    let c = (unless_ok (nat_le MOST_FRAMES (length r.frames)) Full _ t b).1 in
+    let d : Ok (new_made r name x y) ≡ Ok t = (unless_ok (nat_le r.numbers (length r.frames)) NumbersSpent _ t c).1 in
+    let at : new_made r name x y ≡ t = cc in
+    subst (λ (v : Took). Files (joined w v)) at (record {
+      counted_bounded = bounded_framed r.frames (new_frame name x y) (map id_of r.objects) r.last_object w.container_done (numbered r s) k.counted_bounded;
+      filed = stored_framed r.frames name x y w.files w.counted w.container_done a.0 k.filed;
+      commits = counted_framed w.counted w.container_done k.commits;
+    })
+
+-- Insert
+map_one : {A B : Type 0} (f : A → B) (xs : List A) (x : A) → map f (xs ++ x ∷ []) ≡ map f xs ++ f x ∷ []
+map_one f [] x = refl
+map_one f (y ∷ ys) x = ap (λ vs. f y ∷ vs) (map_one f ys x)
+
+insert_framed : (w : World) (f : ℕ) (kind : Kind) (area : Area) (frame : Option Frame) (t : Took) → Files w → nth w.rec.frames f ≡ frame → insert_at w.rec f kind area frame ≡ Ok t → Files (joined w t)
+insert_framed w f kind area None t k at e = cc
+insert_framed w f kind area (Some frame) t k at e =
+    let r = w.rec in
+    let a = (unless_ok (is_doubtful frame.phase) Doubtful _ t e).1 in
+    let b = (unless_ok (is_saving frame.phase) Busy _ t a).1 in
+    let c = (unless_ok (is_empty_area area) WrongState _ t b).1 in
+    let d = (unless_ok (nat_le MOST_OBJECTS (count_objects f r.objects)) Full _ t c).1 in
+    let g : Ok (insert_made r f kind area) ≡ Ok t = (unless_ok (nat_le r.numbers r.last_object) NumbersSpent _ t d).1 in
+    let is : insert_made r f kind area ≡ t = cc in
+    subst (λ (v : Took). Files (joined w v)) is (record {
+      counted_bounded = subst (λ ids. CountedBounded r.frames ids (r.last_object + 1) w.container_done) (sym (map_one id_of r.objects _)) (bounded_object r.frames (map id_of r.objects) r.last_object f w.container_done k.counted_bounded);
+      filed = subst (λ cs. FilesCounted r.frames w.files cs w.container_done) (sym (append-nil w.counted)) k.filed;
+      commits = subst (λ cs. HasCommits cs w.container_done) (sym (append-nil w.counted)) k.commits;
+    })
+
+files_command : (w : World) (c : Command) (t : Took) → Steady w.rec → Files w → on_command w.rec c ≡ Ok t → Files (joined w t)
+files_command w (command.New name x y) t s k e = files_new w name x y t s k e
+files_command w (command.Insert f kind area) t s k e = insert_framed w f (kind_of kind) area (nth w.rec.frames f) t k refl e
+files_command w command.Start t s k e = files_quiet w t k (start_quiet w.rec t e)
+files_command w (command.Run o inc) t s k e = files_quiet w t k (run_quiet w.rec o inc t e)
+files_command w (command.Edit o bytes) t s k e = files_quiet w t k (edit_quiet w.rec o bytes t e)
+files_command w (command.Save f) t s k e = files_quiet w t k (save_quiet w.rec f t e)
+
+-- deliveries
+files_served : (w : World) (inc act n : ℕ) (i : Instance) (stock : List Kind) (told : Result Served ServerFault) → Files w → Files (served w inc act n i stock told)
+files_served w inc act n i stock (Err fault) k = record { counted_bounded = k.counted_bounded; filed = k.filed; commits = k.commits }
+files_served w inc act n i stock (Ok v) k = record { counted_bounded = k.counted_bounded; filed = k.filed; commits = k.commits }
+
+files_stocked : (w : World) (inc act n : ℕ) (op : Operation) (i : Instance) (class : List ℕ) (kind : Option Kind) (v : World) → Files w → stocked w inc act n op i class kind ≡ Ok v → Files v
+files_stocked w inc act n op i class None v k e = cc
+files_stocked w inc act n op i class (Some kind) v k e = (let at : _ ≡ v = ok_is _ v e in subst Files at (files_served w inc act n i _ (on_call i.core (Call inc act n op) (Some kind)) k))
+  where
+    ok_is : (a b : World) → ◌≡◌ {A = Result World Stop} (Ok a) (Ok b) → a ≡ b
+    ok_is a b e = cc
+
+ok_is : (a b : World) → ◌≡◌ {A = Result World Stop} (Ok a) (Ok b) → a ≡ b
+ok_is a b e = cc
+
+files_wanting : (w : World) (inc act n : ℕ) (op : Operation) (i : Instance) (class : Option (List ℕ)) (v : World) → Files w → called_wanting w inc act n op i class ≡ Ok v → Files v
+files_wanting w inc act n op i None v k e = subst Files (ok_is _ v e) (files_served w inc act n i w.stock (on_call i.core (Call inc act n op) None) k)
+files_wanting w inc act n op i (Some class) v k e = files_stocked w inc act n op i class (find (is_of class) w.stock) v k e
+
+files_called_in : (w : World) (inc act n : ℕ) (op : Operation) (i : Instance) (life : Life) (v : World) → Files w → called_in w inc act n op i life ≡ Ok v → Files v
+files_called_in w inc act n op i Running v k e = files_wanting w inc act n op i (wanted i.core (Call inc act n op)) v k e
+files_called_in w inc act n op i Ended v k e = subst Files (ok_is _ v e) (record { counted_bounded = k.counted_bounded; filed = k.filed; commits = k.commits })
+files_called_in w inc act n op i Reaped v k e = subst Files (ok_is _ v e) (record { counted_bounded = k.counted_bounded; filed = k.filed; commits = k.commits })
+
+files_called : (w : World) (inc act n : ℕ) (op : Operation) (i : Option Instance) (v : World) → Files w → called w inc act n op i ≡ Ok v → Files v
+files_called w inc act n op None v k e = subst Files (ok_is _ v e) (record { counted_bounded = k.counted_bounded; filed = k.filed; commits = k.commits })
+files_called w inc act n op (Some i) v k e = files_called_in w inc act n op i i.life v k e
+
+files_delivered : (w : World) (m : Message) (v : World) → Files w → delivered w m ≡ Ok v → Files v
+files_delivered w (Call inc act n op) v k e = files_called w inc act n op (nth w.instances inc) v k e
+files_delivered w (Reply inc act n answer) v k e = subst Files (ok_is _ v e) (files_took w (on_message w.rec inc (Reply inc act n answer)) k (message_quiet w.rec inc (Reply inc act n answer)))
+files_delivered w (Write inc act s n content) v k e = subst Files (ok_is _ v e) (files_took w (on_message w.rec inc (Write inc act s n content)) k (message_quiet w.rec inc (Write inc act s n content)))
+files_delivered w (Ask inc act g) v k e = subst Files (ok_is _ v e) (files_took w (on_message w.rec inc (Ask inc act g)) k (message_quiet w.rec inc (Ask inc act g)))
+
+files_deliver : (w : World) (sent : Option Sent) (v : World) → Files w → deliver w sent ≡ Ok v → Files v
+files_deliver w None v k e = cc
+files_deliver w (Some sent) v k e = files_delivered w sent.message v k e
+
+-- crashes and reaps
+files_crashed : (w : World) (inc : ℕ) (i : Instance) (life : Life) (v : World) → Files w → crashed w inc i life ≡ Ok v → Files v
+files_crashed w inc i Running v k e = subst Files (ok_is _ v e) (record { counted_bounded = k.counted_bounded; filed = k.filed; commits = k.commits })
+files_crashed w inc i Ended v k e = cc
+files_crashed w inc i Reaped v k e = cc
+
+files_crash : (w : World) (inc : ℕ) (i : Option Instance) (v : World) → Files w → crash w inc i ≡ Ok v → Files v
+files_crash w inc None v k e = cc
+files_crash w inc (Some i) v k e = files_crashed w inc i i.life v k e
+
+files_ended : (w : World) (inc : ℕ) (i : Instance) (life : Life) (v : World) → Files w → ended w inc i life ≡ Ok v → Files v
+files_ended w inc i Running v k e = cc
+files_ended w inc i Ended v k e = subst Files (ok_is _ v e) (files_took (record w { instances = set_nth w.instances inc (record i { life = Reaped }) }) (on_reap w.rec inc) (record { counted_bounded = k.counted_bounded; filed = k.filed; commits = k.commits }) (reap_quiet w.rec inc))
+files_ended w inc i Reaped v k e = cc
+
+files_reap : (w : World) (inc : ℕ) (i : Option Instance) (v : World) → Files w → reap w inc i ≡ Ok v → Files v
+files_reap w inc None v k e = cc
+files_reap w inc (Some i) v k e = files_ended w inc i i.life v k e
+
+-- commits
+id_counted : (f : ℕ) (o : Object) → id_of (counted_object f o) ≡ id_of o
+id_counted f o = elim (o.frame == f) as (λ b. id_of (if b then record o { work = kept o; link = cleared o.link } else o) ≡ id_of o) [ true ↦ refl | false ↦ refl ]
+
+id_completed : (f : ℕ) (frame : Frame) (o : Object) → id_of (completed f frame o) ≡ id_of o
+id_completed f frame o = id_asked f (completion frame) (counted_object f o) ∙ id_counted f o
+
+committing_not_idle : (phase : Phase) → is_committing phase ≡ true → phase ≢ Idle
+committing_not_idle Idle e = cc
+committing_not_idle Saving e = cc
+committing_not_idle HandingOff e = cc
+committing_not_idle Committing e = λ h. cc
+committing_not_idle InDoubt e = cc
+
+fitting_is : (parts got : List Part) (told : Result (Unit {0}) WriteFault) → fitting parts told ≡ Ok got → parts ≡ got
+fitting_is parts got (Ok u) e = cc
+fitting_is parts got (Err fault) e = cc
+
+pub image_is_at : (r : Record) (f : ℕ) (frame : Frame) (got : List Part) → image_at r f (Some frame) ≡ Ok got → parts_in f r.objects ≡ got
+image_is_at r f frame got e = elim (has_image frame.phase) as (λ b. (if b then fitting (parts_in f r.objects) (writable (document_tree (parts_in f r.objects))) else Err WrongState) ≡ Ok got → parts_in f r.objects ≡ got) [
+  | true ↦ (λ g. fitting_is (parts_in f r.objects) got _ g)
+  | false ↦ (λ g. cc)
+] e
+
+fitting_commit : (r : Record) (f : ℕ) (frame : Frame) (told : Result (List Part) ContainerFault) (t : Took) → commit_fitting r f frame told ≡ Ok t → commit_made r f frame ≡ t
+fitting_commit r f frame (Err fault) t e = cc
+fitting_commit r f frame (Ok parts) t e = cc
+
+pub commit_is_at : (r : Record) (f : ℕ) (frame : Frame) (t : Took) → commit_at r f (Some frame) ≡ Ok t → (is_committing frame.phase ≡ true) × (commit_made r f frame ≡ t)
+commit_is_at r f frame t e = elim (is_committing frame.phase) as (λ b. is_committing frame.phase ≡ b → (if b then commit_fitting r f frame (image r f) else Err WrongState) ≡ Ok t → (is_committing frame.phase ≡ true) × (commit_made r f frame ≡ t)) [
+  | true ↦ (λ h g. (h, fitting_commit r f frame (image r f) t g))
+  | false ↦ (λ h g. cc)
+] refl e
+
+files_done_taken : (w : World) (f : ℕ) (bytes : List ℕ) (frame : Frame) (parts : List Part) (told : Result Took ContainerFault) (v : World) → Steady w.rec → Files w → nth w.rec.frames f ≡ Some frame
+    → image w.rec f ≡ Ok parts → commit_done w.rec f ≡ told → ∥ Denotes bytes (document_tree parts) ∥₁ → done_taken w f bytes frame parts told ≡ Ok v → Files v
+files_done_taken w f bytes frame parts (Err fault) v s k at im cd den e = cc
+files_done_taken w f bytes frame parts (Ok t) v s k at im cd den e =
+    let r = w.rec in
+    let c = commit_is_at r f frame t (ap (commit_at r f) (sym at) ∙ cd) in
+    let ps : parts_in f r.objects ≡ parts = image_is_at r f frame parts (ap (image_at r f) (sym at) ∙ im) in
+    let ids : map id_of (map (completed f frame) r.objects) ≡ map id_of r.objects = map_map_same id_of (completed f frame) r.objects (id_completed f frame) in
+    let den2 : ∥ Denotes bytes (document_tree (parts_in f r.objects)) ∥₁ = subst (λ x. ∥ Denotes bytes (document_tree x) ∥₁) (sym ps) den in
+    let after : World = joined (kept_commit w f frame (parts_in f r.objects) (commit_made r f frame).counted bytes) (commit_made r f frame) in
+    let keeps : Files after = record {
+      counted_bounded = subst (λ x. CountedBounded (set_nth r.frames f (committed_frame frame)) x r.last_object after.container_done) (sym ids)
+          (bounded_committed r.frames f frame r.objects r.last_object w.container_done at (committing_not_idle frame.phase c.0) (numbered r s) k.counted_bounded);
+      filed = subst (λ cs. FilesCounted (set_nth r.frames f (committed_frame frame)) after.files cs after.container_done) (sym (append-nil _))
+          (stored_committed r.frames f frame w.files w.counted w.container_done (parts_in f r.objects) bytes at den2 k.filed);
+      commits = subst (λ cs. HasCommits cs after.container_done) (sym (append-nil _))
+          (counted_committed w.counted r.frames f frame w.container_done (parts_in f r.objects) k.filed.aligned at k.commits);
+    } in
+    let one : Files (joined (kept_commit w f frame parts (commit_made r f frame).counted bytes) (commit_made r f frame)) = subst (λ x. Files (joined (kept_commit w f frame x (commit_made r f frame).counted bytes) (commit_made r f frame))) ps keeps in
+    let two : Files (joined (kept_commit w f frame parts t.counted bytes) t) = subst (λ x. Files (joined (kept_commit w f frame parts x.counted bytes) x)) c.1 one in
+    subst Files (ok_is _ v e) two
+
+files_imaged : (w : World) (f : ℕ) (bytes : List ℕ) (frame : Frame) (told : Result (List Part) ContainerFault) (v : World) → Steady w.rec → Files w → nth w.rec.frames f ≡ Some frame → image w.rec f ≡ told
+    → ((parts : List Part) → image w.rec f ≡ Ok parts → ∥ Denotes bytes (document_tree parts) ∥₁) → done_imaged w f bytes frame told ≡ Ok v → Files v
+files_imaged w f bytes frame (Err fault) v s k at im den e = cc
+files_imaged w f bytes frame (Ok parts) v s k at im den e = files_done_taken w f bytes frame parts (commit_done w.rec f) v s k at im refl (den parts im) e
+
+files_done_in : (w : World) (f : ℕ) (bytes : List ℕ) (frame : Option Frame) (v : World) → Steady w.rec → Files w → nth w.rec.frames f ≡ frame
+    → ((parts : List Part) → image w.rec f ≡ Ok parts → ∥ Denotes bytes (document_tree parts) ∥₁) → done_in w f bytes frame ≡ Ok v → Files v
+files_done_in w f bytes None v s k at den e = cc
+files_done_in w f bytes (Some frame) v s k at den e = files_imaged w f bytes frame (image w.rec f) v s k at refl den e
+
+pub files_happened : (w : World) (bytes : List ℕ) (e : Event) (v : World) → Steady w.rec → Files w → IsImage w bytes e → happened w bytes e ≡ Ok v → Files v
+files_happened w bytes (event.Command c) v s k im e = subst Files (ok_is _ v e) (files_commanded w c (on_command w.rec c) k (λ t g. files_command w c t s k g))
+files_happened w bytes (event.Deliver p) v s k im e = files_deliver w (nth w.sent p) v k e
+files_happened w bytes (event.Crash inc) v s k im e = files_crash w inc (nth w.instances inc) v k e
+files_happened w bytes (event.Reap inc) v s k im e = files_reap w inc (nth w.instances inc) v k e
+files_happened w bytes (event.Done f) v s k im e = files_done_in w f bytes (nth w.rec.frames f) v s k refl im e
+
+pub limited_ok : (w : World) (told : Result World Stop) (v : World) → limited w told ≡ Ok v → told ≡ Ok v
+limited_ok w (Err stop) v e = cc
+limited_ok w (Ok u) v e = elim (nat_le MOST_EVENTS (length w.answers)) as (λ b. ◌≡◌ {A = Result World Stop} (if b then Err EventLimit else Ok u) (Ok v) → ◌≡◌ {A = Result World Stop} (Ok u) (Ok v)) [ true ↦ (λ g. cc) | false ↦ (λ g. g) ] e
+
+-- the commits of a world
+pub commits_kept : (w : World) → Files w → (commits : List Commit) × IsCounted w commits
+commits_kept w k = (k.commits.0, record { entries = k.commits.1.entries; last = k.commits.1.last })
+
+-- the files of a world
+pub files_kept : (w : World) → Files w → (f : ℕ) (document : Document) → nth w.counted f ≡ Some (Some document) → IsKept w f document
+files_kept w k f document c =
+    let p = nth_aligned w.counted w.rec.frames f (Some document) k.filed.aligned c in
+    let s = k.filed.file_counted f document p.0 c p.1 in
+    record {
+      bytes = s.file.bytes;
+      file = ap (frame_file_in w) p.1 ∙ rw (s.sure, s.stored, s.found) refl;
+      denotes = s.denotes;
+      counted = s.counted_with;
+    }

@@ -1,0 +1,7 @@
+pub mod Numbering
+pub mod Bounding
+pub mod Filing
+pub mod Frames
+pub mod Commits
+pub mod Quiet
+pub mod Kept

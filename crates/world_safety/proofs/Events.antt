@@ -1,0 +1,177 @@
+-- Each event leaves a world that agrees in agreement.
+use Rattle.std.proofs.Common.{◌≡◌, ◌≢◌, ◌==◌, ℕ, zero, suc, ◌<◌, Bool, true, false, List, [], ◌∷◌, ◌++◌, map, Option, Some, None, Result, Ok, Err, refl, sym, ap, ◌∙◌, inl, inr, arith, subst, slice_get, if◌then◌else◌}
+use Rattle.std.proofs.lemmas.List.{append-nil}
+use Rattle.wire_msgs.specs.Found.{nth, set_nth}
+use Rattle.wire_msgs.specs.declared.message.Message.{Message}
+use Rattle.wire_msgs.specs.declared.message.Message.TheVariants.{Call, Reply, Write, Ask}
+use Rattle.container_model.specs.Record.{Took}
+use Rattle.container_model.specs.Saves.{image, image_at, parts_in, commit_done, commit_at, commit_made, done_entry}
+use Rattle.container_model.specs.Messages.{on_message, on_reap}
+use Rattle.container_model.specs.Commands.{on_command, kind_of}
+use Rattle.container_model.specs.declared.command.Command.{Command}
+use Rattle.container_model.specs.declared.command.Command.TheVariants as command
+use Rattle.container_model.specs.declared.record.Frame.{Frame}
+use Rattle.container_model.specs.declared.record.Phase.TheVariants.{Idle, Committing}
+use Rattle.container_model.specs.declared.answer.Part.{Part}
+use Rattle.container_model.specs.declared.answer.Done.{Done}
+use Rattle.container_model.specs.declared.fault.ContainerFault.{ContainerFault}
+use Rattle.container_model.specs.declared.fault.ContainerFault.TheVariants.{Stale, WrongLink}
+use Rattle.container_laws.specs.Steady.{Steady}
+use Rattle.container_laws.proofs.SteadyCommands.{on_command_keeps}
+use Rattle.container_laws.proofs.SteadyCommits.{committing_by, commit_done_keeps}
+use Rattle.container_laws.proofs.SteadyMessages.{on_message_keeps, on_reap_keeps}
+use Rattle.container_laws.proofs.SteadyMoves.{either_refused}
+use Rattle.world_model.specs.declared.logs.Sent.{Sent}
+use Rattle.world_model.specs.declared.life.Life.{Life}
+use Rattle.world_model.specs.declared.life.Life.TheVariants.{Running, Ended, Reaped}
+use Rattle.world_model.specs.declared.event.Event.{Event}
+use Rattle.world_model.specs.declared.event.Event.TheVariants as event
+use Rattle.world_model.specs.declared.event.Stop.{Stop}
+use Rattle.world_model.specs.World.{World, Instance, messages_of, of_container, started_by, joined, took, commanded, owners_by, delivered, deliver, crashed, crash, ended, reap, kept_commit, done_taken, done_imaged, done_in, happened}
+use Rattle.world_model.specs.Safe.{Among, links_of, acts_of, messages}
+use Rattle.world_facts.specs.Words.{life_at, lives_of}
+use Rattle.world_facts.specs.Facts.{Facts}
+use Rattle.world_facts.proofs.Lookups.{among_map}
+use Rattle.world_facts.proofs.Counting.{all_counted}
+use Rattle.world_facts.proofs.Ending.{some_ended}
+use Rattle.world_files.specs.Files.{id_of, Files}
+use Rattle.world_files.proofs.Bounding.{parts_of_frame}
+use Rattle.world_files.proofs.Kept.{commit_is_at, image_is_at}
+use Rattle.world_steps.proofs.Instances.{nth_same}
+use Rattle.world_steps.proofs.Asking.{new_asks, insert_asks, edit_asks, save_asks}
+use Rattle.world_steps.proofs.Replying.{reply_answers}
+use Rattle.world_steps.proofs.Reaping.{reap_ends}
+use Rattle.world_steps.proofs.Committing.{commit_counts, commit_plain}
+use Rattle.world_safety.specs.Holding.{Agrees, AgreesIn}
+use Rattle.world_safety.proofs.Joining.{plain_joined, asks_joined, answered_joined, run_joined, start_joined, stopped_agrees}
+use Rattle.world_safety.proofs.Serving.{agrees_called}
+
+ok_is : (x y : World) → ◌≡◌ {A = Result World Stop} (Ok x) (Ok y) → x ≡ y
+ok_is x y e = cc
+
+-- commands
+plain_owners : (w : World) (t : Took) → AgreesIn (joined w t) → AgreesIn (record (joined w t) { owners = w.owners ++ [] })
+plain_owners w t h = subst (λ o. Agrees t.rec (w.instances ++ started_by t.rec.numbers t.answer.actions) (w.sent ++ map of_container (messages_of t.answer.actions)) o w.container_done w.server_done) (sym (append-nil w.owners)) h
+
+agrees_command : (w : World) (c : Command) (t : Took) → AgreesIn w → on_command w.rec c ≡ Ok t → AgreesIn (record (joined w t) { owners = w.owners ++ owners_by c })
+agrees_command w (command.New name x y) t h e = plain_owners w t (asks_joined w t h (on_command_keeps w.rec (command.New name x y) t h.steady e) (new_asks w.rec name x y t e))
+agrees_command w (command.Insert f kind area) t h e = plain_owners w t (asks_joined w t h (on_command_keeps w.rec (command.Insert f kind area) t h.steady e) (insert_asks w.rec f (kind_of kind) area t e))
+agrees_command w command.Start t h e = plain_owners w t (start_joined w t h e)
+agrees_command w (command.Run o inc) t h e = run_joined w o inc t h e
+agrees_command w (command.Edit o bytes) t h e = plain_owners w t (asks_joined w t h (on_command_keeps w.rec (command.Edit o bytes) t h.steady e) (edit_asks w.rec o bytes t h.steady e))
+agrees_command w (command.Save f) t h e = plain_owners w t (asks_joined w t h (on_command_keeps w.rec (command.Save f) t h.steady e) (save_asks w.rec f t h.steady e))
+
+agrees_commanded : (w : World) (c : Command) (told : Result Took ContainerFault) → AgreesIn w → on_command w.rec c ≡ told → AgreesIn (commanded w c told)
+agrees_commanded w c (Err fault) h e = h
+agrees_commanded w c (Ok t) h e = agrees_command w c t h e
+
+-- deliveries
+among_place : (sent : List Sent) (p : ℕ) (x : Sent) → nth sent p ≡ Some x → Among (messages sent) x.message
+among_place sent zero x e = cc
+among_place sent (suc i) x e = at sent i e
+  where
+    at : (xs : List Sent) (i : ℕ) → slice_get xs i ≡ Some x → Among (messages xs) x.message
+    at [] i e = cc
+    at (y ∷ ys) zero e = (let q : y ≡ x = cc in inl (ap (λ (z : Sent). z.message) (sym q)))
+    at (y ∷ ys) (suc i) e = inr (at ys i e)
+
+agrees_took : (w : World) (told : Result Took ContainerFault) → AgreesIn w → ((t : Took) → told ≡ Ok t → AgreesIn (joined w t)) → AgreesIn (took w told)
+agrees_took w (Err fault) h g = h
+agrees_took w (Ok t) h g = g t refl
+
+agrees_replied : (w : World) (inc act n : ℕ) (answer : _) (t : Took) → AgreesIn w → Among (messages w.sent) (Reply inc act n answer) → on_message w.rec inc (Reply inc act n answer) ≡ Ok t → AgreesIn (joined w t)
+agrees_replied w inc act n answer t h g e = answered_joined w t h (on_message_keeps w.rec inc (Reply inc act n answer) t h.steady e)
+    (reply_answers w.rec (acts_of w.instances) (lives_of w.instances) (messages w.sent) w.owners w.rec.last_act w.container_done w.server_done inc act n answer h.steady h.facts tt g t e)
+
+agrees_delivered : (w : World) (m : Message) (v : World) → AgreesIn w → Among (messages w.sent) m → delivered w m ≡ Ok v → AgreesIn v
+agrees_delivered w (Call inc act n op) v h g e = agrees_called w h inc act n op g (nth w.instances inc) v refl e
+agrees_delivered w (Reply inc act n answer) v h g e = subst AgreesIn (ok_is _ v e) (agrees_took w (on_message w.rec inc (Reply inc act n answer)) h (λ t q. agrees_replied w inc act n answer t h g q))
+agrees_delivered w (Write inc act s n content) v h g e = subst AgreesIn (ok_is _ v e) (agrees_took w (on_message w.rec inc (Write inc act s n content)) h (λ t q. absurd (either_refused (inc == inc) t Stale WrongLink q)))
+agrees_delivered w (Ask inc act j) v h g e = subst AgreesIn (ok_is _ v e) (agrees_took w (on_message w.rec inc (Ask inc act j)) h (λ t q. absurd (either_refused (inc == inc) t Stale WrongLink q)))
+
+agrees_deliver : (w : World) (p : ℕ) (sent : Option Sent) (v : World) → AgreesIn w → nth w.sent p ≡ sent → deliver w sent ≡ Ok v → AgreesIn v
+agrees_deliver w p None v h f e = cc
+agrees_deliver w p (Some sent) v h f e = agrees_delivered w sent.message v h (among_place w.sent p sent f) e
+
+-- crashes, and ends that are told
+agrees_crashed : (w : World) (inc : ℕ) (i : Instance) (life : Life) (v : World) → AgreesIn w → nth w.instances inc ≡ Some i → crashed w inc i life ≡ Ok v → AgreesIn v
+agrees_crashed w inc i Running v h at e = subst AgreesIn (ok_is _ v e) (stopped_agrees w inc i Ended at (λ z. cc) h)
+agrees_crashed w inc i Ended v h at e = cc
+agrees_crashed w inc i Reaped v h at e = cc
+
+agrees_crash : (w : World) (inc : ℕ) (i : Option Instance) (v : World) → AgreesIn w → nth w.instances inc ≡ i → crash w inc i ≡ Ok v → AgreesIn v
+agrees_crash w inc None v h at e = cc
+agrees_crash w inc (Some i) v h at e = agrees_crashed w inc i i.life v h at e
+
+reap_joined : (w : World) (inc : ℕ) (t : Took) → AgreesIn w → (lives_of w.instances inc ≡ Some Running → ⊥) → on_reap w.rec inc ≡ Ok t → AgreesIn (joined w t)
+reap_joined w inc t h over e =
+    let m = reap_ends w.rec (acts_of w.instances) (lives_of w.instances) inc over t e in
+    let f = some_ended (links_of w.rec.objects) (links_of t.rec.objects) (acts_of w.instances) (lives_of w.instances) (messages w.sent) w.owners w.rec.last_act w.container_done w.server_done m.0 h.facts in
+    plain_joined w t w.container_done h (on_reap_keeps w.rec inc t h.steady e) m.2
+    (subst (λ xs. Facts (links_of t.rec.objects) (acts_of w.instances) (lives_of w.instances) xs w.owners w.rec.last_act w.container_done w.server_done) (sym (ap (λ v. messages w.sent ++ v) m.1 ∙ append-nil (messages w.sent))) f)
+
+agrees_ended : (w : World) (inc : ℕ) (i : Instance) (life : Life) (v : World) → AgreesIn w → nth w.instances inc ≡ Some i → ended w inc i life ≡ Ok v → AgreesIn v
+agrees_ended w inc i Running v h at e = cc
+agrees_ended w inc i Ended v h at e =
+    let j : Instance = record i { life = Reaped } in
+    let u : World = record w { instances = set_nth w.instances inc j } in
+    let hu : AgreesIn u = stopped_agrees w inc i Reaped at (λ z. cc) h in
+    subst AgreesIn (ok_is _ v e) (agrees_took u (on_reap w.rec inc) hu
+    (λ t q. reap_joined u inc t hu (λ z. (let y : Some Reaped ≡ Some Running = sym (ap life_at (nth_same w.instances inc i j at)) ∙ z in cc)) q))
+agrees_ended w inc i Reaped v h at e = cc
+
+agrees_reap : (w : World) (inc : ℕ) (i : Option Instance) (v : World) → AgreesIn w → nth w.instances inc ≡ i → reap w inc i ≡ Ok v → AgreesIn v
+agrees_reap w inc None v h at e = cc
+agrees_reap w inc (Some i) v h at e = agrees_ended w inc i i.life v h at e
+
+-- commits
+module _ (w : World) (k : Files w) (h : AgreesIn w) (f : ℕ) (frame : Frame) (at : nth w.rec.frames f ≡ Some frame) (committing : frame.phase ≡ Committing) where
+  abbrev made : Took
+  made = commit_made w.rec f frame
+
+  abbrev fresh : List Done
+  fresh = map (done_entry frame.k) (parts_in f w.rec.objects)
+
+  -- no object of the frame has a save of this number counted
+  apart : (d e : Done) → Among w.container_done d → Among (map (done_entry frame.k) (parts_in f w.rec.objects)) e → d.object ≡ e.object → d.k ≡ frame.k → ⊥
+  apart d e p q eo ek =
+      let z = parts_of_frame f frame.k w.rec.objects e q in
+      let b = k.counted_bounded.below (id_of z.0) d frame (among_map id_of w.rec.objects z.0 z.1) p (eo ∙ z.3) (ap (nth w.rec.frames) z.2 ∙ at) in
+      let lt : d.k < frame.k = b.under (λ n. (let y : Committing ≡ Idle = sym committing ∙ n in cc)) in
+      absurd (omega arith)
+
+  pub commit_agrees : Steady (commit_made w.rec f frame).rec
+      → Agrees (commit_made w.rec f frame).rec (w.instances ++ started_by (commit_made w.rec f frame).rec.numbers (commit_made w.rec f frame).answer.actions)
+      (w.sent ++ map of_container (messages_of (commit_made w.rec f frame).answer.actions)) w.owners (w.container_done ++ map (done_entry frame.k) (parts_in f w.rec.objects)) w.server_done
+  commit_agrees steady = plain_joined w made (w.container_done ++ fresh) h steady (commit_plain w.rec f frame h.steady at committing)
+      (all_counted (links_of w.rec.objects) (links_of made.rec.objects) (acts_of w.instances) (lives_of w.instances) (messages w.sent) (messages_of made.answer.actions) w.owners w.rec.last_act w.container_done fresh w.server_done frame.k
+      (commit_counts w.rec f frame h.steady at committing w.container_done apart) h.facts)
+
+agrees_done_taken : (w : World) (f : ℕ) (bytes : List ℕ) (frame : Frame) (parts : List Part) (told : Result Took ContainerFault) (v : World) → Files w → AgreesIn w → nth w.rec.frames f ≡ Some frame
+    → image w.rec f ≡ Ok parts → commit_done w.rec f ≡ told → done_taken w f bytes frame parts told ≡ Ok v → AgreesIn v
+agrees_done_taken w f bytes frame parts (Err fault) v k h at im cd e = cc
+agrees_done_taken w f bytes frame parts (Ok t) v k h at im cd e =
+    let r = w.rec in
+    let c = commit_is_at r f frame t (ap (commit_at r f) (sym at) ∙ cd) in
+    let ps : parts_in f r.objects ≡ parts = image_is_at r f frame parts (ap (image_at r f) (sym at) ∙ im) in
+    let made = commit_made r f frame in
+    let steady : Steady made.rec = subst (λ (x : Took). Steady x.rec) (sym c.1) (commit_done_keeps r f t h.steady cd) in
+    let one : AgreesIn (joined (kept_commit w f frame (parts_in f r.objects) made.counted bytes) made) = commit_agrees w k h f frame at (committing_by frame.phase c.0) steady in
+    let two : AgreesIn (joined (kept_commit w f frame parts made.counted bytes) made) = subst (λ x. AgreesIn (joined (kept_commit w f frame x made.counted bytes) made)) ps one in
+    let three : AgreesIn (joined (kept_commit w f frame parts t.counted bytes) t) = subst (λ x. AgreesIn (joined (kept_commit w f frame parts x.counted bytes) x)) c.1 two in
+    subst AgreesIn (ok_is _ v e) three
+
+agrees_imaged : (w : World) (f : ℕ) (bytes : List ℕ) (frame : Frame) (told : Result (List Part) ContainerFault) (v : World) → Files w → AgreesIn w → nth w.rec.frames f ≡ Some frame → image w.rec f ≡ told → done_imaged w f bytes frame told ≡ Ok v → AgreesIn v
+agrees_imaged w f bytes frame (Err fault) v k h at im e = cc
+agrees_imaged w f bytes frame (Ok parts) v k h at im e = agrees_done_taken w f bytes frame parts (commit_done w.rec f) v k h at im refl e
+
+agrees_done_in : (w : World) (f : ℕ) (bytes : List ℕ) (frame : Option Frame) (v : World) → Files w → AgreesIn w → nth w.rec.frames f ≡ frame → done_in w f bytes frame ≡ Ok v → AgreesIn v
+agrees_done_in w f bytes None v k h at e = cc
+agrees_done_in w f bytes (Some frame) v k h at e = agrees_imaged w f bytes frame (image w.rec f) v k h at refl e
+
+pub agrees_happened : (w : World) (bytes : List ℕ) (e : Event) (v : World) → Files w → AgreesIn w → happened w bytes e ≡ Ok v → AgreesIn v
+agrees_happened w bytes (event.Command c) v k h e = subst AgreesIn (ok_is _ v e) (agrees_commanded w c (on_command w.rec c) h refl)
+agrees_happened w bytes (event.Deliver p) v k h e = agrees_deliver w p (nth w.sent p) v h refl e
+agrees_happened w bytes (event.Crash inc) v k h e = agrees_crash w inc (nth w.instances inc) v h refl e
+agrees_happened w bytes (event.Reap inc) v k h e = agrees_reap w inc (nth w.instances inc) v h refl e
+agrees_happened w bytes (event.Done f) v k h e = agrees_done_in w f bytes (nth w.rec.frames f) v k h refl e

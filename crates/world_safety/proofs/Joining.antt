@@ -1,0 +1,189 @@
+-- What a step of the container makes of a world that agrees.
+use Rattle.std.proofs.Common.{◌≡◌, ◌≢◌, ℕ, zero, suc, ◌+◌, Bool, true, false, List, [], ◌∷◌, ◌++◌, length, map, Option, Some, None, Ok, refl, sym, ap, ◌∙◌, inl, inr, arith, subst, nat_le, slice_get}
+use Rattle.std.proofs.lemmas.List.{append-nil}
+use Rattle.std.proofs.lemmas.Bool.Decides.{eqb_tells}
+use Rattle.wire_msgs.specs.Found.{nth, set_nth}
+use Rattle.wire_msgs.specs.declared.message.Message.{Message}
+use Rattle.server_model.specs.Server.{Activation}
+use Rattle.container_model.specs.Record.{Record, Took, MOST_SERVERS, count_alive, is_alive, is_unreaped}
+use Rattle.container_model.specs.Commands.{on_command, start, start_made}
+use Rattle.container_model.specs.declared.command.Command.TheVariants as command
+use Rattle.container_model.specs.declared.fault.ContainerFault.TheVariants.{Full, NumbersSpent}
+use Rattle.container_model.specs.declared.answer.Done.{Done}
+use Rattle.container_laws.specs.Steady.{Steady}
+use Rattle.container_laws.proofs.SteadyRecords.{unless_ok}
+use Rattle.container_laws.proofs.SteadyCommands.{on_command_keeps}
+use Rattle.world_model.specs.declared.logs.ServerDone.{ServerDone}
+use Rattle.world_model.specs.declared.life.Life.{Life}
+use Rattle.world_model.specs.declared.life.Life.TheVariants.{Running}
+use Rattle.world_model.specs.World.{World, Instance, fresh, messages_of, of_container, started_by, joined}
+use Rattle.world_model.specs.Safe.{links_of, act_at, acts_of, messages}
+use Rattle.world_facts.specs.Words.{Links, Acts, Lives, life_at, lives_of}
+use Rattle.world_facts.specs.Facts.{Facts}
+use Rattle.world_facts.specs.Shapes.{AsksAll, IsQuiet, StartsOrEnds}
+use Rattle.world_facts.proofs.Lookups.{nth_old, nth_one, nth_aligned, length_set_nth}
+use Rattle.world_facts.proofs.Asking.{asked_quietly}
+use Rattle.world_facts.proofs.Beginning.{begun}
+use Rattle.world_facts.proofs.Ending.{some_ended}
+use Rattle.world_facts.proofs.Sending.{sent_next}
+use Rattle.world_facts.proofs.Settled as settling
+use Rattle.world_facts.proofs.Starting.{started}
+use Rattle.world_files.proofs.Filing.{length_more}
+use Rattle.world_steps.specs.Steps.{IsPlain, IsBegun, IsAnswered, settled, goes_on, ended}
+use Rattle.world_steps.proofs.Instances.{nth_same, nth_other}
+use Rattle.world_steps.proofs.Objects.{messages_of_log, messages_told}
+use Rattle.world_steps.proofs.Running.{run_begins}
+use Rattle.world_safety.specs.Holding.{Agrees, AgreesIn}
+
+-- a step that starts no server
+module _ (w : World) (t : Took) (h : AgreesIn w) (steady : Steady t.rec) (servers : length t.rec.servers ≡ length w.rec.servers) (starts : (numbers : ℕ) → started_by numbers t.answer.actions ≡ []) where
+  pub joined_agrees : (owners : List ℕ) (counted : List Done)
+      → Facts (links_of t.rec.objects) (acts_of w.instances) (lives_of w.instances) (messages w.sent ++ messages_of t.answer.actions) owners t.rec.last_act counted w.server_done
+      → Agrees t.rec (w.instances ++ started_by t.rec.numbers t.answer.actions) (w.sent ++ map of_container (messages_of t.answer.actions)) owners counted w.server_done
+  joined_agrees owners counted f =
+      let more = messages_of t.answer.actions in
+      let ms : messages (w.sent ++ map of_container more) ≡ messages w.sent ++ more = messages_of_log w.sent (map of_container more) ∙ ap (λ v. messages w.sent ++ v) (messages_told more) in
+      let same : w.instances ++ started_by t.rec.numbers t.answer.actions ≡ w.instances = ap (λ v. w.instances ++ v) (starts t.rec.numbers) ∙ append-nil w.instances in
+      let base : Agrees t.rec w.instances (w.sent ++ map of_container more) owners counted w.server_done = record {
+        steady = steady;
+        servers = servers ∙ h.servers;
+        facts = subst (λ s. Facts (links_of t.rec.objects) (acts_of w.instances) (lives_of w.instances) s owners t.rec.last_act counted w.server_done) (sym ms) f;
+      } in
+      subst (λ v. Agrees t.rec v (w.sent ++ map of_container more) owners counted w.server_done) (sym same) base
+
+-- one that makes no activation either
+pub plain_joined : (w : World) (t : Took) (counted : List Done) → AgreesIn w → Steady t.rec → IsPlain w.rec t
+    → Facts (links_of t.rec.objects) (acts_of w.instances) (lives_of w.instances) (messages w.sent ++ messages_of t.answer.actions) w.owners w.rec.last_act counted w.server_done
+    → Agrees t.rec (w.instances ++ started_by t.rec.numbers t.answer.actions) (w.sent ++ map of_container (messages_of t.answer.actions)) w.owners counted w.server_done
+plain_joined w t counted h steady p f = joined_agrees w t h steady p.servers p.starts w.owners counted
+    (subst (λ n. Facts (links_of t.rec.objects) (acts_of w.instances) (lives_of w.instances) (messages w.sent ++ messages_of t.answer.actions) w.owners n counted w.server_done) (sym p.last_act) f)
+
+-- operations are asked
+pub asks_joined : (w : World) (t : Took) → AgreesIn w → Steady t.rec → AsksAll (λ o op. IsQuiet op) (links_of w.rec.objects) (links_of t.rec.objects) (messages_of t.answer.actions) × IsPlain w.rec t → AgreesIn (joined w t)
+asks_joined w t h steady m = plain_joined w t w.container_done h steady m.1
+    (asked_quietly (λ o op. IsQuiet op) (links_of w.rec.objects) (links_of t.rec.objects) (acts_of w.instances) (lives_of w.instances) (messages w.sent) (messages_of t.answer.actions) w.owners w.rec.last_act w.container_done w.server_done m.0 h.facts (λ o op q. q))
+
+-- an answer is taken
+answered_facts : (links after : Links) (acts : Acts) (lives : Lives) (sent more : List Message) (owners : List ℕ) (last : ℕ) (counted : List Done) (served : List ServerDone)
+    → IsAnswered links after acts lives more → Facts links acts lives sent owners last counted served → Facts after acts lives (sent ++ more) owners last counted served
+answered_facts links after acts lives sent more owners last counted served (settled o s e) f =
+    subst (λ xs. Facts after acts lives xs owners last counted served) (sym (ap (λ v. sent ++ v) e ∙ append-nil sent)) (settling.settled links after acts lives sent owners last counted served o s f)
+answered_facts links after acts lives sent more owners last counted served (goes_on o between s n) f =
+    sent_next between after acts lives sent more owners last counted served o n (settling.settled links between acts lives sent owners last counted served o s f)
+answered_facts links after acts lives sent more owners last counted served (ended s e) f =
+    subst (λ xs. Facts after acts lives xs owners last counted served) (sym (ap (λ v. sent ++ v) e ∙ append-nil sent)) (some_ended links after acts lives sent owners last counted served s f)
+
+pub answered_joined : (w : World) (t : Took) → AgreesIn w → Steady t.rec → IsAnswered (links_of w.rec.objects) (links_of t.rec.objects) (acts_of w.instances) (lives_of w.instances) (messages_of t.answer.actions) × IsPlain w.rec t → AgreesIn (joined w t)
+answered_joined w t h steady m = plain_joined w t w.container_done h steady m.1
+    (answered_facts (links_of w.rec.objects) (links_of t.rec.objects) (acts_of w.instances) (lives_of w.instances) (messages w.sent) (messages_of t.answer.actions) w.owners w.rec.last_act w.container_done w.server_done m.0 h.facts)
+
+-- an activation is made for an object
+owner_new : (owners : List ℕ) (last o : ℕ) → length owners ≡ last → nth (owners ++ o ∷ []) (last + 1) ≡ Some o
+owner_new owners last o e = (let z : suc (length owners) ≡ last + 1 = omega arith in subst (λ n. nth (owners ++ o ∷ []) n ≡ Some o) z (at owners))
+  where
+    at : (xs : List ℕ) → slice_get (xs ++ o ∷ []) (length xs) ≡ Some o
+    at [] = refl
+    at (x ∷ xs) = at xs
+
+pub run_joined : (w : World) (o inc : ℕ) (t : Took) → AgreesIn w → on_command w.rec (command.Run o inc) ≡ Ok t → AgreesIn (record (joined w t) { owners = w.owners ++ o ∷ [] })
+run_joined w o inc t h e =
+    let r = w.rec in
+    let b = run_begins r (lives_of w.instances) (w.owners ++ o ∷ []) o inc t h.steady e (owner_new w.owners r.last_act o h.facts.drawn.many) host in
+    let many : length (w.owners ++ o ∷ []) ≡ r.last_act + 1 = length_more w.owners o ∙ (ap suc h.facts.drawn.many ∙ (let y : suc r.last_act ≡ r.last_act + 1 = omega arith in y)) in
+    let f = begun (links_of r.objects) (links_of t.rec.objects) (acts_of w.instances) (lives_of w.instances) (messages w.sent) (messages_of t.answer.actions) w.owners (o ∷ []) r.last_act w.container_done w.server_done o b.begins many h.facts in
+    joined_agrees w t h (on_command_keeps r (command.Run o inc) t h.steady e) b.servers b.starts (w.owners ++ o ∷ []) w.container_done
+    (subst (λ n. Facts (links_of t.rec.objects) (acts_of w.instances) (lives_of w.instances) (messages w.sent ++ messages_of t.answer.actions) (w.owners ++ o ∷ []) n w.container_done w.server_done) (sym b.last_act) f)
+  where
+    host : is_alive w.rec inc ≡ true → (life : Life) × (lives_of w.instances inc ≡ Some life)
+    host a = at (nth w.rec.servers inc) refl a
+      where
+        at : (s : Option Bool) → nth w.rec.servers inc ≡ s → is_unreaped s ≡ true → (life : Life) × (lives_of w.instances inc ≡ Some life)
+        at None f g = cc
+        at (Some b) f g = (let p = nth_aligned w.rec.servers w.instances inc b h.servers f in (p.0.life, ap life_at p.1))
+
+-- the server of an activation is there
+pub hosted : (is : List Instance) (inc act : ℕ) (a : Activation) → acts_of is inc act ≡ Some a → (life : Life) × (lives_of is inc ≡ Some life)
+hosted is inc act a e = at (nth is inc) refl e
+  where
+    at : (i : Option Instance) → nth is inc ≡ i → act_at act i ≡ Some a → (life : Life) × (lives_of is inc ≡ Some life)
+    at None f g = cc
+    at (Some i) f g = (i.life, ap life_at f)
+
+-- a new server has no activations
+module _ (is : List Instance) (numbers : ℕ) where
+  abbrev new : Instance
+  new = fresh numbers (length is + 1)
+
+  found : (inc : ℕ) (life : Life) (i : Option Instance) → nth is inc ≡ i → life_at i ≡ Some life → (j : Instance) × (nth is inc ≡ Some j) × (j.life ≡ life)
+  found inc life None f q = cc
+  found inc life (Some j) f q = (j, f, (let z : Some j.life ≡ Some life = q in cc))
+
+  no_acts : (inc act : ℕ) (j : Option Instance) → nth (is ++ new ∷ []) inc ≡ j → nth is inc ≡ None → act_at act j ≡ None
+  no_acts inc act None f n = refl
+  no_acts inc act (Some j) f n = elim (nth_one is new inc j f) [
+    | inl o ↦ absurd (let z : None ≡ Some j = sym n ∙ o in cc)
+    | inr o ↦ ap (act_at act) (ap Some o.0)
+  ]
+
+  same_act : (inc act : ℕ) (i : Option Instance) → nth is inc ≡ i → acts_of (is ++ new ∷ []) inc act ≡ acts_of is inc act
+  same_act inc act None f = no_acts inc act (nth (is ++ new ∷ []) inc) refl f ∙ sym (ap (act_at act) f)
+  same_act inc act (Some i) f = ap (act_at act) (nth_old is (new ∷ []) inc i f) ∙ sym (ap (act_at act) f)
+
+  pub server_starts : StartsOrEnds (acts_of is) (acts_of (is ++ new ∷ [])) (lives_of is) (lives_of (is ++ new ∷ []))
+  server_starts = record {
+    same = λ inc act. same_act inc act (nth is inc) refl;
+    there = λ inc life q. (let p = found inc life (nth is inc) refl q in (life, ap life_at (nth_old is (new ∷ []) inc p.0 p.1) ∙ ap Some p.2));
+    runs = λ inc life q r. (let p = found inc life (nth is inc) refl q in q ∙ (sym (ap life_at (nth_old is (new ∷ []) inc p.0 p.1) ∙ ap Some p.2) ∙ r));
+    hosted = hosted is;
+  }
+
+pub start_joined : (w : World) (t : Took) → AgreesIn w → start w.rec ≡ Ok t → AgreesIn (joined w t)
+start_joined w t h e =
+    let r = w.rec in
+    let a = unless_ok (nat_le MOST_SERVERS (count_alive r.servers)) Full _ t e in
+    let b : Ok (start_made r) ≡ Ok t = (unless_ok (nat_le r.numbers (length r.servers)) NumbersSpent _ t a.1).1 in
+    let is : start_made r ≡ t = cc in
+    let new = fresh r.numbers (length r.servers + 1) in
+    let one : fresh r.numbers (length w.instances + 1) ≡ new = ap (λ n. fresh r.numbers (n + 1)) (sym h.servers) in
+    let steady : Steady (start_made r).rec = subst (λ (v : Took). Steady v.rec) (sym is) (on_command_keeps r command.Start t h.steady e) in
+    let begins : StartsOrEnds (acts_of w.instances) (acts_of (w.instances ++ new ∷ [])) (lives_of w.instances) (lives_of (w.instances ++ new ∷ [])) =
+    subst (λ i. StartsOrEnds (acts_of w.instances) (acts_of (w.instances ++ i ∷ [])) (lives_of w.instances) (lives_of (w.instances ++ i ∷ []))) one (server_starts w.instances r.numbers) in
+    let made : Agrees (start_made r).rec (w.instances ++ new ∷ []) w.sent w.owners w.container_done w.server_done = record {
+      steady = steady;
+      servers = length_more r.servers false ∙ (ap suc h.servers ∙ sym (length_more w.instances new));
+      facts = started (links_of r.objects) (acts_of w.instances) (acts_of (w.instances ++ new ∷ [])) (lives_of w.instances) (lives_of (w.instances ++ new ∷ [])) (messages w.sent) w.owners r.last_act w.container_done w.server_done begins h.facts;
+    } in
+    subst (λ (v : Took). AgreesIn (joined w v)) is (subst (λ s. Agrees (start_made r).rec (w.instances ++ new ∷ []) s w.owners w.container_done w.server_done) (sym (append-nil w.sent)) made)
+
+-- a server that runs no more
+module _ (is : List Instance) (inc : ℕ) (i : Instance) (life : Life) (at : nth is inc ≡ Some i) (over : life ≢ Running) where
+  abbrev stopped : List Instance
+  stopped = set_nth is inc (record i { life = life })
+
+  pub server_ends : StartsOrEnds (acts_of is) (acts_of (set_nth is inc (record i { life = life }))) (lives_of is) (lives_of (set_nth is inc (record i { life = life })))
+  server_ends =
+      let j : Instance = record i { life = life } in
+      record {
+        same = λ x act. elim (eqb_tells x inc) [
+          | inl s ↦ ap (act_at act) (ap (nth stopped) s.1 ∙ nth_same is inc i j at) ∙ sym (ap (act_at act) (ap (nth is) s.1 ∙ at))
+          | inr s ↦ ap (act_at act) (nth_other is inc x j s.1)
+        ];
+        there = λ x l q. elim (eqb_tells x inc) [
+          | inl s ↦ (life, ap life_at (ap (nth stopped) s.1 ∙ nth_same is inc i j at))
+          | inr s ↦ (l, ap life_at (nth_other is inc x j s.1) ∙ q)
+        ];
+        runs = λ x l q r. elim (eqb_tells x inc) [
+          | inl s ↦ absurd (over (let z : Some life ≡ Some Running = sym (ap life_at (ap (nth stopped) s.1 ∙ nth_same is inc i j at)) ∙ r in cc))
+          | inr s ↦ sym (ap life_at (nth_other is inc x j s.1)) ∙ r
+        ];
+        hosted = hosted is;
+      }
+
+pub stopped_agrees : (w : World) (inc : ℕ) (i : Instance) (life : Life) → nth w.instances inc ≡ Some i → life ≢ Running → AgreesIn w → AgreesIn (record w { instances = set_nth w.instances inc (record i { life = life }) })
+stopped_agrees w inc i life at over h =
+    let js = set_nth w.instances inc (record i { life = life }) in
+    record {
+      steady = h.steady;
+      servers = h.servers ∙ sym (length_set_nth w.instances inc (record i { life = life }));
+      facts = started (links_of w.rec.objects) (acts_of w.instances) (acts_of js) (lives_of w.instances) (lives_of js) (messages w.sent) w.owners w.rec.last_act w.container_done w.server_done (server_ends w.instances inc i life at over) h.facts;
+    }

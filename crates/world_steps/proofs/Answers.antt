@@ -1,0 +1,83 @@
+-- What an answer makes of a link, where it is what the activation answered.
+use Rattle.std.proofs.Common.{◌≡◌, ◌⊎◌, ℕ, Some, None, Ok, refl, sym, ap, ◌∙◌, inl, inr}
+use Rattle.wire_msgs.specs.Operations.{op_of}
+use Rattle.wire_msgs.specs.declared.operation.Operation.{Operation}
+use Rattle.wire_msgs.specs.declared.operation.Operation.TheVariants.{InitNew, Load, InPlace, UiActivate, UiDeactivate, InPlaceDeactivate, OpenWindow, Edit, Save, HandsOff, SaveCompleted, SaveDropped, Close}
+use Rattle.wire_msgs.specs.declared.answer.Answer.{Answer}
+use Rattle.wire_msgs.specs.declared.answer.Answer.TheVariants as told
+use Rattle.object_state.specs.Both as both
+use Rattle.object_state.specs.declared.both_states.States.{States}
+use Rattle.storage_tree.specs.declared.stored.Stored.{Stored}
+use Rattle.server_model.specs.Server.{Activation}
+use Rattle.container_model.specs.declared.record.Link.{Link}
+use Rattle.container_model.specs.Messages.{Replied, replied, done, done_link, saved_link, lost, noted, next_s}
+use Rattle.world_facts.specs.Facts.{IsEven, HasStepped, HasDone, Did}
+
+-- The link after the reply: it is level with the activation again, and has the content that the activation saved.
+pub record IsSettled (l : Link) (a : Activation) (after : Link) : Type 0 where
+  pub inc : after.inc ≡ l.inc
+  pub act : after.act ≡ l.act
+  pub last : after.last ≡ l.last
+  pub pending : after.pending ≡ None
+  pub waiting : after.waiting ≡ l.waiting
+  pub even : IsEven after.states after.s a
+  pub saved : (after.saved ≡ l.saved) ⊎ ((c : Stored) × (after.saved ≡ Some c) × (a.saved ≡ Some c))
+
+-- the link is settled, or it is gone and the activation is closed
+pub data Outcome (l : Link) (a : Activation) (p : Replied) : Type 0 where
+  settles : (after : Link) → p.link ≡ Some after → IsSettled l a after → Outcome l a p
+  gone : p.link ≡ None → a.content ≡ None → Outcome l a p
+
+done_is : (l : Link) (op : Operation) (v : States) (p : Replied) → both.step l.states (op_of op) ≡ Ok v → done l op ≡ Ok p → p.link ≡ Some (record l { pending = None; states = v; s = next_s op l.s })
+done_is l op v p e h = (let z : done_link l (next_s op l.s) (Ok v) ≡ Ok p = ap (done_link l (next_s op l.s)) (sym e) ∙ h in
+    let q : record { link = Some (record l { pending = None; states = v; s = next_s op l.s }); refused = None } ≡ p = cc in
+    ap (λ (x : Replied). x.link) (sym q))
+
+done_settles : (l : Link) (op : Operation) (a : Activation) (p : Replied) → HasDone l.states l.s op a → done l op ≡ Ok p → Outcome l a p
+done_settles l op a p d h = settles (record l { pending = None; states = a.states; s = next_s op l.s }) (done_is l op a.states p d.1.states h)
+    (record { inc = refl; act = refl; last = refl; pending = refl; waiting = refl; even = record { opened = d.0; states = refl; grant = d.1.grant }; saved = inl refl })
+
+saved_settles : (l : Link) (k : ℕ) (content : Stored) (a : Activation) (p : Replied) → HasDone l.states l.s (Save k) a → a.saved ≡ Some content → saved_link content (done l (Save k)) ≡ Ok p → Outcome l a p
+saved_settles l k content a p d s h =
+    let e = d.1.states in
+    let z : saved_link content (done_link l (next_s (Save k) l.s) (Ok a.states)) ≡ Ok p = ap (λ x. saved_link content (done_link l (next_s (Save k) l.s) x)) (sym e) ∙ h in
+    let new : Link = record l { pending = None; states = a.states; s = next_s (Save k) l.s; saved = Some content } in
+    let q : record { link = Some new; refused = None } ≡ p = cc in
+    settles new (ap (λ (x : Replied). x.link) (sym q)) (record { inc = refl; act = refl; last = refl; pending = refl; waiting = refl; even = record { opened = d.0; states = refl; grant = d.1.grant }; saved = inr (content, refl, s) })
+
+lost_gone : (l : Link) (a : Activation) (why : _) (p : Replied) → a.content ≡ None → lost why ≡ Ok p → Outcome l a p
+lost_gone l a why p e h = (let q : record { link = None; refused = Some why } ≡ p = cc in gone (ap (λ (x : Replied). x.link) (sym q)) e)
+
+noted_settles : (l : Link) (a : Activation) (why : _) (p : Replied) → IsEven l.states l.s a → noted l why ≡ Ok p → Outcome l a p
+noted_settles l a why p e h = (let q : record { link = Some (record l { pending = None }); refused = Some why } ≡ p = cc in
+    settles (record l { pending = None }) (ap (λ (x : Replied). x.link) (sym q)) (record { inc = refl; act = refl; last = refl; pending = refl; waiting = refl; even = e; saved = inl refl }))
+
+pub reply_outcome : (l : Link) (op : Operation) (answer : Answer) (a : Activation) (p : Replied) → replied l op answer ≡ Ok p → Did l.states l.s op a answer → Outcome l a p
+reply_outcome l (InitNew class) told.Done a p e h = done_settles l (InitNew class) a p h e
+reply_outcome l (InitNew class) (told.Refused why) a p e h = lost_gone l a why p h e
+reply_outcome l (InitNew class) (told.Content c) a p e h = cc
+reply_outcome l (InitNew class) (told.Tools x y) a p e h = cc
+reply_outcome l (Load class content) told.Done a p e h = done_settles l (Load class content) a p h e
+reply_outcome l (Load class content) (told.Refused why) a p e h = lost_gone l a why p h e
+reply_outcome l (Load class content) (told.Content c) a p e h = cc
+reply_outcome l (Load class content) (told.Tools x y) a p e h = cc
+reply_outcome l (Edit bytes) told.Done a p e h = done_settles l (Edit bytes) a p h e
+reply_outcome l (Edit bytes) (told.Refused why) a p e h = noted_settles l a why p h e
+reply_outcome l (Edit bytes) (told.Content c) a p e h = cc
+reply_outcome l (Edit bytes) (told.Tools x y) a p e h = cc
+reply_outcome l (Save k) told.Done a p e h = cc
+reply_outcome l (Save k) (told.Refused why) a p e h = cc
+reply_outcome l (Save k) (told.Content c) a p e h = saved_settles l k c a p h.0 h.1 e
+reply_outcome l (Save k) (told.Tools x y) a p e h = cc
+reply_outcome l (SaveCompleted k storage) told.Done a p e h = done_settles l (SaveCompleted k storage) a p h e
+reply_outcome l (SaveCompleted k storage) (told.Refused why) a p e h = cc
+reply_outcome l (SaveCompleted k storage) (told.Content c) a p e h = cc
+reply_outcome l (SaveCompleted k storage) (told.Tools x y) a p e h = cc
+reply_outcome l InPlace answer a p e h = cc
+reply_outcome l (UiActivate g) answer a p e h = cc
+reply_outcome l UiDeactivate answer a p e h = cc
+reply_outcome l InPlaceDeactivate answer a p e h = cc
+reply_outcome l OpenWindow answer a p e h = cc
+reply_outcome l HandsOff answer a p e h = cc
+reply_outcome l (SaveDropped k) answer a p e h = cc
+reply_outcome l (Close option) answer a p e h = cc

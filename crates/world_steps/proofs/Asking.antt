@@ -1,0 +1,187 @@
+-- Commands that ask operations, or nothing: new frames and objects, edits and saves.
+use Rattle.std.proofs.Common.{◌≡◌, ◌≢◌, ◌⊎◌, ◌||◌, ◌==◌, ℕ, ◌+◌, Bool, true, false, not, List, [], ◌∷◌, ◌++◌, length, map, Option, Some, None, option_map, Result, Ok, refl, sym, ap, ◌∙◌, inl, inr, arith, subst, nat_le, if◌then◌else◌, eq-eqb}
+use Rattle.wire_msgs.specs.Found.{find, put, nth}
+use Rattle.wire_msgs.specs.declared.message.Message.{Message}
+use Rattle.wire_msgs.specs.declared.operation.Operation.{Operation}
+use Rattle.wire_msgs.specs.declared.operation.Operation.TheVariants.{Edit, Save}
+use Rattle.storage_tree.specs.declared.stored.Stored.{Stored}
+use Rattle.embed_core.specs.Kinds.{Kind}
+use Rattle.object_parts.specs.declared.area.Area.{Area}
+use Rattle.container_model.specs.declared.record.Link.{Link}
+use Rattle.container_model.specs.declared.record.Object.{Object}
+use Rattle.container_model.specs.declared.record.Frame.{Frame}
+use Rattle.container_model.specs.declared.fault.ContainerFault.TheVariants.{Busy, InDoubt as Doubtful, Full, NumbersSpent, WrongState}
+use Rattle.container_model.specs.Record.{Record, Took, MOST_FRAMES, MOST_OBJECTS, is_object, is_busy, is_saving, is_moving, is_doubtful, count_objects, ask, ask_at, asked_link, asked_sent, asked_object, asked_all, sends}
+use Rattle.container_model.specs.Saves.{settle_actions}
+use Rattle.container_model.specs.Commands.{new, new_made, insert, insert_at, insert_made, new_object, is_named, is_size, is_empty_area, any_busy, all_have_numbers, edit, edit_at, edit_in, edit_linked, save, save_at, save_made, saving}
+use Rattle.container_laws.specs.Steady.{WaitsBehind, Steady}
+use Rattle.container_laws.proofs.EditsTaken.{edited, edit_taken}
+use Rattle.std.proofs.lemmas.Bool.{eqb-true, eqb-false}
+use Rattle.container_laws.proofs.SteadyRecords.{if_told, unless_ok}
+use Rattle.container_laws.proofs.SteadyCommands.{asked_took, found_numbered}
+use Rattle.container_laws.proofs.SteadyShapes.{asked_of, call_of}
+use Rattle.world_model.specs.World.{messages_of}
+use Rattle.world_model.specs.Safe.{Among, link_at, links_of}
+use Rattle.world_facts.specs.Words.{Links}
+use Rattle.world_facts.specs.Shapes.{IsSame, IsCalled, AskedAt, none, stays, queues, sends as sent, AsksAll, IsQuiet}
+use Rattle.world_steps.specs.Steps.{IsPlain}
+use Rattle.world_steps.proofs.Objects.{IsHeld, found_held, link_mapped, link_was, put_here, put_there, to_laws, from_laws, messages_sends, sent_of, no_start, no_start_sent, no_start_settled}
+
+-- an object of which nothing is asked
+same_link : (l : Link) → IsSame l l
+same_link l = record { inc = refl; act = refl; last = refl; pending = refl; states = refl; s = refl; saved = inl refl }
+
+pub unasked : (Asks : Operation → Type 0) (x : Option Link) → AskedAt Asks x x []
+unasked Asks None = none refl refl refl
+unasked Asks (Some l) = stays l l refl refl (same_link l) refl refl
+
+unasked_as : (Asks : Operation → Type 0) (x y : Option Link) → y ≡ x → AskedAt Asks x y []
+unasked_as Asks x y e = subst (λ z. AskedAt Asks x z []) (sym e) (unasked Asks x)
+
+-- an operation is asked of a link whose save is as it was or over
+module _ (Asks : Operation → Type 0) (b : Link) (saved : Option Stored) (op : Operation) (asks : Asks op) (same : (saved ≡ b.saved) ⊎ (saved ≡ None)) where
+  asked_by : (p : Option Operation) → b.pending ≡ p → WaitsBehind p b.waiting → AskedAt Asks (Some b) (Some (ask_at (record b { saved = saved }) op p).link) (ask_at b op p).sent
+  asked_by None e w = sent b (record b { last = b.last + 1; pending = Some op; saved = saved }) op refl refl
+      (record { inc = refl; act = refl; free = e; last = refl; pending = refl; states = refl; s = refl; saved = same }) w w asks refl
+  asked_by (Some before) e w = queues b (record b { waiting = b.waiting ++ op ∷ []; saved = saved }) op before refl refl
+      (record { inc = refl; act = refl; last = refl; pending = refl; states = refl; s = refl; saved = same }) e refl asks refl
+
+  pub is_asked : WaitsBehind b.pending b.waiting → AskedAt Asks (Some b) (Some (ask (record b { saved = saved }) op).link) (ask b op).sent
+  is_asked w = asked_by b.pending refl w
+
+-- no link changes, and nothing is sent
+pub none_asked : (links after : Links) → ((n : ℕ) → after n ≡ links n) → AsksAll (λ o op. IsQuiet op) links after []
+none_asked links after same = record { news = λ n. []; each = λ n. unasked_as IsQuiet (links n) (after n) (same n); from = λ m h. absurd h }
+
+-- each object is changed under its number
+module _ (Asks : ℕ → Operation → Type 0) (os : List Object) (g : Object → Object) (news : Object → List Message) (more : List Message) (number : (o : Object) → (g o).number ≡ o.number)
+    (each : (n : ℕ) (o : Object) → find (is_object n) os ≡ Some o → AskedAt (Asks n) o.link (g o).link (news o))
+    (from : (m : Message) → Among more m → (o : Object) × (find (is_object o.number) os ≡ Some o) × Among (news o) m) where
+  abbrev news_in : Option Object → List Message
+  news_in None = []
+  news_in (Some o) = news o
+
+  each_in : (n : ℕ) (x : Option Object) → find (is_object n) os ≡ x → AskedAt (Asks n) (link_at x) (link_at (option_map g x)) (news_in x)
+  each_in n None e = none refl refl refl
+  each_in n (Some o) e = each n o e
+
+  pub all_mapped : AsksAll Asks (links_of os) (links_of (map g os)) more
+  all_mapped = record {
+    news = λ n. news_in (find (is_object n) os);
+    each = λ n. subst (λ z. AskedAt (Asks n) (links_of os n) z (news_in (find (is_object n) os))) (sym (link_mapped g os n number)) (each_in n (find (is_object n) os) refl);
+    from = λ m h. (let c = from m h in (c.0.number, subst (λ z. Among (news_in z) m) (sym c.1) c.2));
+  }
+
+-- who is asked by a message to a whole frame
+pub who_is_asked : (r : Record) (f : ℕ) (op : Operation) (m : Message) → Steady r → Among (asked_all f op r.objects) m → (o : Object) × (find (is_object o.number) r.objects ≡ Some o) × Among (asked_of f op o) m
+who_is_asked r f op m s h = (let c = call_of f op r.objects m s.order (to_laws (asked_all f op r.objects) m h) in (c.0, c.1, from_laws (asked_of f op c.0) m c.2))
+
+-- New and Insert
+pub new_asks : (r : Record) (name : List ℕ) (w h : ℕ) (t : Took) → new r name w h ≡ Ok t → AsksAll (λ o op. IsQuiet op) (links_of r.objects) (links_of t.rec.objects) (messages_of t.answer.actions) × IsPlain r t
+new_asks r name w h t e =
+    let a = unless_ok (is_named name r.frames) Busy _ t e in
+    let b = unless_ok (not (is_size w h)) WrongState _ t a.1 in
+    let c = unless_ok (nat_le MOST_FRAMES (length r.frames)) Full _ t b.1 in
+    let g : Ok (new_made r name w h) ≡ Ok t = (unless_ok (nat_le r.numbers (length r.frames)) NumbersSpent _ t c.1).1 in
+    let is : new_made r name w h ≡ t = cc in
+    subst (λ (v : Took). AsksAll (λ o op. IsQuiet op) (links_of r.objects) (links_of v.rec.objects) (messages_of v.answer.actions) × IsPlain r v) is
+    (none_asked (links_of r.objects) (links_of r.objects) (λ n. refl), record { last_act = refl; servers = refl; starts = λ numbers. refl })
+
+link_more : (os : List Object) (y : Object) (n : ℕ) → y.link ≡ None → links_of (os ++ y ∷ []) n ≡ links_of os n
+link_more [] y n e = elim (y.number == n) as (λ b. link_at (if b then Some y else None) ≡ None) [ true ↦ e | false ↦ refl ]
+link_more (z ∷ os) y n e = elim (z.number == n) as (λ b. link_at (if b then Some z else find (is_object n) (os ++ y ∷ [])) ≡ link_at (if b then Some z else find (is_object n) os)) [ true ↦ refl | false ↦ link_more os y n e ]
+
+insert_asks_in : (r : Record) (f : ℕ) (kind : Kind) (area : Area) (frame : Option Frame) (t : Took) → insert_at r f kind area frame ≡ Ok t → AsksAll (λ o op. IsQuiet op) (links_of r.objects) (links_of t.rec.objects) (messages_of t.answer.actions) × IsPlain r t
+insert_asks_in r f kind area None t e = cc
+insert_asks_in r f kind area (Some frame) t e =
+    let a = unless_ok (is_doubtful frame.phase) Doubtful _ t e in
+    let b = unless_ok (is_saving frame.phase) Busy _ t a.1 in
+    let c = unless_ok (is_empty_area area) WrongState _ t b.1 in
+    let d = unless_ok (nat_le MOST_OBJECTS (count_objects f r.objects)) Full _ t c.1 in
+    let g : Ok (insert_made r f kind area) ≡ Ok t = (unless_ok (nat_le r.numbers r.last_object) NumbersSpent _ t d.1).1 in
+    let is : insert_made r f kind area ≡ t = cc in
+    let y = new_object (r.last_object + 1) f kind area in
+    subst (λ (v : Took). AsksAll (λ o op. IsQuiet op) (links_of r.objects) (links_of v.rec.objects) (messages_of v.answer.actions) × IsPlain r v) is
+    (none_asked (links_of r.objects) (links_of (r.objects ++ y ∷ [])) (λ n. link_more r.objects y n refl), record { last_act = refl; servers = refl; starts = λ numbers. refl })
+
+pub insert_asks : (r : Record) (f : ℕ) (kind : Kind) (area : Area) (t : Took) → insert r f kind area ≡ Ok t → AsksAll (λ o op. IsQuiet op) (links_of r.objects) (links_of t.rec.objects) (messages_of t.answer.actions) × IsPlain r t
+insert_asks r f kind area t e = insert_asks_in r f kind area (nth r.frames f) t e
+
+-- Edit
+edit_quiet : (bytes : List ℕ) → IsQuiet (Edit bytes)
+edit_quiet bytes = λ k storage e. cc
+
+edit_asks_linked : (r : Record) (n : ℕ) (bytes : List ℕ) (x : Object) (link : Option Link) (t : Took) → Steady r → find (is_object n) r.objects ≡ Some x → x.link ≡ link → edit_linked r x bytes link ≡ Ok t
+    → AsksAll (λ o op. IsQuiet op) (links_of r.objects) (links_of t.rec.objects) (messages_of t.answer.actions) × IsPlain r t
+edit_asks_linked r n bytes x None t s f xl e = cc
+edit_asks_linked r n bytes x (Some l) t s f xl e =
+    let is : edited r x l bytes ≡ t = edit_taken r x bytes l t xl e in
+    let a : Object = record x { link = Some (ask l (Edit bytes)).link } in
+    let ms = (ask l (Edit bytes)).sent in
+    let h : IsHeld r n l = found_held r n l x s f xl in
+    let test = is_object x.number in
+    let here : find test r.objects ≡ Some x = found_numbered n r.objects x f in
+    let asked : AskedAt IsQuiet (Some l) (Some (ask l (Edit bytes)).link) ms = is_asked IsQuiet l l.saved (Edit bytes) (edit_quiet bytes) (inl refl) h.steady.waits_behind in
+    subst (λ (v : Took). AsksAll (λ o op. IsQuiet op) (links_of r.objects) (links_of v.rec.objects) (messages_of v.answer.actions) × IsPlain r v) is (
+      record {
+        news = λ k. if x.number == k then ms else [];
+        each = λ k. if_told (AskedAt IsQuiet (links_of r.objects k) (links_of (put test a r.objects) k)) (x.number == k) ms []
+            (λ t'. subst (λ j. AskedAt IsQuiet (links_of r.objects j) (links_of (put test a r.objects) j) ms) (eqb-true x.number k t')
+            (subst (λ z. AskedAt IsQuiet z (links_of (put test a r.objects) x.number) ms) (sym (link_was r.objects test x a s.order here refl ∙ xl))
+            (subst (λ z. AskedAt IsQuiet (Some l) z ms) (sym (put_here r.objects test x a s.order here refl)) asked)))
+            (λ t'. unasked_as IsQuiet (links_of r.objects k) (links_of (put test a r.objects) k) (put_there r.objects test x a s.order here refl k (λ q. eqb-false x.number k t' (sym q))));
+        from = λ m g. (x.number, subst (λ b. Among (if b then ms else []) m) (sym (eq-eqb x.number x.number refl)) (subst (λ v. Among v m) (messages_sends ms) g));
+      },
+      record { last_act = refl; servers = refl; starts = λ numbers. no_start_sent numbers ms },
+    )
+
+edit_asks_in : (r : Record) (n : ℕ) (bytes : List ℕ) (x : Object) (frame : Option Frame) (t : Took) → Steady r → find (is_object n) r.objects ≡ Some x → edit_in r x bytes frame ≡ Ok t
+    → AsksAll (λ o op. IsQuiet op) (links_of r.objects) (links_of t.rec.objects) (messages_of t.answer.actions) × IsPlain r t
+edit_asks_in r n bytes x None t s f e = cc
+edit_asks_in r n bytes x (Some frame) t s f e =
+    let a = unless_ok (is_doubtful frame.phase) Doubtful _ t e in
+    let b = unless_ok (is_saving frame.phase || is_busy frame.ui.state x) Busy _ t a.1 in
+    edit_asks_linked r n bytes x x.link t s f refl b.1
+
+edit_asks_at : (r : Record) (n : ℕ) (bytes : List ℕ) (x : Option Object) (t : Took) → Steady r → find (is_object n) r.objects ≡ x → edit_at r bytes x ≡ Ok t
+    → AsksAll (λ o op. IsQuiet op) (links_of r.objects) (links_of t.rec.objects) (messages_of t.answer.actions) × IsPlain r t
+edit_asks_at r n bytes None t s f e = cc
+edit_asks_at r n bytes (Some x) t s f e = edit_asks_in r n bytes x (nth r.frames x.frame) t s f e
+
+pub edit_asks : (r : Record) (n : ℕ) (bytes : List ℕ) (t : Took) → Steady r → edit r n bytes ≡ Ok t → AsksAll (λ o op. IsQuiet op) (links_of r.objects) (links_of t.rec.objects) (messages_of t.answer.actions) × IsPlain r t
+edit_asks r n bytes t s e = edit_asks_at r n bytes (find (is_object n) r.objects) t s refl e
+
+-- Save
+save_quiet : (k : ℕ) → IsQuiet (Save k)
+save_quiet k = λ j storage e. cc
+
+module _ (r : Record) (f : ℕ) (op : Operation) (s : Steady r) (quiet : IsQuiet op) where
+  asked_one : (n : ℕ) (o : Object) (x : Option Link) → find (is_object n) r.objects ≡ Some o → o.link ≡ x → AskedAt IsQuiet x (asked_link op x) (asked_sent op x)
+  asked_one n o None e q = none refl refl refl
+  asked_one n o (Some l) e q = is_asked IsQuiet l l.saved op quiet (inl refl) (found_held r n l o s e q).steady.waits_behind
+
+  asked_each : (n : ℕ) (o : Object) → find (is_object n) r.objects ≡ Some o → AskedAt IsQuiet o.link (asked_object f op o).link (asked_of f op o)
+  asked_each n o e = elim (o.frame == f) as (λ b. AskedAt IsQuiet o.link (if b then record o { link = asked_link op o.link } else o).link (if b then asked_sent op o.link else [])) [
+    | true ↦ asked_one n o o.link e refl
+    | false ↦ unasked IsQuiet o.link
+  ]
+
+  pub frame_asked : AsksAll (λ o p. IsQuiet p) (links_of r.objects) (links_of (map (asked_object f op) r.objects)) (asked_all f op r.objects)
+  frame_asked = all_mapped (λ o p. IsQuiet p) r.objects (asked_object f op) (asked_of f op) (asked_all f op r.objects) (λ o. (asked_took f op o).number) asked_each (λ m h. who_is_asked r f op m s h)
+
+save_asks_in : (r : Record) (f : ℕ) (frame : Option Frame) (t : Took) → Steady r → save_at r f frame ≡ Ok t → AsksAll (λ o op. IsQuiet op) (links_of r.objects) (links_of t.rec.objects) (messages_of t.answer.actions) × IsPlain r t
+save_asks_in r f None t s e = cc
+save_asks_in r f (Some frame) t s e =
+    let a = unless_ok (is_doubtful frame.phase) Doubtful _ t e in
+    let b = unless_ok (is_saving frame.phase || is_moving frame.ui.state || any_busy f frame.ui.state r.objects) Busy _ t a.1 in
+    let c : Ok (save_made r f frame) ≡ Ok t = (unless_ok (nat_le r.numbers frame.k || not (all_have_numbers f r.numbers r.objects)) NumbersSpent _ t b.1).1 in
+    let is : save_made r f frame ≡ t = cc in
+    let op = Save (frame.k + 1) in
+    let v = saving r f frame in
+    subst (λ (x : Took). AsksAll (λ o p. IsQuiet p) (links_of r.objects) (links_of x.rec.objects) (messages_of x.answer.actions) × IsPlain r x) is (
+      subst (λ ms. AsksAll (λ o p. IsQuiet p) (links_of r.objects) (links_of v.objects) ms) (sym (sent_of (asked_all f op r.objects) 1 v.objects v.frames)) (frame_asked r f op s (save_quiet (frame.k + 1))),
+      record { last_act = refl; servers = refl; starts = λ numbers. no_start numbers (asked_all f op r.objects) (settle_actions v) (no_start_settled numbers 1 v.objects v.frames) },
+    )
+
+pub save_asks : (r : Record) (f : ℕ) (t : Took) → Steady r → save r f ≡ Ok t → AsksAll (λ o op. IsQuiet op) (links_of r.objects) (links_of t.rec.objects) (messages_of t.answer.actions) × IsPlain r t
+save_asks r f t s e = save_asks_in r f (nth r.frames f) t s e

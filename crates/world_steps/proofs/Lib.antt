@@ -1,0 +1,10 @@
+pub mod Objects
+pub mod Ready
+pub mod Instances
+pub mod Calls
+pub mod Answers
+pub mod Asking
+pub mod Running
+pub mod Replying
+pub mod Reaping
+pub mod Committing

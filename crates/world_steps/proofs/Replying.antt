@@ -1,0 +1,207 @@
+-- A reply that is taken: it settles the pending operation, which was done, and the next that waits is sent; or the link ends.
+use Rattle.std.proofs.Common.{◌≡◌, ◌≢◌, ◌⊎◌, ◌&&◌, ◌==◌, ℕ, ◌+◌, ◌≤◌, Bool, true, false, List, [], ◌∷◌, ◌++◌, Option, Some, None, Result, Ok, Err, refl, sym, ap, ◌∙◌, inl, inr, arith, subst, if◌then◌else◌}
+use Rattle.std.proofs.lemmas.Bool.{eqb-true}
+use Rattle.std.proofs.lemmas.Bool.Decides.{eqb_tells}
+use Rattle.wire_msgs.specs.Found.{find, put}
+use Rattle.wire_msgs.specs.declared.message.Message.{Message}
+use Rattle.wire_msgs.specs.declared.message.Message.TheVariants.{Call, Reply}
+use Rattle.wire_msgs.specs.declared.operation.Operation.{Operation}
+use Rattle.wire_msgs.specs.declared.answer.Answer.{Answer}
+use Rattle.storage_tree.specs.declared.stored.Stored.{Stored}
+use Rattle.server_model.specs.Server.{Activation}
+use Rattle.container_model.specs.declared.record.Link.{Link}
+use Rattle.container_model.specs.declared.record.Object.{Object}
+use Rattle.container_model.specs.declared.fault.ContainerFault.{ContainerFault}
+use Rattle.container_model.specs.declared.fault.ContainerFault.TheVariants.{Stale, WrongLink}
+use Rattle.container_model.specs.Record.{Record, Took, quiet_answer, is_linked, is_link, is_alive, sends}
+use Rattle.container_model.specs.Saves.{settle, settle_actions}
+use Rattle.container_model.specs.Messages.{Replied, replied, next_at, next_link, next_sent, replied_object, replied_record, reply_taken, reply_pending, reply_link, reply_found, on_message}
+use Rattle.container_model.specs.declared.answer.Done.{Done}
+use Rattle.container_laws.specs.Steady.{Steady}
+use Rattle.world_model.specs.World.{messages_of}
+use Rattle.world_model.specs.Safe.{Among, links_of}
+use Rattle.world_model.specs.declared.logs.ServerDone.{ServerDone}
+use Rattle.world_facts.specs.Words.{Links, Acts, Lives, IsHonest, IsClosed}
+use Rattle.world_facts.specs.Facts.{InStep, not_begun, level, behind, ahead, Did, HasSaved, Facts}
+use Rattle.world_facts.specs.Shapes.{Settles, SendsNext, EndsSome}
+use Rattle.world_facts.proofs.Lookups.{find_passes}
+use Rattle.world_steps.specs.Steps.{IsPlain, IsAnswered, settled, goes_on, ended}
+use Rattle.world_steps.proofs.Objects.{link_was, put_here, put_there, sent_of, no_start, no_start_settled}
+use Rattle.world_steps.proofs.Answers.{IsSettled, Outcome, settles, gone, reply_outcome}
+
+-- the answer to the pending call of an object
+record IsAnswer (inc act n : ℕ) (answer : Answer) (x : Object) (p : Replied) : Type 0 where
+  l : Link
+  op : Operation
+  is : x.link ≡ Some l
+  pending : l.pending ≡ Some op
+  number : n ≡ l.last
+  told : replied l op answer ≡ Ok p
+
+answer_pending : (inc act n : ℕ) (l : Link) (o : Option Operation) (answer : Answer) (x : Object) (p : Replied) → x.link ≡ Some l → l.pending ≡ o → reply_pending l n answer o ≡ Ok p → IsAnswer inc act n answer x p
+answer_pending inc act n l None answer x p xl q e = cc
+answer_pending inc act n l (Some op) answer x p xl q e = at (n == l.last) refl e
+  where
+    at : (b : Bool) → (n == l.last) ≡ b → ◌≡◌ {A = Result Replied ContainerFault} (if b then replied l op answer else Err Stale) (Ok p) → IsAnswer inc act n answer x p
+    at true t g = record { l = l; op = op; is = xl; pending = q; number = eqb-true n l.last t; told = g }
+    at false t g = cc
+
+answer_link : (inc act n : ℕ) (link : Option Link) (answer : Answer) (x : Object) (p : Replied) → x.link ≡ link → reply_link n answer link ≡ Ok p → IsAnswer inc act n answer x p
+answer_link inc act n None answer x p xl e = cc
+answer_link inc act n (Some l) answer x p xl e = answer_pending inc act n l l.pending answer x p xl refl e
+
+linked_is : (inc act : ℕ) (x : Option Link) (l : Link) → x ≡ Some l → is_link inc act x ≡ true → (l.inc ≡ inc) × (l.act ≡ act)
+linked_is inc act None l e h = cc
+linked_is inc act (Some y) l e h = (let is : y ≡ l = cc in at (y.inc == inc) (y.act == act) refl refl h is)
+  where
+    at : (a b : Bool) → (y.inc == inc) ≡ a → (y.act == act) ≡ b → (a && b) ≡ true → y ≡ l → (l.inc ≡ inc) × (l.act ≡ act)
+    at true true p q h is = (ap (λ (v : Link). v.inc) (sym is) ∙ eqb-true y.inc inc p, ap (λ (v : Link). v.act) (sym is) ∙ eqb-true y.act act q)
+    at true false p q h is = cc
+    at false b p q h is = cc
+
+module _ (r : Record) (acts : Acts) (lives : Lives) (sent : List Message) (owners : List ℕ) (last : ℕ) (counted : List Done) (served : List ServerDone) (inc act n : ℕ) (answer : Answer)
+    (s : Steady r) (f : Facts (links_of r.objects) acts lives sent owners last counted served) (honest : IsHonest inc) (told : Among sent (Reply inc act n answer)) where
+  module _ (x : Object) (p : Replied) (h : IsAnswer inc act n answer x p) (found : find (is_linked inc act) r.objects ≡ Some x) where
+    abbrev l : Link
+    l = h.l
+
+    abbrev links : Links
+    links = links_of r.objects
+
+    at_x : links_of r.objects x.number ≡ Some h.l
+    at_x = link_was r.objects (is_linked inc act) x x s.order found refl ∙ h.is
+
+    named : (h.l.inc ≡ inc) × (h.l.act ≡ act)
+    named = linked_is inc act x.link h.l h.is (find_passes (is_linked inc act) r.objects x found)
+
+    honest_link : IsHonest h.l.inc
+    honest_link = subst IsHonest (sym named.0) honest
+
+    -- the activation is ahead by this very answer
+    ahead_by : (b : Activation) → n ≤ b.last → (n ≡ b.last → answer ≡ b.reply) → (y : Option Activation) → y ≡ Some b → InStep h.l y → (b.last ≡ h.l.last) × Did h.l.states h.l.s h.op b answer
+    ahead_by b le kept _ e (not_begun o one v z g) = absurd (let y : None ≡ Some b = e in cc)
+    ahead_by b le kept _ e (level a g el v) = absurd (let y : None ≡ Some h.op = sym g ∙ h.pending in cc)
+    ahead_by b le kept _ e (behind a o g el v) = (let z : Some a ≡ Some b = e in let ab : a ≡ b = cc in
+        let lb : b.last + 1 ≡ h.l.last = ap (λ (y : Activation). y.last + 1) (sym ab) ∙ el in
+        let nl : n ≡ h.l.last = h.number in
+        absurd (omega arith))
+    ahead_by b le kept _ e (ahead a o g el d) = (let z : Some a ≡ Some b = e in let ab : a ≡ b = cc in
+        let y : Some o ≡ Some h.op = sym g ∙ h.pending in
+        let oo : o ≡ h.op = cc in
+        let bl : b.last ≡ h.l.last = ap (λ (y : Activation). y.last) (sym ab) ∙ el in
+        let ar : a.reply ≡ answer = ap (λ (y : Activation). y.reply) ab ∙ sym (kept (h.number ∙ sym bl)) in
+        (bl, subst (λ y. Did h.l.states h.l.s h.op y answer) ab (subst (λ q. Did h.l.states h.l.s q a answer) oo (subst (Did h.l.states h.l.s o a) ar d))))
+
+    record IsAhead (a : Activation) : Type 0 where
+      at : acts h.l.inc h.l.act ≡ Some a
+      level_with : a.last ≡ h.l.last
+      did : Did h.l.states h.l.s h.op a answer
+
+    is_ahead : (a : Activation) × IsAhead a
+    is_ahead =
+        let k = f.replies.replies_kept inc act n answer honest told in
+        let at : acts h.l.inc h.l.act ≡ Some k.0 = ap (λ i. acts i h.l.act) named.0 ∙ (ap (acts inc) named.1 ∙ k.1) in
+        let d = ahead_by k.0 k.2 k.3 (acts h.l.inc h.l.act) at (f.in_step x.number h.l at_x honest_link) in
+        (k.0, record { at = at; level_with = d.0; did = d.1 })
+
+    abbrev placed : Option Link → Object
+    placed link = record x { link = link }
+
+    abbrev objects : Option Link → List Object
+    objects link = put (is_linked inc act) (placed link) r.objects
+
+    here : (link : Option Link) → links_of (objects link) x.number ≡ link
+    here link = put_here r.objects (is_linked inc act) x (placed link) s.order found refl
+
+    there : (link : Option Link) (k : ℕ) → k ≢ x.number → links_of (objects link) k ≡ links_of r.objects k
+    there link k ne = put_there r.objects (is_linked inc act) x (placed link) s.order found refl k ne
+
+    -- the link after the answer is level with its activation
+    settling : (a : Activation) (after : Link) → IsAhead a → IsSettled h.l a after → Settles (links_of r.objects) (links_of (objects (Some after))) acts x.number
+    settling a after w e =
+        let at : acts after.inc after.act ≡ Some a = ap (λ i. acts i after.act) e.inc ∙ (ap (acts h.l.inc) e.act ∙ w.at) in
+        record {
+          before = h.l;
+          link = after;
+          was = at_x;
+          is = here (Some after);
+          others = there (Some after);
+          inc = e.inc;
+          act = e.act;
+          last = e.last;
+          pending = e.pending;
+          waiting = e.waiting;
+          in_step = subst (InStep after) (sym at) (level a e.pending (w.level_with ∙ sym e.last) e.even);
+          saved = λ c g. subst (HasSaved c) (sym at) (elim e.saved [
+            | inl same ↦ subst (HasSaved c) w.at (f.saved_same x.number h.l c at_x honest_link (sym same ∙ g))
+            | inr v ↦ (let z : Some v.0 ≡ Some c = sym v.1 ∙ g in let y : v.0 ≡ c = cc in v.2 ∙ ap Some y)
+          ]);
+        }
+
+    -- the next one that waits is sent
+    sending : (after : Link) (op : Operation) (rest : List Operation) → after.pending ≡ None → after.waiting ≡ op ∷ rest
+        → SendsNext (links_of (objects (Some after))) (links_of (objects (Some (next_at after (op ∷ rest)).link))) x.number (next_at after (op ∷ rest)).sent
+    sending after op rest free w =
+        let new : Link = (next_at after (op ∷ rest)).link in
+        record {
+          before = after;
+          link = new;
+          op = op;
+          rest = rest;
+          was = here (Some after);
+          is = here (Some new);
+          others = λ k ne. there (Some new) k ne ∙ sym (there (Some after) k ne);
+          called = record { inc = refl; act = refl; free = free; last = refl; pending = refl; states = refl; s = refl; saved = inl refl };
+          waited = w;
+          waiting = refl;
+          sends = refl;
+        }
+
+    abbrev Shown : Option Link → List Message → Type 0
+    Shown link more = IsAnswered (links_of r.objects) (links_of (objects link)) acts lives more
+
+    by_waiting : (a : Activation) (after : Link) → IsAhead a → IsSettled h.l a after → (ws : List Operation) → after.waiting ≡ ws → Shown (Some (next_at after ws).link) (next_at after ws).sent
+    by_waiting a after w e [] q = settled x.number (settling a after w e) refl
+    by_waiting a after w e (op ∷ rest) q = goes_on x.number (links_of (objects (Some after))) (settling a after w e) (sending after op rest e.pending q)
+
+    ending : (a : Activation) → IsAhead a → a.content ≡ None → Shown None []
+    ending a w c = ended (record { each = λ k. elim (eqb_tells k x.number) [
+      | inl q ↦ inr (ap (links_of (objects None)) q.1 ∙ here None, (λ m g. let z : Some h.l ≡ Some m = sym at_x ∙ (ap (links_of r.objects) (sym q.1) ∙ g) in
+          let lm : h.l ≡ m = cc in
+          inl (subst (λ (y : Link). IsClosed (acts y.inc y.act)) lm (subst IsClosed (sym w.at) c))))
+      | inr q ↦ inl (there None k q.1)
+    ] }) refl
+
+    shown : (a : Activation) → IsAhead a → Outcome h.l a p → Shown (next_link p.link) (next_sent p.link)
+    shown a w (settles after e t) = subst (λ z. Shown (next_link z) (next_sent z)) (sym e) (by_waiting a after w t after.waiting refl)
+    shown a w (gone e c) = subst (λ z. Shown (next_link z) (next_sent z)) (sym e) (ending a w c)
+
+    is_shown : Shown (next_link p.link) (next_sent p.link)
+    is_shown = (let w = is_ahead in shown w.0 w.1 (reply_outcome h.l h.op answer w.0 p h.told w.1.did))
+
+  abbrev pub Result_of : Took → Type 0
+  Result_of t = IsAnswered (links_of r.objects) (links_of t.rec.objects) acts lives (messages_of t.answer.actions) × IsPlain r t
+
+  taken_shows : (x : Object) (q : Result Replied ContainerFault) (t : Took) → find (is_linked inc act) r.objects ≡ Some x → reply_link n answer x.link ≡ q → reply_taken r inc act x q ≡ Ok t → Result_of t
+  taken_shows x (Err fault) t found g e = cc
+  taken_shows x (Ok p) t found g e =
+      let u = replied_record r inc act x p in
+      let made : Took = record { rec = settle u; answer = record quiet_answer { refused = p.refused; actions = sends (next_sent p.link) ++ settle_actions u }; counted = [] } in
+      let is : made ≡ t = cc in
+      let ms : messages_of (sends (next_sent p.link) ++ settle_actions u) ≡ next_sent p.link = sent_of (next_sent p.link) 1 u.objects u.frames in
+      subst Result_of is (
+        subst (λ v. IsAnswered (links_of r.objects) (links_of u.objects) acts lives v) (sym ms) (is_shown x p (answer_link inc act n x.link answer x p refl g) found),
+        record { last_act = refl; servers = refl; starts = λ numbers. no_start numbers (next_sent p.link) (settle_actions u) (no_start_settled numbers 1 u.objects u.frames) },
+      )
+
+  found_shows : (x : Option Object) (t : Took) → find (is_linked inc act) r.objects ≡ x → reply_found r inc act n answer x ≡ Ok t → Result_of t
+  found_shows None t found e = cc
+  found_shows (Some x) t found e = taken_shows x (reply_link n answer x.link) t found refl e
+
+  pub reply_answers : (t : Took) → on_message r inc (Reply inc act n answer) ≡ Ok t → IsAnswered (links_of r.objects) (links_of t.rec.objects) acts lives (messages_of t.answer.actions) × IsPlain r t
+  reply_answers t e = at (inc == inc) (is_alive r inc) e
+    where
+      at : (a b : Bool) → ◌≡◌ {A = Result Took ContainerFault} (if a then (if b then reply_found r inc act n answer (find (is_linked inc act) r.objects) else Err Stale) else Err WrongLink) (Ok t) → Result_of t
+      at true true g = found_shows (find (is_linked inc act) r.objects) t refl g
+      at true false g = cc
+      at false b g = cc

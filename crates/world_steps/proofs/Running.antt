@@ -1,0 +1,68 @@
+-- Run: an activation begins.
+use Rattle.std.proofs.Common.{◌≡◌, ◌≢◌, ◌||◌, ℕ, ◌+◌, Bool, true, false, not, List, [], ◌∷◌, length, Option, Some, None, is_some, Ok, refl, sym, ap, ◌∙◌, subst, nat_le, nat_lt}
+use Rattle.wire_msgs.specs.Found.{find, put, nth}
+use Rattle.wire_msgs.specs.declared.operation.Operation.{Operation}
+use Rattle.storage_tree.specs.declared.streams.NamedStream.{NamedStream}
+use Rattle.container_model.specs.declared.record.Object.{Object}
+use Rattle.container_model.specs.declared.record.Frame.{Frame}
+use Rattle.container_model.specs.declared.fault.ContainerFault.TheVariants.{NoSuch, Busy, InDoubt as Doubtful, NumbersSpent, WrongState, UnknownClass}
+use Rattle.container_model.specs.Record.{Record, Took, MARGIN, is_object, is_alive, is_busy, is_saving, is_doubtful}
+use Rattle.container_model.specs.Commands.{is_known_class, run, run_at, run_in, run_made, first_operation, begun_link}
+use Rattle.container_laws.specs.Steady.{Steady}
+use Rattle.container_laws.proofs.SteadyRecords.{unless_ok}
+use Rattle.container_laws.proofs.SteadyCommands.{not_false, none_of, found_numbered}
+use Rattle.world_model.specs.declared.life.Life.{Life}
+use Rattle.world_model.specs.World.{messages_of}
+use Rattle.world_model.specs.Safe.{links_of}
+use Rattle.world_facts.specs.Words.{Lives}
+use Rattle.world_facts.specs.Shapes.{IsQuiet, Begins}
+use Rattle.world_steps.specs.Steps.{IsBegun}
+use Rattle.world_steps.proofs.Objects.{found_number, link_was, put_here, put_there}
+
+first_quiet : (o : Object) (ss : List NamedStream) → IsQuiet (first_operation o ss)
+first_quiet o [] = λ k storage e. cc
+first_quiet o (s ∷ ss) = λ k storage e. cc
+
+run_begins_in : (r : Record) (lives : Lives) (owners : List ℕ) (n inc : ℕ) (x : Object) (frame : Option Frame) (t : Took) → Steady r → find (is_object n) r.objects ≡ Some x → run_in r x inc frame ≡ Ok t
+    → nth owners (r.last_act + 1) ≡ Some n → (is_alive r inc ≡ true → (life : Life) × (lives inc ≡ Some life)) → IsBegun r lives owners n t
+run_begins_in r lives owners n inc x None t s f e ow ho = cc
+run_begins_in r lives owners n inc x (Some frame) t s f e ow ho =
+    let a1 = unless_ok (not (is_alive r inc)) NoSuch _ t e in
+    let a2 = unless_ok (is_doubtful frame.phase) Doubtful _ t a1.1 in
+    let a3 = unless_ok (is_saving frame.phase || is_busy frame.ui.state x) Busy _ t a2.1 in
+    let a4 = unless_ok (is_some x.link) WrongState _ t a3.1 in
+    let a5 = unless_ok (not (is_known_class x.class)) UnknownClass _ t a4.1 in
+    let a6 : Ok (run_made r x inc) ≡ Ok t = (unless_ok (nat_lt r.numbers MARGIN || nat_le r.numbers r.last_act) NumbersSpent _ t a5.1).1 in
+    let is : run_made r x inc ≡ t = cc in
+    let op : Operation = first_operation x x.work.streams in
+    let new = begun_link inc (r.last_act + 1) op in
+    let a : Object = record x { link = Some new } in
+    let test = is_object x.number in
+    let here : find test r.objects ≡ Some x = found_numbered n r.objects x f in
+    let xn : x.number ≡ n = found_number r.objects n x f in
+    let made : Begins (links_of r.objects) (links_of (put test a r.objects)) lives owners r.last_act x.number (messages_of (run_made r x inc).answer.actions) = record {
+      inc = inc;
+      op = op;
+      was = link_was r.objects test x a s.order here refl ∙ none_of x.link a4.0;
+      is = put_here r.objects test x a s.order here refl;
+      others = λ k ne. put_there r.objects test x a s.order here refl k ne;
+      quiet = first_quiet x x.work.streams;
+      owner = ow ∙ ap Some (sym xn);
+      hosted = ho (not_false (is_alive r inc) a1.0);
+      sends = refl;
+    } in
+    subst (IsBegun r lives owners n) is (record {
+      begins = subst (λ k. Begins (links_of r.objects) (links_of (put test a r.objects)) lives owners r.last_act k (messages_of (run_made r x inc).answer.actions)) xn made;
+      last_act = refl;
+      servers = refl;
+      starts = λ numbers. refl;
+    })
+
+run_begins_at : (r : Record) (lives : Lives) (owners : List ℕ) (n inc : ℕ) (x : Option Object) (t : Took) → Steady r → find (is_object n) r.objects ≡ x → run_at r inc x ≡ Ok t
+    → nth owners (r.last_act + 1) ≡ Some n → (is_alive r inc ≡ true → (life : Life) × (lives inc ≡ Some life)) → IsBegun r lives owners n t
+run_begins_at r lives owners n inc None t s f e ow ho = cc
+run_begins_at r lives owners n inc (Some x) t s f e ow ho = run_begins_in r lives owners n inc x (nth r.frames x.frame) t s f e ow ho
+
+pub run_begins : (r : Record) (lives : Lives) (owners : List ℕ) (n inc : ℕ) (t : Took) → Steady r → run r n inc ≡ Ok t
+    → nth owners (r.last_act + 1) ≡ Some n → (is_alive r inc ≡ true → (life : Life) × (lives inc ≡ Some life)) → IsBegun r lives owners n t
+run_begins r lives owners n inc t s e ow ho = run_begins_at r lives owners n inc (find (is_object n) r.objects) t s refl e ow ho
