@@ -7,3 +7,5 @@ mod ends;
 mod files;
 #[cfg(test)]
 mod simulations;
+#[cfg(test)]
+mod trees;

@@ -6,5 +6,5 @@ mod events;
 pub mod fault;
 pub mod simulation;
 
-pub use file_commands::commands;
-pub use texts::report;
+pub use file_commands::{cleaning, commands, getting};
+pub use texts::{path, report};

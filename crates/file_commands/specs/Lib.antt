@@ -5,4 +5,6 @@ pub mod Description
 pub mod Building
 pub mod Listing
 pub mod Run
+pub mod Getting
+pub mod Cleaning
 pub mod Reports

@@ -103,3 +103,37 @@ pub enum ListFault {
     #[error("no memory is left")]
     NoMemory,
 }
+
+/// Why the bytes of a stream aren't written.
+#[derive(Debug, Clone, Copy, PartialEq, Eq, Error)]
+pub enum GetFault {
+    /// The file isn't read whole.
+    #[error("{0}")]
+    Input(InputFault),
+    /// The bytes denote no tree.
+    #[error("{0}")]
+    Read(ReadFault),
+    /// The tree has no stream at the path.
+    #[error("{0}")]
+    Tree(TreeFault),
+    /// A write fails.
+    #[error("writing fails")]
+    Unwritable,
+}
+
+/// Why no clean file is written.
+#[derive(Debug, Clone, Copy, PartialEq, Eq, Error)]
+pub enum CleanFault {
+    /// The file isn't read whole.
+    #[error("{0}")]
+    Input(InputFault),
+    /// The bytes denote no tree.
+    #[error("{0}")]
+    Read(ReadFault),
+    /// The tree isn't written.
+    #[error("{0}")]
+    Write(WriteFault),
+    /// A write fails.
+    #[error("writing fails")]
+    Unwritable,
+}
