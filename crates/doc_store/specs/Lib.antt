@@ -2,6 +2,7 @@ pub mod CallLaws
 pub mod Calls
 pub mod Crash
 pub mod Fault
+pub mod Files
 pub mod Image
 pub mod Journal
 pub mod Memory

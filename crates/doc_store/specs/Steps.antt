@@ -7,6 +7,7 @@ use Rattle.doc_store.specs.Journal.{is_open}
 use Rattle.doc_store.specs.Store.{IsClosed, StandsFor}
 use Rattle.doc_store.specs.declared.found.Found.{Found}
 use Rattle.doc_store.specs.declared.found.Found.TheVariants.{Closed, NoGate, Whole}
+use Rattle.doc_store.specs.declared.journal.TheConstants.{HEADER}
 
 -- the journal is open, and whatever the document area holds, this document is restored
 pub record IsOpenWith (document journal : List ℕ) : Type 0 where
@@ -16,7 +17,7 @@ pub record IsOpenWith (document journal : List ℕ) : Type 0 where
 -- what `open` finds in the journal
 abbrev pub Finds : Image → Found → Type 0
 Finds image Closed = IsClosed image.journal
-Finds image NoGate = length image.journal < 9
+Finds image NoGate = length image.journal < HEADER
 Finds image (Whole bytes) = IsOpenWith bytes.items image.journal
 
 -- the journal with the gate as it was, and this document behind it

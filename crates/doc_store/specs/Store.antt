@@ -5,12 +5,13 @@ use Rattle.doc_store.specs.Image.{Image}
 use Rattle.doc_store.specs.Journal.{restored}
 use Rattle.doc_store.specs.declared.fault.StoreFault.{StoreFault}
 use Rattle.doc_store.specs.declared.fault.StoreFault.TheVariants.{Device, NeedsReopen, TooBig, Damaged, NoMemory}
+use Rattle.doc_store.specs.declared.journal.TheConstants.{OPEN}
 use Rattle.doc_store.specs.declared.limit.TheConstants.{MAX_DOCUMENT}
 
--- byte 0 of the journal is there, and it isn't 1
+-- byte 0 of the journal is there, and it isn't an open gate
 pub record IsClosed (journal : List ℕ) : Type 0 where
   pub there : 0 < length journal
-  pub shut : get_or journal 0 0 ≢ 1
+  pub shut : get_or journal 0 0 ≢ OPEN
 
 -- The disk is at rest: a crash leaves what reads give, and the journal's gate is closed there.
 pub record Rests {D : Type 0} (reads : D → Image) (may_leave : D → Image → Type 0) (disk : D) : Type 0 where

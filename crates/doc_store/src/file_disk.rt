@@ -26,8 +26,15 @@ pub struct FileDisk {
 }
 
 impl FileDisk {
+    ghost use Rattle.doc_store.specs.Files.{failures_of};
+    ghost use Rattle.std.specs.Prelude.{IfOk};
+
     /// Opens the two files, and makes those that are missing. A link or a folder of either name isn't opened.
-    pub fn open(rt: &HostRuntime, name: &str) -> io::Result<FileDisk> {
+    ///
+    /// Refused as the system refuses to make or open one of them, and for want of memory for their names.
+    pub fn open(rt: &HostRuntime, name: &str) -> io::Result<FileDisk>
+        ensures failed { IfOk result (λ disk. failures_of disk ≡ 0) }
+    {
         let journal_name = format!(in rt.alloc(); "{name}.journal")?;
         let (document, document_made) = open_or_make(rt, name)?;
         let (journal, journal_made) = open_or_make(rt, journal_name.as_str())?;

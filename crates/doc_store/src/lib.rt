@@ -9,6 +9,7 @@ mod failures;
 pub mod fault;
 pub mod file_disk;
 mod found;
+pub mod journal;
 pub mod limit;
 pub mod memory_disk;
 pub mod refused;

@@ -23,8 +23,13 @@ pub enum Faults {
 }
 
 impl Faults {
-    /// Whether the next call fails.
-    fn strike(&mut self) -> bool {
+    ghost use Rattle.doc_store.specs.Memory.{after_call, strikes};
+
+    /// Whether the next call fails, which it counts off.
+    fn strike(&mut self) -> bool
+        ensures value { result ≡ strikes self.old }
+        ensures next { self.new ≡ after_call self.old }
+    {
         match *self {
             Faults::Never => false,
             Faults::Once(0) => {
@@ -58,7 +63,8 @@ pub struct MemoryDisk {
 }
 
 impl MemoryDisk {
-    ghost use Rattle.doc_store.specs.Memory.{calls_of, failed_of, first_of, held_of};
+    ghost use Rattle.doc_store.specs.Memory.{calls_of, failed_of, faults_of, first_of, reads_of};
+    ghost use Rattle.doc_store.specs.declared.memory_disk.Faults.TheVariants.{Never};
     ghost use Rattle.std.specs.Prelude.{[], IfOk};
 
     /// A disk with these bytes, all of them synced. `NoMemory` of the allocator is handed on.
@@ -66,6 +72,7 @@ impl MemoryDisk {
         ensures first { IfOk result (λ disk. first_of disk ≡ record { document = document.items; journal = journal.items }) }
         ensures calls { IfOk result (λ disk. calls_of disk ≡ []) }
         ensures failed { IfOk result (λ disk. failed_of disk ≡ 0) }
+        ensures faults { IfOk result (λ disk. faults_of disk ≡ Never) }
     {
         let held = Areas { document, journal };
         let first = held.copy(alloc)?;
@@ -81,6 +88,7 @@ impl MemoryDisk {
 
     /// From now on these calls fail, counted from here.
     pub fn set_faults(&mut self, faults: Faults)
+        ensures faults { faults_of self.new ≡ faults }
         ensures first { first_of self.new ≡ first_of self.old }
         ensures calls { calls_of self.new ≡ calls_of self.old }
         ensures failed { failed_of self.new ≡ failed_of self.old }
@@ -97,7 +105,7 @@ impl MemoryDisk {
 
     /// What reads give now.
     pub fn held(&self) -> &Areas
-        ensures { image_of result.now ≡ held_of self.now }
+        ensures { image_of result.now ≡ reads_of self.now }
     {
         &self.held
     }
@@ -111,36 +119,57 @@ impl MemoryDisk {
 }
 
 impl Disk for MemoryDisk {
+    ghost use Rattle.doc_store.specs.Crash.{Counts, CutShort, Elapses, Follows, InArea, IsWithin, Torn};
+    ghost use Rattle.doc_store.specs.Image.{bytes_of, changed, put};
+    ghost use Rattle.doc_store.specs.Memory.{IsStruck, calls_of, failed_of, faults_of, first_of, left_since_of, may_leave_of, moment_of, reads_of, strikes};
+    ghost use Rattle.std.specs.Prelude.{◌≤◌, ◌+◌, false, IfOk, IsOk, OnOk, drop, take};
+
     ghost follows_model = { Unit {0} };
 
-    ghost reads = { λ d. reads_after (image_of d.first) d.calls.items };
+    ghost reads = { reads_of };
 
-    ghost may_leave = { λ d c. LeftAfter (image_of d.first) d.calls.items c };
+    ghost may_leave = { may_leave_of };
 
-    ghost moment = { λ d. length d.calls.items };
+    ghost moment = { moment_of };
 
-    ghost left_since = { λ d t c. LeftSince (image_of d.first) d.calls.items t c };
+    ghost left_since = { left_since_of };
 
-    ghost failed = { λ d. d.failed };
+    ghost failed = { failed_of };
 
-    ghost reads_are_left = { λ d. reads_stay_left (image_of d.first) d.calls.items };
+    ghost reads_are_left = { λ d. reads_stay_left (first_of d) (calls_of d) };
 
-    ghost counts_now = { λ d t c le now. here_now (image_of d.first) d.calls.items t c le now };
+    ghost counts_now = { λ d t c le now. here_now (first_of d) (calls_of d) t c le now };
 
-    ghost only_now = { λ d c left. none_but_now (image_of d.first) d.calls.items c left };
+    ghost only_now = { λ d c left. none_but_now (first_of d) (calls_of d) c left };
 
     fn failures(&self) -> u64 {
         self.failed
     }
 
-    fn length(&mut self, area: Area) -> Result<u64, DiskFailure> {
+    fn length(&mut self, area: Area) -> Result<u64, DiskFailure>
+        ensures length { IfOk result (λ n. n ≡ length (bytes_of area (reads_of self.old))) }
+        ensures same { reads_of self.new ≡ reads_of self.old }
+        ensures crash { IsWithin (may_leave_of self.old) (may_leave_of self.new) }
+        ensures time { Elapses (moment_of self.old) (moment_of self.new) (left_since_of self.old) (left_since_of self.new) (may_leave_of self.new) }
+        ensures count { Counts (failed_of self.old) (failed_of self.new) result }
+        ensures faults { IsStruck (faults_of self.old) (faults_of self.new) result }
+        ensures answers { strikes (faults_of self.old) ≡ false → IsOk result }
+    {
         if self.faults.strike() {
             return Err(fail(&mut self.failed));
         }
         Ok(self.held.bytes(area).len() as u64)
     }
 
-    fn read(&mut self, area: Area, at: u64, into: &mut [u8]) -> Result<(), DiskFailure> {
+    fn read(&mut self, area: Area, at: u64, into: &mut [u8]) -> Result<(), DiskFailure>
+        ensures bytes { OnOk result (into.new ≡ take (length into.old) (drop at (bytes_of area (reads_of self.old)))) }
+        ensures same { reads_of self.new ≡ reads_of self.old }
+        ensures crash { IsWithin (may_leave_of self.old) (may_leave_of self.new) }
+        ensures time { Elapses (moment_of self.old) (moment_of self.new) (left_since_of self.old) (left_since_of self.new) (may_leave_of self.new) }
+        ensures count { Counts (failed_of self.old) (failed_of self.new) result }
+        ensures faults { IsStruck (faults_of self.old) (faults_of self.new) result }
+        ensures answers { strikes (faults_of self.old) ≡ false → at + length into.old ≤ length (bytes_of area (reads_of self.old)) → IsOk result }
+    {
         if self.faults.strike() {
             return Err(fail(&mut self.failed));
         }
@@ -153,7 +182,14 @@ impl Disk for MemoryDisk {
         Ok(())
     }
 
-    fn write(&mut self, area: Area, at: u64, bytes: &[u8]) -> Result<(), DiskFailure> {
+    fn write(&mut self, area: Area, at: u64, bytes: &[u8]) -> Result<(), DiskFailure>
+        ensures written { at ≤ length (bytes_of area (reads_of self.old))
+            → OnOk result (reads_of self.new ≡ changed area (put (bytes_of area (reads_of self.old)) at bytes.now) (reads_of self.old)) }
+        ensures crash { Follows (InArea area (Torn at (length bytes.now))) (may_leave_of self.old) (may_leave_of self.new) }
+        ensures time { Elapses (moment_of self.old) (moment_of self.new) (left_since_of self.old) (left_since_of self.new) (may_leave_of self.new) }
+        ensures count { Counts (failed_of self.old) (failed_of self.new) result }
+        ensures faults { IsStruck (faults_of self.old) (faults_of self.new) result }
+    {
         if self.faults.strike() || at > self.held.bytes(area).len() as u64 {
             return Err(fail(&mut self.failed));
         }
@@ -163,7 +199,13 @@ impl Disk for MemoryDisk {
         }
     }
 
-    fn cut(&mut self, area: Area, size: u64) -> Result<(), DiskFailure> {
+    fn cut(&mut self, area: Area, size: u64) -> Result<(), DiskFailure>
+        ensures cut { OnOk result (reads_of self.new ≡ changed area (take size (bytes_of area (reads_of self.old))) (reads_of self.old)) }
+        ensures crash { Follows (InArea area (CutShort size)) (may_leave_of self.old) (may_leave_of self.new) }
+        ensures time { Elapses (moment_of self.old) (moment_of self.new) (left_since_of self.old) (left_since_of self.new) (may_leave_of self.new) }
+        ensures count { Counts (failed_of self.old) (failed_of self.new) result }
+        ensures faults { IsStruck (faults_of self.old) (faults_of self.new) result }
+    {
         if self.faults.strike() {
             return Err(fail(&mut self.failed));
         }
@@ -173,7 +215,14 @@ impl Disk for MemoryDisk {
         }
     }
 
-    fn sync(&mut self, area: Area) -> Result<(), DiskFailure> {
+    fn sync(&mut self, area: Area) -> Result<(), DiskFailure>
+        ensures durable { OnOk result ((c : Image) → may_leave_of self.new c → bytes_of area c ≡ bytes_of area (reads_of self.old)) }
+        ensures same { reads_of self.new ≡ reads_of self.old }
+        ensures crash { IsWithin (may_leave_of self.old) (may_leave_of self.new) }
+        ensures time { Elapses (moment_of self.old) (moment_of self.new) (left_since_of self.old) (left_since_of self.new) (may_leave_of self.new) }
+        ensures count { Counts (failed_of self.old) (failed_of self.new) result }
+        ensures faults { IsStruck (faults_of self.old) (faults_of self.new) result }
+    {
         if self.faults.strike() {
             return Err(fail(&mut self.failed));
         }

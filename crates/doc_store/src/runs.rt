@@ -8,8 +8,9 @@ ghost use Rattle.std.specs.Prelude.{◌≡◌, ◌≤◌, IfErr, OnOk, length};
 use crate::disk::{Disk, DiskFailure};
 use crate::fault::StoreFault;
 use crate::found::Found;
+use crate::journal::{CLOSED, OPEN};
 use crate::limit::MAX_DOCUMENT;
-use crate::steps::{CLOSED, OPEN, find_image, install, set_gate, settle, stage};
+use crate::steps::{find_image, install, set_gate, settle, stage};
 use std::alloc::Global;
 
 /// Brings a disk to rest that a crash may have left: the document of an open journal is written, and the gate closed.

@@ -1,5 +1,5 @@
-//! The steps of `open` and `commit`: at most four calls of the disk each, with at most one sync, at the end. Each says
-//! what a crash since its start may leave.
+//! The steps of `open` and `commit`: at most four calls of the disk each, with at most one sync of an area, at the end.
+//! Each says what a crash since its start may leave.
 
 ghost use Rattle.doc_store.specs.Crash.{Counts, LeavesOnly, Only, Quiet};
 ghost use Rattle.doc_store.specs.Image.{changed, put};
@@ -12,19 +12,11 @@ use crate::area::Area;
 use crate::disk::{Disk, DiskFailure};
 use crate::fault::StoreFault;
 use crate::found::Found;
+use crate::journal::{HEADER, OPEN};
 use crate::limit::MAX_DOCUMENT;
 use std::alloc::Global;
 
-/// The gate of a journal whose document counts.
-pub(crate) const OPEN: u8 = 1;
-
-/// The gate of a journal that doesn't count.
-pub(crate) const CLOSED: u8 = 0;
-
-/// The gate and the length, in bytes.
-const HEADER: u64 = 9;
-
-/// Syncs both areas, so that a crash leaves what reads give.
+/// Syncs both areas, one after the other, so that a crash leaves what reads give.
 pub(crate) fn settle<D: Disk>(disk: &mut D) -> Result<(), DiskFailure>
     ensures durable { D.follows_model → OnOk result (Only (D.reads disk.old) (D.may_leave disk.new)) }
     ensures quiet { D.follows_model → Quiet D.reads D.may_leave D.moment D.left_since disk.old disk.new }

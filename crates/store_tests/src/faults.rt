@@ -10,9 +10,10 @@ use doc_store::store::Store;
 use std::alloc::Global;
 use std::test::Fail;
 
-/// Whether a run with these failures ends as it has to, and whether it ends without one.
-fn run(alloc: Global, faults: Faults) -> Result<(bool, bool), Fail> {
-    let (told, after) = commit_failing(alloc, disk(alloc, b"old", b"")?, b"another", faults);
+/// Whether an open and a commit with these failures end as they have to, and whether they end without one. The journal
+/// is what is found beside the document.
+fn run(alloc: Global, journal: &[u8], faults: Faults) -> Result<(bool, bool), Fail> {
+    let (told, after) = commit_failing(alloc, disk(alloc, b"old", journal)?, b"another", faults);
     let whole = after.failures() == 0;
     // Where the disk stopped, pending writes become zero.
     let calls = after.calls().len();
@@ -35,14 +36,18 @@ fn is_either(found: &[u8]) -> bool {
 #[test]
 fn a_disk_that_fails_leaves_the_old_document_or_the_new_one(rt: HostRuntime) -> Result<(), Fail> {
     let alloc = rt.alloc();
-    let mut ended = (false, false);
-    for calls in 0..40u64 {
-        let (once, once_whole) = run(alloc, Faults::Once(calls))?;
-        let (stops, stops_whole) = run(alloc, Faults::From(calls))?;
-        assert!(rt; once && stops, "after {calls} calls");
-        ended = (ended.0 || once_whole, ended.1 || stops_whole);
+    // Without a journal, and with one that a crash left open.
+    let journals: [&[u8]; 2] = [b"", b"\x01\x03\0\0\0\0\0\0\0old"];
+    for journal in journals {
+        let mut ended = (false, false);
+        for calls in 0..40u64 {
+            let (once, once_whole) = run(alloc, journal, Faults::Once(calls))?;
+            let (stops, stops_whole) = run(alloc, journal, Faults::From(calls))?;
+            assert!(rt; once && stops, "after {calls} calls");
+            ended = (ended.0 || once_whole, ended.1 || stops_whole);
+        }
+        assert!(rt; ended.0 && ended.1);
     }
-    assert!(rt; ended.0 && ended.1);
     Ok(())
 }
 

@@ -45,6 +45,8 @@ fn files_are_made_committed_and_opened_again(rt: HostRuntime) -> Result<(), Fail
     fs::write(&rt, journal.as_str(), b"\x01\x03\0\0\0\0\0\0\0new")?;
     assert!(rt; opened(&rt, name.as_str(), None)?.as_slice() == b"new".as_slice());
     assert!(rt; fs::read(&rt, name.as_str())?.as_slice() == b"new".as_slice());
+    // A folder isn't opened.
+    assert!(rt; FileDisk::open(&rt, folder.as_str()).is_err());
     fs::remove_file(&rt, journal.as_str())?;
     fs::remove_file(&rt, name.as_str())?;
     fs::remove_dir(&rt, folder.as_str())?;

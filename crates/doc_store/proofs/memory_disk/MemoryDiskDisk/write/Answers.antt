@@ -14,12 +14,12 @@ invariant_of-self-in-Ok c =
     record { replayed = replayed_to (image_of c.args.self.now.first) held (image_of c.log_write.new.areas) c.args.self.now.calls.items c.log_write.new.calls.items (Write c.args.area c.args.at kept.0) c.args.self.now.replayed kept.2 written }
 
 pub returns-in-Ok-clause-crash : goal.returns-in-Ok-clause-crash
-returns-in-Ok-clause-crash c always i left =
+returns-in-Ok-clause-crash c i left =
     let kept = c.in-Ok.ensures.logged in
     let from = left_by_last (image_of c.args.self.now.first) c.args.self.now.calls.items c.log_write.new.calls.items (Write c.args.area c.args.at kept.0) kept.2 i left in
     (from.0, from.1, subst (λ b. InArea c.args.area (Torn c.args.at (length b)) from.0 i) kept.1 from.2)
 
 pub returns-in-Ok-clause-time : goal.returns-in-Ok-clause-time
-returns-in-Ok-clause-time c always =
+returns-in-Ok-clause-time c =
     let kept = c.in-Ok.ensures.logged in
     elapses_to (image_of c.args.self.now.first) c.args.self.now.calls.items c.log_write.new.calls.items (Write c.args.area c.args.at kept.0) kept.2
