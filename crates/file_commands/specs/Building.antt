@@ -2,6 +2,7 @@
 -- longer kept: the lines that follow can be refused by the outline alone, and then the whole for its size.
 use Rattle.std.specs.Prelude.{◌≡◌, ◌≤◌, ◌<◌, ℕ, length, Result, Ok, Err}
 use Rattle.storage_tree.specs.Kept.{Kept, kept}
+use Rattle.file_model.specs.Limits.{MOST_BYTES}
 use Rattle.file_model.specs.Need.{over_streams}
 use Rattle.file_commands.specs.Outline.{outline}
 use Rattle.file_commands.specs.Description.{Refuses}
@@ -12,7 +13,7 @@ use Rattle.file_commands.specs.declared.building.Described.TheVariants.{Whole, O
 
 -- the most bytes that a file has
 abbrev pub room : ℕ
-room = 7143936
+room = MOST_BYTES
 
 -- what is built of a tree
 pub record IsBuilt (b : Building) (k : Kept) : Type 0 where

@@ -8,14 +8,12 @@ ghost use Rattle.storage_tree.specs.Kept.{Kept, kept, made, put};
 
 use crate::fault::LineFault;
 use cfb_directory::name::Name;
+use file_model::limit::MOST_BYTES;
 use std::alloc::{AllocError, Global};
 use storage_tree::bytes::Bytes;
 use storage_tree::class_id::ClassId;
 use storage_tree::fault::TreeFault;
 use storage_tree::tree::Tree;
-
-/// The most bytes that a file has.
-const ROOM: u64 = 7_143_936;
 
 /// A tree that is built, and how many bytes its streams have together. Once these are more than a file has, its streams
 /// are kept without their bytes, as nothing can come of it but a refusal.
@@ -47,7 +45,7 @@ impl Building {
     pub fn finish(self) -> Described
         ensures { (k : Kept) → IsBuilt self k → IsDescribed k result }
     {
-        if self.spent > ROOM {
+        if self.spent > MOST_BYTES {
             Described::Outline(self.tree)
         } else {
             Described::Whole(self.tree)
@@ -79,7 +77,7 @@ impl Building {
         ensures { (k : Kept) → IsBuilt self.old k → Builds (stream_made bytes k path.now) result self.new }
     {
         let size = bytes.len() as u64;
-        if self.spent.saturating_add(size) > ROOM {
+        if self.spent.saturating_add(size) > MOST_BYTES {
             return self.put_outline(alloc, path, size);
         }
         self.put_whole(path, bytes)
@@ -95,7 +93,7 @@ impl Building {
     ) -> Result<(), LineFault>
         ensures { (k : Kept) → IsBuilt self.old k → Builds (stream_made (replicate count byte) k path.now) result self.new }
     {
-        if self.spent.saturating_add(u64::from(count)) > ROOM {
+        if self.spent.saturating_add(u64::from(count)) > MOST_BYTES {
             return self.put_outline(alloc, path, u64::from(count));
         }
         match filled(alloc, count, byte) {

@@ -1,10 +1,7 @@
 //! The commands of the program over readers and writers.
 
-ghost use Rattle.file_commands.specs.Building.{IsDescribed};
 ghost use Rattle.texts.specs.Input.{most};
 ghost use Rattle.file_commands.specs.Run.{IsMade, Lists, Makes, MayRefuseList, MayRefuseMake};
-ghost use Rattle.storage_tree.specs.Kept.{Kept, kept};
-ghost use Rattle.file_model.specs.Refusals.{has_storage, writable};
 ghost use Rattle.std.specs.Prelude.{◌≡◌, Err, ◌≢◌, ◌≤◌, length, IfErr, IfOk, IfSome, OnOk};
 
 use crate::building::Described;
@@ -14,8 +11,6 @@ use crate::listing::list;
 use file_model::fault::WriteFault;
 use std::alloc::Global;
 use std::io::{Read, Write};
-use storage_tree::storage::Node;
-use storage_tree::tree::Tree;
 use stream_io::read::read_file;
 use stream_io::write::write_file;
 use texts::input::read_all;
@@ -47,6 +42,7 @@ pub fn make_file<R: Read, W: Write>(
 }
 
 /// The compound file of the tree that a description describes.
+#[tactic(auto, using(crate::proofs::Room::too_large))]
 fn make(alloc: Global, text: &[u8]) -> Result<Vec<u8>, MakeFault>
     requires { length text.now ≤ most }
     ensures made { IfOk result (λ file. IsMade text.now file.items) }
@@ -57,32 +53,9 @@ fn make(alloc: Global, text: &[u8]) -> Result<Vec<u8>, MakeFault>
             Ok(file) => Ok(file),
             Err(fault) => Err(MakeFault::Write(fault)),
         },
-        Ok(Described::Outline(tree)) => Err(MakeFault::Write(too_big(&tree))),
+        Ok(Described::Outline(_)) => Err(MakeFault::Write(WriteFault::TooBig)),
         Err((number, fault)) => Err(MakeFault::Line(number, fault)),
     }
-}
-
-/// Why a tree isn't written whose streams have more bytes than a file.
-fn too_big(outline: &Tree) -> WriteFault
-    ensures { (k : Kept) → IsDescribed k (Described.Outline outline.now) → writable k.now ≡ Err result }
-{
-    if has_storage(outline) {
-        WriteFault::WrongKind
-    } else {
-        WriteFault::TooBig
-    }
-}
-
-/// Whether a storage stands below the root.
-fn has_storage(tree: &Tree) -> bool
-    ensures { result ≡ has_storage (kept tree.now).now }
-{
-    for (_, child) in tree.root().children.iter() {
-        if let Node::Storage(_) = &child.1 {
-            return true;
-        }
-    }
-    false
 }
 
 /// Writes the listing of the tree that a compound file holds.
