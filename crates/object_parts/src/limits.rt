@@ -64,7 +64,7 @@ fn has_ole_name(streams: &[NamedStream]) -> bool
 
 // Whether the bytes of the streams and so many more are within the limit.
 fn has_room(streams: &[NamedStream], more: usize) -> bool
-    ensures { result ≡ nat_le (total streams.now + more) 262144 }
+    ensures { result ≡ nat_le (total streams.now + more) MOST_BYTES }
 {
     if more > MOST_BYTES {
         return false;

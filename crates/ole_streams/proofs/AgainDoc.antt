@@ -18,17 +18,18 @@ use Rattle.storage_tree.specs.declared.streams.NamedStream.{NamedStream}
 use Rattle.storage_tree.proofs.Entries.{find-child, key_eq-flip, place-child, reflexive, without-child}
 use Rattle.storage_tree.proofs.Lawful.{find-place, find-place-other}
 use Rattle.storage_tree.proofs.Wholes.{tied}
-use Rattle.ole_streams.specs.CompObjs.{comp_obj_bytes, user_type_read}
+use Rattle.ole_parts.specs.CompObjs.{comp_obj_bytes, user_type_read}
 use Rattle.ole_streams.specs.DocOf.{as_picture, as_storage, as_stream, behind_comp_obj, behind_picture, is_object, object_of, object_pushed, object_read, objects_behind, pushed, streams_behind}
 use Rattle.ole_streams.specs.DocTree.{LAYOUT, object_name, object_tree, placed, with_objects, with_picture, with_streams}
-use Rattle.ole_streams.specs.Fields.{map_ok, on_ok}
-use Rattle.ole_streams.specs.Laws.{AreHeld, DocumentIsReadAgain, IsArea, IsHeld}
+use Rattle.ole_parts.specs.Fields.{map_ok, on_ok}
+use Rattle.ole_streams.specs.Docs.{AreHeld, IsArea, IsHeld}
+use Rattle.ole_streams.specs.Laws.{DocumentIsReadAgain}
 use Rattle.ole_streams.specs.Layouts.{area_at, area_bytes, areas_read, layout_bytes, layout_read}
-use Rattle.ole_streams.specs.OleStreams.{ole_bytes, ole_read}
+use Rattle.ole_parts.specs.OleStreams.{ole_bytes, ole_read}
 use Rattle.ole_streams.specs.declared.doc.DocObject.{DocObject}
-use Rattle.ole_streams.specs.declared.fault.OleFault.TheVariants.{NotADocument, TooManyObjects}
-use Rattle.ole_streams.proofs.Again.{and_left, and_right, user_type_again}
-use Rattle.ole_streams.proofs.Tests.{cond_false, cond_true, not_lt}
+use Rattle.ole_parts.specs.declared.fault.OleFault.TheVariants.{NotADocument, TooManyObjects}
+use Rattle.ole_parts.proofs.Again.{and_left, and_right, user_type_again}
+use Rattle.ole_parts.proofs.Tests.{cond_false, cond_true, not_lt}
 
 -- Children that are placed are found, and taken away again.
 some_none : {A : Type 0} {P : Type 0} {x : A} → Some x ≡ None → P
@@ -276,7 +277,9 @@ layout-again os few all =
     ∙ areas-again os all
 
 pub document_again : DocumentIsReadAgain
-document_again os few all =
+document_again os doc =
+    let few = doc.few in
+    let all = doc.held in
     let c : List ℕ × Seen = (LAYOUT, bytes (layout_bytes (map (λ o. o.area) os))) in
     let rest = with_objects 1 os none in
     ap (λ f. on_ok (λ areas. objects_behind [] 1 areas (without (key LAYOUT) (place (key LAYOUT) c rest))) (on_ok layout_read (as_stream f))) (find-place (key LAYOUT) c rest)

@@ -10,10 +10,10 @@ use Rattle.storage_tree.specs.View.{children, shown}
 use Rattle.storage_tree.specs.declared.storage.Node.{Node}
 use Rattle.ole_streams.specs.DocOf.{object_pushed, objects_behind}
 use Rattle.ole_streams.specs.DocTree.{object_name}
-use Rattle.ole_streams.specs.Fields.{on_ok}
+use Rattle.ole_parts.specs.Fields.{on_ok}
 use Rattle.ole_streams.specs.declared.doc.DocObject.{DocObject}
-use Rattle.ole_streams.specs.declared.fault.OleFault.{OleFault}
-use Rattle.ole_streams.specs.declared.fault.OleFault.TheVariants.{NotADocument}
+use Rattle.ole_parts.specs.declared.fault.OleFault.{OleFault}
+use Rattle.ole_parts.specs.declared.fault.OleFault.TheVariants.{NotADocument}
 
 pub err_same : {A : Type 0} {x y : OleFault} → ◌≡◌ {A = Result A OleFault} (Err x) (Err y) → x ≡ y
 err_same h = cc

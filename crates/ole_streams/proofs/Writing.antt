@@ -6,13 +6,13 @@ use Rattle.storage_tree.specs.declared.streams.NamedStream.{NamedStream}
 use Rattle.object_parts.specs.declared.area.Area.{Area}
 use Rattle.ole_streams.specs.DocOf.{is_object}
 use Rattle.ole_streams.specs.DocTree.{object_name, object_tree, placed, with_objects, with_streams}
-use Rattle.ole_streams.specs.Docs.{AreObjects}
-use Rattle.ole_streams.specs.Fields.{map_ok}
+use Rattle.ole_streams.specs.Docs.{AreHeld, IsHeld}
+use Rattle.ole_parts.specs.Fields.{map_ok}
 use Rattle.ole_streams.specs.Layouts.{area_at, areas_read}
 use Rattle.ole_streams.specs.declared.doc.DocObject.{DocObject}
-use Rattle.ole_streams.specs.declared.fault.OleFault.{OleFault}
-use Rattle.ole_streams.specs.declared.fault.OleFault.TheVariants.{NotADocument}
-use Rattle.ole_streams.proofs.Tests.{cond_false, cond_true, not_lt, is_lt}
+use Rattle.ole_parts.specs.declared.fault.OleFault.{OleFault}
+use Rattle.ole_parts.specs.declared.fault.OleFault.TheVariants.{NotADocument}
+use Rattle.ole_parts.proofs.Tests.{cond_false, cond_true, not_lt, is_lt}
 
 pub with_streams-last : (ss : List NamedStream) (s : NamedStream) (cs : Children) → with_streams (ss ++ s ∷ []) cs ≡ with_streams ss (placed s.name (bytes s.bytes) cs)
 with_streams-last [] s cs = refl
@@ -25,17 +25,17 @@ with_objects-last n (p ∷ os) o cs =
     let e : length os + (n + 1) ≡ length (p ∷ os) + n = omega arith in
     ap (placed (object_name n) (inner (object_tree p))) (with_objects-last (n + 1) os o cs ∙ ap (λ m. with_objects (n + 1) os (placed (object_name m) (inner (object_tree o)) cs)) e)
 
-pub AreObjects-push : (os : List DocObject) (o : DocObject) → AreObjects os → is_object o ≡ true → AreObjects (os ++ o ∷ [])
-AreObjects-push [] o all h = (h, tt)
-AreObjects-push (p ∷ os) o all h = (all.0, AreObjects-push os o all.1 h)
+pub AreHeld-push : (os : List DocObject) (o : DocObject) → AreHeld os → IsHeld o → AreHeld (os ++ o ∷ [])
+AreHeld-push [] o all h = (h, tt)
+AreHeld-push (p ∷ os) o all h = (all.0, AreHeld-push os o all.1 h)
 
-pub AreObjects-front : (os ps : List DocObject) → AreObjects (os ++ ps) → AreObjects os
-AreObjects-front [] ps all = tt
-AreObjects-front (p ∷ os) ps all = (all.0, AreObjects-front os ps all.1)
+pub AreHeld-front : (os ps : List DocObject) → AreHeld (os ++ ps) → AreHeld os
+AreHeld-front [] ps all = tt
+AreHeld-front (p ∷ os) ps all = (all.0, AreHeld-front os ps all.1)
 
-pub AreObjects-last : (os : List DocObject) (o : DocObject) → AreObjects (os ++ o ∷ []) → is_object o ≡ true
-AreObjects-last [] o all = all.0
-AreObjects-last (p ∷ os) o all = AreObjects-last os o all.1
+pub AreHeld-last : (os : List DocObject) (o : DocObject) → AreHeld (os ++ o ∷ []) → is_object o ≡ true
+AreHeld-last [] o all = all.0.within
+AreHeld-last (p ∷ os) o all = AreHeld-last os o all.1
 
 map-twice : (xs : List Area) (a : Area) (r : Result (List Area) OleFault) → map_ok (λ x. xs ++ x) (map_ok (λ x. a ∷ x) r) ≡ map_ok (λ x. (xs ++ a ∷ []) ++ x) r
 map-twice xs a (Ok x) = ap Ok (sym (append_assoc xs (a ∷ []) x))

@@ -7,14 +7,14 @@ use Rattle.storage_tree.specs.Tree.{Tree, Children, tree, none, stream, storage}
 use Rattle.storage_tree.specs.Change.{Seen, bytes, inner, find, without}
 use Rattle.storage_tree.specs.Streams.{is_next}
 use Rattle.storage_tree.specs.declared.streams.NamedStream.{NamedStream}
-use Rattle.ole_streams.specs.CompObjs.{user_type_read}
+use Rattle.ole_parts.specs.CompObjs.{PAST_USER_TYPE, user_type_read}
 use Rattle.ole_streams.specs.DocTree.{LAYOUT, object_name}
-use Rattle.ole_streams.specs.Fields.{on_ok}
+use Rattle.ole_parts.specs.Fields.{on_ok}
 use Rattle.ole_streams.specs.Layouts.{MOST_OBJECTS, layout_read}
-use Rattle.ole_streams.specs.OleStreams.{ole_read}
+use Rattle.ole_parts.specs.OleStreams.{ole_read}
 use Rattle.ole_streams.specs.declared.doc.DocObject.{DocObject}
-use Rattle.ole_streams.specs.declared.fault.OleFault.{OleFault}
-use Rattle.ole_streams.specs.declared.fault.OleFault.TheVariants.{NotADocument, TooManyObjects}
+use Rattle.ole_parts.specs.declared.fault.OleFault.{OleFault}
+use Rattle.ole_parts.specs.declared.fault.OleFault.TheVariants.{NotADocument, TooManyObjects}
 
 -- the bytes of a stream, and what a storage holds, where they are what stands there
 abbrev pub as_stream : Option (List ℕ × Seen) → Result (List ℕ) OleFault
@@ -58,7 +58,7 @@ object_read area (tree class state cs) =
 
 -- what a document may hold: a content within its limits, and a user type whose size fits its field
 abbrev pub is_object : DocObject → Bool
-is_object o = is_within o.stored && nat_lt (length o.user_type) 0xFFFFFFFF
+is_object o = is_within o.stored && nat_lt (length o.user_type) PAST_USER_TYPE
 
 -- a document with one more object
 abbrev pub pushed : List DocObject → DocObject → Result (List DocObject) OleFault

@@ -1,18 +1,36 @@
 -- Documents as values.
-use Rattle.std.specs.Prelude.{◌≡◌, ◌≤◌, List, [], ◌∷◌, true, length, Result, Ok, Err, IsOk}
+use Rattle.std.specs.Prelude.{ℕ, ◌≡◌, ◌<◌, ◌≤◌, ◌^◌, List, [], ◌∷◌, true, length, Result, Ok, Err, IsOk}
+use Rattle.object_parts.specs.declared.area.Area.{Area}
+use Rattle.storage_tree.specs.Streams.{AreInOrder}
+use Rattle.ole_parts.specs.CompObjs.{CLASS_BYTES}
 use Rattle.ole_streams.specs.DocOf.{is_object}
+use Rattle.ole_streams.specs.Layouts.{MOST_OBJECTS}
 use Rattle.ole_streams.specs.declared.doc.DocObject.{DocObject}
-use Rattle.ole_streams.specs.declared.fault.OleFault.{OleFault}
-use Rattle.ole_streams.specs.declared.fault.OleFault.TheVariants.{NoMemory}
+use Rattle.ole_parts.specs.declared.fault.OleFault.{OleFault}
+use Rattle.ole_parts.specs.declared.fault.OleFault.TheVariants.{NoMemory}
 
-abbrev pub AreObjects : List DocObject → Type 0
-AreObjects [] = Unit {0}
-AreObjects (o ∷ os) = (is_object o ≡ true) × AreObjects os
+-- numbers of two bytes each
+pub record IsArea (a : Area) : Type 0 where
+  pub x : a.x < 2 ^ 16
+  pub y : a.y < 2 ^ 16
+  pub w : a.w < 2 ^ 16
+  pub h : a.h < 2 ^ 16
 
--- at most 64 objects, each within its limits
+-- An object as a document holds it: within its limits, its class id of 16 bytes, its streams in name order.
+pub record IsHeld (o : DocObject) : Type 0 where
+  pub class : length o.class ≡ CLASS_BYTES
+  pub area : IsArea o.area
+  pub within : is_object o ≡ true
+  pub in_order : AreInOrder o.stored.streams
+
+abbrev pub AreHeld : List DocObject → Type 0
+AreHeld [] = Unit {0}
+AreHeld (o ∷ os) = IsHeld o × AreHeld os
+
+-- at most 64 objects, each as a document holds it
 pub record IsDoc (objects : List DocObject) : Type 0 where
-  pub few : length objects ≤ 64
-  pub within : AreObjects objects
+  pub few : length objects ≤ MOST_OBJECTS
+  pub held : AreHeld objects
 
 -- What a call did, given what it is to do: it did this, or refused for this fault and changed nothing. Only what could
 -- be done is refused for want of memory.

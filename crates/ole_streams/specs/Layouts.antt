@@ -4,9 +4,9 @@ use Rattle.std.specs.Prelude.{ℕ, zero, suc, ◌∷◌, ◌++◌, List, [], con
 use Rattle.std.specs.Int.{w16, w32, from_le_bytes, to_le_bytes}
 use Rattle.std.specs.List.{flat_map}
 use Rattle.object_parts.specs.declared.area.Area.{Area}
-use Rattle.ole_streams.specs.Fields.{map_ok}
-use Rattle.ole_streams.specs.declared.fault.OleFault.{OleFault}
-use Rattle.ole_streams.specs.declared.fault.OleFault.TheVariants.{NotADocument, TooManyObjects}
+use Rattle.ole_parts.specs.Fields.{map_ok}
+use Rattle.ole_parts.specs.declared.fault.OleFault.{OleFault}
+use Rattle.ole_parts.specs.declared.fault.OleFault.TheVariants.{NotADocument, TooManyObjects}
 
 -- the most objects of a document
 abbrev pub MOST_OBJECTS : ℕ

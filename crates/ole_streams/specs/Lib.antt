@@ -1,10 +1,10 @@
-pub mod FaultNames
-pub mod Fields
-pub mod OleStreams
-pub mod CompObjs
-pub mod Presentations
 pub mod Layouts
 pub mod DocTree
 pub mod DocOf
 pub mod Docs
 pub mod Laws
+pub use Rattle.ole_parts.specs.FaultNames
+pub use Rattle.ole_parts.specs.Fields
+pub use Rattle.ole_parts.specs.OleStreams
+pub use Rattle.ole_parts.specs.CompObjs
+pub use Rattle.ole_parts.specs.Presentations

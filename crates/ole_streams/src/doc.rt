@@ -1,12 +1,14 @@
 //! Documents of embedded objects.
 
-ghost use Rattle.std.specs.Prelude.{[], ◌≡◌, ◌↔◌, IfOk, IsTrue, length};
+ghost use Rattle.std.specs.Prelude.{[], ◌≡◌, ◌<◌, ◌^◌, ◌↔◌, IfOk, IsTrue, length};
 ghost use Rattle.ole_streams.specs.DocOf.{is_object, pushed};
-ghost use Rattle.ole_streams.specs.Docs.{Pushes};
+ghost use Rattle.ole_parts.specs.CompObjs.{CLASS_BYTES};
+ghost use Rattle.ole_streams.specs.Docs.{IsArea, Pushes};
+ghost use Rattle.storage_tree.specs.Streams.{AreInOrder};
 
-use crate::fault::OleFault;
 use object_parts::area::Area;
 use object_parts::limits::is_within;
+use ole_parts::fault::OleFault;
 use std::alloc::{AllocError, Global};
 use std::marker::Model;
 use storage_tree::bytes::Bytes;
@@ -52,6 +54,39 @@ impl DocObject {
     {
         is_within(&self.stored) && self.user_type.len() < PAST_USER_TYPE
     }
+
+    /// What the types of its values promise: how many bytes, which numbers, in which order.
+    fn promises(&self)
+        ensures class { length self.now.class ≡ CLASS_BYTES }
+        ensures area { IsArea self.now.area }
+        ensures in_order { AreInOrder self.now.stored.streams }
+    {
+        class_is_whole(self.class.as_bytes());
+        area_fits(self.area);
+        let _ = self.stored.streams.as_slice();
+    }
+}
+
+/// A class id has 16 bytes.
+fn class_is_whole(bytes: &[u8; 16])
+    ensures { length bytes.now ≡ CLASS_BYTES }
+{
+    let _bytes = *bytes;
+}
+
+/// A number of an area has two bytes.
+fn fits(n: u16)
+    ensures { n < 2 ^ 16 }
+{}
+
+/// So have all four.
+fn area_fits(area: Area)
+    ensures { IsArea area }
+{
+    fits(area.x);
+    fits(area.y);
+    fits(area.w);
+    fits(area.h);
 }
 
 /// A document: at most 64 objects, each within its limits.
@@ -97,6 +132,7 @@ impl Doc {
         if !object.is_within() {
             return Err(OleFault::NotADocument);
         }
+        object.promises();
         self.objects.push(object)?;
         Ok(())
     }

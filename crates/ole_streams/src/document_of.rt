@@ -4,26 +4,27 @@ ghost use Rattle.std.specs.Prelude.{[], ◌≡◌, ◌≢◌, ◌<◌, ◌≤◌
 ghost use Rattle.std.specs.Option.{option_map};
 ghost use Rattle.cfb_directory.specs.Names.{key};
 ghost use Rattle.object_parts.specs.Limits.{COMP_OBJ, OLE, OLE_PRES};
-ghost use Rattle.ole_streams.specs.CompObjs.{user_type_read};
+ghost use Rattle.ole_parts.specs.CompObjs.{user_type_read};
 ghost use Rattle.ole_streams.specs.DocOf.{as_picture, as_storage, as_stream, behind_comp_obj, behind_picture, doc_read, object_of, object_pushed, object_read, objects_behind, streams_behind};
 ghost use Rattle.ole_streams.specs.DocTree.{LAYOUT, object_name};
-ghost use Rattle.ole_streams.specs.Fields.{map_ok, on_ok};
+ghost use Rattle.ole_parts.specs.Fields.{map_ok, on_ok};
 ghost use Rattle.ole_streams.specs.Layouts.{layout_read};
-ghost use Rattle.ole_streams.specs.OleStreams.{ole_read};
-ghost use Rattle.ole_streams.specs.declared.fault.OleFault.TheVariants.{NoMemory};
+ghost use Rattle.ole_parts.specs.OleStreams.{ole_read};
+ghost use Rattle.ole_parts.specs.declared.fault.OleFault.TheVariants.{NoMemory};
+ghost use Rattle.ole_streams.specs.declared.doc.TheConstants.{MOST_OBJECTS};
 ghost use Rattle.storage_tree.specs.Change.{find, without};
 ghost use Rattle.storage_tree.specs.Kept.{kept};
 ghost use Rattle.storage_tree.specs.View.{children, shown, view};
 
-use crate::comp_obj::CompObj;
 use crate::doc::{Doc, DocObject};
-use crate::fault::OleFault;
 use crate::layout::read_layout;
 use crate::names;
-use crate::ole_stream::OleStream;
 use cfb_directory::name::Name;
 use object_parts::area::Area;
 use object_parts::limits::{comp_obj, ole, ole_pres};
+use ole_parts::comp_obj::CompObj;
+use ole_parts::fault::OleFault;
+use ole_parts::ole_stream::OleStream;
 use std::alloc::Global;
 use std::collections::BTreeMap;
 use storage_tree::bytes::Bytes;
@@ -220,7 +221,7 @@ fn push_object(
 
 /// The document of these areas and storages, where there is nothing else.
 fn objects_of(alloc: Global, areas: &[Area], entries: Entries) -> Result<Doc, OleFault>
-    requires { length areas.now ≤ 64 }
+    requires { length areas.now ≤ MOST_OBJECTS }
     ensures { result ≢ Err NoMemory → result ≡ objects_behind [] 1 areas.now (children entries.entries) }
 {
     let mut entries = entries;
@@ -241,7 +242,7 @@ fn objects_of(alloc: Global, areas: &[Area], entries: Entries) -> Result<Doc, Ol
 fn take_areas(alloc: Global, entries: &mut Entries) -> Result<Vec<Area>, OleFault>
     ensures value { result ≢ Err NoMemory → map_ok (λ areas. areas.items) result ≡ on_ok layout_read (as_stream (find (key LAYOUT) (children entries.old.entries))) }
     ensures rest { children entries.new.entries ≡ without (key LAYOUT) (children entries.old.entries) }
-    ensures few { IfOk result (λ areas. length areas.items ≤ 64) }
+    ensures few { IfOk result (λ areas. length areas.items ≤ MOST_OBJECTS) }
 {
     match take_stream(entries, &names::layout()) {
         Ok(bytes) => read_layout(alloc, bytes.as_slice()),

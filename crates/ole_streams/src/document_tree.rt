@@ -4,20 +4,22 @@ ghost use Rattle.std.specs.Prelude.{[], ◌≡◌, ◌≤◌, ◌<◌, ℕ, IfOk
 ghost use Rattle.cfb_directory.specs.Names.{IsName};
 ghost use Rattle.ole_streams.specs.DocOf.{is_object};
 ghost use Rattle.ole_streams.specs.DocTree.{doc_tree, object_children, object_tree, placed, with_objects, with_ole_streams, with_streams};
-ghost use Rattle.ole_streams.specs.Docs.{AreObjects};
+ghost use Rattle.ole_parts.specs.CompObjs.{PAST_USER_TYPE};
+ghost use Rattle.ole_streams.specs.Docs.{AreHeld};
+ghost use Rattle.ole_streams.specs.declared.doc.TheConstants.{MOST_OBJECTS};
 ghost use Rattle.storage_tree.specs.Change.{bytes as stream_seen};
 ghost use Rattle.storage_tree.specs.Kept.{kept};
 ghost use Rattle.storage_tree.specs.Tree.{none};
 ghost use Rattle.storage_tree.specs.View.{children, seen, view};
 ghost use Rattle.storage_tree.specs.Whole.{AreTrees, IsTree, IsWhole};
 
-use crate::comp_obj::write_stream;
 use crate::doc::{Doc, DocObject};
 use crate::layout::write_layout;
 use crate::names;
-use crate::ole_stream::OleStream;
 use cfb_directory::name::Name;
 use object_parts::limits::{comp_obj, ole, ole_pres};
+use ole_parts::comp_obj::write_stream;
+use ole_parts::ole_stream::OleStream;
 use std::alloc::{AllocError, Global};
 use std::collections::BTreeMap;
 use storage_tree::bytes::Bytes;
@@ -70,7 +72,7 @@ fn place_ole_streams(
     user_type: &[u8],
     picture: Bytes,
 ) -> Result<(), AllocError>
-    requires { length user_type.now < 0xFFFFFFFF }
+    requires { length user_type.now < PAST_USER_TYPE }
     ensures value { OnOk result (children entries.new.entries ≡ with_ole_streams class user_type.now picture (children entries.old.entries)) }
     ensures whole { OnOk result ((depth : ℕ) → AreTrees depth (children entries.old.entries) → AreTrees depth (children entries.new.entries)) }
 {
@@ -107,8 +109,8 @@ fn object_storage(alloc: Global, object: DocObject) -> Result<Storage, AllocErro
 
 /// The storages of objects as the children of a storage.
 fn with_objects(alloc: Global, objects: Vec<DocObject>) -> Result<Entries, AllocError>
-    requires few { length objects.items ≤ 64 }
-    requires within { AreObjects objects.items }
+    requires few { length objects.items ≤ MOST_OBJECTS }
+    requires within { AreHeld objects.items }
     ensures value { IfOk result (λ entries. children entries.entries ≡ with_objects 1 objects.items none) }
     ensures whole { IfOk result (λ entries. AreTrees 32 (children entries.entries)) }
 {

@@ -1,21 +1,8 @@
-//! Laws of what is written and read.
+//! Laws of documents and their trees.
 
-ghost use Rattle.ole_streams.specs.Laws.{DocumentIsReadAgain, HoldsOneDocument, LinesAreReadAgain, OleIsReadAgain, UserTypeIsReadAgain};
+ghost use Rattle.ole_streams.specs.Laws.{DocumentIsReadAgain, HoldsOneDocument};
 
-/// `\1Ole` as it is written is read.
-pub fn ole_is_read_again()
-    ensures { OleIsReadAgain }
-{}
-
-/// Of `\1CompObj` as it is written, just the user type is read.
-pub fn user_type_is_read_again()
-    ensures { UserTypeIsReadAgain }
-{}
-
-/// Of `\2OlePres000` as lines are written, just these lines are read.
-pub fn lines_are_read_again()
-    ensures { LinesAreReadAgain }
-{}
+pub use ole_parts::laws::{lines_are_read_again, ole_is_read_again, user_type_is_read_again};
 
 /// A tree holds at most one document.
 pub fn holds_one_document()

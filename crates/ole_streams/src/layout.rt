@@ -3,14 +3,14 @@
 ghost use Rattle.std.specs.Prelude.{◌≡◌, ◌≢◌, ◌<◌, ◌≤◌, ◌^◌, ◌++◌, Err, IfOk, OnOk, length, map};
 ghost use Rattle.std.specs.Int.{to_le_bytes, w16};
 ghost use Rattle.std.specs.List.{flat_map};
-ghost use Rattle.ole_streams.specs.Fields.{map_ok};
+ghost use Rattle.ole_parts.specs.Fields.{map_ok};
 ghost use Rattle.ole_streams.specs.Layouts.{area_at, area_bytes, areas_behind, areas_read, layout_bytes, layout_read};
-ghost use Rattle.ole_streams.specs.declared.fault.OleFault.TheVariants.{NoMemory};
+ghost use Rattle.ole_parts.specs.declared.fault.OleFault.TheVariants.{NoMemory};
 
 use crate::doc::{DocObject, MOST_OBJECTS};
-use crate::fault::OleFault;
-use crate::fields::push_number;
 use object_parts::area::Area;
+use ole_parts::fault::OleFault;
+use ole_parts::fields::push_number;
 use std::alloc::{AllocError, Global};
 use storage_tree::bytes::Bytes;
 
@@ -106,7 +106,7 @@ fn read_areas(alloc: Global, count: u32, bytes: &[u8]) -> Result<Vec<Area>, OleF
 /// The areas behind the first eight bytes.
 fn areas_behind(alloc: Global, head: &[u8; 8], bytes: &[u8]) -> Result<Vec<Area>, OleFault>
     ensures areas { result ≢ Err NoMemory → map_ok (λ areas. areas.items) result ≡ areas_behind head.now bytes.now }
-    ensures few { IfOk result (λ areas. length areas.items ≤ 64) }
+    ensures few { IfOk result (λ areas. length areas.items ≤ MOST_OBJECTS) }
 {
     if u32::from_le_bytes([head[0], head[1], head[2], head[3]]) != VERSION {
         return Err(OleFault::NotADocument);
@@ -124,7 +124,7 @@ fn areas_behind(alloc: Global, head: &[u8; 8], bytes: &[u8]) -> Result<Vec<Area>
 /// many areas; `NoMemory`.
 pub(crate) fn read_layout(alloc: Global, bytes: &[u8]) -> Result<Vec<Area>, OleFault>
     ensures areas { result ≢ Err NoMemory → map_ok (λ areas. areas.items) result ≡ layout_read bytes.now }
-    ensures few { IfOk result (λ areas. length areas.items ≤ 64) }
+    ensures few { IfOk result (λ areas. length areas.items ≤ MOST_OBJECTS) }
 {
     match bytes.split_first_chunk::<8>() {
         Some((head, rest)) => areas_behind(alloc, head, rest),

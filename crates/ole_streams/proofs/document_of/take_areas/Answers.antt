@@ -1,5 +1,5 @@
 use Rattle.std.proofs.Common.{◌≡◌, ap, ◌∙◌}
-use Rattle.ole_streams.specs.Fields.{on_ok}
+use Rattle.ole_parts.specs.Fields.{on_ok}
 use Rattle.ole_streams.specs.Layouts.{layout_read}
 use Rattle.ole_streams.proofs.document_of.take_areas.Goals as goal
 

@@ -1,6 +1,6 @@
 use Rattle.std.proofs.Common.{◌≡◌, ap, ◌∙◌, Err}
-use Rattle.ole_streams.specs.CompObjs.{user_type_read}
-use Rattle.ole_streams.specs.Fields.{on_ok}
+use Rattle.ole_parts.specs.CompObjs.{user_type_read}
+use Rattle.ole_parts.specs.Fields.{on_ok}
 use Rattle.ole_streams.proofs.Opening.{err_same}
 use Rattle.ole_streams.proofs.document_of.take_user_type.Goals as goal
 

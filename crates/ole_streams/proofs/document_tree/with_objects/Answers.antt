@@ -6,11 +6,11 @@ use Rattle.storage_tree.specs.Change.{Seen}
 use Rattle.storage_tree.specs.Whole.{IsWhole}
 use Rattle.storage_tree.proofs.Entries.{seen-storage}
 use Rattle.ole_streams.specs.DocTree.{placed, object_name, with_objects}
-use Rattle.ole_streams.proofs.Writing.{AreObjects-front, AreObjects-last, with_objects-last}
+use Rattle.ole_streams.proofs.Writing.{AreHeld-front, AreHeld-last, with_objects-last}
 use Rattle.ole_streams.proofs.document_tree.with_objects.Goals as goal
 
 pub object_storage-requires : goal.object_storage-requires
-object_storage-requires c = AreObjects-last c.pop.new.self.items c.in-Some.object (rw c.in-Some.ensures.items at c.loop-object.invariant.within)
+object_storage-requires c = AreHeld-last c.pop.new.self.items c.in-Some.object (rw c.in-Some.ensures.items at c.loop-object.invariant.within)
 
 pub loop-object-preserved : goal.loop-object-preserved
 loop-object-preserved c =
@@ -27,5 +27,5 @@ loop-object-preserved c =
           ∙ c.loop-object.invariant.value;
       whole = c.in_ok-place.ensures.whole 32 (subst W (sym (seen-storage c.in_ok-storage.storage)) (c.in_ok-storage.ensures.whole 31)) c.loop-object.invariant.whole;
       few = omega (arith, simp length-append at (ap length c.in-Some.ensures.items));
-      within = AreObjects-front c.pop.new.self.items _ (rw c.in-Some.ensures.items at c.loop-object.invariant.within);
+      within = AreHeld-front c.pop.new.self.items _ (rw c.in-Some.ensures.items at c.loop-object.invariant.within);
     }

@@ -1,6 +1,6 @@
 use Rattle.std.proofs.Common.{◌≡◌, ◌≤◌, length}
 use Rattle.ole_streams.specs.DocTree.{with_objects}
-use Rattle.ole_streams.specs.Docs.{AreObjects}
+use Rattle.ole_streams.specs.Docs.{AreHeld}
 use Rattle.storage_tree.specs.Tree.{none}
 use Rattle.storage_tree.specs.View.{children}
 use Rattle.storage_tree.specs.Whole.{AreTrees}
@@ -11,7 +11,7 @@ invariant-loop-object l = record {
   value : with_objects 1 l.objects.items (children l.entries.entries) ≡ with_objects 1 l.fn.objects.items none;
   whole : AreTrees 32 (children l.entries.entries);
   few : length l.objects.items ≤ 64;
-  within : AreObjects l.objects.items;
+  within : AreHeld l.objects.items;
 }
 
 abbrev pub decreases-loop-object : goal.decreases-loop-object

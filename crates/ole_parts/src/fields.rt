@@ -2,7 +2,7 @@
 
 ghost use Rattle.std.specs.Prelude.{◌≡◌, ◌<◌, ◌^◌, ◌+◌, ◌++◌, OnOk, length};
 ghost use Rattle.std.specs.Int.{to_le_bytes, w32};
-ghost use Rattle.ole_streams.specs.Fields.{behind_format, characters, format, map_ok, number, string, string_bytes};
+ghost use Rattle.ole_parts.specs.Fields.{behind_format, characters, format, map_ok, number, string, string_bytes};
 
 use crate::fault::OleFault;
 use std::alloc::AllocError;
@@ -79,7 +79,9 @@ pub(crate) fn format(bytes: &[u8]) -> Result<&[u8], OleFault>
 }
 
 /// Adds a number in four bytes, least byte first.
-pub(crate) fn push_number(out: &mut Vec<u8>, n: u32) -> Result<(), AllocError>
+///
+/// Refused for want of memory alone.
+pub fn push_number(out: &mut Vec<u8>, n: u32) -> Result<(), AllocError>
     ensures { OnOk result (out.new.items ≡ out.old.items ++ to_le_bytes w32 n) }
 {
     out.extend_from_slice(&n.to_le_bytes())?;

@@ -4,11 +4,11 @@ use Rattle.std.specs.Int.{w32, to_le_bytes}
 use Rattle.std.proofs.lemmas.Nat.{from_le_bytes-to_le_bytes_4}
 use Rattle.std.proofs.lemmas.List.{take_all}
 use Rattle.std.proofs.lemmas.Bool.Decides.{nat_tests}
-use Rattle.ole_streams.specs.CompObjs.{comp_obj_bytes, header, user_type_behind, user_type_read}
-use Rattle.ole_streams.specs.Fields.{behind_format, characters, format, map_ok, number, on_ok, string, string_bytes}
-use Rattle.ole_streams.specs.Laws.{LinesAreReadAgain, OleIsReadAgain, UserTypeIsReadAgain}
-use Rattle.ole_streams.specs.Presentations.{are_lines, lines_read, picture, presentation, presentation_bytes, size_of, whole_lines}
-use Rattle.ole_streams.proofs.Tests.{cond_false, is_le, not_lt}
+use Rattle.ole_parts.specs.CompObjs.{comp_obj_bytes, header, user_type_behind, user_type_read}
+use Rattle.ole_parts.specs.Fields.{behind_format, characters, format, map_ok, number, on_ok, string, string_bytes}
+use Rattle.ole_parts.specs.Laws.{LinesAreReadAgain, OleIsReadAgain, UserTypeIsReadAgain}
+use Rattle.ole_parts.specs.Presentations.{are_lines, lines_read, picture, presentation, presentation_bytes, size_of, whole_lines}
+use Rattle.ole_parts.proofs.Tests.{cond_false, is_le, not_lt}
 
 pub take-front : (xs ys : List ℕ) → take (length xs) (xs ++ ys) ≡ xs
 take-front [] ys = refl

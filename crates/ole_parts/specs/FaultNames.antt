@@ -1,7 +1,7 @@
 -- The names by which faults are printed.
 use Rattle.std.specs.Prelude.{ℕ, List, codes}
-use Rattle.ole_streams.specs.declared.fault.OleFault.{OleFault}
-use Rattle.ole_streams.specs.declared.fault.OleFault.TheVariants.{Truncated, BadVersion, Linked, BadString, NotADocument, TooManyObjects, NoMemory}
+use Rattle.ole_parts.specs.declared.fault.OleFault.{OleFault}
+use Rattle.ole_parts.specs.declared.fault.OleFault.TheVariants.{Truncated, BadVersion, Linked, BadString, NotADocument, TooManyObjects, NoMemory}
 
 abbrev pub fault_name : OleFault → List ℕ
 fault_name Truncated = codes "Truncated"

@@ -1,8 +1,8 @@
 //! The stream `\1Ole` of an embedded object (MS-OLEDS 2.3.3).
 
 ghost use Rattle.std.specs.Prelude.{◌≡◌};
-ghost use Rattle.ole_streams.specs.Fields.{map_ok};
-ghost use Rattle.ole_streams.specs.OleStreams.{ole_bytes, ole_read};
+ghost use Rattle.ole_parts.specs.Fields.{map_ok};
+ghost use Rattle.ole_parts.specs.OleStreams.{ole_bytes, ole_read};
 
 use crate::fault::OleFault;
 

@@ -1,8 +1,12 @@
 -- The stream "\1Ole" of an embedded object (MS-OLEDS 2.3.3).
 use Rattle.std.specs.Prelude.{ℕ, ◌%◌, ◌++◌, List, cond, not, length, take, drop, replicate, nat_eq, nat_lt, Result, Ok, Err}
 use Rattle.std.specs.Int.{w32, from_le_bytes, to_le_bytes}
-use Rattle.ole_streams.specs.declared.fault.OleFault.{OleFault}
-use Rattle.ole_streams.specs.declared.fault.OleFault.TheVariants.{Truncated, BadVersion, Linked}
+use Rattle.ole_parts.specs.declared.fault.OleFault.{OleFault}
+use Rattle.ole_parts.specs.declared.fault.OleFault.TheVariants.{Truncated, BadVersion, Linked}
+
+-- the fewest bytes that are read
+abbrev pub LEAST : ℕ
+LEAST = 20
 
 abbrev pub VERSION : ℕ
 VERSION = 0x02000001
@@ -11,7 +15,7 @@ VERSION = 0x02000001
 -- other flags, the other fields and what stands behind them are free.
 abbrev pub ole_read : List ℕ → Result (Unit {0}) OleFault
 ole_read bytes =
-    cond (nat_lt (length bytes) 20) (Err Truncated) (
+    cond (nat_lt (length bytes) LEAST) (Err Truncated) (
     cond (not (nat_eq (from_le_bytes w32 (take 4 bytes)) VERSION)) (Err BadVersion) (
     cond (nat_eq (from_le_bytes w32 (take 4 (drop 4 bytes)) % 2) 1) (Err Linked) (
     Ok tt)))

@@ -1,9 +1,9 @@
 //! The stream `\1CompObj` (MS-OLEDS 2.3.8).
 
 ghost use Rattle.std.specs.Prelude.{◌≡◌, ◌≢◌, ◌<◌, ◌^◌, ◌+◌, Err, IfOk, length};
-ghost use Rattle.ole_streams.specs.CompObjs.{comp_obj_bytes, user_type_behind, user_type_read};
-ghost use Rattle.ole_streams.specs.Fields.{map_ok};
-ghost use Rattle.ole_streams.specs.declared.fault.OleFault.TheVariants.{NoMemory};
+ghost use Rattle.ole_parts.specs.CompObjs.{PAST_USER_TYPE, comp_obj_bytes, user_type_behind, user_type_read};
+ghost use Rattle.ole_parts.specs.Fields.{map_ok};
+ghost use Rattle.ole_parts.specs.declared.fault.OleFault.TheVariants.{NoMemory};
 
 use crate::fault::OleFault;
 use crate::fields::{format, push_number, push_string, string};
@@ -70,7 +70,7 @@ impl CompObj {
     ///
     /// The user type has fewer than 4,294,967,295 bytes. Refused for want of memory alone.
     pub fn write(&self, alloc: Global, class: ClassId) -> Result<Bytes, AllocError>
-        requires { length self.now.user_type < 0xFFFFFFFF }
+        requires { length self.now.user_type < PAST_USER_TYPE }
         ensures { IfOk result (λ b. b ≡ comp_obj_bytes class self.now.user_type) }
     {
         write_stream(alloc, class, self.user_type.as_slice())
@@ -78,12 +78,10 @@ impl CompObj {
 }
 
 /// The bytes of the stream with this class id in its header, without a clipboard format.
-pub(crate) fn write_stream(
-    alloc: Global,
-    class: ClassId,
-    user_type: &[u8],
-) -> Result<Bytes, AllocError>
-    requires { length user_type.now < 0xFFFFFFFF }
+///
+/// The user type has fewer than 4,294,967,295 bytes. Refused for want of memory alone.
+pub fn write_stream(alloc: Global, class: ClassId, user_type: &[u8]) -> Result<Bytes, AllocError>
+    requires { length user_type.now < PAST_USER_TYPE }
     ensures { IfOk result (λ b. b ≡ comp_obj_bytes class user_type.now) }
 {
     let mut out = Vec::new(alloc);

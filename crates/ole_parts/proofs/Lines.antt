@@ -2,7 +2,7 @@
 use Rattle.std.proofs.Common.{◌≡◌, ◌<◌, ◌+◌, ◌∷◌, ◌∙◌, ℕ, List, Bool, true, false, cond, nat_eq, length, drop, get_or, refl, ap, arith, add-one}
 use Rattle.std.proofs.Math.Seq.{drop-cons}
 use Rattle.std.proofs.lemmas.Bool.Decides.{nat_tests}
-use Rattle.ole_streams.specs.Presentations.{longest, longer}
+use Rattle.ole_parts.specs.Presentations.{longest, longer}
 
 longest-at : (xs : List ℕ) (i m b : ℕ) (t : Bool) → i < length xs → nat_eq (get_or xs i 0) 10 ≡ t
     → longest m b (drop i xs) ≡ cond t (longest (longer m b) 0 (drop (i + 1) xs)) (longest m (b + 1) (drop (i + 1) xs))

@@ -2,8 +2,16 @@
 use Rattle.std.specs.Prelude.{ℕ, ◌+◌, ◌-◌, ◌||◌, ◌&&◌, ◌∷◌, ◌++◌, List, [], Bool, cond, length, take, drop, nat_eq, nat_le, nat_lt, slice_index, count_by, Option, Some, None}
 use Rattle.std.specs.Int.{w32, from_le_bytes, to_le_bytes}
 use Rattle.std.specs.List.{list_all, starts_with}
-use Rattle.ole_streams.specs.declared.presentation.Presentation.{Presentation}
-use Rattle.ole_streams.specs.declared.presentation.Presentation.TheVariants.{Text, Other}
+use Rattle.ole_parts.specs.declared.presentation.Presentation.{Presentation}
+use Rattle.ole_parts.specs.declared.presentation.Presentation.TheVariants.{Text, Other}
+
+-- how many bytes stand before the data
+abbrev pub BEFORE_DATA : ℕ
+BEFORE_DATA = 48
+
+-- the first number that doesn't fit the field of the data's size
+abbrev pub PAST_DATA : ℕ
+PAST_DATA = 0x100000000
 
 -- The fields before the advise flags: the clipboard format "OleCon Text", no target device (its size field has the value
 -- 4), the aspect for content, the index -1.
@@ -44,7 +52,7 @@ presentation_bytes lines = front ++ to_le_bytes w32 2 ++ to_le_bytes w32 0 ++ to
 
 -- lines can be written where their size fits its field
 abbrev pub lines_written : List ℕ → Option (List ℕ)
-lines_written lines = cond (are_lines lines && nat_lt (length lines) 0x100000000) (Some (presentation_bytes lines)) None
+lines_written lines = cond (are_lines lines && nat_lt (length lines) PAST_DATA) (Some (presentation_bytes lines)) None
 
 -- the size of the data, as the last four of 48 bytes say
 unfoldable pub size_of : List ℕ → ℕ
@@ -61,7 +69,7 @@ lines_behind head bytes = cond (starts_with nat_eq head front) (whole_lines (siz
 
 -- the lines of a picture of text
 abbrev pub lines_read : List ℕ → Option (List ℕ)
-lines_read bytes = cond (nat_lt (length bytes) 48) None (lines_behind (take 48 bytes) (drop 48 bytes))
+lines_read bytes = cond (nat_lt (length bytes) BEFORE_DATA) None (lines_behind (take BEFORE_DATA bytes) (drop BEFORE_DATA bytes))
 
 abbrev pub picture : List ℕ → Option (List ℕ) → Presentation
 picture bytes None = Other bytes

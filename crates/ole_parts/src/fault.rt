@@ -31,7 +31,7 @@ pub enum OleFault {
 
 impl OleFault {
     ghost use Rattle.std.specs.Prelude.{◌≡◌};
-    ghost use Rattle.ole_streams.specs.FaultNames.{fault_name};
+    ghost use Rattle.ole_parts.specs.FaultNames.{fault_name};
 
     /// The fault's name, as it is printed.
     pub fn name(&self) -> &'static str
@@ -51,7 +51,7 @@ impl OleFault {
 
 impl From<AllocError> for OleFault {
     ghost use Rattle.std.specs.Prelude.{◌≡◌};
-    ghost use Rattle.ole_streams.specs.declared.fault.OleFault.TheVariants.{NoMemory};
+    ghost use Rattle.ole_parts.specs.declared.fault.OleFault.TheVariants.{NoMemory};
 
     ghost from_gives = { λ _ e. e ≡ NoMemory };
 
@@ -62,7 +62,7 @@ impl From<AllocError> for OleFault {
 
 impl<T: Drop> From<AllocFailed<T>> for OleFault {
     ghost use Rattle.std.specs.Prelude.{◌≡◌};
-    ghost use Rattle.ole_streams.specs.declared.fault.OleFault.TheVariants.{NoMemory};
+    ghost use Rattle.ole_parts.specs.declared.fault.OleFault.TheVariants.{NoMemory};
 
     ghost from_gives = { λ _ e. e ≡ NoMemory };
 

@@ -1,8 +1,8 @@
 -- Fields of streams, read from the front of the bytes that are left, with what stands behind them.
 use Rattle.std.specs.Prelude.{ℕ, ◌-◌, ◌+◌, ◌||◌, ◌∷◌, ◌++◌, List, [], not, cond, length, take, drop, nat_eq, nat_lt, slice_index, Result, Ok, Err}
 use Rattle.std.specs.Int.{w32, from_le_bytes, to_le_bytes}
-use Rattle.ole_streams.specs.declared.fault.OleFault.{OleFault}
-use Rattle.ole_streams.specs.declared.fault.OleFault.TheVariants.{Truncated, BadString}
+use Rattle.ole_parts.specs.declared.fault.OleFault.{OleFault}
+use Rattle.ole_parts.specs.declared.fault.OleFault.TheVariants.{Truncated, BadString}
 
 abbrev pub map_ok : {A B : Type 0} → (A → B) → Result A OleFault → Result B OleFault
 map_ok f (Ok a) = Ok (f a)
@@ -28,11 +28,18 @@ characters size bytes =
 abbrev pub string : List ℕ → Result (List ℕ × List ℕ) OleFault
 string bytes = on_ok (λ f. characters f.0 f.1) (number bytes)
 
+-- the marks of a clipboard format that is a number, of a Macintosh or of the system
+abbrev pub MACINTOSH : ℕ
+MACINTOSH = 0xFFFFFFFE
+
+abbrev pub WINDOWS : ℕ
+WINDOWS = 0xFFFFFFFF
+
 -- What stands behind a clipboard format (MS-OLEDS 2.3.1): none, a number behind one of two marks, or a name.
 abbrev pub behind_format : ℕ → List ℕ → Result (List ℕ) OleFault
 behind_format mark bytes =
     cond (nat_eq mark 0) (Ok bytes) (
-    cond (nat_eq mark 0xFFFFFFFE || nat_eq mark 0xFFFFFFFF) (map_ok (λ f. f.1) (number bytes)) (
+    cond (nat_eq mark MACINTOSH || nat_eq mark WINDOWS) (map_ok (λ f. f.1) (number bytes)) (
     map_ok (λ f. f.1) (characters mark bytes)))
 
 abbrev pub format : List ℕ → Result (List ℕ) OleFault

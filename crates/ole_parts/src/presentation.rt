@@ -3,7 +3,7 @@
 ghost use Rattle.std.specs.Prelude.{◌≡◌, ◌+◌, ◌<◌, ◌≤◌, ◌++◌, ◌^◌, IfOk, OnOk, length};
 ghost use Rattle.std.specs.List.{list_all};
 ghost use Rattle.std.specs.Option.{option_map};
-ghost use Rattle.ole_streams.specs.Presentations.{are_lines, front, height, is_line_byte, lines_behind, lines_read, lines_written, longer, presentation, presentation_bytes, size_of, whole_lines, width};
+ghost use Rattle.ole_parts.specs.Presentations.{PAST_DATA, are_lines, front, height, is_line_byte, lines_behind, lines_read, lines_written, longer, presentation, presentation_bytes, size_of, whole_lines, width};
 
 use crate::fields::push_number;
 use std::alloc::{AllocError, Global};
@@ -151,7 +151,7 @@ impl Presentation {
 
 /// The stream that holds a picture of these lines.
 fn write_stream(alloc: Global, lines: &[u8]) -> Result<Bytes, AllocError>
-    requires { length lines.now < 0x100000000 }
+    requires { length lines.now < PAST_DATA }
     ensures { IfOk result (λ b. b ≡ presentation_bytes lines.now) }
 {
     let mut out = Vec::new(alloc);

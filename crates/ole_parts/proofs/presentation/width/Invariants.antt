@@ -1,6 +1,6 @@
 use Rattle.std.proofs.Common.{◌≡◌, ◌≤◌, drop}
-use Rattle.ole_streams.specs.Presentations.{longest}
-use Rattle.ole_streams.proofs.presentation.width.Given as goal
+use Rattle.ole_parts.specs.Presentations.{longest}
+use Rattle.ole_parts.proofs.presentation.width.Given as goal
 
 abbrev pub invariant-loop-c : goal.invariant-loop-c
 invariant-loop-c l = record {

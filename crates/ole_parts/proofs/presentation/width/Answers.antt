@@ -1,9 +1,9 @@
 use Rattle.std.proofs.Common.{arith, ◌+◌, ◌∙◌, sym, ap, drop}
 use Rattle.std.proofs.lemmas.Bool.Decides.{nat_tests}
-use Rattle.ole_streams.specs.Presentations.{longest, longer}
-use Rattle.ole_streams.proofs.Lines.{longest-feed, longest-more}
-use Rattle.ole_streams.proofs.presentation.width.Goals as goal
-use Rattle.ole_streams.proofs.presentation.width.Goals.{then-c-eq10, else-c-eq10}
+use Rattle.ole_parts.specs.Presentations.{longest, longer}
+use Rattle.ole_parts.proofs.Lines.{longest-feed, longest-more}
+use Rattle.ole_parts.proofs.presentation.width.Goals as goal
+use Rattle.ole_parts.proofs.presentation.width.Goals.{then-c-eq10, else-c-eq10}
 
 pub loop-c-preserved : goal.loop-c-preserved
 loop-c-preserved c = elim c.if-c-eq10.branch [
