@@ -1,19 +1,12 @@
 -- How paths are spelled.
 use Rattle.std.specs.Prelude.{◌||◌, ℕ, Option, Some, None, List, [], ◌∷◌, Result, Ok, Err, nat_eq, if◌then◌else◌, map}
-use Rattle.std.specs.List.{flat_map, join_with_byte}
+use Rattle.std.specs.List.{join_with_byte}
 use Rattle.std.specs.Option.{option_map}
 use Rattle.cfb_directory.specs.Names.{name_read as taken_name}
 use Rattle.cfb_directory.specs.declared.fault.DirFault.{DirFault}
 use Rattle.embed_core.specs.Words.{pieces}
 use Rattle.texts.specs.Words.{is_hidden, lower_digit, pair_value, onto}
-use Rattle.texts.specs.Written.{byte_hex}
-
--- how a byte of a name is spelled: a hidden one as a backslash and two digits
-abbrev pub byte_text : ℕ → List ℕ
-byte_text c = if is_hidden c then 92 ∷ byte_hex c else c ∷ []
-
-abbrev pub name_text : List ℕ → List ℕ
-name_text name = flat_map byte_text name
+pub use Rattle.text_model.specs.Spelled.{byte_text, name_text}
 
 -- the names of a path, joined by slashes
 abbrev pub path_text : List (List ℕ) → List ℕ

@@ -1,6 +1,7 @@
 -- Bytes in the words of the texts that the program reads.
-use Rattle.std.specs.Prelude.{◌+◌, ◌-◌, ◌*◌, ◌&&◌, ◌||◌, ℕ, Bool, Option, Some, None, List, [], ◌∷◌, nat_le, nat_eq, cond}
+use Rattle.std.specs.Prelude.{◌+◌, ◌-◌, ◌*◌, ◌&&◌, ℕ, Bool, Option, Some, None, List, [], ◌∷◌, nat_le, nat_eq, cond}
 use Rattle.std.specs.Char.{is_ascii_digit}
+pub use Rattle.text_model.specs.Spelled.{is_hidden}
 
 -- the value of a hexadecimal digit, a lower-case one
 abbrev pub lower_digit : ℕ → Option ℕ
@@ -37,10 +38,6 @@ abbrev pub content_read : List ℕ → Option (List ℕ)
 content_read [] = None
 content_read (c ∷ []) = cond (nat_eq c 45) (Some []) None
 content_read (c ∷ d ∷ ds) = hex_read (c ∷ d ∷ ds)
-
--- a byte up to 32, or 127: one that ends a word or can't be seen
-abbrev pub is_hidden : ℕ → Bool
-is_hidden c = nat_le c 32 || nat_eq c 127
 
 -- printable ASCII, and no space
 abbrev pub is_visible : ℕ → Bool

@@ -1,11 +1,12 @@
-//! How numbers, bytes and names are written.
+//! How numbers, bytes, names and class ids are written.
 
 ghost use Rattle.std.specs.Prelude.{◌≡◌, ◌<◌, ◌++◌, ◌∷◌, OnOk};
-ghost use Rattle.texts.specs.Paths.{byte_text, name_text};
-ghost use Rattle.texts.specs.Written.{byte_hex, digit_text, hex, numbered};
+ghost use Rattle.text_model.specs.Spelled.{byte_hex, byte_text, class_text, digit_text, hex, name_text, numbered};
 
 use crate::words::is_hidden;
 use std::alloc::{AllocError, Global};
+use storage_tree::class_id::ClassId;
+use uuid::Uuid;
 
 /// The lower-case hexadecimal digit of a number below 16.
 fn digit_text(digit: u8) -> u8
@@ -58,6 +59,17 @@ pub fn push_name(text: &mut Vec<u8>, name: &[u8]) -> Result<(), AllocError>
     for byte in name {
         push_byte(text, *byte)?;
     }
+    Ok(())
+}
+
+/// Writes a class id.
+pub fn push_class(text: &mut Vec<u8>, class: &ClassId) -> Result<(), AllocError>
+    ensures { OnOk result (text.new.items ≡ text.old.items ++ class_text class.now) }
+{
+    let mut buffer = Uuid::encode_buffer();
+    let id = Uuid::from_bytes_le(*class.as_bytes());
+    let spelled = id.hyphenated().encode_lower(&mut buffer);
+    text.extend_from_slice(spelled.as_bytes())?;
     Ok(())
 }
 

@@ -2,5 +2,4 @@ pub mod World
 pub mod Safe
 pub mod Runs
 pub mod StopNames
-pub mod Texts
 pub mod Report

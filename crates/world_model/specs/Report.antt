@@ -18,7 +18,7 @@ use Rattle.container_model.specs.declared.record.Object.{Object}
 use Rattle.container_model.specs.declared.record.Link.{Link}
 use Rattle.container_model.specs.declared.answer.Done.{Done}
 use Rattle.world_model.specs.declared.logs.ServerDone.{ServerDone}
-use Rattle.world_model.specs.Texts.{line, hex, name_text, class_text}
+use Rattle.text_model.specs.Spelled.{line, hex, name_text, class_text}
 use Rattle.world_model.specs.World.{World}
 
 -- Frames, by their numbers: who has the frame or is to get it, the number of the last save, and whether there is a file.

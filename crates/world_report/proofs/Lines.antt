@@ -1,7 +1,7 @@
 -- Lines that are written in pieces.
 use Rattle.std.proofs.Common.{◌≡◌, ◌++◌, ℕ, List, [], ◌∷◌, refl, sym, ◌∙◌, append_assoc, append-nil}
 use Rattle.std.specs.Prelude.{codes}
-use Rattle.world_model.specs.Texts.{line}
+use Rattle.text_model.specs.Spelled.{line}
 
 -- a text that is continued by four pieces, one after the other
 pub continued : (s u v w x y b c d e : List ℕ) → u ≡ s → v ≡ u ++ b → w ≡ v ++ c → x ≡ w ++ d → y ≡ x ++ e → y ≡ s ++ b ++ c ++ d ++ e

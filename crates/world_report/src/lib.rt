@@ -1,6 +1,4 @@
-//! The report of a world, written from what the container shows and from both logs; and how names, bytes, class ids and
-//! numbers are spelled in texts.
+//! The report of a world, written from what the container shows and from both logs.
 #![tactic(auto)]
 
 pub mod report;
-pub mod text;

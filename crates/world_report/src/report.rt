@@ -5,9 +5,9 @@ ghost use Rattle.std.specs.Fmt.{decimal};
 ghost use Rattle.std.specs.List.{flat_map};
 ghost use Rattle.std.specs.Prelude.{◌≡◌, ◌≢◌, ◌++◌, ◌∷◌, [], codes, IfErr, IfOk, OnOk};
 ghost use Rattle.world_model.specs.Report.{container_line, content_text, done_line, file_word, frame_line, frame_lines, further_text, grant_text, linked_text, object_line, object_state_name, persist_state_name, report_of, server_line, state_text, stream_text, type_text};
-ghost use Rattle.world_model.specs.Texts.{name_text};
+ghost use Rattle.text_model.specs.Spelled.{name_text};
 
-use crate::text::{push_class, push_hex, push_name, push_numbered, push_word};
+use container_model::answer::Done;
 use container_model::record::{Frame, Link, Object, Phase};
 use embed_core::classes;
 use grant_core::GrantState;
@@ -17,7 +17,7 @@ use std::io;
 use std::io::Write;
 use storage_tree::class_id::ClassId;
 use storage_tree::streams::NamedStream;
-use container_model::answer::Done;
+use texts::writing::{push_class, push_hex, push_name, push_numbered, push_word};
 use world_model::logs::ServerDone;
 
 /// Why a report isn't written.

@@ -5,7 +5,7 @@ ghost use Rattle.wire_msgs.specs.Found.{nth, set_nth, find};
 ghost use Rattle.container_model.specs.Saves.{commit_done, image, document_tree, name_after};
 ghost use Rattle.container_model.specs.declared.record.Phase.TheVariants as phase;
 ghost use Rattle.file_model.specs.Denotes.{Denotes};
-ghost use Rattle.world_model.specs.World.{IsImage, Refuses, done, done_entry, frame_file, is_file, kept_commit, limited, put_file};
+ghost use Rattle.world_model.specs.World.{IsImage, Refuses, done, frame_file, is_file, kept_commit, limited, put_file};
 ghost use Rattle.world_model.specs.declared.event.Event.TheVariants as event;
 ghost use Rattle.world_run.specs.Files.{IsFileAt, IsNoFile, is_committing_in};
 ghost use Rattle.world_run.specs.Rooms.{most};
@@ -19,7 +19,7 @@ use std::alloc::{AllocError, Global};
 use storage_tree::bytes::Bytes;
 use wire_msgs::items::Items;
 use world_model::event::Stop;
-use world_model::logs::{Document, Done, File};
+use world_model::logs::{Document, File};
 
 // The name that a frame has once its commit is done.
 fn name_after(alloc: Global, frame: &Frame) -> Result<Bytes, AllocError>
@@ -29,21 +29,6 @@ fn name_after(alloc: Global, frame: &Frame) -> Result<Bytes, AllocError>
         Some(name) => name.copy(alloc),
         None => frame.name.copy(alloc),
     }
-}
-
-// What the container counts of a document.
-fn entries(alloc: Global, k: u32, parts: &[Part]) -> Result<Vec<Done>, AllocError>
-    ensures { IfOk result (λ v. v.items ≡ map (done_entry k) parts.now) }
-{
-    let mut entries = Vec::new(alloc);
-    for part in parts {
-        entries.push(Done {
-            object: part.object,
-            k,
-            content: part.content.copy(alloc)?,
-        })?;
-    }
-    Ok(entries)
 }
 
 // Where the file of this name stands.
@@ -117,18 +102,16 @@ impl Host {
         };
         let k = frame.k;
         let name = name_after(alloc, frame)?;
-        let entries = entries(alloc, k, parts.as_slice())?;
         let count = self.most();
         let room = Room::new(alloc, count)?;
         self.reserve(count)?;
         self.files.reserve(1)?;
-        self.container_done.reserve(entries.len())?;
+        self.container_done.reserve(count)?;
         match self.core.commit_done(alloc, f) {
             Ok(committed) => {
                 let Committed { answer, counted } = committed;
-                drop(counted);
                 put_file(&mut self.files, name, Bytes::from_vec(bytes));
-                add_all(&mut self.container_done, entries);
+                add_all(&mut self.container_done, counted.into_vec());
                 set_counted(&mut self.counted, f, Document { k, parts });
                 Ok(self.join(answer, room))
             }

@@ -12,7 +12,7 @@ ghost use Rattle.world_run.specs.Rooms.{HasLogRoom, HasReplyRoom, IsBarred, IsRo
 ghost use Rattle.world_run.specs.View.{bare, started};
 
 use container_core::container::{ContainerCore, Limits};
-use container_model::answer::{Action, Answer};
+use container_model::answer::{Action, Answer, Done};
 use container_model::command::Command;
 use container_model::fault::ContainerFault;
 use server_model::counted::Counted;
@@ -21,7 +21,7 @@ use std::alloc::{AllocError, Global};
 use wire_msgs::items::Items;
 use wire_msgs::message::Message;
 use world_model::event::{Stop, copy_command};
-use world_model::logs::{Document, Done, EventAnswer, File, Outcome, Sent, ServerDone, View};
+use world_model::logs::{Document, EventAnswer, File, Outcome, Sent, ServerDone, View};
 
 /// The host of a world's container: what the world keeps besides its servers and its stock, the container, the files and the
 /// logs.

@@ -8,8 +8,9 @@ ghost use Rattle.world_model.specs.World.{counted_document, frame_file};
 use crate::state::place;
 use crate::world::World;
 use container_core::container::ContainerCore;
+use container_model::answer::Done;
 use embed_core::embedded::Embedded;
-use world_model::logs::{Document, Done, EventAnswer, Sent, ServerDone};
+use world_model::logs::{Document, EventAnswer, Sent, ServerDone};
 
 impl World {
     /// The container.

@@ -1,4 +1,5 @@
--- How lines, names, bytes and class ids are spelled.
+-- How lines, numbers, bytes, names and class ids are spelled.
+use Rattle.std.specs.Fmt.{decimal}
 use Rattle.std.specs.Prelude.{◌+◌, ◌/◌, ◌%◌, ◌||◌, ◌++◌, ℕ, Bool, List, [], ◌∷◌, if◌then◌else◌, nat_le, nat_lt, nat_eq}
 use Rattle.std.specs.List.{flat_map}
 use Rattle.uuid.specs.Parts.{swap_fields}
@@ -35,3 +36,7 @@ name_text name = flat_map byte_text name
 -- The text of a class id, whose first three fields stand in files with their lowest bytes first (MS-DTYP 2.3.4.2).
 abbrev pub class_text : List ℕ → List ℕ
 class_text class = hyphenated_text lower (swap_fields class)
+
+-- a number in decimal, behind a text
+abbrev pub numbered : List ℕ → ℕ → List ℕ
+numbered before n = before ++ decimal n

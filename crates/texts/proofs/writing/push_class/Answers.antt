@@ -1,7 +1,7 @@
 use Rattle.std.proofs.Common.{◌++◌, ap, ◌∙◌}
 use Rattle.uuid.specs.Parts.{swap_fields}
 use Rattle.uuid.specs.Text.{hyphenated_text, lower}
-use Rattle.world_report.proofs.text.push_class.Goals as goal
+use Rattle.texts.proofs.writing.push_class.Goals as goal
 
 pub returns : goal.returns
 returns c = c.in_ok-extend_from_slice.ensures.items ∙ ap (λ t. c.args.text.now.items ++ t) (

@@ -1,0 +1,134 @@
+-- Each event that is taken is answered, and no more of them than a world takes.
+use Rattle.std.proofs.Common.{◌≡◌, ◌≤◌, ◌<◌, ◌+◌, ◌++◌, ℕ, Bool, true, false, List, [], ◌∷◌, Option, Some, None, Result, Ok, Err, length, refl, ap, arith, nat_le, cond, length-append}
+use Rattle.std.proofs.lemmas.Bool.Decides.{nat_tests}
+use Rattle.embed_core.specs.Kinds.{Kind}
+use Rattle.wire_msgs.specs.declared.message.Message.{Message}
+use Rattle.wire_msgs.specs.declared.message.Message.TheVariants.{Call, Reply, Write, Ask}
+use Rattle.wire_msgs.specs.declared.operation.Operation.{Operation}
+use Rattle.wire_msgs.specs.Found.{find, nth}
+use Rattle.server_model.specs.Server.{Served, on_call, wanted}
+use Rattle.server_model.specs.declared.fault.ServerFault.{ServerFault}
+use Rattle.container_model.specs.Commands.{on_command}
+use Rattle.container_model.specs.Messages.{on_message, on_reap}
+use Rattle.container_model.specs.Record.{Took}
+use Rattle.container_model.specs.Saves.{commit_done, image}
+use Rattle.container_model.specs.declared.answer.Part.{Part}
+use Rattle.container_model.specs.declared.command.Command.{Command}
+use Rattle.container_model.specs.declared.fault.ContainerFault.{ContainerFault}
+use Rattle.container_model.specs.declared.record.Frame.{Frame}
+use Rattle.world_model.specs.World.{World, Instance, took, commanded, served, stocked, called_wanting, called_in, called, delivered, deliver, crashed, crash, ended, reap, done_taken, done_imaged, done_in, happened, limited, Run, MOST_EVENTS, is_of}
+use Rattle.world_model.specs.declared.event.Event.{Event}
+use Rattle.world_model.specs.declared.event.Event.TheVariants as event
+use Rattle.world_model.specs.declared.event.Stop.{Stop}
+use Rattle.world_model.specs.declared.event.Stop.TheVariants.{EventLimit}
+use Rattle.world_model.specs.declared.life.Life.{Life}
+use Rattle.world_model.specs.declared.life.Life.TheVariants.{Running, Ended, Reaped}
+use Rattle.world_model.specs.declared.logs.Sent.{Sent}
+use Rattle.world_model.specs.declared.logs.EventAnswer.{EventAnswer}
+
+-- one more event was answered
+abbrev More : World → World → Type 0
+More w next = length next.answers ≡ length w.answers + 1
+
+abbrev IfTaken : World → Result World Stop → Type 0
+IfTaken w (Err stop) = Unit {0}
+IfTaken w (Ok next) = More w next
+
+more : (answers : List EventAnswer) (a : EventAnswer) → length (answers ++ a ∷ []) ≡ length answers + 1
+more answers a = length-append answers (a ∷ [])
+
+took-more : (w : World) (r : Result Took ContainerFault) → More w (took w r)
+took-more w (Err fault) = more w.answers _
+took-more w (Ok t) = more w.answers _
+
+commanded-more : (w : World) (c : Command) (r : Result Took ContainerFault) → More w (commanded w c r)
+commanded-more w c (Err fault) = more w.answers _
+commanded-more w c (Ok t) = more w.answers _
+
+served-more : (w : World) (inc act n : ℕ) (i : Instance) (stock : List Kind) (r : Result Served ServerFault) → More w (served w inc act n i stock r)
+served-more w inc act n i stock (Err fault) = more w.answers _
+served-more w inc act n i stock (Ok v) = more w.answers _
+
+stocked-taken : (w : World) (inc act n : ℕ) (op : Operation) (i : Instance) (class : List ℕ) (kind : Option Kind) → IfTaken w (stocked w inc act n op i class kind)
+stocked-taken w inc act n op i class None = tt
+stocked-taken w inc act n op i class (Some kind) = served-more w inc act n i _ (on_call i.core (Call inc act n op) (Some kind))
+
+called_wanting-taken : (w : World) (inc act n : ℕ) (op : Operation) (i : Instance) (class : Option (List ℕ)) → IfTaken w (called_wanting w inc act n op i class)
+called_wanting-taken w inc act n op i None = served-more w inc act n i w.stock (on_call i.core (Call inc act n op) None)
+called_wanting-taken w inc act n op i (Some class) = stocked-taken w inc act n op i class (find (is_of class) w.stock)
+
+called_in-taken : (w : World) (inc act n : ℕ) (op : Operation) (i : Instance) (life : Life) → IfTaken w (called_in w inc act n op i life)
+called_in-taken w inc act n op i Running = called_wanting-taken w inc act n op i (wanted i.core (Call inc act n op))
+called_in-taken w inc act n op i Ended = more w.answers _
+called_in-taken w inc act n op i Reaped = more w.answers _
+
+called-taken : (w : World) (inc act n : ℕ) (op : Operation) (i : Option Instance) → IfTaken w (called w inc act n op i)
+called-taken w inc act n op None = more w.answers _
+called-taken w inc act n op (Some i) = called_in-taken w inc act n op i i.life
+
+delivered-taken : (w : World) (m : Message) → IfTaken w (delivered w m)
+delivered-taken w (Call inc act n op) = called-taken w inc act n op (nth w.instances inc)
+delivered-taken w (Reply inc act n answer) = took-more w (on_message w.rec inc (Reply inc act n answer))
+delivered-taken w (Write inc act s number content) = took-more w (on_message w.rec inc (Write inc act s number content))
+delivered-taken w (Ask inc act g) = took-more w (on_message w.rec inc (Ask inc act g))
+
+deliver-taken : (w : World) (sent : Option Sent) → IfTaken w (deliver w sent)
+deliver-taken w None = tt
+deliver-taken w (Some sent) = delivered-taken w sent.message
+
+crashed-taken : (w : World) (inc : ℕ) (i : Instance) (life : Life) → IfTaken w (crashed w inc i life)
+crashed-taken w inc i Running = more w.answers _
+crashed-taken w inc i Ended = tt
+crashed-taken w inc i Reaped = tt
+
+crash-taken : (w : World) (inc : ℕ) (i : Option Instance) → IfTaken w (crash w inc i)
+crash-taken w inc None = tt
+crash-taken w inc (Some i) = crashed-taken w inc i i.life
+
+ended-taken : (w : World) (inc : ℕ) (i : Instance) (life : Life) → IfTaken w (ended w inc i life)
+ended-taken w inc i Running = tt
+ended-taken w inc i Ended = took-more _ (on_reap w.rec inc)
+ended-taken w inc i Reaped = tt
+
+reap-taken : (w : World) (inc : ℕ) (i : Option Instance) → IfTaken w (reap w inc i)
+reap-taken w inc None = tt
+reap-taken w inc (Some i) = ended-taken w inc i i.life
+
+done_taken-taken : (w : World) (f : ℕ) (bytes : List ℕ) (frame : Frame) (parts : List Part) (r : Result Took ContainerFault) → IfTaken w (done_taken w f bytes frame parts r)
+done_taken-taken w f bytes frame parts (Err fault) = tt
+done_taken-taken w f bytes frame parts (Ok t) = more w.answers _
+
+done_imaged-taken : (w : World) (f : ℕ) (bytes : List ℕ) (frame : Frame) (r : Result (List Part) ContainerFault) → IfTaken w (done_imaged w f bytes frame r)
+done_imaged-taken w f bytes frame (Err fault) = tt
+done_imaged-taken w f bytes frame (Ok parts) = done_taken-taken w f bytes frame parts (commit_done w.rec f)
+
+done_in-taken : (w : World) (f : ℕ) (bytes : List ℕ) (frame : Option Frame) → IfTaken w (done_in w f bytes frame)
+done_in-taken w f bytes None = tt
+done_in-taken w f bytes (Some frame) = done_imaged-taken w f bytes frame (image w.rec f)
+
+happened-taken : (w : World) (bytes : List ℕ) (e : Event) → IfTaken w (happened w bytes e)
+happened-taken w bytes (event.Command c) = commanded-more w c (on_command w.rec c)
+happened-taken w bytes (event.Deliver p) = deliver-taken w (nth w.sent p)
+happened-taken w bytes (event.Crash inc) = crash-taken w inc (nth w.instances inc)
+happened-taken w bytes (event.Reap inc) = reap-taken w inc (nth w.instances inc)
+happened-taken w bytes (event.Done f) = done_in-taken w f bytes (nth w.rec.frames f)
+
+limited-few : (w next : World) (r : Result World Stop) → IfTaken w r → limited w r ≡ Ok next → length next.answers ≤ MOST_EVENTS
+limited-few w next (Err stop) one is = absurd (cc)
+limited-few w next (Ok after) one is =
+    let told : (Bool → Result World Stop) = λ b. cond b (Err EventLimit) (Ok after) in
+    let P : Bool → Type 0 = λ b. nat_le MOST_EVENTS (length w.answers) ≡ b → told b ≡ Ok next → length next.answers ≤ MOST_EVENTS in
+    let cases : P (nat_le MOST_EVENTS (length w.answers)) =
+    elim (nat_le MOST_EVENTS (length w.answers)) as P [
+      | true ↦ λ over e. absurd (cc)
+      | false ↦ λ under e.
+          let same : after ≡ next = cc in
+          let below : length w.answers < MOST_EVENTS = grind (arith, nat_tests) in
+          omega (arith, one, ap (λ v. length v.answers) same)
+    ] in
+    cases refl is
+
+pub run-few : (es : List Event) (w after : World) → length w.answers ≤ MOST_EVENTS → Run w es after → length after.answers ≤ MOST_EVENTS
+run-few [] w after few same = omega (arith, few, ap (λ v. length v.answers) same)
+run-few (e ∷ es) w after few run =
+    run-few es run.1 after (limited-few w run.1 (happened w run.0 e) (happened-taken w run.0 e) run.3) run.4
