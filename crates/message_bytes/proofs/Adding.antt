@@ -5,9 +5,9 @@ use Rattle.object_parts.specs.Limits.{is_within, total}
 use Rattle.storage_tree.specs.declared.streams.NamedStream.{NamedStream}
 use Rattle.storage_tree.specs.declared.stored.Stored.{Stored}
 use Rattle.message_bytes.specs.Encoding.{Adds, AreNamed}
-use Rattle.message_bytes.specs.Spelling.{four_bytes, blob, streams, stored}
-use Rattle.message_bytes.proofs.Fields.{length-four_bytes}
-use Rattle.message_bytes.proofs.Lengths.{length-stored}
+use Rattle.message_model.specs.Spelling.{four_bytes, blob, streams, stored}
+use Rattle.message_model.proofs.Fields.{length-four_bytes}
+use Rattle.message_model.proofs.Lengths.{length-stored}
 
 pub adds : (old mid new x y : List ℕ) (most : ℕ) → mid ≡ old ++ x → new ≡ mid ++ y → length (x ++ y) ≤ most → Adds old new (x ++ y) most
 adds old mid new x y most p q short = record { added = q ∙ ap (λ a. a ++ y) p ∙ append_assoc old x y; short = short }

@@ -4,21 +4,21 @@ use Rattle.std.specs.Prelude.{is_some}
 use Rattle.std.specs.List.{AllByRecursion}
 use Rattle.std.proofs.lemmas.Bool.{le-ltb}
 use Rattle.std.proofs.lemmas.List.{take_at, take-append-drop, append-nil, length-append, length-take, length-drop}
-use Rattle.message_bytes.specs.declared.codes.Kind.{Kind}
+use Rattle.message_model.specs.declared.codes.Kind.{Kind}
 use Rattle.message_bytes.specs.declared.decoder.Decoder.{Decoder}
-use Rattle.message_bytes.specs.declared.fault.WireFault.{WireFault}
-use Rattle.message_bytes.specs.declared.fault.WireFault.TheVariants.{BadKind, TooLong, BadField}
-use Rattle.message_bytes.specs.declared.frame.Frame.{Frame}
-use Rattle.message_bytes.specs.Codes.{kind_number}
-use Rattle.message_bytes.specs.Spelling as spelling
-use Rattle.message_bytes.specs.Spelling.{four_bytes, body, head, spell, joined}
-use Rattle.message_bytes.specs.Frames.{IsFrame, Reads, number_in, shown, shown_body, shown_length}
-use Rattle.message_bytes.specs.Reading.{read_body}
+use Rattle.message_model.specs.declared.fault.WireFault.{WireFault}
+use Rattle.message_model.specs.declared.fault.WireFault.TheVariants.{BadKind, TooLong, BadField}
+use Rattle.message_model.specs.declared.frame.Frame.{Frame}
+use Rattle.message_model.specs.Codes.{kind_number}
+use Rattle.message_model.specs.Spelling as spelling
+use Rattle.message_model.specs.Spelling.{four_bytes, body, head, spell, joined}
+use Rattle.message_model.specs.Frames.{IsFrame, Reads, number_in, shown, shown_body, shown_length}
+use Rattle.message_model.specs.Reading.{read_body}
 use Rattle.message_bytes.specs.Fronts.{IsHead, BeginsNone, IsFaulty, IsWhole, Keeps, Stands, AreRead, HandsOut, Took, Ends}
-use Rattle.message_bytes.proofs.Fields.{IsBytes, IsBytes-take, IsBytes-drop, length-four_bytes, number_in-four_bytes, four_bytes-number_in}
-use Rattle.message_bytes.proofs.Bodies.{IsRead, kind_in, kind_in-number, kind_again, same_kind, body_again, body_found}
-use Rattle.message_bytes.proofs.Lengths.{length-body}
-use Rattle.message_bytes.proofs.Readings.{same_front, AreHeadsAlike, heads_alike, spell-parts}
+use Rattle.message_model.proofs.Fields.{IsBytes, IsBytes-take, IsBytes-drop, length-four_bytes, number_in-four_bytes, four_bytes-number_in}
+use Rattle.message_model.proofs.Bodies.{IsRead, kind_in, kind_in-number, kind_again, same_kind, body_again, body_found}
+use Rattle.message_model.proofs.Lengths.{length-body}
+use Rattle.message_model.proofs.Readings.{same_front, AreHeadsAlike, heads_alike, spell-parts}
 
 shown_length-cells : (cells rest : List ℕ) → length cells ≡ 4 → shown_length (cells ++ rest) ≡ shown_body (number_in cells) rest
 shown_length-cells [] rest len = absurd (omega arith)

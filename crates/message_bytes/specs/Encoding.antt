@@ -4,11 +4,11 @@ use Rattle.std.specs.Global.{Vec}
 use Rattle.std.specs.List.{AllByRecursion}
 use Rattle.cfb_directory.specs.Names.{IsName}
 use Rattle.storage_tree.specs.declared.streams.NamedStream.{NamedStream}
-use Rattle.message_bytes.specs.declared.fault.WireFault.{WireFault}
-use Rattle.message_bytes.specs.declared.fault.WireFault.TheVariants.{BadMagic, BadVersion, BadKind, TooLong, BadField, NoMemory}
-use Rattle.message_bytes.specs.declared.frame.Frame.{Frame}
-use Rattle.message_bytes.specs.Frames.{fits}
-use Rattle.message_bytes.specs.Spelling.{spell}
+use Rattle.message_model.specs.declared.fault.WireFault.{WireFault}
+use Rattle.message_model.specs.declared.fault.WireFault.TheVariants.{BadMagic, BadVersion, BadKind, TooLong, BadField, NoMemory}
+use Rattle.message_model.specs.declared.frame.Frame.{Frame}
+use Rattle.message_model.specs.Frames.{fits}
+use Rattle.message_model.specs.Spelling.{spell}
 
 -- The byte form of a frame that may be sent, and BadField for any other.
 abbrev pub Encodes : Result (Vec ℕ) WireFault → Frame → Type 0

@@ -1,18 +1,18 @@
 -- What stands at the front of bytes, and how a decoder stands.
 use Rattle.std.specs.Prelude.{◌≡◌, ◌≢◌, ◌⊎◌, ◌<◌, ◌≤◌, ℕ, List, [], ◌∷◌, ◌++◌, length, take, drop, Option, Some, None, Result, Ok, Err}
 use Rattle.std.specs.List.{AllByRecursion}
-use Rattle.message_bytes.specs.declared.codes.Kind.{Kind}
+use Rattle.message_model.specs.declared.codes.Kind.{Kind}
 use Rattle.message_bytes.specs.declared.front.Head.{Head}
 use Rattle.message_bytes.specs.declared.front.Head.TheVariants.{Short, Bad, Body}
 use Rattle.message_bytes.specs.declared.front.Front.{Front}
 use Rattle.message_bytes.specs.declared.front.Front.TheVariants as front
 use Rattle.message_bytes.specs.declared.decoder.Decoder.{Decoder}
-use Rattle.message_bytes.specs.declared.fault.WireFault.{WireFault}
-use Rattle.message_bytes.specs.declared.fault.WireFault.TheVariants.{TooLong, BadField, NoMemory}
-use Rattle.message_bytes.specs.declared.frame.Frame.{Frame}
-use Rattle.message_bytes.specs.Codes.{kind_number}
-use Rattle.message_bytes.specs.Frames.{IsFrame, Reads, number_in, shown, shown_length}
-use Rattle.message_bytes.specs.Spelling.{spell, joined}
+use Rattle.message_model.specs.declared.fault.WireFault.{WireFault}
+use Rattle.message_model.specs.declared.fault.WireFault.TheVariants.{TooLong, BadField, NoMemory}
+use Rattle.message_model.specs.declared.frame.Frame.{Frame}
+use Rattle.message_model.specs.Codes.{kind_number}
+use Rattle.message_model.specs.Frames.{IsFrame, Reads, number_in, shown, shown_length}
+use Rattle.message_model.specs.Spelling.{spell, joined}
 
 -- A head that is whole: so many bytes of a body of this kind come behind it.
 pub record IsHead (kind : Kind) (len : ℕ) (bytes : List ℕ) : Type 0 where

@@ -2,9 +2,9 @@
 
 ghost use Rattle.std.specs.Prelude.{◌≡◌, ◌≤◌, drop, length};
 
-use crate::fault::WireFault;
-use crate::frame::Frame;
 use crate::front::take_frames;
+use message_model::fault::WireFault;
+use message_model::frame::Frame;
 use std::alloc::Global;
 use std::collections::VecDeque;
 
@@ -32,7 +32,7 @@ fn cut_front(bytes: &mut Vec<u8>, used: usize)
 
 impl Decoder {
     ghost use Rattle.message_bytes.specs.Fronts.{Feeds, HandsOut, Stands};
-    ghost use Rattle.message_bytes.specs.declared.frame.Frame.{Frame};
+    ghost use Rattle.message_model.specs.declared.frame.Frame.{Frame};
     ghost use Rattle.std.specs.Prelude.{[], ℕ, List};
 
     /// A decoder that was fed nothing.

@@ -2,14 +2,15 @@
 
 ghost use Rattle.cfb_directory.specs.Names.{IsName};
 ghost use Rattle.message_bytes.specs.Encoding.{Adds, AreNamed, Encodes};
-ghost use Rattle.message_bytes.specs.Frames.{answer_fits, fits, operation_fits};
-ghost use Rattle.message_bytes.specs.Spelling.{answer, blob, body, four_bytes, kind, operation, option_number, stored, streams, text, two_bytes, widths};
+ghost use Rattle.message_model.specs.Frames.{answer_fits, fits, operation_fits};
+ghost use Rattle.message_model.specs.Spelling.{answer, blob, body, four_bytes, kind, operation, option_number, stored, streams, text, two_bytes, widths};
 ghost use Rattle.object_parts.specs.Limits.{is_within, total};
 ghost use Rattle.wire_msgs.specs.declared.operation.Operation.TheVariants.{SaveCompleted};
 ghost use Rattle.std.specs.Prelude.{[], ◌∷◌, ◌++◌, ◌≡◌, ◌≤◌, ◌<◌, ◌^◌, OnOk, drop, length, take, true};
 
-use crate::fault::WireFault;
-use crate::frame::Frame;
+use message_model::fault::WireFault;
+use message_model::frame::Frame;
+pub use message_model::frame::MOST_EDIT;
 use object_parts::limits::is_within;
 use object_state::{CloseOption, MenuText};
 use std::alloc::{AllocError, Global};
@@ -18,9 +19,6 @@ use storage_tree::streams::NamedStream;
 use wire_msgs::answer::Answer;
 use wire_msgs::message::Message;
 use wire_msgs::operation::Operation;
-
-/// The greatest length of an edit, in bytes.
-pub const MOST_EDIT: usize = 65_536;
 
 // Whether an operation may be sent.
 fn operation_fits(operation: &Operation) -> bool
@@ -100,7 +98,7 @@ fn push_bytes(out: &mut Vec<u8>, bytes: &[u8]) -> Result<(), AllocError>
 }
 
 // Adds a number in two bytes.
-#[tactic(auto, unfolding(crate::specs::Spelling::two_bytes))]
+#[tactic(auto, unfolding(message_model::specs::Spelling::two_bytes))]
 fn push_u16(out: &mut Vec<u8>, n: u16) -> Result<(), AllocError>
     ensures { OnOk result (out.new.items ≡ out.old.items ++ two_bytes n) }
 {
@@ -109,7 +107,7 @@ fn push_u16(out: &mut Vec<u8>, n: u16) -> Result<(), AllocError>
 }
 
 // Adds a number in four bytes.
-#[tactic(auto, unfolding(crate::specs::Spelling::four_bytes))]
+#[tactic(auto, unfolding(message_model::specs::Spelling::four_bytes))]
 fn push_u32(out: &mut Vec<u8>, n: u32) -> Result<(), AllocError>
     ensures { OnOk result (out.new.items ≡ out.old.items ++ four_bytes n) }
 {
@@ -372,7 +370,7 @@ fn kind_number(frame: &Frame) -> u8
 }
 
 // Writes the length of the body into its place.
-#[tactic(auto, unfolding(crate::specs::Spelling::four_bytes))]
+#[tactic(auto, unfolding(message_model::specs::Spelling::four_bytes))]
 fn set_length(out: &mut [u8], len: u32)
     requires { 10 ≤ length out.old }
     ensures { out.new ≡ take 6 out.old ++ (four_bytes len ++ drop 10 out.old) }

@@ -3,10 +3,10 @@
 ghost use Rattle.message_bytes.specs.Fronts.{Ends, FrontIs, HeadIs, LengthIs, Took};
 ghost use Rattle.std.specs.Prelude.{◌≡◌, IfOk, OnErr, drop, take, length};
 
-use crate::body::{BodyFault, number_in, read_body};
-use crate::codes::{Kind, kind_of};
-use crate::fault::WireFault;
-use crate::frame::Frame;
+use message_bodies::body::{BodyFault, number_in, read_body};
+use message_model::codes::{Kind, kind_of};
+use message_model::fault::WireFault;
+use message_model::frame::Frame;
 use std::alloc::{AllocError, Global};
 use std::collections::VecDeque;
 

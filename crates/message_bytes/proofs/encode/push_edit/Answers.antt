@@ -1,5 +1,5 @@
 use Rattle.std.proofs.Common.{[], ◌∷◌}
-use Rattle.message_bytes.specs.Spelling.{blob}
+use Rattle.message_model.specs.Spelling.{blob}
 use Rattle.message_bytes.proofs.Adding.{adds, length-blobbed}
 use Rattle.message_bytes.proofs.encode.push_edit.Goals as goal
 

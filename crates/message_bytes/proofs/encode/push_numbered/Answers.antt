@@ -1,5 +1,5 @@
 use Rattle.std.proofs.Common.{[], ◌∷◌}
-use Rattle.message_bytes.specs.Spelling.{four_bytes}
+use Rattle.message_model.specs.Spelling.{four_bytes}
 use Rattle.message_bytes.proofs.Adding.{adds, length-numbered}
 use Rattle.message_bytes.proofs.encode.push_numbered.Goals as goal
 

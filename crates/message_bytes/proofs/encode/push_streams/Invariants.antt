@@ -1,6 +1,6 @@
 use Rattle.std.proofs.Common.{◌≡◌, ◌++◌, drop}
 use Rattle.message_bytes.specs.Encoding.{AreNamed}
-use Rattle.message_bytes.specs.Spelling.{streams}
+use Rattle.message_model.specs.Spelling.{streams}
 use Rattle.message_bytes.proofs.encode.push_streams.Given as goal
 
 abbrev pub invariant-loop-stream : goal.invariant-loop-stream

@@ -1,4 +1,4 @@
-use Rattle.message_bytes.specs.Spelling.{four_bytes}
+use Rattle.message_model.specs.Spelling.{four_bytes}
 use Rattle.message_bytes.proofs.Adding.{adds_three, length-three}
 use Rattle.message_bytes.proofs.encode.push_three.Goals as goal
 

@@ -1,7 +1,7 @@
 use Rattle.std.proofs.Common.{◌≡◌, ◌≤◌, [], ◌++◌, arith, rules, length, drop, ap, sym, ◌∙◌}
 use Rattle.std.proofs.lemmas.List.{append-nil, nil_from_length, length-drop}
-use Rattle.message_bytes.specs.Spelling.{widths}
-use Rattle.message_bytes.proofs.Lengths.{length-widths}
+use Rattle.message_model.specs.Spelling.{widths}
+use Rattle.message_model.proofs.Lengths.{length-widths}
 use Rattle.message_bytes.proofs.encode.push_widths.Goals as goal
 
 pub returns : goal.returns

@@ -1,5 +1,5 @@
 use Rattle.std.proofs.Common.{◌≡◌, ◌++◌, drop}
-use Rattle.message_bytes.specs.Spelling.{widths}
+use Rattle.message_model.specs.Spelling.{widths}
 use Rattle.message_bytes.proofs.encode.push_widths.Given as goal
 
 abbrev pub invariant-loop-width : goal.invariant-loop-width

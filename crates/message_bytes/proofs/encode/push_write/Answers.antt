@@ -1,8 +1,8 @@
 use Rattle.std.proofs.Common.{arith}
 use Rattle.std.proofs.lemmas.List.{length-append}
-use Rattle.message_bytes.specs.Spelling.{four_bytes, stored}
+use Rattle.message_model.specs.Spelling.{four_bytes, stored}
 use Rattle.message_bytes.proofs.Adding.{adds}
-use Rattle.message_bytes.proofs.Fields.{length-four_bytes}
+use Rattle.message_model.proofs.Fields.{length-four_bytes}
 use Rattle.message_bytes.proofs.encode.push_write.Goals as goal
 
 pub returns : goal.returns

@@ -1,6 +1,6 @@
 use Rattle.std.proofs.Common.{refl, ◌∙◌, ap, drop, subst, Option}
-use Rattle.message_bytes.specs.declared.fault.WireFault.{WireFault}
-use Rattle.message_bytes.specs.Frames.{Reads}
+use Rattle.message_model.specs.declared.fault.WireFault.{WireFault}
+use Rattle.message_model.specs.Frames.{Reads}
 use Rattle.message_bytes.proofs.Fronts.{next_some, next_none, emptied}
 use Rattle.message_bytes.proofs.decoder.Decoder.next.Goals as goal
 

@@ -1,7 +1,0 @@
-use Rattle.std.proofs.Common.{◌≡◌, ◌-◌, ℕ, List, []}
-use Rattle.storage_tree.specs.declared.streams.NamedStream.{NamedStream}
-use Rattle.message_bytes.specs.Reading.{Reader, more}
-use Rattle.message_bytes.proofs.body.take_streams.Given as goal
-
-abbrev pub invariant-loop : goal.invariant-loop
-invariant-loop l = (k : List NamedStream → ℕ → Reader) → more (l.count - l.counter) l.streams l.room k l.rest ≡ more l.count [] 262144 k l.fn.xs

@@ -1,5 +1,0 @@
-use Rattle.message_bytes.proofs.Readings.{reading_is_one}
-use Rattle.message_bytes.proofs.laws.reading_is_one.Goals as goal
-
-pub returns : goal.returns
-returns c = reading_is_one

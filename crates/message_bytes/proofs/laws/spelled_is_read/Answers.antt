@@ -1,5 +1,0 @@
-use Rattle.message_bytes.proofs.Readings.{spelled_is_read}
-use Rattle.message_bytes.proofs.laws.spelled_is_read.Goals as goal
-
-pub returns : goal.returns
-returns c = spelled_is_read

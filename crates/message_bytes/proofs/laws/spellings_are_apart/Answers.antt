@@ -1,5 +1,0 @@
-use Rattle.message_bytes.proofs.Readings.{spellings_are_apart}
-use Rattle.message_bytes.proofs.laws.spellings_are_apart.Goals as goal
-
-pub returns : goal.returns
-returns c = spellings_are_apart
