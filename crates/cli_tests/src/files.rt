@@ -123,9 +123,11 @@ fn lines_outside_the_grammar_are_told_first(rt: HostRuntime) -> Result<(), Fail>
 #[test]
 fn trees_that_do_not_fit_into_a_file_are_told_last(rt: HostRuntime) -> Result<(), Fail> {
     for (text, want) in [
-        ("fill A 4096 07", "file a.ole: TooBig"),
-        ("storage D", "file a.ole: WrongKind"),
-        ("fill A 4096 07\nstorage D", "file a.ole: WrongKind"),
+        ("fill A 7087105 07", "file a.ole: TooBig"),
+        (
+            "fill A 7087104 07\nstorage D\nfill D/A 4096 07",
+            "file a.ole: TooBig",
+        ),
         ("fill A 4294967295 07", "file a.ole: TooBig"),
         (
             "fill A 4294967295 07\nfill B 4294967295 07",
@@ -135,7 +137,7 @@ fn trees_that_do_not_fit_into_a_file_are_told_last(rt: HostRuntime) -> Result<()
         ("fill A 4294967295 07\nstream A/b 01", "line 2: WrongKind"),
         (
             "fill A 4294967295 07\nstorage D\nstream D/A 01",
-            "file a.ole: WrongKind",
+            "file a.ole: TooBig",
         ),
         ("fill A 7143936 07\nfill B 1 07", "file a.ole: TooBig"),
     ] {

@@ -6,20 +6,19 @@ ghost use Rattle.storage_tree.specs.Kept.{kept as kept_tree, put};
 ghost use Rattle.storage_tree.specs.Streams.{AreInOrder};
 ghost use Rattle.storage_tree.specs.Tree.{tree};
 ghost use Rattle.file_model.specs.Denotes.{Denotes};
-ghost use Rattle.file_model.specs.Need.{over_streams_of, short_pieces};
-ghost use Rattle.file_model.specs.Refusals.{has_long_in, writable};
+ghost use Rattle.file_model.specs.Need.{long_pieces, over_streams_of, short_pieces};
+ghost use Rattle.file_model.specs.Refusals.{writable};
+ghost use Rattle.file_model.specs.declared.limit.TheConstants.{MANY};
 
 use container_model::answer::Part;
 use container_model::record::Object;
+use file_model::limit::{CUTOFF, MANY, MOST_FAT_SECTORS};
 use std::alloc::{AllocError, Global};
 use storage_tree::class_id::ClassId;
 use storage_tree::stored::Stored;
 use storage_tree::streams::NamedStream;
 use storage_tree::tree::Tree;
 use stream_io::write::write_file;
-
-/// More than any file that is written has of anything.
-const MANY: usize = 0x10_0000;
 
 /// The content that a save counts: what was answered in it, or the work content where none was.
 pub fn kept(object: &Object) -> &Stored
@@ -62,36 +61,46 @@ pub fn parts_in(alloc: Global, f: u32, objects: &[Object]) -> Result<Vec<Part>, 
     Ok(parts)
 }
 
-/// Whether a stream has 4,096 bytes or more, so that it isn't written.
-fn has_long(streams: &[NamedStream]) -> bool
-    ensures { result ≡ has_long_in (children_of streams.now) }
-{
-    for stream in streams {
-        if stream.bytes.len() >= 4096 {
-            return true;
-        }
-    }
-    false
-}
-
 /// How many mini sectors a stream takes.
 fn minis_of(stream: &NamedStream) -> usize
     ensures { result ≡ short_pieces stream.now.bytes }
 {
-    if stream.bytes.len() < 4096 {
+    if stream.bytes.len() < CUTOFF {
         stream.bytes.len().div_ceil(64)
     } else {
         0
     }
 }
 
+/// How many sectors of its own a stream takes, or the bound where it takes more.
+fn sectors_of(stream: &NamedStream) -> usize
+    ensures { result ≡ min MANY (long_pieces stream.now.bytes) }
+{
+    if stream.bytes.len() < CUTOFF {
+        0
+    } else {
+        stream.bytes.len().div_ceil(512).min(MANY as usize)
+    }
+}
+
 /// How many mini sectors the streams take, or the bound where they take more.
 fn count_minis(streams: &[NamedStream]) -> usize
-    ensures { result ≡ min 1048576 (over_streams_of short_pieces (children_of streams.now)) }
+    ensures { result ≡ min MANY (over_streams_of short_pieces (children_of streams.now)) }
 {
     let mut count: usize = 0;
     for stream in streams {
-        count = (count + minis_of(stream)).min(MANY);
+        count = (count + minis_of(stream)).min(MANY as usize);
+    }
+    count
+}
+
+/// How many sectors of their own the streams take, or the bound where they take more.
+fn count_sectors(streams: &[NamedStream]) -> usize
+    ensures { result ≡ min MANY (over_streams_of long_pieces (children_of streams.now)) }
+{
+    let mut count: usize = 0;
+    for stream in streams {
+        count = (count + sectors_of(stream)).min(MANY as usize);
     }
     count
 }
@@ -100,13 +109,12 @@ fn count_minis(streams: &[NamedStream]) -> usize
 fn fits_file(streams: &[NamedStream]) -> bool
     ensures { result ≡ is_ok (writable (tree root_class 0 (children_of streams.now))) }
 {
-    if has_long(streams) {
-        return false;
-    }
-    let entries = streams.len().min(MANY);
+    let entries = streams.len().min(MANY as usize);
     let minis = count_minis(streams);
-    let sectors = (1 + entries).div_ceil(4) + minis.div_ceil(128) + (64 * minis).div_ceil(512);
-    sectors <= 127
+    let longs = count_sectors(streams);
+    let tables = (1 + entries).div_ceil(4) + minis.div_ceil(128);
+    let sectors = tables + (64 * minis).div_ceil(512) + longs;
+    sectors.div_ceil(127) <= MOST_FAT_SECTORS as usize
 }
 
 /// Whether a file can hold the document of a frame. It takes no memory.

@@ -159,7 +159,7 @@ fn runs_stop_before_what_cannot_happen(rt: HostRuntime) -> Result<(), Fail> {
     for (stocked, steps, taken, stop) in [
         (true, SAVED.as_slice(), 15, None),
         (false, SAVED.as_slice(), 4, Some(Stop::OutOfStock)),
-        (true, long.as_slice(), 12, Some(Stop::NotEnabled)),
+        (true, long.as_slice(), 15, None),
         (true, &[Step::Deliver(99)], 0, Some(Stop::NotEnabled)),
         (false, &[Step::Start, Step::Reap], 1, Some(Stop::NotEnabled)),
         (

@@ -1,10 +1,11 @@
 use Rattle.std.proofs.Common.{◌≡◌, ◌+◌, ◌≤◌, drop, min}
 use Rattle.container_model.specs.Saves.{children_of}
+use Rattle.file_model.specs.Limits.{MANY}
 use Rattle.file_model.specs.Need.{over_streams_of, short_pieces}
 use Rattle.container_documents.proofs.documents.count_minis.Given as goal
 
 abbrev pub invariant-loop-stream : goal.invariant-loop-stream
 invariant-loop-stream l = record {
-  few : l.count ≤ 1048576;
-  counted : min 1048576 (l.count + over_streams_of short_pieces (children_of (drop l.stream-index l.streams))) ≡ min 1048576 (over_streams_of short_pieces (children_of l.streams));
+  few : l.count ≤ MANY;
+  counted : min MANY (l.count + over_streams_of short_pieces (children_of (drop l.stream-index l.streams))) ≡ min MANY (over_streams_of short_pieces (children_of l.streams));
 }
