@@ -1,7 +1,7 @@
 //! The worked exchange of docs/protocol.md, byte for byte.
 
+use crate::frames::first_bad_cut;
 use cfb_directory::name::Name;
-use message_bytes::decoder::Decoder;
 use message_bytes::encode::encode;
 use message_bytes::frame::Frame;
 use object_state::{CloseOption, Menus};
@@ -178,15 +178,11 @@ fn frame_at(alloc: Global, at: usize) -> Result<Frame, Fail> {
     }
 }
 
-/// Whether a frame is spelled so, and comes again.
+/// Whether a frame is spelled so, and comes again wherever it is cut.
 fn is_spelled(alloc: Global, frame: &Frame, text: &str) -> Result<bool, Fail> {
     let spelled = encode(alloc, frame)?;
     let told = hexadecimal(alloc, &spelled)?;
-    let mut decoder = Decoder::new(alloc);
-    decoder.feed(&spelled)?;
-    let again = decoder.next()?.ok_or("a frame")?;
-    let again = encode(alloc, &again)?;
-    Ok(told.as_slice() == text.as_bytes() && again.as_slice() == spelled.as_slice())
+    Ok(told.as_slice() == text.as_bytes() && first_bad_cut(alloc, &spelled)?.is_none())
 }
 
 #[test]

@@ -1,6 +1,8 @@
 ghost use Rattle.std.specs.Prelude.{◌≤◌, length};
 
 use cfb_directory::name::Name;
+use message_bodies::body::{BodyFault, number_in, read_body};
+use message_bytes::codes::Kind;
 use message_bytes::decoder::Decoder;
 use message_bytes::encode::encode;
 use message_bytes::fault::WireFault;
@@ -133,18 +135,31 @@ fn comes_again(alloc: Global, spelled: &[u8], cut: usize) -> Result<bool, WireFa
     }
 }
 
+/// The first place where bytes that are cut there don't come again as one frame.
+pub(crate) fn first_bad_cut(alloc: Global, spelled: &[u8]) -> Result<Option<usize>, WireFault> {
+    for cut in 0..spelled.len() {
+        if !comes_again(alloc, spelled, cut)? {
+            return Ok(Some(cut));
+        }
+    }
+    Ok(None)
+}
+
 #[test]
 fn each_frame_comes_again_at_every_cut(rt: HostRuntime) -> Result<(), Fail> {
     for at in 0..20 {
         let frame = frame_at(rt.alloc(), at)?;
         let spelled = encode(rt.alloc(), &frame)?;
-        for cut in 0..spelled.len() {
-            assert_eq!(rt;
-                comes_again(rt.alloc(), &spelled, cut),
-                Ok(true),
-                "cut at {cut}"
-            );
-        }
+        assert_eq!(rt; first_bad_cut(rt.alloc(), &spelled), Ok(None), "frame {at}");
     }
     Ok(())
+}
+
+#[test]
+fn bodies_are_read_whole(rt: HostRuntime) {
+    let turn = read_body(rt.alloc(), Kind::Turn, &[]);
+    assert!(rt; matches!(turn, Ok(Frame::Turn)));
+    let longer = read_body(rt.alloc(), Kind::Turn, &[0]);
+    assert!(rt; matches!(longer, Err(BodyFault::Bad)));
+    assert_eq!(rt; number_in(&[1, 2, 0, 0]), 513);
 }

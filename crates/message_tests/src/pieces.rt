@@ -139,6 +139,11 @@ fn a_large_write_comes_in_pieces(rt: HostRuntime) -> Result<(), Fail> {
     assert_eq!(rt; spelled.len(), 10 + 16 + 1 + 4 + 262_144);
     assert_eq!(rt; comes_in_pieces(rt.alloc(), &spelled, 1), Ok(true));
     assert_eq!(rt; comes_in_pieces(rt.alloc(), &spelled, 4096), Ok(true));
+    // Its head and its numbers.
+    let front = spelled.get(..26).ok_or("26 bytes")?;
+    let mut decoder = Decoder::new(rt.alloc());
+    assert_eq!(rt; decoder.feed(front), Ok(()));
+    assert!(rt; matches!(decoder.next(), Ok(None)));
     let large = encode(rt.alloc(), &write(rt.alloc(), 262_145)?);
     assert!(rt; matches!(large, Err(WireFault::BadField)));
     Ok(())

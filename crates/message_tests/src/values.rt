@@ -1,8 +1,11 @@
+use cfb_directory::name::Name;
 use object_state::{CloseOption, Menus, Op, StateFault};
+use std::alloc::Global;
 use std::test::Fail;
 use storage_tree::bytes::Bytes;
 use storage_tree::class_id::ClassId;
 use storage_tree::stored::Stored;
+use storage_tree::streams::{NamedStream, Streams};
 use wire_msgs::answer::Answer;
 use wire_msgs::items::Items;
 use wire_msgs::message::Message;
@@ -122,5 +125,27 @@ fn a_message_is_copied(rt: HostRuntime) -> Result<(), Fail> {
     };
     let copy = message.copy(rt.alloc())?;
     assert!(rt; write_of(&copy) == Some([1, 2, 3, 4]));
+    Ok(())
+}
+
+/// How many streams a vector of two names makes, if it makes any.
+fn streams_of(alloc: Global, first: &[u8], last: &[u8]) -> Result<Option<usize>, Fail> {
+    let mut items = Vec::new(alloc);
+    for name in [first, last] {
+        let name = Name::new(name)?;
+        let bytes = Bytes::new(alloc);
+        items.push(NamedStream { name, bytes })?;
+    }
+    match Streams::from_vec(items) {
+        Some(streams) => Ok(Some(streams.len())),
+        None => Ok(None),
+    }
+}
+
+#[test]
+fn a_vector_in_name_order_makes_streams(rt: HostRuntime) -> Result<(), Fail> {
+    assert_eq!(rt; streams_of(rt.alloc(), b"a", b"b")?, Some(2));
+    assert_eq!(rt; streams_of(rt.alloc(), b"b", b"a")?, None);
+    assert_eq!(rt; streams_of(rt.alloc(), b"a", b"A")?, None);
     Ok(())
 }
