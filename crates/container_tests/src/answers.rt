@@ -1,0 +1,102 @@
+//! What containers answer, as rows spell it: each word behind a space.
+
+use container_model::answer::{Action, Answer, Committed};
+use container_model::fault::ContainerFault;
+use std::alloc::{AllocError, Global};
+use wire_msgs::message::Message;
+use wire_msgs::operation::Operation;
+
+fn operation_name(operation: &Operation) -> &'static str {
+    match operation {
+        Operation::InitNew(_) => "InitNew",
+        Operation::Edit(_) => "Edit",
+        Operation::Save(1) => "Save 1",
+        Operation::SaveCompleted {
+            save: 1,
+            storage: false,
+        } => "SaveCompleted 1",
+        _ => "another",
+    }
+}
+
+fn action_text(alloc: Global, action: &Action) -> Result<String, AllocError> {
+    match action {
+        Action::Send(
+            Message::Call {
+                inc: 1,
+                act: 1,
+                n,
+                operation,
+            },
+        ) => {
+            let name = operation_name(operation);
+            format!(in alloc; " call {n} {name}")
+        }
+        Action::Send(_) => String::from_str(alloc, " another message"),
+        Action::Start(inc) => format!(in alloc; " start {inc}"),
+        Action::End(inc) => format!(in alloc; " end {inc}"),
+        Action::Commit(frame) => format!(in alloc; " commit {frame}"),
+    }
+}
+
+fn push_made(alloc: Global, text: &mut String, made: &str, n: u32) -> Result<(), AllocError> {
+    let n = format!(in alloc; " {made} {n}")?;
+    text.push_str(&n)?;
+    Ok(())
+}
+
+/// What was made, and then what is to be done.
+fn answer_text(alloc: Global, answer: &Answer) -> Result<String, AllocError> {
+    let mut text = String::new(alloc);
+    if let Some(frame) = answer.frame {
+        push_made(alloc, &mut text, "frame", frame)?;
+    }
+    for object in answer.objects.as_slice() {
+        push_made(alloc, &mut text, "object", *object)?;
+    }
+    if let Some(server) = answer.server {
+        push_made(alloc, &mut text, "server", server)?;
+    }
+    if let Some(refusal) = answer.refused {
+        push_made(alloc, &mut text, "refused", u32::from(refusal.code()))?;
+    }
+    for action in answer.actions.as_slice() {
+        let action = action_text(alloc, action)?;
+        text.push_str(&action)?;
+    }
+    Ok(text)
+}
+
+/// A fault's name.
+pub(crate) fn fault_text(alloc: Global, fault: ContainerFault) -> Result<String, AllocError> {
+    let name = fault.name();
+    format!(in alloc; " {name}")
+}
+
+/// What a container answers.
+pub(crate) fn answered(
+    alloc: Global,
+    answer: Result<Answer, ContainerFault>,
+) -> Result<String, AllocError> {
+    match answer {
+        Ok(answer) => answer_text(alloc, &answer),
+        Err(fault) => fault_text(alloc, fault),
+    }
+}
+
+/// What a commit that is done led to, and the objects that were counted.
+pub(crate) fn committed(
+    alloc: Global,
+    outcome: Result<Committed, ContainerFault>,
+) -> Result<String, AllocError> {
+    match outcome {
+        Ok(committed) => {
+            let mut text = answer_text(alloc, &committed.answer)?;
+            for done in committed.counted.as_slice() {
+                push_made(alloc, &mut text, "counted", done.object)?;
+            }
+            Ok(text)
+        }
+        Err(fault) => fault_text(alloc, fault),
+    }
+}
