@@ -1,13 +1,13 @@
-//! Tests of servers, containers and worlds by their public calls.
+//! Tests of worlds by their public calls.
 #![tactic(auto)]
 
 #[cfg(test)]
-mod calls;
+mod events;
 #[cfg(test)]
-mod containers;
+mod reports;
 #[cfg(test)]
-mod laws;
+mod shown;
 #[cfg(test)]
-mod servers;
+mod words;
 #[cfg(test)]
 mod worlds;

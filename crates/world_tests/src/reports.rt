@@ -1,0 +1,51 @@
+//! Reports of worlds, and writers that fail.
+
+use std::alloc::Global;
+use std::io;
+use std::io::{ErrorKind, Write};
+use world_run::report::ReportFault;
+use world_run::world::World;
+
+/// A writer that fails.
+#[derive(Drop)]
+struct Closed;
+
+impl Write for Closed {
+    fn write(&mut self, _buf: &[u8]) -> io::Result<usize> {
+        Err(io::Error::from(ErrorKind::Other))
+    }
+
+    fn flush(&mut self) -> io::Result<()> {
+        Err(io::Error::from(ErrorKind::Other))
+    }
+}
+
+fn write<W: Write>(alloc: Global, world: &World, writer: &mut W) -> Result<(), ReportFault> {
+    world.report(alloc, writer)
+}
+
+/// A report that is written, tried twice.
+fn told(alloc: Global, world: &World, text: &mut Vec<u8>) -> bool {
+    if write(alloc, world, text).is_ok() {
+        return true;
+    }
+    write(alloc, world, text).is_ok()
+}
+
+/// A world's report, or nothing.
+pub(crate) fn report(alloc: Global, world: &World) -> Vec<u8> {
+    let mut text = Vec::new(alloc);
+    if !told(alloc, world, &mut text) {
+        text.clear();
+    }
+    text
+}
+
+/// What comes of a report where writes fail.
+pub(crate) fn unwritten(alloc: Global, world: &World) -> &'static str {
+    match write(alloc, world, &mut Closed) {
+        Ok(()) => "written",
+        Err(ReportFault::Unwritable) => "Unwritable",
+        Err(ReportFault::NoMemory) => "NoMemory",
+    }
+}

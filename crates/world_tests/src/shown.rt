@@ -1,0 +1,97 @@
+//! What a world shows, as rows spell it.
+
+use cfb_directory::name::Name;
+use container_model::answer::Done;
+use std::alloc::{AllocError, Global};
+use std::test::Fail;
+use storage_tree::storage::Found;
+use storage_tree::tree::Tree;
+use stream_io::read::read_file;
+use world_model::logs::{Document, EventAnswer, ServerDone};
+use world_run::world::World;
+
+/// How many events were taken, messages sent, and frames there are.
+pub(crate) fn sizes(alloc: Global, world: &World) -> Result<String, AllocError> {
+    let (taken, sent) = (world.events_taken(), world.sent().len());
+    let frames = world.container().frames().len();
+    format!(in alloc; "{taken} {sent} {frames}")
+}
+
+fn container_text(alloc: Global, done: &[Done]) -> Result<String, AllocError> {
+    match done {
+        [done] => {
+            let (object, k) = (done.object, done.k);
+            format!(in alloc; "{object} {k}")
+        }
+        _ => done.len().to_string(alloc),
+    }
+}
+
+/// The one save that the container counted, or how many.
+pub(crate) fn container_done(alloc: Global, world: &World) -> Result<String, AllocError> {
+    container_text(alloc, world.container_done())
+}
+
+fn server_text(alloc: Global, done: &[ServerDone]) -> Result<String, AllocError> {
+    match done {
+        [done] => {
+            let (inc, object, k) = (done.inc, done.object, done.k);
+            format!(in alloc; "{inc} {object} {k}")
+        }
+        _ => done.len().to_string(alloc),
+    }
+}
+
+/// The one save that a server counted, or how many.
+pub(crate) fn server_done(alloc: Global, world: &World) -> Result<String, AllocError> {
+    server_text(alloc, world.server_done())
+}
+
+fn document_text(alloc: Global, document: &Document) -> Result<String, AllocError> {
+    let (k, parts) = (document.k, document.parts.len());
+    format!(in alloc; "{k} {parts}")
+}
+
+/// The number of the save of the document of frame 1, and how many objects it has.
+pub(crate) fn counted(alloc: Global, world: &World) -> Result<String, AllocError> {
+    match world.counted(1) {
+        Some(document) => document_text(alloc, document),
+        None => String::from_str(alloc, "none"),
+    }
+}
+
+fn answer_text(answer: &EventAnswer) -> &'static str {
+    match answer {
+        EventAnswer::Took(_) => "took",
+        EventAnswer::Refused(_) => "refused",
+        EventAnswer::Dropped(_) => "dropped",
+    }
+}
+
+/// What an event was answered.
+pub(crate) fn answer(world: &World, event: u32) -> &'static str {
+    match world.answer(event) {
+        Some(answer) => answer_text(answer),
+        None => "none",
+    }
+}
+
+fn read(alloc: Global, file: &[u8]) -> Result<Tree, Fail> {
+    Ok(read_file(alloc, file)?)
+}
+
+fn text_of(tree: &Tree, name: &Name) -> &'static str {
+    match tree.get(&[name.copy()]) {
+        Ok(Found::Stream(text)) if text.as_slice() == b"aa".as_slice() => "aa",
+        Ok(_) => "another",
+        Err(_) => "no text",
+    }
+}
+
+/// The text of the note in the file of a frame.
+pub(crate) fn file(alloc: Global, world: &World, frame: u32) -> Result<&'static str, Fail> {
+    match world.frame_file(frame) {
+        Some(file) => Ok(text_of(&read(alloc, file)?, &Name::new(b"Text")?)),
+        None => Ok("none"),
+    }
+}
