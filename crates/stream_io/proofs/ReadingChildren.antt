@@ -10,8 +10,8 @@ use Rattle.std.specs.Ordering.{match_ordering, ordering_reverse}
 use Rattle.std.specs.declared.cmp.Ordering.TheVariants.{Less, Greater}
 use Rattle.cfb_directory.specs.Names.{key, key_cmp}
 use Rattle.storage_tree.specs.Change.{Seen, bytes, inner, child, place}
-use Rattle.storage_tree.specs.Tree.{Tree, Children, none, stream, storage, keys}
-use Rattle.stream_io.specs.Reads.{AreRead, IsChildNamed, IsChildPut, IsChildRead, directory_in, key_at}
+use Rattle.storage_tree.specs.Tree.{Children, none, stream, storage, keys}
+use Rattle.stream_io.specs.Reads.{AreRead, IsChildPut, IsChildRead, directory_in, key_at}
 use Rattle.stream_io.specs.declared.read.Reader.{Reader}
 use Rattle.stream_io.proofs.ReadingKept.{IsKept, kept_node, kept_none, kept_then}
 use Rattle.stream_io.proofs.ReadingOnce.{node_once}

@@ -1,9 +1,9 @@
 -- The parts of a file as they are read, and those of a file that denotes a tree.
-use Rattle.std.proofs.Common.{◌≡◌, ◌≢◌, ◌<◌, ◌*◌, ℕ, true, List, [], ◌∷◌, ◌++◌, Result, Ok, length, take, get_or, refl, sym, ◌∙◌, ap, subst, map, append_assoc}
-use Rattle.std.proofs.lemmas.List.Elements.{All-contains, All-take}
+use Rattle.std.proofs.Common.{◌≡◌, ◌<◌, ◌*◌, ℕ, true, List, [], ◌++◌, Result, Ok, length, take, get_or, refl, sym, ◌∙◌, ap, subst, append_assoc}
+use Rattle.std.proofs.lemmas.List.Elements.{All-take}
 use Rattle.std.specs.List.{All}
 use Rattle.cfb_chain.specs.Bytes.{joined, sector}
-use Rattle.cfb_chain.specs.Chain.{AreDistinct, IsChain, IsChainOf, Store}
+use Rattle.cfb_chain.specs.Chain.{IsChain, IsChainOf, Store}
 use Rattle.cfb_chain.specs.Fat.{AreFree, AreSame, FatValue, IsFat, IsMiniFound, IsMiniTable, IsTableOf, marked, sectors_of, store_of}
 use Rattle.cfb_chain.specs.Header.{HeaderValue, IsHeader, first_directory, first_mini_fat, header_of, header_read, listed, mini_fat_count}
 use Rattle.cfb_chain.specs.declared.fault.ChainFault.{ChainFault}

@@ -1,8 +1,8 @@
 -- What is held by an entry can be read.
-use Rattle.std.proofs.Common.{◌≡◌, ◌≢◌, ◌⊎◌, ◌<◌, ◌-◌, ◌*◌, inl, inr, ℕ, zero, suc, Bool, true, false, List, [], ◌∷◌, ◌++◌, length, get_or, map, refl, sym, ◌∙◌, ap, subst, arith, append_assoc, nat_lt}
+use Rattle.std.proofs.Common.{◌≡◌, ◌⊎◌, ◌<◌, ◌-◌, ◌*◌, inl, inr, ℕ, zero, suc, true, List, [], ◌∷◌, ◌++◌, length, get_or, map, refl, sym, ◌∙◌, ap, subst, arith, append_assoc, nat_lt}
 use Rattle.std.proofs.lemmas.Bool.{cases_Bool}
 use Rattle.std.proofs.lemmas.List.{append-nil}
-use Rattle.std.proofs.lemmas.List.Elements.{All-append, All-contains, All-cons, All-nil, Contains-append_cases, Contains-append_left, Contains-append_right}
+use Rattle.std.proofs.lemmas.List.Elements.{All-append, All-contains, All-cons, All-nil, Contains-append_left, Contains-append_right}
 use Rattle.std.specs.List.{All, Contains}
 use Rattle.std.specs.List.Sorted.{IsStrictlySortedBy}
 use Rattle.cfb_chain.specs.Chain.{AreDistinct}
@@ -15,7 +15,7 @@ use Rattle.file_model.specs.Denotes.{AreChildren, Holds, HoldsEach, IsCalled, La
 use Rattle.file_model.proofs.Lists.{Contains-cons_cases, Contains-behind, Contains-front}
 use Rattle.stream_io.specs.Reads.{AreRead, AreSorted, IsChildNamed, IsStorageRead, IsStreamRead, directory_in, met, stream_after}
 use Rattle.stream_io.specs.declared.read.Reader.{Reader}
-use Rattle.stream_io.proofs.ReadingHeld.{IsMet, IsNew, met_new, stream_ids}
+use Rattle.stream_io.proofs.ReadingHeld.{IsMet, IsNew, met_new}
 use Rattle.stream_io.proofs.ReadingLists.{all-from, contains-none, distinct-head}
 use Rattle.stream_io.proofs.ReadingStreams.{Stands, ids_by, stands_met, stream_there}
 

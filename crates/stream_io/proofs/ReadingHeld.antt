@@ -1,5 +1,5 @@
 -- What is read is held by its entry.
-use Rattle.std.proofs.Common.{◌≡◌, ◌≢◌, ◌⊎◌, ◌-◌, inl, inr, ℕ, Bool, true, false, List, [], ◌∷◌, ◌++◌, get_or, map, refl, sym, ◌∙◌, ap, subst, arith, append_assoc, nat_lt}
+use Rattle.std.proofs.Common.{◌≡◌, ◌⊎◌, ◌-◌, inl, inr, ℕ, true, false, List, [], ◌∷◌, ◌++◌, get_or, map, refl, sym, ◌∙◌, ap, subst, arith, append_assoc, nat_lt}
 use Rattle.std.proofs.lemmas.Bool.{cases_Bool}
 use Rattle.std.proofs.lemmas.List.{append-nil}
 use Rattle.std.proofs.lemmas.List.Elements.{All-contains, Contains-append_cases}
@@ -13,7 +13,7 @@ use Rattle.cfb_directory.proofs.Marks.{set_all-there, set_all-stays}
 use Rattle.storage_tree.specs.Tree.{Tree, Children, tree, none, stream, storage}
 use Rattle.file_model.specs.Denotes.{AreChildren, Holds, HoldsEach, IsCalled, Layout, Used, both, directory_of, nothing, taken, within}
 use Rattle.file_model.proofs.Lists.{Contains-cons_cases, Contains-behind, Contains-front}
-use Rattle.stream_io.specs.Reads.{AreRead, AreSorted, IsChildNamed, IsStorageRead, IsStreamRead, directory_in, met}
+use Rattle.stream_io.specs.Reads.{AreRead, AreSorted, IsChildNamed, IsStorageRead, directory_in, met}
 use Rattle.stream_io.specs.declared.read.Reader.{Reader}
 use Rattle.stream_io.proofs.ReadingKept.{IsKept, kept_each, kept_storage, kept_stream}
 use Rattle.stream_io.proofs.ReadingLists.{contains-none, distinct-cons, distinct-head}

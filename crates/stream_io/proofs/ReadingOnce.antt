@@ -1,12 +1,12 @@
 -- What is read of an entry leaves the same marks, whatever it is read as.
-use Rattle.std.proofs.Common.{◌≡◌, ◌≢◌, ◌↔◌, ◌-◌, ℕ, List, [], ◌∷◌, sym, refl, ◌∙◌, ap, subst, arith}
+use Rattle.std.proofs.Common.{◌≡◌, ◌-◌, ℕ, List, [], ◌∷◌, sym, refl, ◌∙◌, ap, subst, arith}
 use Rattle.cfb_chain.proofs.Chains.{chain_once}
 use Rattle.cfb_chain.specs.Fat.{store_of}
 use Rattle.cfb_directory.specs.Entries.{child, entry_at, first_of, size_of}
 use Rattle.file_model.proofs.Unique.{linked_unique}
 use Rattle.storage_tree.specs.Tree.{Tree, Children, tree, none, stream, storage}
 use Rattle.storage_tree.specs.Change.{Seen, bytes, inner}
-use Rattle.stream_io.specs.Reads.{AreRead, AreSorted, IsNodeRead, IsStorageRead, IsStreamRead, directory_in, met, stream_after, table_for}
+use Rattle.stream_io.specs.Reads.{AreRead, IsNodeRead, IsStorageRead, IsStreamRead, directory_in, met, stream_after, table_for}
 use Rattle.stream_io.specs.declared.read.Reader.{Reader}
 use Rattle.stream_io.proofs.ReadingSorted.{sorted_same}
 

@@ -1,5 +1,5 @@
 -- What a file's calls answer, up to the storage of the root.
-use Rattle.std.proofs.Common.{◌≡◌, List, ℕ, true, get_or, refl}
+use Rattle.std.proofs.Common.{List, ℕ}
 use Rattle.stream_io.specs.Reads.{IsDirectory}
 use Rattle.cfb_chain.specs.Fat.{FatValue}
 use Rattle.stream_io.proofs.ReadingFile.{IsOpened}

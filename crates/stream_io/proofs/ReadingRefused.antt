@@ -1,6 +1,6 @@
 -- What a refusal of a layer below says.
-use Rattle.std.proofs.Common.{◌≡◌, ◌≢◌, ◌<◌, ◌≤◌, ◌-◌, ◌*◌, ◌⊎◌, inl, inr, ℕ, suc, true, false, List, [], ◌∷◌, ◌++◌, Result, Ok, Err, IfErr, IfOk, length, refl, sym, ◌∙◌, ap, subst, arith, nat_lt}
-use Rattle.std.specs.List.{All, Contains}
+use Rattle.std.proofs.Common.{◌≡◌, ◌≢◌, ◌<◌, ◌≤◌, ◌-◌, ◌*◌, ◌⊎◌, inl, inr, ℕ, suc, true, false, List, ◌++◌, Result, Ok, Err, IfErr, IfOk, length, refl, sym, ◌∙◌, ap, subst, arith, nat_lt}
+use Rattle.std.specs.List.{Contains}
 use Rattle.std.proofs.lemmas.List.Elements.{Contains-append_cases}
 use Rattle.std.proofs.lemmas.Bool.Decides.{nat_tests}
 use Rattle.std.specs.Result.{IsErrAnd}
@@ -10,7 +10,7 @@ use Rattle.cfb_directory.specs.declared.fault.DirFault.{DirFault}
 use Rattle.cfb_directory.specs.declared.fault.DirFault.TheVariants as directory
 use Rattle.cfb_chain.specs.Fat.{FatValue, MayRefuse, MayRefuseChain, MayRefuseFat, MayRefuseMini}
 use Rattle.cfb_chain.specs.Header.{HeaderValue, header_read}
-use Rattle.cfb_directory.specs.Entries.{AreLinked, EntriesValue, MayRefuseChildren, MayRefuseEntry, MayRefuseLinked, MayRefuseLoad, NO_STREAM, Reaches, around, by_left, by_right, child, entry_at, here, kind, left, nobody, right}
+use Rattle.cfb_directory.specs.Entries.{AreLinked, EntriesValue, MayRefuseChildren, MayRefuseEntry, MayRefuseLinked, MayRefuseLoad, NO_STREAM, Reaches, around, by_left, by_right, child, entry_at, here, left, nobody, right}
 use Rattle.file_model.proofs.Lists.{Contains-cons_cases}
 use Rattle.stream_io.specs.Reads.{IsBelow, IsChild, IsDirectory, IsOfChains, IsStorage, MayRefuseBelow, MayRefuseFile, MayRefuseNames, MayRefuseStorage, chain_fault, directory_fault}
 use Rattle.stream_io.specs.declared.fault.ReadFault.TheVariants as told

@@ -1,18 +1,18 @@
 -- The steps of reading a storage.
-use Rattle.std.proofs.Common.{◌≡◌, ◌≢◌, ◌⊎◌, inl, inr, ◌<◌, ◌≤◌, ◌+◌, ◌-◌, ◌*◌, ℕ, zero, suc, Bool, true, List, [], ◌∷◌, length, get_or, drop, map, refl, sym, ◌∙◌, ap, subst, arith}
-use Rattle.std.specs.List.{All, Contains}
+use Rattle.std.proofs.Common.{◌≡◌, ◌≢◌, ◌⊎◌, inl, inr, ◌<◌, ◌≤◌, ◌+◌, ◌-◌, ◌*◌, ℕ, zero, suc, true, List, length, get_or, drop, map, refl, sym, ◌∙◌, subst, arith}
+use Rattle.std.specs.List.{Contains}
 use Rattle.std.specs.List.Sorted.{IsStrictlySortedBy}
 use Rattle.std.proofs.lemmas.List.Elements.{Contains-get_or}
 use Rattle.std.proofs.lemmas.Bool.{cases_lt}
-use Rattle.cfb_directory.specs.Names.{IsName, key, key_cmp}
-use Rattle.cfb_directory.specs.Entries.{IsEntry, MayRefuseEntry, child, class_of, entry_at, kind, state_of}
+use Rattle.cfb_directory.specs.Names.{key_cmp}
+use Rattle.cfb_directory.specs.Entries.{MayRefuseEntry, child, class_of, entry_at, kind, state_of}
 use Rattle.cfb_directory.specs.declared.fault.DirFault.{DirFault}
 use Rattle.file_model.proofs.Unique.{linked_unique}
 use Rattle.storage_tree.specs.Change.{Seen, bytes, inner}
 use Rattle.storage_tree.specs.Tree.{Tree, Children, tree}
-use Rattle.stream_io.specs.Reads.{AreRead, AreSorted, IsChild, IsChildNamed, IsChildPut, IsChildRead, IsNodeRead, IsStorage, IsStorageRead, directory_in, key_at, met}
+use Rattle.stream_io.specs.Reads.{AreRead, AreSorted, IsChild, IsChildPut, IsChildRead, IsNodeRead, IsStorage, IsStorageRead, directory_in, key_at, met}
 use Rattle.stream_io.specs.declared.read.Reader.{Reader}
-use Rattle.stream_io.proofs.ReadingChildren.{IsFirstRead, Progress, progress_all, progress_more, progress_next, progress_none}
+use Rattle.stream_io.proofs.ReadingChildren.{IsFirstRead, Progress, progress_all, progress_more, progress_next}
 use Rattle.stream_io.proofs.ReadingEntries.{kind_inside}
 use Rattle.stream_io.proofs.ReadingKept.{IsKept, kept_met, kept_same, kept_then}
 use Rattle.stream_io.proofs.ReadingRefused.{linked_child}

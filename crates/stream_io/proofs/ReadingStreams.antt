@@ -1,11 +1,11 @@
 -- Entries that are read hold the children that they are read as, and the other way round.
-use Rattle.std.proofs.Common.{◌≡◌, ℕ, zero, suc, Bool, true, false, List, [], ◌∷◌, ◌++◌, take, refl, sym, ◌∙◌, ap, subst, nat_lt, if◌then◌else◌, append_assoc}
+use Rattle.std.proofs.Common.{◌≡◌, ℕ, Bool, true, false, List, [], ◌∷◌, ◌++◌, take, refl, sym, ◌∙◌, ap, subst, nat_lt, if◌then◌else◌}
 use Rattle.std.proofs.lemmas.List.{append-nil}
 use Rattle.cfb_chain.specs.Bytes.{joined}
 use Rattle.cfb_chain.specs.Chain.{AreDistinct, IsChainOf, Store}
 use Rattle.cfb_chain.specs.Fat.{AreFree, AreSame, FatValue, IsFound, marked, store_of}
 use Rattle.cfb_chain.proofs.Chains.{chain_below, chain_of_same, joined_same, same_back}
-use Rattle.cfb_chain.proofs.Marks.{Marks, distinct_left, free_when, marks_more}
+use Rattle.cfb_chain.proofs.Marks.{Marks, free_when, marks_more}
 use Rattle.cfb_directory.specs.Entries.{entry_at, first_of, kind, size_of}
 use Rattle.file_model.specs.Denotes.{HoldsBytes, Layout, Used, directory_of, minis, sectors, taken}
 use Rattle.stream_io.specs.Reads.{IsStreamRead, directory_in, met, stream_after, table_for}
@@ -120,7 +120,7 @@ module _ (file : List ℕ) (l : Layout) where
       → AreDistinct (xs ++ (taken id (size_of (entry_at (directory_of file l) id)) ns).sectors) → AreDistinct (ys ++ (taken id (size_of (entry_at (directory_of file l) id)) ns).minis)
       → IsStreamRead id b r (stream_after (size_of (entry_at (directory_of file l) id)) ns r)
       × Stands (stream_after (size_of (entry_at (directory_of file l) id)) ns r) (xs ++ (taken id (size_of (entry_at (directory_of file l) id)) ns).sectors)
-          (ys ++ (taken id (size_of (entry_at (directory_of file l) id)) ns).minis)
+      (ys ++ (taken id (size_of (entry_at (directory_of file l) id)) ns).minis)
   stream_there r xs ys id b ns h k c d d' =
       let size : ℕ = size_of (entry_at (directory_of file l) id) in
       let first : ℕ = first_of (entry_at (directory_of file l) id) in

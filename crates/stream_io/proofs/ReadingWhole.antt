@@ -5,11 +5,11 @@ use Rattle.std.specs.List.Sorted.{IsStrictlySortedBy}
 use Rattle.std.specs.declared.cmp.Ordering.TheVariants.{Less}
 use Rattle.std.proofs.lemmas.Map.Keys.{sorted_head, sorted_tail}
 use Rattle.cfb_directory.specs.Names.{IsName, key, key_cmp}
-use Rattle.cfb_directory.specs.Entries.{IsNamed, entry_at, kind, name_of}
+use Rattle.cfb_directory.specs.Entries.{entry_at, kind}
 use Rattle.storage_tree.specs.Tree.{Tree, Children, tree, none, stream, storage, keys}
 use Rattle.storage_tree.specs.Whole.{AreAbove, AreTrees, IsTree}
 use Rattle.file_model.proofs.Lists.{Contains-cons_cases}
-use Rattle.stream_io.specs.Reads.{AreRead, AreSorted, IsChildNamed, IsStorageRead, directory_in, key_at, met}
+use Rattle.stream_io.specs.Reads.{AreRead, IsChildNamed, IsStorageRead, directory_in, key_at, met}
 use Rattle.stream_io.specs.declared.read.Reader.{Reader}
 use Rattle.stream_io.proofs.ReadingKept.{IsKept, kept_storage, kept_stream}
 use Rattle.stream_io.proofs.ReadingLists.{contains-none}

@@ -1,5 +1,5 @@
 -- How a file is read, and which files are refused.
-use Rattle.std.specs.Prelude.{◌≡◌, ◌≢◌, ◌↔◌, ◌⊎◌, ◌<◌, ◌-◌, ◌*◌, ℕ, zero, suc, true, List, [], ◌∷◌, map, take, length, slice_index_or, if◌then◌else◌, nat_lt, Err, codes}
+use Rattle.std.specs.Prelude.{◌≡◌, ◌≢◌, ◌↔◌, ◌⊎◌, ◌<◌, ◌-◌, ◌*◌, ℕ, zero, suc, true, List, [], ◌∷◌, map, take, length, if◌then◌else◌, nat_lt, Err, codes}
 use Rattle.std.specs.List.{Contains}
 use Rattle.std.specs.List.Sorted.{IsStrictlySortedBy}
 use Rattle.cfb_chain.specs.Bytes.{joined, sector}

@@ -1,6 +1,5 @@
-use Rattle.std.proofs.Common.{◌≡◌, ◌∙◌, refl, sym, ap}
-use Rattle.std.specs.BTreeMap.{insert_entry}
-use Rattle.cfb_directory.specs.Names.{key, key_cmp}
+use Rattle.std.proofs.Common.{refl, sym}
+use Rattle.cfb_directory.specs.Names.{key}
 use Rattle.storage_tree.specs.View.{seen}
 use Rattle.storage_tree.proofs.Entries.{placed}
 use Rattle.stream_io.proofs.read.add_child.Goals as goal

@@ -1,4 +1,4 @@
-use Rattle.std.proofs.Common.{◌≡◌, ◌/◌, List, [], ◌∷◌, ℕ, inl, inr, true, false, length, replicate, get_or, refl, sym, ◌∙◌, ap, subst, rules}
+use Rattle.std.proofs.Common.{◌≡◌, ◌/◌, List, [], ◌∷◌, ℕ, inl, true, false, length, replicate, get_or, refl, sym, ◌∙◌, ap, subst, rules}
 use Rattle.std.specs.Result.{IsErrAnd}
 use Rattle.cfb_chain.proofs.Results.{refused_with}
 use Rattle.cfb_chain.specs.Chain.{IsChain}
