@@ -67,6 +67,63 @@ fn twice_named(alloc: Global) -> Result<Vec<u8>, Fail> {
     Ok(changed(file, 1224, &[2, 0, 0, 0]))
 }
 
+/// A file with the storage `S`, in it the storage `T`, and in that the stream `A` of the bytes 1, 2, 3.
+fn nested_file(alloc: Global) -> Result<Vec<u8>, Fail> {
+    let mut file = header(alloc, 2, 1)?;
+    push_table(&mut file, &[FAT, END, END, END])?;
+    push_entry(
+        &mut file,
+        5,
+        b'R',
+        &[1, 0, 0, 0],
+        &[3, 0, 0, 0],
+        &[64, 0, 0, 0],
+    )?;
+    push_entry(&mut file, 1, b'S', &[2, 0, 0, 0], &[0; 4], &[0; 4])?;
+    push_entry(&mut file, 1, b'T', &[3, 0, 0, 0], &[0; 4], &[0; 4])?;
+    push_entry(&mut file, 2, b'A', &FREE, &[0; 4], &[3, 0, 0, 0])?;
+    push_table(&mut file, &[END])?;
+    file.extend_from_slice(&[1, 2, 3])?;
+    push_equal(&mut file, 0, 509)?;
+    Ok(file)
+}
+
+/// A file of up to 35 storages `S`, each inside the one before.
+fn deep_file(alloc: Global, storages: u8) -> Result<Vec<u8>, Fail> {
+    let mut file = header(alloc, 0, 0)?;
+    file.extend_from_slice(&FAT)?;
+    for n in [2, 3, 4, 5, 6, 7, 8, 9, 0] {
+        file.extend_from_slice(&number_or_end(n))?;
+    }
+    push_equal(&mut file, 0xff, 472)?;
+    push_entry(&mut file, 5, b'R', &[1, 0, 0, 0], &END, &[0; 4])?;
+    for n in 1..storages {
+        push_entry(&mut file, 1, b'S', &[n + 1, 0, 0, 0], &[0; 4], &[0; 4])?;
+    }
+    push_entry(&mut file, 1, b'S', &FREE, &[0; 4], &[0; 4])?;
+    for _ in storages..35 {
+        push_equal(&mut file, 0, 128)?;
+    }
+    Ok(file)
+}
+
+/// The bytes of the stream `A` in the storage `T` of the storage `S`.
+fn nested_bytes(tree: &Tree) -> Option<&[u8]> {
+    let Ok(outer) = Name::new(b"S") else {
+        return None;
+    };
+    let Ok(inner) = Name::new(b"T") else {
+        return None;
+    };
+    let Ok(name) = Name::new(b"A") else {
+        return None;
+    };
+    match tree.get(&[outer, inner, name]) {
+        Ok(Found::Stream(bytes)) => Some(bytes.as_slice()),
+        _ => None,
+    }
+}
+
 /// The first bytes of a file.
 fn part(mut file: Vec<u8>, len: usize) -> Vec<u8> {
     file.truncate(len);
@@ -180,5 +237,39 @@ fn files_are_refused(rt: HostRuntime) -> Result<(), Fail> {
     assert_eq!(rt; told(alloc, &part(short_file(alloc)?, 511)), "Truncated");
     assert_eq!(rt; told(alloc, &twice_named(alloc)?), "DuplicateName");
     assert_eq!(rt; ReadFault::NoMemory.name(), "NoMemory");
+    Ok(())
+}
+
+#[test]
+fn nested_storages_are_read(rt: HostRuntime) -> Result<(), Fail> {
+    let alloc = rt.alloc();
+    let classed = changed(nested_file(alloc)?, 1360, &[0xab]);
+    let tree = read(alloc, &classed)?;
+    assert_eq!(rt; tree.root().children.len(), 1);
+    assert_eq!(rt; nested_bytes(&tree), Some([1, 2, 3].as_slice()));
+    assert_eq!(rt; told(alloc, &deep_file(alloc, 32)?), "read");
+    assert_eq!(rt; told(alloc, &deep_file(alloc, 33)?), "TooNested");
+    Ok(())
+}
+
+#[test]
+fn nested_entries_are_refused(rt: HostRuntime) -> Result<(), Fail> {
+    let alloc = rt.alloc();
+    let changes = [
+        (1408, [0x2f, 0, 0, 0], "NameForbidden"),
+        (1408, [0xe9, 0, 0, 0], "NameNotAscii"),
+        (1472, [2, 0, 2, 1], "NameEmpty"),
+        (1472, [0x42, 0, 2, 1], "NameTooLong"),
+        (1472, [4, 0, 3, 1], "BadEntry"),
+        (1356, [1, 0, 0, 0], "TreeCycle"),
+        (1524, [1, 0, 0, 0], "OutOfFile"),
+    ];
+    for (at, bytes, fault) in changes {
+        let file = changed(nested_file(alloc)?, at, &bytes);
+        assert_eq!(rt; told(alloc, &file), fault, "at {at}");
+    }
+    // The stream, named as `T` is but for case, on its right.
+    let beside = changed(nested_file(alloc)?, 1352, &[3, 0, 0, 0, 0xff, 0xff, 0xff, 0xff]);
+    assert_eq!(rt; told(alloc, &changed(beside, 1408, b"t")), "DuplicateName");
     Ok(())
 }

@@ -2,7 +2,14 @@ pub mod ReadingLists
 pub mod ReadingRefused
 pub mod ReadingNames
 pub mod ReadingEntries
+pub mod ReadingKept
+pub mod ReadingOnce
 pub mod ReadingChildren
+pub mod ReadingWhole
+pub mod ReadingHeld
+pub mod ReadingFound
+pub mod ReadingSteps
+pub mod ReadingOpened
 pub mod ReadingSorted
 pub mod ReadingStreams
 pub mod ReadingFile

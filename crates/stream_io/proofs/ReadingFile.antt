@@ -1,9 +1,9 @@
 -- The parts of a file as they are read, and those of a file that denotes a tree.
-use Rattle.std.proofs.Common.{◌≡◌, ◌≢◌, ◌<◌, ◌*◌, ℕ, true, List, [], ◌∷◌, ◌++◌, Result, Ok, length, take, get_or, refl, sym, ◌∙◌, ap, subst, map, append_assoc}
-use Rattle.std.proofs.lemmas.List.Elements.{All-contains, All-take}
+use Rattle.std.proofs.Common.{◌≡◌, ◌<◌, ◌*◌, ℕ, true, List, [], ◌++◌, Result, Ok, length, take, get_or, refl, sym, ◌∙◌, ap, subst, append_assoc}
+use Rattle.std.proofs.lemmas.List.Elements.{All-take}
 use Rattle.std.specs.List.{All}
 use Rattle.cfb_chain.specs.Bytes.{joined, sector}
-use Rattle.cfb_chain.specs.Chain.{AreDistinct, IsChain, IsChainOf, Store}
+use Rattle.cfb_chain.specs.Chain.{IsChain, IsChainOf, Store}
 use Rattle.cfb_chain.specs.Fat.{AreFree, AreSame, FatValue, IsFat, IsMiniFound, IsMiniTable, IsTableOf, marked, sectors_of, store_of}
 use Rattle.cfb_chain.specs.Header.{HeaderValue, IsHeader, first_directory, first_mini_fat, header_of, header_read, listed, mini_fat_count}
 use Rattle.cfb_chain.specs.declared.fault.ChainFault.{ChainFault}
@@ -11,17 +11,14 @@ use Rattle.cfb_chain.proofs.Chains.{chain_below, chain_of_same, chain_same, join
 use Rattle.cfb_chain.proofs.Headers.{read_whole}
 use Rattle.cfb_chain.proofs.Marks.{Marks, marks_load, marks_more, marks_none}
 use Rattle.cfb_chain.proofs.Tables.{mini_same}
-use Rattle.cfb_directory.specs.Entries.{AreLinked, EntriesValue, child, class_of, entry_at, first_of, kind, size_of, state_of}
-use Rattle.storage_tree.specs.Kept.{Kept}
-use Rattle.storage_tree.specs.Tree.{Tree, tree, none}
-use Rattle.storage_tree.specs.Whole.{IsTree}
-use Rattle.file_model.specs.Denotes.{AreChildren, Denotes, Holds, IsLaidOut, Layout, directory_of, minis, root_of, sectors}
-use Rattle.stream_io.specs.Reads.{AreChildrenRead, AreRead, filled}
-use Rattle.stream_io.proofs.ReadingStreams.{AreHeld, read_held}
-use Rattle.stream_io.proofs.ReadingSorted.{sorted_below, sorted_distinct}
-use Rattle.std.specs.List.Sorted.{IsStrictlySortedBy}
-use Rattle.cfb_directory.specs.Names.{key, key_cmp}
-use Rattle.cfb_directory.specs.Entries.{name_of}
+use Rattle.cfb_directory.specs.Entries.{entry_at, first_of, kind, size_of}
+use Rattle.storage_tree.specs.Tree.{Tree}
+use Rattle.file_model.specs.Denotes.{Denotes, IsLaidOut, Layout, directory_of, minis, root_of, sectors}
+use Rattle.stream_io.specs.Reads.{IsStorageRead, directory_in}
+use Rattle.stream_io.specs.declared.read.Reader.{Reader}
+use Rattle.stream_io.proofs.ReadingHeld.{IsHeld, met_new, storage_held}
+use Rattle.stream_io.proofs.ReadingStreams.{Stands}
+use Rattle.stream_io.proofs.ReadingWhole.{whole_storage}
 use Rattle.stream_io.proofs.ReadingLists.{distinct-cons}
 
 header_is : (a b : HeaderValue) → ◌≡◌ {A = Result HeaderValue ChainFault} (Ok a) (Ok b) → a ≡ b
@@ -113,38 +110,26 @@ ready file h fat fat' mini directory bytes first size mini_fat mini_stream is o 
     }
 
 -- ---- the tree that is read is denoted
-pub denoted : (file : List ℕ) (l : Layout) (fat mini fat' mini' : FatValue) (e : EntriesValue) (class : List ℕ) (state : ℕ) (old new : Kept)
-    → IsHeader file → IsReady file l fat mini e.directory → get_or e.used 0 true ≡ true → kind (entry_at e.directory 0) ≡ 5
-    → class ≡ class_of (entry_at e.directory 0) → state ≡ state_of (entry_at e.directory 0) → old ≡ record { now = tree class state none; saved = [] }
-    → AreChildrenRead e 0 fat mini old fat' mini' new → IsTree 32 new.now → Denotes file new.now
-denoted file l fat mini fat' mini' e class state old new header r marked root c s is h whole =
-    let dir : e.directory ≡ directory_of file l = r.bytes_are in
-    let read : AreRead (directory_of file l) h.ids h.cs fat mini fat' mini' = subst (λ (x : List ℕ). AreRead x h.ids h.cs fat mini fat' mini') dir h.is_read in
-    let held : AreHeld file l h.ids h.cs fat' mini' (l.fat ++ l.directory ++ l.mini_fat ++ l.mini_stream) [] =
-    read_held file l h.ids h.cs fat mini fat' mini' (l.fat ++ l.directory ++ l.mini_fat ++ l.mini_stream) [] r.same r.same_minis r.marks r.mini_marks read in
-    let now : new.now ≡ tree class state h.cs = ap (λ (k : Kept). k.now) h.tree_is ∙ ap (λ (k : Kept). (filled k h.cs).now) is in
-    let children : AreChildren file l 0 h.ids = record {
-      reached = h.sorted.reached;
-      linked = subst (λ (x : List ℕ). AreLinked x (child (entry_at x 0)) h.sorted.reached) dir h.sorted.linked;
-      once = h.sorted.free.once;
-      same = h.sorted.same;
-      ordered = subst (λ (x : List ℕ). IsStrictlySortedBy key_cmp (map (λ n. key (name_of (entry_at x n))) h.ids)) dir h.sorted.ordered;
-    } in
-    let class_is : class ≡ class_of (root_of file l) = c ∙ ap (λ x. class_of (entry_at x 0)) dir in
-    let state_is : state ≡ state_of (root_of file l) = s ∙ ap (λ x. state_of (entry_at x 0)) dir in
-    let below : All (λ n. n ≢ 0) h.ids = sorted_below e 0 h.ids marked h.sorted in
+pub stands : (file : List ℕ) (l : Layout) (r : Reader) → IsReady file l r.fat r.mini (directory_in r) → Stands file l r (l.fat ++ l.directory ++ l.mini_fat ++ l.mini_stream) []
+stands file l r h = record { directory = h.bytes_are; same = h.same; same_minis = h.same_minis; marks = h.marks; mini_marks = h.mini_marks }
+
+pub denoted : (file : List ℕ) (l : Layout) (old new : Reader) (t : Tree) → IsHeader file → IsReady file l old.fat old.mini (directory_in old)
+    → get_or old.entries.used 0 true ≡ true → kind (entry_at (directory_in old) 0) ≡ 5 → IsStorageRead 32 0 t old new → Denotes file t
+denoted file l old new t header r marked root h =
+    let s : Stands file l old (l.fat ++ l.directory ++ l.mini_fat ++ l.mini_stream) [] = stands file l old r in
+    let held : IsHeld file l 0 t old new (l.fat ++ l.directory ++ l.mini_fat ++ l.mini_stream) [] =
+    storage_held file l 32 0 t old new (l.fat ++ l.directory ++ l.mini_fat ++ l.mini_stream) [] s h in
     record {
       layout = l;
       used = held.used;
       header = header;
       laid_out = r.laid_out;
-      root = ap (λ x. kind (entry_at x 0)) (sym dir) ∙ root;
-      holds = subst (λ (t : Tree). Holds file l 0 t held.used) (sym now) (class_is, state_is, (h.ids, children, held.held));
-      sectors_apart = held.marks.once;
-      minis_apart = held.mini_marks.once;
-      ids_apart = subst (λ (xs : List ℕ). AreDistinct (0 ∷ xs)) (sym held.ids_are)
-          (distinct-cons 0 h.ids (λ z. All-contains (λ n. n ≢ 0) h.ids 0 below z refl) (sorted_distinct e.directory h.ids h.sorted.ordered));
-      is_tree = whole;
+      root = ap (λ (x : List ℕ). kind (entry_at x 0)) (sym r.bytes_are) ∙ root;
+      holds = held.held;
+      sectors_apart = held.stands.marks.once;
+      minis_apart = held.stands.mini_marks.once;
+      ids_apart = distinct-cons 0 held.used.ids (λ c. met_new old 0 marked (held.fresh 0 c)) held.once;
+      is_tree = whole_storage 32 0 t old new h;
     }
 
 -- the same, by what the calls answer

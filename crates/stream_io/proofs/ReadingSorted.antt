@@ -1,5 +1,5 @@
 -- Children in the order of their names, and what refuses them.
-use Rattle.std.proofs.Common.{◌≡◌, ◌≢◌, ◌↔◌, ◌<◌, ◌≤◌, ◌*◌, ◌⊎◌, inl, inr, ℕ, zero, suc, Bool, true, false, List, [], length, get_or, map, refl, sym, ◌∙◌, ap, subst, arith}
+use Rattle.std.proofs.Common.{◌≡◌, ◌≢◌, ◌↔◌, ◌<◌, ◌*◌, ◌⊎◌, inl, inr, ℕ, zero, suc, Bool, true, false, List, [], length, get_or, map, refl, sym, ◌∙◌, ap, subst, arith}
 use Rattle.std.proofs.lemmas.Cmp.{nat_list_cmp_total}
 use Rattle.std.proofs.lemmas.List.{length-map, get_or-map, get_or_default}
 use Rattle.std.proofs.lemmas.List.Elements.{All-contains}
@@ -9,19 +9,17 @@ use Rattle.std.specs.List.Sorted.{IsStrictlySortedBy}
 use Rattle.std.specs.Ordering.{ordering_reverse}
 use Rattle.std.specs.declared.cmp.Ordering.TheVariants.{Less}
 use Rattle.cfb_chain.specs.Chain.{AreDistinct}
-use Rattle.cfb_chain.specs.Fat.{FatValue}
 use Rattle.cfb_directory.specs.Names.{IsName, key_cmp}
-use Rattle.cfb_directory.specs.Entries.{AreFree, AreLinked, EntriesValue, IsNamed, MayRefuseChildren, MayRefuseEntry, NO_STREAM, Reaches, here, by_left, by_right, around, nobody, child, entry_at, kind, left, right}
+use Rattle.cfb_directory.specs.Entries.{AreFree, AreLinked, EntriesValue, IsFree, IsKindOf, IsNamed, MayRefuseEntry, child, entry_at, kind, marked}
 use Rattle.cfb_directory.specs.declared.fault.DirFault.{DirFault}
 use Rattle.cfb_directory.specs.declared.fault.DirFault.TheVariants.{NameEmpty, NameTooLong, NameNotAscii, NameForbidden, DuplicateName, BadEntry, TreeCycle, TooNested, NoMemory}
-use Rattle.storage_tree.specs.Tree.{Children}
-use Rattle.stream_io.specs.Reads.{AreRead, AreSorted, MayRefuseNames, key_at}
+use Rattle.stream_io.specs.Reads.{AreSorted, MayRefuseNames, key_at, met}
+use Rattle.stream_io.specs.declared.read.Reader.{Reader}
 use Rattle.stream_io.specs.declared.fault.ReadFault.{ReadFault}
 use Rattle.stream_io.specs.declared.fault.ReadFault.TheVariants as told
 use Rattle.file_model.proofs.Lists.{sorted_unique}
 use Rattle.file_model.proofs.Unique.{linked_unique}
-use Rattle.stream_io.proofs.ReadingChildren.{each_read}
-use Rattle.stream_io.proofs.ReadingEntries.{stream_not_refused}
+use Rattle.cfb_directory.proofs.Marked.{entry_kept}
 use Rattle.stream_io.proofs.ReadingLists.{all-from}
 
 -- one order of the children
@@ -40,29 +38,6 @@ true_false b h i = let e : true ≡ false = sym h ∙ i in cc
 -- where the root is marked, entries that aren't lie below it
 pub below_root : (e : EntriesValue) (ids : List ℕ) → get_or e.used 0 true ≡ true → AreFree e ids → All (λ n. n ≢ 0) ids
 below_root e ids root h = λ k d lt z. true_false (get_or e.used 0 true) root (subst (λ (n : ℕ). get_or e.used n true ≡ false) z (h.free k d lt).1)
-
--- ---- links
-linked_inside : (d : List ℕ) (top id : ℕ) (ids : List ℕ) → AreLinked d top ids → Reaches d top id → id ≢ NO_STREAM → length d ≤ 128 * id → ⊥
-linked_inside d top id ids nobody (here n) ne le = ne refl
-linked_inside d top id ids nobody (by_left n to lt other r) ne le = other refl
-linked_inside d top id ids nobody (by_right n to lt other r) ne le = other refl
-linked_inside d top id ids (around n before after other lt l r) (here m) ne le = omega arith
-linked_inside d top id ids (around n before after other lt l r) (by_left m to lt' other' s) ne le = linked_inside d (left (entry_at d top)) id before l s ne le
-linked_inside d top id ids (around n before after other lt l r) (by_right m to lt' other' s) ne le = linked_inside d (right (entry_at d top)) id after r s ne le
-
-pub children_not_refused : (e : EntriesValue) (id : ℕ) (ids : List ℕ) (fault : DirFault) → 128 * id < length e.directory → AreSorted e id ids
-    → MayRefuseChildren e id fault → fault ≡ NoMemory
-children_not_refused e id ids fault lt h (inl r) = absurd (omega (arith, r.0))
-children_not_refused e id ids NameEmpty lt h (inr (inl r)) = absurd r
-children_not_refused e id ids NameTooLong lt h (inr (inl r)) = absurd r
-children_not_refused e id ids NameNotAscii lt h (inr (inl r)) = absurd r
-children_not_refused e id ids NameForbidden lt h (inr (inl r)) = absurd r
-children_not_refused e id ids DuplicateName lt h (inr (inl r)) = absurd r
-children_not_refused e id ids BadEntry lt h (inr (inl r)) = absurd (linked_inside e.directory (child (entry_at e.directory id)) r.0 h.reached h.linked r.1 r.2 r.3)
-children_not_refused e id ids TreeCycle lt h (inr (inl r)) = absurd (r h.reached h.linked h.free)
-children_not_refused e id ids TooNested lt h (inr (inl r)) = absurd r
-children_not_refused e id ids NoMemory lt h (inr (inl r)) = refl
-children_not_refused e id ids fault lt h (inr (inr m)) = m.1
 
 -- ---- names
 not_less : (k : List ℕ) → key_cmp k k ≡ Less → ⊥
@@ -102,13 +77,27 @@ two_keys dir ids m n sorted c d ne e =
       ]
     ]
 
-module _ (e : EntriesValue) (id : ℕ) (ids : List ℕ) (cs : Children) (fat mini fat' mini' : FatValue) (root : get_or e.used 0 true ≡ true)
-    (h : AreSorted e id ids) (r : AreRead e.directory ids cs fat mini fat' mini') where
+-- an entry that may stand in a storage
+pub record IsReadable (dir : List ℕ) (id : ℕ) : Type 0 where
+  pub name : List ℕ
+  pub kind_is : (kind (entry_at dir id) ≡ 1) ⊎ (kind (entry_at dir id) ≡ 2)
+  pub named : IsNamed (entry_at dir id) name
+  pub valid : IsName name
+
+kind_below : (id k : ℕ) → id ≢ 0 → (k ≡ 1) ⊎ (k ≡ 2) → IsKindOf id k
+kind_below zero k ne h = absurd (ne refl)
+kind_below (suc id) k ne h = h
+
+pub readable_not_refused : (dir : List ℕ) (id : ℕ) (fault : DirFault) → 128 * id < length dir → id ≢ 0 → IsReadable dir id → MayRefuseEntry dir id fault → ⊥
+readable_not_refused dir id fault lt ne h refused =
+    entry_kept dir id h.name fault lt (kind_below id (kind (entry_at dir id)) ne h.kind_is) (λ x. h.named) h.valid refused
+
+module _ (e : EntriesValue) (id : ℕ) (ids : List ℕ) (root : get_or e.used 0 true ≡ true)
+    (h : AreSorted e id ids) (r : (n : ℕ) → Contains ids n → IsReadable e.directory n) where
   one_name : (n : ℕ) (fault : DirFault) → Contains h.reached n → MayRefuseEntry e.directory n fault → ⊥
   one_name n fault c refused =
-      let s : (name : List ℕ) × (kind (entry_at e.directory n) ≡ 2) × IsNamed (entry_at e.directory n) name × IsName name =
-      each_read e.directory ids cs fat mini fat' mini' r n ((h.same n).0 c) in
-      stream_not_refused e.directory n s.0 fault s.1 s.2 s.3 (All-contains (λ m. m ≢ 0) h.reached n (below_root e h.reached root h.free) c) refused
+      readable_not_refused e.directory n fault (All-contains (IsFree e) h.reached n h.free.free c).0
+      (All-contains (λ m. m ≢ 0) h.reached n (below_root e h.reached root h.free) c) (r n ((h.same n).0 c)) refused
 
   by_names : (fault : ReadFault) → MayRefuseNames e.directory h.reached fault → fault ≡ told.NoMemory
   by_names told.NoMemory refused = refl
@@ -124,26 +113,30 @@ module _ (e : EntriesValue) (id : ℕ) (ids : List ℕ) (cs : Children) (fat min
   by_names (told.Directory TooNested) refused = absurd (one_name refused.0 TooNested refused.1 refused.2)
   by_names (told.Directory NoMemory) refused = absurd (one_name refused.0 NoMemory refused.1 refused.2)
 
-pub names_not_refused : (e : EntriesValue) (id : ℕ) (found ids : List ℕ) (cs : Children) (fat mini fat' mini' : FatValue) (fault : ReadFault) → get_or e.used 0 true ≡ true
-    → AreLinked e.directory (child (entry_at e.directory id)) found → AreSorted e id ids → AreRead e.directory ids cs fat mini fat' mini'
+pub names_not_refused : (e : EntriesValue) (id : ℕ) (found ids : List ℕ) (fault : ReadFault) → get_or e.used 0 true ≡ true
+    → AreLinked e.directory (child (entry_at e.directory id)) found → AreSorted e id ids → ((n : ℕ) → Contains ids n → IsReadable e.directory n)
     → MayRefuseNames e.directory found fault → fault ≡ told.NoMemory
-names_not_refused e id found ids cs fat mini fat' mini' fault root l h r refused =
+names_not_refused e id found ids fault root l h r refused =
     let top : ℕ = child (entry_at e.directory id) in
     let same : found ≡ h.reached = linked_unique e.directory top top found h.reached refl l h.linked in
-    by_names e id ids cs fat mini fat' mini' root h r fault (subst (λ (xs : List ℕ). MayRefuseNames e.directory xs fault) same refused)
+    by_names e id ids root h r fault (subst (λ (xs : List ℕ). MayRefuseNames e.directory xs fault) same refused)
 
 -- ---- as they are found
-pub sorted_from : (e : EntriesValue) (id : ℕ) (found listed sorted items dir : List ℕ) → AreLinked e.directory (child (entry_at e.directory id)) found → AreFree e found
-    → listed ≡ found → dir ≡ e.directory → IsStrictlySortedBy key_cmp (map (key_at dir) sorted) → ((n : ℕ) → Contains listed n ↔ Contains sorted n) → items ≡ sorted
-    → AreSorted e id items
-sorted_from e id found listed sorted items dir l f is d o s same = record {
-  reached = found;
-  linked = l;
-  free = f;
-  same = subst (λ (xs : List ℕ). (n : ℕ) → Contains found n ↔ Contains xs n) (sym same) (subst (λ (xs : List ℕ). (n : ℕ) → Contains xs n ↔ Contains sorted n) is s);
-  ordered = subst (λ (xs : List ℕ). IsStrictlySortedBy key_cmp (map (key_at e.directory) xs)) (sym same)
-      (subst (λ (x : List ℕ). IsStrictlySortedBy key_cmp (map (key_at x) sorted)) d o);
-}
+pub sorted_met : (r : Reader) (id : ℕ) (found listed sorted items dir : List ℕ) (after : EntriesValue) → AreLinked r.entries.directory (child (entry_at r.entries.directory id)) found
+    → AreFree r.entries found → listed ≡ found → dir ≡ r.entries.directory → IsStrictlySortedBy key_cmp (map (key_at dir) sorted)
+    → ((n : ℕ) → Contains listed n ↔ Contains sorted n) → items ≡ sorted → after ≡ marked r.entries found
+    → (s : AreSorted r.entries id items) × (record { fat = r.fat; mini = r.mini; entries = after } ≡ met s.reached r)
+sorted_met r id found listed sorted items dir after l f is d o s same h = (
+  record {
+    reached = found;
+    linked = l;
+    free = f;
+    same = subst (λ (xs : List ℕ). (n : ℕ) → Contains found n ↔ Contains xs n) (sym same) (subst (λ (xs : List ℕ). (n : ℕ) → Contains xs n ↔ Contains sorted n) is s);
+    ordered = subst (λ (xs : List ℕ). IsStrictlySortedBy key_cmp (map (key_at r.entries.directory) xs)) (sym same)
+        (subst (λ (x : List ℕ). IsStrictlySortedBy key_cmp (map (key_at x) sorted)) d o);
+  },
+  ap (λ (x : EntriesValue). record { fat = r.fat; mini = r.mini; entries = x }) h,
+)
 
 -- sorted entries are those found, and lie below the root
 pub sorted_below : (e : EntriesValue) (id : ℕ) (ids : List ℕ) → get_or e.used 0 true ≡ true → AreSorted e id ids → All (λ n. n ≢ 0) ids

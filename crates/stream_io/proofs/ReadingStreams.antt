@@ -1,18 +1,15 @@
 -- Entries that are read hold the children that they are read as, and the other way round.
-use Rattle.std.proofs.Common.{◌≡◌, ℕ, zero, suc, Bool, true, false, List, [], ◌∷◌, ◌++◌, take, refl, sym, ◌∙◌, ap, subst, nat_lt, if◌then◌else◌, append_assoc}
+use Rattle.std.proofs.Common.{◌≡◌, ℕ, Bool, true, false, List, [], ◌∷◌, ◌++◌, take, refl, sym, ◌∙◌, ap, subst, nat_lt, if◌then◌else◌}
 use Rattle.std.proofs.lemmas.List.{append-nil}
 use Rattle.cfb_chain.specs.Bytes.{joined}
 use Rattle.cfb_chain.specs.Chain.{AreDistinct, IsChainOf, Store}
 use Rattle.cfb_chain.specs.Fat.{AreFree, AreSame, FatValue, IsFound, marked, store_of}
 use Rattle.cfb_chain.proofs.Chains.{chain_below, chain_of_same, joined_same, same_back}
-use Rattle.cfb_chain.proofs.Marks.{Marks, distinct_left, free_when, marks_more}
-use Rattle.cfb_directory.specs.Names.{IsName}
-use Rattle.cfb_directory.specs.Entries.{entry_at, first_of, size_of}
-use Rattle.storage_tree.specs.Tree.{Children, none, stream, storage}
-use Rattle.storage_tree.specs.Whole.{AreTrees}
-use Rattle.file_model.specs.Denotes.{HoldsEach, Layout, Used, both, directory_of, minis, nothing, sectors, taken}
-use Rattle.file_model.specs.Refusals.{has_storage_in}
-use Rattle.stream_io.specs.Reads.{AreRead, IsStreamRead, fat_after, mini_after, table_for}
+use Rattle.cfb_chain.proofs.Marks.{Marks, free_when, marks_more}
+use Rattle.cfb_directory.specs.Entries.{entry_at, first_of, kind, size_of}
+use Rattle.file_model.specs.Denotes.{HoldsBytes, Layout, Used, directory_of, minis, sectors, taken}
+use Rattle.stream_io.specs.Reads.{IsStreamRead, directory_in, met, stream_after, table_for}
+use Rattle.stream_io.specs.declared.read.Reader.{Reader}
 
 -- ---- one stream, whose bytes lie in mini sectors where the test is true
 abbrev table_by : Bool → FatValue → FatValue → FatValue
@@ -60,132 +57,85 @@ module _ (s t : Store) (fat mini : FatValue) (same : AreSame (store_of fat) s) (
     free_by false start size ns h d d' =
         free_when fat xs ns m d (chain_below (store_of fat) start size ns (chain_of_same s (store_of fat) (same_back same) start size ns h))
 
-ids_by : (b : Bool) (id : ℕ) (ns : List ℕ) → (used_by b id ns).ids ≡ id ∷ []
+pub ids_by : (b : Bool) (id : ℕ) (ns : List ℕ) → (used_by b id ns).ids ≡ id ∷ []
 ids_by true id ns = refl
 ids_by false id ns = refl
 
-rest_trees : (depth : ℕ) (k n b : List ℕ) (cs : Children) → AreTrees depth (stream k n b cs) → AreTrees depth cs
-rest_trees zero k n b cs h = h.2
-rest_trees (suc depth) k n b cs h = h.2
-
-first_name : (depth : ℕ) (k n b : List ℕ) (cs : Children) → AreTrees depth (stream k n b cs) → IsName n
-first_name zero k n b cs h = h.0.valid
-first_name (suc depth) k n b cs h = h.0.valid
-
--- ---- children
+-- ---- one entry's stream
 module _ (file : List ℕ) (l : Layout) where
-  -- What is read is held, and what it takes is marked.
-  pub record AreHeld (ids : List ℕ) (cs : Children) (fat mini : FatValue) (xs ys : List ℕ) : Type 0 where
-    pub used : Used
-    pub held : HoldsEach file l ids cs used
-    pub marks : Marks fat (xs ++ used.sectors)
-    pub mini_marks : Marks mini (ys ++ used.minis)
-    pub ids_are : used.ids ≡ ids
+  -- the tables stand over the file, and mark just these sectors and mini sectors
+  pub record Stands (r : Reader) (xs ys : List ℕ) : Type 0 where
+    pub directory : directory_in r ≡ directory_of file l
+    pub same : AreSame (store_of r.fat) (sectors file l)
+    pub same_minis : AreSame (store_of r.mini) (minis file l)
+    pub marks : Marks r.fat xs
+    pub mini_marks : Marks r.mini ys
 
-  pub read_held : (ids : List ℕ) (cs : Children) (fat mini fat' mini' : FatValue) (xs ys : List ℕ) → AreSame (store_of fat) (sectors file l) → AreSame (store_of mini) (minis file l)
-      → Marks fat xs → Marks mini ys → AreRead (directory_of file l) ids cs fat mini fat' mini' → AreHeld ids cs fat' mini' xs ys
-  read_held [] none fat mini fat' mini' xs ys same same' m m' h = record {
-    used = nothing;
-    held = refl;
-    marks = subst (λ (f : FatValue). Marks f (xs ++ [])) (sym h.0) (subst (Marks fat) (sym (append-nil xs)) m);
-    mini_marks = subst (λ (f : FatValue). Marks f (ys ++ [])) (sym h.1) (subst (Marks mini) (sym (append-nil ys)) m');
-    ids_are = refl;
-  }
-  read_held [] (stream k n b cs) fat mini fat' mini' xs ys same same' m m' h = absurd h
-  read_held [] (storage k n t cs) fat mini fat' mini' xs ys same same' m m' h = absurd h
-  read_held (id ∷ ids) none fat mini fat' mini' xs ys same same' m m' h = absurd h
-  read_held (id ∷ ids) (stream k n b cs) fat mini fat' mini' xs ys same same' m m' h =
-      let size : ℕ = size_of (entry_at (directory_of file l) id) in
-      let first : ℕ = first_of (entry_at (directory_of file l) id) in
+  pub stands_met : (r : Reader) (ids xs ys : List ℕ) → Stands r xs ys → Stands (met ids r) xs ys
+  stands_met r ids xs ys h = record { directory = h.directory; same = h.same; same_minis = h.same_minis; marks = h.marks; mini_marks = h.mini_marks }
+
+  -- once its sectors are marked
+  after_stands : (r : Reader) (xs ys : List ℕ) (id size : ℕ) (ns : List ℕ) → Stands r xs ys → AreFree (table_for size r.fat r.mini) ns
+      → Stands (stream_after size ns r) (xs ++ (taken id size ns).sectors) (ys ++ (taken id size ns).minis)
+  after_stands r xs ys id size ns h free =
       let test : Bool = nat_lt size 4096 in
-      let ns : List ℕ = h.0 in
-      let s : IsStreamRead (directory_of file l) id fat mini k n b ns = h.1 in
-      let us : Used = taken id size ns in
-      let rest : AreHeld ids cs fat' mini' (xs ++ us.sectors) (ys ++ us.minis) =
-      read_held ids cs (fat_after size ns fat) (mini_after size ns mini) fat' mini' (xs ++ us.sectors) (ys ++ us.minis)
-      (same_after (sectors file l) (minis file l) fat mini same same' test ns)
-      (same_minis_after (sectors file l) (minis file l) fat mini same same' test ns)
-      (marks_after (sectors file l) (minis file l) fat mini same same' xs ys m m' id test ns s.found.free)
-      (mini_marks_after (sectors file l) (minis file l) fat mini same same' xs ys m m' id test ns s.found.free)
-      h.2 in
       record {
-        used = both us rest.used;
-        held = (
-          s.kind_is,
-          record { named = s.named; under_key = s.under_key },
-          (
-            ns,
-            rest.used,
-            record {
-              chain = found_chain (sectors file l) (minis file l) fat mini same same' test first size ns s.found;
-              content = s.content ∙ ap (take size) (found_bytes (sectors file l) (minis file l) fat mini same same' test first size ns s.found);
-            },
-            refl,
-            rest.held,
-          ),
-        );
-        marks = subst (Marks fat') (append_assoc xs us.sectors rest.used.sectors) rest.marks;
-        mini_marks = subst (Marks mini') (append_assoc ys us.minis rest.used.minis) rest.mini_marks;
-        ids_are = ap (λ is. is ++ rest.used.ids) (ids_by test id ns) ∙ ap (λ is. id ∷ is) rest.ids_are;
+        directory = h.directory;
+        same = same_after (sectors file l) (minis file l) r.fat r.mini h.same h.same_minis test ns;
+        same_minis = same_minis_after (sectors file l) (minis file l) r.fat r.mini h.same h.same_minis test ns;
+        marks = marks_after (sectors file l) (minis file l) r.fat r.mini h.same h.same_minis xs ys h.marks h.mini_marks id test ns free;
+        mini_marks = mini_marks_after (sectors file l) (minis file l) r.fat r.mini h.same h.same_minis xs ys h.marks h.mini_marks id test ns free;
       }
-  read_held (id ∷ ids) (storage k n t cs) fat mini fat' mini' xs ys same same' m m' h = absurd h
 
-  -- What is held can be read.
-  pub held_read : (depth : ℕ) (ids : List ℕ) (cs : Children) (used : Used) (fat mini : FatValue) (xs ys : List ℕ) → AreSame (store_of fat) (sectors file l)
-      → AreSame (store_of mini) (minis file l) → Marks fat xs → Marks mini ys → HoldsEach file l ids cs used → has_storage_in cs ≡ false → AreTrees depth cs
-      → AreDistinct (xs ++ used.sectors) → AreDistinct (ys ++ used.minis)
-      → (fat' : FatValue) × (mini' : FatValue) × AreRead (directory_of file l) ids cs fat mini fat' mini'
-  held_read depth [] none used fat mini xs ys same same' m m' h flat trees d d' = (fat, mini, (refl, refl))
-  held_read depth [] (stream k n b cs) used fat mini xs ys same same' m m' h flat trees d d' = absurd h
-  held_read depth [] (storage k n t cs) used fat mini xs ys same same' m m' h flat trees d d' = absurd h
-  held_read depth (id ∷ ids) none used fat mini xs ys same same' m m' h flat trees d d' = absurd h
-  held_read depth (id ∷ ids) (stream k n b cs) used fat mini xs ys same same' m m' h flat trees d d' =
+  -- what is read is held
+  pub record IsStreamHeld (id : ℕ) (b : List ℕ) (new : Reader) (xs ys : List ℕ) : Type 0 where
+    pub kind_is : kind (entry_at (directory_of file l) id) ≡ 2
+    pub ns : List ℕ
+    pub holds : HoldsBytes file l id ns b
+    pub stands : Stands new (xs ++ (taken id (size_of (entry_at (directory_of file l) id)) ns).sectors) (ys ++ (taken id (size_of (entry_at (directory_of file l) id)) ns).minis)
+
+  pub stream_held : (r new : Reader) (xs ys : List ℕ) (id : ℕ) (b : List ℕ) → Stands r xs ys → IsStreamRead id b r new → IsStreamHeld id b new xs ys
+  stream_held r new xs ys id b h s =
+      let size : ℕ = size_of (entry_at (directory_in r) id) in
+      let first : ℕ = first_of (entry_at (directory_in r) id) in
+      let test : Bool = nat_lt size 4096 in
+      let chain : IsChainOf (if test then minis file l else sectors file l) first size s.ns =
+      found_chain (sectors file l) (minis file l) r.fat r.mini h.same h.same_minis test first size s.ns s.found in
+      let content : b ≡ take size (joined (if test then minis file l else sectors file l).piece s.ns) =
+      s.content ∙ ap (take size) (found_bytes (sectors file l) (minis file l) r.fat r.mini h.same h.same_minis test first size s.ns s.found) in
+      let P : List ℕ → Type 0 = λ dir. IsChainOf (if nat_lt (size_of (entry_at dir id)) 4096 then minis file l else sectors file l) (first_of (entry_at dir id)) (size_of (entry_at dir id)) s.ns in
+      let Q : List ℕ → Type 0 = λ dir. b ≡ take (size_of (entry_at dir id)) (joined (if nat_lt (size_of (entry_at dir id)) 4096 then minis file l else sectors file l).piece s.ns) in
+      let S : List ℕ → Type 0 = λ dir. Stands new (xs ++ (taken id (size_of (entry_at dir id)) s.ns).sectors) (ys ++ (taken id (size_of (entry_at dir id)) s.ns).minis) in
+      let stands : S (directory_in r) =
+      subst (λ (x : Reader). Stands x (xs ++ (taken id size s.ns).sectors) (ys ++ (taken id size s.ns).minis)) (sym s.after) (after_stands r xs ys id size s.ns h s.found.free) in
+      record {
+        kind_is = ap (λ (dir : List ℕ). kind (entry_at dir id)) (sym h.directory) ∙ s.kind_is;
+        ns = s.ns;
+        holds = record { chain = subst P h.directory chain; content = subst Q h.directory content };
+        stands = subst S h.directory stands;
+      }
+
+  -- what is held can be read
+  pub stream_there : (r : Reader) (xs ys : List ℕ) (id : ℕ) (b ns : List ℕ) → Stands r xs ys → kind (entry_at (directory_of file l) id) ≡ 2 → HoldsBytes file l id ns b
+      → AreDistinct (xs ++ (taken id (size_of (entry_at (directory_of file l) id)) ns).sectors) → AreDistinct (ys ++ (taken id (size_of (entry_at (directory_of file l) id)) ns).minis)
+      → IsStreamRead id b r (stream_after (size_of (entry_at (directory_of file l) id)) ns r)
+      × Stands (stream_after (size_of (entry_at (directory_of file l) id)) ns r) (xs ++ (taken id (size_of (entry_at (directory_of file l) id)) ns).sectors)
+      (ys ++ (taken id (size_of (entry_at (directory_of file l) id)) ns).minis)
+  stream_there r xs ys id b ns h k c d d' =
       let size : ℕ = size_of (entry_at (directory_of file l) id) in
       let first : ℕ = first_of (entry_at (directory_of file l) id) in
       let test : Bool = nat_lt size 4096 in
-      let ns : List ℕ = h.2.0 in
-      let rest : Used = h.2.1 in
-      let us : Used = taken id size ns in
-      let apart : AreDistinct ((xs ++ us.sectors) ++ rest.sectors) =
-      subst AreDistinct (sym (append_assoc xs us.sectors rest.sectors)) (subst (λ (u : Used). AreDistinct (xs ++ u.sectors)) h.2.3 d) in
-      let apart' : AreDistinct ((ys ++ us.minis) ++ rest.minis) =
-      subst AreDistinct (sym (append_assoc ys us.minis rest.minis)) (subst (λ (u : Used). AreDistinct (ys ++ u.minis)) h.2.3 d') in
-      let free : AreFree (table_for size fat mini) ns =
-      free_by (sectors file l) (minis file l) fat mini same same' xs ys m m' id test first size ns h.2.2.chain
-      (distinct_left (xs ++ us.sectors) rest.sectors apart) (distinct_left (ys ++ us.minis) rest.minis apart') in
-      let found : IsFound (table_for size fat mini) first size ns =
-      chain_found (sectors file l) (minis file l) fat mini same same' test first size ns h.2.2.chain free in
-      let more : (fat' : FatValue) × (mini' : FatValue) × AreRead (directory_of file l) ids cs (fat_after size ns fat) (mini_after size ns mini) fat' mini' =
-      held_read depth ids cs rest (fat_after size ns fat) (mini_after size ns mini) (xs ++ us.sectors) (ys ++ us.minis)
-      (same_after (sectors file l) (minis file l) fat mini same same' test ns)
-      (same_minis_after (sectors file l) (minis file l) fat mini same same' test ns)
-      (marks_after (sectors file l) (minis file l) fat mini same same' xs ys m m' id test ns free)
-      (mini_marks_after (sectors file l) (minis file l) fat mini same same' xs ys m m' id test ns free)
-      h.2.4 flat (rest_trees depth k n b cs trees) apart apart' in (
-        more.0,
-        more.1,
-        (
-          ns,
-          record {
-            kind_is = h.0;
-            named = h.1.named;
-            valid = first_name depth k n b cs trees;
-            under_key = h.1.under_key;
-            found = found;
-            content = h.2.2.content ∙ ap (take size) (sym (found_bytes (sectors file l) (minis file l) fat mini same same' test first size ns found));
-          },
-          more.2,
-        ),
-      )
-  held_read depth (id ∷ ids) (storage k n t cs) used fat mini xs ys same same' m m' h flat trees d d' = absurd (let e : true ≡ false = flat in cc)
-
-  -- the entries of streams
-  pub held_ids : (ids : List ℕ) (cs : Children) (used : Used) → HoldsEach file l ids cs used → has_storage_in cs ≡ false → used.ids ≡ ids
-  held_ids [] none used h flat = ap (λ (u : Used). u.ids) h
-  held_ids [] (stream k n b cs) used h flat = absurd h
-  held_ids [] (storage k n t cs) used h flat = absurd h
-  held_ids (id ∷ ids) none used h flat = absurd h
-  held_ids (id ∷ ids) (stream k n b cs) used h flat =
-      let size : ℕ = size_of (entry_at (directory_of file l) id) in
-      ap (λ (u : Used). u.ids) h.2.3 ∙ ap (λ is. is ++ h.2.1.ids) (ids_by (nat_lt size 4096) id h.2.0) ∙ ap (λ is. id ∷ is) (held_ids ids cs h.2.1 h.2.4 flat)
-  held_ids (id ∷ ids) (storage k n t cs) used h flat = absurd (let e : true ≡ false = flat in cc)
+      let free : AreFree (table_for size r.fat r.mini) ns =
+      free_by (sectors file l) (minis file l) r.fat r.mini h.same h.same_minis xs ys h.marks h.mini_marks id test first size ns c.chain d d' in
+      let found : IsFound (table_for size r.fat r.mini) first size ns = chain_found (sectors file l) (minis file l) r.fat r.mini h.same h.same_minis test first size ns c.chain free in
+      let content : b ≡ take size (joined (store_of (table_for size r.fat r.mini)).piece ns) =
+      c.content ∙ ap (take size) (sym (found_bytes (sectors file l) (minis file l) r.fat r.mini h.same h.same_minis test first size ns found)) in
+      let back : directory_of file l ≡ directory_in r = sym h.directory in
+      let is_read : IsStreamRead id b r (stream_after size ns r) = record {
+        kind_is = ap (λ (dir : List ℕ). kind (entry_at dir id)) h.directory ∙ k;
+        ns = ns;
+        found = subst (λ (dir : List ℕ). IsFound (table_for (size_of (entry_at dir id)) r.fat r.mini) (first_of (entry_at dir id)) (size_of (entry_at dir id)) ns) back found;
+        content = subst (λ (dir : List ℕ). b ≡ take (size_of (entry_at dir id)) (joined (store_of (table_for (size_of (entry_at dir id)) r.fat r.mini)).piece ns)) back content;
+        after = ap (λ (dir : List ℕ). stream_after (size_of (entry_at dir id)) ns r) back;
+      } in
+      (is_read, after_stands r xs ys id size ns h free)

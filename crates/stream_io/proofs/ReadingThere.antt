@@ -1,31 +1,29 @@
 -- The parts of a file that denotes a tree are there to be read.
-use Rattle.std.proofs.Common.{◌≡◌, ◌≢◌, ◌<◌, ◌+◌, ◌*◌, ◌/◌, inl, inr, ℕ, true, false, List, [], ◌∷◌, ◌++◌, length, get_or, map, replicate, refl, sym, ◌∙◌, ap, subst, arith, append_assoc, get_or-set_other}
+use Rattle.std.proofs.Common.{◌≡◌, ◌≢◌, ◌<◌, ◌+◌, ◌*◌, ◌/◌, inl, inr, ℕ, true, false, List, [], ◌∷◌, ◌++◌, length, get_or, replicate, refl, sym, ◌∙◌, ap, subst, arith, append_assoc, get_or-set_other}
 use Rattle.std.proofs.lemmas.List.{get_or-replicate}
-use Rattle.std.proofs.lemmas.List.Elements.{All-append, All-cons, All-contains, All-nil}
+use Rattle.std.proofs.lemmas.List.Elements.{All-append}
 use Rattle.std.specs.List.{All, Contains}
-use Rattle.std.specs.List.Sorted.{IsStrictlySortedBy}
 use Rattle.cfb_chain.specs.Bytes.{joined, sector}
 use Rattle.cfb_chain.specs.Chain.{AreDistinct, IsChain, IsChainOf}
 use Rattle.cfb_chain.specs.Fat.{AreFree, AreSame, FatValue, IsFat, IsMiniFound, IsTableOf, sectors_of, store_of}
 use Rattle.cfb_chain.specs.Header.{HeaderValue, first_directory, first_mini_fat, header_of, listed, mini_fat_count}
 use Rattle.cfb_chain.proofs.Blocks.{length_block, length_joined}
 use Rattle.cfb_chain.proofs.Chains.{chain_below, chain_of_same, chain_same, same_back}
-use Rattle.cfb_chain.proofs.Marks.{distinct_left, free_when, marks_load}
-use Rattle.cfb_directory.specs.Names.{key, key_cmp}
-use Rattle.cfb_directory.specs.Entries.{AreLinked, EntriesValue, IsFree, MayRefuseEntry, MayRefuseLoad, around, child, entry_at, first_of, kind, left, name_of, nobody, right, size_of}
+use Rattle.cfb_chain.proofs.Marks.{distinct_left, distinct_tail, free_when, marks_load}
+use Rattle.cfb_directory.specs.Entries.{EntriesValue, MayRefuseEntry, MayRefuseLoad, entry_at, first_of, kind, size_of}
 use Rattle.cfb_chain.specs.Fat.{set_all}
 use Rattle.cfb_directory.specs.declared.fault.DirFault.{DirFault}
 use Rattle.cfb_directory.specs.declared.fault.DirFault.TheVariants.{NameEmpty, NameTooLong, NameNotAscii, NameForbidden, DuplicateName, BadEntry, TreeCycle, TooNested, NoMemory}
 use Rattle.cfb_directory.proofs.Marks.{set_all-there}
-use Rattle.storage_tree.specs.Tree.{Tree, Children, tree}
+use Rattle.storage_tree.specs.Tree.{Tree}
 use Rattle.storage_tree.specs.Whole.{IsTree}
 use Rattle.file_model.specs.Denotes.{Denotes, Holds, Layout, Used, directory_of, root_of}
-use Rattle.stream_io.specs.Reads.{AreRead, AreSorted}
-use Rattle.file_model.specs.Refusals.{has_storage}
+use Rattle.stream_io.specs.Reads.{IsStorageRead, directory_in}
+use Rattle.stream_io.specs.declared.read.Reader.{Reader}
 use Rattle.stream_io.proofs.ReadingEntries.{kind_inside}
-use Rattle.stream_io.proofs.ReadingFile.{IsOpened, IsReady}
-use Rattle.stream_io.proofs.ReadingLists.{all-from, distinct-head}
-use Rattle.stream_io.proofs.ReadingStreams.{held_ids, held_read}
+use Rattle.stream_io.proofs.ReadingFile.{IsOpened, IsReady, stands}
+use Rattle.stream_io.proofs.ReadingFound.{IsThere, storage_there}
+use Rattle.stream_io.proofs.ReadingLists.{distinct-head}
 use Rattle.file_model.proofs.Unique.{chain_unique, layout_unique}
 
 -- the root of loaded entries is marked
@@ -38,12 +36,6 @@ pub others_free : (e : EntriesValue) (n : ℕ) → e.used ≡ set_all (replicate
 others_free e n is ne lt =
     let count : ℕ = length e.directory / 128 in
     ap (λ us. get_or us n true) is ∙ get_or-set_other (replicate count false) 0 n true true ne ∙ get_or-replicate count n false true lt
-
-pub linked_in : (d : List ℕ) (top : ℕ) (ids : List ℕ) → AreLinked d top ids → All (λ n. 128 * n < length d) ids
-linked_in d top ids nobody = All-nil (λ n. 128 * n < length d)
-linked_in d top ids (around id before after ne lt l r) =
-    All-cons (λ n. 128 * n < length d) id (before ++ after) lt
-    (All-append (λ n. 128 * n < length d) before after (linked_in d (left (entry_at d id)) before l) (linked_in d (right (entry_at d id)) after r))
 
 module _ (file : List ℕ) (t : Tree) (d : Denotes file t) where
   -- the FAT
@@ -140,62 +132,29 @@ module _ (file : List ℕ) (t : Tree) (d : Denotes file t) where
               (subst (λ (xs : List ℕ). AreDistinct ((listed file ++ xs) ++ (d.layout.mini_fat ++ d.layout.mini_stream))) (sym same_directory) apart) below;
         }
 
--- the children of the root
-pub record AreThere (e : EntriesValue) (fat mini : FatValue) : Type 0 where
-  pub ids : List ℕ
-  pub cs : Children
-  pub fat_after : FatValue
-  pub mini_after : FatValue
-  pub sorted : AreSorted e 0 ids
-  pub is_read : AreRead e.directory ids cs fat mini fat_after mini_after
-
-module _ (file : List ℕ) (l : Layout) (fat mini : FatValue) (e : EntriesValue) (r : IsReady file l fat mini e.directory)
-    (loaded : e.used ≡ set_all (replicate (length e.directory / 128) false) (0 ∷ [])) where
+-- the storage of the root
+module _ (file : List ℕ) (l : Layout) (old : Reader) (r : IsReady file l old.fat old.mini (directory_in old))
+    (loaded : old.entries.used ≡ set_all (replicate (length (directory_in old) / 128) false) (0 ∷ [])) where
   unfolded : length (directory_of file l) ≡ 512 * length l.directory
   unfolding directory_of
   unfolded = length_joined (sector file) 512 l.directory (λ n. length_block 512 file (512 + 512 * n))
 
-  long : length e.directory ≡ 512 * length l.directory
-  long = ap (λ (x : List ℕ). length x) r.bytes_are ∙ unfolded
+  within : (n : ℕ) → 128 * n < length (directory_of file l) → n < length (directory_in old) / 128
+  within n lt =
+      let same : length (directory_in old) ≡ length (directory_of file l) = ap (λ (x : List ℕ). length x) r.bytes_are in
+      omega (arith, unfolded, same)
 
-  within : (n : ℕ) → 128 * n < length e.directory → n < length e.directory / 128
-  within n lt = omega (arith, long)
+  in_tree : (t : Tree) (used : Used) → Holds file l 0 t used → IsTree 32 t → AreDistinct (l.fat ++ l.directory ++ l.mini_fat ++ l.mini_stream ++ used.sectors)
+      → AreDistinct used.minis → AreDistinct (0 ∷ used.ids) → IsThere file l 32 0 t used old (l.fat ++ l.directory ++ l.mini_fat ++ l.mini_stream) []
+  in_tree t used h whole apart minis_apart ids_apart =
+      storage_there file l 32 0 t used old (l.fat ++ l.directory ++ l.mini_fat ++ l.mini_stream) [] (stands file l old r) h whole apart minis_apart
+      (distinct_tail 0 used.ids ids_apart)
+      (λ n c lt. others_free old.entries n loaded (λ z. distinct-head 0 used.ids ids_apart (subst (Contains used.ids) z c)) (within n lt))
 
-  in_tree : (t : Tree) (used : Used) → Holds file l 0 t used → has_storage t ≡ false → IsTree 32 t
-      → AreDistinct (l.fat ++ l.directory ++ l.mini_fat ++ l.mini_stream ++ used.sectors) → AreDistinct used.minis → AreDistinct (0 ∷ used.ids)
-      → AreThere e fat mini
-  in_tree (tree class state cs) used h flat whole apart minis_apart ids_apart =
-      let ids : List ℕ = h.2.0 in
-      let ids_are : used.ids ≡ ids = held_ids file l ids cs used h.2.2 flat in
-      let more : (fat' : FatValue) × (mini' : FatValue) × AreRead (directory_of file l) ids cs fat mini fat' mini' =
-      held_read file l 32 ids cs used fat mini (l.fat ++ l.directory ++ l.mini_fat ++ l.mini_stream) [] r.same r.same_minis r.marks r.mini_marks h.2.2 flat whole apart minis_apart in
-      let back : directory_of file l ≡ e.directory = sym r.bytes_are in
-      let linked : AreLinked e.directory (child (entry_at e.directory 0)) h.2.1.reached =
-      subst (λ (x : List ℕ). AreLinked x (child (entry_at x 0)) h.2.1.reached) back h.2.1.linked in
-      let below : (n : ℕ) → Contains h.2.1.reached n → n ≢ 0 = λ n c z.
-      distinct-head 0 ids (subst (λ (xs : List ℕ). AreDistinct (0 ∷ xs)) ids_are ids_apart) (subst (Contains ids) z ((h.2.1.same n).0 c)) in
-      record {
-        ids = ids;
-        cs = cs;
-        fat_after = more.0;
-        mini_after = more.1;
-        sorted = record {
-          reached = h.2.1.reached;
-          linked = linked;
-          free = record {
-            free = all-from (IsFree e) h.2.1.reached (λ n c.
-                let lt : 128 * n < length e.directory = All-contains (λ m. 128 * m < length e.directory) h.2.1.reached n (linked_in e.directory (child (entry_at e.directory 0)) h.2.1.reached linked) c in
-                (lt, others_free e n loaded (below n c) (within n lt)));
-            once = h.2.1.once;
-          };
-          same = h.2.1.same;
-          ordered = subst (λ (x : List ℕ). IsStrictlySortedBy key_cmp (map (λ n. key (name_of (entry_at x n))) ids)) back h.2.1.ordered;
-        };
-        is_read = subst (λ (x : List ℕ). AreRead x ids cs fat mini more.0 more.1) back more.2;
-      }
-
-  pub children_there : (t : Tree) → Denotes file t → has_storage t ≡ false → AreThere e fat mini
-  children_there t d flat =
+  pub storage_read : (t : Tree) → Denotes file t → (new : Reader) × IsStorageRead 32 0 t old new
+  storage_read t d =
       let same : d.layout ≡ l = layout_unique file d.layout l d.laid_out r.laid_out in
-      in_tree t d.used (subst (λ (x : Layout). Holds file x 0 t d.used) same d.holds) flat d.is_tree
-      (subst (λ (x : Layout). AreDistinct (x.fat ++ x.directory ++ x.mini_fat ++ x.mini_stream ++ d.used.sectors)) same d.sectors_apart) d.minis_apart d.ids_apart
+      let there : IsThere file l 32 0 t d.used old (l.fat ++ l.directory ++ l.mini_fat ++ l.mini_stream) [] =
+      in_tree t d.used (subst (λ (x : Layout). Holds file x 0 t d.used) same d.holds) d.is_tree
+      (subst (λ (x : Layout). AreDistinct (x.fat ++ x.directory ++ x.mini_fat ++ x.mini_stream ++ d.used.sectors)) same d.sectors_apart) d.minis_apart d.ids_apart in
+      (there.new, there.is_read)

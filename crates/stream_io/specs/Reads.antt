@@ -1,22 +1,24 @@
 -- How a file is read, and which files are refused.
-use Rattle.std.specs.Prelude.{◌≡◌, ◌≢◌, ◌↔◌, ◌⊎◌, ℕ, List, [], ◌∷◌, map, take, if◌then◌else◌, nat_lt, Ok, codes}
+use Rattle.std.specs.Prelude.{◌≡◌, ◌≢◌, ◌↔◌, ◌⊎◌, ◌<◌, ◌-◌, ◌*◌, ℕ, zero, suc, true, List, [], ◌∷◌, map, take, length, if◌then◌else◌, nat_lt, Err, codes}
 use Rattle.std.specs.List.{Contains}
 use Rattle.std.specs.List.Sorted.{IsStrictlySortedBy}
-use Rattle.cfb_chain.specs.Bytes.{joined}
+use Rattle.cfb_chain.specs.Bytes.{joined, sector}
+use Rattle.cfb_chain.specs.Chain.{IsChain}
 use Rattle.cfb_chain.specs.Fault.{name_of as name_of_chain}
-use Rattle.cfb_chain.specs.Fat.{FatValue, IsFound, marked, store_of}
+use Rattle.cfb_chain.specs.Fat.{FatValue, IsFat, IsFound, marked as sectors_marked, sectors_of, store_of}
+use Rattle.cfb_chain.specs.Header.{first_directory, header_read, listed}
 use Rattle.cfb_chain.specs.declared.fault.ChainFault.{ChainFault}
 use Rattle.cfb_chain.specs.declared.fault.ChainFault.TheVariants as chain
 use Rattle.cfb_directory.specs.Faults.{name_of_fault}
-use Rattle.cfb_directory.specs.Names.{IsName, key, key_cmp}
-use Rattle.cfb_directory.specs.Entries.{AreFree, AreLinked, EntriesValue, IsNamed, MayRefuseEntry, child, entry_at, first_of, kind, name_of, size_of}
-use Rattle.cfb_directory.specs.declared.entries.Entry.{Entry}
+use Rattle.cfb_directory.specs.Names.{IsName, is_forbidden, key, key_cmp}
+use Rattle.cfb_directory.specs.Entries.{AreFree, AreLinked, EntriesValue, IsNamed, MayRefuseEntry, NO_STREAM, Reaches, child, class_of, entry_at, first_of, kind, marked, name_length, name_of, size_of, state_of}
 use Rattle.cfb_directory.specs.declared.fault.DirFault.{DirFault}
 use Rattle.cfb_directory.specs.declared.fault.DirFault.TheVariants as directory
-use Rattle.storage_tree.specs.Kept.{Kept, put}
+use Rattle.storage_tree.specs.Change.{Seen, bytes, inner, place}
 use Rattle.storage_tree.specs.Tree.{Tree, Children, tree, none, stream, storage}
 use Rattle.stream_io.specs.declared.fault.ReadFault.{ReadFault}
 use Rattle.stream_io.specs.declared.fault.ReadFault.TheVariants.{Chain, Directory, NoMemory}
+use Rattle.stream_io.specs.declared.read.Reader.{Reader}
 
 -- the faults of the layers below
 abbrev pub chain_fault : ChainFault → ReadFault
@@ -37,60 +39,26 @@ read_fault_name NoMemory = codes "NoMemory"
 abbrev pub key_at : List ℕ → ℕ → List ℕ
 key_at directory id = key (name_of (entry_at directory id))
 
+-- the directory of what is read
+abbrev pub directory_in : Reader → List ℕ
+directory_in r = r.entries.directory
+
 -- the table that a stream of a size lies in, and the tables once its sectors are marked
 abbrev pub table_for : ℕ → FatValue → FatValue → FatValue
 table_for size fat mini = if nat_lt size 4096 then mini else fat
 
 abbrev pub fat_after : ℕ → List ℕ → FatValue → FatValue
-fat_after size ns fat = if nat_lt size 4096 then fat else marked fat ns
+fat_after size ns fat = if nat_lt size 4096 then fat else sectors_marked fat ns
 
 abbrev pub mini_after : ℕ → List ℕ → FatValue → FatValue
-mini_after size ns mini = if nat_lt size 4096 then marked mini ns else mini
+mini_after size ns mini = if nat_lt size 4096 then sectors_marked mini ns else mini
 
--- an entry of a stream, as it is read
-pub record IsStream (directory : List ℕ) (id : ℕ) (e : Entry) : Type 0 where
-  pub kind_is : kind (entry_at directory id) ≡ 2
-  pub named : IsNamed (entry_at directory id) e.name
-  pub valid : IsName e.name
-  pub first : e.first ≡ first_of (entry_at directory id)
-  pub size : e.size ≡ size_of (entry_at directory id)
+abbrev pub stream_after : ℕ → List ℕ → Reader → Reader
+stream_after size ns r = record { fat = fat_after size ns r.fat; mini = mini_after size ns r.mini; entries = r.entries }
 
--- when a fault may be answered for the entry of a stream: what any entry is refused for, or another kind
-abbrev pub MayRefuseStream : List ℕ → ℕ → ReadFault → Type 0
-MayRefuseStream dir id (Directory directory.BadEntry) = (kind (entry_at dir id) ≢ 2) ⊎ MayRefuseEntry dir id directory.BadEntry
-MayRefuseStream dir id (Directory fault) = MayRefuseEntry dir id fault
-MayRefuseStream dir id (Chain fault) = ⊥
-MayRefuseStream dir id NoMemory = ⊥
-
--- An entry of a stream, its name, its unused sectors and its bytes.
-pub record IsStreamRead (directory : List ℕ) (id : ℕ) (fat mini : FatValue) (k name bytes ns : List ℕ) : Type 0 where
-  pub kind_is : kind (entry_at directory id) ≡ 2
-  pub named : IsNamed (entry_at directory id) name
-  pub valid : IsName name
-  pub under_key : k ≡ key name
-  pub found : IsFound (table_for (size_of (entry_at directory id)) fat mini) (first_of (entry_at directory id)) (size_of (entry_at directory id)) ns
-  pub content : bytes ≡ take (size_of (entry_at directory id)) (joined (store_of (table_for (size_of (entry_at directory id)) fat mini)).piece ns)
-
--- entries read one after another, each finding the sectors of those before it marked
-abbrev pub AreRead : List ℕ → List ℕ → Children → FatValue → FatValue → FatValue → FatValue → Type 0
-AreRead directory [] none fat mini fat' mini' = (fat' ≡ fat) × (mini' ≡ mini)
-AreRead directory [] (stream k name bytes cs) fat mini fat' mini' = ⊥
-AreRead directory [] (storage k name t cs) fat mini fat' mini' = ⊥
-AreRead directory (id ∷ ids) none fat mini fat' mini' = ⊥
-AreRead directory (id ∷ ids) (stream k name bytes cs) fat mini fat' mini' = (ns : List ℕ) × IsStreamRead directory id fat mini k name bytes ns
-    × AreRead directory ids cs (fat_after (size_of (entry_at directory id)) ns fat) (mini_after (size_of (entry_at directory id)) ns mini) fat' mini'
-AreRead directory (id ∷ ids) (storage k name t cs) fat mini fat' mini' = ⊥
-
--- One entry read, and its stream put into the tree.
-pub record IsPut (directory : List ℕ) (id : ℕ) (fat mini : FatValue) (old : Kept) (fat' mini' : FatValue) (new : Kept) : Type 0 where
-  pub k : List ℕ
-  pub name : List ℕ
-  pub bytes : List ℕ
-  pub ns : List ℕ
-  pub is_read : IsStreamRead directory id fat mini k name bytes ns
-  pub fat_is : fat' ≡ fat_after (size_of (entry_at directory id)) ns fat
-  pub mini_is : mini' ≡ mini_after (size_of (entry_at directory id)) ns mini
-  pub is_put : put (name ∷ []) bytes old ≡ Ok new
+-- once entries are marked
+abbrev pub met : List ℕ → Reader → Reader
+met ids r = record { fat = r.fat; mini = r.mini; entries = marked r.entries ids }
 
 -- The children of an entry in name order: unmarked entries, just those that its links reach.
 pub record AreSorted (e : EntriesValue) (id : ℕ) (ids : List ℕ) : Type 0 where
@@ -100,23 +68,55 @@ pub record AreSorted (e : EntriesValue) (id : ℕ) (ids : List ℕ) : Type 0 whe
   pub same : (n : ℕ) → Contains reached n ↔ Contains ids n
   pub ordered : IsStrictlySortedBy key_cmp (map (key_at e.directory) ids)
 
--- a tree with other children
-abbrev pub with_children : Children → Tree → Tree
-with_children cs (tree class state old) = tree class state cs
+-- A child's name, which is one that a directory takes, and the key of it.
+pub record IsChildNamed (directory : List ℕ) (id : ℕ) (k name : List ℕ) : Type 0 where
+  pub named : IsNamed (entry_at directory id) name
+  pub valid : IsName name
+  pub under_key : k ≡ key name
 
-abbrev pub children_in : Tree → Children
-children_in (tree class state cs) = cs
+-- An entry's stream: unmarked sectors, which are marked by it, and their bytes.
+pub record IsStreamRead (id : ℕ) (bytes : List ℕ) (old new : Reader) : Type 0 where
+  pub kind_is : kind (entry_at (directory_in old) id) ≡ 2
+  pub ns : List ℕ
+  pub found : IsFound (table_for (size_of (entry_at (directory_in old) id)) old.fat old.mini) (first_of (entry_at (directory_in old) id))
+      (size_of (entry_at (directory_in old) id)) ns
+  pub content : bytes ≡ take (size_of (entry_at (directory_in old) id))
+      (joined (store_of (table_for (size_of (entry_at (directory_in old) id)) old.fat old.mini)).piece ns)
+  pub after : new ≡ stream_after (size_of (entry_at (directory_in old) id)) ns old
 
-abbrev pub filled : Kept → Children → Kept
-filled k cs = record { now = with_children cs k.now; saved = k.saved }
+-- An entry's storage, with at most so many levels below it: its children are marked, then read one after another, each
+-- finding marked what those before it took.
+abbrev mutual
+  pub IsStorageRead : ℕ → ℕ → Tree → Reader → Reader → Type 0
+  IsStorageRead depth id (tree class state cs) old new = (class ≡ class_of (entry_at (directory_in old) id)) × (state ≡ state_of (entry_at (directory_in old) id))
+      × ((ids : List ℕ) × (sorted : AreSorted old.entries id ids) × AreRead depth ids cs (met sorted.reached old) new)
 
--- The children of an entry read, and put into a tree that has none.
-pub record AreChildrenRead (e : EntriesValue) (id : ℕ) (fat mini : FatValue) (old : Kept) (fat' mini' : FatValue) (new : Kept) : Type 0 where
-  pub ids : List ℕ
-  pub cs : Children
-  pub sorted : AreSorted e id ids
-  pub is_read : AreRead e.directory ids cs fat mini fat' mini'
-  pub tree_is : new ≡ filled old cs
+  pub AreRead : ℕ → List ℕ → Children → Reader → Reader → Type 0
+  AreRead depth [] none old new = new ≡ old
+  AreRead depth [] (stream k name b cs) old new = ⊥
+  AreRead depth [] (storage k name t cs) old new = ⊥
+  AreRead depth (id ∷ ids) none old new = ⊥
+  AreRead depth (id ∷ ids) (stream k name b cs) old new = IsChildNamed (directory_in old) id k name
+      × ((next : Reader) × IsStreamRead id b old next × AreRead depth ids cs next new)
+  AreRead depth (id ∷ ids) (storage k name t cs) old new = IsChildNamed (directory_in old) id k name
+      × ((next : Reader) × ((kind (entry_at (directory_in old) id) ≡ 1) × (0 < depth) × IsStorageRead (depth - 1) id t old next) × AreRead depth ids cs next new)
+
+-- an entry read, as a stream or as a storage
+abbrev pub IsNodeRead : ℕ → ℕ → Seen → Reader → Reader → Type 0
+IsNodeRead depth id (bytes b) old new = IsStreamRead id b old new
+IsNodeRead depth id (inner t) old new = (kind (entry_at (directory_in old) id) ≡ 1) × (0 < depth) × IsStorageRead (depth - 1) id t old new
+
+-- One entry read, and put among the children of its storage.
+pub record IsChildRead (depth id : ℕ) (k name : List ℕ) (s : Seen) (old new : Reader) : Type 0 where
+  pub named : IsChildNamed (directory_in old) id k name
+  pub is_read : IsNodeRead depth id s old new
+
+pub record IsChildPut (depth id : ℕ) (old new : Reader) (before after : Children) : Type 0 where
+  pub k : List ℕ
+  pub name : List ℕ
+  pub node : Seen
+  pub is_read : IsChildRead depth id k name node old new
+  pub is_put : after ≡ place k (name, node) before
 
 -- when a fault may be answered for the names of entries
 abbrev pub MayRefuseNames : List ℕ → List ℕ → ReadFault → Type 0
@@ -128,3 +128,70 @@ MayRefuseNames dir ids (Directory fault) = (n : ℕ) × Contains ids n × MayRef
 -- entries under their keys, each under that of its name
 abbrev pub IsKeyed : List ℕ → List ℕ × ℕ → Type 0
 IsKeyed dir e = e.0 ≡ key_at dir e.1
+
+-- ---- what a file is refused for
+-- the root, or a storage
+abbrev pub IsStorage : List ℕ → ℕ → Type 0
+IsStorage dir id = (kind (entry_at dir id) ≡ 5) ⊎ (kind (entry_at dir id) ≡ 1)
+
+-- an entry that the links of a storage reach
+pub record IsChild (dir : List ℕ) (parent id : ℕ) : Type 0 where
+  pub of_storage : IsStorage dir parent
+  pub inside : 128 * id < length dir
+  pub somebody : id ≢ NO_STREAM
+  pub reached : Reaches dir (child (entry_at dir parent)) id
+
+-- an entry so many levels below another one
+abbrev pub IsBelow : List ℕ → ℕ → ℕ → ℕ → Type 0
+IsBelow dir zero top id = id ≡ top
+IsBelow dir (suc levels) top id = (n : ℕ) × IsChild dir top n × IsBelow dir levels n id
+
+-- When a fault of names, or of storages inside one another, may be answered for what stands below an entry that may have
+-- so many levels.
+abbrev pub MayRefuseBelow : List ℕ → ℕ → ℕ → DirFault → Type 0
+MayRefuseBelow dir depth top directory.NameEmpty = (levels : ℕ) × (id : ℕ) × IsBelow dir (suc levels) top id × (name_length (entry_at dir id) < 4)
+MayRefuseBelow dir depth top directory.NameTooLong = (levels : ℕ) × (id : ℕ) × IsBelow dir (suc levels) top id × (64 < name_length (entry_at dir id))
+MayRefuseBelow dir depth top directory.NameNotAscii = (levels : ℕ) × (id : ℕ) × IsBelow dir (suc levels) top id
+    × ((c : ℕ) × Contains (name_of (entry_at dir id)) c × (127 < c))
+MayRefuseBelow dir depth top directory.NameForbidden = (levels : ℕ) × (id : ℕ) × IsBelow dir (suc levels) top id
+    × ((c : ℕ) × Contains (name_of (entry_at dir id)) c × (is_forbidden c ≡ true))
+MayRefuseBelow dir depth top directory.DuplicateName = (levels : ℕ) × (id : ℕ) × IsBelow dir levels top id
+    × ((m : ℕ) × (n : ℕ) × IsChild dir id m × IsChild dir id n × (m ≢ n) × (key_at dir m ≡ key_at dir n))
+MayRefuseBelow dir depth top directory.TooNested = (id : ℕ) × IsBelow dir (suc depth) top id × (kind (entry_at dir id) ≡ 1)
+MayRefuseBelow dir depth top directory.BadEntry = Unit {0}
+MayRefuseBelow dir depth top directory.TreeCycle = Unit {0}
+MayRefuseBelow dir depth top directory.NoMemory = ⊥
+
+-- the faults of chains; those of the header are not among them
+abbrev pub IsOfChains : ChainFault → Type 0
+IsOfChains chain.OutOfFile = Unit {0}
+IsOfChains chain.Cycle = Unit {0}
+IsOfChains chain.CrossLinked = Unit {0}
+IsOfChains chain.ShortChain = Unit {0}
+IsOfChains _ = ⊥
+
+abbrev pub MayRefuseStorage : List ℕ → ℕ → ℕ → ReadFault → Type 0
+MayRefuseStorage dir depth id (Chain fault) = IsOfChains fault
+MayRefuseStorage dir depth id (Directory fault) = MayRefuseBelow dir depth id fault
+MayRefuseStorage dir depth id NoMemory = Unit {0}
+
+-- the bytes of a file's directory
+pub record IsDirectory (file dir : List ℕ) : Type 0 where
+  pub is_fat : IsFat file (listed file)
+  pub sectors : List ℕ
+  pub is_chain : IsChain (sectors_of file (listed file)) (first_directory file) 0 sectors
+  pub bytes_are : dir ≡ joined (sector file) sectors
+
+-- how many storages may stand inside one another below the root
+abbrev pub DEEPEST : ℕ
+DEEPEST = 32
+
+-- When a fault may be answered for a file: one of the header where the header is refused for it, one of names where an
+-- entry that links reach from the root has such a name, or two siblings have one name, and `TooNested` where a storage
+-- so reached stands inside too many others.
+abbrev pub MayRefuseFile : List ℕ → ReadFault → Type 0
+MayRefuseFile file (Chain fault) = (header_read file ≡ Err fault) ⊎ IsOfChains fault
+MayRefuseFile file (Directory directory.BadEntry) = Unit {0}
+MayRefuseFile file (Directory directory.TreeCycle) = Unit {0}
+MayRefuseFile file (Directory fault) = (dir : List ℕ) × IsDirectory file dir × MayRefuseBelow dir DEEPEST 0 fault
+MayRefuseFile file NoMemory = Unit {0}

@@ -1,0 +1,52 @@
+use Rattle.std.proofs.Common.{◌≡◌, List, ℕ, refl, ap, subst, rules}
+use Rattle.std.specs.Result.{IsErrAnd}
+use Rattle.cfb_chain.proofs.Results.{refused_with}
+use Rattle.cfb_directory.specs.Entries.{EntriesValue}
+use Rattle.cfb_directory.proofs.Marked.{children_kept}
+use Rattle.stream_io.specs.Reads.{MayRefuseNames, MayRefuseStorage, directory_fault, directory_in}
+use Rattle.stream_io.proofs.ReadingRefused.{children_below, directory_memory, linked_child, names_below, same_memory}
+use Rattle.stream_io.proofs.ReadingSorted.{names_not_refused, sorted_met}
+use Rattle.stream_io.proofs.ReadingSteps.{AreTheChildren, children_of, children_readable}
+use Rattle.stream_io.proofs.read.Reader.sorted_children.Goals as goal
+
+pub returns-in_err-ids-clause-there : goal.returns-in_err-ids-clause-there
+returns-in_err-ids-clause-there c = λ depth t new h.
+    let o : AreTheChildren depth c.args.id c.args.self.now new = children_of depth c.args.id t c.args.self.now new h in
+    directory_memory c.from_residual.result c.in_err-ids.field-0.0 c.from_residual.ensures.1
+    (children_kept c.args.self.now.entries c.args.id o.sorted.reached c.in_err-ids.field-0.0 c.requires.inside o.sorted.linked o.sorted.free c.in_err-ids.ensures.refused)
+
+pub returns-in_err-ids-clause-refused : goal.returns-in_err-ids-clause-refused
+returns-in_err-ids-clause-refused c = λ depth s.
+    refused_with c.from_residual.result (directory_fault c.in_err-ids.field-0.0) (MayRefuseStorage (directory_in c.args.self.now) depth c.args.id) c.from_residual.ensures.1
+    (children_below c.args.self.now.entries depth c.args.id c.in_err-ids.field-0.0 c.in_err-ids.ensures.refused)
+
+pub returns-in_err-sorted-clause-there : goal.returns-in_err-sorted-clause-there
+returns-in_err-sorted-clause-there c = λ depth t new h.
+    let e : EntriesValue = c.args.self.now.entries in
+    let o : AreTheChildren depth c.args.id c.args.self.now new = children_of depth c.args.id t c.args.self.now new h in
+    let dir : c.children.new.self.directory ≡ e.directory = ap (λ (x : EntriesValue). x.directory) c.in_ok-ids.ensures.marks in
+    let refused : MayRefuseNames e.directory c.in_ok-ids.ids.items c.in_err-sorted.field-0.0 =
+    subst (λ (x : List ℕ). MayRefuseNames x c.in_ok-ids.ids.items c.in_err-sorted.field-0.0) dir
+    (subst (λ (xs : List ℕ). MayRefuseNames c.children.new.self.directory xs c.in_err-sorted.field-0.0) c.deref.ensures.value c.in_err-sorted.ensures.refused) in
+    let again : IsErrAnd c.from_residual-in_err-sorted.result (λ x. x ≡ c.in_err-sorted.field-0.0) = search rules in
+    same_memory c.from_residual-in_err-sorted.result c.in_err-sorted.field-0.0 again
+    (names_not_refused e c.args.id c.in_ok-ids.ids.items o.ids c.in_err-sorted.field-0.0 c.requires.root_marked
+    c.in_ok-ids.ensures.linked o.sorted (children_readable depth c.args.id c.args.self.now new o) refused)
+
+pub returns-in_err-sorted-clause-refused : goal.returns-in_err-sorted-clause-refused
+returns-in_err-sorted-clause-refused c = λ depth s.
+    let e : EntriesValue = c.args.self.now.entries in
+    let dir : c.children.new.self.directory ≡ e.directory = ap (λ (x : EntriesValue). x.directory) c.in_ok-ids.ensures.marks in
+    let refused : MayRefuseNames e.directory c.in_ok-ids.ids.items c.in_err-sorted.field-0.0 =
+    subst (λ (x : List ℕ). MayRefuseNames x c.in_ok-ids.ids.items c.in_err-sorted.field-0.0) dir
+    (subst (λ (xs : List ℕ). MayRefuseNames c.children.new.self.directory xs c.in_err-sorted.field-0.0) c.deref.ensures.value c.in_err-sorted.ensures.refused) in
+    let again : IsErrAnd c.from_residual-in_err-sorted.result (λ x. x ≡ c.in_err-sorted.field-0.0) = search rules in
+    refused_with c.from_residual-in_err-sorted.result c.in_err-sorted.field-0.0 (MayRefuseStorage (directory_in c.args.self.now) depth c.args.id) again
+    (names_below e.directory depth c.args.id c.in_ok-ids.ids.items c.in_err-sorted.field-0.0
+    (λ n i. linked_child e.directory c.args.id n c.in_ok-ids.ids.items s c.in_ok-ids.ensures.linked i) refused)
+
+pub returns-clause-sorted : goal.returns-clause-sorted
+returns-clause-sorted c =
+    sorted_met c.args.self.now c.args.id c.in_ok-ids.ids.items c.deref.result.now c.in_ok-sorted.sorted.items c.in_ok-sorted.sorted.items c.children.new.self.directory
+    c.children.new.self c.in_ok-ids.ensures.linked c.in_ok-ids.ensures.free c.deref.ensures.value (ap (λ (x : EntriesValue). x.directory) c.in_ok-ids.ensures.marks)
+    c.in_ok-sorted.ensures.ordered c.in_ok-sorted.ensures.same refl c.in_ok-ids.ensures.marks
