@@ -2,7 +2,7 @@
 
 ghost use Rattle.texts.specs.Input.{most};
 ghost use Rattle.file_commands.specs.Run.{IsMade, Lists, Makes, MayRefuseList, MayRefuseMake};
-ghost use Rattle.std.specs.Prelude.{◌≡◌, Err, ◌≢◌, ◌≤◌, length, IfErr, IfOk, IfSome, OnOk};
+ghost use Rattle.std.specs.Prelude.{◌≡◌, ◌≢◌, ◌≤◌, length, IfErr, IfOk, IfSome, OnOk};
 
 use crate::building::Described;
 use crate::description::describe;

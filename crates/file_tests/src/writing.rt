@@ -9,7 +9,7 @@ use storage_tree::class_id::ClassId;
 use storage_tree::storage::Found;
 use storage_tree::tree::Tree;
 use stream_io::read::read_file;
-use stream_io::write::write_file;
+use stream_io::write::{fits, write_file};
 
 fn empty(alloc: Global) -> Tree {
     Tree::new(alloc, ClassId::from_bytes([0; 16]), 0)
@@ -31,11 +31,15 @@ fn make(tree: &mut Tree, name: &str) -> Result<(), Fail> {
     Ok(())
 }
 
-/// The length of the file of a tree, or what it is refused for.
+/// The length of the file of a tree, and whether a file can hold it, or why not.
 fn written(alloc: Global, tree: &Tree) -> (usize, &'static str) {
+    let told = match fits(tree.root()) {
+        Ok(()) => "fits",
+        Err(fault) => fault.name(),
+    };
     match write_file(alloc, tree) {
-        Ok(file) => (file.len(), "written"),
-        Err(fault) => (0, fault.name()),
+        Ok(file) => (file.len(), told),
+        Err(_) => (0, told),
     }
 }
 
@@ -83,13 +87,20 @@ fn parts_of_a_file_have_their_places(rt: HostRuntime) -> Result<(), Fail> {
 #[test]
 fn trees_are_written_while_they_fit(rt: HostRuntime) -> Result<(), Fail> {
     let mut tree = empty(rt.alloc());
-    put(rt.alloc(), &mut tree, "A", 4096)?;
-    assert_eq!(rt; written(rt.alloc(), &tree), (0, "TooBig"));
-    make(&mut tree, "S")?;
-    assert_eq!(rt; written(rt.alloc(), &tree), (0, "WrongKind"));
-    let mut tree = empty(rt.alloc());
+    let alone = [
+        // in mini sectors up to 4,095 bytes, then in sectors of its own
+        (4095, 6144, "fits"),
+        (4096, 5632, "fits"),
+        (4097, 6144, "fits"),
+        // 13,842 sectors and one of the directory, which 109 FAT sectors cover
+        (7_087_104, 7_143_936, "fits"),
+        (7_087_105, 0, "TooBig"),
+    ];
+    for (len, file_len, told) in alone {
+        put(rt.alloc(), &mut tree, "A", len)?;
+        assert_eq!(rt; written(rt.alloc(), &tree), (file_len, told), "{len} bytes");
+    }
     put(rt.alloc(), &mut tree, "A", 4095)?;
-    assert_eq!(rt; written(rt.alloc(), &tree), (6144, "written"));
     for name in [
         "B", "C", "D", "E", "F", "G", "H", "I", "J", "K", "L", "M", "N",
     ] {
@@ -97,13 +108,11 @@ fn trees_are_written_while_they_fit(rt: HostRuntime) -> Result<(), Fail> {
     }
     let more = [
         // 4 sectors of the directory, 7 of the mini FAT, 112 of the mini stream
-        (0, 64_000, "written"),
-        // 64 mini sectors more: 4 + 8 + 120 sectors
-        (4095, 0, "TooBig"),
-        // 32 mini sectors: 4 + 8 + 116, which is 128
-        (2048, 0, "TooBig"),
-        // 24 mini sectors: 4 + 8 + 115, which is 127
-        (1536, 66_048, "written"),
+        (0, 64_000, "fits"),
+        // 24 mini sectors more: 4 + 8 + 115, which is as much as one FAT sector covers
+        (1536, 66_048, "fits"),
+        // 32 mini sectors more: 4 + 8 + 116, and two FAT sectors
+        (2048, 67_072, "fits"),
     ];
     for (len, file_len, told) in more {
         put(rt.alloc(), &mut tree, "O", len)?;
@@ -113,13 +122,62 @@ fn trees_are_written_while_they_fit(rt: HostRuntime) -> Result<(), Fail> {
 }
 
 #[test]
+fn nested_storages_stand_depth_first(rt: HostRuntime) -> Result<(), Fail> {
+    let alloc = rt.alloc();
+    let mut tree = empty(alloc);
+    make(&mut tree, "S")?;
+    let within = Name::new(b"S")?;
+    for (name, byte, len) in [("B", 8, 4097), ("C", 9, 3)] {
+        let bytes = Bytes::from_vec(vec![in alloc; byte; len]?);
+        tree.put_stream(&[within.copy(), Name::new(name.as_bytes())?], bytes)?;
+    }
+    put(alloc, &mut tree, "A", 4096)?;
+    let file = file_of(alloc, &tree)?;
+    // the FAT, two sectors of the directory, the mini FAT, the mini stream, 8 sectors of A and 9 of B
+    assert_eq!(rt; file.len(), 11_776);
+    for (at, bytes) in [
+        // behind A's run, B's begins
+        (560, [0xfe, 0xff, 0xff, 0xff, 14, 0, 0, 0]),
+        // the root's child is S, on whose left is A
+        (1100, [2, 0, 0, 0, 0, 0, 0, 0]),
+        (1348, [1, 0, 0, 0, 0xff, 0xff, 0xff, 0xff]),
+        // S has C as its child, on whose left is B
+        (1356, [4, 0, 0, 0, 0, 0, 0, 0]),
+        (1604, [3, 0, 0, 0, 0xff, 0xff, 0xff, 0xff]),
+        // where A, B and C start, and their sizes
+        (1268, [5, 0, 0, 0, 0, 16, 0, 0]),
+        (1524, [13, 0, 0, 0, 1, 16, 0, 0]),
+        (1652, [0, 0, 0, 0, 3, 0, 0, 0]),
+        // the mini stream, and the ends of A and B
+        (2560, [9, 9, 9, 0, 0, 0, 0, 0]),
+        (7164, [7, 7, 7, 7, 8, 8, 8, 8]),
+        (11_264, [8, 0, 0, 0, 0, 0, 0, 0]),
+    ] {
+        assert!(rt; stand_at(&file, at, &bytes), "byte {at}");
+    }
+    Ok(())
+}
+
+#[test]
 fn what_is_written_is_read_again(rt: HostRuntime) -> Result<(), Fail> {
     let mut tree = empty(rt.alloc());
-    for (name, len) in [("A", 3), ("b", 0), ("Longer", 4095)] {
+    for (name, len) in [
+        ("A", 3),
+        ("b", 0),
+        ("Longer", 4095),
+        ("Long", 4096),
+        ("Longest", 4097),
+    ] {
         put(rt.alloc(), &mut tree, name, len)?;
     }
-    for (name, len) in [("A", 3), ("b", 0), ("Longer", 4095)] {
-        assert_eq!(rt; read_again(rt.alloc(), &tree, name)?, (len, 3), "{name}");
+    for (name, len) in [
+        ("A", 3),
+        ("b", 0),
+        ("Longer", 4095),
+        ("Long", 4096),
+        ("Longest", 4097),
+    ] {
+        assert_eq!(rt; read_again(rt.alloc(), &tree, name)?, (len, 5), "{name}");
     }
     Ok(())
 }
