@@ -150,26 +150,26 @@ reads_kept (Some fault) kept rest fed frames whole each keeps = record {
 }
 
 pub reads : (d : Decoder) (fed : List ℕ) (taken : List Frame) → Stands d fed taken → Reads fed (taken ++ d.waiting.items) d.fault
-reads d fed taken s = reads_kept d.fault d.bytes.items s.rest fed (taken ++ d.waiting.items) s.whole s.each s.keeps
+reads d fed taken s = reads_kept d.fault d.bytes s.rest fed (taken ++ d.waiting.items) s.whole s.each s.keeps
 
-pub next_some : (old new : Decoder) (f : Frame) (fed : List ℕ) (taken : List Frame) → old.waiting.items ≡ f ∷ new.waiting.items → old.bytes.items ≡ new.bytes.items → old.fault ≡ new.fault → Stands old fed taken → HandsOut (Ok (Some f)) fed taken new
+pub next_some : (old new : Decoder) (f : Frame) (fed : List ℕ) (taken : List Frame) → old.waiting.items ≡ f ∷ new.waiting.items → old.bytes ≡ new.bytes → old.fault ≡ new.fault → Stands old fed taken → HandsOut (Ok (Some f)) fed taken new
 next_some old new f fed taken first bytes fault s =
     let moved : taken ++ old.waiting.items ≡ (taken ++ f ∷ []) ++ new.waiting.items = ap (λ a. taken ++ a) first ∙ sym (append_assoc taken (f ∷ []) new.waiting.items) in
     let stands : Stands new fed (taken ++ f ∷ []) = record {
       rest = s.rest;
       whole = s.whole ∙ ap (λ a. joined a ++ s.rest) moved;
       each = subst (AllByRecursion IsFrame) moved s.each;
-      keeps = subst (λ (e : Option WireFault). Keeps e new.bytes.items s.rest) fault (subst (λ (b : List ℕ). Keeps old.fault b s.rest) bytes s.keeps);
+      keeps = subst (λ (e : Option WireFault). Keeps e new.bytes s.rest) fault (subst (λ (b : List ℕ). Keeps old.fault b s.rest) bytes s.keeps);
     } in
     (stands, (new.fault, (new.waiting.items, reads new fed (taken ++ f ∷ []) stands)))
 
-pub next_none : (old new : Decoder) (fed : List ℕ) (taken : List Frame) → old.waiting.items ≡ new.waiting.items → new.waiting.items ≡ [] → old.bytes.items ≡ new.bytes.items → old.fault ≡ new.fault → Stands old fed taken → Stands new fed taken × Reads fed taken new.fault
+pub next_none : (old new : Decoder) (fed : List ℕ) (taken : List Frame) → old.waiting.items ≡ new.waiting.items → new.waiting.items ≡ [] → old.bytes ≡ new.bytes → old.fault ≡ new.fault → Stands old fed taken → Stands new fed taken × Reads fed taken new.fault
 next_none old new fed taken same none bytes fault s =
     let stands : Stands new fed taken = record {
       rest = s.rest;
       whole = s.whole ∙ ap (λ a. joined (taken ++ a) ++ s.rest) same;
       each = subst (λ (a : List Frame). AllByRecursion IsFrame (taken ++ a)) same s.each;
-      keeps = subst (λ (e : Option WireFault). Keeps e new.bytes.items s.rest) fault (subst (λ (b : List ℕ). Keeps old.fault b s.rest) bytes s.keeps);
+      keeps = subst (λ (e : Option WireFault). Keeps e new.bytes s.rest) fault (subst (λ (b : List ℕ). Keeps old.fault b s.rest) bytes s.keeps);
     } in
     let all : taken ++ new.waiting.items ≡ taken = ap (λ a. taken ++ a) none ∙ append-nil taken in
     (stands, subst (λ (a : List Frame). Reads fed a new.fault) all (reads new fed taken stands))
@@ -226,12 +226,12 @@ kept_is : (fault : Option WireFault) (kept rest : List ℕ) → fault ≡ None �
 kept_is None kept rest e keeps = keeps.0
 kept_is (Some fault) kept rest e keeps = absurd cc
 
-pub fed_more : (old new : Decoder) (piece fed : List ℕ) (taken : List Frame) (used : ℕ) → old.fault ≡ None → Took old.waiting.items new.waiting.items (old.bytes.items ++ piece) used
-    → Ends new.fault (drop used (old.bytes.items ++ piece)) → new.bytes.items ≡ drop used (old.bytes.items ++ piece) → Stands old fed taken → Stands new (fed ++ piece) taken × AreRead (fed ++ piece) taken new.fault
+pub fed_more : (old new : Decoder) (piece fed : List ℕ) (taken : List Frame) (used : ℕ) → old.fault ≡ None → Took old.waiting.items new.waiting.items (old.bytes ++ piece) used
+    → Ends new.fault (drop used (old.bytes ++ piece)) → new.bytes ≡ drop used (old.bytes ++ piece) → Stands old fed taken → Stands new (fed ++ piece) taken × AreRead (fed ++ piece) taken new.fault
 fed_more old new piece fed taken used none t ends bytes s =
-    let rest : List ℕ = drop used (old.bytes.items ++ piece) in
+    let rest : List ℕ = drop used (old.bytes ++ piece) in
     let all : List Frame = taken ++ old.waiting.items in
-    let kept : old.bytes.items ≡ s.rest = kept_is old.fault old.bytes.items s.rest none s.keeps in
+    let kept : old.bytes ≡ s.rest = kept_is old.fault old.bytes s.rest none s.keeps in
     let grown : all ++ t.added ≡ taken ++ new.waiting.items = append_assoc taken old.waiting.items t.added ∙ ap (λ a. taken ++ a) (sym t.grew) in
     let stands : Stands new (fed ++ piece) taken = record {
       rest = rest;
@@ -239,16 +239,16 @@ fed_more old new piece fed taken used none t ends bytes s =
           ap (λ a. a ++ piece) s.whole ∙ append_assoc (joined all) s.rest piece ∙ ap (λ a. joined all ++ (a ++ piece)) (sym kept)
           ∙ ap (λ a. joined all ++ a) t.parts ∙ sym (append_assoc (joined all) (joined t.added) rest) ∙ ap (λ a. a ++ rest) (sym (joined-append all t.added)) ∙ ap (λ a. joined a ++ rest) grown;
       each = subst (AllByRecursion IsFrame) grown (all_both all t.added s.each t.each);
-      keeps = keeps_ends new.fault new.bytes.items rest bytes ends;
+      keeps = keeps_ends new.fault new.bytes rest bytes ends;
     } in
     (stands, (new.waiting.items, reads new (fed ++ piece) taken stands))
 
-pub fed_nothing : (old new : Decoder) (fed : List ℕ) (taken : List Frame) → new.waiting.items ≡ old.waiting.items → new.bytes.items ≡ old.bytes.items → new.fault ≡ old.fault → Stands old fed taken → Stands new fed taken
+pub fed_nothing : (old new : Decoder) (fed : List ℕ) (taken : List Frame) → new.waiting.items ≡ old.waiting.items → new.bytes ≡ old.bytes → new.fault ≡ old.fault → Stands old fed taken → Stands new fed taken
 fed_nothing old new fed taken waiting bytes fault s = record {
   rest = s.rest;
   whole = s.whole ∙ ap (λ a. joined (taken ++ a) ++ s.rest) (sym waiting);
   each = subst (λ (a : List Frame). AllByRecursion IsFrame (taken ++ a)) (sym waiting) s.each;
-  keeps = subst (λ (e : Option WireFault). Keeps e new.bytes.items s.rest) (sym fault) (subst (λ (b : List ℕ). Keeps old.fault b s.rest) (sym bytes) s.keeps);
+  keeps = subst (λ (e : Option WireFault). Keeps e new.bytes s.rest) (sym fault) (subst (λ (b : List ℕ). Keeps old.fault b s.rest) (sym bytes) s.keeps);
 }
 
 faulty_more : (fault : WireFault) (rest piece : List ℕ) → IsFaulty fault rest → IsFaulty fault (rest ++ piece)
@@ -267,16 +267,16 @@ fed_faulty d fault piece fed taken e s =
       rest = s.rest ++ piece;
       whole = ap (λ a. a ++ piece) s.whole ∙ append_assoc (joined (taken ++ d.waiting.items)) s.rest piece;
       each = s.each;
-      keeps = keeps_faulty d.fault fault d.bytes.items s.rest piece e s.keeps;
+      keeps = keeps_faulty d.fault fault d.bytes s.rest piece e s.keeps;
     } in
     (stands, (d.waiting.items, subst (λ (x : Option WireFault). Reads (fed ++ piece) (taken ++ d.waiting.items) x) e (reads d (fed ++ piece) taken stands)))
 
 -- what take_frames gave of all bytes, and what is kept of them then
-pub fed_whole : (old new : Decoder) (fault : Option WireFault) (piece all fed : List ℕ) (taken : List Frame) (used : ℕ) → old.fault ≡ None → all ≡ old.bytes.items ++ piece
-    → Took old.waiting.items new.waiting.items all used × Ends new.fault (drop used all) → new.bytes.items ≡ drop used (old.bytes.items ++ piece) → new.fault ≡ fault → Stands old fed taken
+pub fed_whole : (old new : Decoder) (fault : Option WireFault) (piece all fed : List ℕ) (taken : List Frame) (used : ℕ) → old.fault ≡ None → all ≡ old.bytes ++ piece
+    → Took old.waiting.items new.waiting.items all used × Ends new.fault (drop used all) → new.bytes ≡ drop used (old.bytes ++ piece) → new.fault ≡ fault → Stands old fed taken
     → Stands new (fed ++ piece) taken × AreRead (fed ++ piece) taken fault
 fed_whole old new fault piece all fed taken used none e took kept told s =
-    let here : Took old.waiting.items new.waiting.items (old.bytes.items ++ piece) used × Ends new.fault (drop used (old.bytes.items ++ piece)) =
+    let here : Took old.waiting.items new.waiting.items (old.bytes ++ piece) used × Ends new.fault (drop used (old.bytes ++ piece)) =
     subst (λ (x : List ℕ). Took old.waiting.items new.waiting.items x used × Ends new.fault (drop used x)) e took in
     let m = fed_more old new piece fed taken used none here.0 here.1 kept s in
     (m.0, subst (λ (x : Option WireFault). AreRead (fed ++ piece) taken x) told m.1)

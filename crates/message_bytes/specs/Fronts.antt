@@ -63,7 +63,7 @@ pub record Stands (d : Decoder) (fed : List ℕ) (taken : List Frame) : Type 0 w
   pub rest : List ℕ
   pub whole : fed ≡ joined (taken ++ d.waiting.items) ++ rest
   pub each : AllByRecursion IsFrame (taken ++ d.waiting.items)
-  pub keeps : Keeps d.fault d.bytes.items rest
+  pub keeps : Keeps d.fault d.bytes rest
 
 -- the frames that are handed out are read, and more of them may come, and then this fault or none
 abbrev pub AreRead : List ℕ → List Frame → Option WireFault → Type 0

@@ -3,6 +3,7 @@
 ghost use Rattle.std.specs.Prelude.{◌≡◌, ◌≤◌, drop, length};
 
 use crate::front::take_frames;
+use crate::unfinished::Unfinished;
 use message_model::fault::WireFault;
 use message_model::frame::Frame;
 use std::alloc::Global;
@@ -16,18 +17,8 @@ use std::collections::VecDeque;
 pub struct Decoder {
     alloc: Global,
     waiting: VecDeque<Frame>,
-    bytes: Vec<u8>,
+    bytes: Unfinished,
     fault: Option<WireFault>,
-}
-
-// Takes so many bytes away from the front.
-fn cut_front(bytes: &mut Vec<u8>, used: usize)
-    requires { used ≤ length bytes.old.items }
-    ensures { bytes.new.items ≡ drop used bytes.old.items }
-{
-    let left = bytes.len() - used;
-    bytes.rotate_left(used);
-    bytes.truncate(left);
 }
 
 impl Decoder {
@@ -42,7 +33,7 @@ impl Decoder {
         Decoder {
             alloc,
             waiting: VecDeque::new(alloc),
-            bytes: Vec::new(alloc),
+            bytes: Unfinished::new(alloc),
             fault: None,
         }
     }
@@ -75,13 +66,13 @@ impl Decoder {
         }
         let kept = self.bytes.len();
         let before = self.waiting.len();
-        match self.bytes.extend_from_slice(piece) {
+        match self.bytes.add(piece) {
             Ok(()) => {}
             Err(_) => return Err(WireFault::NoMemory),
         }
-        match take_frames(self.alloc, &self.bytes, &mut self.waiting) {
+        match take_frames(self.alloc, self.bytes.as_slice(), &mut self.waiting) {
             Ok((used, shown)) => {
-                cut_front(&mut self.bytes, used);
+                self.bytes.cut_front(used);
                 self.fault = shown;
                 match shown {
                     None => Ok(()),

@@ -4,5 +4,6 @@
 pub mod decoder;
 pub mod encode;
 mod front;
+mod unfinished;
 
 pub use message_model::{codes, fault, frame, laws};

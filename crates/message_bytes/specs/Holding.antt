@@ -1,0 +1,7 @@
+-- The bytes of a frame that isn't whole yet, in an array or in a vector.
+use Rattle.std.specs.Prelude.{ℕ, List, [], ◌∷◌, take}
+
+-- those of the vector, or where it has none, so many of the array
+abbrev pub kept : ℕ → List ℕ → List ℕ → List ℕ
+kept len held [] = take len held
+kept len held (b ∷ bs) = b ∷ bs
