@@ -6,6 +6,7 @@ use Rattle.file_model.specs.Denotes.{Denotes}
 use Rattle.container_model.specs.Saves.{document_tree, committed_frame, name_after}
 use Rattle.container_model.specs.Commands.{is_named, is_name, new_frame}
 use Rattle.container_model.specs.declared.answer.Part.{Part}
+use Rattle.container_laws.proofs.SteadyRecords.{or_false}
 use Rattle.container_model.specs.declared.record.Frame.{Frame}
 use Rattle.container_model.specs.declared.answer.Done.{Done}
 use Rattle.world_model.specs.declared.logs.Document.{Document}
@@ -38,21 +39,13 @@ unborne_at : (name : List ℕ) (asked : Option (List ℕ)) → is_name name aske
 unborne_at name None e h = cc
 unborne_at name (Some a) e h = (let is : a ≡ name = cc in let t = (bytes_eq-Decides a name).1 is in cc)
 
-or_left : (a b : Bool) → (a || b) ≡ false → a ≡ false
-or_left true b e = cc
-or_left false b e = refl
-
-or_right : (a b : Bool) → (a || b) ≡ false → b ≡ false
-or_right true b e = cc
-or_right false b e = e
-
 if_false : (a b : Bool) → (if a then true else b) ≡ false → (a ≡ false) × (b ≡ false)
 if_false true b e = cc
 if_false false b e = (refl, e)
 
 unborne_by : (name : List ℕ) (frame : Frame) → (bytes_eq frame.name name || is_name name frame.asked) ≡ false → Bears frame name → ⊥
-unborne_by name frame e (inl h) = (let t = (bytes_eq-Decides frame.name name).1 h in let f = or_left (bytes_eq frame.name name) (is_name name frame.asked) e in cc)
-unborne_by name frame e (inr h) = unborne_at name frame.asked (or_right (bytes_eq frame.name name) (is_name name frame.asked) e) h
+unborne_by name frame e (inl h) = (let t = (bytes_eq-Decides frame.name name).1 h in let f = (or_false (bytes_eq frame.name name) (is_name name frame.asked) e).0 in cc)
+unborne_by name frame e (inr h) = unborne_at name frame.asked (or_false (bytes_eq frame.name name) (is_name name frame.asked) e).1 h
 
 unborne_in : (name : List ℕ) (frames : List Frame) (i : ℕ) (frame : Frame) → is_named name frames ≡ false → slice_get frames i ≡ Some frame → Bears frame name → ⊥
 unborne_in name [] i frame e at h = cc

@@ -36,10 +36,11 @@ use Rattle.world_model.specs.declared.event.Stop.TheVariants.{EventLimit}
 use Rattle.world_model.specs.World.{World, Instance, document_in, empty_world, joined, took, commanded, served, stocked, called_wanting, called_in, called, delivered, deliver, crashed, crash, ended, reap, kept_commit, done_taken, done_imaged, done_in, happened, limited, IsImage, Run, is_of, frame_file_in, MOST_EVENTS}
 use Rattle.world_model.specs.Safe.{Commit, IsCounted, IsKept}
 use Rattle.container_laws.specs.Steady.{Steady}
+use Rattle.container_laws.proofs.SteadyRecords.{unless_ok}
 use Rattle.world_files.specs.Files.{id_of, CountedBounded, FilesCounted, HasCommits, Files}
 use Rattle.world_facts.proofs.Lookups.{map_map_same, nth_aligned}
 use Rattle.world_files.proofs.Numbering.{numbered}
-use Rattle.world_files.proofs.Quiet.{IsQuiet, unless_ok, start_quiet, run_quiet, edit_quiet, save_quiet, message_quiet, reap_quiet, id_asked}
+use Rattle.world_files.proofs.Quiet.{IsQuiet, start_quiet, run_quiet, edit_quiet, save_quiet, message_quiet, reap_quiet, id_asked}
 use Rattle.world_files.proofs.Bounding.{bounded_same, bounded_framed, bounded_object, bounded_committed}
 use Rattle.world_files.proofs.Commits.{counted_framed, counted_committed}
 use Rattle.world_files.proofs.Filing.{stored_same, stored_framed, stored_committed}

@@ -13,6 +13,7 @@ use Rattle.container_model.specs.declared.record.Frame.{Frame}
 use Rattle.container_model.specs.declared.fault.ContainerFault.{ContainerFault}
 use Rattle.container_model.specs.declared.fault.ContainerFault.TheVariants.{WrongLink, Stale, NoSuch, Busy, InDoubt, Full, NumbersSpent, WrongState, UnknownClass}
 use Rattle.container_laws.proofs.EditsTaken.{edit_taken}
+use Rattle.container_laws.proofs.SteadyRecords.{unless_ok}
 use Rattle.container_model.specs.Record.{Record, Took, MOST_SERVERS, MARGIN, quiet_answer, acts, sends, count_alive, is_doubtful, is_saving, is_busy, is_moving, is_object, is_linked, is_alive, asked_link, asked_object}
 use Rattle.container_model.specs.Saves.{settle, settle_actions, settled_frames, kept}
 use Rattle.container_model.specs.Messages.{Replied, reply_link, reply_found, reply_taken, replied_object, replied_record, next_sent, on_reply, on_message, on_reap, reaped, reaped_object}
@@ -26,11 +27,6 @@ pub record IsQuiet (r : Record) (t : Took) : Type 0 where
   pub ids : map id_of t.rec.objects ≡ map id_of r.objects
   pub last : t.rec.last_object ≡ r.last_object
   pub frame : t.answer.frame ≡ None
-
--- a check that was passed
-pub unless_ok : {A : Type 0} (b : Bool) (fault : ContainerFault) (next : Result A ContainerFault) (t : A) → unless b fault next ≡ Ok t → (b ≡ false) × (next ≡ Ok t)
-unless_ok true fault next t e = cc
-unless_ok false fault next t e = (refl, e)
 
 pub start_quiet : (r : Record) (t : Took) → start r ≡ Ok t → IsQuiet r t
 start_quiet r t e =
