@@ -4,12 +4,13 @@ use Rattle.server_core.specs.declared.server.Seat.{Seat}
 use Rattle.world_run.specs.declared.state.State.{State}
 use Rattle.world_run.specs.View.{seen}
 use Rattle.world_safety.specs.Holding.{Holds}
-use Rattle.world_run.proofs.Alike.{ties_alike, acts_alike, lives_alike, many_alike}
+use Rattle.world_safety.proofs.Alike.{agrees_alike}
+use Rattle.world_run.proofs.Alike.{acts_alike, lives_alike, many_alike}
 
 -- what a state holds, whatever the objects in its boxes are said to contain
 module _ {X : Type 0} {V : X → Type 0} (c d : Seat X V → Content) where
   pub held_seen : (st : State X V) → Holds (seen c st) → Holds (seen d st)
   held_seen st h = record {
-    keeps = record { book = h.keeps.book; shelf = h.keeps.shelf; commits = h.keeps.commits };
-    tied = ties_alike _ _ _ _ _ _ _ (many_alike c d st.instances.items) (acts_alike c d st.instances.items) (lives_alike c d st.instances.items) h.tied;
+    agrees = agrees_alike _ _ _ _ _ _ _ (many_alike c d st.instances.items) (acts_alike c d st.instances.items) (lives_alike c d st.instances.items) h.agrees;
+    files = record { counted_bounded = h.files.counted_bounded; filed = h.files.filed; commits = h.files.commits };
   }

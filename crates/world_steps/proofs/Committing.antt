@@ -43,9 +43,12 @@ module _ (r : Record) (f : ℕ) (frame : Frame) (s : Steady r) (at : nth r.frame
   -- an object that is told has its content counted, which was answered in this save
   content_of : (n : ℕ) (o : Object) (l : Link) → find (is_object n) r.objects ≡ Some o → o.frame ≡ f → o.link ≡ Some l → (c : Stored) × (l.saved ≡ Some c) × Among fresh (record { object = n; k = frame.k; content = c })
   content_of n o l e of ol =
-      let c = commits_answered_contents r n o l frame s e ol (ap (nth r.frames) of ∙ at) committing in
-      (c.0, c.1, subst (λ m. Among fresh (record { object = m; k = frame.k; content = c.0 })) (found_number r.objects n o e)
-      (subst (λ x. Among fresh (record { object = o.number; k = frame.k; content = x })) c.2 (entry o (find_among (is_object n) r.objects o e) of)))
+      let c = commits_answered_contents r n o l frame s e ol (ap (nth r.frames) of ∙ at) committing in (
+        c.0,
+        c.1,
+        subst (λ m. Among fresh (record { object = m; k = frame.k; content = c.0 })) (found_number r.objects n o e)
+            (subst (λ x. Among fresh (record { object = o.number; k = frame.k; content = x })) c.2 (entry o (find_among (is_object n) r.objects o e) of)),
+      )
 
   told : (n : ℕ) (o : Object) → find (is_object n) r.objects ≡ Some o → o.frame ≡ f → IsTold (links_of r.objects) frame.k fresh n op
   told n o e of = (is_some_name frame.asked, refl, (λ l g. content_of n o l e of (sym (ap link_at e) ∙ g)))

@@ -30,8 +30,11 @@ module _ (r : Record) (acts0 : Acts) (lives : Lives) (inc : ℕ) (stopped : live
   over_at : (o : Object) (x : Option Link) → o.link ≡ x → IsOver o.link (reaped_object inc o x).link
   over_at o None e = inl refl
   over_at o (Some l) e = elim (l.inc == inc) as (λ b. (l.inc == inc) ≡ b → IsOver o.link (if b then record o { work = kept o; link = None } else o).link) [
-    | true ↦ (λ t. inr (refl, (λ m g. let z : Some l ≡ Some m = sym e ∙ g in let lm : l ≡ m = cc in
-        inr (λ runs. stopped (ap lives (sym (ap (λ (v : Link). v.inc) (sym lm) ∙ eqb-true l.inc inc t)) ∙ runs)))))
+    | true ↦ (λ t. inr (
+      refl,
+      (λ m g. let z : Some l ≡ Some m = sym e ∙ g in let lm : l ≡ m = cc in
+          inr (λ runs. stopped (ap lives (sym (ap (λ (v : Link). v.inc) (sym lm) ∙ eqb-true l.inc inc t)) ∙ runs))),
+    ))
     | false ↦ (λ t. inl refl)
   ] refl
 

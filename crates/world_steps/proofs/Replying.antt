@@ -165,12 +165,17 @@ module _ (r : Record) (acts : Acts) (lives : Lives) (sent : List Message) (owner
     by_waiting a after w e (op ∷ rest) q = goes_on x.number (links_of (objects (Some after))) (settling a after w e) (sending after op rest e.pending q)
 
     ending : (a : Activation) → IsAhead a → a.content ≡ None → Shown None []
-    ending a w c = ended (record { each = λ k. elim (eqb_tells k x.number) [
-      | inl q ↦ inr (ap (links_of (objects None)) q.1 ∙ here None, (λ m g. let z : Some h.l ≡ Some m = sym at_x ∙ (ap (links_of r.objects) (sym q.1) ∙ g) in
-          let lm : h.l ≡ m = cc in
-          inl (subst (λ (y : Link). IsClosed (acts y.inc y.act)) lm (subst IsClosed (sym w.at) c))))
-      | inr q ↦ inl (there None k q.1)
-    ] }) refl
+    ending a w c = ended (record {
+      each = λ k. elim (eqb_tells k x.number) [
+        | inl q ↦ inr (
+          ap (links_of (objects None)) q.1 ∙ here None,
+          (λ m g. let z : Some h.l ≡ Some m = sym at_x ∙ (ap (links_of r.objects) (sym q.1) ∙ g) in
+              let lm : h.l ≡ m = cc in
+              inl (subst (λ (y : Link). IsClosed (acts y.inc y.act)) lm (subst IsClosed (sym w.at) c))),
+        )
+        | inr q ↦ inl (there None k q.1)
+      ];
+    }) refl
 
     shown : (a : Activation) → IsAhead a → Outcome h.l a p → Shown (next_link p.link) (next_sent p.link)
     shown a w (settles after e t) = subst (λ z. Shown (next_link z) (next_sent z)) (sym e) (by_waiting a after w t after.waiting refl)
