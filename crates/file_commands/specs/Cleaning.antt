@@ -4,6 +4,7 @@ use Rattle.std.specs.Io.KnownBytes.{Appends}
 use Rattle.storage_tree.specs.Tree.{Tree}
 use Rattle.file_model.specs.Denotes.{Denotes}
 use Rattle.file_model.specs.Refusals.{writable, Refuses}
+use Rattle.file_writer.specs.Laid.{IsLaidOut}
 use Rattle.texts.specs.Input.{MayRefuseInput}
 use Rattle.file_commands.specs.Run.{MayRefuseRead}
 use Rattle.file_commands.specs.declared.fault.CleanFault.{CleanFault}
@@ -16,6 +17,7 @@ pub record Cleans (file : List ℕ) (old new : Option (List ℕ)) (count : ℕ) 
   pub fits : writable t ≡ Ok tt
   pub clean : List ℕ
   pub same : ∥ Denotes clean t ∥₁
+  pub laid_out : IsLaidOut t clean
   pub written : Appends old new clean
   pub counted : count ≡ length clean
 

@@ -1,3 +1,4 @@
 pub mod Streams
 pub mod Family
 pub mod Counted
+pub mod Laid

@@ -16,6 +16,7 @@ ghost use Rattle.file_model.specs.Need.{data_sectors, entries, fat_sectors, long
 ghost use Rattle.file_model.specs.Refusals.{Refuses, writable};
 ghost use Rattle.file_model.specs.declared.limit.TheConstants.{MANY, MOST_FAT_SECTORS};
 ghost use Rattle.file_writer.specs.Counted.{AreEnough, IsCounted};
+ghost use Rattle.file_writer.specs.Laid.{IsLaidOut};
 
 use crate::entries::{Counts, chain_start, count_below, push_directory};
 use crate::streams::{
@@ -235,6 +236,7 @@ pub fn fits(root: &Storage) -> Result<(), WriteFault>
 fn write_root(alloc: Global, root: &Storage) -> Result<Vec<u8>, WriteFault>
     requires { ∥ IsTree 32 (view root.now) ∥₁ }
     ensures denotes { IfOk result (λ v. ∥ Denotes v.items (view root.now) ∥₁) }
+    ensures laid_out { IfOk result (λ v. IsLaidOut (view root.now) v.items) }
     ensures refused { IfErr result (Refuses (writable (view root.now))) }
     ensures allowed { OnOk result (writable (view root.now) ≡ Ok tt) }
 {
@@ -247,6 +249,7 @@ fn write_root(alloc: Global, root: &Storage) -> Result<Vec<u8>, WriteFault>
 /// Refused: `TooBig` where the least number of FAT sectors that covers the tree is above the limit; then `NoMemory`.
 pub fn write_file(alloc: Global, tree: &Tree) -> Result<Vec<u8>, WriteFault>
     ensures denotes { IfOk result (λ v. ∥ Denotes v.items (kept tree.now).now ∥₁) }
+    ensures laid_out { IfOk result (λ v. IsLaidOut (kept tree.now).now v.items) }
     ensures refused { IfErr result (Refuses (writable (kept tree.now).now)) }
     ensures allowed { OnOk result (writable (kept tree.now).now ≡ Ok tt) }
 {

@@ -10,3 +10,6 @@ returns-clause-denotes c =
     ∥∥₁_map c.requires
     (λ whole. subst (λ (bytes : List ℕ). Denotes bytes (view c.args.root.now)) (sym c.in_ok-lay_out.ensures.laid_out)
     (file_denotes c.in_ok-counts.counts (view c.args.root.now) c.in_ok-counts.ensures.counted c.in_ok-lay_out.ensures.spelled whole))
+
+pub returns-clause-laid_out : goal.returns-clause-laid_out
+returns-clause-laid_out c = record { fat_count = c.in_ok-counts.counts.fat; laid_out = c.in_ok-lay_out.ensures.laid_out }
