@@ -1,6 +1,6 @@
 -- Which trees no file holds, and what a call answers for them.
-use Rattle.std.specs.Prelude.{◌≡◌, Bool, true, false, nat_lt, cond, Result, Ok, Err, IsOk}
-use Rattle.storage_tree.specs.Tree.{Tree, Children, tree, none, stream, storage}
+use Rattle.std.specs.Prelude.{◌≡◌, nat_lt, cond, Result, Ok, Err, IsOk}
+use Rattle.storage_tree.specs.Tree.{Tree}
 use Rattle.file_model.specs.Limits.{MOST_FAT_SECTORS}
 use Rattle.file_model.specs.Need.{fat_sectors, data_sectors}
 use Rattle.file_model.specs.declared.fault.WriteFault.{WriteFault}
@@ -14,12 +14,3 @@ writable t = cond (nat_lt MOST_FAT_SECTORS (fat_sectors (data_sectors t))) (Err 
 abbrev pub Refuses : Result (Unit {0}) WriteFault → WriteFault → Type 0
 Refuses told NoMemory = IsOk told
 Refuses told fault = told ≡ Err fault
-
--- a storage stands below the root
-abbrev pub has_storage_in : Children → Bool
-has_storage_in none = false
-has_storage_in (stream k n b cs) = has_storage_in cs
-has_storage_in (storage k n t cs) = true
-
-abbrev pub has_storage : Tree → Bool
-has_storage (tree class state cs) = has_storage_in cs
