@@ -269,7 +269,11 @@ fn nested_entries_are_refused(rt: HostRuntime) -> Result<(), Fail> {
         assert_eq!(rt; told(alloc, &file), fault, "at {at}");
     }
     // The stream, named as `T` is but for case, on its right.
-    let beside = changed(nested_file(alloc)?, 1352, &[3, 0, 0, 0, 0xff, 0xff, 0xff, 0xff]);
+    let beside = changed(
+        nested_file(alloc)?,
+        1352,
+        &[3, 0, 0, 0, 0xff, 0xff, 0xff, 0xff],
+    );
     assert_eq!(rt; told(alloc, &changed(beside, 1408, b"t")), "DuplicateName");
     Ok(())
 }
