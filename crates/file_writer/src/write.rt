@@ -244,7 +244,7 @@ fn write_root(alloc: Global, root: &Storage) -> Result<Vec<u8>, WriteFault>
     Ok(lay_out(alloc, root, counts)?)
 }
 
-/// The bytes of a compound file that denotes the tree (MS-CFB 2). They may be others in later versions.
+/// The bytes of a compound file that denotes the tree (MS-CFB 2), laid out of its parts alone.
 ///
 /// Refused: `TooBig` where the least number of FAT sectors that covers the tree is above the limit; then `NoMemory`.
 pub fn write_file(alloc: Global, tree: &Tree) -> Result<Vec<u8>, WriteFault>

@@ -1,2 +1,1 @@
 pub mod Computed
-pub mod Answered
