@@ -20,10 +20,10 @@ use Rattle.container_model.specs.declared.command.ObjectKind.{ObjectKind}
 use Rattle.container_model.specs.declared.command.ObjectKind.TheVariants as chosen
 use Rattle.container_model.specs.declared.command.Command.{Command}
 use Rattle.container_model.specs.declared.command.Command.TheVariants as command
-use Rattle.container_model.specs.declared.answer.Action.TheVariants.{Start}
+use Rattle.container_model.specs.declared.answer.Action.TheVariants.{Start, End}
 use Rattle.container_model.specs.declared.fault.ContainerFault.{ContainerFault}
 use Rattle.container_model.specs.declared.fault.ContainerFault.TheVariants.{NoSuch, Busy, NotRunning, InDoubt, Full, NumbersSpent, WrongState, UnknownClass}
-use Rattle.container_model.specs.Record.{Record, Took, MOST_FRAMES, MOST_OBJECTS, MOST_SERVERS, MARGIN, quiet_answer, acts, sends, is_object, is_alive, is_busy, is_moving, is_saving, is_doubtful, count_alive, count_objects, has_numbers, asked_link, asked_sent, asked_object, asked_all, with_object}
+use Rattle.container_model.specs.Record.{Record, Took, MOST_FRAMES, MOST_OBJECTS, MOST_SERVERS, MARGIN, quiet_answer, acts, sends, is_object, is_alive, is_busy, is_moving, is_saving, is_doubtful, count_alive, count_objects, counts_none, without_first, has_numbers, asked_link, asked_sent, asked_object, asked_all, with_object}
 use Rattle.container_model.specs.Saves.{settle, settle_actions}
 
 -- checks, in their order
@@ -241,6 +241,29 @@ save_at r f (Some frame) =
 abbrev pub save : Record → ℕ → Result Took ContainerFault
 save r f = save_at r f (nth r.frames f)
 
+-- Delete: a passive object goes.
+abbrev pub delete_made : Record → Object → Took
+delete_made r o = counts_none (record r { objects = without_first (is_object o.number) r.objects }) quiet_answer
+
+abbrev pub delete_in : Record → Object → Option Frame → Result Took ContainerFault
+delete_in r o None = Err NoSuch
+delete_in r o (Some frame) =
+    unless (is_doubtful frame.phase) InDoubt
+    (unless (is_saving frame.phase || is_busy frame.ui.state o) Busy
+    (unless (is_some o.link) WrongState
+    (Ok (delete_made r o))))
+
+abbrev pub delete_at : Record → Option Object → Result Took ContainerFault
+delete_at r None = Err NoSuch
+delete_at r (Some o) = delete_in r o (nth r.frames o.frame)
+
+abbrev pub delete : Record → ℕ → Result Took ContainerFault
+delete r o = delete_at r (find (is_object o) r.objects)
+
+-- Kill: a server that isn't reaped is to be ended.
+abbrev pub kill : Record → ℕ → Result Took ContainerFault
+kill r inc = if is_alive r inc then Ok (counts_none r (acts (End inc ∷ []))) else Err NoSuch
+
 -- The container's step on a command.
 abbrev pub on_command : Record → Command → Result Took ContainerFault
 on_command r (command.New name w h) = new r name w h
@@ -249,3 +272,5 @@ on_command r command.Start = start r
 on_command r (command.Run o inc) = run r o inc
 on_command r (command.Edit o bytes) = edit r o bytes
 on_command r (command.Save f) = save r f
+on_command r (command.Delete o) = delete r o
+on_command r (command.Kill inc) = kill r inc

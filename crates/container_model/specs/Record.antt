@@ -8,6 +8,7 @@ use Rattle.grant_core.specs.declared.grant_states.GrantState.{GrantState}
 use Rattle.grant_core.specs.declared.grant_states.GrantState.TheVariants.{Granting, Revoking}
 use Rattle.grant_core.specs.declared.grant_states.Claim.{Claim}
 use Rattle.grant_core.specs.Grants.{waiting}
+pub use Rattle.ole_streams.specs.Layouts.{MOST_OBJECTS}
 use Rattle.container_model.specs.declared.record.Link.{Link}
 use Rattle.container_model.specs.declared.record.Object.{Object}
 use Rattle.container_model.specs.declared.record.Frame.{Frame}
@@ -33,15 +34,12 @@ pub record Record : Type 0 where
 abbrev pub empty : ℕ → Record
 empty numbers = record { frames = []; objects = []; servers = []; last_object = 0; last_act = 0; numbers = numbers }
 
--- how many frames there may be, how many objects in a frame, and how many servers that aren't reaped: one, for now
+-- how many frames there may be, and how many servers that aren't reaped; a frame has as many objects as a document may
 abbrev pub MOST_FRAMES : ℕ
-MOST_FRAMES = 1
-
-abbrev pub MOST_OBJECTS : ℕ
-MOST_OBJECTS = 1
+MOST_FRAMES = 8
 
 abbrev pub MOST_SERVERS : ℕ
-MOST_SERVERS = 1
+MOST_SERVERS = 8
 
 -- an activation that gets operations must have so many numbers left
 abbrev pub MARGIN : ℕ
@@ -73,6 +71,11 @@ is_link inc act (Some l) = (l.inc == inc) && (l.act == act)
 
 abbrev pub is_linked : ℕ → ℕ → Object → Bool
 is_linked inc act o = is_link inc act o.link
+
+-- the list without the first item that passes
+abbrev pub without_first : {A : Type 0} → (A → Bool) → List A → List A
+without_first test [] = []
+without_first test (x ∷ xs) = if test x then xs else x ∷ without_first test xs
 
 abbrev pub with_object : Record → Object → Record
 with_object r o = record r { objects = put (is_object o.number) o r.objects }

@@ -1,12 +1,14 @@
 -- How saves go on, and what they count.
-use Rattle.std.specs.Prelude.{◌+◌, ◌==◌, ℕ, Bool, true, false, List, [], ◌∷◌, ◌++◌, map, Option, Some, None, Result, Ok, Err, if◌then◌else◌}
+use Rattle.std.specs.Prelude.{◌+◌, ◌==◌, ◌&&◌, ℕ, Bool, true, false, List, [], ◌∷◌, ◌++◌, map, Option, Some, None, Result, Ok, Err, if◌then◌else◌, length, nat_le}
 use Rattle.wire_msgs.specs.Found.{nth, set_nth}
-use Rattle.cfb_directory.specs.Names.{key}
 use Rattle.wire_msgs.specs.declared.operation.Operation.{Operation}
 use Rattle.wire_msgs.specs.declared.operation.Operation.TheVariants.{SaveCompleted}
 use Rattle.storage_tree.specs.declared.stored.Stored.{Stored}
-use Rattle.storage_tree.specs.declared.streams.NamedStream.{NamedStream}
 use Rattle.storage_tree.specs.Tree as tree
+use Rattle.ole_streams.specs.declared.doc.DocObject.{DocObject}
+use Rattle.ole_streams.specs.DocOf.{is_object}
+use Rattle.ole_streams.specs.DocTree.{doc_tree}
+use Rattle.ole_streams.specs.Layouts.{MOST_OBJECTS}
 use Rattle.file_model.specs.Refusals.{writable}
 use Rattle.file_model.specs.declared.fault.WriteFault.{WriteFault}
 use Rattle.container_model.specs.declared.record.Link.{Link}
@@ -86,22 +88,31 @@ parts_in f (o ∷ os) = if o.frame == f then part_of o ∷ parts_in f os else pa
 abbrev pub done_entry : ℕ → Part → Done
 done_entry k part = record { object = part.object; k = k; content = part.content }
 
--- The tree of a document: for now a root that holds the streams of its one object, and nothing else.
-abbrev pub root_class : List ℕ
-root_class = 0 ∷ 0 ∷ 0 ∷ 0 ∷ 0 ∷ 0 ∷ 0 ∷ 0 ∷ 0 ∷ 0 ∷ 0 ∷ 0 ∷ 0 ∷ 0 ∷ 0 ∷ 0 ∷ []
+-- what a document holds of it
+abbrev pub held_part : Part → DocObject
+held_part p = record { class = p.class; user_type = p.user_type; area = p.area; stored = p.content }
 
-abbrev pub children_of : List NamedStream → tree.Children
-children_of [] = tree.none
-children_of (s ∷ ss) = tree.stream (key s.name) s.name s.bytes (children_of ss)
+abbrev pub document : List Part → List DocObject
+document parts = map held_part parts
 
 abbrev pub document_tree : List Part → tree.Tree
-document_tree [] = tree.tree root_class 0 tree.none
-document_tree (p ∷ ps) = tree.tree root_class 0 (children_of p.content.streams)
+document_tree parts = doc_tree (document parts)
+
+-- what a document takes: no more objects than it may have, each of them within its limits
+abbrev pub are_objects : List DocObject → Bool
+are_objects [] = true
+are_objects (o ∷ os) = is_object o && are_objects os
+
+abbrev pub is_document : List DocObject → Bool
+is_document objects = nat_le (length objects) MOST_OBJECTS && are_objects objects
 
 -- a document that fits into a file
-abbrev pub fitting : List Part → Result (Unit {0}) WriteFault → Result (List Part) ContainerFault
-fitting parts (Ok told) = Ok parts
-fitting parts (Err fault) = Err Full
+abbrev pub fitting_in : List Part → Result (Unit {0}) WriteFault → Result (List Part) ContainerFault
+fitting_in parts (Ok told) = Ok parts
+fitting_in parts (Err fault) = Err Full
+
+abbrev pub fitting : List Part → Result (List Part) ContainerFault
+fitting parts = if is_document (document parts) then fitting_in parts (writable (document_tree parts)) else Err Full
 
 -- The document whose file is to be committed, in a frame whose commit is asked or in doubt.
 abbrev pub has_image : Phase → Bool
@@ -111,7 +122,7 @@ has_image phase = false
 
 abbrev pub image_at : Record → ℕ → Option Frame → Result (List Part) ContainerFault
 image_at r f None = Err NoSuch
-image_at r f (Some frame) = if has_image frame.phase then fitting (parts_in f r.objects) (writable (document_tree (parts_in f r.objects))) else Err WrongState
+image_at r f (Some frame) = if has_image frame.phase then fitting (parts_in f r.objects) else Err WrongState
 
 abbrev pub image : Record → ℕ → Result (List Part) ContainerFault
 image r f = image_at r f (nth r.frames f)

@@ -29,4 +29,8 @@ pub enum Command {
     Edit(u32, Bytes),
     /// A frame is saved under its name.
     Save(u32),
+    /// A passive object goes from its frame.
+    Delete(u32),
+    /// A server is ended.
+    Kill(u32),
 }
