@@ -1,15 +1,19 @@
 -- What a container does with a message, and with the end of a server.
-use Rattle.std.specs.Prelude.{◌+◌, ◌==◌, ◌++◌, ℕ, true, List, [], ◌∷◌, map, Option, Some, None, Result, Ok, Err, if◌then◌else◌}
+use Rattle.std.specs.Prelude.{◌+◌, ◌==◌, ◌&&◌, ◌||◌, ◌++◌, ℕ, Bool, true, false, not, nat_lt, List, [], ◌∷◌, map, Option, Some, None, is_some, Result, Ok, Err, if◌then◌else◌}
 use Rattle.wire_msgs.specs.Found.{find, put, set_nth}
 use Rattle.wire_msgs.specs.Operations.{op_of}
 use Rattle.wire_msgs.specs.declared.message.Message.{Message}
 use Rattle.wire_msgs.specs.declared.message.Message.TheVariants.{Call, Reply, Write, Ask}
 use Rattle.wire_msgs.specs.declared.operation.Operation.{Operation}
-use Rattle.wire_msgs.specs.declared.operation.Operation.TheVariants.{InitNew, Load, Edit, Save, SaveCompleted, SaveDropped}
+use Rattle.wire_msgs.specs.declared.operation.Operation.TheVariants.{InitNew, Load, Edit, Save, SaveCompleted, SaveDropped, Close}
 use Rattle.wire_msgs.specs.declared.answer.Answer.{Answer}
 use Rattle.wire_msgs.specs.declared.answer.Answer.TheVariants as told
 use Rattle.wire_msgs.specs.declared.refusal.Refusal.{Refusal}
 use Rattle.object_state.specs.Both as both
+use Rattle.object_state.specs.Persists.{may_write}
+use Rattle.object_state.specs.declared.operations.CloseOption.{CloseOption}
+use Rattle.object_state.specs.declared.operations.CloseOption.TheVariants.{SaveIfDirty, NoSave}
+use Rattle.object_parts.specs.Limits.{is_within}
 use Rattle.object_state.specs.declared.both_states.States.{States}
 use Rattle.object_state.specs.declared.faults.StateFault.{StateFault}
 use Rattle.storage_tree.specs.declared.stored.Stored.{Stored}
@@ -18,11 +22,12 @@ use Rattle.container_model.specs.declared.record.Object.{Object}
 use Rattle.container_model.specs.declared.fault.ContainerFault.{ContainerFault}
 use Rattle.container_model.specs.declared.fault.ContainerFault.TheVariants.{NoSuch, WrongLink, Stale, BadAnswer}
 use Rattle.container_model.specs.Record.{Record, Took, counts_none, quiet_answer, acts, sends, is_linked, is_alive}
-use Rattle.container_model.specs.Saves.{settle, settle_actions, kept}
+use Rattle.container_model.specs.Saves.{settle, settle_actions, kept, kept_in}
 
--- A link after an answer, the reply's content, and why the object refused.
+-- A link after an answer, the content that is the object's work content from now on, if any, and why the object refused.
 pub record Replied : Type 0 where
   pub link : Option Link
+  pub taken : Option Stored
   pub refused : Option Refusal
 
 -- the link of an operation that was done: its states by the tables, its grant from 1 on and one higher after each save
@@ -35,7 +40,7 @@ next_s op s = s
 
 abbrev pub done_link : Link → ℕ → Result States StateFault → Result Replied ContainerFault
 done_link l s (Err fault) = Err BadAnswer
-done_link l s (Ok v) = Ok (record { link = Some (record l { pending = None; states = v; s = s }); refused = None })
+done_link l s (Ok v) = Ok (record { link = Some (record l { pending = None; states = v; s = s }); taken = None; refused = None })
 
 abbrev pub done : Link → Operation → Result Replied ContainerFault
 done l op = done_link l (next_s op l.s) (both.step l.states (op_of op))
@@ -46,11 +51,19 @@ saved_link content (Ok replied) = Ok (record replied { link = elim replied.link 
 
 -- the object is passive again
 abbrev pub lost : Refusal → Result Replied ContainerFault
-lost why = Ok (record { link = None; refused = Some why })
+lost why = Ok (record { link = None; taken = None; refused = Some why })
 
 -- the refusal is noted, and all else stays
 abbrev pub noted : Link → Refusal → Result Replied ContainerFault
-noted l why = Ok (record { link = Some (record l { pending = None }); refused = Some why })
+noted l why = Ok (record { link = Some (record l { pending = None }); taken = None; refused = Some why })
+
+-- the object is passive again, with the content that it was closed with, if any
+abbrev pub closed_with : Option Stored → Result States StateFault → Result Replied ContainerFault
+closed_with content (Err fault) = Err BadAnswer
+closed_with content (Ok v) = Ok (record { link = None; taken = content; refused = None })
+
+abbrev pub closed : Link → CloseOption → Option Stored → Result Replied ContainerFault
+closed l option content = closed_with content (both.step l.states (op_of (Close option)))
 
 -- What an answer makes of a link whose pending operation it answers. Nothing asks for the other operations yet.
 abbrev pub replied : Link → Operation → Answer → Result Replied ContainerFault
@@ -62,7 +75,19 @@ replied l (Edit bytes) told.Done = done l (Edit bytes)
 replied l (Edit bytes) (told.Refused why) = noted l why
 replied l (Save k) (told.Content content) = saved_link content (done l (Save k))
 replied l (SaveCompleted k storage) told.Done = done l (SaveCompleted k storage)
+replied l (Close SaveIfDirty) (told.Content content) = closed l SaveIfDirty (Some content)
+replied l (Close NoSave) told.Done = closed l NoSave None
 replied l op answer = Err BadAnswer
+
+-- an answer whose content is past what may be stored fits no call
+abbrev pub is_fit : Answer → Bool
+is_fit told.Done = true
+is_fit (told.Refused why) = true
+is_fit (told.Content content) = is_within content
+is_fit (told.Tools menus border) = true
+
+abbrev pub replied_fitting : Link → Operation → Answer → Result Replied ContainerFault
+replied_fitting l op answer = if is_fit answer then replied l op answer else Err BadAnswer
 
 -- the first operation that waits is sent
 pub record Sent : Type 0 where
@@ -83,7 +108,7 @@ next_sent (Some l) = (next_at l l.waiting).sent
 
 -- the record after an object's link was replied to: what waits is sent, then saves go on
 abbrev pub replied_object : Object → Replied → Object
-replied_object o replied = record o { link = next_link replied.link }
+replied_object o replied = record o { work = kept_in o.work replied.taken; link = next_link replied.link }
 
 abbrev pub replied_record : Record → ℕ → ℕ → Object → Replied → Record
 replied_record r inc act o replied = record r { objects = put (is_linked inc act) (replied_object o replied) r.objects }
@@ -93,6 +118,7 @@ reply_taken r inc act o (Err fault) = Err fault
 reply_taken r inc act o (Ok replied) = Ok (record {
   rec = settle (replied_record r inc act o replied);
   answer = record quiet_answer {
+    taken = is_some replied.taken;
     refused = replied.refused;
     actions = sends (next_sent replied.link) ++ settle_actions (replied_record r inc act o replied);
   };
@@ -102,7 +128,7 @@ reply_taken r inc act o (Ok replied) = Ok (record {
 -- the answer to call n, which is to be the pending one
 abbrev pub reply_pending : Link → ℕ → Answer → Option Operation → Result Replied ContainerFault
 reply_pending l n answer None = Err Stale
-reply_pending l n answer (Some op) = if n == l.last then replied l op answer else Err Stale
+reply_pending l n answer (Some op) = if n == l.last then replied_fitting l op answer else Err Stale
 
 abbrev pub reply_link : ℕ → Answer → Option Link → Result Replied ContainerFault
 reply_link n answer None = Err Stale
@@ -116,11 +142,52 @@ reply_found r inc act n answer (Some o) = reply_taken r inc act o (reply_link n 
 abbrev pub on_reply : Record → ℕ → ℕ → ℕ → Answer → Result Took ContainerFault
 on_reply r inc act n answer = if is_alive r inc then reply_found r inc act n answer (find (is_linked inc act) r.objects) else Err Stale
 
--- A message on the link of an incarnation. No storage grant is given to write under yet, and no frame to be relieved of.
+-- a save is pending or waits
+abbrev pub is_save : Operation → Bool
+is_save (Save k) = true
+is_save op = false
+
+abbrev pub has_save : List Operation → Bool
+has_save [] = false
+has_save (op ∷ ops) = is_save op || has_save ops
+
+abbrev pub is_save_pending : Option Operation → Bool
+is_save_pending None = false
+is_save_pending (Some op) = is_save op
+
+abbrev pub awaits_save : Link → Bool
+awaits_save l = is_save_pending l.pending || has_save l.waiting
+
+-- A write is taken under the storage grant that the record holds open: of its number, for reading and writing, while no
+-- save is asked, and later than each that was taken before.
+abbrev pub is_open_to : Link → ℕ → ℕ → Bool
+is_open_to l s w = (l.s == s) && may_write l.states.persist.state && not (awaits_save l) && nat_lt l.w w
+
+abbrev pub written_object : Object → Link → ℕ → Stored → Object
+written_object o l w content = record o { work = content; link = Some (record l { w = w }) }
+
+abbrev pub write_made : Record → ℕ → ℕ → Object → Link → ℕ → Stored → Took
+write_made r inc act o l w content =
+    counts_none (record r { objects = put (is_linked inc act) (written_object o l w content) r.objects }) (record quiet_answer { taken = true })
+
+abbrev pub write_link : Record → ℕ → ℕ → ℕ → ℕ → Stored → Object → Option Link → Result Took ContainerFault
+write_link r inc act s w content o None = Err Stale
+write_link r inc act s w content o (Some l) =
+    if is_open_to l s w then (if is_within content then Ok (write_made r inc act o l w content) else Err BadAnswer) else Err Stale
+
+abbrev pub write_found : Record → ℕ → ℕ → ℕ → ℕ → Stored → Option Object → Result Took ContainerFault
+write_found r inc act s w content None = Err Stale
+write_found r inc act s w content (Some o) = write_link r inc act s w content o o.link
+
+-- a write of a server that isn't reaped, to the object that has this activation
+abbrev pub on_write : Record → ℕ → ℕ → ℕ → ℕ → Stored → Result Took ContainerFault
+on_write r inc act s w content = if is_alive r inc then write_found r inc act s w content (find (is_linked inc act) r.objects) else Err Stale
+
+-- A message on the link of an incarnation. There is no frame to be relieved of yet.
 abbrev pub on_message : Record → ℕ → Message → Result Took ContainerFault
 on_message r link (Call inc act n op) = Err WrongLink
 on_message r link (Reply inc act n answer) = if inc == link then on_reply r inc act n answer else Err WrongLink
-on_message r link (Write inc act s w content) = if inc == link then Err Stale else Err WrongLink
+on_message r link (Write inc act s w content) = if inc == link then on_write r inc act s w content else Err WrongLink
 on_message r link (Ask inc act g) = if inc == link then Err Stale else Err WrongLink
 
 -- The end of a server: its objects are passive, each with the content that it answered in the present save, if any.

@@ -147,6 +147,14 @@ ask_at l op (Some before) = record { link = record l { waiting = l.waiting ++ op
 abbrev pub ask : Link → Operation → Asked
 ask l op = ask_at l op l.pending
 
+-- operations that are asked one after the other
+abbrev pub ask_further : Asked → Asked → Asked
+ask_further first next = record { link = next.link; sent = first.sent ++ next.sent }
+
+abbrev pub ask_each : Link → List Operation → Asked
+ask_each l [] = record { link = l; sent = [] }
+ask_each l (op ∷ ops) = ask_further (ask l op) (ask_each (ask l op).link ops)
+
 -- the same in an object, if it isn't passive
 abbrev pub asked_link : Operation → Option Link → Option Link
 asked_link op None = None

@@ -1,6 +1,7 @@
 //! Commands of a user.
 
 use object_parts::area::Area;
+use object_state::CloseOption;
 use storage_tree::bytes::Bytes;
 
 /// The three kinds of objects.
@@ -33,4 +34,6 @@ pub enum Command {
     Delete(u32),
     /// A server is ended.
     Kill(u32),
+    /// An object that isn't passive is closed, with its content or without.
+    Close(u32, CloseOption),
 }

@@ -11,6 +11,7 @@ use Rattle.embed_core.specs.Kinds.{Kind, class_of}
 use Rattle.server_model.specs.Server.{Server, Activation, Served, on_call, wanted, is_act}
 use Rattle.server_model.specs.declared.counted.Counted.{Counted}
 use Rattle.server_model.specs.declared.fault.ServerFault.{ServerFault}
+pub use Rattle.container_model.specs.Record.{without_first}
 use Rattle.container_model.specs.Record.{Record, Took, empty, is_doubtful}
 use Rattle.container_model.specs.Commands.{on_command}
 use Rattle.container_model.specs.Messages.{on_message, on_reap}
@@ -81,6 +82,23 @@ started_by numbers (Start inc ∷ rest) = fresh numbers inc ∷ started_by numbe
 started_by numbers (End inc ∷ rest) = started_by numbers rest
 started_by numbers (Commit f ∷ rest) = started_by numbers rest
 
+-- a server that is to be ended has ended at once; one that had ended stays so
+abbrev pub end_of : Life → Life
+end_of Running = Ended
+end_of Ended = Ended
+end_of Reaped = Reaped
+
+abbrev pub ended_at : ℕ → List Instance → Option Instance → List Instance
+ended_at inc instances None = instances
+ended_at inc instances (Some i) = set_nth instances inc (record i { life = end_of i.life })
+
+abbrev pub ended_by : List Action → List Instance → List Instance
+ended_by [] instances = instances
+ended_by (Send m ∷ rest) instances = ended_by rest instances
+ended_by (Start inc ∷ rest) instances = ended_by rest instances
+ended_by (End inc ∷ rest) instances = ended_by rest (ended_at inc instances (nth instances inc))
+ended_by (Commit f ∷ rest) instances = ended_by rest instances
+
 abbrev pub commits_of : List Action → List ℕ
 commits_of [] = []
 commits_of (Send m ∷ rest) = commits_of rest
@@ -108,7 +126,7 @@ uncounted (Some f) = None ∷ []
 abbrev pub joined : World → Took → World
 joined w t = record w {
   rec = t.rec;
-  instances = w.instances ++ started_by t.rec.numbers t.answer.actions;
+  instances = ended_by t.answer.actions w.instances ++ started_by t.rec.numbers t.answer.actions;
   sent = w.sent ++ map of_container (messages_of t.answer.actions);
   answers = w.answers ++ told.Took (outcome_of w.sent t.answer) ∷ [];
   counted = w.counted ++ uncounted t.answer.frame;
@@ -126,6 +144,8 @@ owners_by command.Start = []
 owners_by (command.Run o inc) = o ∷ []
 owners_by (command.Edit o bytes) = []
 owners_by (command.Save f) = []
+owners_by (command.Delete o) = []
+owners_by (command.Kill inc) = []
 
 abbrev pub commanded : World → Command → Result Took ContainerFault → World
 commanded w c (Err fault) = took w (Err fault)
@@ -168,10 +188,6 @@ served w inc act n i stock (Ok v) = record w {
 -- the first object of a class in stock, and the stock without it
 abbrev pub is_of : List ℕ → Kind → Bool
 is_of class kind = bytes_eq (class_of kind) class
-
-abbrev pub without_first : {A : Type 0} → (A → Bool) → List A → List A
-without_first test [] = []
-without_first test (x ∷ xs) = if test x then xs else x ∷ without_first test xs
 
 abbrev pub stocked : World → ℕ → ℕ → ℕ → Operation → Instance → List ℕ → Option Kind → Result World Stop
 stocked w inc act n op i class None = Err OutOfStock
