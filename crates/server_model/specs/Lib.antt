@@ -1,3 +1,4 @@
+pub mod Pictures
 pub mod Server
 pub mod Laws
 pub mod Opened
