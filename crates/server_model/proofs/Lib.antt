@@ -5,3 +5,5 @@ pub mod Steady
 pub mod Wanting
 pub mod Writing
 pub mod First
+pub mod PictureLines
+pub mod StoredSizes

@@ -24,6 +24,7 @@ use Rattle.wire_msgs.specs.declared.answer.Answer.TheVariants as answer
 use Rattle.wire_msgs.specs.declared.message.Message.{Message}
 use Rattle.wire_msgs.specs.declared.message.Message.TheVariants.{Call, Reply, Write, Ask}
 use Rattle.wire_msgs.specs.Found.{find, put}
+use Rattle.server_model.specs.Pictures.{picture_of}
 use Rattle.server_model.specs.declared.activation_view.ActivationView.{ActivationView}
 pub use Rattle.server_model.specs.declared.counted.Counted.{Counted}
 use Rattle.server_model.specs.declared.fault.ServerFault.{ServerFault}
@@ -51,9 +52,9 @@ pub record Server : Type 0 where
 abbrev pub is_act : ℕ → Activation → Bool
 is_act act a = nat_eq a.act act
 
--- what is stored of a content
+-- what is stored of a content: the streams that hold it, and its picture as it is written
 abbrev pub stored_of : Content → Stored
-stored_of c = record { streams = stored c; picture = [] }
+stored_of c = record { streams = stored c; picture = picture_of c }
 
 -- the refusals of an object; the definitions know no want of memory
 abbrev pub refusal_of : EmbedFault → Refusal
@@ -254,4 +255,4 @@ last_reply v act = option_map (kept_reply v) (find (is_act act) v.acts)
 
 -- what is seen of an activation, but for its content
 abbrev pub view_of : Activation → ActivationView
-view_of a = record { opened = is_some a.content; states = a.states; s = a.s; last = a.last; g = a.g; w = a.w }
+view_of a = record { class = a.class; opened = is_some a.content; states = a.states; s = a.s; last = a.last; g = a.g; w = a.w }

@@ -1,13 +1,16 @@
 //! What is seen of an activation.
 
 use object_state::States;
+use storage_tree::class_id::ClassId;
 
 /// What is seen of an activation from outside, but for its content.
 #[derive(Debug, Clone, Copy, PartialEq, Eq)]
 pub struct ActivationView {
+    /// The class of its object.
+    pub class: ClassId,
     /// Whether it is open: it has an object.
     pub opened: bool,
-    /// The states of its storage and of its window.
+    /// The states of its storage, with the number of its last save, and of its window.
     pub states: States,
     /// The storage grant that it writes under, 0 before any.
     pub s: u32,

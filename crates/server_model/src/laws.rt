@@ -1,6 +1,7 @@
 //! Laws of servers. Each function is empty: its contract is the law, which is proved.
 
 ghost use Rattle.server_model.specs.Laws.{ActsOnce, ClosedForGood, OthersStay, UnwantedUnused, WantedUsed};
+ghost use Rattle.server_model.specs.Stored.{PicturesAreRead, StoredIsWithin};
 
 /// A call that was taken never acts again.
 pub fn acts_once()
@@ -25,4 +26,14 @@ pub fn unwanted_unused()
 /// A message that wants an object of a class takes one of it, and uses it.
 pub fn wanted_used()
     ensures { WantedUsed }
+{}
+
+/// What is stored of an object's content is within what may be stored of an object.
+pub fn stored_is_within()
+    ensures { StoredIsWithin }
+{}
+
+/// Of the picture that is stored, just the lines that the object shows are read.
+pub fn pictures_are_read()
+    ensures { PicturesAreRead }
 {}

@@ -2,7 +2,7 @@
 use Rattle.std.proofs.Common.{refl}
 use Rattle.std.specs.Fmt.{digits}
 use Rattle.world_model.specs.Report.{frame_line, object_line, done_line}
-use Rattle.world_model.specs.Runs.{IsSaved, IsLost, IsKept, IsRepeated, IsReloaded, IsMisedited, IsLimited, IsSpelled, HasFile, IsWorked}
+use Rattle.world_model.specs.Runs.{IsSaved, IsLost, IsKept, IsRepeated, IsReloaded, IsMisedited, IsLimited, IsDeleted, IsWritten, IsClosed, IsSpelled, HasFile, IsWorked}
 
 pub is_saved : IsSaved
 unfolding digits frame_line object_line done_line
@@ -28,7 +28,19 @@ unfolding digits frame_line object_line done_line
 is_misedited = record { answers = refl; told = refl }
 
 pub is_limited : IsLimited
-is_limited = record { frames = refl; objects = refl; servers = refl; undelivered = refl }
+is_limited = record { frames = refl; objects = refl; servers = refl; three_numbers = refl; one_number = refl; undelivered = refl }
+
+pub is_deleted : IsDeleted
+unfolding digits frame_line object_line done_line
+is_deleted = record { answers = refl; told = refl }
+
+pub is_written : IsWritten
+unfolding digits frame_line object_line done_line
+is_written = record { answers = refl; told = refl }
+
+pub is_closed : IsClosed
+unfolding digits frame_line object_line done_line
+is_closed = record { answers = refl; told = refl }
 
 pub is_spelled : IsSpelled
 unfolding digits frame_line
@@ -38,4 +50,4 @@ pub has_file : HasFile
 has_file = record { stored = refl; in_doubt = refl }
 
 pub is_worked : IsWorked
-is_worked = record { is_saved = is_saved; is_lost = is_lost; is_kept = is_kept; is_repeated = is_repeated; is_reloaded = is_reloaded; is_misedited = is_misedited; is_limited = is_limited; is_spelled = is_spelled; has_file = has_file }
+is_worked = record { is_saved = is_saved; is_lost = is_lost; is_kept = is_kept; is_repeated = is_repeated; is_reloaded = is_reloaded; is_misedited = is_misedited; is_limited = is_limited; is_deleted = is_deleted; is_written = is_written; is_closed = is_closed; is_spelled = is_spelled; has_file = has_file }

@@ -1,22 +1,24 @@
 -- Worked runs: a note that is made, edited and saved, and what becomes of it where its server crashes.
-use Rattle.std.specs.Prelude.{◌≡◌, ◌++◌, ℕ, true, List, [], ◌∷◌, Some, None, Result, Ok, Err, codes}
-use Rattle.std.specs.List.{flat_map}
+use Rattle.std.specs.Prelude.{◌≡◌, ◌++◌, ℕ, true, List, [], ◌∷◌, map, Some, None, Result, Ok, Err, codes}
+use Rattle.std.specs.List.{flat_map, range_with_len}
+use Rattle.object_state.specs.declared.operations.CloseOption.TheVariants.{SaveIfDirty}
+use Rattle.server_model.specs.declared.fault.ServerFault.TheVariants.{Ignored}
 use Rattle.embed_core.specs.Kinds.{Note}
 use Rattle.storage_tree.specs.declared.streams.NamedStream.{NamedStream}
 use Rattle.grant_core.specs.declared.grant_states.GrantState.TheVariants.{Granting}
 use Rattle.object_parts.specs.declared.area.Area.{Area}
 use Rattle.container_model.specs.declared.record.Frame.{Frame}
 use Rattle.container_model.specs.declared.record.Phase.TheVariants.{Idle, InDoubt}
-use Rattle.container_model.specs.declared.command.Command.TheVariants.{New, Insert, Start, Run, Edit, Save}
+use Rattle.container_model.specs.declared.command.Command.TheVariants.{New, Insert, Start, Run, Edit, Save, Delete, Kill, Close}
 use Rattle.container_model.specs.declared.command.ObjectKind.TheVariants as chosen
-use Rattle.container_model.specs.declared.fault.ContainerFault.TheVariants.{Busy, Full, Stale}
+use Rattle.container_model.specs.declared.fault.ContainerFault.TheVariants.{NoSuch, Busy, Full, NumbersSpent, Stale, WrongState}
 use Rattle.world_model.specs.declared.event.Event.{Event}
-use Rattle.world_model.specs.declared.event.Event.TheVariants.{Command, Deliver, Crash, Reap, Done}
+use Rattle.world_model.specs.declared.event.Event.TheVariants.{Command, Deliver, Crash, Reap, Done, Scribble}
 use Rattle.world_model.specs.declared.event.Stop.{Stop}
 use Rattle.world_model.specs.declared.event.Stop.TheVariants.{NotEnabled, OutOfStock}
 use Rattle.world_model.specs.declared.logs.EventAnswer.{EventAnswer}
 use Rattle.wire_msgs.specs.declared.refusal.Refusal.TheVariants.{BadEdit}
-use Rattle.world_model.specs.declared.logs.EventAnswer.TheVariants.{Took, Refused}
+use Rattle.world_model.specs.declared.logs.EventAnswer.TheVariants.{Took, Refused, Dropped}
 use Rattle.world_model.specs.StopNames.{stop_name}
 use Rattle.world_model.specs.World.{World, empty_world, frame_file_in, quiet_outcome, step}
 use Rattle.world_model.specs.Report.{report, frame_line, content_text}
@@ -160,12 +162,60 @@ pub record IsMisedited : Type 0 where
       ∷ codes "object 1 frame 1 Note Running Normal act 1 s 1 -"
       ∷ [])
 
--- One frame, and one server that isn't reaped, for now; and a message that was never sent can't be delivered.
+-- Eight frames, 64 objects in a frame, eight servers that aren't reaped, and numbers up to the limit; and a message that
+-- was never sent can't be delivered.
+abbrev pub times : ℕ → Event → List Event
+times n e = map (λ (i : ℕ). e) (range_with_len 1 n)
+
+abbrev pub frame_named : ℕ → Event
+frame_named letter = Command (New (letter ∷ []) 40 10)
+
+abbrev pub numbered : ℕ → List Event → Result World Stop
+numbered numbers es = ran (Ok (empty_world numbers [])) es
+
 pub record IsLimited : Type 0 where
-  pub frames : answered (from_start (new_frame ∷ Command (New (codes "b") 40 10) ∷ new_frame ∷ [])) ≡ frame 1 ∷ Refused Full ∷ Refused Busy ∷ []
-  pub objects : answered (from_start (new_frame ∷ new_note ∷ new_note ∷ [])) ≡ frame 1 ∷ object 1 ∷ Refused Full ∷ []
-  pub servers : answered (from_start (Command Start ∷ Command Start ∷ Crash 1 ∷ Command Start ∷ Reap 1 ∷ Command Start ∷ [])) ≡ server 1 ∷ Refused Full ∷ ok ∷ Refused Full ∷ ok ∷ server 2 ∷ []
+  pub frames : answered (from_start (map frame_named (range_with_len 97 9) ++ new_frame ∷ [])) ≡ map frame (range_with_len 1 8) ++ Refused Full ∷ Refused Busy ∷ []
+  pub objects : answered (from_start (new_frame ∷ times 65 new_note)) ≡ frame 1 ∷ map object (range_with_len 1 64) ++ Refused Full ∷ []
+  pub servers : answered (from_start (times 9 (Command Start) ++ Crash 1 ∷ Command Start ∷ Reap 1 ∷ Command Start ∷ [])) ≡ map server (range_with_len 1 8) ++ Refused Full ∷ ok ∷ Refused Full ∷ ok ∷ server 9 ∷ []
+  pub three_numbers : answered (numbered 3 (times 4 (Command Start))) ≡ server 1 ∷ server 2 ∷ server 3 ∷ Refused NumbersSpent ∷ []
+  pub one_number : answered (numbered 1 (frame_named 97 ∷ frame_named 98 ∷ [])) ≡ frame 1 ∷ Refused NumbersSpent ∷ []
   pub undelivered : from_start (edited ++ Deliver 99 ∷ []) ≡ Err NotEnabled
+
+-- A server that is killed has ended at once, and is killed again until it is reaped. Its note is passive then, and is
+-- deleted; a running one isn't.
+abbrev pub deleted : List Event
+deleted = edited ++ Command (Delete 1) ∷ Command (Kill 1) ∷ Deliver 3 ∷ Command (Kill 1) ∷ Reap 1 ∷ Command (Kill 1) ∷ Command (Delete 1) ∷ Command (Delete 1) ∷ new_note ∷ []
+
+pub record IsDeleted : Type 0 where
+  pub answers : answered (from_start deleted) ≡ answered (from_start edited) ++ Refused WrongState ∷ ok ∷ ok ∷ ok ∷ ok ∷ Refused NoSuch ∷ ok ∷ Refused NoSuch ∷ object 2 ∷ []
+  pub told : reported (from_start deleted) ≡ lines (
+      codes "frame 1 a Free k 0 none"
+      ∷ codes "object 2 frame 1 Note Passive -"
+      ∷ [])
+
+-- A write that comes while a save is asked is stale, and still is once the save is over, as the storage grant is another
+-- one then; a write under the new grant is taken once.
+abbrev pub taken : EventAnswer
+taken = Took (record quiet_outcome { taken = true })
+
+abbrev pub written : List Event
+written = edited ++ Scribble 1 1 ∷ Command (Save 1) ∷ Deliver 6 ∷ Deliver 5 ∷ Deliver 7 ∷ Done 1 ∷ Deliver 8 ∷ Deliver 9 ∷ Deliver 5 ∷ Scribble 1 1 ∷ Deliver 10 ∷ Deliver 10 ∷ []
+
+pub record IsWritten : Type 0 where
+  pub answers : answered (from_start written) ≡ answered (from_start edited) ++ sent 5 ∷ sent 6 ∷ sent 7 ∷ Refused Stale ∷ commit 1 ∷ sent 8 ∷ sent 9 ∷ ok ∷ Refused Stale ∷ sent 10 ∷ taken ∷ Refused Stale ∷ []
+  pub told : reported (from_start written) ≡ reported (from_start completed)
+
+-- A note that is closed gives its content; its activation stays closed, whatever is delivered again, and it runs again
+-- under another one.
+abbrev pub closed : List Event
+closed = edited ++ Command (Close 1 SaveIfDirty) ∷ Deliver 5 ∷ Deliver 6 ∷ Deliver 1 ∷ Deliver 5 ∷ Deliver 7 ∷ Command (Run 1 1) ∷ Deliver 8 ∷ Deliver 9 ∷ []
+
+pub record IsClosed : Type 0 where
+  pub answers : answered (from_two closed) ≡ answered (from_two edited) ++ sent 5 ∷ sent 6 ∷ taken ∷ Dropped Ignored ∷ sent 7 ∷ Refused Stale ∷ sent 8 ∷ sent 9 ∷ ok ∷ []
+  pub told : reported (from_two closed) ≡ lines (
+      codes "frame 1 a Free k 0 none"
+      ∷ codes "object 1 frame 1 Note Running Normal act 2 s 1 Text=6162"
+      ∷ [])
 
 -- What a report says of frames and contents that no run reaches yet: a frame in doubt, asked for its menus and border, with
 -- a space in its name; streams with a hidden character in their name, without bytes, with bytes that are no characters.
@@ -196,5 +246,8 @@ pub record IsWorked : Type 0 where
   pub is_reloaded : IsReloaded
   pub is_misedited : IsMisedited
   pub is_limited : IsLimited
+  pub is_deleted : IsDeleted
+  pub is_written : IsWritten
+  pub is_closed : IsClosed
   pub is_spelled : IsSpelled
   pub has_file : HasFile

@@ -1,11 +1,13 @@
 -- What holds of every world, whatever happened in it.
-use Rattle.std.specs.Prelude.{◌≡◌, ◌≢◌, ◌⊎◌, ◌==◌, ℕ, List, [], ◌∷◌, map, Option, Some, None, Ok, if◌then◌else◌, ⊤}
+use Rattle.std.specs.Prelude.{◌≡◌, ◌≢◌, ◌⊎◌, ◌==◌, ℕ, true, false, List, [], ◌∷◌, map, Option, Some, None, Ok, if◌then◌else◌, ⊤}
 use Rattle.std.specs.List.{flat_map}
 use Rattle.wire_msgs.specs.Found.{find, nth}
 use Rattle.wire_msgs.specs.declared.message.Message.{Message}
-use Rattle.wire_msgs.specs.declared.message.Message.TheVariants.{Call, Reply}
+use Rattle.wire_msgs.specs.declared.message.Message.TheVariants.{Call, Reply, Write, Ask}
 use Rattle.wire_msgs.specs.declared.operation.Operation.{Operation}
 use Rattle.wire_msgs.specs.declared.answer.Answer.{Answer}
+use Rattle.wire_msgs.specs.declared.answer.Answer.TheVariants.{Content}
+use Rattle.object_state.specs.declared.persist_states.PersistState.TheVariants.{Normal}
 use Rattle.storage_tree.specs.declared.stored.Stored.{Stored}
 use Rattle.file_model.specs.Denotes.{Denotes}
 use Rattle.server_model.specs.Server.{Activation, is_act}
@@ -15,6 +17,8 @@ use Rattle.container_model.specs.declared.answer.Part.{Part}
 use Rattle.container_model.specs.declared.record.Link.{Link}
 use Rattle.container_model.specs.declared.record.Object.{Object}
 use Rattle.world_model.specs.declared.logs.Sent.{Sent}
+use Rattle.world_model.specs.declared.logs.Taken.{Taken}
+use Rattle.world_model.specs.declared.logs.View.{View}
 use Rattle.container_model.specs.declared.answer.Done.{Done}
 use Rattle.world_model.specs.declared.logs.ServerDone.{ServerDone}
 use Rattle.world_model.specs.declared.logs.Document.{Document}
@@ -60,6 +64,25 @@ IsOther d e = d.object ≡ e.object → d.k ≢ e.k
 abbrev pub ServedOnce : List ServerDone → Type 0
 ServedOnce [] = ⊤
 ServedOnce (d ∷ ds) = ((e : ServerDone) → Among ds e → IsOther d e) × ServedOnce ds
+
+-- the message that brought a content: a write under this storage grant, or the answer to a close
+abbrev pub Brings : Message → Taken → Type 0
+Brings (Call inc act n op) t = ⊥
+Brings (Reply inc act n (Content content)) t = (inc ≡ t.inc) × (act ≡ t.act)
+Brings (Reply inc act n answer) t = ⊥
+Brings (Write inc act s w content) t = (inc ≡ t.inc) × (act ≡ t.act) × (s ≡ t.s)
+Brings (Ask inc act g) t = ⊥
+
+-- A content that was taken came with a message that its server sent while the activation was open, its storage open for
+-- reading and writing, under this storage grant; and the container's record held the same grant open just before it took
+-- it, with no save asked.
+pub record IsGranted (w : World) (t : Taken) : Type 0 where
+  pub message : Message
+  pub delivered : nth (messages w.sent) t.place ≡ Some message
+  pub brings : Brings message t
+  pub sent : (view : View) × Among w.sent (record { message = message; view = Some view }) × (view.opened ≡ true) × (view.states.persist.state ≡ Normal) × (view.s ≡ t.s)
+  pub open : t.persist ≡ Normal
+  pub unasked : t.awaits_save ≡ false
 
 -- A log of commits: the frame, the number of its save, and the parts of its document.
 pub record Commit : Type 0 where
@@ -109,6 +132,8 @@ pub record Safe (w : World) : Type 0 where
   -- the content that an object's save was answered is the one that its activation keeps for it
   pub answered : (n : ℕ) (l : Link) (content : Stored) → links_of w.rec.objects n ≡ Some l → l.saved ≡ Some content
       → (a : Activation) × (acts_of w.instances l.inc l.act ≡ Some a) × (a.saved ≡ Some content)
+  -- every content that was taken was sent under the storage grant that the record then held open
+  pub writes : (t : Taken) → Among w.taken t → IsGranted w t
   -- no save is counted twice, and what a server counts the container has counted, with the same content
   pub container_once : CountedOnce w.container_done
   pub server_once : ServedOnce w.server_done

@@ -8,13 +8,14 @@ use Rattle.wire_msgs.specs.declared.message.Message.TheVariants.{Call, Reply, Wr
 use Rattle.wire_msgs.specs.declared.operation.Operation.{Operation}
 use Rattle.file_model.specs.Denotes.{Denotes}
 use Rattle.embed_core.specs.Kinds.{Kind, class_of}
-use Rattle.server_model.specs.Server.{Server, Activation, Served, on_call, wanted, is_act}
+use Rattle.server_model.specs.Server.{Server, Activation, Served, Told, on_call, wanted, is_act}
+use Rattle.server_model.specs.Server as server
 use Rattle.server_model.specs.declared.counted.Counted.{Counted}
 use Rattle.server_model.specs.declared.fault.ServerFault.{ServerFault}
 pub use Rattle.container_model.specs.Record.{without_first}
-use Rattle.container_model.specs.Record.{Record, Took, empty, is_doubtful}
+use Rattle.container_model.specs.Record.{Record, Took, empty, is_doubtful, is_linked}
 use Rattle.container_model.specs.Commands.{on_command}
-use Rattle.container_model.specs.Messages.{on_message, on_reap}
+use Rattle.container_model.specs.Messages.{on_message, on_reap, awaits_save}
 pub use Rattle.container_model.specs.Saves.{done_entry}
 use Rattle.container_model.specs.Saves.{commit_done, image, document_tree, name_after}
 use Rattle.container_model.specs.declared.answer.Action.{Action}
@@ -24,9 +25,12 @@ use Rattle.container_model.specs.declared.answer.Part.{Part}
 use Rattle.container_model.specs.declared.command.Command.{Command}
 use Rattle.container_model.specs.declared.command.Command.TheVariants as command
 use Rattle.container_model.specs.declared.record.Frame.{Frame}
+use Rattle.container_model.specs.declared.record.Link.{Link}
+use Rattle.container_model.specs.declared.record.Object.{Object}
 use Rattle.container_model.specs.declared.fault.ContainerFault.{ContainerFault}
 use Rattle.world_model.specs.declared.logs.View.{View}
 use Rattle.world_model.specs.declared.logs.Sent.{Sent}
+use Rattle.world_model.specs.declared.logs.Taken.{Taken}
 use Rattle.container_model.specs.declared.answer.Done.{Done}
 use Rattle.world_model.specs.declared.logs.ServerDone.{ServerDone}
 use Rattle.world_model.specs.declared.logs.Document.{Document}
@@ -47,8 +51,8 @@ pub record Instance : Type 0 where
 
 -- A world. Servers stand by their incarnations, from 1, and stay after their end. The kinds of the objects in stock. All
 -- messages that were ever sent, by their places, from 1. The object of each activation that was ever made, by its
--- number, from 1. What each event was answered. What each side counted; and of each frame the document of its last
--- counted commit.
+-- number, from 1. What each event was answered. The contents that the container took as work contents. What each side
+-- counted; and of each frame the document of its last counted commit.
 pub record World : Type 0 where
   pub rec : Record
   pub instances : List Instance
@@ -57,12 +61,13 @@ pub record World : Type 0 where
   pub sent : List Sent
   pub owners : List ℕ
   pub answers : List EventAnswer
+  pub taken : List Taken
   pub container_done : List Done
   pub server_done : List ServerDone
   pub counted : List (Option Document)
 
 abbrev pub empty_world : ℕ → List Kind → World
-empty_world numbers stock = record { rec = empty numbers; instances = []; files = []; stock = stock; sent = []; owners = []; answers = []; container_done = []; server_done = []; counted = [] }
+empty_world numbers stock = record { rec = empty numbers; instances = []; files = []; stock = stock; sent = []; owners = []; answers = []; taken = []; container_done = []; server_done = []; counted = [] }
 
 -- What is asked of the world by an answer's actions.
 abbrev pub messages_of : List Action → List Message
@@ -146,6 +151,7 @@ owners_by (command.Edit o bytes) = []
 owners_by (command.Save f) = []
 owners_by (command.Delete o) = []
 owners_by (command.Kill inc) = []
+owners_by (command.Close o option) = []
 
 abbrev pub commanded : World → Command → Result Took ContainerFault → World
 commanded w c (Err fault) = took w (Err fault)
@@ -215,9 +221,51 @@ delivered w (Reply inc act n answer) = Ok (took w (on_message w.rec inc (Reply i
 delivered w (Write inc act s number content) = Ok (took w (on_message w.rec inc (Write inc act s number content)))
 delivered w (Ask inc act g) = Ok (took w (on_message w.rec inc (Ask inc act g)))
 
-abbrev pub deliver : World → Option Sent → Result World Stop
-deliver w None = Err NotEnabled
-deliver w (Some sent) = delivered w sent.message
+-- what the container's record holds of an object just before it takes a content of it
+abbrev pub taken_link : ℕ → ℕ → Option Link → List Taken
+taken_link p o None = []
+taken_link p o (Some l) = record { place = p; object = o; inc = l.inc; act = l.act; persist = l.states.persist.state; s = l.s; awaits_save = awaits_save l } ∷ []
+
+abbrev pub taken_of : ℕ → Option Object → List Taken
+taken_of p None = []
+taken_of p (Some o) = taken_link p o.number o.link
+
+-- the content of a message at this place, if the container takes it
+abbrev pub taken_by : Record → ℕ → ℕ → ℕ → Result Took ContainerFault → List Taken
+taken_by r p inc act (Err fault) = []
+taken_by r p inc act (Ok t) = if t.answer.taken then taken_of p (find (is_linked inc act) r.objects) else []
+
+abbrev pub taken_at : Record → ℕ → Message → List Taken
+taken_at r p (Call inc act n op) = []
+taken_at r p (Reply inc act n answer) = taken_by r p inc act (on_message r inc (Reply inc act n answer))
+taken_at r p (Write inc act s number content) = taken_by r p inc act (on_message r inc (Write inc act s number content))
+taken_at r p (Ask inc act g) = taken_by r p inc act (on_message r inc (Ask inc act g))
+
+abbrev pub with_taken : World → List Taken → Result World Stop → Result World Stop
+with_taken w more (Err stop) = Err stop
+with_taken w more (Ok after) = Ok (record after { taken = w.taken ++ more })
+
+abbrev pub deliver : World → ℕ → Option Sent → Result World Stop
+deliver w p None = Err NotEnabled
+deliver w p (Some sent) = with_taken w (taken_at w.rec p sent.message) (delivered w sent.message)
+
+-- An activation of a server that runs writes.
+abbrev pub scribbled_by : World → ℕ → ℕ → Instance → Result Told ServerFault → World
+scribbled_by w inc act i (Err fault) = record w { answers = w.answers ++ told.Dropped fault ∷ [] }
+scribbled_by w inc act i (Ok t) = record w {
+  instances = set_nth w.instances inc (record i { core = t.server });
+  sent = w.sent ++ record { message = t.message; view = view_in i.core act } ∷ [];
+  answers = w.answers ++ told.Took (record quiet_outcome { sent = places w.sent 1 }) ∷ [];
+}
+
+abbrev pub scribbled : World → ℕ → ℕ → Instance → Life → Result World Stop
+scribbled w inc act i Running = Ok (scribbled_by w inc act i (server.scribble i.core act))
+scribbled w inc act i Ended = Err NotEnabled
+scribbled w inc act i Reaped = Err NotEnabled
+
+abbrev pub scribble : World → ℕ → ℕ → Option Instance → Result World Stop
+scribble w inc act None = Err NotEnabled
+scribble w inc act (Some i) = scribbled w inc act i i.life
 
 -- A server that runs crashes.
 abbrev pub crashed : World → ℕ → Instance → Life → Result World Stop
@@ -272,10 +320,11 @@ done w f bytes = done_in w f bytes (nth w.rec.frames f)
 -- What an event makes of the world, where a commit that is done makes these bytes the file.
 abbrev pub happened : World → List ℕ → Event → Result World Stop
 happened w bytes (event.Command c) = Ok (commanded w c (on_command w.rec c))
-happened w bytes (event.Deliver p) = deliver w (nth w.sent p)
+happened w bytes (event.Deliver p) = deliver w p (nth w.sent p)
 happened w bytes (event.Crash inc) = crash w inc (nth w.instances inc)
 happened w bytes (event.Reap inc) = reap w inc (nth w.instances inc)
 happened w bytes (event.Done f) = done w f bytes
+happened w bytes (event.Scribble inc act) = scribble w inc act (nth w.instances inc)
 
 -- no more events than these are taken
 abbrev pub MOST_EVENTS : ℕ
@@ -294,6 +343,7 @@ IsImage w bytes (event.Command c) = ⊤
 IsImage w bytes (event.Deliver p) = ⊤
 IsImage w bytes (event.Crash inc) = ⊤
 IsImage w bytes (event.Reap inc) = ⊤
+IsImage w bytes (event.Scribble inc act) = ⊤
 IsImage w bytes (event.Done f) = (parts : List Part) → image w.rec f ≡ Ok parts → ∥ Denotes bytes (document_tree parts) ∥₁
 
 -- The worlds that these events reach; they differ in the bytes of files alone.

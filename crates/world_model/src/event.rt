@@ -18,6 +18,8 @@ pub enum Event {
     Reap(u32),
     /// The commit of a frame's file is done.
     Done(u32),
+    /// An activation of a server writes the content that it has now.
+    Scribble(u32, u32),
 }
 
 /// Why a run stops before an event.
@@ -63,5 +65,6 @@ pub fn copy_command(alloc: Global, command: &Command) -> Result<Command, AllocEr
         Command::Save(frame) => Ok(Command::Save(*frame)),
         Command::Delete(object) => Ok(Command::Delete(*object)),
         Command::Kill(inc) => Ok(Command::Kill(*inc)),
+        Command::Close(object, option) => Ok(Command::Close(*object, *option)),
     }
 }

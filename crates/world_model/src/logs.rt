@@ -5,7 +5,7 @@ ghost use Rattle.world_model.specs.World.{quiet_outcome};
 
 use container_model::answer::Part;
 use container_model::fault::ContainerFault;
-use object_state::States;
+use object_state::{PersistState, States};
 use server_model::fault::ServerFault;
 use std::alloc::Global;
 use storage_tree::bytes::Bytes;
@@ -33,6 +33,25 @@ pub struct Sent {
     /// Of a server's message, its activation's state just before; none where the server didn't know the activation, and
     /// none for a container's message.
     pub view: Option<View>,
+}
+
+/// A content that the container took as an object's work content, and what its record held of the object just before.
+#[derive(Debug, Clone, Copy, PartialEq, Eq)]
+pub struct Taken {
+    /// The place of the message that brought it, in the list of messages sent.
+    pub place: u32,
+    /// The object.
+    pub object: u32,
+    /// The incarnation of its server.
+    pub inc: u32,
+    /// Its activation.
+    pub act: u32,
+    /// The state of its storage.
+    pub persist: PersistState,
+    /// The storage grant.
+    pub s: u32,
+    /// Whether a save was asked of it and not answered yet.
+    pub awaits_save: bool,
 }
 
 /// A content that a server counted.
