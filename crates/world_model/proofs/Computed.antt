@@ -1,45 +1,47 @@
 -- The worked runs, by computing.
 use Rattle.std.proofs.Common.{refl}
 use Rattle.std.specs.Fmt.{digits}
+use Rattle.server_model.specs.Pictures.{picture_of}
 use Rattle.world_model.specs.Report.{frame_line, object_line, done_line}
 use Rattle.world_model.specs.Runs.{IsSaved, IsLost, IsKept, IsRepeated, IsReloaded, IsMisedited, IsLimited, IsDeleted, IsWritten, IsClosed, IsSpelled, HasFile, IsWorked}
 
 pub is_saved : IsSaved
-unfolding digits frame_line object_line done_line
+unfolding digits frame_line object_line done_line picture_of
 is_saved = record { answers = refl; told = refl }
 
 pub is_lost : IsLost
-unfolding digits frame_line object_line done_line
+unfolding digits frame_line object_line done_line picture_of
 is_lost = record { answers = refl; told = refl }
 
 pub is_kept : IsKept
-unfolding digits frame_line object_line done_line
+unfolding digits frame_line object_line done_line picture_of
 is_kept = record { answers = refl; told = refl }
 
 pub is_repeated : IsRepeated
+unfolding picture_of
 is_repeated = record { answers = refl; told = refl }
 
 pub is_reloaded : IsReloaded
-unfolding digits frame_line object_line done_line
+unfolding digits frame_line object_line done_line picture_of
 is_reloaded = record { answers = refl; told = refl; out_of_stock = refl }
 
 pub is_misedited : IsMisedited
-unfolding digits frame_line object_line done_line
+unfolding digits frame_line object_line done_line picture_of
 is_misedited = record { answers = refl; told = refl }
 
 pub is_limited : IsLimited
 is_limited = record { frames = refl; objects = refl; servers = refl; three_numbers = refl; one_number = refl; undelivered = refl }
 
 pub is_deleted : IsDeleted
-unfolding digits frame_line object_line done_line
+unfolding digits frame_line object_line done_line picture_of
 is_deleted = record { answers = refl; told = refl }
 
 pub is_written : IsWritten
-unfolding digits frame_line object_line done_line
+unfolding digits frame_line object_line done_line picture_of
 is_written = record { answers = refl; told = refl }
 
 pub is_closed : IsClosed
-unfolding digits frame_line object_line done_line
+unfolding digits frame_line object_line done_line picture_of
 is_closed = record { answers = refl; told = refl }
 
 pub is_spelled : IsSpelled

@@ -81,7 +81,7 @@ pub record IsGranted (w : World) (t : Taken) : Type 0 where
   pub delivered : nth (messages w.sent) t.place ≡ Some message
   pub brings : Brings message t
   pub sent : (view : View) × Among w.sent (record { message = message; view = Some view }) × (view.opened ≡ true) × (view.states.persist.state ≡ Normal) × (view.s ≡ t.s)
-  pub open : t.persist ≡ Normal
+  pub held_open : t.persist ≡ Normal
   pub unasked : t.awaits_save ≡ false
 
 -- A log of commits: the frame, the number of its save, and the parts of its document.
