@@ -6,7 +6,7 @@ use Rattle.world_model.specs.World.{World, Run, StopsAt, empty_world}
 use Rattle.world_safety.proofs.Held.{empty_held, held_run, safe_held}
 use Rattle.world_model.specs.declared.event.Event.{Event}
 use Rattle.world_model.specs.declared.event.Stop.{Stop}
-use Rattle.container_cli.specs.Answers.{answer_lines}
+use Rattle.event_texts.specs.Answers.{answer_lines}
 use Rattle.container_cli.specs.Simulation.{Ends, IsSimulated, stop_text}
 
 -- why a run that took so many of these events ended in this world

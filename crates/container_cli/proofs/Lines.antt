@@ -2,7 +2,7 @@
 use Rattle.std.proofs.Common.{◌≡◌, ◌≤◌, ◌<◌, ◌+◌, ◌-◌, ◌++◌, ℕ, zero, suc, List, [], ◌∷◌, Some, None, length, drop, slice_get, refl, sym, ap, ◌∙◌, arith, append_assoc, append-nil}
 use Rattle.wire_msgs.specs.Found.{nth}
 use Rattle.world_model.specs.declared.logs.EventAnswer.{EventAnswer}
-use Rattle.container_cli.specs.Answers.{answer_line, answer_lines}
+use Rattle.event_texts.specs.Answers.{answer_line, answer_lines}
 
 -- the item of a number and what stands behind it
 get-some : {A : Type 0} (xs : List A) (i : ℕ) (a : A) → slice_get xs i ≡ Some a → (i < length xs) × (drop i xs ≡ a ∷ drop (suc i) xs)

@@ -8,8 +8,8 @@ use Rattle.world_model.specs.World.{StopsAt}
 use Rattle.world_model.specs.World.{World, empty_world, Run}
 use Rattle.world_model.specs.declared.event.Event.{Event}
 use Rattle.world_model.specs.declared.event.Stop.{Stop}
-use Rattle.container_cli.specs.Answers.{answer_lines, stop_line}
-use Rattle.container_cli.specs.Events.{events_read, line_read}
+use Rattle.event_texts.specs.Answers.{answer_lines, stop_line}
+use Rattle.event_texts.specs.Events.{events_read, line_read}
 use Rattle.texts.specs.Input.{MayRefuseInput}
 use Rattle.texts.specs.Lines.{RefusesText}
 use Rattle.container_cli.specs.declared.fault.SimulateFault.{SimulateFault}

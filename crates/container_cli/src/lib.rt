@@ -1,8 +1,6 @@
 //! The program's commands over readers and writers: those over compound files, and the simulation of a world.
 #![tactic(auto)]
 
-mod answers;
-mod events;
 pub mod fault;
 pub mod simulation;
 

@@ -1,6 +1,6 @@
 //! Runs of events.
 
-ghost use Rattle.container_cli.specs.Answers.{answer_lines};
+ghost use Rattle.event_texts.specs.Answers.{answer_lines};
 ghost use Rattle.texts.specs.Input.{most};
 ghost use Rattle.container_cli.specs.Simulation.{IsSimulated, MayRefuseSimulate, Simulates, stop_text};
 ghost use Rattle.std.specs.Prelude.{◌≡◌, ◌≢◌, ◌≤◌, ◌<◌, ◌++◌, IfErr, IfOk, IfSome, OnOk, length, map};
@@ -9,11 +9,11 @@ ghost use Rattle.world_run.specs.Shown.{shown};
 ghost use Rattle.world_run.specs.View.{seen_stocked};
 ghost use Rattle.world_model.specs.World.{MOST_EVENTS};
 
-use crate::answers::{push_answer, push_stop};
-use crate::events::Events;
 use crate::fault::SimulateFault;
 use container_core::container::Limits;
 use embed_core::embedded::Embedded;
+use event_texts::answers::{push_answer, push_stop};
+use event_texts::events::Events;
 use std::alloc::{AllocError, Global};
 use std::io::{Read, Write};
 use texts::input::read_all;

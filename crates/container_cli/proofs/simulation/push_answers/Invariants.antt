@@ -1,7 +1,7 @@
 use Rattle.std.proofs.Common.{◌≡◌, ◌≤◌, ◌++◌, ◌-◌, ◌+◌, [], drop, length}
 use Rattle.embed_core.specs.Content.{note}
 use Rattle.world_run.specs.Shown.{shown}
-use Rattle.container_cli.specs.Answers.{answer_lines}
+use Rattle.event_texts.specs.Answers.{answer_lines}
 use Rattle.container_cli.proofs.simulation.push_answers.Given as goal
 
 abbrev pub invariant-loop-answer : goal.invariant-loop-answer

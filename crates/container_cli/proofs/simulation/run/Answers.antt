@@ -1,5 +1,5 @@
 use Rattle.std.proofs.Common.{length, ap, arith}
-use Rattle.container_cli.proofs.Counted.{run-few}
+use Rattle.world_model.proofs.Counted.{run-few}
 use Rattle.container_cli.proofs.Ending.{simulated}
 use Rattle.container_cli.proofs.simulation.run.Goals as goal
 

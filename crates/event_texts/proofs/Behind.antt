@@ -2,7 +2,7 @@
 use Rattle.std.proofs.Common.{◌≡◌, ℕ, List, ◌∷◌, None, option_map, refl, ap}
 use Rattle.embed_core.specs.Words.{words, number_read}
 use Rattle.embed_core.proofs.Cuts.{pieces-known, pieces-joined}
-use Rattle.container_cli.specs.Events.{edit_of, edit_read, start_read}
+use Rattle.event_texts.specs.Events.{edit_of, edit_read, start_read}
 
 pub edit_read-rest : (o rest : List ℕ) → edit_read (o ∷ words rest) ≡ option_map (edit_of rest) (number_read o)
 edit_read-rest o rest =

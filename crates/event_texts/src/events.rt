@@ -1,6 +1,6 @@
 //! Texts of events.
 
-ghost use Rattle.container_cli.specs.Events.{area_of, edit_read, end_named, event_named, event_read, insert_read, is_file_name, kind_read, new_read, numbers_named, run_read, short_read, sole_number};
+ghost use Rattle.event_texts.specs.Events.{area_of, close_read, edit_read, end_named, event_named, event_read, insert_read, is_file_name, kind_read, new_read, numbers_named, object_named, option_read, pair_read, short_read, sole_number};
 ghost use Rattle.embed_core.specs.Words.{words};
 ghost use Rattle.std.specs.List.{list_all};
 ghost use Rattle.std.specs.Prelude.{◌≡◌, [], IfErr, IfOk, IsSome};
@@ -9,6 +9,7 @@ ghost use Rattle.texts.specs.Words.{is_visible};
 use container_model::command::{Command, ObjectKind};
 use embed_core::words::{Pieces, cut, number};
 use object_parts::area::Area;
+use object_state::CloseOption;
 use std::alloc::{AllocError, Global};
 use storage_tree::bytes::Bytes;
 use texts::lines::Grammar;
@@ -24,7 +25,7 @@ pub struct Events;
 impl Grammar for Events {
     type Line = Event;
 
-    ghost use Rattle.container_cli.specs.Events.{line_read};
+    ghost use Rattle.event_texts.specs.Events.{line_read};
 
     ghost read = { line_read };
 
@@ -80,11 +81,28 @@ fn parse_numbers(name: &[u8], rest: &[u8]) -> Option<Event>
     if name == b"insert".as_slice() {
         insert(rest)
     } else if name == b"run".as_slice() {
-        run(rest)
+        let (object, inc) = two_numbers(rest)?;
+        Some(Event::Command(Command::Run(object, inc)))
     } else if name == b"save".as_slice() {
         Some(Event::Command(Command::Save(sole_number(rest)?)))
     } else if name == b"deliver".as_slice() {
         Some(Event::Deliver(sole_number(rest)?))
+    } else {
+        parse_object(name, rest)
+    }
+}
+
+/// What is done with an object, or the end of something, that a name and what stands behind its space spell.
+fn parse_object(name: &[u8], rest: &[u8]) -> Option<Event>
+    ensures { result ≡ object_named name.now (words rest.now) }
+{
+    if name == b"delete".as_slice() {
+        Some(Event::Command(Command::Delete(sole_number(rest)?)))
+    } else if name == b"close".as_slice() {
+        close(rest)
+    } else if name == b"scribble".as_slice() {
+        let (inc, act) = two_numbers(rest)?;
+        Some(Event::Scribble(inc, act))
     } else {
         parse_end(name, rest)
     }
@@ -100,6 +118,8 @@ fn parse_end(name: &[u8], rest: &[u8]) -> Option<Event>
         Some(Event::Reap(sole_number(rest)?))
     } else if name == b"done".as_slice() {
         Some(Event::Done(sole_number(rest)?))
+    } else if name == b"kill".as_slice() {
+        Some(Event::Command(Command::Kill(sole_number(rest)?)))
     } else {
         None
     }
@@ -114,6 +134,21 @@ fn sole_number(rest: &[u8]) -> Option<u32>
         return None;
     };
     number(word)
+}
+
+/// Two numbers that stand alone.
+fn two_numbers(rest: &[u8]) -> Option<(u32, u32)>
+    ensures { result ≡ pair_read (words rest.now) }
+{
+    let mut words = Pieces::new(rest, b' ');
+    let (Some(first), Some(second), None) = (
+        words.next_piece(),
+        words.next_piece(),
+        words.next_piece(),
+    ) else {
+        return None;
+    };
+    Some((number(first)?, number(second)?))
 }
 
 /// A number of 16 bits.
@@ -211,19 +246,35 @@ fn insert(rest: &[u8]) -> Option<Event>
     }
 }
 
-/// The activation that what stands behind `run` spells.
-fn run(rest: &[u8]) -> Option<Event>
-    ensures { result ≡ run_read (words rest.now) }
+/// How an object is closed.
+fn option(word: &[u8]) -> Option<CloseOption>
+    ensures { result ≡ option_read word.now }
+{
+    if word == b"save".as_slice() {
+        Some(CloseOption::SaveIfDirty)
+    } else if word == b"nosave".as_slice() {
+        Some(CloseOption::NoSave)
+    } else {
+        None
+    }
+}
+
+/// The close that what stands behind `close` spells.
+fn close(rest: &[u8]) -> Option<Event>
+    ensures { result ≡ close_read (words rest.now) }
 {
     let mut words = Pieces::new(rest, b' ');
-    let (Some(object), Some(server), None) = (
+    let (Some(object), Some(chosen), None) = (
         words.next_piece(),
         words.next_piece(),
         words.next_piece(),
     ) else {
         return None;
     };
-    Some(Event::Command(Command::Run(number(object)?, number(server)?)))
+    match (number(object), option(chosen)) {
+        (Some(object), Some(option)) => Some(Event::Command(Command::Close(object, option))),
+        _ => None,
+    }
 }
 
 /// The edit that what stands behind `edit` spells.

@@ -6,7 +6,8 @@ use Rattle.wire_msgs.specs.declared.message.Message.{Message}
 use Rattle.wire_msgs.specs.declared.message.Message.TheVariants.{Call, Reply, Write, Ask}
 use Rattle.wire_msgs.specs.declared.operation.Operation.{Operation}
 use Rattle.wire_msgs.specs.Found.{find, nth}
-use Rattle.server_model.specs.Server.{Served, on_call, wanted}
+use Rattle.server_model.specs.Server.{Served, Told, on_call, wanted}
+use Rattle.server_model.specs.Server as server
 use Rattle.server_model.specs.declared.fault.ServerFault.{ServerFault}
 use Rattle.container_model.specs.Commands.{on_command}
 use Rattle.container_model.specs.Messages.{on_message, on_reap}
@@ -16,7 +17,7 @@ use Rattle.container_model.specs.declared.answer.Part.{Part}
 use Rattle.container_model.specs.declared.command.Command.{Command}
 use Rattle.container_model.specs.declared.fault.ContainerFault.{ContainerFault}
 use Rattle.container_model.specs.declared.record.Frame.{Frame}
-use Rattle.world_model.specs.World.{World, Instance, took, commanded, served, stocked, called_wanting, called_in, called, delivered, deliver, crashed, crash, ended, reap, done_taken, done_imaged, done_in, happened, limited, Run, MOST_EVENTS, is_of}
+use Rattle.world_model.specs.World.{World, Instance, took, commanded, served, stocked, called_wanting, called_in, called, delivered, taken_at, with_taken, deliver, scribbled_by, scribbled, scribble, crashed, crash, ended, reap, done_taken, done_imaged, done_in, happened, limited, Run, MOST_EVENTS, is_of}
 use Rattle.world_model.specs.declared.event.Event.{Event}
 use Rattle.world_model.specs.declared.event.Event.TheVariants as event
 use Rattle.world_model.specs.declared.event.Stop.{Stop}
@@ -24,6 +25,7 @@ use Rattle.world_model.specs.declared.event.Stop.TheVariants.{EventLimit}
 use Rattle.world_model.specs.declared.life.Life.{Life}
 use Rattle.world_model.specs.declared.life.Life.TheVariants.{Running, Ended, Reaped}
 use Rattle.world_model.specs.declared.logs.Sent.{Sent}
+use Rattle.world_model.specs.declared.logs.Taken.{Taken}
 use Rattle.world_model.specs.declared.logs.EventAnswer.{EventAnswer}
 
 -- one more event was answered
@@ -72,9 +74,26 @@ delivered-taken w (Reply inc act n answer) = took-more w (on_message w.rec inc (
 delivered-taken w (Write inc act s number content) = took-more w (on_message w.rec inc (Write inc act s number content))
 delivered-taken w (Ask inc act g) = took-more w (on_message w.rec inc (Ask inc act g))
 
-deliver-taken : (w : World) (sent : Option Sent) → IfTaken w (deliver w sent)
-deliver-taken w None = tt
-deliver-taken w (Some sent) = delivered-taken w sent.message
+with_taken-taken : (w : World) (taken : List Taken) (r : Result World Stop) → IfTaken w r → IfTaken w (with_taken w taken r)
+with_taken-taken w taken (Err stop) one = tt
+with_taken-taken w taken (Ok next) one = one
+
+deliver-taken : (w : World) (p : ℕ) (sent : Option Sent) → IfTaken w (deliver w p sent)
+deliver-taken w p None = tt
+deliver-taken w p (Some sent) = with_taken-taken w (taken_at w.rec p sent.message) (delivered w sent.message) (delivered-taken w sent.message)
+
+scribbled_by-more : (w : World) (inc act : ℕ) (i : Instance) (r : Result Told ServerFault) → More w (scribbled_by w inc act i r)
+scribbled_by-more w inc act i (Err fault) = more w.answers _
+scribbled_by-more w inc act i (Ok t) = more w.answers _
+
+scribbled-taken : (w : World) (inc act : ℕ) (i : Instance) (life : Life) → IfTaken w (scribbled w inc act i life)
+scribbled-taken w inc act i Running = scribbled_by-more w inc act i (server.scribble i.core act)
+scribbled-taken w inc act i Ended = tt
+scribbled-taken w inc act i Reaped = tt
+
+scribble-taken : (w : World) (inc act : ℕ) (i : Option Instance) → IfTaken w (scribble w inc act i)
+scribble-taken w inc act None = tt
+scribble-taken w inc act (Some i) = scribbled-taken w inc act i i.life
 
 crashed-taken : (w : World) (inc : ℕ) (i : Instance) (life : Life) → IfTaken w (crashed w inc i life)
 crashed-taken w inc i Running = more w.answers _
@@ -108,10 +127,11 @@ done_in-taken w f bytes (Some frame) = done_imaged-taken w f bytes frame (image 
 
 happened-taken : (w : World) (bytes : List ℕ) (e : Event) → IfTaken w (happened w bytes e)
 happened-taken w bytes (event.Command c) = commanded-more w c (on_command w.rec c)
-happened-taken w bytes (event.Deliver p) = deliver-taken w (nth w.sent p)
+happened-taken w bytes (event.Deliver p) = deliver-taken w p (nth w.sent p)
 happened-taken w bytes (event.Crash inc) = crash-taken w inc (nth w.instances inc)
 happened-taken w bytes (event.Reap inc) = reap-taken w inc (nth w.instances inc)
 happened-taken w bytes (event.Done f) = done_in-taken w f bytes (nth w.rec.frames f)
+happened-taken w bytes (event.Scribble inc act) = scribble-taken w inc act (nth w.instances inc)
 
 limited-few : (w next : World) (r : Result World Stop) → IfTaken w r → limited w r ≡ Ok next → length next.answers ≤ MOST_EVENTS
 limited-few w next (Err stop) one is = absurd (cc)

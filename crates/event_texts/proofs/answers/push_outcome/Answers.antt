@@ -1,7 +1,7 @@
 use Rattle.std.proofs.Common.{arith}
-use Rattle.container_cli.specs.Answers.{asked_text, made_text, told_text}
-use Rattle.container_cli.proofs.Texts.{or_ok-written}
-use Rattle.container_cli.proofs.answers.push_outcome.Goals as goal
+use Rattle.event_texts.specs.Answers.{asked_text, made_text, told_text}
+use Rattle.event_texts.proofs.Texts.{or_ok-written}
+use Rattle.event_texts.proofs.answers.push_outcome.Goals as goal
 
 pub returns-else-len-before : goal.returns-else-len-before
 returns-else-len-before c =

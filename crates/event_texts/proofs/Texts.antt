@@ -1,6 +1,6 @@
 -- Texts that are written piece by piece.
 use Rattle.std.proofs.Common.{◌≡◌, ◌++◌, ℕ, List, [], ◌∷◌, length, refl, sym, ap, ◌∙◌, append_assoc, append-nil}
-use Rattle.container_cli.specs.Answers.{or_ok}
+use Rattle.event_texts.specs.Answers.{or_ok}
 
 three : (a b c d m t k : List ℕ) → b ≡ a ++ m → c ≡ b ++ t → d ≡ c ++ k → d ≡ a ++ (m ++ t ++ k)
 three a b c d m t k p q r =

@@ -4,6 +4,8 @@ use Rattle.std.specs.List.{ends_with, join_with_byte, list_all}
 use Rattle.std.specs.Str.{bytes_eq}
 use Rattle.embed_core.specs.Words.{words, number_read}
 use Rattle.object_parts.specs.declared.area.Area.{Area}
+use Rattle.object_state.specs.declared.operations.CloseOption.{CloseOption}
+use Rattle.object_state.specs.declared.operations.CloseOption.TheVariants.{SaveIfDirty, NoSave}
 use Rattle.container_model.specs.declared.command.Command.TheVariants as command
 use Rattle.container_model.specs.declared.command.ObjectKind.{ObjectKind}
 use Rattle.container_model.specs.declared.command.ObjectKind.TheVariants.{Note, Table, Drawing}
@@ -28,13 +30,18 @@ is_file_name name = nat_le 1 (length name) && nat_le (length name) 64 && list_al
 abbrev pub name_read : List ℕ → Option (List ℕ)
 name_read word = if is_file_name word then Some word else None
 
+abbrev pub option_read : List ℕ → Option CloseOption
+option_read word =
+    cond (bytes_eq word (codes "save")) (Some SaveIfDirty) (
+    cond (bytes_eq word (codes "nosave")) (Some NoSave) None)
+
 abbrev pub kind_read : List ℕ → Option ObjectKind
 kind_read word =
     cond (bytes_eq word (codes "note")) (Some Note) (
     cond (bytes_eq word (codes "table")) (Some Table) (
     cond (bytes_eq word (codes "drawing")) (Some Drawing) None))
 
--- one number alone, what it makes, and what two make
+-- one number alone, and what it makes
 abbrev pub sole_number : List (List ℕ) → Option ℕ
 sole_number (n ∷ []) = number_read n
 sole_number _ = None
@@ -42,10 +49,18 @@ sole_number _ = None
 abbrev pub one_number : (ℕ → Event) → List (List ℕ) → Option Event
 one_number f words = option_map f (sole_number words)
 
-abbrev pub with_two : (ℕ → ℕ → Event) → Option ℕ → Option ℕ → Option Event
-with_two f (Some a) (Some b) = Some (f a b)
-with_two f (Some a) None = None
-with_two f None b = None
+-- two numbers alone, and what they make
+abbrev pub pair_of : Option ℕ → Option ℕ → Option (ℕ × ℕ)
+pair_of (Some a) (Some b) = Some (a, b)
+pair_of (Some a) None = None
+pair_of None b = None
+
+abbrev pub pair_read : List (List ℕ) → Option (ℕ × ℕ)
+pair_read (a ∷ b ∷ []) = pair_of (number_read a) (number_read b)
+pair_read _ = None
+
+abbrev pub two_numbers : (ℕ → ℕ → Event) → List (List ℕ) → Option Event
+two_numbers f words = option_map (λ (p : ℕ × ℕ). f p.0 p.1) (pair_read words)
 
 abbrev pub area_of : Option ℕ → Option ℕ → Option ℕ → Option ℕ → Option Area
 area_of (Some x) (Some y) (Some w) (Some h) = Some (record { x = x; y = y; w = w; h = h })
@@ -61,6 +76,20 @@ insert_of _ _ _ = None
 
 abbrev pub run_of : ℕ → ℕ → Event
 run_of o inc = event.Command (command.Run o inc)
+
+abbrev pub scribble_of : ℕ → ℕ → Event
+scribble_of inc act = event.Scribble inc act
+
+abbrev pub delete_of : ℕ → Event
+delete_of o = event.Command (command.Delete o)
+
+abbrev pub kill_of : ℕ → Event
+kill_of inc = event.Command (command.Kill inc)
+
+abbrev pub close_of : Option ℕ → Option CloseOption → Option Event
+close_of (Some o) (Some option) = Some (event.Command (command.Close o option))
+close_of (Some o) None = None
+close_of None option = None
 
 abbrev pub edit_of : List ℕ → ℕ → Event
 edit_of bytes o = event.Command (command.Edit o bytes)
@@ -81,9 +110,9 @@ abbrev pub start_read : List (List ℕ) → Option Event
 start_read [] = Some (event.Command command.Start)
 start_read (word ∷ others) = None
 
-abbrev pub run_read : List (List ℕ) → Option Event
-run_read (o ∷ inc ∷ []) = with_two run_of (number_read o) (number_read inc)
-run_read _ = None
+abbrev pub close_read : List (List ℕ) → Option Event
+close_read (o ∷ option ∷ []) = close_of (number_read o) (option_read option)
+close_read _ = None
 
 -- an edit is all that stands behind the space, spaces too
 abbrev pub edit_read : List (List ℕ) → Option Event
@@ -94,14 +123,21 @@ abbrev pub end_named : List ℕ → List (List ℕ) → Option Event
 end_named name others =
     cond (bytes_eq name (codes "crash")) (one_number event.Crash others) (
     cond (bytes_eq name (codes "reap")) (one_number event.Reap others) (
-    cond (bytes_eq name (codes "done")) (one_number event.Done others) None))
+    cond (bytes_eq name (codes "done")) (one_number event.Done others) (
+    cond (bytes_eq name (codes "kill")) (one_number kill_of others) None)))
+
+abbrev pub object_named : List ℕ → List (List ℕ) → Option Event
+object_named name others =
+    cond (bytes_eq name (codes "delete")) (one_number delete_of others) (
+    cond (bytes_eq name (codes "close")) (close_read others) (
+    cond (bytes_eq name (codes "scribble")) (two_numbers scribble_of others) (end_named name others)))
 
 abbrev pub numbers_named : List ℕ → List (List ℕ) → Option Event
 numbers_named name others =
     cond (bytes_eq name (codes "insert")) (insert_read others) (
-    cond (bytes_eq name (codes "run")) (run_read others) (
+    cond (bytes_eq name (codes "run")) (two_numbers run_of others) (
     cond (bytes_eq name (codes "save")) (one_number save_of others) (
-    cond (bytes_eq name (codes "deliver")) (one_number event.Deliver others) (end_named name others))))
+    cond (bytes_eq name (codes "deliver")) (one_number event.Deliver others) (object_named name others))))
 
 abbrev pub event_named : List ℕ → List (List ℕ) → Option Event
 event_named name others =

@@ -1,6 +1,6 @@
 //! What is printed of the answers of events.
 
-ghost use Rattle.container_cli.specs.Answers.{answer_line, answer_text, asked_text, commit_text, made_text, object_text, outcome_text, sent_text, stop_line, told_text};
+ghost use Rattle.event_texts.specs.Answers.{answer_line, answer_text, asked_text, commit_text, made_text, object_text, outcome_text, sent_text, stop_line, told_text};
 ghost use Rattle.std.specs.List.{flat_map};
 ghost use Rattle.std.specs.Prelude.{◌≡◌, ◌++◌, OnOk};
 
