@@ -1,10 +1,7 @@
-pub mod LookupPlaces
-pub mod CommitsObjects
 pub mod CommitsDone
 pub mod MessageSound
-pub mod ServersCounted
-pub mod AskingCallers
 pub mod CommandsRoom
 pub mod CommandsEdit
 pub mod CommandsSave
 pub mod CommitsRoom
+pub mod StepsKeep

@@ -1,14 +1,24 @@
 //! The container.
 
-ghost use Rattle.std.specs.Prelude.{◌≡◌, ◌≤◌, Some, None, option_copied};
-ghost use Rattle.container_model.specs.Record.{Record, empty, is_object};
+ghost use Rattle.std.specs.Prelude.{◌≡◌, ◌≤◌, ◌+◌, IfErr, IfOk, List, Ok, OnErr, length, option_copied};
+ghost use Rattle.container_laws.specs.Steady.{Steady};
+ghost use Rattle.container_model.specs.Commands.{on_command};
+ghost use Rattle.container_model.specs.Messages.{on_message, on_reap};
+ghost use Rattle.container_model.specs.Record.{Record, Refuses, counts_none, empty, is_object};
+ghost use Rattle.container_model.specs.Saves.{commit_done, document_tree, image};
+ghost use Rattle.container_model.specs.declared.answer.Part.{Part};
+ghost use Rattle.file_model.specs.Denotes.{Denotes};
 ghost use Rattle.wire_msgs.specs.Found.{find, nth};
 
-use crate::lookups::{place, place_object};
-use crate::servers::Servers;
+use crate::state::State;
+use container_model::answer::{Answer, Committed, Part};
+use container_model::command::Command;
+use container_model::fault::ContainerFault;
 use container_model::record::{Frame, Object};
 use std::alloc::Global;
 use std::marker::Model;
+use wire_msgs::items::Items;
+use wire_msgs::message::Message;
 
 /// The limits of a container.
 #[derive(Debug, Clone, Copy, PartialEq, Eq)]
@@ -17,86 +27,196 @@ pub struct Limits {
     pub numbers: u32,
 }
 
-/// A container: its frames and objects, and the servers that it started.
+/// A container: its frames and objects, and the servers that it started. Its record is steady, whatever it was told.
 #[derive(Drop)]
 pub struct ContainerCore {
-    pub(crate) frames: Vec<Frame>,
-    pub(crate) objects: Vec<Object>,
-    pub(crate) servers: Servers,
-    pub(crate) last_object: u32,
-    pub(crate) last_act: u32,
-    pub(crate) numbers: u32,
+    state: State,
 }
 
 impl Model for ContainerCore {
+    ghost use Rattle.container_laws.specs.Steady.{Steady};
     ghost use Rattle.container_model.specs.Record.{Record};
-    ghost use Rattle.container_model.specs.Room.{IsSound};
 
     ghost Value = { Record };
 
-    ghost view = { λ c. record { frames = c.frames.items; objects = c.objects.items; servers = c.servers; last_object = c.last_object; last_act = c.last_act; numbers = c.numbers } };
+    ghost view = { λ c. c.state };
 
-    ghost invariant = { λ c. IsSound (record { frames = c.frames.items; objects = c.objects.items; servers = c.servers; last_object = c.last_object; last_act = c.last_act; numbers = c.numbers }) };
+    ghost invariant = { λ c. Steady c.state };
 }
 
 impl ContainerCore {
-    ghost use Rattle.std.specs.Prelude.{◌≡◌, ◌≤◌, option_copied};
+    ghost use Rattle.std.specs.Prelude.{◌≡◌, ◌≤◌, ◌+◌, IfErr, IfOk, List, Ok, OnErr, length, option_copied};
+    ghost use Rattle.container_laws.specs.Steady.{Steady};
+    ghost use Rattle.container_model.specs.Commands.{on_command};
+    ghost use Rattle.container_model.specs.Messages.{on_message, on_reap};
+    ghost use Rattle.container_model.specs.Record.{Refuses, counts_none, empty, is_object};
+    ghost use Rattle.container_model.specs.Saves.{commit_done, document_tree, image};
+    ghost use Rattle.container_model.specs.declared.answer.Part.{Part};
+    ghost use Rattle.file_model.specs.Denotes.{Denotes};
     ghost use Rattle.wire_msgs.specs.Found.{find, nth};
-    ghost use Rattle.container_model.specs.Record.{empty, is_object};
 
     /// A container without frames, objects and servers.
     pub fn new(alloc: Global, limits: Limits) -> ContainerCore
         requires { limits.numbers ≤ 1000000 }
-        ensures { result ≡ empty limits.numbers }
+        ensures empty { result ≡ empty limits.numbers }
+        ensures steady { Steady result }
     {
         ContainerCore {
-            frames: Vec::new(alloc),
-            objects: Vec::new(alloc),
-            servers: Servers::new(alloc),
-            last_object: 0,
-            last_act: 0,
-            numbers: limits.numbers,
+            state: State::new(alloc, limits.numbers),
         }
+    }
+
+    /// A container's record is steady. It does nothing.
+    pub fn steady(&self)
+        ensures { Steady self.now }
+    {
+        let _ = &self.state;
     }
 
     /// The frames, by their numbers from 1.
     pub fn frames(&self) -> &[Frame]
         ensures { result.now ≡ self.now.frames }
     {
-        &self.frames
+        self.state.frames()
     }
 
     /// The objects, in the order in which they were made.
     pub fn objects(&self) -> &[Object]
         ensures { result.now ≡ self.now.objects }
     {
-        &self.objects
+        self.state.objects()
     }
 
     /// The frame of this number.
     pub fn frame(&self, frame: u32) -> Option<&Frame>
         ensures { option_copied result ≡ nth self.now.frames frame }
     {
-        match place(&self.frames, frame) {
-            Some(place) => Some(&self.frames[place]),
-            None => None,
-        }
+        self.state.frame(frame)
     }
 
     /// The object of this number.
     pub fn object(&self, object: u32) -> Option<&Object>
         ensures { option_copied result ≡ find (is_object object) self.now.objects }
     {
-        match place_object(&self.objects, object) {
-            Some(place) => Some(&self.objects[place]),
-            None => None,
-        }
+        self.state.object(object)
     }
 
     /// The greatest number that is drawn.
     pub fn numbers(&self) -> u32
         ensures { result ≡ self.now.numbers }
     {
-        self.numbers
+        self.state.numbers()
+    }
+
+    /// A command of a user. The answer has what was made, what is sent and which files are to be committed.
+    ///
+    /// - New: `Busy` where a frame bears the name or is to be saved under it; `WrongState` where it isn't 1 to 200 columns
+    ///   wide and 1 to 100 lines high; `Full` where there is a frame already; `NumbersSpent`.
+    /// - Insert: `NoSuch` where there is no such frame; `InDoubt` and `Busy` where its commit is in doubt, or it is
+    ///   saving; `WrongState` where the area has no cell; `Full` where it has an object already; `NumbersSpent`.
+    /// - Start: `Full` where there is a server that isn't reaped; `NumbersSpent`.
+    /// - Run: `NoSuch` where there is no such object or no such server; `InDoubt`; `Busy` where its frame is saving or the
+    ///   object has a pending call or waits for the frame; `WrongState` where it runs; `UnknownClass`; `NumbersSpent`.
+    /// - Edit: `NoSuch`, `InDoubt` and `Busy` as for a run; `NotRunning`; `WrongState` where the edit has more than 65,536
+    ///   bytes; `NumbersSpent`.
+    /// - Save: `NoSuch`; `InDoubt`; `Busy` where the frame is saving, its menus and border are being given or taken back,
+    ///   or an object of it is busy; `NumbersSpent`.
+    ///
+    /// Last of all `NoMemory`. A refusal changes nothing.
+    pub fn command(&mut self, alloc: Global, command: Command) -> Result<Answer, ContainerFault>
+        ensures taken { IfOk result (λ a. on_command self.old command ≡ Ok (counts_none self.new a)) }
+        ensures few { IfOk result (λ a. length a.actions ≤ length self.old.objects + length self.old.frames + 1) }
+        ensures refused { IfErr result (Refuses (on_command self.old command)) }
+        ensures kept { OnErr result (self.new ≡ self.old) }
+        ensures steady { Steady self.new }
+    {
+        self.state.command(alloc, command)
+    }
+
+    /// A message on the link of a server. The answer has what is sent and which files are to be committed.
+    ///
+    /// Refused as a wrong link if it isn't one of this link, as stale if it answers no pending call of an object, as a
+    /// bad answer if it doesn't fit the call, and last for want of memory. Then nothing changes.
+    pub fn on_message(
+        &mut self,
+        alloc: Global,
+        link: u32,
+        message: Message,
+    ) -> Result<Answer, ContainerFault>
+        ensures taken { IfOk result (λ a. on_message self.old link message ≡ Ok (counts_none self.new a)) }
+        ensures few { IfOk result (λ a. length a.actions ≤ length self.old.objects + length self.old.frames + 1) }
+        ensures refused { IfErr result (Refuses (on_message self.old link message)) }
+        ensures kept { OnErr result (self.new ≡ self.old) }
+        ensures steady { Steady self.new }
+    {
+        self.state.on_message(alloc, link, message)
+    }
+
+    /// The end of a server: its objects are passive, each with the content that it answered in the present save, if any.
+    /// The answer has which files are to be committed.
+    ///
+    /// Refused if there is no such server that isn't reaped, and last for want of memory. Then nothing changes.
+    pub fn on_reap(&mut self, alloc: Global, inc: u32) -> Result<Answer, ContainerFault>
+        ensures taken { IfOk result (λ a. on_reap self.old inc ≡ Ok (counts_none self.new a)) }
+        ensures few { IfOk result (λ a. length a.actions ≤ length self.old.objects + length self.old.frames + 1) }
+        ensures refused { IfErr result (Refuses (on_reap self.old inc)) }
+        ensures kept { OnErr result (self.new ≡ self.old) }
+        ensures steady { Steady self.new }
+    {
+        self.state.on_reap(alloc, inc)
+    }
+
+    /// The file of a frame was committed. The contents that it holds are counted, each once, and are the objects' work
+    /// contents; the asked name is the frame's, and each object that isn't passive is told that the save is counted.
+    ///
+    /// Refused: `NoSuch` where there is no such frame; `WrongState` where its commit isn't asked for; `Full` where no
+    /// file holds its document; then `NoMemory`. A refusal changes nothing.
+    pub fn commit_done(&mut self, alloc: Global, f: u32) -> Result<Committed, ContainerFault>
+        ensures taken { IfOk result (λ a. commit_done self.old f ≡ Ok (record { rec = self.new; answer = a.answer; counted = a.counted })) }
+        ensures few { IfOk result (λ a. length a.answer.actions ≤ length self.old.objects + length self.old.frames + 1) }
+        ensures counted_few { IfOk result (λ a. length a.counted ≤ length self.old.objects) }
+        ensures refused { IfErr result (Refuses (commit_done self.old f)) }
+        ensures kept { OnErr result (self.new ≡ self.old) }
+        ensures steady { Steady self.new }
+    {
+        self.state.commit_done(alloc, f)
+    }
+
+    /// The document of a frame whose commit is asked for or in doubt: its objects in order, each with the content that
+    /// the save counts.
+    ///
+    /// Refused: `NoSuch` where there is no such frame; `WrongState` where its commit is neither asked for nor in doubt;
+    /// `Full` where no file holds the document; then `NoMemory`.
+    pub fn document(&self, alloc: Global, f: u32) -> Result<Items<Part>, ContainerFault>
+        ensures document { IfOk result (λ parts. image self.now f ≡ Ok parts) }
+        ensures refused { IfErr result (Refuses (image self.now f)) }
+    {
+        self.state.document(alloc, f)
+    }
+
+    /// The document of a frame, as `document`, and the file that is to be committed.
+    ///
+    /// Refused: as `document`.
+    pub fn commit_image(
+        &self,
+        alloc: Global,
+        f: u32,
+    ) -> Result<(Items<Part>, Vec<u8>), ContainerFault>
+        ensures document { IfOk result (λ w. image self.now f ≡ Ok w.0) }
+        ensures denotes { IfOk result (λ w. ∥ Denotes w.1.items (document_tree w.0) ∥₁) }
+        ensures refused { IfErr result (Refuses (image self.now f)) }
+    {
+        self.state.commit_image(alloc, f)
+    }
+
+    /// The file that is to be committed for a frame, which denotes its document (MS-CFB 2).
+    ///
+    /// Refused: as `document`.
+    pub fn image(&self, alloc: Global, f: u32) -> Result<Vec<u8>, ContainerFault>
+        ensures denotes { IfOk result (λ v. (parts : List Part) × (image self.now f ≡ Ok parts) × ∥ Denotes v.items (document_tree parts) ∥₁) }
+        ensures refused { IfErr result (Refuses (image self.now f)) }
+    {
+        let (_, file) = self.commit_image(alloc, f)?;
+        Ok(file)
     }
 }

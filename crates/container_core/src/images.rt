@@ -1,29 +1,21 @@
 //! The documents of frames whose commits are asked for or in doubt, and their files.
 
 ghost use Rattle.std.specs.Prelude.{◌≡◌, IfErr, IfOk, List, Ok, OnOk};
-ghost use Rattle.container_model.specs.Saves.{document_tree, has_image, image, parts_in};
+ghost use Rattle.container_model.specs.Record.{Refuses};
+ghost use Rattle.container_model.specs.Saves.{document_tree, image, parts_in};
+ghost use Rattle.container_model.specs.declared.answer.Part.{Part};
 ghost use Rattle.file_model.specs.Denotes.{Denotes};
 
-use crate::container::ContainerCore;
-use crate::lookups::place;
+use crate::state::State;
 use container_documents::documents::{file_of, fits, parts_in};
 use container_model::answer::Part;
 use container_model::fault::ContainerFault;
-use container_model::record::Phase;
+use container_objects::checks::has_image;
+use container_objects::lookups::place;
 use std::alloc::Global;
 use wire_msgs::items::Items;
 
-/// Whether a frame has a document whose file is to be committed.
-fn has_image(phase: Phase) -> bool
-    ensures { result ≡ has_image phase }
-{
-    match phase {
-        Phase::Committing | Phase::InDoubt => true,
-        Phase::Idle | Phase::Saving | Phase::HandingOff => false,
-    }
-}
-
-impl ContainerCore {
+impl State {
     ghost use Rattle.std.specs.Prelude.{◌≡◌, IfErr, IfOk, List, Ok, OnOk};
     ghost use Rattle.container_model.specs.Record.{Refuses};
     ghost use Rattle.container_model.specs.Saves.{document_tree, image, parts_in};
@@ -49,12 +41,8 @@ impl ContainerCore {
         Ok(())
     }
 
-    /// The document of a frame whose commit is asked for or in doubt: its objects in order, each with the content that
-    /// the save counts.
-    ///
-    /// Refused: `NoSuch` where there is no such frame; `WrongState` where its commit is neither asked for nor in doubt;
-    /// `Full` where no file holds the document; then `NoMemory`.
-    pub fn document(&self, alloc: Global, f: u32) -> Result<Items<Part>, ContainerFault>
+    /// The document of a frame whose commit is asked for or in doubt.
+    pub(crate) fn document(&self, alloc: Global, f: u32) -> Result<Items<Part>, ContainerFault>
         ensures document { IfOk result (λ parts. image self.now f ≡ Ok parts) }
         ensures refused { IfErr result (Refuses (image self.now f)) }
     {
@@ -65,10 +53,8 @@ impl ContainerCore {
         }
     }
 
-    /// The document of a frame, as `document`, and the file that is to be committed.
-    ///
-    /// Refused: as `document`.
-    pub fn commit_image(
+    /// The document of a frame, and the file that is to be committed.
+    pub(crate) fn commit_image(
         &self,
         alloc: Global,
         f: u32,
@@ -82,16 +68,5 @@ impl ContainerCore {
             Ok(file) => Ok((parts, file)),
             Err(_) => Err(ContainerFault::NoMemory),
         }
-    }
-
-    /// The file that is to be committed for a frame, which denotes its document (MS-CFB 2).
-    ///
-    /// Refused: as `document`.
-    pub fn image(&self, alloc: Global, f: u32) -> Result<Vec<u8>, ContainerFault>
-        ensures denotes { IfOk result (λ v. (parts : List Part) × (image self.now f ≡ Ok parts) × ∥ Denotes v.items (document_tree parts) ∥₁) }
-        ensures refused { IfErr result (Refuses (image self.now f)) }
-    {
-        let (_, file) = self.commit_image(alloc, f)?;
-        Ok(file)
     }
 }

@@ -1,11 +1,16 @@
 //! A container: its frames and objects, what it does with commands and messages, and its saves.
 #![tactic(auto)]
 
-mod checks;
 mod commands;
 mod commits;
 pub mod container;
+mod edits;
+mod frames;
 mod images;
-mod lookups;
+mod inserts;
 mod messages;
-mod servers;
+mod reaps;
+mod runs;
+mod saves;
+mod starts;
+mod state;

@@ -13,12 +13,12 @@ ghost use Rattle.file_model.specs.declared.limit.TheConstants.{MANY};
 use container_model::answer::Part;
 use container_model::record::Object;
 use file_model::limit::{CUTOFF, MANY, MOST_FAT_SECTORS};
+use file_writer::write::write_file;
 use std::alloc::{AllocError, Global};
 use storage_tree::class_id::ClassId;
 use storage_tree::stored::Stored;
 use storage_tree::streams::NamedStream;
 use storage_tree::tree::Tree;
-use stream_io::write::write_file;
 
 /// The content that a save counts: what was answered in it, or the work content where none was.
 pub fn kept(object: &Object) -> &Stored

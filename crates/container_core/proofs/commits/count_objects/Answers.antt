@@ -1,8 +1,0 @@
-use Rattle.container_model.specs.Saves.{counted_object}
-use Rattle.container_core.proofs.CommitsObjects.{mapped_more}
-use Rattle.container_core.proofs.commits.count_objects.Goals as goal
-
-pub loop-object-preserved : goal.loop-object-preserved
-loop-object-preserved c =
-    mapped_more (counted_object c.args.f) c.args.objects.now c.loop-object.objects c.loop-object.object-index c.object-item.result c.count_object.new.object
-    c.loop-object.invariant c.loop-object-test.true c.count_object.ensures

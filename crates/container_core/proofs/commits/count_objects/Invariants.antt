@@ -1,6 +1,0 @@
-use Rattle.std.proofs.Common.{◌≡◌, ◌++◌, drop, take, map}
-use Rattle.container_model.specs.Saves.{counted_object}
-use Rattle.container_core.proofs.commits.count_objects.Given as goal
-
-abbrev pub invariant-loop-object : goal.invariant-loop-object
-invariant-loop-object l = l.objects ≡ map (counted_object l.f) (take l.object-index l.fn.objects) ++ drop l.object-index l.fn.objects

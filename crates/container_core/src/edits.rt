@@ -1,0 +1,70 @@
+//! Running objects that are asked for an edit.
+
+ghost use Rattle.std.specs.Prelude.{◌≡◌, ◌≤◌, IfErr, IfOk, IfSome, Ok, OnErr, length, slice_get};
+ghost use Rattle.container_model.specs.Commands.{edit, edit_linked};
+ghost use Rattle.container_model.specs.Record.{Refuses, counts_none};
+ghost use Rattle.container_model.specs.Numbered.{IsObjectAt};
+
+use crate::state::State;
+use container_model::answer::Answer;
+use container_model::fault::ContainerFault;
+use container_objects::checks;
+use container_objects::edits::edit_one;
+use container_objects::lookups::{place, place_object};
+use std::alloc::Global;
+use storage_tree::bytes::Bytes;
+
+impl State {
+    ghost use Rattle.std.specs.Prelude.{◌≡◌, ◌≤◌, IfErr, IfOk, IfSome, Ok, OnErr, length, slice_get};
+    ghost use Rattle.container_model.specs.Commands.{edit, edit_linked};
+    ghost use Rattle.container_model.specs.Record.{Refuses, counts_none};
+    ghost use Rattle.container_model.specs.Numbered.{IsObjectAt};
+
+    // A running object is asked for an edit.
+    pub(crate) fn edit(
+        &mut self,
+        alloc: Global,
+        object: u32,
+        bytes: Bytes,
+    ) -> Result<Answer, ContainerFault>
+        ensures taken { IfOk result (λ a. edit self.old object bytes ≡ Ok (counts_none self.new a)) }
+        ensures few { IfOk result (λ a. length a.actions ≤ 1) }
+        ensures refused { IfErr result (Refuses (edit self.old object bytes)) }
+        ensures kept { OnErr result (self.new ≡ self.old) }
+    {
+        let Some(i) = place_object(self.objects.as_slice(), object) else {
+            return Err(ContainerFault::NoSuch);
+        };
+        let Some(at) = place(self.frames.as_slice(), self.objects[i].frame) else {
+            return Err(ContainerFault::NoSuch);
+        };
+        if checks::is_doubtful(self.frames[at].phase) {
+            return Err(ContainerFault::InDoubt);
+        }
+        let state = self.frames[at].ui.state();
+        if checks::is_saving(self.frames[at].phase) || checks::is_busy(&state, &self.objects[i]) {
+            return Err(ContainerFault::Busy);
+        }
+        self.edit_object(alloc, i, bytes)
+    }
+
+    // The object that stands there is asked for an edit.
+    fn edit_object(
+        &mut self,
+        alloc: Global,
+        i: usize,
+        bytes: Bytes,
+    ) -> Result<Answer, ContainerFault>
+        requires { IsObjectAt self.old.objects i }
+        ensures taken { IfOk result (λ a. IfSome (slice_get self.old.objects i) (λ o. edit_linked self.old o bytes o.link ≡ Ok (counts_none self.new a))) }
+        ensures few { IfOk result (λ a. length a.actions ≤ 1) }
+        ensures refused { IfErr result (λ e. IfSome (slice_get self.old.objects i) (λ o. Refuses (edit_linked self.old o bytes o.link) e)) }
+        ensures kept { OnErr result (self.new ≡ self.old) }
+    {
+        let actions = match edit_one(alloc, self.numbers, &mut self.objects[i], bytes) {
+            Ok(actions) => actions,
+            Err(fault) => return Err(fault),
+        };
+        Ok(Answer::acts(alloc, actions))
+    }
+}

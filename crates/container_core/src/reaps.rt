@@ -1,0 +1,38 @@
+//! What a container does at the end of a server.
+
+ghost use Rattle.std.specs.Prelude.{◌+◌, ◌≡◌, ◌≤◌, IfErr, IfOk, Ok, OnErr, length};
+ghost use Rattle.container_model.specs.Record.{Refuses, counts_none};
+ghost use Rattle.container_model.specs.Messages.{on_reap};
+
+use crate::state::State;
+use container_links::settling::settle_into;
+use container_model::answer::Answer;
+use container_model::fault::ContainerFault;
+use container_objects::reaps::reap_all;
+use container_objects::replies::answered;
+use std::alloc::Global;
+
+impl State {
+    ghost use Rattle.std.specs.Prelude.{◌+◌, ◌≡◌, ◌≤◌, IfErr, IfOk, Ok, OnErr, length};
+    ghost use Rattle.container_model.specs.Record.{Refuses, counts_none};
+    ghost use Rattle.container_model.specs.Messages.{on_reap};
+
+    /// The end of a server.
+    pub(crate) fn on_reap(&mut self, alloc: Global, inc: u32) -> Result<Answer, ContainerFault>
+        ensures taken { IfOk result (λ a. on_reap self.old inc ≡ Ok (counts_none self.new a)) }
+        ensures few { IfOk result (λ a. length a.actions ≤ length self.old.objects + length self.old.frames + 1) }
+        ensures refused { IfErr result (Refuses (on_reap self.old inc)) }
+        ensures kept { OnErr result (self.new ≡ self.old) }
+    {
+        if !self.servers.is_alive(inc) {
+            return Err(ContainerFault::NoSuch);
+        }
+        let Ok(mut actions) = Vec::with_capacity(alloc, self.frames.len()) else {
+            return Err(ContainerFault::NoMemory);
+        };
+        reap_all(inc, &mut self.objects);
+        self.servers.reap(inc);
+        settle_into(&mut actions, &mut self.frames, &self.objects);
+        Ok(answered(alloc, None, actions))
+    }
+}

@@ -1,0 +1,78 @@
+//! Passive objects that are activated.
+
+ghost use Rattle.std.specs.Prelude.{◌≡◌, ◌≤◌, IfErr, IfOk, IfSome, Ok, OnErr, length, slice_get};
+ghost use Rattle.container_model.specs.Commands.{run, run_object};
+ghost use Rattle.container_model.specs.Record.{Refuses, counts_none};
+ghost use Rattle.container_model.specs.Numbered.{IsObjectAt};
+
+use crate::state::State;
+use container_model::answer::Answer;
+use container_model::fault::ContainerFault;
+use container_objects::activations::{begin, begun};
+use container_objects::checks;
+use container_objects::lookups::{place, place_object};
+use std::alloc::Global;
+
+impl State {
+    ghost use Rattle.std.specs.Prelude.{◌≡◌, ◌≤◌, IfErr, IfOk, IfSome, Ok, OnErr, length, slice_get};
+    ghost use Rattle.container_model.specs.Commands.{run, run_object};
+    ghost use Rattle.container_model.specs.Record.{Refuses, counts_none};
+    ghost use Rattle.container_model.specs.Numbered.{IsObjectAt};
+
+    // A new activation of a passive object.
+    pub(crate) fn run(
+        &mut self,
+        alloc: Global,
+        object: u32,
+        inc: u32,
+    ) -> Result<Answer, ContainerFault>
+        ensures taken { IfOk result (λ a. run self.old object inc ≡ Ok (counts_none self.new a)) }
+        ensures few { IfOk result (λ a. length a.actions ≤ 1) }
+        ensures refused { IfErr result (Refuses (run self.old object inc)) }
+        ensures kept { OnErr result (self.new ≡ self.old) }
+    {
+        let Some(i) = place_object(self.objects.as_slice(), object) else {
+            return Err(ContainerFault::NoSuch);
+        };
+        let Some(at) = place(self.frames.as_slice(), self.objects[i].frame) else {
+            return Err(ContainerFault::NoSuch);
+        };
+        if !self.servers.is_alive(inc) {
+            return Err(ContainerFault::NoSuch);
+        }
+        if checks::is_doubtful(self.frames[at].phase) {
+            return Err(ContainerFault::InDoubt);
+        }
+        let state = self.frames[at].ui.state();
+        if checks::is_saving(self.frames[at].phase) || checks::is_busy(&state, &self.objects[i]) {
+            return Err(ContainerFault::Busy);
+        }
+        self.run_object(alloc, i, inc)
+    }
+
+    // A new activation of the object that stands there.
+    fn run_object(&mut self, alloc: Global, i: usize, inc: u32) -> Result<Answer, ContainerFault>
+        requires { IsObjectAt self.old.objects i }
+        ensures taken { IfOk result (λ a. IfSome (slice_get self.old.objects i) (λ o. run_object self.old o inc ≡ Ok (counts_none self.new a))) }
+        ensures few { IfOk result (λ a. length a.actions ≤ 1) }
+        ensures refused { IfErr result (λ e. IfSome (slice_get self.old.objects i) (λ o. Refuses (run_object self.old o inc) e)) }
+        ensures kept { OnErr result (self.new ≡ self.old) }
+    {
+        if self.objects[i].link.is_some() {
+            return Err(ContainerFault::WrongState);
+        }
+        if !checks::is_known_class(self.objects[i].class) {
+            return Err(ContainerFault::UnknownClass);
+        }
+        if (self.numbers as usize) < checks::MARGIN || self.last_act >= self.numbers {
+            return Err(ContainerFault::NumbersSpent);
+        }
+        let act = self.last_act + 1;
+        let Ok((link, actions)) = begun(alloc, &self.objects[i], inc, act) else {
+            return Err(ContainerFault::NoMemory);
+        };
+        self.last_act = act;
+        begin(&mut self.objects[i], link);
+        Ok(Answer::acts(alloc, actions))
+    }
+}

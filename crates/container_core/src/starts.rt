@@ -1,0 +1,45 @@
+//! New servers.
+
+ghost use Rattle.std.specs.Prelude.{◌≡◌, ◌≤◌, IfErr, IfOk, Ok, OnErr, length};
+ghost use Rattle.container_model.specs.Commands.{start};
+ghost use Rattle.container_model.specs.Record.{Refuses, counts_none};
+
+use crate::state::State;
+use container_model::answer::{Action, Answer};
+use container_model::fault::ContainerFault;
+use std::alloc::Global;
+
+// How many servers may be there that aren't reaped.
+const MOST_SERVERS: usize = 1;
+
+impl State {
+    ghost use Rattle.std.specs.Prelude.{◌≡◌, ◌≤◌, IfErr, IfOk, Ok, OnErr, length};
+    ghost use Rattle.container_model.specs.Commands.{start};
+    ghost use Rattle.container_model.specs.Record.{Refuses, counts_none};
+
+    // A new server.
+    pub(crate) fn start(&mut self, alloc: Global) -> Result<Answer, ContainerFault>
+        ensures taken { IfOk result (λ a. start self.old ≡ Ok (counts_none self.new a)) }
+        ensures few { IfOk result (λ a. length a.actions ≤ 1) }
+        ensures refused { IfErr result (Refuses (start self.old)) }
+        ensures kept { OnErr result (self.new ≡ self.old) }
+    {
+        if self.servers.count_alive() >= MOST_SERVERS {
+            return Err(ContainerFault::Full);
+        }
+        let count = self.servers.len();
+        if count >= self.numbers as usize {
+            return Err(ContainerFault::NumbersSpent);
+        }
+        let inc = count as u32 + 1;
+        let mut answer = Answer::quiet(alloc);
+        answer.server = Some(inc);
+        if answer.actions.push(Action::Start(inc)).is_err() {
+            return Err(ContainerFault::NoMemory);
+        }
+        if self.servers.start().is_err() {
+            return Err(ContainerFault::NoMemory);
+        }
+        Ok(answer)
+    }
+}

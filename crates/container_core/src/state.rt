@@ -1,0 +1,96 @@
+//! What a container is made of.
+
+ghost use Rattle.std.specs.Prelude.{◌≡◌, ◌≤◌, Some, None, option_copied};
+ghost use Rattle.container_model.specs.Record.{Record, empty, is_object};
+ghost use Rattle.wire_msgs.specs.Found.{find, nth};
+
+use container_model::record::{Frame, Object};
+use container_objects::lookups::{place, place_object};
+use container_objects::servers::Servers;
+use std::alloc::Global;
+use std::marker::Model;
+
+/// The frames and objects of a container, and the servers that it started. A `ContainerCore` holds it, with what stays true
+/// of its record.
+#[derive(Drop)]
+pub(crate) struct State {
+    pub(crate) frames: Vec<Frame>,
+    pub(crate) objects: Vec<Object>,
+    pub(crate) servers: Servers,
+    pub(crate) last_object: u32,
+    pub(crate) last_act: u32,
+    pub(crate) numbers: u32,
+}
+
+impl Model for State {
+    ghost use Rattle.container_model.specs.Record.{Record};
+    ghost use Rattle.container_model.specs.Room.{IsSound};
+
+    ghost Value = { Record };
+
+    ghost view = { λ c. record { frames = c.frames.items; objects = c.objects.items; servers = c.servers; last_object = c.last_object; last_act = c.last_act; numbers = c.numbers } };
+
+    ghost invariant = { λ c. IsSound (record { frames = c.frames.items; objects = c.objects.items; servers = c.servers; last_object = c.last_object; last_act = c.last_act; numbers = c.numbers }) };
+}
+
+impl State {
+    ghost use Rattle.std.specs.Prelude.{◌≡◌, ◌≤◌, option_copied};
+    ghost use Rattle.wire_msgs.specs.Found.{find, nth};
+    ghost use Rattle.container_model.specs.Record.{empty, is_object};
+
+    /// No frames, objects and servers.
+    pub(crate) fn new(alloc: Global, numbers: u32) -> State
+        requires { numbers ≤ 1000000 }
+        ensures { result ≡ empty numbers }
+    {
+        State {
+            frames: Vec::new(alloc),
+            objects: Vec::new(alloc),
+            servers: Servers::new(alloc),
+            last_object: 0,
+            last_act: 0,
+            numbers,
+        }
+    }
+
+    /// The frames, by their numbers from 1.
+    pub(crate) fn frames(&self) -> &[Frame]
+        ensures { result.now ≡ self.now.frames }
+    {
+        &self.frames
+    }
+
+    /// The objects, in the order in which they were made.
+    pub(crate) fn objects(&self) -> &[Object]
+        ensures { result.now ≡ self.now.objects }
+    {
+        &self.objects
+    }
+
+    /// The frame of this number.
+    pub(crate) fn frame(&self, frame: u32) -> Option<&Frame>
+        ensures { option_copied result ≡ nth self.now.frames frame }
+    {
+        match place(&self.frames, frame) {
+            Some(place) => Some(&self.frames[place]),
+            None => None,
+        }
+    }
+
+    /// The object of this number.
+    pub(crate) fn object(&self, object: u32) -> Option<&Object>
+        ensures { option_copied result ≡ find (is_object object) self.now.objects }
+    {
+        match place_object(&self.objects, object) {
+            Some(place) => Some(&self.objects[place]),
+            None => None,
+        }
+    }
+
+    /// The greatest number that is drawn.
+    pub(crate) fn numbers(&self) -> u32
+        ensures { result ≡ self.now.numbers }
+    {
+        self.numbers
+    }
+}

@@ -1,0 +1,3 @@
+pub mod LookupPlaces
+pub mod CommitsObjects
+pub mod ServersCounted

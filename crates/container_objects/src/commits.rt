@@ -1,0 +1,101 @@
+//! Commits that are done: what they make of a frame and of its objects, and what they count.
+
+ghost use Rattle.std.specs.Prelude.{◌≡◌, ◌≤◌, All, IfOk, length, map, vec_len};
+ghost use Rattle.container_links.specs.Asking.{HasNumber, prepared};
+ghost use Rattle.container_model.specs.Saves.{committed_frame, completed, completion, counted_object, done_entry, part_of, parts_in};
+ghost use Rattle.container_model.specs.declared.record.Frame as declared;
+
+use container_documents::documents::kept;
+use container_links::asking::{Prepared, take_up};
+use container_model::answer::Done;
+use container_model::record::{Frame, Object, Phase};
+use std::alloc::{AllocError, Global};
+use wire_msgs::operation::Operation;
+
+/// What the objects of a frame are told once its save is counted.
+pub fn completion(frame: &Frame) -> Operation
+    ensures { result ≡ completion frame.now }
+{
+    Operation::SaveCompleted {
+        save: frame.k,
+        storage: frame.asked.is_some(),
+    }
+}
+
+/// The file stands under the asked name, and no save is under way.
+pub fn commit_frame(frame: &mut Frame)
+    ensures { frame.new ≡ committed_frame frame.old }
+{
+    if let Some(name) = frame.asked.take() {
+        frame.name = name;
+    }
+    frame.stored = true;
+    frame.phase = Phase::Idle;
+}
+
+/// The content that is counted is an object's work content.
+fn count_object(f: u32, object: &mut Object)
+    ensures { object.new ≡ counted_object f object.old }
+{
+    if object.frame != f {
+        return;
+    }
+    if let Some(link) = &mut object.link {
+        if let Some(content) = link.saved.take() {
+            object.work = content;
+        }
+    }
+}
+
+/// The same in all objects of a frame.
+fn count_objects(f: u32, objects: &mut [Object])
+    ensures { objects.new ≡ map (counted_object f) objects.old }
+{
+    for object in objects.iter_mut() {
+        count_object(f, object);
+    }
+}
+
+/// The same in a vector.
+fn count_all(f: u32, objects: &mut Vec<Object>)
+    ensures items { objects.new.items ≡ map (counted_object f) objects.old.items }
+{
+    count_objects(f, objects);
+}
+
+/// The contents that are counted are work contents, and each object that isn't passive takes up what was prepared.
+pub fn complete_objects(f: u32, objects: &mut Vec<Object>, takes: Vec<Prepared>)
+    requires numbers { All HasNumber objects.old.items }
+    requires each { vec_len takes ≡ length objects.old.items }
+    ensures { (frame : declared.Frame) → takes.items ≡ map (prepared f (completion frame)) objects.old.items → objects.new.items ≡ map (completed f frame) objects.old.items }
+{
+    count_all(f, objects);
+    take_up(objects, takes);
+}
+
+/// What is counted of an object.
+fn entry(alloc: Global, k: u32, object: &Object) -> Result<Done, AllocError>
+    ensures { IfOk result (λ d. d ≡ done_entry k (part_of object.now)) }
+{
+    Ok(Done {
+        object: object.number,
+        k,
+        content: kept(object).copy(alloc)?,
+    })
+}
+
+/// What the save of number `k` counts of the objects of a frame, in order.
+///
+/// Refused for want of memory alone.
+pub fn entries(alloc: Global, f: u32, k: u32, objects: &[Object]) -> Result<Vec<Done>, AllocError>
+    ensures counted { IfOk result (λ v. v.items ≡ map (done_entry k) (parts_in f objects.now)) }
+    ensures few { IfOk result (λ v. vec_len v ≤ length objects.now) }
+{
+    let mut done = Vec::new(alloc);
+    for object in objects {
+        if object.frame == f {
+            done.push(entry(alloc, k, object)?)?;
+        }
+    }
+    Ok(done)
+}

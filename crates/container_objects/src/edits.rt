@@ -1,0 +1,83 @@
+//! Objects that are asked for an edit.
+
+ghost use Rattle.std.specs.Prelude.{◌+◌, ◌≡◌, ◌≤◌, IfErr, IfOk, Ok, OnErr, OnOk, List, length};
+ghost use Rattle.container_links.specs.Asking.{HasNumber};
+ghost use Rattle.container_model.specs.Commands.{edit_fault, edit_linked};
+ghost use Rattle.container_model.specs.Record.{Record, Refuses, acts, asked_link, asked_sent, counts_none, sends, with_object};
+ghost use Rattle.container_model.specs.Room.{HasRoom, IfLinked};
+ghost use Rattle.container_model.specs.declared.record.Frame.{Frame};
+
+use crate::checks::has_numbers;
+use container_links::asking::ask_link;
+use container_model::answer::Action;
+use container_model::fault::ContainerFault;
+use container_model::record::{Link, Object};
+use std::alloc::{AllocError, Global};
+use storage_tree::bytes::Bytes;
+use wire_msgs::items::Items;
+use wire_msgs::operation::Operation;
+
+/// How many bytes an edit may have.
+const MOST_EDIT: usize = 65_536;
+
+// Why an activation isn't asked for an edit of so many bytes.
+fn edit_fault(numbers: u32, link: &Option<Link>, size: usize) -> Option<ContainerFault>
+    requires { IfLinked (λ l. l.last + length l.waiting ≤ 1000000) link.now }
+    ensures { result ≡ edit_fault numbers size link.now }
+{
+    match link {
+        None => Some(ContainerFault::NotRunning),
+        Some(link) => {
+            if size > MOST_EDIT {
+                Some(ContainerFault::WrongState)
+            } else if has_numbers(numbers, link) {
+                None
+            } else {
+                Some(ContainerFault::NumbersSpent)
+            }
+        }
+    }
+}
+
+/// An object is asked for an edit: at once where no call is pending, else behind the operations that wait. What is to be
+/// done for it.
+///
+/// Refused: `NotRunning` where the object is passive; `WrongState` where the edit has more than 65,536 bytes;
+/// `NumbersSpent`; then `NoMemory`. A refusal changes nothing.
+pub fn edit_one(
+    alloc: Global,
+    numbers: u32,
+    object: &mut Object,
+    bytes: Bytes,
+) -> Result<Items<Action>, ContainerFault>
+    requires { HasNumber object.old }
+    ensures taken { IfOk result (λ actions. (r : Record) → r.numbers ≡ numbers → edit_linked r object.old bytes object.old.link ≡ Ok (counts_none (with_object r object.new) (acts actions))) }
+    ensures few { IfOk result (λ actions. length actions ≤ 1) }
+    ensures refused { IfErr result (λ e. (r : Record) → r.numbers ≡ numbers → Refuses (edit_linked r object.old bytes object.old.link) e) }
+    ensures same { object.new.number ≡ object.old.number }
+    ensures room { (frames : List Frame) → HasRoom numbers frames object.old → HasRoom numbers frames object.new }
+    ensures kept { OnErr result (object.new ≡ object.old) }
+{
+    if let Some(fault) = edit_fault(numbers, &object.link, bytes.len()) {
+        return Err(fault);
+    }
+    match ask_object(alloc, object, Operation::Edit(bytes)) {
+        Ok(actions) => Ok(actions),
+        Err(_) => Err(ContainerFault::NoMemory),
+    }
+}
+
+// An object is asked. What is to be done for it.
+fn ask_object(
+    alloc: Global,
+    object: &mut Object,
+    operation: Operation,
+) -> Result<Items<Action>, AllocError>
+    requires { HasNumber object.old }
+    ensures asked { OnOk result (object.new ≡ record object.old { link = asked_link operation object.old.link }) }
+    ensures sent { IfOk result (λ a. a ≡ sends (asked_sent operation object.old.link)) }
+    ensures few { IfOk result (λ a. length a ≤ 1) }
+    ensures kept { OnErr result (object.new ≡ object.old) }
+{
+    ask_link(alloc, &mut object.link, operation)
+}

@@ -1,0 +1,35 @@
+//! Saves that begin.
+
+ghost use Rattle.std.specs.Prelude.{◌≡◌, ◌≤◌, All, IfOk};
+ghost use Rattle.container_links.specs.Asking.{HasNumber, IsAsking};
+ghost use Rattle.container_model.specs.Commands.{saving_frame};
+ghost use Rattle.wire_msgs.specs.declared.operation.Operation.TheVariants.{Save};
+
+use container_links::asking::{Asking, prepare};
+use container_model::record::{Frame, Object, Phase};
+use std::alloc::{AllocError, Global};
+use wire_msgs::operation::Operation;
+
+/// What is needed to ask the objects of a frame for their contents, for the save of number `k`.
+///
+/// Refused for want of memory alone.
+pub fn prepare_save(
+    alloc: Global,
+    frame: u32,
+    k: u32,
+    objects: &[Object],
+) -> Result<Asking, AllocError>
+    requires { All HasNumber objects.now }
+    ensures { IfOk result (λ a. IsAsking frame (Save k) objects.now a.actions.items a.takes.items) }
+{
+    prepare(alloc, frame, &Operation::Save(k), objects)
+}
+
+/// A frame is saved once more: its save has the next number, and waits for contents.
+pub fn begin_save(frame: &mut Frame)
+    requires { frame.old.k ≤ 1000000 }
+    ensures { frame.new ≡ saving_frame frame.old }
+{
+    frame.k += 1;
+    frame.phase = Phase::Saving;
+}
