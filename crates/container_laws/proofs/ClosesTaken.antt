@@ -1,5 +1,5 @@
 -- A close that is taken.
-use Rattle.std.proofs.Common.{◌≡◌, ◌++◌, not, [], ◌∷◌, List, Option, Some, None, Result, Ok, Err, ap, ◌∙◌, sym}
+use Rattle.std.proofs.Common.{◌≡◌, not, [], ◌∷◌, List, Some, Ok, ap, ◌∙◌, sym}
 use Rattle.std.proofs.lemmas.List.{append-nil}
 use Rattle.wire_msgs.specs.declared.message.Message.{Message}
 use Rattle.wire_msgs.specs.declared.operation.Operation.TheVariants.{Close}

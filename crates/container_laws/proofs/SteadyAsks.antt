@@ -1,5 +1,5 @@
 -- Edits and closes, which ask an object of an idle frame that has nothing to do, keep a record steady.
-use Rattle.std.proofs.Common.{◌≡◌, ℕ, false, not, List, Option, Some, None, Ok, refl, sym, ap, ◌∙◌, subst}
+use Rattle.std.proofs.Common.{◌≡◌, ℕ, false, List, Option, Some, None, Ok, refl, sym, ap, ◌∙◌, subst}
 use Rattle.std.specs.Prelude.{◌||◌}
 use Rattle.wire_msgs.specs.Found.{find, nth}
 use Rattle.wire_msgs.specs.declared.operation.Operation.{Operation}

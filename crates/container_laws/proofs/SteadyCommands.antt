@@ -1,37 +1,33 @@
 -- Commands keep a record steady.
-use Rattle.std.proofs.Common.{◌≡◌, ◌≤◌, ◌<◌, inl, ℕ, zero, suc, ◌+◌, Bool, true, false, not, List, [], ◌∷◌, ◌++◌, length, Option, Some, None, Result, Ok, Err, refl, sym, ap, ◌∙◌, arith, subst, ◌==◌, if◌then◌else◌}
+use Rattle.std.proofs.Common.{◌≡◌, ◌≤◌, ◌<◌, inl, ℕ, zero, suc, ◌+◌, Bool, true, false, not, List, [], ◌∷◌, ◌++◌, length, Option, Some, None, Result, Ok, Err, refl, sym, ap, ◌∙◌, arith, subst, ◌==◌}
 use Rattle.std.proofs.lemmas.Bool.{eqb-true, eqb-false, leb-false}
 use Rattle.std.specs.Prelude.{IfSome, is_some, nat_lt, nat_le, ◌||◌, slice_get}
 use Rattle.wire_msgs.specs.Found.{find, put, nth, set_nth}
 use Rattle.wire_msgs.specs.declared.operation.Operation.{Operation}
-use Rattle.wire_msgs.specs.declared.operation.Operation.TheVariants.{InitNew, Load, Edit, Save, Close}
+use Rattle.wire_msgs.specs.declared.operation.Operation.TheVariants.{InitNew, Load, Save}
 use Rattle.grant_core.specs.declared.grant_states.GrantState.{GrantState}
 use Rattle.storage_tree.specs.declared.streams.NamedStream.{NamedStream}
 use Rattle.embed_core.specs.Kinds.{Kind, Note, Table, Drawing}
 use Rattle.object_parts.specs.Limits.{is_within}
 use Rattle.object_parts.specs.declared.area.Area.{Area}
 use Rattle.ole_parts.specs.CompObjs.{PAST_USER_TYPE}
-use Rattle.object_state.specs.declared.operations.CloseOption.{CloseOption}
 use Rattle.container_model.specs.declared.record.Link.{Link}
 use Rattle.container_model.specs.declared.record.Object.{Object}
 use Rattle.container_model.specs.declared.record.Frame.{Frame}
 use Rattle.container_model.specs.declared.record.Phase.{Phase}
-use Rattle.container_model.specs.declared.record.Phase.TheVariants.{Idle, Saving, InDoubt}
+use Rattle.container_model.specs.declared.record.Phase.TheVariants.{Idle, Saving}
 use Rattle.container_model.specs.declared.command.Command.TheVariants as command
 use Rattle.container_model.specs.declared.answer.Action.TheVariants.{End}
 use Rattle.container_model.specs.declared.fault.ContainerFault.{ContainerFault}
 use Rattle.container_model.specs.declared.fault.ContainerFault.TheVariants.{NoSuch, Busy, InDoubt as Doubtful, Full, NumbersSpent, WrongState, UnknownClass}
-use Rattle.container_laws.proofs.ClosesTaken.{closing, close_taken}
-use Rattle.container_laws.proofs.EditsTaken.{edited, edit_taken}
-use Rattle.container_model.specs.Record.{Record, Took, MOST_FRAMES, MOST_OBJECTS, MOST_SERVERS, MARGIN, is_object, is_alive, is_asked, is_busy, is_claim, is_moving, is_saving, is_doubtful, count_alive, count_objects, is_unreaped, acts, counts_none, without_first, with_object, ask, ask_at, asked_link, asked_object}
+use Rattle.container_model.specs.Record.{Record, Took, MOST_FRAMES, MOST_OBJECTS, MOST_SERVERS, MARGIN, is_object, is_alive, is_asked, is_busy, is_claim, is_moving, is_saving, is_doubtful, count_alive, count_objects, is_unreaped, acts, counts_none, without_first, asked_link, asked_object}
 use Rattle.grant_core.specs.Grants.{waiting}
 use Rattle.container_model.specs.Commands
 use Rattle.container_laws.specs.Steady.{SteadyLink, SteadyObject, SteadyFrame, InOrder, Steady, SteadyAfterCommands, IsBeginning}
 use Rattle.container_laws.proofs.SteadyLookups.{each_found, each_weaker, each_both, each_put, each_map, each_append, each_set, each_nth, pairs_put, pairs_map, pairs_append, nth_append, nth-set_same, nth-set_other, none_busy}
 use Rattle.container_laws.proofs.SteadyCounts.{count_put, count_map, count_more, count_without, each_without, pairs_without}
-use Rattle.container_laws.proofs.SteadyQueues.{past_if_quiet}
-use Rattle.container_laws.proofs.SteadyLinks.{link_moved, edit_asked, save_asked, close_asked}
-use Rattle.container_laws.proofs.SteadyRecords.{if_told, unless_ok, or_false, some_and, and_some, at_some, if_weaker, if_at, Held, Follows, Apart, apart_none, TookPlace, order_both, put_steady, settle_steady}
+use Rattle.container_laws.proofs.SteadyLinks.{link_moved, save_asked}
+use Rattle.container_laws.proofs.SteadyRecords.{if_told, unless_ok, or_false, some_and, and_some, at_some, if_weaker, Held, Apart, apart_none, TookPlace, order_both, settle_steady}
 pub use Rattle.container_laws.proofs.SteadyTests.{idle_of, not_false, none_of, find_passes, found_numbered, asked_follows}
 use Rattle.container_laws.proofs.SteadyAsks.{edit_at_keeps, close_keeps}
 

@@ -16,10 +16,10 @@ use Rattle.container_model.specs.declared.answer.Part.{Part}
 use Rattle.container_model.specs.declared.record.Frame.{Frame}
 use Rattle.container_model.specs.declared.record.Object.{Object}
 use Rattle.container_model.specs.declared.fault.ContainerFault.{ContainerFault}
-use Rattle.container_model.specs.declared.fault.ContainerFault.TheVariants.{NoSuch, WrongState, Full}
+use Rattle.container_model.specs.declared.fault.ContainerFault.TheVariants.{WrongState, Full}
 use Rattle.container_model.specs.Record.{Record, MOST_OBJECTS, count_objects}
 use Rattle.container_model.specs.Saves.{are_objects, document, document_tree, fitting, fitting_in, has_image, image_at, is_document, kept, part_of, parts_in}
-use Rattle.container_laws.specs.Steady.{DocumentsHold, FullByTheFileAlone, SteadyObject, Steady}
+use Rattle.container_laws.specs.Steady.{DocumentsHold, FullByTheFileAlone, SteadyObject}
 use Rattle.container_laws.proofs.SteadyRecords.{if_told, some_and, Held, kept_object_within}
 
 both_hold : (a b : Bool) → a ≡ true → b ≡ true → (a && b) ≡ true

@@ -25,7 +25,7 @@ use Rattle.container_model.specs.Record.{is_unreaped, ask_at, ask}
 use Rattle.container_model.specs.Messages.{Replied, closed, closed_with, is_fit, next_at, next_link, next_s, done, saved_link, lost, noted, replied}
 use Rattle.container_laws.specs.Steady.{queue_of, queue, stepped, ended, EndsWell, IsBeginning, PastFirstCall, WaitsBehind, IsTimely, IsSavedIn, MayBeStored, SteadyLink, Fits}
 use Rattle.container_laws.proofs.SteadyLookups.{each_weaker, each_append}
-use Rattle.container_laws.proofs.SteadyQueues.{LeavesRunning, has_begun, close_ends, ended_append, taken, done_past, edit_taken, save_begins, save_ends, ends_set, past_if_saving, past_if_quiet, none_asked_again, save_scribbles}
+use Rattle.container_laws.proofs.SteadyQueues.{LeavesRunning, has_begun, close_ends, ended_append, taken, done_past, edit_taken, save_begins, save_ends, past_if_saving, past_if_quiet, none_asked_again, save_scribbles}
 
 -- in another record
 pub link_moved : (servers servers' : List Bool) (last_act last_act' : ℕ) (phase : Phase) (k : ℕ) (l : Link) → l.act ≤ last_act' → is_unreaped (nth servers' l.inc) ≡ true → SteadyLink servers last_act phase k l → SteadyLink servers' last_act' phase k l

@@ -11,7 +11,7 @@ use Rattle.container_model.specs.declared.record.Frame.{Frame}
 use Rattle.container_model.specs.declared.record.Phase.{Phase}
 use Rattle.container_model.specs.declared.record.Phase.TheVariants.{Idle, Saving, HandingOff, Committing, InDoubt}
 use Rattle.container_model.specs.declared.fault.ContainerFault.{ContainerFault}
-use Rattle.container_model.specs.Record.{Record, MOST_OBJECTS, count_objects}
+use Rattle.container_model.specs.Record.{Record, MOST_OBJECTS}
 use Rattle.container_model.specs.Saves.{kept, kept_by, kept_in, awaits, is_awaited_link, is_ready, is_ready_at, settled_frame, settled_frames, settle}
 use Rattle.container_model.specs.Commands.{unless}
 use Rattle.container_laws.specs.Steady.{MayBeStored, SteadyLink, SteadyObject, SteadyFrame, InOrder, Steady, SteadyFromTheStart}
