@@ -9,3 +9,7 @@ pub mod Beginning
 pub mod Ending
 pub mod Acting
 pub mod Starting
+pub mod Alike
+pub mod Telling
+pub mod Leaving
+pub mod Viewing

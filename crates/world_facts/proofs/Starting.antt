@@ -1,9 +1,6 @@
 -- A server starts or ends: each fact stays.
-use Rattle.std.proofs.Common.{◌≡◌, ◌<◌, ℕ, List, Option, Some, None, sym, ◌∙◌, inl, inr, subst}
+use Rattle.std.proofs.Common.{◌≡◌, ℕ, List, Some, sym, ◌∙◌, inl, inr, subst}
 use Rattle.wire_msgs.specs.declared.message.Message.{Message}
-use Rattle.storage_tree.specs.declared.stored.Stored.{Stored}
-use Rattle.server_model.specs.Server.{Activation}
-use Rattle.container_model.specs.declared.record.Link.{Link}
 use Rattle.container_model.specs.declared.answer.Done.{Done}
 use Rattle.world_model.specs.declared.logs.ServerDone.{ServerDone}
 use Rattle.world_facts.specs.Words.{Links, Acts, Lives, IsClosed}

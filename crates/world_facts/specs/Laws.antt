@@ -1,5 +1,5 @@
 -- Laws: each shape of change keeps all facts.
-use Rattle.std.specs.Prelude.{◌≡◌, ◌+◌, ◌++◌, ◌∷◌, ℕ, List, [], length, Option, Some}
+use Rattle.std.specs.Prelude.{◌≡◌, ◌+◌, ◌++◌, ◌∷◌, ℕ, List, [], length, Option, Some, option_map}
 use Rattle.wire_msgs.specs.declared.message.Message.{Message}
 use Rattle.wire_msgs.specs.declared.message.Message.TheVariants.{Call, Reply}
 use Rattle.wire_msgs.specs.declared.operation.Operation.{Operation}
@@ -9,10 +9,13 @@ use Rattle.server_model.specs.declared.counted.Counted.{Counted}
 use Rattle.world_model.specs.declared.life.Life.TheVariants.{Running}
 use Rattle.container_model.specs.declared.answer.Done.{Done}
 use Rattle.world_model.specs.declared.logs.ServerDone.{ServerDone}
+use Rattle.world_model.specs.declared.logs.Sent.{Sent}
+use Rattle.world_model.specs.World.{view_of}
 use Rattle.world_model.specs.Safe.{Among}
 use Rattle.world_facts.specs.Words.{Links, Acts, Lives, IsHonest}
 use Rattle.world_facts.specs.Facts.{Facts}
-use Rattle.world_facts.specs.Shapes.{AsksAll, IsQuiet, CountsAll, Settles, SendsNext, Begins, EndsSome, StartsOrEnds, IsChanged, ActsOn, IsReady, entries_of}
+use Rattle.world_facts.specs.Shapes.{AsksAll, IsQuiet, CountsAll, Settles, SendsNext, Begins, EndsSome, StartsOrEnds, IsChanged, ActsOn, IsReady, entries_of, Tells, IsOwn}
+use Rattle.world_facts.specs.Views.{Views, Grows, LeavesCloses}
 
 -- the pending operation of one object was answered
 abbrev pub SettlingKeeps : Type 0
@@ -56,3 +59,19 @@ ActingKeeps = (links : Links) (acts after : Acts) (lives : Lives) (sent : List M
     (inc act n : ℕ) (op : Operation) (a : Activation) (r : Answer) (told : Option Counted)
     → Facts links acts lives sent owners last counted served → IsReady links → IsHonest inc → Among sent (Call inc act n op) → lives inc ≡ Some Running → IsChanged acts after inc act a → ActsOn acts inc act n op a r told
     → Facts links after lives (sent ++ Reply inc act n r ∷ []) owners last counted (served ++ entries_of inc act owners told)
+
+-- an activation wrote or asked
+abbrev pub TellingKeeps : Type 0
+TellingKeeps = (links : Links) (acts after : Acts) (lives now : Lives) (sent more : List Message) (owners : List ℕ) (last : ℕ) (counted : List Done) (served : List ServerDone)
+    → Tells acts after → ((inc : ℕ) → now inc ≡ lives inc) → ((m : Message) → Among more m → IsOwn m) → Facts links acts lives sent owners last counted served → Facts links after now (sent ++ more) owners last counted served
+
+-- What senders saw stays where no other close is answered, and nothing is written but under its grant;
+abbrev pub LeavingKeepsViews : Type 0
+LeavingKeepsViews = (links now : Links) (acts after : Acts) (log longer : List Sent) → LeavesCloses links now acts after → Grows log longer → Views links acts log → Views now after longer
+
+-- and where a server takes a call.
+abbrev pub ActingKeepsViews : Type 0
+ActingKeepsViews = (links : Links) (acts after : Acts) (lives : Lives) (sent : List Message) (owners : List ℕ) (last : ℕ) (counted : List Done) (served : List ServerDone)
+    (inc act n : ℕ) (op : Operation) (a : Activation) (r : Answer) (told : Option Counted)
+    → Facts links acts lives sent owners last counted served → IsReady links → IsHonest inc → Among sent (Call inc act n op) → lives inc ≡ Some Running → IsChanged acts after inc act a → ActsOn acts inc act n op a r told
+    → (log : List Sent) → Views links acts log → Views links after (log ++ record { message = Reply inc act n r; view = option_map view_of (acts inc act) } ∷ [])

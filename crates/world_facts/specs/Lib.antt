@@ -1,4 +1,5 @@
 pub mod Words
 pub mod Facts
 pub mod Shapes
+pub mod Views
 pub mod Laws

@@ -3,7 +3,7 @@ use Rattle.std.specs.Prelude.{Bool, ◌≡◌, ◌≢◌, ◌⊎◌, ◌+◌, �
 use Rattle.wire_msgs.specs.Found.{nth}
 use Rattle.wire_msgs.specs.declared.message.Message.{Message}
 use Rattle.wire_msgs.specs.Operations.{op_of}
-use Rattle.wire_msgs.specs.declared.message.Message.TheVariants.{Call}
+use Rattle.wire_msgs.specs.declared.message.Message.TheVariants.{Call, Reply, Write, Ask}
 use Rattle.wire_msgs.specs.declared.answer.Answer.{Answer}
 use Rattle.object_state.specs.Both as both
 use Rattle.object_state.specs.declared.both_states.States.{States}
@@ -161,3 +161,31 @@ pub record IsReady (links : Links) : Type 0 where
 abbrev pub entries_of : ℕ → ℕ → List ℕ → Option Counted → List ServerDone
 entries_of inc act owners None = []
 entries_of inc act owners (Some v) = record { inc = inc; object = nth_or_zero (nth owners act); k = v.k; content = v.content } ∷ []
+
+-- Tells: activations are as they were, but for the number of the last content that one of them wrote.
+pub record IsAlike (a b : Activation) : Type 0 where
+  pub last : b.last ≡ a.last
+  pub reply : b.reply ≡ a.reply
+  pub states : b.states ≡ a.states
+  pub saved : b.saved ≡ a.saved
+  pub s : b.s ≡ a.s
+  pub g : b.g ≡ a.g
+  pub closed : a.content ≡ None → b.content ≡ None
+  pub opened : IsOpen a → IsOpen b
+  pub was_open : IsOpen b → IsOpen a
+
+abbrev pub Alike : Option Activation → Option Activation → Type 0
+Alike None None = ⊤
+Alike None (Some b) = ⊥
+Alike (Some a) None = ⊥
+Alike (Some a) (Some b) = IsAlike a b
+
+abbrev pub Tells : Acts → Acts → Type 0
+Tells acts after = (inc act : ℕ) → Alike (acts inc act) (after inc act)
+
+-- neither a call nor a reply
+abbrev pub IsOwn : Message → Type 0
+IsOwn (Call inc act n op) = ⊥
+IsOwn (Reply inc act n answer) = ⊥
+IsOwn (Write inc act s w content) = ⊤
+IsOwn (Ask inc act g) = ⊤

@@ -1,6 +1,6 @@
 //! Laws: each shape of change keeps the facts. Each function is empty: its contract is the law, which is proved.
 
-ghost use Rattle.world_facts.specs.Laws.{ActingKeeps, AskingKeeps, BeginningKeeps, CountingKeeps, EndingKeeps, SendingNextKeeps, SettlingKeeps, StartingKeeps};
+ghost use Rattle.world_facts.specs.Laws.{ActingKeeps, ActingKeepsViews, AskingKeeps, BeginningKeeps, CountingKeeps, EndingKeeps, LeavingKeepsViews, SendingNextKeeps, SettlingKeeps, StartingKeeps, TellingKeeps};
 
 /// The facts stay where the pending operation of an object was answered.
 pub fn settling_keeps()
@@ -40,4 +40,19 @@ pub fn starting_keeps()
 /// The facts stay where a server acts on a call, or answers it again.
 pub fn acting_keeps()
     ensures { ActingKeeps }
+{}
+
+/// The facts stay where an activation writes or asks.
+pub fn telling_keeps()
+    ensures { TellingKeeps }
+{}
+
+/// What senders saw stays where no close is answered, and each write is sent under its grant.
+pub fn leaving_keeps_views()
+    ensures { LeavingKeepsViews }
+{}
+
+/// What senders saw stays where a server acts on a call, or answers it again.
+pub fn acting_keeps_views()
+    ensures { ActingKeepsViews }
 {}

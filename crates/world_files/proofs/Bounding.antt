@@ -1,7 +1,8 @@
 -- What the container counted, after each step.
-use Rattle.std.proofs.Common.{◌≡◌, ◌≢◌, ◌==◌, ℕ, ◌+◌, ◌<◌, ◌≤◌, true, false, List, [], ◌∷◌, ◌++◌, map, Some, refl, sym, ap, ◌∙◌, inl, inr, arith, subst, if◌then◌else◌}
+use Rattle.std.proofs.Common.{◌≡◌, ◌≢◌, ◌==◌, ℕ, ◌+◌, ◌<◌, ◌≤◌, Bool, true, false, List, [], ◌∷◌, ◌++◌, map, Some, refl, sym, ap, ◌∙◌, inl, inr, arith, subst, if◌then◌else◌}
 use Rattle.std.proofs.lemmas.Bool.{eqb-true}
 use Rattle.wire_msgs.specs.Found.{nth, set_nth}
+use Rattle.container_model.specs.Record.{without_first}
 use Rattle.container_model.specs.Saves.{parts_in, part_of, committed_frame}
 use Rattle.container_model.specs.declared.record.Frame.{Frame}
 use Rattle.container_model.specs.declared.record.Object.{Object}
@@ -47,6 +48,17 @@ bounded_object frames ids last f dones b =
       ];
       counted_once = b.counted_once;
     }
+
+-- an object goes
+pub bounded_fewer : (frames : List Frame) (ids fewer : List Id) (last : ℕ) (dones : List Done) → ((x : Id) → Among fewer x → Among ids x) → CountedBounded frames ids last dones → CountedBounded frames fewer last dones
+bounded_fewer frames ids fewer last dones sub b = record { counted = b.counted; below = λ x d frame h g e at. b.below x d frame (sub x h) g e at; counted_once = b.counted_once }
+
+pub among_without : {A B : Type 0} (f : A → B) (test : A → Bool) (xs : List A) (y : B) → Among (map f (without_first test xs)) y → Among (map f xs) y
+among_without f test [] y h = absurd h
+among_without f test (x ∷ xs) y h = elim (test x) as (λ b. Among (map f (if b then xs else x ∷ without_first test xs)) y → Among (map f (x ∷ xs)) y) [
+  | true ↦ (λ g. inr g)
+  | false ↦ (λ g. elim g [ inl e ↦ inl e | inr k ↦ inr (among_without f test xs y k) ])
+] h
 
 -- what a commit counts
 pub parts_of_frame : (f k : ℕ) (os : List Object) (e : Done) → Among (map (done_entry k) (parts_in f os)) e → (o : Object) × Among os o × (o.frame ≡ f) × (e.object ≡ o.number) × (e.k ≡ k)

@@ -9,7 +9,7 @@ use Rattle.container_model.specs.declared.answer.Done.{Done}
 use Rattle.world_model.specs.declared.logs.Document.{Document}
 use Rattle.world_model.specs.World.{document_in, done_entry}
 use Rattle.world_model.specs.Safe.{Commit, entries_of, committed, or_else, commit_of, last_commit}
-use Rattle.world_files.specs.Files.{CommitsCounted, HasCommits}
+use Rattle.world_files.specs.Files.{HasCommits}
 use Rattle.world_facts.proofs.Lookups.{nth_aligned}
 
 -- a new frame, which has no counted commit

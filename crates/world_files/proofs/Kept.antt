@@ -1,5 +1,5 @@
 -- Each event keeps the files and what was counted.
-use Rattle.std.proofs.Common.{◌≡◌, ◌≢◌, ◌==◌, ℕ, zero, suc, ◌+◌, true, false, not, List, [], ◌∷◌, ◌++◌, length, map, Option, Some, None, Result, Ok, Err, refl, sym, ap, ◌∙◌, subst, nat_le, if◌then◌else◌}
+use Rattle.std.proofs.Common.{◌≡◌, ◌≢◌, ◌||◌, ◌==◌, ℕ, zero, suc, ◌+◌, true, false, not, List, [], ◌∷◌, ◌++◌, length, map, Option, Some, None, is_some, Result, Ok, Err, refl, sym, ap, ◌∙◌, subst, nat_le, if◌then◌else◌}
 use Rattle.std.proofs.lemmas.List.{append-nil}
 use Rattle.wire_msgs.specs.Found.{find, nth, set_nth}
 use Rattle.wire_msgs.specs.declared.message.Message.{Message}
@@ -9,12 +9,13 @@ use Rattle.file_model.specs.Denotes.{Denotes}
 use Rattle.file_model.specs.Refusals.{writable}
 use Rattle.file_model.specs.declared.fault.WriteFault.{WriteFault}
 use Rattle.embed_core.specs.Kinds.{Kind}
-use Rattle.server_model.specs.Server.{Served, on_call, wanted}
+use Rattle.server_model.specs.Server.{Served, Told, on_call, wanted}
+use Rattle.server_model.specs.Server as server
 use Rattle.server_model.specs.declared.fault.ServerFault.{ServerFault}
-use Rattle.container_model.specs.Record.{Record, Took, MOST_FRAMES, MOST_OBJECTS, is_doubtful, is_saving, count_objects}
-use Rattle.container_model.specs.Saves.{image, image_at, has_image, fitting, parts_in, document_tree, commit_done, commit_at, commit_fitting, commit_made, committed_frame, completed, completion, counted_object, is_committing, cleared, kept}
+use Rattle.container_model.specs.Record.{Record, Took, MOST_FRAMES, MOST_OBJECTS, is_doubtful, is_saving, is_busy, is_object, count_objects, without_first}
+use Rattle.container_model.specs.Saves.{image, image_at, has_image, fitting, fitting_in, is_document, document, parts_in, document_tree, commit_done, commit_at, commit_fitting, commit_made, committed_frame, completed, completion, counted_object, is_committing, cleared, kept}
 use Rattle.container_model.specs.Messages.{on_message, on_reap}
-use Rattle.container_model.specs.Commands.{on_command, new, new_made, new_frame, insert_at, insert_made, is_named, is_size, is_empty_area, kind_of}
+use Rattle.container_model.specs.Commands.{on_command, new, new_made, new_frame, insert_at, insert_made, is_named, is_size, is_empty_area, kind_of, delete_at, delete_in, delete_made}
 use Rattle.container_model.specs.declared.command.Command.{Command}
 use Rattle.container_model.specs.declared.command.Command.TheVariants as command
 use Rattle.object_parts.specs.declared.area.Area.{Area}
@@ -26,6 +27,7 @@ use Rattle.container_model.specs.declared.answer.Part.{Part}
 use Rattle.container_model.specs.declared.fault.ContainerFault.{ContainerFault}
 use Rattle.container_model.specs.declared.fault.ContainerFault.TheVariants.{Busy, InDoubt as Doubtful, Full, NumbersSpent, WrongState}
 use Rattle.world_model.specs.declared.logs.Sent.{Sent}
+use Rattle.world_model.specs.declared.logs.Taken.{Taken}
 use Rattle.world_model.specs.declared.logs.Document.{Document}
 use Rattle.world_model.specs.declared.life.Life.{Life}
 use Rattle.world_model.specs.declared.life.Life.TheVariants.{Running, Ended, Reaped}
@@ -33,15 +35,15 @@ use Rattle.world_model.specs.declared.event.Event.{Event}
 use Rattle.world_model.specs.declared.event.Event.TheVariants as event
 use Rattle.world_model.specs.declared.event.Stop.{Stop}
 use Rattle.world_model.specs.declared.event.Stop.TheVariants.{EventLimit}
-use Rattle.world_model.specs.World.{World, Instance, document_in, empty_world, joined, took, commanded, served, stocked, called_wanting, called_in, called, delivered, deliver, crashed, crash, ended, reap, kept_commit, done_taken, done_imaged, done_in, happened, limited, IsImage, Run, is_of, frame_file_in, MOST_EVENTS}
+use Rattle.world_model.specs.World.{World, Instance, document_in, empty_world, joined, took, commanded, served, stocked, called_wanting, called_in, called, delivered, taken_at, with_taken, deliver, scribbled_by, scribbled, scribble, crashed, crash, ended, reap, kept_commit, done_taken, done_imaged, done_in, happened, limited, IsImage, is_of, frame_file_in, MOST_EVENTS}
 use Rattle.world_model.specs.Safe.{Commit, IsCounted, IsKept}
 use Rattle.container_laws.specs.Steady.{Steady}
 use Rattle.container_laws.proofs.SteadyRecords.{unless_ok}
 use Rattle.world_files.specs.Files.{id_of, CountedBounded, FilesCounted, HasCommits, Files}
 use Rattle.world_facts.proofs.Lookups.{map_map_same, nth_aligned}
 use Rattle.world_files.proofs.Numbering.{numbered}
-use Rattle.world_files.proofs.Quiet.{IsQuiet, start_quiet, run_quiet, edit_quiet, save_quiet, message_quiet, reap_quiet, id_asked}
-use Rattle.world_files.proofs.Bounding.{bounded_same, bounded_framed, bounded_object, bounded_committed}
+use Rattle.world_files.proofs.Quiet.{IsQuiet, start_quiet, run_quiet, edit_quiet, save_quiet, close_quiet, kill_quiet, message_quiet, reap_quiet, id_asked}
+use Rattle.world_files.proofs.Bounding.{bounded_same, bounded_framed, bounded_object, bounded_fewer, bounded_committed, among_without}
 use Rattle.world_files.proofs.Commits.{counted_framed, counted_committed}
 use Rattle.world_files.proofs.Filing.{stored_same, stored_framed, stored_committed}
 
@@ -116,6 +118,25 @@ insert_framed w f kind area (Some frame) t k at e =
       commits = subst (λ cs. HasCommits cs w.container_done) (sym (append-nil w.counted)) k.commits;
     })
 
+-- Delete
+delete_framed : (w : World) (x : Object) (frame : Option Frame) (t : Took) → Files w → delete_in w.rec x frame ≡ Ok t → Files (joined w t)
+delete_framed w x None t k e = cc
+delete_framed w x (Some frame) t k e =
+    let r = w.rec in
+    let a = (unless_ok (is_doubtful frame.phase) Doubtful _ t e).1 in
+    let b = (unless_ok (is_saving frame.phase || is_busy frame.ui.state x) Busy _ t a).1 in
+    let c : Ok (delete_made r x) ≡ Ok t = (unless_ok (is_some x.link) WrongState _ t b).1 in
+    let is : delete_made r x ≡ t = cc in
+    subst (λ (v : Took). Files (joined w v)) is (record {
+      counted_bounded = bounded_fewer r.frames (map id_of r.objects) (map id_of (without_first (is_object x.number) r.objects)) r.last_object w.container_done (among_without id_of (is_object x.number) r.objects) k.counted_bounded;
+      filed = subst (λ cs. FilesCounted r.frames w.files cs w.container_done) (sym (append-nil w.counted)) k.filed;
+      commits = subst (λ cs. HasCommits cs w.container_done) (sym (append-nil w.counted)) k.commits;
+    })
+
+files_delete : (w : World) (x : Option Object) (t : Took) → Files w → delete_at w.rec x ≡ Ok t → Files (joined w t)
+files_delete w None t k e = cc
+files_delete w (Some x) t k e = delete_framed w x (nth w.rec.frames x.frame) t k e
+
 files_command : (w : World) (c : Command) (t : Took) → Steady w.rec → Files w → on_command w.rec c ≡ Ok t → Files (joined w t)
 files_command w (command.New name x y) t s k e = files_new w name x y t s k e
 files_command w (command.Insert f kind area) t s k e = insert_framed w f (kind_of kind) area (nth w.rec.frames f) t k refl e
@@ -123,6 +144,9 @@ files_command w command.Start t s k e = files_quiet w t k (start_quiet w.rec t e
 files_command w (command.Run o inc) t s k e = files_quiet w t k (run_quiet w.rec o inc t e)
 files_command w (command.Edit o bytes) t s k e = files_quiet w t k (edit_quiet w.rec o bytes t e)
 files_command w (command.Save f) t s k e = files_quiet w t k (save_quiet w.rec f t e)
+files_command w (command.Delete o) t s k e = files_delete w (find (is_object o) w.rec.objects) t k e
+files_command w (command.Kill inc) t s k e = files_quiet w t k (kill_quiet w.rec inc t e)
+files_command w (command.Close o option) t s k e = files_quiet w t k (close_quiet w.rec o option t e)
 
 -- deliveries
 files_served : (w : World) (inc act n : ℕ) (i : Instance) (stock : List Kind) (told : Result Served ServerFault) → Files w → Files (served w inc act n i stock told)
@@ -158,9 +182,28 @@ files_delivered w (Reply inc act n answer) v k e = subst Files (ok_is _ v e) (fi
 files_delivered w (Write inc act s n content) v k e = subst Files (ok_is _ v e) (files_took w (on_message w.rec inc (Write inc act s n content)) k (message_quiet w.rec inc (Write inc act s n content)))
 files_delivered w (Ask inc act g) v k e = subst Files (ok_is _ v e) (files_took w (on_message w.rec inc (Ask inc act g)) k (message_quiet w.rec inc (Ask inc act g)))
 
-files_deliver : (w : World) (sent : Option Sent) (v : World) → Files w → deliver w sent ≡ Ok v → Files v
-files_deliver w None v k e = cc
-files_deliver w (Some sent) v k e = files_delivered w sent.message v k e
+-- what was taken is logged
+files_logged : (w : World) (more : List Taken) (told : Result World Stop) (v : World) → ((u : World) → told ≡ Ok u → Files u) → with_taken w more told ≡ Ok v → Files v
+files_logged w more (Err stop) v h e = cc
+files_logged w more (Ok u) v h e = (let k = h u refl in subst Files (ok_is _ v e) (record { counted_bounded = k.counted_bounded; filed = k.filed; commits = k.commits }))
+
+files_deliver : (w : World) (p : ℕ) (sent : Option Sent) (v : World) → Files w → deliver w p sent ≡ Ok v → Files v
+files_deliver w p None v k e = cc
+files_deliver w p (Some sent) v k e = files_logged w (taken_at w.rec p sent.message) (delivered w sent.message) v (λ u g. files_delivered w sent.message u k g) e
+
+-- what an activation writes
+files_scribbled_by : (w : World) (inc act : ℕ) (i : Instance) (told : Result Told ServerFault) → Files w → Files (scribbled_by w inc act i told)
+files_scribbled_by w inc act i (Err fault) k = record { counted_bounded = k.counted_bounded; filed = k.filed; commits = k.commits }
+files_scribbled_by w inc act i (Ok t) k = record { counted_bounded = k.counted_bounded; filed = k.filed; commits = k.commits }
+
+files_scribbled : (w : World) (inc act : ℕ) (i : Instance) (life : Life) (v : World) → Files w → scribbled w inc act i life ≡ Ok v → Files v
+files_scribbled w inc act i Running v k e = subst Files (ok_is _ v e) (files_scribbled_by w inc act i (server.scribble i.core act) k)
+files_scribbled w inc act i Ended v k e = cc
+files_scribbled w inc act i Reaped v k e = cc
+
+files_scribble : (w : World) (inc act : ℕ) (i : Option Instance) (v : World) → Files w → scribble w inc act i ≡ Ok v → Files v
+files_scribble w inc act None v k e = cc
+files_scribble w inc act (Some i) v k e = files_scribbled w inc act i i.life v k e
 
 -- crashes and reaps
 files_crashed : (w : World) (inc : ℕ) (i : Instance) (life : Life) (v : World) → Files w → crashed w inc i life ≡ Ok v → Files v
@@ -195,13 +238,19 @@ committing_not_idle HandingOff e = cc
 committing_not_idle Committing e = λ h. cc
 committing_not_idle InDoubt e = cc
 
-fitting_is : (parts got : List Part) (told : Result (Unit {0}) WriteFault) → fitting parts told ≡ Ok got → parts ≡ got
-fitting_is parts got (Ok u) e = cc
-fitting_is parts got (Err fault) e = cc
+fitting_in_is : (parts got : List Part) (told : Result (Unit {0}) WriteFault) → fitting_in parts told ≡ Ok got → parts ≡ got
+fitting_in_is parts got (Ok u) e = cc
+fitting_in_is parts got (Err fault) e = cc
+
+fitting_is : (parts got : List Part) → fitting parts ≡ Ok got → parts ≡ got
+fitting_is parts got e = elim (is_document (document parts)) as (λ b. (if b then fitting_in parts (writable (document_tree parts)) else Err Full) ≡ Ok got → parts ≡ got) [
+  | true ↦ (λ g. fitting_in_is parts got _ g)
+  | false ↦ (λ g. cc)
+] e
 
 pub image_is_at : (r : Record) (f : ℕ) (frame : Frame) (got : List Part) → image_at r f (Some frame) ≡ Ok got → parts_in f r.objects ≡ got
-image_is_at r f frame got e = elim (has_image frame.phase) as (λ b. (if b then fitting (parts_in f r.objects) (writable (document_tree (parts_in f r.objects))) else Err WrongState) ≡ Ok got → parts_in f r.objects ≡ got) [
-  | true ↦ (λ g. fitting_is (parts_in f r.objects) got _ g)
+image_is_at r f frame got e = elim (has_image frame.phase) as (λ b. (if b then fitting (parts_in f r.objects) else Err WrongState) ≡ Ok got → parts_in f r.objects ≡ got) [
+  | true ↦ (λ g. fitting_is (parts_in f r.objects) got g)
   | false ↦ (λ g. cc)
 ] e
 
@@ -249,9 +298,10 @@ files_done_in w f bytes (Some frame) v s k at den e = files_imaged w f bytes fra
 
 pub files_happened : (w : World) (bytes : List ℕ) (e : Event) (v : World) → Steady w.rec → Files w → IsImage w bytes e → happened w bytes e ≡ Ok v → Files v
 files_happened w bytes (event.Command c) v s k im e = subst Files (ok_is _ v e) (files_commanded w c (on_command w.rec c) k (λ t g. files_command w c t s k g))
-files_happened w bytes (event.Deliver p) v s k im e = files_deliver w (nth w.sent p) v k e
+files_happened w bytes (event.Deliver p) v s k im e = files_deliver w p (nth w.sent p) v k e
 files_happened w bytes (event.Crash inc) v s k im e = files_crash w inc (nth w.instances inc) v k e
 files_happened w bytes (event.Reap inc) v s k im e = files_reap w inc (nth w.instances inc) v k e
+files_happened w bytes (event.Scribble inc act) v s k im e = files_scribble w inc act (nth w.instances inc) v k e
 files_happened w bytes (event.Done f) v s k im e = files_done_in w f bytes (nth w.rec.frames f) v s k refl im e
 
 pub limited_ok : (w : World) (told : Result World Stop) (v : World) → limited w told ≡ Ok v → told ≡ Ok v

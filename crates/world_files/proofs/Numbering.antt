@@ -1,12 +1,10 @@
 -- The objects of a steady record have numbers of their own, which were drawn, and their frames are there.
-use Rattle.std.proofs.Common.{◌≡◌, ◌≢◌, ◌<◌, ◌≤◌, ℕ, List, [], ◌∷◌, map, Option, Some, sym, ap, ◌∙◌, inl, inr, arith, subst}
-use Rattle.std.specs.Prelude.{IfSome}
+use Rattle.std.proofs.Common.{◌≡◌, ◌≢◌, ◌<◌, ◌≤◌, List, [], ◌∷◌, map, sym, ap, ◌∙◌, inl, inr, arith, subst}
 use Rattle.std.specs.List.{AllByRecursion}
 use Rattle.wire_msgs.specs.Found.{nth}
-use Rattle.container_model.specs.declared.record.Frame.{Frame}
 use Rattle.container_model.specs.declared.record.Object.{Object}
 use Rattle.container_model.specs.Record.{Record}
-use Rattle.container_laws.specs.Steady.{EachPair, InOrder, SteadyLink, SteadyObject, Steady}
+use Rattle.container_laws.specs.Steady.{EachPair, InOrder, SteadyObject, Steady}
 use Rattle.container_laws.proofs.SteadyRecords.{Held, some_and}
 use Rattle.world_model.specs.Safe.{Among}
 use Rattle.world_files.specs.Files.{Id, id_of, Distinct, AreNumbered}

@@ -1,5 +1,5 @@
 -- Steps of the container that leave files and what was counted alone.
-use Rattle.std.proofs.Common.{◌≡◌, ◌||◌, ◌==◌, ℕ, ◌+◌, Bool, true, false, not, List, [], ◌++◌, length, map, Option, Some, None, is_some, Result, Ok, Err, refl, ap, ◌∙◌, subst, nat_le, nat_lt, if◌then◌else◌}
+use Rattle.std.proofs.Common.{◌≡◌, ◌||◌, ◌==◌, ℕ, ◌+◌, Bool, true, false, not, List, [], ◌∷◌, ◌++◌, length, map, Option, Some, None, is_some, Result, Ok, Err, refl, ap, ◌∙◌, subst, nat_le, nat_lt, if◌then◌else◌}
 use Rattle.std.proofs.lemmas.Bool.{eqb-true}
 use Rattle.wire_msgs.specs.Found.{find, put, nth}
 use Rattle.wire_msgs.specs.declared.message.Message.{Message}
@@ -7,17 +7,23 @@ use Rattle.wire_msgs.specs.declared.message.Message.TheVariants.{Call, Reply, Wr
 use Rattle.wire_msgs.specs.declared.operation.Operation.{Operation}
 use Rattle.wire_msgs.specs.declared.operation.Operation.TheVariants.{Save}
 use Rattle.wire_msgs.specs.declared.answer.Answer.{Answer}
+use Rattle.object_parts.specs.Limits.{is_within}
+use Rattle.object_state.specs.Verbs.{close_steps}
+use Rattle.object_state.specs.declared.operations.CloseOption.{CloseOption}
+use Rattle.object_state.specs.declared.verbs.Step.{Step}
+use Rattle.storage_tree.specs.declared.stored.Stored.{Stored}
+use Rattle.container_model.specs.declared.answer.Action.TheVariants.{End}
 use Rattle.container_model.specs.declared.record.Link.{Link}
 use Rattle.container_model.specs.declared.record.Object.{Object}
 use Rattle.container_model.specs.declared.record.Frame.{Frame}
 use Rattle.container_model.specs.declared.fault.ContainerFault.{ContainerFault}
-use Rattle.container_model.specs.declared.fault.ContainerFault.TheVariants.{WrongLink, Stale, NoSuch, Busy, InDoubt, Full, NumbersSpent, WrongState, UnknownClass}
+use Rattle.container_model.specs.declared.fault.ContainerFault.TheVariants.{WrongLink, Stale, BadAnswer, NoSuch, Busy, InDoubt, Full, NumbersSpent, WrongState, UnknownClass}
 use Rattle.container_laws.proofs.EditsTaken.{edit_taken}
 use Rattle.container_laws.proofs.SteadyRecords.{unless_ok}
-use Rattle.container_model.specs.Record.{Record, Took, MOST_SERVERS, MARGIN, quiet_answer, acts, sends, count_alive, is_doubtful, is_saving, is_busy, is_moving, is_object, is_linked, is_alive, asked_link, asked_object}
+use Rattle.container_model.specs.Record.{Record, Took, MOST_SERVERS, MARGIN, quiet_answer, counts_none, acts, sends, has_numbers, count_alive, is_doubtful, is_saving, is_busy, is_moving, is_object, is_linked, is_alive, asked_link, asked_object}
 use Rattle.container_model.specs.Saves.{settle, settle_actions, settled_frames, kept}
-use Rattle.container_model.specs.Messages.{Replied, reply_link, reply_found, reply_taken, replied_object, replied_record, next_sent, on_reply, on_message, on_reap, reaped, reaped_object}
-use Rattle.container_model.specs.Commands.{unless, is_known_class, any_busy, all_have_numbers, start, start_made, run, run_at, run_in, run_made, edit, edit_at, edit_in, edit_linked, save, save_at, save_made, saving, saving_frame}
+use Rattle.container_model.specs.Messages.{Replied, reply_link, reply_found, reply_taken, replied_object, replied_record, next_sent, on_reply, is_open_to, written_object, write_made, write_link, write_found, on_write, on_message, on_reap, reaped, reaped_object}
+use Rattle.container_model.specs.Commands.{is_known_class, any_busy, all_have_numbers, start, start_made, run, run_at, run_in, run_made, edit, edit_at, edit_in, edit_linked, save, save_at, save_made, saving, saving_frame, kill, close, close_at, close_in, close_linked, close_steps_made, close_made}
 use Rattle.world_files.specs.Files.{id_of, AreSameFrames}
 use Rattle.world_facts.proofs.Lookups.{map_put, map_map_same, find_passes}
 use Rattle.world_files.proofs.Frames.{same_frames, same_frames_after, settled_same, saving_same, set_same}
@@ -98,13 +104,50 @@ save_framed r f (Some frame) t at e =
 pub save_quiet : (r : Record) (f : ℕ) (t : Took) → save r f ≡ Ok t → IsQuiet r t
 save_quiet r f t e = save_framed r f (nth r.frames f) t refl e
 
+if_ok : {A : Type 0} (b : Bool) (next : Result A ContainerFault) (fault : ContainerFault) (t : A) → (if b then next else Err fault) ≡ Ok t → next ≡ Ok t
+if_ok true next fault t e = e
+if_ok false next fault t e = cc
+
+-- a close
+close_quiet_steps : (r : Record) (n : ℕ) (x : Object) (l : Link) (steps : Option (List Step)) (t : Took) → find (is_object n) r.objects ≡ Some x → close_steps_made r x l steps ≡ Ok t → IsQuiet r t
+close_quiet_steps r n x l None t f e = cc
+close_quiet_steps r n x l (Some steps) t f e =
+    let at : close_made r x l steps ≡ t = cc in
+    subst (IsQuiet r) at (record { frames = same_frames r.frames; ids = ids_linked r n x _ f refl; last = refl; frame = refl })
+
+close_quiet_linked : (r : Record) (n : ℕ) (option : CloseOption) (x : Object) (l : Option Link) (t : Took) → find (is_object n) r.objects ≡ Some x → close_linked r x option l ≡ Ok t → IsQuiet r t
+close_quiet_linked r n option x None t f e = cc
+close_quiet_linked r n option x (Some l) t f e = (let a = (unless_ok (not (has_numbers r.numbers l)) NumbersSpent _ t e).1 in close_quiet_steps r n x l (close_steps option l.states.object) t f a)
+
+close_framed : (r : Record) (n : ℕ) (option : CloseOption) (x : Object) (frame : Option Frame) (t : Took) → find (is_object n) r.objects ≡ Some x → close_in r x option frame ≡ Ok t → IsQuiet r t
+close_framed r n option x None t f e = cc
+close_framed r n option x (Some frame) t f e =
+    let a = (unless_ok (is_doubtful frame.phase) InDoubt _ t e).1 in
+    let b = (unless_ok (is_saving frame.phase || is_busy frame.ui.state x) Busy _ t a).1 in
+    close_quiet_linked r n option x x.link t f b
+
+close_found : (r : Record) (n : ℕ) (option : CloseOption) (x : Option Object) (t : Took) → find (is_object n) r.objects ≡ x → close_at r option x ≡ Ok t → IsQuiet r t
+close_found r n option None t f e = cc
+close_found r n option (Some x) t f e = close_framed r n option x (nth r.frames x.frame) t f e
+
+pub close_quiet : (r : Record) (n : ℕ) (option : CloseOption) (t : Took) → close r n option ≡ Ok t → IsQuiet r t
+close_quiet r n option t e = close_found r n option (find (is_object n) r.objects) t refl e
+
+-- a kill
+pub kill_quiet : (r : Record) (inc : ℕ) (t : Took) → kill r inc ≡ Ok t → IsQuiet r t
+kill_quiet r inc t e =
+    let made : Took = counts_none r (acts (End inc ∷ [])) in
+    let a : Ok made ≡ Ok t = if_ok (is_alive r inc) (Ok made) NoSuch t e in
+    let at : made ≡ t = cc in
+    subst (IsQuiet r) at (record { frames = same_frames r.frames; ids = refl; last = refl; frame = refl })
+
 -- a reply
 reply_quiet_taken : (r : Record) (inc act : ℕ) (x : Object) (p : Result Replied ContainerFault) (t : Took) → find (is_linked inc act) r.objects ≡ Some x → reply_taken r inc act x p ≡ Ok t → IsQuiet r t
 reply_quiet_taken r inc act x (Err fault) t f e = cc
 reply_quiet_taken r inc act x (Ok p) t f e =
     let os = put (is_linked inc act) (replied_object x p) r.objects in
     let ids : map id_of os ≡ map id_of r.objects = map_put id_of (is_linked inc act) (replied_object x p) x r.objects f refl in
-    let made : Took = record { rec = settle (replied_record r inc act x p); answer = record quiet_answer { refused = p.refused; actions = sends (next_sent p.link) ++ settle_actions (replied_record r inc act x p) }; counted = [] } in
+    let made : Took = record { rec = settle (replied_record r inc act x p); answer = record quiet_answer { taken = is_some p.taken; refused = p.refused; actions = sends (next_sent p.link) ++ settle_actions (replied_record r inc act x p) }; counted = [] } in
     let at : made ≡ t = cc in
     subst (IsQuiet r) at (record { frames = settled_same 1 os r.frames; ids = ids; last = refl; frame = refl })
 
@@ -112,9 +155,18 @@ reply_quiet_found : (r : Record) (inc act n : ℕ) (answer : Answer) (x : Option
 reply_quiet_found r inc act n answer None t f e = cc
 reply_quiet_found r inc act n answer (Some x) t f e = reply_quiet_taken r inc act x (reply_link n answer x.link) t f e
 
-if_ok : {A : Type 0} (b : Bool) (next : Result A ContainerFault) (fault : ContainerFault) (t : A) → (if b then next else Err fault) ≡ Ok t → next ≡ Ok t
-if_ok true next fault t e = e
-if_ok false next fault t e = cc
+-- a write
+write_quiet_linked : (r : Record) (inc act s w : ℕ) (content : Stored) (x : Object) (l : Option Link) (t : Took) → find (is_linked inc act) r.objects ≡ Some x → write_link r inc act s w content x l ≡ Ok t → IsQuiet r t
+write_quiet_linked r inc act s w content x None t f e = cc
+write_quiet_linked r inc act s w content x (Some l) t f e =
+    let a = if_ok (is_open_to l s w) (if is_within content then Ok (write_made r inc act x l w content) else Err BadAnswer) Stale t e in
+    let b : Ok (write_made r inc act x l w content) ≡ Ok t = if_ok (is_within content) (Ok (write_made r inc act x l w content)) BadAnswer t a in
+    let at : write_made r inc act x l w content ≡ t = cc in
+    subst (IsQuiet r) at (record { frames = same_frames r.frames; ids = map_put id_of (is_linked inc act) (written_object x l w content) x r.objects f refl; last = refl; frame = refl })
+
+write_quiet_found : (r : Record) (inc act s w : ℕ) (content : Stored) (x : Option Object) (t : Took) → find (is_linked inc act) r.objects ≡ x → write_found r inc act s w content x ≡ Ok t → IsQuiet r t
+write_quiet_found r inc act s w content None t f e = cc
+write_quiet_found r inc act s w content (Some x) t f e = write_quiet_linked r inc act s w content x x.link t f e
 
 pub message_quiet : (r : Record) (link : ℕ) (m : Message) (t : Took) → on_message r link m ≡ Ok t → IsQuiet r t
 message_quiet r link (Call inc act n op) t e = cc
@@ -122,7 +174,10 @@ message_quiet r link (Reply inc act n answer) t e =
     let a = if_ok (inc == link) (on_reply r inc act n answer) WrongLink t e in
     let b = if_ok (is_alive r inc) (reply_found r inc act n answer (find (is_linked inc act) r.objects)) Stale t a in
     reply_quiet_found r inc act n answer (find (is_linked inc act) r.objects) t refl b
-message_quiet r link (Write inc act s w content) t e = (let a : Err Stale ≡ Ok t = if_ok (inc == link) (Err Stale) WrongLink t e in cc)
+message_quiet r link (Write inc act s w content) t e =
+    let a = if_ok (inc == link) (on_write r inc act s w content) WrongLink t e in
+    let b = if_ok (is_alive r inc) (write_found r inc act s w content (find (is_linked inc act) r.objects)) Stale t a in
+    write_quiet_found r inc act s w content (find (is_linked inc act) r.objects) t refl b
 message_quiet r link (Ask inc act g) t e = (let a : Err Stale ≡ Ok t = if_ok (inc == link) (Err Stale) WrongLink t e in cc)
 
 -- a reap

@@ -1,6 +1,5 @@
 -- Every world that a run reaches is safe.
 use Rattle.std.proofs.Common.{◌≡◌, ℕ, zero, suc, List, [], ◌∷◌, Option, Some, None, Ok, refl, sym, ap, ◌∙◌, subst}
-use Rattle.wire_msgs.specs.declared.message.Message.{Message}
 use Rattle.embed_core.specs.Kinds.{Kind}
 use Rattle.storage_tree.specs.declared.stored.Stored.{Stored}
 use Rattle.server_model.specs.Server.{Activation}
@@ -9,15 +8,14 @@ use Rattle.container_laws.proofs.SteadyRecords.{empty_steady}
 use Rattle.world_model.specs.declared.event.Event.{Event}
 use Rattle.world_model.specs.World.{World, empty_world, happened, IsImage, Run}
 use Rattle.world_model.specs.Safe.{Safe, acts_of, links_of}
-use Rattle.container_model.specs.declared.record.Object.{Object}
-use Rattle.wire_msgs.specs.Found.{nth}
 use Rattle.wire_msgs.specs.declared.operation.Operation.{Operation}
 use Rattle.wire_msgs.specs.declared.operation.Operation.TheVariants.{SaveCompleted}
-use Rattle.world_facts.specs.Words.{Issued, called, waits, lives_of}
+use Rattle.world_facts.specs.Words.{Issued, called, waits}
 use Rattle.world_facts.specs.Facts.{HasSaved}
 use Rattle.world_files.proofs.Kept.{empty_files, files_happened, limited_ok, commits_kept, files_kept}
 use Rattle.world_safety.specs.Holding.{AgreesIn, Holds}
 use Rattle.world_safety.proofs.Events.{agrees_happened}
+use Rattle.world_safety.proofs.Granting.{granted_happened}
 use Rattle.world_safety.proofs.Once.{once_answered}
 
 has_saved : (a : Option Activation) (c : Stored) → HasSaved c a → (b : Activation) × (a ≡ Some b) × (b.saved ≡ Some c)
@@ -32,6 +30,7 @@ safe_held w h = (let f = h.agrees.facts in record {
       let is : a ≡ k.0 = (let z : Some a ≡ Some k.0 = sym e ∙ k.1 in cc) in
       k.3 (ap (λ (x : Activation). x.last) is) ∙ ap (λ (x : Activation). x.reply) (sym is));
   answered = λ n l content e s. has_saved (acts_of w.instances l.inc l.act) content (f.saved_same n l content e tt s);
+  writes = h.taken_held;
   container_once = h.files.counted_bounded.counted_once;
   server_once = f.counts.server_once;
   agreed = λ e g. f.counts.server_counted e g tt;
@@ -82,13 +81,14 @@ empty_agrees numbers stock = record {
       server_counted = λ e h. absurd h;
     };
   };
+  views = record { writes_sent = λ x h. absurd h; closes_sent = λ o l a option e. absurd (no_link o l e) };
 }
 
 pub empty_held : (numbers : ℕ) (stock : List Kind) → Holds (empty_world numbers stock)
-empty_held numbers stock = record { agrees = empty_agrees numbers stock; files = empty_files numbers stock }
+empty_held numbers stock = record { agrees = empty_agrees numbers stock; files = empty_files numbers stock; taken_held = λ t h. absurd h }
 
 held_happened : (w : World) (bytes : List ℕ) (e : Event) (v : World) → Holds w → IsImage w bytes e → happened w bytes e ≡ Ok v → Holds v
-held_happened w bytes e v h im ok = record { agrees = agrees_happened w bytes e v h.files h.agrees ok; files = files_happened w bytes e v h.agrees.steady h.files im ok }
+held_happened w bytes e v h im ok = record { agrees = agrees_happened w bytes e v h.files h.agrees ok; files = files_happened w bytes e v h.agrees.steady h.files im ok; taken_held = granted_happened w bytes e v h.agrees h.taken_held ok }
 
 pub held_run : (w : World) (es : List Event) (after : World) → Holds w → Run w es after → Holds after
 held_run w [] after h r = subst Holds (sym r) h

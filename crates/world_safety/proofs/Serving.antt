@@ -1,5 +1,5 @@
 -- A server takes a call, and its reply is sent.
-use Rattle.std.proofs.Common.{◌≡◌, ℕ, List, [], ◌∷◌, ◌++◌, Option, Some, None, Result, Ok, Err, refl, sym, ap, ◌∙◌, inl, inr, subst}
+use Rattle.std.proofs.Common.{◌≡◌, ℕ, List, [], ◌∷◌, ◌++◌, Option, Some, None, option_map, Result, Ok, Err, refl, sym, ap, ◌∙◌, inl, inr, subst}
 use Rattle.std.proofs.lemmas.Bool.Decides.{eqb_tells}
 use Rattle.wire_msgs.specs.Found.{find, nth, set_nth}
 use Rattle.wire_msgs.specs.declared.message.Message.TheVariants.{Call, Reply}
@@ -9,17 +9,19 @@ use Rattle.server_model.specs.Server.{Activation, Served, on_call, wanted}
 use Rattle.server_model.specs.declared.counted.Counted.{Counted}
 use Rattle.server_model.specs.declared.fault.ServerFault.{ServerFault}
 use Rattle.world_model.specs.declared.event.Stop.{Stop}
-use Rattle.world_model.specs.declared.logs.ServerDone.{ServerDone}
 use Rattle.world_model.specs.declared.life.Life.{Life}
 use Rattle.world_model.specs.declared.life.Life.TheVariants.{Running, Ended, Reaped}
 use Rattle.world_model.specs.declared.logs.Sent.{Sent}
-use Rattle.world_model.specs.World.{World, Instance, nth_or_zero, counted_by, served, stocked, called_wanting, called_in, called, is_of}
-use Rattle.world_model.specs.Safe.{Among, links_of, acts_of, messages}
+use Rattle.world_model.specs.declared.logs.View.{View}
+use Rattle.world_model.specs.World.{World, Instance, nth_or_zero, view_of, view_in, counted_by, served, stocked, called_wanting, called_in, called, is_of}
+use Rattle.world_model.specs.Safe.{Among, links_of, act_at, acts_of, messages}
 use Rattle.world_facts.specs.Words.{life_at, lives_of}
 use Rattle.world_facts.specs.Facts.{Facts}
-use Rattle.world_facts.specs.Shapes.{StartsOrEnds, entries_of}
+use Rattle.world_facts.specs.Shapes.{entries_of}
 use Rattle.world_facts.proofs.Lookups.{length_set_nth}
+use Rattle.world_facts.specs.Views.{Views}
 use Rattle.world_facts.proofs.Acting.{acted}
+use Rattle.world_facts.proofs.Viewing.{views_acted}
 use Rattle.world_facts.proofs.Starting.{started}
 use Rattle.world_steps.proofs.Instances.{nth_same, nth_other}
 use Rattle.world_steps.proofs.Objects.{messages_of_log}
@@ -46,11 +48,23 @@ module _ (w : World) (h : AgreesIn w) (inc act n : ℕ) (op : Operation) (call :
     hosted_still : (x y : ℕ) (a : Activation) → acts_of (set_nth w.instances inc (record i { core = told.server })) x y ≡ Some a → (life : Life) × (lives_of w.instances x ≡ Some life)
     hosted_still x y a g = (let p = hosted (set_nth w.instances inc (record i { core = told.server })) x y a g in (p.0, sym (lives_same x) ∙ p.1))
 
-    pub served_agrees : (view : _) → Agrees w.rec (set_nth w.instances inc (record i { core = told.server })) (w.sent ++ record { message = Reply inc act n told.answer; view = view } ∷ []) w.owners w.container_done (w.server_done ++ counted_by w inc told.counted)
-    served_agrees view =
+    -- the reply was sent with the view of now
+    abbrev replied : Option View → Sent
+    replied view = record { message = Reply inc act n told.answer; view = view }
+
+    reply_seen : replied (option_map view_of (acts_of w.instances inc act)) ≡ replied (view_in i.core act)
+    reply_seen = ap (λ (x : Option Instance). replied (option_map view_of (act_at act x))) at
+
+    views_served : Views (links_of w.rec.objects) (acts_of (set_nth w.instances inc (record i { core = told.server }))) (w.sent ++ record { message = Reply inc act n told.answer; view = view_in i.core act } ∷ [])
+    views_served = subst (λ y. Views (links_of w.rec.objects) (acts_of (set_nth w.instances inc (record i { core = told.server }))) (w.sent ++ y ∷ [])) reply_seen
+        (views_acted (links_of w.rec.objects) (acts_of w.instances) (acts_of (set_nth w.instances inc (record i { core = told.server }))) (lives_of w.instances) (messages w.sent) w.owners w.rec.last_act w.container_done w.server_done inc act n op taken.after told.answer told.counted
+        h.facts (ready w.rec h.steady) tt call (ap life_at at ∙ ap Some runs) taken.changed taken.how w.sent h.views)
+
+    pub served_agrees : Agrees w.rec (set_nth w.instances inc (record i { core = told.server })) (w.sent ++ record { message = Reply inc act n told.answer; view = view_in i.core act } ∷ []) w.owners w.container_done (w.server_done ++ counted_by w inc told.counted)
+    served_agrees =
         let links = links_of w.rec.objects in
         let js = set_nth w.instances inc (record i { core = told.server }) in
-        let x : Sent = record { message = Reply inc act n told.answer; view = view } in
+        let x : Sent = record { message = Reply inc act n told.answer; view = view_in i.core act } in
         let more = messages w.sent ++ Reply inc act n told.answer ∷ [] in
         let ms : messages (w.sent ++ x ∷ []) ≡ more = messages_of_log w.sent (x ∷ []) in
         let es : entries_of inc act w.owners told.counted ≡ counted_by w inc told.counted = entries_same w inc act told.counted taken.of in
@@ -65,11 +79,12 @@ module _ (w : World) (h : AgreesIn w) (inc act n : ℕ) (op : Operation) (call :
           servers = h.servers ∙ sym (length_set_nth w.instances inc (record i { core = told.server }));
           facts = subst (λ s. Facts links (acts_of js) (lives_of js) s w.owners w.rec.last_act w.container_done (w.server_done ++ counted_by w inc told.counted)) (sym ms)
               (subst (λ y. Facts links (acts_of js) (lives_of js) more w.owners w.rec.last_act w.container_done (w.server_done ++ y)) es g);
+          views = views_served;
         }
 
   agrees_served : (i : Instance) (stock : List Kind) (box : Option Kind) (told : Result Served ServerFault) → nth w.instances inc ≡ Some i → i.life ≡ Running → on_call i.core (Call inc act n op) box ≡ told → AgreesIn (served w inc act n i stock told)
   agrees_served i stock box (Err fault) at runs e = h
-  agrees_served i stock box (Ok v) at runs e = served_agrees i v box at runs e _
+  agrees_served i stock box (Ok v) at runs e = served_agrees i v box at runs e
 
   ok_is : (x y : World) → ◌≡◌ {A = Result World Stop} (Ok x) (Ok y) → x ≡ y
   ok_is x y e = cc

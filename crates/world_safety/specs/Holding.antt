@@ -5,18 +5,21 @@ use Rattle.container_model.specs.declared.answer.Done.{Done}
 use Rattle.container_laws.specs.Steady.{Steady}
 use Rattle.world_model.specs.declared.logs.Sent.{Sent}
 use Rattle.world_model.specs.declared.logs.ServerDone.{ServerDone}
+use Rattle.world_model.specs.declared.logs.Taken.{Taken}
 use Rattle.world_model.specs.World.{World, Instance}
-use Rattle.world_model.specs.Safe.{acts_of, links_of, messages}
+use Rattle.world_model.specs.Safe.{Among, acts_of, links_of, messages, IsGranted}
 use Rattle.world_facts.specs.Words.{lives_of}
 use Rattle.world_facts.specs.Facts.{Facts}
+use Rattle.world_facts.specs.Views.{Views}
 use Rattle.world_files.specs.Files.{Files}
 
 -- The container's record, the servers, the messages and the logs agree: the record is steady by itself, the servers are
--- those that it started, and the facts hold of what is looked up.
+-- those that it started, and the facts hold of what is looked up, and of what senders saw.
 pub record Agrees (rec : Record) (instances : List Instance) (sent : List Sent) (owners : List ℕ) (counted : List Done) (served : List ServerDone) : Type 0 where
   pub steady : Steady rec
   pub servers : length rec.servers ≡ length instances
   pub facts : Facts (links_of rec.objects) (acts_of instances) (lives_of instances) (messages sent) owners rec.last_act counted served
+  pub views : Views (links_of rec.objects) (acts_of instances) sent
 
 abbrev pub AgreesIn : World → Type 0
 AgreesIn w = Agrees w.rec w.instances w.sent w.owners w.container_done w.server_done
@@ -24,3 +27,5 @@ AgreesIn w = Agrees w.rec w.instances w.sent w.owners w.container_done w.server_
 pub record Holds (w : World) : Type 0 where
   pub agrees : AgreesIn w
   pub files : Files w
+  -- the contents that were taken
+  pub taken_held : (t : Taken) → Among w.taken t → IsGranted w t

@@ -1,5 +1,5 @@
 -- What an answer makes of a link, where it is what the activation answered.
-use Rattle.std.proofs.Common.{◌≡◌, ◌⊎◌, ℕ, Some, None, Ok, refl, sym, ap, ◌∙◌, inl, inr}
+use Rattle.std.proofs.Common.{◌≡◌, ◌⊎◌, ℕ, Option, Some, None, Ok, refl, sym, ap, ◌∙◌, inl, inr}
 use Rattle.wire_msgs.specs.Operations.{op_of}
 use Rattle.wire_msgs.specs.declared.operation.Operation.{Operation}
 use Rattle.wire_msgs.specs.declared.operation.Operation.TheVariants.{InitNew, Load, InPlace, UiActivate, UiDeactivate, InPlaceDeactivate, OpenWindow, Edit, Save, HandsOff, SaveCompleted, SaveDropped, Close}
@@ -7,10 +7,12 @@ use Rattle.wire_msgs.specs.declared.answer.Answer.{Answer}
 use Rattle.wire_msgs.specs.declared.answer.Answer.TheVariants as told
 use Rattle.object_state.specs.Both as both
 use Rattle.object_state.specs.declared.both_states.States.{States}
+use Rattle.object_state.specs.declared.operations.CloseOption.{CloseOption}
+use Rattle.object_state.specs.declared.operations.CloseOption.TheVariants.{SaveIfDirty, NoSave}
 use Rattle.storage_tree.specs.declared.stored.Stored.{Stored}
 use Rattle.server_model.specs.Server.{Activation}
 use Rattle.container_model.specs.declared.record.Link.{Link}
-use Rattle.container_model.specs.Messages.{Replied, replied, done, done_link, saved_link, lost, noted, next_s}
+use Rattle.container_model.specs.Messages.{Replied, replied, done, done_link, saved_link, lost, noted, closed, closed_with, next_s}
 use Rattle.world_facts.specs.Facts.{IsEven, HasStepped, HasDone, Did}
 
 -- The link after the reply: it is level with the activation again, and has the content that the activation saved.
@@ -30,7 +32,7 @@ pub data Outcome (l : Link) (a : Activation) (p : Replied) : Type 0 where
 
 done_is : (l : Link) (op : Operation) (v : States) (p : Replied) → both.step l.states (op_of op) ≡ Ok v → done l op ≡ Ok p → p.link ≡ Some (record l { pending = None; states = v; s = next_s op l.s })
 done_is l op v p e h = (let z : done_link l (next_s op l.s) (Ok v) ≡ Ok p = ap (done_link l (next_s op l.s)) (sym e) ∙ h in
-    let q : record { link = Some (record l { pending = None; states = v; s = next_s op l.s }); refused = None } ≡ p = cc in
+    let q : record { link = Some (record l { pending = None; states = v; s = next_s op l.s }); taken = None; refused = None } ≡ p = cc in
     ap (λ (x : Replied). x.link) (sym q))
 
 done_settles : (l : Link) (op : Operation) (a : Activation) (p : Replied) → HasDone l.states l.s op a → done l op ≡ Ok p → Outcome l a p
@@ -42,15 +44,21 @@ saved_settles l k content a p d s h =
     let e = d.1.states in
     let z : saved_link content (done_link l (next_s (Save k) l.s) (Ok a.states)) ≡ Ok p = ap (λ x. saved_link content (done_link l (next_s (Save k) l.s) x)) (sym e) ∙ h in
     let new : Link = record l { pending = None; states = a.states; s = next_s (Save k) l.s; saved = Some content } in
-    let q : record { link = Some new; refused = None } ≡ p = cc in
+    let q : record { link = Some new; taken = None; refused = None } ≡ p = cc in
     settles new (ap (λ (x : Replied). x.link) (sym q)) (record { inc = refl; act = refl; last = refl; pending = refl; waiting = refl; even = record { opened = d.0; states = refl; grant = d.1.grant }; saved = inr (content, refl, s) })
 
 lost_gone : (l : Link) (a : Activation) (why : _) (p : Replied) → a.content ≡ None → lost why ≡ Ok p → Outcome l a p
-lost_gone l a why p e h = (let q : record { link = None; refused = Some why } ≡ p = cc in gone (ap (λ (x : Replied). x.link) (sym q)) e)
+lost_gone l a why p e h = (let q : record { link = None; taken = None; refused = Some why } ≡ p = cc in gone (ap (λ (x : Replied). x.link) (sym q)) e)
 
 noted_settles : (l : Link) (a : Activation) (why : _) (p : Replied) → IsEven l.states l.s a → noted l why ≡ Ok p → Outcome l a p
-noted_settles l a why p e h = (let q : record { link = Some (record l { pending = None }); refused = Some why } ≡ p = cc in
+noted_settles l a why p e h = (let q : record { link = Some (record l { pending = None }); taken = None; refused = Some why } ≡ p = cc in
     settles (record l { pending = None }) (ap (λ (x : Replied). x.link) (sym q)) (record { inc = refl; act = refl; last = refl; pending = refl; waiting = refl; even = e; saved = inl refl }))
+
+closed_gone : (l : Link) (option : CloseOption) (content : Option Stored) (a : Activation) (p : Replied) → a.content ≡ None → HasStepped l.states l.s (Close option) a → closed l option content ≡ Ok p → Outcome l a p
+closed_gone l option content a p e d h =
+    let z : closed_with content (Ok a.states) ≡ Ok p = ap (closed_with content) (sym d.states) ∙ h in
+    let q : record { link = None; taken = content; refused = None } ≡ p = cc in
+    gone (ap (λ (x : Replied). x.link) (sym q)) e
 
 pub reply_outcome : (l : Link) (op : Operation) (answer : Answer) (a : Activation) (p : Replied) → replied l op answer ≡ Ok p → Did l.states l.s op a answer → Outcome l a p
 reply_outcome l (InitNew class) told.Done a p e h = done_settles l (InitNew class) a p h e
@@ -80,4 +88,11 @@ reply_outcome l InPlaceDeactivate answer a p e h = cc
 reply_outcome l OpenWindow answer a p e h = cc
 reply_outcome l HandsOff answer a p e h = cc
 reply_outcome l (SaveDropped k) answer a p e h = cc
-reply_outcome l (Close option) answer a p e h = cc
+reply_outcome l (Close SaveIfDirty) told.Done a p e h = cc
+reply_outcome l (Close SaveIfDirty) (told.Refused why) a p e h = cc
+reply_outcome l (Close SaveIfDirty) (told.Content c) a p e h = closed_gone l SaveIfDirty (Some c) a p h.0 h.1 e
+reply_outcome l (Close SaveIfDirty) (told.Tools x y) a p e h = cc
+reply_outcome l (Close NoSave) told.Done a p e h = closed_gone l NoSave None a p h.0 h.1 e
+reply_outcome l (Close NoSave) (told.Refused why) a p e h = cc
+reply_outcome l (Close NoSave) (told.Content c) a p e h = cc
+reply_outcome l (Close NoSave) (told.Tools x y) a p e h = cc

@@ -1,5 +1,5 @@
 -- Commands that ask operations, or nothing: new frames and objects, edits and saves.
-use Rattle.std.proofs.Common.{◌≡◌, ◌≢◌, ◌⊎◌, ◌||◌, ◌==◌, ℕ, ◌+◌, Bool, true, false, not, List, [], ◌∷◌, ◌++◌, length, map, Option, Some, None, option_map, Result, Ok, refl, sym, ap, ◌∙◌, inl, inr, arith, subst, nat_le, if◌then◌else◌, eq-eqb}
+use Rattle.std.proofs.Common.{◌≡◌, ◌⊎◌, ◌||◌, ◌==◌, ℕ, ◌+◌, true, false, not, List, [], ◌∷◌, ◌++◌, length, map, Option, Some, None, option_map, Ok, refl, sym, ◌∙◌, inl, subst, nat_le, if◌then◌else◌, eq-eqb}
 use Rattle.wire_msgs.specs.Found.{find, put, nth}
 use Rattle.wire_msgs.specs.declared.message.Message.{Message}
 use Rattle.wire_msgs.specs.declared.operation.Operation.{Operation}
@@ -11,21 +11,22 @@ use Rattle.container_model.specs.declared.record.Link.{Link}
 use Rattle.container_model.specs.declared.record.Object.{Object}
 use Rattle.container_model.specs.declared.record.Frame.{Frame}
 use Rattle.container_model.specs.declared.fault.ContainerFault.TheVariants.{Busy, InDoubt as Doubtful, Full, NumbersSpent, WrongState}
-use Rattle.container_model.specs.Record.{Record, Took, MOST_FRAMES, MOST_OBJECTS, is_object, is_busy, is_saving, is_moving, is_doubtful, count_objects, ask, ask_at, asked_link, asked_sent, asked_object, asked_all, sends}
+use Rattle.container_model.specs.Record.{Record, Took, MOST_FRAMES, MOST_OBJECTS, is_object, is_busy, is_saving, is_moving, is_doubtful, count_objects, ask, ask_at, asked_link, asked_sent, asked_object, asked_all}
 use Rattle.container_model.specs.Saves.{settle_actions}
 use Rattle.container_model.specs.Commands.{new, new_made, insert, insert_at, insert_made, new_object, is_named, is_size, is_empty_area, any_busy, all_have_numbers, edit, edit_at, edit_in, edit_linked, save, save_at, save_made, saving}
 use Rattle.container_laws.specs.Steady.{WaitsBehind, Steady}
 use Rattle.container_laws.proofs.EditsTaken.{edited, edit_taken}
 use Rattle.std.proofs.lemmas.Bool.{eqb-true, eqb-false}
 use Rattle.container_laws.proofs.SteadyRecords.{if_told, unless_ok}
-use Rattle.container_laws.proofs.SteadyCommands.{asked_took, found_numbered}
+use Rattle.container_laws.proofs.SteadyCommands.{asked_took}
+use Rattle.container_laws.proofs.SteadyTests.{found_numbered}
 use Rattle.container_laws.proofs.SteadyShapes.{asked_of, call_of}
 use Rattle.world_model.specs.World.{messages_of}
 use Rattle.world_model.specs.Safe.{Among, link_at, links_of}
 use Rattle.world_facts.specs.Words.{Links}
-use Rattle.world_facts.specs.Shapes.{IsSame, IsCalled, AskedAt, none, stays, queues, sends as sent, AsksAll, IsQuiet}
+use Rattle.world_facts.specs.Shapes.{IsSame, AskedAt, none, stays, queues, sends as sent, AsksAll, IsQuiet}
 use Rattle.world_steps.specs.Steps.{IsPlain}
-use Rattle.world_steps.proofs.Objects.{IsHeld, found_held, link_mapped, link_was, put_here, put_there, to_laws, from_laws, messages_sends, sent_of, no_start, no_start_sent, no_start_settled}
+use Rattle.world_steps.proofs.Objects.{IsHeld, found_held, link_mapped, link_was, put_here, put_there, to_laws, from_laws, messages_sends, sent_of, no_start, no_start_sent, no_start_settled, no_end, no_end_sent, no_end_settled}
 
 -- an object of which nothing is asked
 same_link : (l : Link) → IsSame l l
@@ -35,7 +36,7 @@ pub unasked : (Asks : Operation → Type 0) (x : Option Link) → AskedAt Asks x
 unasked Asks None = none refl refl refl
 unasked Asks (Some l) = stays l l refl refl (same_link l) refl refl
 
-unasked_as : (Asks : Operation → Type 0) (x y : Option Link) → y ≡ x → AskedAt Asks x y []
+pub unasked_as : (Asks : Operation → Type 0) (x y : Option Link) → y ≡ x → AskedAt Asks x y []
 unasked_as Asks x y e = subst (λ z. AskedAt Asks x z []) (sym e) (unasked Asks x)
 
 -- an operation is asked of a link whose save is as it was or over
@@ -85,7 +86,7 @@ new_asks r name w h t e =
     let g : Ok (new_made r name w h) ≡ Ok t = (unless_ok (nat_le r.numbers (length r.frames)) NumbersSpent _ t c.1).1 in
     let is : new_made r name w h ≡ t = cc in
     subst (λ (v : Took). AsksAll (λ o op. IsQuiet op) (links_of r.objects) (links_of v.rec.objects) (messages_of v.answer.actions) × IsPlain r v) is
-    (none_asked (links_of r.objects) (links_of r.objects) (λ n. refl), record { last_act = refl; servers = refl; starts = λ numbers. refl })
+    (none_asked (links_of r.objects) (links_of r.objects) (λ n. refl), record { last_act = refl; servers = refl; starts = λ numbers. refl; ends = λ is. refl })
 
 link_more : (os : List Object) (y : Object) (n : ℕ) → y.link ≡ None → links_of (os ++ y ∷ []) n ≡ links_of os n
 link_more [] y n e = elim (y.number == n) as (λ b. link_at (if b then Some y else None) ≡ None) [ true ↦ e | false ↦ refl ]
@@ -102,10 +103,30 @@ insert_asks_in r f kind area (Some frame) t e =
     let is : insert_made r f kind area ≡ t = cc in
     let y = new_object (r.last_object + 1) f kind area in
     subst (λ (v : Took). AsksAll (λ o op. IsQuiet op) (links_of r.objects) (links_of v.rec.objects) (messages_of v.answer.actions) × IsPlain r v) is
-    (none_asked (links_of r.objects) (links_of (r.objects ++ y ∷ [])) (λ n. link_more r.objects y n refl), record { last_act = refl; servers = refl; starts = λ numbers. refl })
+    (none_asked (links_of r.objects) (links_of (r.objects ++ y ∷ [])) (λ n. link_more r.objects y n refl), record { last_act = refl; servers = refl; starts = λ numbers. refl; ends = λ is. refl })
 
 pub insert_asks : (r : Record) (f : ℕ) (kind : Kind) (area : Area) (t : Took) → insert r f kind area ≡ Ok t → AsksAll (λ o op. IsQuiet op) (links_of r.objects) (links_of t.rec.objects) (messages_of t.answer.actions) × IsPlain r t
 insert_asks r f kind area t e = insert_asks_in r f kind area (nth r.frames f) t e
+
+-- one object is asked
+pub one_asked : (r : Record) (n : ℕ) (op : Operation) (x : Object) (l : Link) → Steady r → find (is_object n) r.objects ≡ Some x → x.link ≡ Some l → IsQuiet op
+    → AsksAll (λ o op. IsQuiet op) (links_of r.objects) (links_of (put (is_object x.number) (record x { link = Some (ask l op).link }) r.objects)) (ask l op).sent
+one_asked r n op x l s f xl quiet =
+    let a : Object = record x { link = Some (ask l op).link } in
+    let ms = (ask l op).sent in
+    let h : IsHeld r n l = found_held r n l x s f xl in
+    let test = is_object x.number in
+    let here : find test r.objects ≡ Some x = found_numbered n r.objects x f in
+    let asked : AskedAt IsQuiet (Some l) (Some (ask l op).link) ms = is_asked IsQuiet l l.saved op quiet (inl refl) h.steady.waits_behind in
+    record {
+      news = λ k. if x.number == k then ms else [];
+      each = λ k. if_told (AskedAt IsQuiet (links_of r.objects k) (links_of (put test a r.objects) k)) (x.number == k) ms []
+          (λ t'. subst (λ j. AskedAt IsQuiet (links_of r.objects j) (links_of (put test a r.objects) j) ms) (eqb-true x.number k t')
+          (subst (λ z. AskedAt IsQuiet z (links_of (put test a r.objects) x.number) ms) (sym (link_was r.objects test x a s.order here refl ∙ xl))
+          (subst (λ z. AskedAt IsQuiet (Some l) z ms) (sym (put_here r.objects test x a s.order here refl)) asked)))
+          (λ t'. unasked_as IsQuiet (links_of r.objects k) (links_of (put test a r.objects) k) (put_there r.objects test x a s.order here refl k (λ q. eqb-false x.number k t' (sym q))));
+      from = λ m g. (x.number, subst (λ b. Among (if b then ms else []) m) (sym (eq-eqb x.number x.number refl)) g);
+    }
 
 -- Edit
 edit_quiet : (bytes : List ℕ) → IsQuiet (Edit bytes)
@@ -118,21 +139,9 @@ edit_asks_linked r n bytes x (Some l) t s f xl e =
     let is : edited r x l bytes ≡ t = edit_taken r x bytes l t xl e in
     let a : Object = record x { link = Some (ask l (Edit bytes)).link } in
     let ms = (ask l (Edit bytes)).sent in
-    let h : IsHeld r n l = found_held r n l x s f xl in
-    let test = is_object x.number in
-    let here : find test r.objects ≡ Some x = found_numbered n r.objects x f in
-    let asked : AskedAt IsQuiet (Some l) (Some (ask l (Edit bytes)).link) ms = is_asked IsQuiet l l.saved (Edit bytes) (edit_quiet bytes) (inl refl) h.steady.waits_behind in
     subst (λ (v : Took). AsksAll (λ o op. IsQuiet op) (links_of r.objects) (links_of v.rec.objects) (messages_of v.answer.actions) × IsPlain r v) is (
-      record {
-        news = λ k. if x.number == k then ms else [];
-        each = λ k. if_told (AskedAt IsQuiet (links_of r.objects k) (links_of (put test a r.objects) k)) (x.number == k) ms []
-            (λ t'. subst (λ j. AskedAt IsQuiet (links_of r.objects j) (links_of (put test a r.objects) j) ms) (eqb-true x.number k t')
-            (subst (λ z. AskedAt IsQuiet z (links_of (put test a r.objects) x.number) ms) (sym (link_was r.objects test x a s.order here refl ∙ xl))
-            (subst (λ z. AskedAt IsQuiet (Some l) z ms) (sym (put_here r.objects test x a s.order here refl)) asked)))
-            (λ t'. unasked_as IsQuiet (links_of r.objects k) (links_of (put test a r.objects) k) (put_there r.objects test x a s.order here refl k (λ q. eqb-false x.number k t' (sym q))));
-        from = λ m g. (x.number, subst (λ b. Among (if b then ms else []) m) (sym (eq-eqb x.number x.number refl)) (subst (λ v. Among v m) (messages_sends ms) g));
-      },
-      record { last_act = refl; servers = refl; starts = λ numbers. no_start_sent numbers ms },
+      subst (λ v. AsksAll (λ o op. IsQuiet op) (links_of r.objects) (links_of (put (is_object x.number) a r.objects)) v) (sym (messages_sends ms)) (one_asked r n (Edit bytes) x l s f xl (edit_quiet bytes)),
+      record { last_act = refl; servers = refl; starts = λ numbers. no_start_sent numbers ms; ends = no_end_sent ms },
     )
 
 edit_asks_in : (r : Record) (n : ℕ) (bytes : List ℕ) (x : Object) (frame : Option Frame) (t : Took) → Steady r → find (is_object n) r.objects ≡ Some x → edit_in r x bytes frame ≡ Ok t
@@ -180,7 +189,7 @@ save_asks_in r f (Some frame) t s e =
     let v = saving r f frame in
     subst (λ (x : Took). AsksAll (λ o p. IsQuiet p) (links_of r.objects) (links_of x.rec.objects) (messages_of x.answer.actions) × IsPlain r x) is (
       subst (λ ms. AsksAll (λ o p. IsQuiet p) (links_of r.objects) (links_of v.objects) ms) (sym (sent_of (asked_all f op r.objects) 1 v.objects v.frames)) (frame_asked r f op s (save_quiet (frame.k + 1))),
-      record { last_act = refl; servers = refl; starts = λ numbers. no_start numbers (asked_all f op r.objects) (settle_actions v) (no_start_settled numbers 1 v.objects v.frames) },
+      record { last_act = refl; servers = refl; starts = λ numbers. no_start numbers (asked_all f op r.objects) (settle_actions v) (no_start_settled numbers 1 v.objects v.frames); ends = λ is. no_end (asked_all f op r.objects) (settle_actions v) is (no_end_settled 1 v.objects v.frames is) },
     )
 
 pub save_asks : (r : Record) (f : ℕ) (t : Took) → Steady r → save r f ≡ Ok t → AsksAll (λ o op. IsQuiet op) (links_of r.objects) (links_of t.rec.objects) (messages_of t.answer.actions) × IsPlain r t

@@ -1,7 +1,6 @@
 -- What a server makes of a call: one activation, after the call that was answered again or acted on.
-use Rattle.std.proofs.Common.{◌≡◌, ◌≢◌, ◌⊎◌, ◌==◌, ℕ, zero, suc, ◌+◌, Bool, true, false, List, [], ◌∷◌, ◌++◌, length, Option, Some, None, Result, Ok, Err, refl, sym, ap, ◌∙◌, inl, inr, subst, nat_eq, nat_le, slice_get, slice_set, if◌then◌else◌, eq-eqb}
+use Rattle.std.proofs.Common.{◌≡◌, ◌⊎◌, ◌==◌, ℕ, ◌+◌, Bool, true, false, List, [], ◌∷◌, ◌++◌, length, Option, Some, None, Result, Ok, Err, refl, sym, ap, ◌∙◌, inl, inr, subst, nat_eq, nat_le, if◌then◌else◌, eq-eqb}
 use Rattle.std.specs.Prelude.{cond}
-use Rattle.container_model.specs.Messages.{next_s}
 use Rattle.std.proofs.lemmas.Bool.{eqb-true, ne_eqb}
 use Rattle.std.proofs.lemmas.Bool.Decides.{eqb_tells}
 use Rattle.wire_msgs.specs.Found.{find, put, nth, set_nth}
@@ -37,8 +36,7 @@ use Rattle.server_model.specs.Server.{stored_of, Server, Activation, Acted, Serv
 use Rattle.server_model.specs.declared.counted.Counted.{Counted}
 use Rattle.world_model.specs.World.{Instance}
 use Rattle.world_model.specs.Safe.{act_at, acts_of}
-use Rattle.world_facts.specs.Words.{Acts, IsOpen}
-use Rattle.world_facts.specs.Facts.{IsEven, HasStepped, HasDone, Did}
+use Rattle.world_facts.specs.Facts.{Did}
 use Rattle.world_facts.specs.Shapes.{IsFirst, IsChanged, Makes, ActsOn, again, next, makes}
 use Rattle.world_facts.proofs.Lookups.{find_passes}
 use Rattle.world_steps.proofs.Instances.{find_act_put, find_act_more, nth_same, nth_other}

@@ -1,10 +1,8 @@
 -- A commit: a save is counted, and activations are told of it.
-use Rattle.std.proofs.Common.{◌≡◌, ◌≢◌, ◌==◌, ℕ, Bool, true, false, List, [], ◌∷◌, ◌++◌, map, Option, Some, None, refl, sym, ap, ◌∙◌, inl, inr, subst, if◌then◌else◌, eq-eqb}
+use Rattle.std.proofs.Common.{◌≡◌, ◌==◌, ℕ, Bool, true, false, List, [], ◌∷◌, map, Option, Some, None, refl, sym, ap, ◌∙◌, inl, inr, subst, if◌then◌else◌, eq-eqb}
 use Rattle.std.proofs.lemmas.Bool.{ne_eqb}
-use Rattle.std.proofs.lemmas.List.{append-nil}
 use Rattle.wire_msgs.specs.Found.{find, nth}
 use Rattle.wire_msgs.specs.declared.operation.Operation.{Operation}
-use Rattle.wire_msgs.specs.declared.operation.Operation.TheVariants.{SaveCompleted}
 use Rattle.storage_tree.specs.declared.stored.Stored.{Stored}
 use Rattle.container_model.specs.declared.record.Link.{Link}
 use Rattle.container_model.specs.declared.record.Object.{Object}
@@ -21,7 +19,7 @@ use Rattle.world_model.specs.Safe.{Among, link_at, links_of}
 use Rattle.world_facts.specs.Shapes.{AskedAt, none, AsksAll, IsTold, CountsAll}
 use Rattle.world_facts.proofs.Lookups.{among_map, find_among}
 use Rattle.world_steps.specs.Steps.{IsPlain}
-use Rattle.world_steps.proofs.Objects.{found_held, found_number, messages_sends, no_start_sent}
+use Rattle.world_steps.proofs.Objects.{found_held, found_number, messages_sends, no_start_sent, no_end_sent}
 use Rattle.world_steps.proofs.Asking.{unasked, is_asked, all_mapped, who_is_asked}
 
 module _ (r : Record) (f : ℕ) (frame : Frame) (s : Steady r) (at : nth r.frames f ≡ Some frame) (committing : frame.phase ≡ Committing) where
@@ -72,4 +70,4 @@ module _ (r : Record) (f : ℕ) (frame : Frame) (s : Steady r) (at : nth r.frame
   }
 
   pub commit_plain : IsPlain r (commit_made r f frame)
-  commit_plain = record { last_act = refl; servers = refl; starts = λ numbers. no_start_sent numbers (asked_all f op r.objects) }
+  commit_plain = record { last_act = refl; servers = refl; starts = λ numbers. no_start_sent numbers (asked_all f op r.objects); ends = no_end_sent (asked_all f op r.objects) }

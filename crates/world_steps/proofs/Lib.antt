@@ -4,6 +4,8 @@ pub mod Instances
 pub mod Calls
 pub mod Answers
 pub mod Asking
+pub mod Closing
+pub mod Taking
 pub mod Running
 pub mod Replying
 pub mod Reaping

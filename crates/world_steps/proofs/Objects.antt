@@ -1,6 +1,6 @@
 -- Links by the numbers of their objects, after changes of a record; and what a step's actions send and start.
-use Rattle.std.proofs.Common.{◌≡◌, ◌≢◌, ◌⊎◌, ◌==◌, ℕ, ◌+◌, Bool, true, false, List, [], ◌∷◌, ◌++◌, map, Option, Some, None, option_map, refl, sym, ap, ◌∙◌, inl, inr, subst, if◌then◌else◌, eq-eqb}
-use Rattle.std.proofs.lemmas.Bool.{eqb-true, eqb-false, ne_eqb}
+use Rattle.std.proofs.Common.{◌≡◌, ◌≢◌, ℕ, ◌+◌, Bool, true, false, List, [], ◌∷◌, ◌++◌, map, Option, Some, None, option_map, refl, sym, ap, ◌∙◌, inl, inr, if◌then◌else◌}
+use Rattle.std.proofs.lemmas.Bool.{eqb-true}
 use Rattle.std.proofs.lemmas.List.{append-nil}
 use Rattle.wire_msgs.specs.Found.{find, put, nth}
 use Rattle.wire_msgs.specs.declared.message.Message.{Message}
@@ -16,7 +16,7 @@ use Rattle.container_laws.proofs.SteadyLookups.{each_found}
 use Rattle.container_laws.proofs.SteadyRecords.{Held, if_at, some_and}
 use Rattle.container_laws.proofs.SteadyFinds.{found_by_number, put_by_number, find-put_same, find-put_other, find-map}
 use Rattle.container_laws.proofs.SteadyShapes as laws
-use Rattle.world_model.specs.World.{messages_of, of_container, started_by}
+use Rattle.world_model.specs.World.{Instance, messages_of, of_container, started_by, ended_by}
 use Rattle.world_model.specs.declared.logs.Sent.{Sent}
 use Rattle.world_model.specs.Safe.{Among, link_at, links_of, messages}
 use Rattle.world_facts.proofs.Lookups.{find_passes}
@@ -116,6 +116,23 @@ no_start_settled numbers f os (frame ∷ frames) =
     elim (is_ready f os frame) as (λ b. started_by numbers ((if b then Commit f ∷ [] else []) ++ settled_actions (f + 1) os frames) ≡ []) [
       | true ↦ no_start_settled numbers (f + 1) os frames
       | false ↦ no_start_settled numbers (f + 1) os frames
+    ]
+
+-- nor is one ended
+pub no_end : (ms : List Message) (rest : List Action) (is : List Instance) → ended_by rest is ≡ is → ended_by (sends ms ++ rest) is ≡ is
+no_end [] rest is h = h
+no_end (m ∷ ms) rest is h = no_end ms rest is h
+
+pub no_end_sent : (ms : List Message) (is : List Instance) → ended_by (sends ms) is ≡ is
+no_end_sent [] is = refl
+no_end_sent (m ∷ ms) is = no_end_sent ms is
+
+pub no_end_settled : (f : ℕ) (os : List Object) (frames : List Frame) (is : List Instance) → ended_by (settled_actions f os frames) is ≡ is
+no_end_settled f os [] is = refl
+no_end_settled f os (frame ∷ frames) is =
+    elim (is_ready f os frame) as (λ b. ended_by ((if b then Commit f ∷ [] else []) ++ settled_actions (f + 1) os frames) is ≡ is) [
+      | true ↦ no_end_settled (f + 1) os frames is
+      | false ↦ no_end_settled (f + 1) os frames is
     ]
 
 -- the log of what is sent

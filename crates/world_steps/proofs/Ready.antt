@@ -1,5 +1,5 @@
 -- What a server's step leans on of a container's record.
-use Rattle.std.proofs.Common.{◌≡◌, ◌⊎◌, ℕ, suc, Bool, List, [], ◌∷◌, Option, Some, None, Result, Ok, Err, refl, sym, ap, ◌∙◌, inl, inr, subst}
+use Rattle.std.proofs.Common.{◌≡◌, ℕ, suc, Bool, List, [], ◌∷◌, Some, None, Ok, refl, sym, ◌∙◌, inl, inr, subst}
 use Rattle.std.specs.Prelude.{IsOkAnd, slice_get}
 use Rattle.std.specs.List.{AllByRecursion}
 use Rattle.wire_msgs.specs.Operations.{op_of}
@@ -17,12 +17,12 @@ use Rattle.container_model.specs.declared.record.Link.{Link}
 use Rattle.container_model.specs.declared.record.Phase.{Phase}
 use Rattle.container_model.specs.declared.record.Phase.TheVariants.{Idle, Saving}
 use Rattle.container_model.specs.Record.{Record}
-use Rattle.container_laws.specs.Steady.{queue_of, queue, ended, EndsWell, HasStorage, IsTimely, SteadyLink, Steady}
+use Rattle.container_laws.specs.Steady.{queue_of, ended, EndsWell, HasStorage, IsTimely, SteadyLink, Steady}
 use Rattle.container_laws.proofs.SteadyLookups.{each_nth}
 use Rattle.container_laws.proofs.SteadyQueues.{taken}
 use Rattle.world_model.specs.Safe.{links_of}
 use Rattle.world_facts.specs.Shapes.{IsFirst, IsReady}
-use Rattle.world_steps.proofs.Objects.{IsHeld, link_held}
+use Rattle.world_steps.proofs.Objects.{link_held}
 
 -- an object with a storage takes no first operation
 no_init : (v w : States) (s : PersistState) → v.persist.state ≡ s → HasStorage s → both.joined (persist.numbered v.persist op.InitNew (persist.table op.InitNew s)) (object.table op.InitNew v.object) ≡ Ok w → ⊥

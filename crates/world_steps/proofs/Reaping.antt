@@ -1,5 +1,5 @@
 -- The end of a server that doesn't run any more: links end.
-use Rattle.std.proofs.Common.{◌≡◌, ◌≢◌, ◌⊎◌, ◌==◌, ℕ, Bool, true, false, List, [], map, Option, Some, None, option_map, Result, Ok, Err, refl, sym, ap, ◌∙◌, inl, inr, subst, if◌then◌else◌}
+use Rattle.std.proofs.Common.{◌≡◌, ◌≢◌, ◌⊎◌, ◌==◌, ℕ, Bool, true, false, [], Option, Some, None, option_map, Result, Ok, Err, refl, sym, ap, ◌∙◌, inl, inr, subst, if◌then◌else◌}
 use Rattle.std.proofs.lemmas.Bool.{eqb-true}
 use Rattle.wire_msgs.specs.Found.{find}
 use Rattle.container_model.specs.declared.record.Link.{Link}
@@ -17,7 +17,7 @@ use Rattle.world_facts.specs.Words.{Acts, Lives, IsClosed}
 use Rattle.world_facts.specs.Shapes.{EndsSome}
 use Rattle.world_facts.proofs.Lookups.{length_set_nth}
 use Rattle.world_steps.specs.Steps.{IsPlain}
-use Rattle.world_steps.proofs.Objects.{link_mapped, messages_settled, no_start_settled}
+use Rattle.world_steps.proofs.Objects.{link_mapped, messages_settled, no_start_settled, no_end_settled}
 
 module _ (r : Record) (acts0 : Acts) (lives : Lives) (inc : ℕ) (stopped : lives inc ≡ Some Running → ⊥) where
   abbrev after : Object → Object
@@ -56,5 +56,5 @@ module _ (r : Record) (acts0 : Acts) (lives : Lives) (inc : ℕ) (stopped : live
       subst (λ x. EndsSome (links_of r.objects) (links_of x.rec.objects) acts0 lives × (messages_of x.answer.actions ≡ []) × IsPlain r x) (taken (is_alive r inc) made t e) (
         over,
         messages_settled 1 v.objects v.frames,
-        record { last_act = refl; servers = length_set_nth r.servers inc true; starts = λ numbers. no_start_settled numbers 1 v.objects v.frames },
+        record { last_act = refl; servers = length_set_nth r.servers inc true; starts = λ numbers. no_start_settled numbers 1 v.objects v.frames; ends = no_end_settled 1 v.objects v.frames },
       )

@@ -1,56 +1,65 @@
 -- A reply that is taken: it settles the pending operation, which was done, and the next that waits is sent; or the link ends.
-use Rattle.std.proofs.Common.{◌≡◌, ◌≢◌, ◌⊎◌, ◌&&◌, ◌==◌, ℕ, ◌+◌, ◌≤◌, Bool, true, false, List, [], ◌∷◌, ◌++◌, Option, Some, None, Result, Ok, Err, refl, sym, ap, ◌∙◌, inl, inr, arith, subst, if◌then◌else◌}
+use Rattle.std.proofs.Common.{◌≡◌, ◌≢◌, ◌&&◌, ◌==◌, ℕ, ◌+◌, ◌≤◌, Bool, true, false, List, [], ◌∷◌, ◌++◌, Option, Some, None, is_some, Result, Ok, Err, refl, sym, ap, ◌∙◌, inl, inr, arith, subst, if◌then◌else◌}
 use Rattle.std.proofs.lemmas.Bool.{eqb-true}
 use Rattle.std.proofs.lemmas.Bool.Decides.{eqb_tells}
 use Rattle.wire_msgs.specs.Found.{find, put}
 use Rattle.wire_msgs.specs.declared.message.Message.{Message}
-use Rattle.wire_msgs.specs.declared.message.Message.TheVariants.{Call, Reply}
+use Rattle.wire_msgs.specs.declared.message.Message.TheVariants.{Reply}
 use Rattle.wire_msgs.specs.declared.operation.Operation.{Operation}
+use Rattle.wire_msgs.specs.declared.operation.Operation.TheVariants.{Close}
 use Rattle.wire_msgs.specs.declared.answer.Answer.{Answer}
+use Rattle.wire_msgs.specs.declared.answer.Answer.TheVariants.{Content}
+use Rattle.object_state.specs.declared.operations.CloseOption.{CloseOption}
+use Rattle.object_state.specs.declared.operations.CloseOption.TheVariants.{SaveIfDirty}
 use Rattle.storage_tree.specs.declared.stored.Stored.{Stored}
 use Rattle.server_model.specs.Server.{Activation}
 use Rattle.container_model.specs.declared.record.Link.{Link}
 use Rattle.container_model.specs.declared.record.Object.{Object}
 use Rattle.container_model.specs.declared.fault.ContainerFault.{ContainerFault}
-use Rattle.container_model.specs.declared.fault.ContainerFault.TheVariants.{Stale, WrongLink}
+use Rattle.container_model.specs.declared.fault.ContainerFault.TheVariants.{Stale, WrongLink, BadAnswer}
 use Rattle.container_model.specs.Record.{Record, Took, quiet_answer, is_linked, is_link, is_alive, sends}
-use Rattle.container_model.specs.Saves.{settle, settle_actions}
-use Rattle.container_model.specs.Messages.{Replied, replied, next_at, next_link, next_sent, replied_object, replied_record, reply_taken, reply_pending, reply_link, reply_found, on_message}
+use Rattle.container_model.specs.Saves.{settle, settle_actions, kept_in}
+use Rattle.container_model.specs.Messages.{Replied, is_fit, replied, next_at, next_link, next_sent, replied_record, reply_taken, reply_pending, reply_link, reply_found, on_message}
 use Rattle.container_model.specs.declared.answer.Done.{Done}
-use Rattle.container_laws.specs.Steady.{Steady}
+use Rattle.container_laws.specs.Steady.{IsOpenWhileClosing, Steady}
+use Rattle.container_laws.proofs.SteadyCloses.{closes-are_open}
 use Rattle.world_model.specs.World.{messages_of}
 use Rattle.world_model.specs.Safe.{Among, links_of}
+use Rattle.world_model.specs.declared.logs.Sent.{Sent}
 use Rattle.world_model.specs.declared.logs.ServerDone.{ServerDone}
 use Rattle.world_facts.specs.Words.{Links, Acts, Lives, IsHonest, IsClosed}
 use Rattle.world_facts.specs.Facts.{InStep, not_begun, level, behind, ahead, Did, HasSaved, Facts}
-use Rattle.world_facts.specs.Shapes.{Settles, SendsNext, EndsSome}
+use Rattle.world_facts.specs.Shapes.{Settles, SendsNext}
+use Rattle.world_facts.specs.Views.{IsSeen, Views}
 use Rattle.world_facts.proofs.Lookups.{find_passes}
 use Rattle.world_steps.specs.Steps.{IsPlain, IsAnswered, settled, goes_on, ended}
-use Rattle.world_steps.proofs.Objects.{link_was, put_here, put_there, sent_of, no_start, no_start_settled}
+use Rattle.world_steps.proofs.Objects.{link_was, put_here, put_there, sent_of, no_start, no_start_settled, no_end, no_end_settled}
+use Rattle.world_steps.proofs.Taking.{brought}
 use Rattle.world_steps.proofs.Answers.{IsSettled, Outcome, settles, gone, reply_outcome}
 
 -- the answer to the pending call of an object
-record IsAnswer (inc act n : ℕ) (answer : Answer) (x : Object) (p : Replied) : Type 0 where
-  l : Link
-  op : Operation
-  is : x.link ≡ Some l
-  pending : l.pending ≡ Some op
-  number : n ≡ l.last
-  told : replied l op answer ≡ Ok p
+pub record IsAnswer (inc act n : ℕ) (answer : Answer) (x : Object) (p : Replied) : Type 0 where
+  pub l : Link
+  pub op : Operation
+  pub is : x.link ≡ Some l
+  pub pending : l.pending ≡ Some op
+  pub number : n ≡ l.last
+  pub told : replied l op answer ≡ Ok p
 
 answer_pending : (inc act n : ℕ) (l : Link) (o : Option Operation) (answer : Answer) (x : Object) (p : Replied) → x.link ≡ Some l → l.pending ≡ o → reply_pending l n answer o ≡ Ok p → IsAnswer inc act n answer x p
 answer_pending inc act n l None answer x p xl q e = cc
-answer_pending inc act n l (Some op) answer x p xl q e = at (n == l.last) refl e
+answer_pending inc act n l (Some op) answer x p xl q e = at (n == l.last) (is_fit answer) refl e
   where
-    at : (b : Bool) → (n == l.last) ≡ b → ◌≡◌ {A = Result Replied ContainerFault} (if b then replied l op answer else Err Stale) (Ok p) → IsAnswer inc act n answer x p
-    at true t g = record { l = l; op = op; is = xl; pending = q; number = eqb-true n l.last t; told = g }
-    at false t g = cc
+    at : (b c : Bool) → (n == l.last) ≡ b → ◌≡◌ {A = Result Replied ContainerFault} (if b then (if c then replied l op answer else Err BadAnswer) else Err Stale) (Ok p) → IsAnswer inc act n answer x p
+    at true true t g = record { l = l; op = op; is = xl; pending = q; number = eqb-true n l.last t; told = g }
+    at true false t g = cc
+    at false c t g = cc
 
 answer_link : (inc act n : ℕ) (link : Option Link) (answer : Answer) (x : Object) (p : Replied) → x.link ≡ link → reply_link n answer link ≡ Ok p → IsAnswer inc act n answer x p
 answer_link inc act n None answer x p xl e = cc
 answer_link inc act n (Some l) answer x p xl e = answer_pending inc act n l l.pending answer x p xl refl e
 
-linked_is : (inc act : ℕ) (x : Option Link) (l : Link) → x ≡ Some l → is_link inc act x ≡ true → (l.inc ≡ inc) × (l.act ≡ act)
+pub linked_is : (inc act : ℕ) (x : Option Link) (l : Link) → x ≡ Some l → is_link inc act x ≡ true → (l.inc ≡ inc) × (l.act ≡ act)
 linked_is inc act None l e h = cc
 linked_is inc act (Some y) l e h = (let is : y ≡ l = cc in at (y.inc == inc) (y.act == act) refl refl h is)
   where
@@ -96,16 +105,17 @@ module _ (r : Record) (acts : Acts) (lives : Lives) (sent : List Message) (owner
       at : acts h.l.inc h.l.act ≡ Some a
       level_with : a.last ≡ h.l.last
       did : Did h.l.states h.l.s h.op a answer
+      reply : a.reply ≡ answer
 
     is_ahead : (a : Activation) × IsAhead a
     is_ahead =
         let k = f.replies.replies_kept inc act n answer honest told in
         let at : acts h.l.inc h.l.act ≡ Some k.0 = ap (λ i. acts i h.l.act) named.0 ∙ (ap (acts inc) named.1 ∙ k.1) in
         let d = ahead_by k.0 k.2 k.3 (acts h.l.inc h.l.act) at (f.in_step x.number h.l at_x honest_link) in
-        (k.0, record { at = at; level_with = d.0; did = d.1 })
+        (k.0, record { at = at; level_with = d.0; did = d.1; reply = sym (k.3 (h.number ∙ sym d.0)) })
 
     abbrev placed : Option Link → Object
-    placed link = record x { link = link }
+    placed link = record x { work = kept_in x.work p.taken; link = link }
 
     abbrev objects : Option Link → List Object
     objects link = put (is_linked inc act) (placed link) r.objects
@@ -184,6 +194,68 @@ module _ (r : Record) (acts : Acts) (lives : Lives) (sent : List Message) (owner
     is_shown : Shown (next_link p.link) (next_sent p.link)
     is_shown = (let w = is_ahead in shown w.0 w.1 (reply_outcome h.l h.op answer w.0 p h.told w.1.did))
 
+    -- what was answered to a close was sent at the link's states and grant
+    pub close_seen : (log : List Sent) (option : CloseOption) → Views (links_of r.objects) acts log → h.l.pending ≡ Some (Close option) → IsSeen log inc act n answer h.l.states h.l.s
+    close_seen log option v e =
+        let w = is_ahead in
+        let a = w.0 in
+        let seen : IsSeen log h.l.inc h.l.act a.last a.reply h.l.states h.l.s = v.closes_sent x.number h.l a option at_x honest_link w.1.at e w.1.level_with in
+        subst (λ i. IsSeen log i act n answer h.l.states h.l.s) named.0
+        (subst (λ i. IsSeen log h.l.inc i n answer h.l.states h.l.s) named.1
+        (subst (λ i. IsSeen log h.l.inc h.l.act i answer h.l.states h.l.s) (w.1.level_with ∙ sym h.number)
+        (subst (λ i. IsSeen log h.l.inc h.l.act a.last i h.l.states h.l.s) w.1.reply seen)))
+
+  -- a content that is taken with a reply is the answer to a close
+  pub record IsClosing (log : List Sent) : Type 0 where
+    pub object : Object
+    pub link : Link
+    pub content : Stored
+    pub found : find (is_linked inc act) r.objects ≡ Some object
+    pub linked : object.link ≡ Some link
+    pub inc_is : link.inc ≡ inc
+    pub act_is : link.act ≡ act
+    pub brings : answer ≡ Content content
+    pub seen : IsSeen log inc act n answer link.states link.s
+    pub held : IsOpenWhileClosing link
+
+  closing_of : (log : List Sent) (x : Object) (p : Replied) (h : IsAnswer inc act n answer x p) → find (is_linked inc act) r.objects ≡ Some x → is_some p.taken ≡ true → Views (links_of r.objects) acts log → IsClosing log
+  closing_of log x p h found taken v =
+      let b = brought h.l h.op answer p h.told taken in
+      let closes : h.l.pending ≡ Some (Close SaveIfDirty) = h.pending ∙ ap Some b.1 in
+      let name = linked_is inc act x.link h.l h.is (find_passes (is_linked inc act) r.objects x found) in
+      record {
+        object = x;
+        link = h.l;
+        content = b.0;
+        found = found;
+        linked = h.is;
+        inc_is = name.0;
+        act_is = name.1;
+        brings = b.2;
+        seen = close_seen x p h found log SaveIfDirty v closes;
+        held = closes-are_open r (is_linked inc act) x h.l SaveIfDirty s found h.is closes;
+      }
+
+  closing_taken : (log : List Sent) (x : Object) (q : Result Replied ContainerFault) (t : Took) → find (is_linked inc act) r.objects ≡ Some x → reply_link n answer x.link ≡ q → reply_taken r inc act x q ≡ Ok t → t.answer.taken ≡ true → Views (links_of r.objects) acts log → IsClosing log
+  closing_taken log x (Err fault) t found g e taken v = cc
+  closing_taken log x (Ok p) t found g e taken v =
+      let u = replied_record r inc act x p in
+      let made : Took = record { rec = settle u; answer = record quiet_answer { taken = is_some p.taken; refused = p.refused; actions = sends (next_sent p.link) ++ settle_actions u }; counted = [] } in
+      let is : made ≡ t = cc in
+      closing_of log x p (answer_link inc act n x.link answer x p refl g) found (ap (λ (z : Took). z.answer.taken) is ∙ taken) v
+
+  closing_found : (log : List Sent) (x : Option Object) (t : Took) → find (is_linked inc act) r.objects ≡ x → reply_found r inc act n answer x ≡ Ok t → t.answer.taken ≡ true → Views (links_of r.objects) acts log → IsClosing log
+  closing_found log None t found e taken v = cc
+  closing_found log (Some x) t found e taken v = closing_taken log x (reply_link n answer x.link) t found refl e taken v
+
+  pub reply_closes : (log : List Sent) (t : Took) → on_message r inc (Reply inc act n answer) ≡ Ok t → t.answer.taken ≡ true → Views (links_of r.objects) acts log → IsClosing log
+  reply_closes log t e taken v = at (inc == inc) (is_alive r inc) e
+    where
+      at : (a b : Bool) → ◌≡◌ {A = Result Took ContainerFault} (if a then (if b then reply_found r inc act n answer (find (is_linked inc act) r.objects) else Err Stale) else Err WrongLink) (Ok t) → IsClosing log
+      at true true g = closing_found log (find (is_linked inc act) r.objects) t refl g taken v
+      at true false g = cc
+      at false b g = cc
+
   abbrev pub Result_of : Took → Type 0
   Result_of t = IsAnswered (links_of r.objects) (links_of t.rec.objects) acts lives (messages_of t.answer.actions) × IsPlain r t
 
@@ -191,12 +263,12 @@ module _ (r : Record) (acts : Acts) (lives : Lives) (sent : List Message) (owner
   taken_shows x (Err fault) t found g e = cc
   taken_shows x (Ok p) t found g e =
       let u = replied_record r inc act x p in
-      let made : Took = record { rec = settle u; answer = record quiet_answer { refused = p.refused; actions = sends (next_sent p.link) ++ settle_actions u }; counted = [] } in
+      let made : Took = record { rec = settle u; answer = record quiet_answer { taken = is_some p.taken; refused = p.refused; actions = sends (next_sent p.link) ++ settle_actions u }; counted = [] } in
       let is : made ≡ t = cc in
       let ms : messages_of (sends (next_sent p.link) ++ settle_actions u) ≡ next_sent p.link = sent_of (next_sent p.link) 1 u.objects u.frames in
       subst Result_of is (
         subst (λ v. IsAnswered (links_of r.objects) (links_of u.objects) acts lives v) (sym ms) (is_shown x p (answer_link inc act n x.link answer x p refl g) found),
-        record { last_act = refl; servers = refl; starts = λ numbers. no_start numbers (next_sent p.link) (settle_actions u) (no_start_settled numbers 1 u.objects u.frames) },
+        record { last_act = refl; servers = refl; starts = λ numbers. no_start numbers (next_sent p.link) (settle_actions u) (no_start_settled numbers 1 u.objects u.frames); ends = λ is. no_end (next_sent p.link) (settle_actions u) is (no_end_settled 1 u.objects u.frames is) },
       )
 
   found_shows : (x : Option Object) (t : Took) → find (is_linked inc act) r.objects ≡ x → reply_found r inc act n answer x ≡ Ok t → Result_of t

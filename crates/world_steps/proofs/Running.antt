@@ -1,5 +1,5 @@
 -- Run: an activation begins.
-use Rattle.std.proofs.Common.{◌≡◌, ◌≢◌, ◌||◌, ℕ, ◌+◌, Bool, true, false, not, List, [], ◌∷◌, length, Option, Some, None, is_some, Ok, refl, sym, ap, ◌∙◌, subst, nat_le, nat_lt}
+use Rattle.std.proofs.Common.{◌≡◌, ◌||◌, ℕ, ◌+◌, true, not, List, [], ◌∷◌, Option, Some, None, is_some, Ok, refl, sym, ap, ◌∙◌, subst, nat_le, nat_lt}
 use Rattle.wire_msgs.specs.Found.{find, put, nth}
 use Rattle.wire_msgs.specs.declared.operation.Operation.{Operation}
 use Rattle.storage_tree.specs.declared.streams.NamedStream.{NamedStream}
@@ -10,7 +10,7 @@ use Rattle.container_model.specs.Record.{Record, Took, MARGIN, is_object, is_ali
 use Rattle.container_model.specs.Commands.{is_known_class, run, run_at, run_in, run_made, first_operation, begun_link}
 use Rattle.container_laws.specs.Steady.{Steady}
 use Rattle.container_laws.proofs.SteadyRecords.{unless_ok}
-use Rattle.container_laws.proofs.SteadyCommands.{not_false, none_of, found_numbered}
+use Rattle.container_laws.proofs.SteadyTests.{not_false, none_of, found_numbered}
 use Rattle.world_model.specs.declared.life.Life.{Life}
 use Rattle.world_model.specs.World.{messages_of}
 use Rattle.world_model.specs.Safe.{links_of}
@@ -56,6 +56,7 @@ run_begins_in r lives owners n inc x (Some frame) t s f e ow ho =
       last_act = refl;
       servers = refl;
       starts = λ numbers. refl;
+      ends = λ is. refl;
     })
 
 run_begins_at : (r : Record) (lives : Lives) (owners : List ℕ) (n inc : ℕ) (x : Option Object) (t : Took) → Steady r → find (is_object n) r.objects ≡ x → run_at r inc x ≡ Ok t

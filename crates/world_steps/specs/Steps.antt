@@ -2,16 +2,17 @@
 use Rattle.std.specs.Prelude.{◌≡◌, ◌+◌, ℕ, List, [], length}
 use Rattle.wire_msgs.specs.declared.message.Message.{Message}
 use Rattle.container_model.specs.Record.{Record, Took}
-use Rattle.world_model.specs.World.{messages_of, started_by}
+use Rattle.world_model.specs.World.{Instance, messages_of, started_by, ended_by}
 use Rattle.world_model.specs.Safe.{links_of}
 use Rattle.world_facts.specs.Words.{Links, Acts, Lives}
 use Rattle.world_facts.specs.Shapes.{Begins, Settles, SendsNext, EndsSome}
 
--- a step that makes no activation and starts no server
+-- a step that makes no activation, and starts and ends no server
 pub record IsPlain (r : Record) (t : Took) : Type 0 where
   pub last_act : t.rec.last_act ≡ r.last_act
   pub servers : length t.rec.servers ≡ length r.servers
   pub starts : (numbers : ℕ) → started_by numbers t.answer.actions ≡ []
+  pub ends : (instances : List Instance) → ended_by t.answer.actions instances ≡ instances
 
 -- A run that is taken begins an activation.
 pub record IsBegun (r : Record) (lives : Lives) (owners : List ℕ) (o : ℕ) (t : Took) : Type 0 where
@@ -19,6 +20,7 @@ pub record IsBegun (r : Record) (lives : Lives) (owners : List ℕ) (o : ℕ) (t
   pub last_act : t.rec.last_act ≡ r.last_act + 1
   pub servers : length t.rec.servers ≡ length r.servers
   pub starts : (numbers : ℕ) → started_by numbers t.answer.actions ≡ []
+  pub ends : (instances : List Instance) → ended_by t.answer.actions instances ≡ instances
 
 -- A reply that is taken settles the pending operation, and then the next one that waits is sent; or its object's link ends.
 pub data IsAnswered (links after : Links) (acts : Acts) (lives : Lives) (more : List Message) : Type 0 where

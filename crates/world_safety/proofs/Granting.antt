@@ -1,0 +1,255 @@
+-- What was sent and taken by an event; and each content that is taken came under the grant that the record held open.
+use Rattle.std.proofs.Common.{◌≡◌, ◌==◌, ℕ, zero, suc, Bool, true, false, List, [], ◌∷◌, ◌++◌, map, Option, Some, None, Result, Ok, Err, refl, sym, ap, ◌∙◌, inl, inr, subst, slice_get, if◌then◌else◌}
+use Rattle.std.proofs.lemmas.List.{append-nil}
+use Rattle.wire_msgs.specs.Found.{find, nth, set_nth}
+use Rattle.wire_msgs.specs.declared.message.Message.{Message}
+use Rattle.wire_msgs.specs.declared.message.Message.TheVariants.{Call, Reply, Write, Ask}
+use Rattle.wire_msgs.specs.declared.operation.Operation.{Operation}
+use Rattle.wire_msgs.specs.declared.answer.Answer.{Answer}
+use Rattle.wire_msgs.specs.declared.answer.Answer.TheVariants.{Content}
+use Rattle.embed_core.specs.Kinds.{Kind}
+use Rattle.storage_tree.specs.declared.stored.Stored.{Stored}
+use Rattle.server_model.specs.Server.{Served, Told, on_call, wanted}
+use Rattle.server_model.specs.Server as server
+use Rattle.server_model.specs.declared.fault.ServerFault.{ServerFault}
+use Rattle.container_model.specs.Record.{Record, Took, is_linked}
+use Rattle.container_model.specs.Saves.{image, commit_done}
+use Rattle.container_model.specs.Messages.{awaits_save, on_message, on_reap}
+use Rattle.container_model.specs.Commands.{on_command}
+use Rattle.container_model.specs.declared.answer.Part.{Part}
+use Rattle.container_model.specs.declared.command.Command.{Command}
+use Rattle.container_model.specs.declared.record.Frame.{Frame}
+use Rattle.container_model.specs.declared.record.Link.{Link}
+use Rattle.container_model.specs.declared.record.Object.{Object}
+use Rattle.container_model.specs.declared.fault.ContainerFault.{ContainerFault}
+use Rattle.container_model.specs.declared.fault.ContainerFault.TheVariants.{Stale, WrongLink}
+use Rattle.world_model.specs.declared.event.Event.{Event}
+use Rattle.world_model.specs.declared.event.Event.TheVariants as event
+use Rattle.world_model.specs.declared.event.Stop.{Stop}
+use Rattle.world_model.specs.declared.life.Life.{Life}
+use Rattle.world_model.specs.declared.life.Life.TheVariants.{Running, Ended, Reaped}
+use Rattle.world_model.specs.declared.logs.Sent.{Sent}
+use Rattle.world_model.specs.declared.logs.Taken.{Taken}
+use Rattle.world_model.specs.World.{World, Instance, messages_of, of_container, took, commanded, view_in, served, is_of, stocked, called_wanting, called_in, called, delivered, taken_link, taken_of, taken_by, taken_at, with_taken, deliver, scribbled_by, scribbled, scribble, crashed, crash, ended, reap, done_taken, done_imaged, done_in, happened}
+use Rattle.world_model.specs.Safe.{Among, acts_of, messages, IsGranted}
+use Rattle.world_facts.specs.Words.{lives_of}
+use Rattle.world_facts.specs.Views.{IsSentOpen}
+use Rattle.world_facts.proofs.Lookups.{among_join, among_map, among_old, nth_old, find_passes}
+use Rattle.world_steps.proofs.Objects.{messages_of_log}
+use Rattle.world_steps.proofs.Replying.{linked_is, reply_closes}
+use Rattle.world_steps.proofs.Taking.{normal_of, write_is, held_open}
+use Rattle.world_safety.specs.Holding.{AgreesIn}
+
+-- a world whose log of messages grew, and that took nothing
+pub record Grew (w v : World) : Type 0 where
+  pub more : List Sent
+  pub sent : v.sent ≡ w.sent ++ more
+  pub taken : v.taken ≡ w.taken
+
+stays : (w v : World) → v.sent ≡ w.sent → v.taken ≡ w.taken → Grew w v
+stays w v s t = record { more = []; sent = s ∙ sym (append-nil w.sent); taken = t }
+
+grew_took : (w : World) (told : Result Took ContainerFault) → Grew w (took w told)
+grew_took w (Err fault) = stays w _ refl refl
+grew_took w (Ok t) = record { more = map of_container (messages_of t.answer.actions); sent = refl; taken = refl }
+
+grew_commanded : (w : World) (c : Command) (told : Result Took ContainerFault) → Grew w (commanded w c told)
+grew_commanded w c (Err fault) = stays w _ refl refl
+grew_commanded w c (Ok t) = record { more = map of_container (messages_of t.answer.actions); sent = refl; taken = refl }
+
+ok_is : (x y : World) → ◌≡◌ {A = Result World Stop} (Ok x) (Ok y) → x ≡ y
+ok_is x y e = cc
+
+module _ (w : World) (inc act n : ℕ) (op : Operation) where
+  grew_served : (i : Instance) (stock : List Kind) (told : Result Served ServerFault) → Grew w (served w inc act n i stock told)
+  grew_served i stock (Err fault) = stays w _ refl refl
+  grew_served i stock (Ok v) = record { more = record { message = Reply inc act n v.answer; view = view_in i.core act } ∷ []; sent = refl; taken = refl }
+
+  grew_stocked : (i : Instance) (class : List ℕ) (kind : Option Kind) (v : World) → stocked w inc act n op i class kind ≡ Ok v → Grew w v
+  grew_stocked i class None v e = cc
+  grew_stocked i class (Some kind) v e = subst (Grew w) (ok_is _ v e) (grew_served i _ (on_call i.core (Call inc act n op) (Some kind)))
+
+  grew_wanting : (i : Instance) (class : Option (List ℕ)) (v : World) → called_wanting w inc act n op i class ≡ Ok v → Grew w v
+  grew_wanting i None v e = subst (Grew w) (ok_is _ v e) (grew_served i w.stock (on_call i.core (Call inc act n op) None))
+  grew_wanting i (Some class) v e = grew_stocked i class (find (is_of class) w.stock) v e
+
+  grew_called_in : (i : Instance) (life : Life) (v : World) → called_in w inc act n op i life ≡ Ok v → Grew w v
+  grew_called_in i Running v e = grew_wanting i (wanted i.core (Call inc act n op)) v e
+  grew_called_in i Ended v e = subst (Grew w) (ok_is _ v e) (stays w _ refl refl)
+  grew_called_in i Reaped v e = subst (Grew w) (ok_is _ v e) (stays w _ refl refl)
+
+  grew_called : (i : Option Instance) (v : World) → called w inc act n op i ≡ Ok v → Grew w v
+  grew_called None v e = subst (Grew w) (ok_is _ v e) (stays w _ refl refl)
+  grew_called (Some i) v e = grew_called_in i i.life v e
+
+grew_delivered : (w : World) (m : Message) (v : World) → delivered w m ≡ Ok v → Grew w v
+grew_delivered w (Call inc act n op) v e = grew_called w inc act n op (nth w.instances inc) v e
+grew_delivered w (Reply inc act n answer) v e = subst (Grew w) (ok_is _ v e) (grew_took w (on_message w.rec inc (Reply inc act n answer)))
+grew_delivered w (Write inc act s n content) v e = subst (Grew w) (ok_is _ v e) (grew_took w (on_message w.rec inc (Write inc act s n content)))
+grew_delivered w (Ask inc act g) v e = subst (Grew w) (ok_is _ v e) (grew_took w (on_message w.rec inc (Ask inc act g)))
+
+grew_crashed : (w : World) (inc : ℕ) (i : Instance) (life : Life) (v : World) → crashed w inc i life ≡ Ok v → Grew w v
+grew_crashed w inc i Running v e = subst (Grew w) (ok_is _ v e) (stays w _ refl refl)
+grew_crashed w inc i Ended v e = cc
+grew_crashed w inc i Reaped v e = cc
+
+grew_crash : (w : World) (inc : ℕ) (i : Option Instance) (v : World) → crash w inc i ≡ Ok v → Grew w v
+grew_crash w inc None v e = cc
+grew_crash w inc (Some i) v e = grew_crashed w inc i i.life v e
+
+grew_ended : (w : World) (inc : ℕ) (i : Instance) (life : Life) (v : World) → ended w inc i life ≡ Ok v → Grew w v
+grew_ended w inc i Running v e = cc
+grew_ended w inc i Ended v e = (let u : World = record w { instances = set_nth w.instances inc (record i { life = Reaped }) } in
+    let g = grew_took u (on_reap w.rec inc) in
+    subst (Grew w) (ok_is _ v e) (record { more = g.more; sent = g.sent; taken = g.taken }))
+grew_ended w inc i Reaped v e = cc
+
+grew_reap : (w : World) (inc : ℕ) (i : Option Instance) (v : World) → reap w inc i ≡ Ok v → Grew w v
+grew_reap w inc None v e = cc
+grew_reap w inc (Some i) v e = grew_ended w inc i i.life v e
+
+grew_scribbled_by : (w : World) (inc act : ℕ) (i : Instance) (told : Result Told ServerFault) → Grew w (scribbled_by w inc act i told)
+grew_scribbled_by w inc act i (Err fault) = stays w _ refl refl
+grew_scribbled_by w inc act i (Ok t) = record { more = record { message = t.message; view = view_in i.core act } ∷ []; sent = refl; taken = refl }
+
+grew_scribbled : (w : World) (inc act : ℕ) (i : Instance) (life : Life) (v : World) → scribbled w inc act i life ≡ Ok v → Grew w v
+grew_scribbled w inc act i Running v e = subst (Grew w) (ok_is _ v e) (grew_scribbled_by w inc act i (server.scribble i.core act))
+grew_scribbled w inc act i Ended v e = cc
+grew_scribbled w inc act i Reaped v e = cc
+
+grew_scribble : (w : World) (inc act : ℕ) (i : Option Instance) (v : World) → scribble w inc act i ≡ Ok v → Grew w v
+grew_scribble w inc act None v e = cc
+grew_scribble w inc act (Some i) v e = grew_scribbled w inc act i i.life v e
+
+module _ (w : World) (f : ℕ) (bytes : List ℕ) where
+  grew_done_taken : (frame : Frame) (parts : List Part) (told : Result Took ContainerFault) (v : World) → done_taken w f bytes frame parts told ≡ Ok v → Grew w v
+  grew_done_taken frame parts (Err fault) v e = cc
+  grew_done_taken frame parts (Ok t) v e = subst (Grew w) (ok_is _ v e) (record { more = map of_container (messages_of t.answer.actions); sent = refl; taken = refl })
+
+  grew_imaged : (frame : Frame) (told : Result (List Part) ContainerFault) (v : World) → done_imaged w f bytes frame told ≡ Ok v → Grew w v
+  grew_imaged frame (Err fault) v e = cc
+  grew_imaged frame (Ok parts) v e = grew_done_taken frame parts (commit_done w.rec f) v e
+
+  grew_done : (frame : Option Frame) (v : World) → done_in w f bytes frame ≡ Ok v → Grew w v
+  grew_done None v e = cc
+  grew_done (Some frame) v e = grew_imaged frame (image w.rec f) v e
+
+-- what was granted stays so
+pub granted_more : (w v : World) (more : List Sent) (t : Taken) → v.sent ≡ w.sent ++ more → IsGranted w t → IsGranted v t
+granted_more w v more t e g = (let s = g.sent in record {
+  message = g.message;
+  delivered = ap (λ xs. nth (messages xs) t.place) e ∙ (ap (λ xs. nth xs t.place) (messages_of_log w.sent more) ∙ nth_old (messages w.sent) (messages more) t.place g.message g.delivered);
+  brings = g.brings;
+  sent = (s.0, subst (λ xs. Among xs (record { message = g.message; view = Some s.0 })) (sym e) (among_old w.sent more _ s.1), s.2, s.3, s.4);
+  held_open = g.held_open;
+  unasked = g.unasked;
+})
+
+-- the message at a place
+nth_message : (xs : List Sent) (p : ℕ) (x : Sent) → nth xs p ≡ Some x → (nth (messages xs) p ≡ Some x.message) × Among xs x
+nth_message xs zero x e = cc
+nth_message xs (suc i) x e = at xs i e
+  where
+    at : (ys : List Sent) (i : ℕ) → slice_get ys i ≡ Some x → (slice_get (messages ys) i ≡ Some x.message) × Among ys x
+    at [] i e = cc
+    at (y ∷ ys) zero e = (let q : y ≡ x = cc in (ap (λ (z : Sent). Some z.message) q, inl (sym q)))
+    at (y ∷ ys) (suc i) e = (let r = at ys i e in (r.0, inr r.1))
+
+message_among : (xs : List Sent) (x : Sent) → Among xs x → Among (messages xs) x.message
+message_among xs x h = among_map (λ (y : Sent). y.message) xs x h
+
+-- the entry of what is taken
+abbrev entry_of : (p : ℕ) (o : Object) (l : Link) → Taken
+entry_of p o l = record { place = p; object = o.number; inc = l.inc; act = l.act; persist = l.states.persist.state; s = l.s; awaits_save = awaits_save l }
+
+taken_is : (p : ℕ) (x : Option Object) (o : Object) (l : Link) (t : Taken) → x ≡ Some o → o.link ≡ Some l → Among (taken_of p x) t → t ≡ entry_of p o l
+taken_is p x o l t f q g = (let y : Among (taken_link p o.number (Some l)) t = subst (λ z. Among (taken_link p o.number z) t) q (subst (λ z. Among (taken_of p z) t) f g) in at y)
+  where
+    at : Among (entry_of p o l ∷ []) t → t ≡ entry_of p o l
+    at (inl e) = e
+    at (inr z) = absurd z
+
+took_some : (r : Record) (p inc act : ℕ) (told : Result Took ContainerFault) (t : Taken) → Among (taken_by r p inc act told) t → (u : Took) × (told ≡ Ok u) × (u.answer.taken ≡ true) × Among (taken_of p (find (is_linked inc act) r.objects)) t
+took_some r p inc act (Err fault) t g = absurd g
+took_some r p inc act (Ok u) t g = elim (u.answer.taken) as (λ b. u.answer.taken ≡ b → Among (if b then taken_of p (find (is_linked inc act) r.objects) else []) t → (v : Took) × (◌≡◌ {A = Result Took ContainerFault} (Ok u) (Ok v)) × (v.answer.taken ≡ true) × Among (taken_of p (find (is_linked inc act) r.objects)) t) [
+  | true ↦ (λ q h. (u, refl, q, h))
+  | false ↦ (λ q h. absurd h)
+] refl g
+
+pub asked_nothing : (b : Bool) (u : Took) → ◌≡◌ {A = Result Took ContainerFault} (if b then Err Stale else Err WrongLink) (Ok u) → ⊥
+asked_nothing true u e = cc
+asked_nothing false u e = cc
+
+module _ (w : World) (h : AgreesIn w) (p : ℕ) (x : Sent) (at : nth w.sent p ≡ Some x) where
+  named_by : (inc act : ℕ) (o : Object) (l : Link) → find (is_linked inc act) w.rec.objects ≡ Some o → o.link ≡ Some l → (l.inc ≡ inc) × (l.act ≡ act)
+  named_by inc act o l f q = linked_is inc act o.link l q (find_passes (is_linked inc act) w.rec.objects o f)
+
+  message_at : (m : Message) → x.message ≡ m → nth (messages w.sent) p ≡ Some m
+  message_at m e = (nth_message w.sent p x at).0 ∙ ap Some e
+
+  write_granted : (inc act s n : ℕ) (content : Stored) (t : Taken) → x.message ≡ Write inc act s n content → Among (taken_by w.rec p inc act (on_message w.rec inc (Write inc act s n content))) t → IsGranted w t
+  write_granted inc act s n content t e g =
+      let m : Message = Write inc act s n content in
+      let k = took_some w.rec p inc act (on_message w.rec inc m) t g in
+      let b = write_is w.rec inc act s n content k.0 k.1 in
+      let open_now = held_open b.link s n b.granted in
+      let name = named_by inc act b.object b.link b.found b.linked in
+      let seen : IsSentOpen m x.view = subst (λ y. IsSentOpen y x.view) e (h.views.writes_sent x (nth_message w.sent p x at).1) in
+      let view = seen.0 in
+      let under = seen.2 in
+      let is : x ≡ record { message = m; view = Some view } = ap (λ y. record { message = y; view = x.view }) e ∙ ap (λ y. record { message = m; view = y }) seen.1 in
+      subst (IsGranted w) (sym (taken_is p (find (is_linked inc act) w.rec.objects) b.object b.link t b.found b.linked k.3)) (record {
+        message = m;
+        delivered = message_at m e;
+        brings = (sym name.0, sym name.1, sym open_now.grant);
+        sent = (view, subst (Among w.sent) is (nth_message w.sent p x at).1, under.opened, under.storage, under.grant ∙ sym open_now.grant);
+        held_open = open_now.storage;
+        unasked = open_now.unasked;
+      })
+
+  close_granted : (inc act n : ℕ) (answer : Answer) (t : Taken) → x.message ≡ Reply inc act n answer → Among (taken_by w.rec p inc act (on_message w.rec inc (Reply inc act n answer))) t → IsGranted w t
+  close_granted inc act n answer t e g =
+      let k = took_some w.rec p inc act (on_message w.rec inc (Reply inc act n answer)) t g in
+      let there : Among (messages w.sent) (Reply inc act n answer) = subst (Among (messages w.sent)) e (message_among w.sent x (nth_message w.sent p x at).1) in
+      let c = reply_closes w.rec (acts_of w.instances) (lives_of w.instances) (messages w.sent) w.owners w.rec.last_act w.container_done w.server_done inc act n answer h.steady h.facts tt there w.sent k.0 k.1 k.2 h.views in
+      let m : Message = Reply inc act n (Content c.content) in
+      let same : Reply inc act n answer ≡ m = ap (Reply inc act n) c.brings in
+      let normal = normal_of c.link.states.persist.state c.held.storage in
+      subst (IsGranted w) (sym (taken_is p (find (is_linked inc act) w.rec.objects) c.object c.link t c.found c.linked k.3)) (record {
+        message = m;
+        delivered = message_at m (e ∙ same);
+        brings = (sym c.inc_is, sym c.act_is);
+        sent = (c.seen.view, subst (λ y. Among w.sent (record { message = y; view = Some c.seen.view })) same c.seen.among, c.seen.opened, ap (λ v. v.persist.state) c.seen.states ∙ normal, c.seen.grant);
+        held_open = normal;
+        unasked = c.held.unasked;
+      })
+
+  granted_at : (m : Message) (t : Taken) → x.message ≡ m → Among (taken_at w.rec p m) t → IsGranted w t
+  granted_at (Call inc act n op) t e g = absurd g
+  granted_at (Reply inc act n answer) t e g = close_granted inc act n answer t e g
+  granted_at (Write inc act s n content) t e g = write_granted inc act s n content t e g
+  granted_at (Ask inc act j) t e g = (let k = took_some w.rec p inc act (on_message w.rec inc (Ask inc act j)) t g in absurd (asked_nothing (inc == inc) k.0 k.1))
+
+-- what was taken after an event
+abbrev AreGranted : World → Type 0
+AreGranted w = (t : Taken) → Among w.taken t → IsGranted w t
+
+granted_grew : (w v : World) → Grew w v → AreGranted w → AreGranted v
+granted_grew w v g h t a = granted_more w v g.more t g.sent (h t (subst (λ xs. Among xs t) g.taken a))
+
+granted_logged : (w : World) (more : List Taken) (told : Result World Stop) (v : World) → ((t : Taken) → Among more t → IsGranted w t) → ((u : World) → told ≡ Ok u → Grew w u) → AreGranted w → with_taken w more told ≡ Ok v → AreGranted v
+granted_logged w more (Err stop) v new grew h e = cc
+granted_logged w more (Ok u) v new grew h e = (let g = grew u refl in
+    subst AreGranted (ok_is _ v e) (λ t a. granted_more w _ g.more t g.sent (elim (among_join w.taken more t a) [ inl old ↦ h t old | inr now ↦ new t now ])))
+
+granted_deliver : (w : World) (p : ℕ) (sent : Option Sent) (v : World) → AgreesIn w → nth w.sent p ≡ sent → AreGranted w → deliver w p sent ≡ Ok v → AreGranted v
+granted_deliver w p None v k at h e = cc
+granted_deliver w p (Some x) v k at h e = granted_logged w (taken_at w.rec p x.message) (delivered w x.message) v (λ t g. granted_at w k p x at x.message t refl g) (λ u g. grew_delivered w x.message u g) h e
+
+pub granted_happened : (w : World) (bytes : List ℕ) (e : Event) (v : World) → AgreesIn w → AreGranted w → happened w bytes e ≡ Ok v → AreGranted v
+granted_happened w bytes (event.Command c) v k h e = granted_grew w v (subst (Grew w) (ok_is _ v e) (grew_commanded w c (on_command w.rec c))) h
+granted_happened w bytes (event.Deliver p) v k h e = granted_deliver w p (nth w.sent p) v k refl h e
+granted_happened w bytes (event.Crash inc) v k h e = granted_grew w v (grew_crash w inc (nth w.instances inc) v e) h
+granted_happened w bytes (event.Reap inc) v k h e = granted_grew w v (grew_reap w inc (nth w.instances inc) v e) h
+granted_happened w bytes (event.Scribble inc act) v k h e = granted_grew w v (grew_scribble w inc act (nth w.instances inc) v e) h
+granted_happened w bytes (event.Done f) v k h e = granted_grew w v (grew_done w f bytes (nth w.rec.frames f) v e) h

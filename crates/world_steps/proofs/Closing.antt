@@ -1,0 +1,119 @@
+-- Commands that end things: a passive object is deleted, a server is killed, an object is asked to close.
+use Rattle.std.proofs.Common.{◌≡◌, ◌⊎◌, ◌<◌, ◌||◌, ◌==◌, ℕ, Bool, true, false, List, [], ◌∷◌, Option, Some, None, is_some, Result, Ok, Err, refl, sym, ap, ◌∙◌, inl, inr, arith, subst, if◌then◌else◌}
+use Rattle.std.specs.Prelude.{IsSomeAnd}
+use Rattle.std.specs.List.{AllByRecursion}
+use Rattle.std.proofs.lemmas.Bool.{eqb-true, ne_eqb}
+use Rattle.wire_msgs.specs.Found.{find, put, nth}
+use Rattle.wire_msgs.specs.declared.operation.Operation.TheVariants.{Close}
+use Rattle.object_state.specs.declared.operations.CloseOption.{CloseOption}
+use Rattle.grant_core.specs.Grants.{waiting}
+use Rattle.container_model.specs.declared.record.Link.{Link}
+use Rattle.container_model.specs.declared.record.Object.{Object}
+use Rattle.container_model.specs.declared.record.Frame.{Frame}
+use Rattle.container_model.specs.declared.answer.Action.TheVariants.{End}
+use Rattle.container_model.specs.declared.fault.ContainerFault.{ContainerFault}
+use Rattle.container_model.specs.declared.fault.ContainerFault.TheVariants.{Busy, InDoubt as Doubtful, NoSuch, WrongState}
+use Rattle.container_model.specs.Record.{Record, Took, acts, counts_none, is_object, is_alive, is_asked, is_claim, is_busy, is_saving, is_doubtful, ask, without_first}
+use Rattle.container_model.specs.Commands.{delete, delete_at, delete_in, delete_made, kill, close, close_at, close_in, close_linked}
+use Rattle.container_laws.specs.Steady.{EachPair, InOrder, IsBeginning, IsRunning, AtFirstCall, PastFirstCall, Steady}
+use Rattle.container_laws.proofs.ClosesTaken.{closing, close_taken}
+use Rattle.container_laws.proofs.SteadyRecords.{or_false, unless_ok}
+use Rattle.container_laws.proofs.SteadyTests.{found_numbered, none_of}
+use Rattle.world_model.specs.World.{messages_of}
+use Rattle.world_model.specs.Safe.{link_at, links_of}
+use Rattle.world_facts.specs.Shapes.{AsksAll, IsQuiet}
+use Rattle.world_steps.specs.Steps.{IsPlain}
+use Rattle.world_steps.proofs.Objects.{found_held, messages_sends, no_start_sent, no_end_sent}
+use Rattle.world_steps.proofs.Asking.{none_asked, one_asked}
+
+-- Delete: no object behind another bears its number
+none_later : (o : Object) (os : List Object) → AllByRecursion (InOrder o) os → find (is_object o.number) os ≡ None
+none_later o [] h = refl
+none_later o (p ∷ ps) h = (let up : o.number < p.number = h.0.rising in
+    let far : (p.number == o.number) ≡ false = ne_eqb p.number o.number (λ e. absurd (omega arith)) in
+    rw far (none_later o ps h.1))
+
+-- so a passive object's place is all that goes
+without_links : (os : List Object) (m k : ℕ) → EachPair InOrder os → links_of os m ≡ None → links_of (without_first (is_object m) os) k ≡ links_of os k
+without_links [] m k order e = refl
+without_links (o ∷ os) m k order e =
+    elim (o.number == m) as (λ b. (o.number == m) ≡ b → link_at (if b then Some o else find (is_object m) os) ≡ None → links_of (if b then os else o ∷ without_first (is_object m) os) k ≡ links_of (o ∷ os) k) [
+      | true ↦ (λ t g. elim (o.number == k) as (λ c. (o.number == k) ≡ c → links_of os k ≡ link_at (if c then Some o else find (is_object k) os)) [
+        | true ↦ (λ u. ap (links_of os) (sym (eqb-true o.number k u)) ∙ (ap link_at (none_later o os order.0) ∙ sym g))
+        | false ↦ (λ u. refl)
+      ] refl)
+      | false ↦ (λ t g. elim (o.number == k) as (λ c. link_at (if c then Some o else find (is_object k) (without_first (is_object m) os)) ≡ link_at (if c then Some o else find (is_object k) os)) [
+        | true ↦ refl
+        | false ↦ without_links os m k order.1 g
+      ])
+    ] refl e
+
+delete_asks_in : (r : Record) (n : ℕ) (x : Object) (frame : Option Frame) (t : Took) → Steady r → find (is_object n) r.objects ≡ Some x → delete_in r x frame ≡ Ok t
+    → AsksAll (λ o op. IsQuiet op) (links_of r.objects) (links_of t.rec.objects) (messages_of t.answer.actions) × IsPlain r t
+delete_asks_in r n x None t s f e = cc
+delete_asks_in r n x (Some frame) t s f e =
+    let a = unless_ok (is_doubtful frame.phase) Doubtful _ t e in
+    let b = unless_ok (is_saving frame.phase || is_busy frame.ui.state x) Busy _ t a.1 in
+    let c = unless_ok (is_some x.link) WrongState _ t b.1 in
+    let g : Ok (delete_made r x) ≡ Ok t = c.1 in
+    let is : delete_made r x ≡ t = cc in
+    let passive : links_of r.objects x.number ≡ None = ap link_at (found_numbered n r.objects x f) ∙ none_of x.link c.0 in
+    subst (λ (v : Took). AsksAll (λ o op. IsQuiet op) (links_of r.objects) (links_of v.rec.objects) (messages_of v.answer.actions) × IsPlain r v) is (
+      none_asked (links_of r.objects) (links_of (without_first (is_object x.number) r.objects)) (λ k. without_links r.objects x.number k s.order passive),
+      record { last_act = refl; servers = refl; starts = λ numbers. refl; ends = λ is. refl },
+    )
+
+delete_asks_at : (r : Record) (n : ℕ) (x : Option Object) (t : Took) → Steady r → find (is_object n) r.objects ≡ x → delete_at r x ≡ Ok t
+    → AsksAll (λ o op. IsQuiet op) (links_of r.objects) (links_of t.rec.objects) (messages_of t.answer.actions) × IsPlain r t
+delete_asks_at r n None t s f e = cc
+delete_asks_at r n (Some x) t s f e = delete_asks_in r n x (nth r.frames x.frame) t s f e
+
+pub delete_asks : (r : Record) (n : ℕ) (t : Took) → Steady r → delete r n ≡ Ok t → AsksAll (λ o op. IsQuiet op) (links_of r.objects) (links_of t.rec.objects) (messages_of t.answer.actions) × IsPlain r t
+delete_asks r n t s e = delete_asks_at r n (find (is_object n) r.objects) t s refl e
+
+-- Kill: the record stays, and the server is to be ended
+pub kill_ends : (r : Record) (inc : ℕ) (t : Took) → kill r inc ≡ Ok t → counts_none r (acts (End inc ∷ [])) ≡ t
+kill_ends r inc t e = at (is_alive r inc) e
+  where
+    at : (b : Bool) → ◌≡◌ {A = Result Took ContainerFault} (if b then Ok (counts_none r (acts (End inc ∷ []))) else Err NoSuch) (Ok t) → counts_none r (acts (End inc ∷ [])) ≡ t
+    at true g = cc
+    at false g = cc
+
+-- Close: nothing is pending, so the object runs, and just the close is asked
+close_quiet : (option : CloseOption) → IsQuiet (Close option)
+close_quiet option = λ k storage e. cc
+
+running_only : (l : Link) → l.pending ≡ None → AtFirstCall l ⊎ PastFirstCall l.states → IsRunning l.states.object
+running_only l free (inl h) = absurd (subst (λ p. IsSomeAnd p IsBeginning) free h.pending)
+running_only l free (inr h) = h.running
+
+close_asks_linked : (r : Record) (n : ℕ) (option : CloseOption) (x : Object) (link : Option Link) (t : Took) → Steady r → find (is_object n) r.objects ≡ Some x → x.link ≡ link → is_asked link ≡ false → close_linked r x option link ≡ Ok t
+    → AsksAll (λ o op. IsQuiet op) (links_of r.objects) (links_of t.rec.objects) (messages_of t.answer.actions) × IsPlain r t
+close_asks_linked r n option x None t s f xl free e = cc
+close_asks_linked r n option x (Some l) t s f xl free e =
+    let h = found_held r n l x s f xl in
+    let is : closing r x l option ≡ t = close_taken r x l option t (running_only l (none_of l.pending free) h.steady.first_call) e in
+    let ms = (ask l (Close option)).sent in
+    let b : Object = record x { link = Some (ask l (Close option)).link } in
+    subst (λ (v : Took). AsksAll (λ o op. IsQuiet op) (links_of r.objects) (links_of v.rec.objects) (messages_of v.answer.actions) × IsPlain r v) is (
+      subst (λ v. AsksAll (λ o op. IsQuiet op) (links_of r.objects) (links_of (put (is_object x.number) b r.objects)) v) (sym (messages_sends ms)) (one_asked r n (Close option) x l s f xl (close_quiet option)),
+      record { last_act = refl; servers = refl; starts = λ numbers. no_start_sent numbers ms; ends = no_end_sent ms },
+    )
+
+close_asks_in : (r : Record) (n : ℕ) (option : CloseOption) (x : Object) (frame : Option Frame) (t : Took) → Steady r → find (is_object n) r.objects ≡ Some x → close_in r x option frame ≡ Ok t
+    → AsksAll (λ o op. IsQuiet op) (links_of r.objects) (links_of t.rec.objects) (messages_of t.answer.actions) × IsPlain r t
+close_asks_in r n option x None t s f e = cc
+close_asks_in r n option x (Some frame) t s f e =
+    let a = unless_ok (is_doubtful frame.phase) Doubtful _ t e in
+    let b = unless_ok (is_saving frame.phase || is_busy frame.ui.state x) Busy _ t a.1 in
+    let c = or_false (is_saving frame.phase) (is_busy frame.ui.state x) b.0 in
+    let d = or_false (is_asked x.link) (is_claim x.number (waiting frame.ui.state)) c.1 in
+    close_asks_linked r n option x x.link t s f refl d.0 b.1
+
+close_asks_at : (r : Record) (n : ℕ) (option : CloseOption) (x : Option Object) (t : Took) → Steady r → find (is_object n) r.objects ≡ x → close_at r option x ≡ Ok t
+    → AsksAll (λ o op. IsQuiet op) (links_of r.objects) (links_of t.rec.objects) (messages_of t.answer.actions) × IsPlain r t
+close_asks_at r n option None t s f e = cc
+close_asks_at r n option (Some x) t s f e = close_asks_in r n option x (nth r.frames x.frame) t s f e
+
+pub close_asks : (r : Record) (n : ℕ) (option : CloseOption) (t : Took) → Steady r → close r n option ≡ Ok t → AsksAll (λ o op. IsQuiet op) (links_of r.objects) (links_of t.rec.objects) (messages_of t.answer.actions) × IsPlain r t
+close_asks r n option t s e = close_asks_at r n option (find (is_object n) r.objects) t s refl e
