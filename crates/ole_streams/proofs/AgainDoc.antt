@@ -83,7 +83,7 @@ no_stream q (s ∷ ss) h f =
     find-place-other (key q) (key s.name) (s.name, bytes s.bytes) (with_streams ss none) (apart s.name q (f s.name (or_left (is_ole_name s.name) (has_ole_name ss) h)))
     ∙ no_stream q ss (or_right (is_ole_name s.name) (has_ole_name ss) h) f
 
-pub listed : List NamedStream → Children
+unfoldable pub listed : List NamedStream → Children
 listed [] = none
 listed (s ∷ ss) = stream (key s.name) s.name s.bytes (listed ss)
 
