@@ -26,11 +26,8 @@ impl Activation {
         ensures refused { IfErr result (Refuses (stored_open (seen_activation (λ s. content s.boxed) self.now).content)) }
     {
         match &self.seat {
-            Some(seat) => match seat.boxed.save(alloc) {
-                Ok(streams) => Ok(Stored {
-                    streams,
-                    picture: Bytes::new(alloc),
-                }),
+            Some(seat) => match seat.stored(alloc) {
+                Ok(stored) => Ok(stored),
                 Err(_) => Err(ServerFault::NoMemory),
             },
             None => Err(ServerFault::Ignored),

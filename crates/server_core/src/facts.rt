@@ -317,9 +317,10 @@ impl Facts {
 
     /// What is seen of it.
     pub fn view(&self, opened: bool) -> ActivationView
-        ensures { result ≡ record { opened = opened; states = self.now.states; s = self.now.s; last = self.now.last; g = self.now.g; w = self.now.w } }
+        ensures { result ≡ record { class = self.now.class; opened = opened; states = self.now.states; s = self.now.s; last = self.now.last; g = self.now.g; w = self.now.w } }
     {
         ActivationView {
+            class: self.class,
             opened,
             states: self.states,
             s: self.s,

@@ -5,5 +5,6 @@ mod activation;
 mod calls;
 mod facts;
 mod own_accord;
+mod picture;
 pub mod refusal;
 pub mod server;

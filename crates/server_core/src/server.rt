@@ -1,17 +1,23 @@
 //! A server.
 
-ghost use Rattle.std.specs.Prelude.{◌≡◌, Some, None, [], IfErr, IfOk, MatchOption, OnErr, OnOk, option_map};
+ghost use Rattle.std.specs.Prelude.{◌≡◌, Some, None, [], true, IfErr, IfOk, MatchOption, OnErr, OnOk, option_map};
 ghost use Rattle.wire_msgs.specs.Found.{IsPlace, find};
 ghost use Rattle.embed_core.specs.Kinds.{kind_of};
+ghost use Rattle.embed_core.specs.Content.{is_content};
 ghost use Rattle.embed_core.specs.Objects as object;
-ghost use Rattle.server_model.specs.Server.{begun_content, is_act, last_reply, view_of};
+ghost use Rattle.embed_core.specs.Pictures.{picture_bytes};
+ghost use Rattle.server_model.specs.Pictures.{picture_of};
+ghost use Rattle.server_model.specs.Server.{begun_content, is_act, last_reply, stored_of, view_of};
 ghost use Rattle.server_core.specs.View.{seen, seen_activation};
 
 use crate::facts::Facts;
+use crate::picture::presented;
 use embed_core::embedded::Embedded;
 use embed_core::fault::EmbedFault;
 use server_model::activation_view::ActivationView;
 use std::alloc::{AllocError, Global};
+use storage_tree::bytes::Bytes;
+use storage_tree::stored::Stored;
 use wire_msgs::message::Message;
 use wire_msgs::operation::Operation;
 
@@ -38,6 +44,37 @@ impl Seat {
                 Ok(())
             }
         }
+    }
+
+    // The lines of the object's picture.
+    fn lines(&self, alloc: Global) -> Result<Vec<u8>, EmbedFault>
+        ensures drawn { IfOk result (λ v. v.items ≡ picture_bytes (content self.now.boxed)) }
+        ensures refused { IfErr result (λ e. e ≡ EmbedFault.NoMemory) }
+    {
+        self.boxed.render(alloc)
+    }
+
+    // The picture of the object as it is written.
+    fn picture(&self, alloc: Global) -> Result<Bytes, EmbedFault>
+        requires { is_content (content self.now.boxed) ≡ true }
+        ensures drawn { IfOk result (λ p. p ≡ picture_of (content self.now.boxed)) }
+        ensures refused { IfErr result (λ e. e ≡ EmbedFault.NoMemory) }
+    {
+        let lines = self.lines(alloc)?;
+        let picture = presented(alloc, lines.as_slice())?;
+        Ok(picture)
+    }
+
+    /// What is stored of the object: its content, and its picture as it is written.
+    ///
+    /// Refused for want of memory alone.
+    pub(crate) fn stored(&self, alloc: Global) -> Result<Stored, EmbedFault>
+        ensures stored { IfOk result (λ s. s ≡ stored_of (content self.now.boxed)) }
+        ensures refused { IfErr result (λ e. e ≡ EmbedFault.NoMemory) }
+    {
+        let streams = self.boxed.save(alloc)?;
+        let picture = self.picture(alloc)?;
+        Ok(Stored { streams, picture })
     }
 }
 

@@ -11,20 +11,18 @@ use storage_tree::streams::NamedStream;
 use wire_msgs::message::Message;
 use wire_msgs::operation::Operation;
 
-fn bytes(alloc: Global, text: &str) -> Result<Bytes, Fail> {
+fn bytes_of(alloc: Global, text: &str) -> Result<Bytes, Fail> {
     Ok(Bytes::from_vec(Vec::from_slice(alloc, text.as_bytes())?))
 }
 
-/// A text as a note stores it.
+/// A text as a note stores it, with a picture that isn't its own.
 fn stored(alloc: Global, text: &str) -> Result<Stored, Fail> {
     let name = Name::new(b"Text")?;
-    let bytes = bytes(alloc, text)?;
+    let bytes = bytes_of(alloc, text)?;
     let mut streams = Streams::new(alloc);
     streams.push(NamedStream { name, bytes })?;
-    Ok(Stored {
-        streams,
-        picture: Bytes::new(alloc),
-    })
+    let picture = bytes_of(alloc, "no picture of it")?;
+    Ok(Stored { streams, picture })
 }
 
 fn class(name: &str) -> ClassId {
@@ -41,7 +39,7 @@ fn operation(alloc: Global, text: &str) -> Result<Operation, Fail> {
         [b'i', b'n', b'_', ..] => Ok(Operation::InPlace),
         [b'i', ..] => Ok(Operation::InitNew(class(rest))),
         [b'l', ..] => Ok(Operation::Load(classes::note(), stored(alloc, rest)?)),
-        [b'e', ..] => Ok(Operation::Edit(bytes(alloc, rest)?)),
+        [b'e', ..] => Ok(Operation::Edit(bytes_of(alloc, rest)?)),
         [b's', ..] => Ok(Operation::Save(number(rest))),
         [b'c', b'o', ..] => Ok(Operation::SaveCompleted {
             save: number(rest),

@@ -3,9 +3,8 @@
 
 use crate::calls::call;
 use crate::objects::handed;
-use crate::replies::{message_text, outcome_text, view_text};
+use crate::replies::{class_text, last_text, message_text, outcome_text, view_text};
 use crate::words::{halves, number};
-use embed_core::classes;
 use embed_core::embedded::Embedded;
 use embed_core::tally::Tally;
 use server_core::refusal::{Reaction, Refusal};
@@ -14,23 +13,24 @@ use server_model::fault::ServerFault;
 use std::alloc::{AllocError, Global};
 use std::process::Abort;
 use std::test::Fail;
-use storage_tree::class_id::ClassId;
 use wire_msgs::message::Message;
 
 /// Calls by incarnation, activation and number, with the object that is handed in: the reply or the fault, and `back`
-/// where the object comes back. `dropped`: how many objects were dropped so far, `end`: how many once the server is; then
-/// the next lines are of a new one.
+/// where the object comes back, with how many were dropped by then. A load is given a picture that isn't the object's.
+/// `dropped`: how many objects were dropped so far, `end`: how many once the server is; then the next lines are of a new
+/// one.
 const ROWS: &str = "1 5 1 note init note => Done
-1 5 1 note init note => Done, back
+1 5 1 note init note => Done, back at 0
 dropped => 1
 end => 2
 1 5 1 note load \x07 => BadContent
-1 5 1 note load \x07 => BadContent, back
+dropped => 3
+1 5 1 note load \x07 => BadContent, back at 3
 1 5 2 - edit i 0 a => Ignored
 dropped => 4
 end => 4
 1 5 1 - load a => NeedObject
-1 5 1 table init note => WrongClass, back
+1 5 1 table load a => WrongClass, back at 4
 2 5 1 - in_place => WrongIncarnation
 dropped => 5
 end => 5
@@ -45,22 +45,28 @@ end => 6
 1 5 2 - close => Done
 dropped => 7
 end => 8
-1 5 1 note init note => Done
-1 5 2 - edit i 0 abc => Done
-scribble 5 => Write abc
+1 1 1 note load abc => Done
+last 1 => Reply 1 1 1 Done
+scribble 1 => Write 1 1 abc
+scribble 1 => Write 1 2 abc
+1 1 2 - save 8 => Content abc
+scribble 1 => Ignored
+1 1 3 - completed 8 => Done, counted 1 8
+scribble 1 => Write 2 3 abc
+1 1 4 - close => Done
+scribble 1 => Ignored
 end => 9
 1 5 1 note init note => Done
-1 5 2 - save 8 => another answer
-scribble 5 => Ignored
+1 5 2 - save 8 => Content without a picture
 ask 5 => Ignored
 end => 10
 wants 1 5 1 - init note => note
 1 5 1 note init note => Done
-last 5 => Done
+last 5 => Reply 1 5 1 Done
 1 5 2 - in_place => Done
 1 5 3 - activate 7 => Tools
 ask 5 => Ask 7
-view 5 => true UiActive 1 3 7 0
+view 5 => note true UiActive 1 3 7 0
 view 6 => none
 last 6 => none
 wants 1 5 1 - init note => none
@@ -82,29 +88,18 @@ fn on_call(
 fn called(alloc: Global, core: &mut ServerCore, tally: &Tally, row: &str) -> Result<String, Fail> {
     let (object, message) = call(alloc, row)?;
     let object = handed(alloc, tally, object)?;
-    Ok(outcome_text(alloc, on_call(core, alloc, message, object))?)
+    Ok(outcome_text(alloc, on_call(core, alloc, message, object), tally)?)
 }
 
-fn sent(message: Result<Message, ServerFault>) -> &'static str {
+fn sent(alloc: Global, message: Result<Message, ServerFault>) -> Result<String, AllocError> {
     match message {
-        Ok(message) => message_text(&message),
-        Err(fault) => fault.name(),
+        Ok(message) => message_text(alloc, &message),
+        Err(fault) => String::from_str(alloc, fault.name()),
     }
 }
 
-fn last_reply(alloc: Global, core: &ServerCore, act: u32) -> Result<&'static str, AllocError> {
-    match core.last_reply(alloc, act)? {
-        Some(reply) => Ok(message_text(&reply)),
-        None => Ok("none"),
-    }
-}
-
-fn class_text(class: Option<ClassId>) -> &'static str {
-    match class {
-        Some(class) if class == classes::note() => "note",
-        Some(_) => "another class",
-        None => "none",
-    }
+fn last_reply(alloc: Global, core: &ServerCore, act: u32) -> Result<String, AllocError> {
+    last_text(alloc, core.last_reply(alloc, act)?)
 }
 
 fn wanted(alloc: Global, core: &ServerCore, row: &str) -> Result<&'static str, Fail> {
@@ -115,10 +110,10 @@ fn wanted(alloc: Global, core: &ServerCore, row: &str) -> Result<&'static str, F
 fn asked(alloc: Global, core: &mut ServerCore, tally: &Tally, row: &str) -> Result<String, Fail> {
     let (verb, rest) = halves(row, " ");
     match verb.as_bytes() {
-        [b's', ..] => Ok(String::from_str(alloc, sent(core.scribble(alloc, number(rest))))?),
-        [b'a', ..] => Ok(String::from_str(alloc, sent(core.ask_deactivate(number(rest))))?),
+        [b's', ..] => Ok(sent(alloc, core.scribble(alloc, number(rest)))?),
+        [b'a', ..] => Ok(sent(alloc, core.ask_deactivate(number(rest)))?),
         [b'v', ..] => Ok(view_text(alloc, core.activation(number(rest)))?),
-        [b'l', ..] => Ok(String::from_str(alloc, last_reply(alloc, core, number(rest))?)?),
+        [b'l', ..] => Ok(last_reply(alloc, core, number(rest))?),
         [b'w', ..] => Ok(String::from_str(alloc, wanted(alloc, core, rest)?)?),
         [b'd', ..] => Ok(tally.count().to_string(alloc)?),
         _ => called(alloc, core, tally, row),
