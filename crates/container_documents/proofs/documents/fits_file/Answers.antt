@@ -1,4 +1,4 @@
-use Rattle.std.proofs.Common.{◌≡◌, ◌+◌, nat_le, ◌∙◌, ap, arith}
+use Rattle.std.proofs.Common.{◌≡◌, nat_le, ◌∙◌, ap, arith}
 use Rattle.file_model.specs.Limits.{MOST_FAT_SECTORS}
 use Rattle.file_model.specs.Need.{fat_sectors, needed}
 use Rattle.container_documents.proofs.DocumentsRoom.{fits_told}
