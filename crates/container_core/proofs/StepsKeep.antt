@@ -1,5 +1,5 @@
 -- A step that is taken or refused leaves a steady record.
-use Rattle.std.proofs.Common.{◌≡◌, List, Option, Result, Ok, Err, IfOk, OnErr, sym, subst}
+use Rattle.std.proofs.Common.{◌≡◌, Result, Ok, Err, IfOk, OnErr, sym, subst}
 use Rattle.container_laws.specs.Steady.{Steady}
 use Rattle.container_model.specs.Record.{Record, Took, counts_none}
 use Rattle.container_model.specs.declared.answer.Answer.{Answer}

@@ -5,6 +5,7 @@ ghost use Rattle.storage_tree.specs.declared.streams.NamedStream.{NamedStream};
 ghost use Rattle.message_model.specs.declared.codes.OperationCode.TheVariants.{Close, Edit, InitNew, Load, Save, SaveCompleted, SaveDropped, UiActivate};
 ghost use Rattle.message_model.specs.declared.codes.Kind.TheVariants.{Ask, Call, Reply, Turn, Write};
 ghost use Rattle.message_model.specs.Frames.{number_in};
+ghost use Rattle.object_parts.specs.Limits.{MOST_BYTES};
 ghost use Rattle.message_model.specs.Reading.{answer, blob, byte, bytes, flag_of, more, may_follow, name, number, operation, option_of, pictured, read_body, stored, text, tools, whole, width_in, widths_in};
 ghost use Rattle.std.specs.Prelude.{[], ◌∷◌, ◌++◌, ◌≡◌, ◌≤◌, ◌<◌, ◌-◌, ◌^◌, ℕ, List, None, IfOk, true, length, take, drop};
 
@@ -266,7 +267,7 @@ fn take_streams(
     count: usize,
     xs: &[u8],
 ) -> Result<(Streams, usize, &[u8]), BodyFault>
-    ensures { Gives {B = List NamedStream × ℕ} (λ x. (x.0, x.1)) (λ x. x.2.now) result (λ k. more count [] 262144 (λ ss room. k (ss, room))) xs.now }
+    ensures { Gives {B = List NamedStream × ℕ} (λ x. (x.0, x.1)) (λ x. x.2.now) result (λ k. more count [] MOST_BYTES (λ ss room. k (ss, room))) xs.now }
 {
     let mut streams = Streams::new(alloc);
     let mut room = MOST_BYTES;

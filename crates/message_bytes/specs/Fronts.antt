@@ -11,7 +11,7 @@ use Rattle.message_model.specs.declared.fault.WireFault.{WireFault}
 use Rattle.message_model.specs.declared.fault.WireFault.TheVariants.{TooLong, BadField, NoMemory}
 use Rattle.message_model.specs.declared.frame.Frame.{Frame}
 use Rattle.message_model.specs.Codes.{kind_number}
-use Rattle.message_model.specs.Frames.{IsFrame, Reads, number_in, shown, shown_length}
+use Rattle.message_model.specs.Frames.{IsFrame, MOST_BODY, Reads, number_in, shown, shown_length}
 use Rattle.message_model.specs.Spelling.{spell, joined}
 
 -- A head that is whole: so many bytes of a body of this kind come behind it.
@@ -19,7 +19,7 @@ pub record IsHead (kind : Kind) (len : ℕ) (bytes : List ℕ) : Type 0 where
   pub long : 10 ≤ length bytes
   pub parts : take 10 bytes ≡ 79 ∷ 76 ∷ 67 ∷ 77 ∷ 1 ∷ kind_number kind ∷ take 4 (drop 6 bytes)
   pub says : number_in (take 4 (drop 6 bytes)) ≡ len
-  pub short : len ≤ 1048576
+  pub short : len ≤ MOST_BODY
 
 abbrev pub HeadIs : Head → List ℕ → Type 0
 HeadIs Short bytes = shown bytes ≡ None
@@ -30,7 +30,7 @@ HeadIs (Body kind len) bytes = IsHead kind len bytes
 abbrev pub LengthIs : Head → Kind → List ℕ → Type 0
 LengthIs Short kind bytes = shown_length bytes ≡ None
 LengthIs (Bad fault) kind bytes = (fault ≡ TooLong) × ((more : List ℕ) → shown_length (bytes ++ more) ≡ Some fault)
-LengthIs (Body k len) kind bytes = (k ≡ kind) × (4 ≤ length bytes) × (number_in (take 4 bytes) ≡ len) × (len ≤ 1048576)
+LengthIs (Body k len) kind bytes = (k ≡ kind) × (4 ≤ length bytes) × (number_in (take 4 bytes) ≡ len) × (len ≤ MOST_BODY)
 
 -- no frame's byte form begins these bytes
 abbrev pub BeginsNone : List ℕ → Type 0

@@ -2,7 +2,7 @@
 
 ghost use Rattle.cfb_directory.specs.Names.{IsName};
 ghost use Rattle.message_bytes.specs.Encoding.{Adds, AreNamed, Encodes};
-ghost use Rattle.message_model.specs.Frames.{answer_fits, fits, operation_fits};
+ghost use Rattle.message_model.specs.Frames.{MOST_BODY, MOST_EDIT, answer_fits, fits, operation_fits};
 ghost use Rattle.message_model.specs.Spelling.{answer, blob, body, four_bytes, kind, operation, option_number, stored, streams, text, two_bytes, widths};
 ghost use Rattle.object_parts.specs.Limits.{is_within, total};
 ghost use Rattle.wire_msgs.specs.declared.operation.Operation.TheVariants.{SaveCompleted};
@@ -210,7 +210,7 @@ fn push_init_new(out: &mut Vec<u8>, class: &[u8; 16]) -> Result<(), AllocError>
 
 // Adds an Edit.
 fn push_edit(out: &mut Vec<u8>, bytes: &[u8]) -> Result<(), AllocError>
-    requires { length bytes.now ≤ 65536 }
+    requires { length bytes.now ≤ MOST_EDIT }
     ensures { OnOk result (Adds out.old.items out.new.items (8 ∷ blob bytes.now) 300000) }
 {
     push_byte(out, 8)?;
@@ -313,7 +313,7 @@ fn push_three(out: &mut Vec<u8>, a: u32, b: u32, c: u32) -> Result<(), AllocErro
 // Adds a frame's body.
 fn push_body(out: &mut Vec<u8>, frame: &Frame) -> Result<(), AllocError>
     requires { fits frame.now ≡ true }
-    ensures { OnOk result (Adds out.old.items out.new.items (body frame.now) 1048576) }
+    ensures { OnOk result (Adds out.old.items out.new.items (body frame.now) MOST_BODY) }
 {
     match frame {
         Frame::Message(

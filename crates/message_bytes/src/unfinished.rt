@@ -12,20 +12,20 @@ const MOST_HELD: usize = 82;
 #[derive(Drop)]
 pub(crate) struct Unfinished {
     // They stand in the vector, or where that has none, in the array.
-    held: [u8; 82],
+    held: [u8; MOST_HELD],
     len: usize,
     more: Vec<u8>,
 }
 
 impl Model for Unfinished {
     ghost use Rattle.std.specs.Prelude.{List, ℕ, ◌≤◌};
-    ghost use Rattle.message_bytes.specs.Holding.{kept};
+    ghost use Rattle.message_bytes.specs.Holding.{MOST_HELD, kept};
 
     ghost Value = { List ℕ };
 
     ghost view = { λ b. kept b.len b.held b.more.items };
 
-    ghost invariant = { λ b. b.len ≤ 82 };
+    ghost invariant = { λ b. b.len ≤ MOST_HELD };
 }
 
 // Takes so many bytes away from the front.
@@ -60,7 +60,7 @@ impl Unfinished {
         ensures { result ≡ [] }
     {
         Unfinished {
-            held: [0; 82],
+            held: [0; MOST_HELD],
             len: 0,
             more: Vec::new(alloc),
         }

@@ -14,7 +14,7 @@ use Rattle.message_model.specs.Codes.{kind_of, kind_number, operation_code_of, a
 use Rattle.message_model.specs.Spelling as spelling
 use Rattle.message_model.specs.Spelling.{four_bytes}
 use Rattle.message_model.specs.Frames.{operation_fits, answer_fits, IsFrame}
-use Rattle.message_model.specs.Reading.{Reader, whole, byte, number, some, stored, operation, answer, read_body}
+use Rattle.message_model.specs.Reading.{Reader, whole, byte, number, stored, operation, answer, read_body}
 use Rattle.message_model.proofs.Fields.{both, first_of, second_of, some_is, IsBytes, TakenByte, byte_found, whole_found, TakenNumber, number_again, number_found}
 use Rattle.message_model.proofs.Contents.{stored_again, stored_found, TakenContent}
 use Rattle.message_model.proofs.Operations.{operation_code_found, answer_code_found, TakenSome, some_found, TakenOperation, operation_found, operation_at, operation_again, TakenAnswer, answer_found, answer_at, answer_again}

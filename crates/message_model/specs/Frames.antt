@@ -20,11 +20,15 @@ use Rattle.message_model.specs.declared.frame.Frame.TheVariants.{Message, Turn}
 use Rattle.message_model.specs.Codes.{kind_of}
 use Rattle.message_model.specs.Spelling.{spell, joined}
 
+-- the greatest length of an edit
+abbrev pub MOST_EDIT : ℕ
+MOST_EDIT = 65536
+
 -- A frame may be sent where no number in it is 0, an edit has at most 65,536 bytes, and a content may be stored.
 abbrev pub operation_fits : Operation → Bool
 operation_fits (Load class content) = is_within content
 operation_fits (UiActivate grant) = nat_lt 0 grant
-operation_fits (Edit bytes) = nat_le (length bytes) 65536
+operation_fits (Edit bytes) = nat_le (length bytes) MOST_EDIT
 operation_fits (Save save) = nat_lt 0 save
 operation_fits (SaveCompleted save storage) = nat_lt 0 save
 operation_fits (SaveDropped save) = nat_lt 0 save

@@ -3,7 +3,7 @@ use Rattle.std.specs.Prelude.{ℕ, zero, suc, ◌-◌, Bool, true, false, cond, 
 use Rattle.std.specs.Int.{w16, from_le_bytes}
 use Rattle.cfb_directory.specs.declared.fault.DirFault.{DirFault}
 use Rattle.cfb_directory.specs.Names.{name_read}
-use Rattle.object_parts.specs.Limits.{is_ole_name}
+use Rattle.object_parts.specs.Limits.{MOST_BYTES, MOST_STREAMS, is_ole_name}
 use Rattle.object_state.specs.MenuTexts.{is_menu_text}
 use Rattle.object_state.specs.declared.operations.CloseOption.{CloseOption}
 use Rattle.object_state.specs.declared.operations.CloseOption.TheVariants.{SaveIfDirty, NoSave}
@@ -24,7 +24,7 @@ use Rattle.message_model.specs.declared.codes.OperationCode.TheVariants as code
 use Rattle.message_model.specs.declared.codes.AnswerCode.{AnswerCode}
 use Rattle.message_model.specs.declared.codes.AnswerCode.TheVariants as said
 use Rattle.message_model.specs.Codes.{operation_code_of, answer_code_of, refusal_of}
-use Rattle.message_model.specs.Frames.{number_in}
+use Rattle.message_model.specs.Frames.{MOST_EDIT, number_in}
 
 -- what makes a frame of the rest of a body, if anything does
 abbrev pub Reader : Type 0
@@ -91,7 +91,7 @@ abbrev pub pictured : (Stored → Reader) → List NamedStream → ℕ → Reade
 pictured k streams room = blob room (λ bs. k (record { streams = streams; picture = bs }))
 
 abbrev pub counted : (Stored → Reader) → ℕ → Reader
-counted k n = cond (nat_le n 8) (more n [] 262144 (pictured k)) bad
+counted k n = cond (nat_le n MOST_STREAMS) (more n [] MOST_BYTES (pictured k)) bad
 
 abbrev pub stored : (Stored → Reader) → Reader
 stored k = byte (counted k)
@@ -115,7 +115,7 @@ operation code.UiActivate k = number (λ grant. k (op.UiActivate grant))
 operation code.UiDeactivate k = k op.UiDeactivate
 operation code.InPlaceDeactivate k = k op.InPlaceDeactivate
 operation code.OpenWindow k = k op.OpenWindow
-operation code.Edit k = blob 65536 (λ bs. k (op.Edit bs))
+operation code.Edit k = blob MOST_EDIT (λ bs. k (op.Edit bs))
 operation code.Save k = number (λ save. k (op.Save save))
 operation code.HandsOff k = k op.HandsOff
 operation code.SaveCompleted k = number (λ save. byte (λ b. some (λ storage. k (op.SaveCompleted save storage)) (flag_of b)))

@@ -106,6 +106,11 @@ fn faults_are_shown_by_their_bytes(rt: HostRuntime) -> Result<(), Fail> {
     Ok(())
 }
 
+/// The beginning of a write whose body has 1,048,576 bytes: its head, and ten bytes of its numbers.
+const LONG: [u8; 20] = [
+    0x4f, 0x4c, 0x43, 0x4d, 1, 3, 0, 0, 16, 0, 1, 0, 0, 0, 1, 0, 0, 0, 1, 0,
+];
+
 /// A write of so many bytes in its picture.
 fn write(alloc: Global, count: usize) -> Result<Frame, Fail> {
     let mut content = Stored::new(alloc);
@@ -144,6 +149,10 @@ fn a_large_write_comes_in_pieces(rt: HostRuntime) -> Result<(), Fail> {
     let mut decoder = Decoder::new(rt.alloc());
     assert_eq!(rt; decoder.feed(front), Ok(()));
     assert!(rt; matches!(decoder.next(), Ok(None)));
+    // The head of a body of 1 MiB, and ten bytes of it.
+    let mut begun = Decoder::new(rt.alloc());
+    assert_eq!(rt; begun.feed(&LONG), Ok(()));
+    assert!(rt; matches!(begun.next(), Ok(None)));
     let large = encode(rt.alloc(), &write(rt.alloc(), 262_145)?);
     assert!(rt; matches!(large, Err(WireFault::BadField)));
     Ok(())
