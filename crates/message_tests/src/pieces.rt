@@ -114,7 +114,7 @@ const LONG: [u8; 20] = [
 /// A write of so many bytes in its picture.
 fn write(alloc: Global, count: usize) -> Result<Frame, Fail> {
     let mut content = Stored::new(alloc);
-    content.picture = Bytes::from_vec(vec![in alloc; 7; count]?);
+    content.picture = Bytes::from_vec(alloc, vec![in alloc; 7; count]?)?;
     Ok(Frame::Message(Message::Write {
         inc: 1,
         act: 1,
