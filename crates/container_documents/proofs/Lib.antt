@@ -1,2 +1,3 @@
-pub mod DocumentsTree
+pub mod DocumentSums
 pub mod DocumentsRoom
+pub mod RoomSteps

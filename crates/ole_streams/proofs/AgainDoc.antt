@@ -35,7 +35,7 @@ use Rattle.ole_parts.proofs.Tests.{cond_false, cond_true, not_lt}
 some_none : {A : Type 0} {P : Type 0} {x : A} → Some x ≡ None → P
 some_none h = absurd (search rules)
 
-not_found : (k q : List ℕ) (c : List ℕ × Seen) (cs : Children) → find k (child q c cs) ≡ None → (key_eq k q ≡ false) × (find k cs ≡ None)
+pub not_found : (k q : List ℕ) (c : List ℕ × Seen) (cs : Children) → find k (child q c cs) ≡ None → (key_eq k q ≡ false) × (find k cs ≡ None)
 not_found k q c cs h =
     elim (key_eq k q) as (λ b. cond b (Some c) (find k cs) ≡ None → (b ≡ false) × (find k cs ≡ None))
     [ true ↦ λ g. some_none g | false ↦ λ g. (refl, g) ] (sym (find-child k q c cs) ∙ h)
@@ -83,18 +83,18 @@ no_stream q (s ∷ ss) h f =
     find-place-other (key q) (key s.name) (s.name, bytes s.bytes) (with_streams ss none) (apart s.name q (f s.name (or_left (is_ole_name s.name) (has_ole_name ss) h)))
     ∙ no_stream q ss (or_right (is_ole_name s.name) (has_ole_name ss) h) f
 
-listed : List NamedStream → Children
+unfoldable pub listed : List NamedStream → Children
 listed [] = none
 listed (s ∷ ss) = stream (key s.name) s.name s.bytes (listed ss)
 
-in_front : (s : NamedStream) (ss : List NamedStream) → AreAfter s.name ss → placed s.name (bytes s.bytes) (listed ss) ≡ listed (s ∷ ss)
+pub in_front : (s : NamedStream) (ss : List NamedStream) → AreAfter s.name ss → placed s.name (bytes s.bytes) (listed ss) ≡ listed (s ∷ ss)
 unfolding listed
 in_front s [] h = refl
 in_front s (t ∷ ss) h =
     ap (λ o. match_ordering o (child (key s.name) (s.name, bytes s.bytes) (listed (t ∷ ss))) (child (key t.name) (s.name, bytes s.bytes) (listed ss)) (child (key t.name) (t.name, bytes t.bytes) (placed s.name (bytes s.bytes) (listed ss))))
     (keys_agree s.name t.name ∙ h.0)
 
-listed-is : (ss : List NamedStream) → AreInOrder ss → with_streams ss none ≡ listed ss
+pub listed-is : (ss : List NamedStream) → AreInOrder ss → with_streams ss none ≡ listed ss
 unfolding listed
 listed-is [] h = refl
 listed-is (s ∷ ss) h = ap (placed s.name (bytes s.bytes)) (listed-is ss h.1) ∙ in_front s ss h.0
@@ -118,7 +118,7 @@ not-true : (b : Bool) → not b ≡ true → b ≡ false
 not-true true h = absurd (search rules)
 not-true false h = refl
 
-own-names : (o : DocObject) → is_object o ≡ true → has_ole_name o.stored.streams ≡ false
+pub own-names : (o : DocObject) → is_object o ≡ true → has_ole_name o.stored.streams ≡ false
 own-names o h =
     let w = and_left (is_within o.stored) (nat_lt (length o.user_type) 0xFFFFFFFF) h in
     let r = and_right (nat_le (length o.stored.streams) MOST_STREAMS) _ w in
@@ -126,6 +126,20 @@ own-names o h =
 
 short-type : (o : DocObject) → is_object o ≡ true → length o.user_type < 0xFFFFFFFF
 short-type o h = let w = and_right (is_within o.stored) (nat_lt (length o.user_type) 0xFFFFFFFF) h in grind (arith, nat_tests, w)
+
+-- the keys of the three OLE streams are free where each of them is placed
+pub no_ole : (ss : List NamedStream) → has_ole_name ss ≡ false → find (key OLE) (with_streams ss none) ≡ None
+no_ole ss own = no_stream OLE ss own (λ n e. or_left (is_eq (name_cmp n OLE)) (is_eq (name_cmp n COMP_OBJ) || is_eq (name_cmp n OLE_PRES)) e)
+
+pub no_comp_obj : (ss : List NamedStream) → has_ole_name ss ≡ false → find (key COMP_OBJ) (placed OLE (bytes ole_bytes) (with_streams ss none)) ≡ None
+no_comp_obj ss own = find-place-other (key COMP_OBJ) (key OLE) (OLE, bytes ole_bytes) (with_streams ss none) refl
+    ∙ no_stream COMP_OBJ ss own (λ n e. or_left (is_eq (name_cmp n COMP_OBJ)) (is_eq (name_cmp n OLE_PRES)) (or_right (is_eq (name_cmp n OLE)) (is_eq (name_cmp n COMP_OBJ) || is_eq (name_cmp n OLE_PRES)) e))
+
+pub no_picture : (class user : List ℕ) (ss : List NamedStream) → has_ole_name ss ≡ false
+    → find (key OLE_PRES) (placed COMP_OBJ (bytes (comp_obj_bytes class user)) (placed OLE (bytes ole_bytes) (with_streams ss none))) ≡ None
+no_picture class user ss own = find-place-other (key OLE_PRES) (key COMP_OBJ) (COMP_OBJ, bytes (comp_obj_bytes class user)) (placed OLE (bytes ole_bytes) (with_streams ss none)) refl
+    ∙ find-place-other (key OLE_PRES) (key OLE) (OLE, bytes ole_bytes) (with_streams ss none) refl
+    ∙ no_stream OLE_PRES ss own (λ n e. or_right (is_eq (name_cmp n COMP_OBJ)) (is_eq (name_cmp n OLE_PRES)) (or_right (is_eq (name_cmp n OLE)) (is_eq (name_cmp n COMP_OBJ) || is_eq (name_cmp n OLE_PRES)) e))
 
 module _ (area : Area) (class user : List ℕ) (ss : List NamedStream) (len : length class ≡ 16) (short : length user < 0xFFFFFFFF) (own : has_ole_name ss ≡ false) (order : AreInOrder ss) where
   abbrev natives : Children
@@ -140,18 +154,6 @@ module _ (area : Area) (class user : List ℕ) (ss : List NamedStream) (len : le
   abbrev made : List ℕ → DocObject
   made picture = record { class = class; user_type = user; area = area; stored = record { streams = ss; picture = picture } }
 
-  no_ole : find (key OLE) natives ≡ None
-  no_ole = no_stream OLE ss own (λ n e. or_left (is_eq (name_cmp n OLE)) (is_eq (name_cmp n COMP_OBJ) || is_eq (name_cmp n OLE_PRES)) e)
-
-  no_comp_obj : find (key COMP_OBJ) with_ole ≡ None
-  no_comp_obj = find-place-other (key COMP_OBJ) (key OLE) (OLE, bytes ole_bytes) natives refl
-      ∙ no_stream COMP_OBJ ss own (λ n e. or_left (is_eq (name_cmp n COMP_OBJ)) (is_eq (name_cmp n OLE_PRES)) (or_right (is_eq (name_cmp n OLE)) (is_eq (name_cmp n COMP_OBJ) || is_eq (name_cmp n OLE_PRES)) e))
-
-  no_picture : find (key OLE_PRES) with_both ≡ None
-  no_picture = find-place-other (key OLE_PRES) (key COMP_OBJ) (COMP_OBJ, bytes (comp_obj_bytes class user)) with_ole refl
-      ∙ find-place-other (key OLE_PRES) (key OLE) (OLE, bytes ole_bytes) natives refl
-      ∙ no_stream OLE_PRES ss own (λ n e. or_right (is_eq (name_cmp n COMP_OBJ)) (is_eq (name_cmp n OLE_PRES)) (or_right (is_eq (name_cmp n OLE)) (is_eq (name_cmp n COMP_OBJ) || is_eq (name_cmp n OLE_PRES)) e))
-
   streams-read : (picture : List ℕ) → object_of area class picture user natives ≡ Ok (made picture)
   streams-read picture =
       ap (λ cs. object_of area class picture user cs) (listed-is ss order)
@@ -160,7 +162,7 @@ module _ (area : Area) (class user : List ℕ) (ss : List NamedStream) (len : le
   ole-read : (picture : List ℕ) → behind_comp_obj area class picture user with_ole ≡ Ok (made picture)
   ole-read picture =
       ap (λ f. on_ok (λ u. object_of area class picture user (without (key OLE) with_ole)) (on_ok ole_read (as_stream f))) (find-place (key OLE) (OLE, bytes ole_bytes) natives)
-      ∙ ap (object_of area class picture user) (without-place (key OLE) (OLE, bytes ole_bytes) natives no_ole)
+      ∙ ap (object_of area class picture user) (without-place (key OLE) (OLE, bytes ole_bytes) natives (no_ole ss own))
       ∙ streams-read picture
 
   comp_obj-read : (picture : List ℕ) → behind_picture area class picture with_both ≡ Ok (made picture)
@@ -168,17 +170,17 @@ module _ (area : Area) (class user : List ℕ) (ss : List NamedStream) (len : le
       ap (λ f. on_ok (λ u. behind_comp_obj area class picture u (without (key COMP_OBJ) with_both)) (on_ok user_type_read (as_stream f)))
       (find-place (key COMP_OBJ) (COMP_OBJ, bytes (comp_obj_bytes class user)) with_ole)
       ∙ ap (on_ok (λ u. behind_comp_obj area class picture u (without (key COMP_OBJ) with_both))) (user_type_again class user len short)
-      ∙ ap (behind_comp_obj area class picture user) (without-place (key COMP_OBJ) (COMP_OBJ, bytes (comp_obj_bytes class user)) with_ole no_comp_obj)
+      ∙ ap (behind_comp_obj area class picture user) (without-place (key COMP_OBJ) (COMP_OBJ, bytes (comp_obj_bytes class user)) with_ole (no_comp_obj ss own))
       ∙ ole-read picture
 
   picture-read : (picture : List ℕ) → object_read area (tree class 0 (with_picture picture with_both)) ≡ Ok (made picture)
   picture-read [] =
-      ap (λ f. on_ok (λ p. behind_picture area class p (without (key OLE_PRES) with_both)) (as_picture f)) no_picture
-      ∙ ap (behind_picture area class []) (without-none (key OLE_PRES) with_both no_picture)
+      ap (λ f. on_ok (λ p. behind_picture area class p (without (key OLE_PRES) with_both)) (as_picture f)) (no_picture class user ss own)
+      ∙ ap (behind_picture area class []) (without-none (key OLE_PRES) with_both (no_picture class user ss own))
       ∙ comp_obj-read []
   picture-read (b ∷ bs) =
       ap (λ f. on_ok (λ p. behind_picture area class p (without (key OLE_PRES) (placed OLE_PRES (bytes (b ∷ bs)) with_both))) (as_picture f)) (find-place (key OLE_PRES) (OLE_PRES, bytes (b ∷ bs)) with_both)
-      ∙ ap (behind_picture area class (b ∷ bs)) (without-place (key OLE_PRES) (OLE_PRES, bytes (b ∷ bs)) with_both no_picture)
+      ∙ ap (behind_picture area class (b ∷ bs)) (without-place (key OLE_PRES) (OLE_PRES, bytes (b ∷ bs)) with_both (no_picture class user ss own))
       ∙ comp_obj-read (b ∷ bs)
 
 object-again : (o : DocObject) → IsHeld o → object_read o.area (object_tree o) ≡ Ok o
@@ -209,17 +211,17 @@ same-names n m false false p q h l e =
     let ones : 48 + n % 10 ≡ 48 + m % 10 = sym (upper-same (48 + n % 10) (omega arith)) ∙ ap (λ k. get_or k 5 0) e ∙ upper-same (48 + m % 10) (omega arith) in
     omega arith
 
-names-apart : (n m : ℕ) → n < m → m < 100 → key_eq (key (object_name n)) (key (object_name m)) ≡ false
+pub names-apart : (n m : ℕ) → n < m → m < 100 → key_eq (key (object_name n)) (key (object_name m)) ≡ false
 unfolding digits
 names-apart n m h l =
     elim (key_eq (key (object_name n)) (key (object_name m))) as (λ b. key_eq (key (object_name n)) (key (object_name m)) ≡ b → b ≡ false)
     [ true ↦ λ e. absurd (same-names n m (nat_lt n 10) (nat_lt m 10) refl refl h l (tied (key (object_name n)) (key (object_name m)) e)) | false ↦ λ e. refl ] refl
 
-layout-apart : (m : ℕ) → key_eq (key LAYOUT) (key (object_name m)) ≡ false
+pub layout-apart : (m : ℕ) → key_eq (key LAYOUT) (key (object_name m)) ≡ false
 unfolding digits
 layout-apart m = elim (nat_lt m 10) as (λ b. key_eq (key LAYOUT) (key (digits m b)) ≡ false) [ true ↦ refl | false ↦ refl ]
 
-not_among : (q : List ℕ) (m : ℕ) (os : List DocObject) → ((k : ℕ) → m ≤ k → k < m + length os → key_eq q (key (object_name k)) ≡ false) → find q (with_objects m os none) ≡ None
+pub not_among : (q : List ℕ) (m : ℕ) (os : List DocObject) → ((k : ℕ) → m ≤ k → k < m + length os → key_eq q (key (object_name k)) ≡ false) → find q (with_objects m os none) ≡ None
 not_among q m [] f = refl
 not_among q m (o ∷ os) f =
     find-place-other q (key (object_name m)) (object_name m, inner (object_tree o)) (with_objects (m + 1) os none) (f m (omega arith) (omega arith))

@@ -1,5 +1,5 @@
 -- Documents as values.
-use Rattle.std.specs.Prelude.{ℕ, ◌≡◌, ◌<◌, ◌≤◌, ◌^◌, List, [], ◌∷◌, true, length, Result, Ok, Err, IsOk}
+use Rattle.std.specs.Prelude.{◌≡◌, ◌<◌, ◌≤◌, ◌^◌, List, [], ◌∷◌, true, length, Result, Ok, Err, IsOk}
 use Rattle.object_parts.specs.declared.area.Area.{Area}
 use Rattle.storage_tree.specs.Streams.{AreInOrder}
 use Rattle.ole_parts.specs.CompObjs.{CLASS_BYTES}

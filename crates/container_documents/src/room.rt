@@ -1,0 +1,177 @@
+//! The room that a frame's document needs in a file, reckoned without memory.
+
+ghost use Rattle.std.specs.Prelude.{◌+◌, ◌≡◌, ◌<◌, is_ok, length, min, nat_le, true};
+ghost use Rattle.container_model.specs.Saves.{document, document_tree, held_part, is_document, part_of, parts_in};
+ghost use Rattle.container_documents.specs.Sums.{IsTyped, comp_obj_size, long_of, object_sum, one, one_of, picture_of, short_of, streams_sum};
+ghost use Rattle.file_model.specs.Limits.{MOST_FAT_SECTORS};
+ghost use Rattle.file_model.specs.Need.{fat_sectors, long_pieces, needed, short_pieces};
+ghost use Rattle.file_model.specs.Refusals.{writable};
+ghost use Rattle.file_model.specs.declared.limit.TheConstants.{MANY};
+ghost use Rattle.ole_parts.specs.CompObjs.{CLASS_BYTES, PAST_USER_TYPE};
+
+use crate::documents::kept;
+use container_model::record::Object;
+use file_model::limit::{CUTOFF, MANY, MOST_FAT_SECTORS};
+use storage_tree::streams::NamedStream;
+
+/// How many bytes `\1Ole` has (MS-OLEDS 2.3.3).
+const OLE_SIZE: usize = 20;
+
+/// How many entries, mini sectors and sectors of long streams are needed. Each is counted up to the bound.
+#[derive(Drop)]
+struct Room {
+    entries: usize,
+    minis: usize,
+    longs: usize,
+}
+
+/// A count with so many more.
+fn more(count: usize, more: usize) -> usize
+    ensures { result ≡ min MANY (count + more) }
+{
+    count.saturating_add(more).min(MANY as usize)
+}
+
+/// How many mini sectors a stream of so many bytes takes.
+fn minis_of(size: usize) -> usize
+    ensures { result ≡ short_of size }
+{
+    if size < CUTOFF { size.div_ceil(64) } else { 0 }
+}
+
+/// How many sectors of its own a stream of so many bytes takes.
+fn longs_of(size: usize) -> usize
+    ensures { result ≡ long_of size }
+{
+    if size < CUTOFF { 0 } else { size.div_ceil(512) }
+}
+
+/// How many bytes `\1CompObj` has for a user type of so many bytes (MS-OLEDS 2.3.8).
+fn comp_obj_size(user_type: usize) -> usize
+    requires { user_type < PAST_USER_TYPE }
+    ensures { result ≡ comp_obj_size user_type }
+{
+    if user_type == 0 { 40 } else { 41 + user_type }
+}
+
+/// A class id has 16 bytes.
+fn class_is_whole(bytes: &[u8; 16])
+    ensures { length bytes.now ≡ CLASS_BYTES }
+{
+    let _bytes = *bytes;
+}
+
+/// What the types of an object's values promise.
+fn is_typed(object: &Object)
+    ensures { IsTyped (held_part (part_of object.now)) }
+{
+    class_is_whole(object.class.as_bytes());
+    let _ = kept(object).streams.as_slice();
+}
+
+impl Room {
+    /// Nothing is needed.
+    fn new() -> Room
+        ensures entries { result.entries ≡ 0 }
+        ensures minis { result.minis ≡ 0 }
+        ensures longs { result.longs ≡ 0 }
+    {
+        Room {
+            entries: 0,
+            minis: 0,
+            longs: 0,
+        }
+    }
+
+    /// With one more storage.
+    fn storage(self) -> Room
+        ensures entries { min MANY result.entries ≡ min MANY (self.entries + 1) }
+        ensures minis { result.minis ≡ self.minis }
+        ensures longs { result.longs ≡ self.longs }
+    {
+        Room {
+            entries: more(self.entries, 1),
+            minis: self.minis,
+            longs: self.longs,
+        }
+    }
+
+    /// With one more stream, of so many bytes.
+    fn stream(self, size: usize) -> Room
+        ensures entries { min MANY result.entries ≡ min MANY (self.entries + 1) }
+        ensures minis { min MANY result.minis ≡ min MANY (self.minis + short_of size) }
+        ensures longs { min MANY result.longs ≡ min MANY (self.longs + long_of size) }
+    {
+        Room {
+            entries: more(self.entries, 1),
+            minis: more(self.minis, minis_of(size)),
+            longs: more(self.longs, longs_of(size)),
+        }
+    }
+
+    /// With these streams.
+    fn streams(self, streams: &[NamedStream]) -> Room
+        ensures entries { min MANY result.entries ≡ min MANY (self.entries + streams_sum one streams.now) }
+        ensures minis { min MANY result.minis ≡ min MANY (self.minis + streams_sum short_pieces streams.now) }
+        ensures longs { min MANY result.longs ≡ min MANY (self.longs + streams_sum long_pieces streams.now) }
+    {
+        let mut room = self;
+        for stream in streams {
+            room = room.stream(stream.bytes.len());
+        }
+        room
+    }
+
+    /// With a picture, which has no stream where it is empty.
+    fn picture(self, size: usize) -> Room
+        ensures entries { min MANY result.entries ≡ min MANY (self.entries + picture_of one_of size) }
+        ensures minis { min MANY result.minis ≡ min MANY (self.minis + picture_of short_of size) }
+        ensures longs { min MANY result.longs ≡ min MANY (self.longs + picture_of long_of size) }
+    {
+        if size == 0 { self } else { self.stream(size) }
+    }
+
+    /// With an object's storage and its streams.
+    fn object(self, object: &Object) -> Room
+        requires { length object.now.user_type < PAST_USER_TYPE }
+        ensures entries { min MANY result.entries ≡ min MANY (self.entries + object_sum one 1 (held_part (part_of object.now))) }
+        ensures minis { min MANY result.minis ≡ min MANY (self.minis + object_sum short_pieces 0 (held_part (part_of object.now))) }
+        ensures longs { min MANY result.longs ≡ min MANY (self.longs + object_sum long_pieces 0 (held_part (part_of object.now))) }
+        ensures typed { IsTyped (held_part (part_of object.now)) }
+    {
+        is_typed(object);
+        let stored = kept(object);
+        let own = self.storage().streams(stored.streams.as_slice());
+        let linked = own.stream(OLE_SIZE);
+        let named = linked.stream(comp_obj_size(object.user_type.len()));
+        named.picture(stored.picture.len())
+    }
+
+    /// Whether the least FAT that covers it is within the limit.
+    fn fits(self) -> bool
+        ensures { result ≡ nat_le (fat_sectors (needed (min MANY self.entries) (min MANY self.minis) (min MANY self.longs))) MOST_FAT_SECTORS }
+    {
+        let entries = self.entries.min(MANY as usize);
+        let minis = self.minis.min(MANY as usize);
+        let longs = self.longs.min(MANY as usize);
+        let tables = (1 + entries).div_ceil(4) + minis.div_ceil(128);
+        let sectors = tables + (64 * minis).div_ceil(512) + longs;
+        sectors.div_ceil(127) <= MOST_FAT_SECTORS as usize
+    }
+}
+
+/// Whether a file has room for the document of a frame. It takes no memory.
+pub(crate) fn has_room(f: u32, objects: &[Object]) -> bool
+    requires { is_document (document (parts_in f objects.now)) ≡ true }
+    ensures { result ≡ is_ok (writable (document_tree (parts_in f objects.now))) }
+{
+    let mut room = Room::new();
+    let mut count: usize = 0;
+    for object in objects {
+        if object.frame == f {
+            room = room.object(object);
+            count += 1;
+        }
+    }
+    room.stream(8 + 8 * count).fits()
+}
