@@ -16,24 +16,28 @@ use Rattle.container_model.specs.declared.record.Phase.{Phase}
 use Rattle.container_model.specs.declared.record.Phase.TheVariants.{Idle, Saving, HandingOff, Committing, InDoubt}
 use Rattle.container_model.specs.declared.answer.Part.{Part}
 use Rattle.container_model.specs.declared.fault.ContainerFault.{ContainerFault}
-use Rattle.container_model.specs.declared.fault.ContainerFault.TheVariants.{WrongState}
+use Rattle.container_model.specs.declared.fault.ContainerFault.TheVariants.{Full, WrongState}
 use Rattle.container_model.specs.Record.{Record, Took, ask_at, asked_all, asked_sent, sends}
-use Rattle.container_model.specs.Saves.{awaits, commit_at, commit_done, commit_fitting, commit_made, completed, completion, document_tree, fitting, has_image, image, image_at, is_awaited_link, is_committing, is_ready_at, kept_by, kept_in, part_of, parts_in}
+use Rattle.container_model.specs.Saves.{awaits, commit_at, commit_done, commit_fitting, commit_made, completed, completion, document, document_tree, fitting, fitting_in, is_document, has_image, image, image_at, is_awaited_link, is_committing, is_ready_at, kept_by, kept_in, part_of, parts_in}
 use Rattle.container_laws.specs.CommitLaws.{AreParts, CommitCounts, CommitTells, Gives, HasAnswered, IsPart, SaveWaits, free_link, free_links, none, one, other, stored_part, stored_parts, telling}
 use Rattle.container_model.proofs.Completing.{completed_in, completed_out}
+use Rattle.container_laws.proofs.SteadyRecords.{if_told}
 
 -- ---- a commit that succeeds
-fitting_parts : (parts ps : List Part) (told : Result (Unit {0}) WriteFault) → fitting parts told ≡ Ok ps → ps ≡ parts
-fitting_parts parts ps (Ok done) h = cc
-fitting_parts parts ps (Err fault) h = absurd (cc)
+parts_told : (parts ps : List Part) (told : Result (Unit {0}) WriteFault) → fitting_in parts told ≡ Ok ps → ps ≡ parts
+parts_told parts ps (Ok done) h = cc
+parts_told parts ps (Err fault) h = absurd (cc)
 
-image_if : (parts ps : List Part) (told : Result (Unit {0}) WriteFault) (b : Bool) → (if b then fitting parts told else Err WrongState) ≡ Ok ps → ps ≡ parts
-image_if parts ps told true h = fitting_parts parts ps told h
-image_if parts ps told false h = absurd (cc)
+fitting_parts : (parts ps : List Part) → fitting parts ≡ Ok ps → ps ≡ parts
+fitting_parts parts ps h = if_told (λ (z : Result (List Part) ContainerFault). z ≡ Ok ps → ps ≡ parts) (is_document (document parts)) (fitting_in parts (writable (document_tree parts))) (Err Full)
+    (λ t g. parts_told parts ps (writable (document_tree parts)) g)
+    (λ t g. cc) h
 
 image_parts : (r : Record) (f : ℕ) (found : Option Frame) (ps : List Part) → image_at r f found ≡ Ok ps → ps ≡ parts_in f r.objects
 image_parts r f None ps h = absurd (cc)
-image_parts r f (Some frame) ps h = image_if (parts_in f r.objects) ps (writable (document_tree (parts_in f r.objects))) (has_image frame.phase) h
+image_parts r f (Some frame) ps h = if_told (λ (z : Result (List Part) ContainerFault). z ≡ Ok ps → ps ≡ parts_in f r.objects) (has_image frame.phase) (fitting (parts_in f r.objects)) (Err WrongState)
+    (λ t g. fitting_parts (parts_in f r.objects) ps g)
+    (λ t g. cc) h
 
 pub record Done (r : Record) (f : ℕ) (t : Took) : Type 0 where
   pub frame : Frame

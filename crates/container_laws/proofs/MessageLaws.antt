@@ -1,5 +1,5 @@
 -- The laws of messages and of the end of a server.
-use Rattle.std.proofs.Common.{◌≡◌, ◌≢◌, ◌==◌, ℕ, zero, suc, Bool, true, false, List, [], ◌∷◌, map, Option, Some, None, Ok, Err, Result, slice_get, refl, ap, sym, if◌then◌else◌, eq-eqb}
+use Rattle.std.proofs.Common.{◌≡◌, ◌≢◌, ◌==◌, ℕ, zero, suc, Bool, true, false, List, [], ◌∷◌, map, Option, Some, None, Ok, Err, Result, slice_get, refl, ap, sym, ◌∙◌, if◌then◌else◌, eq-eqb}
 use Rattle.std.proofs.lemmas.Bool.{eqb-true, ne_eqb}
 use Rattle.wire_msgs.specs.Found.{find, put}
 use Rattle.wire_msgs.specs.declared.answer.Answer.{Answer}
@@ -8,17 +8,13 @@ use Rattle.wire_msgs.specs.declared.operation.Operation.{Operation}
 use Rattle.container_model.specs.declared.record.Link.{Link}
 use Rattle.container_model.specs.declared.record.Object.{Object}
 use Rattle.container_model.specs.declared.fault.ContainerFault.{ContainerFault}
-use Rattle.container_model.specs.declared.fault.ContainerFault.TheVariants.{NoSuch, Stale, WrongLink}
+use Rattle.container_model.specs.declared.fault.ContainerFault.TheVariants.{BadAnswer, NoSuch, Stale, WrongLink}
 use Rattle.container_model.specs.Record.{Record, Took, is_alive, is_linked, quiet_answer}
 use Rattle.container_model.specs.Saves.{kept, settle, settle_actions}
-use Rattle.container_model.specs.Messages.{Replied, on_reap, on_reply, reaped, reaped_object, replied, replied_object, reply_found, reply_link, reply_pending, reply_taken}
+use Rattle.container_model.specs.Messages.{Replied, is_fit, on_reap, on_reply, reaped, reaped_object, replied, replied_fitting, replied_object, written_object, reply_found, reply_link, reply_pending, reply_taken}
 use Rattle.container_model.specs.Replies.{is_of}
-use Rattle.container_laws.specs.Laws.{MessagesKeepOthers, OnlyPendingReplies, OtherServersAreRefused, OthersAreStale, ReapsEndTheirs, ReapsKeepOthers, pending_in, pending_number}
-
--- what is done on a test that holds, where it is refused otherwise
-taken_if : {A : Type 0} (b : Bool) (next : Result A ContainerFault) (fault : ContainerFault) (t : A) → (if b then next else Err fault) ≡ Ok t → (b ≡ true) × (next ≡ Ok t)
-taken_if true next fault t e = (refl, e)
-taken_if false next fault t e = cc
+use Rattle.container_laws.specs.Laws.{MessagesKeepOthers, OnlyExpectedMessages, OtherServersAreRefused, OthersAreStale, ReapsEndTheirs, ReapsKeepOthers, is_open_in, pending_in, pending_number, takes_write}
+use Rattle.container_laws.proofs.WriteLaws.{taken_if, write_taken}
 
 -- a reply to another call than the pending one
 stale_pending : (l : Link) (n : ℕ) (answer : Answer) (pending : Option Operation) → (elim pending [ None ↦ None | Some op ↦ Some l.last ]) ≢ Some n → reply_pending l n answer pending ≡ Err Stale
@@ -45,13 +41,16 @@ others-are_stale r inc act n answer h =
     rw same (stale_alive (is_alive r inc) (reply_found r inc act n answer (find (is_linked inc act) r.objects)) (stale_found r inc act n answer (find (is_linked inc act) r.objects) h))
 
 -- the reply that moves a record answers the pending call
-pending_of : (l : Link) (n : ℕ) (answer : Answer) (pending : Option Operation) (x : Replied) → reply_pending l n answer pending ≡ Ok x → (elim pending [ None ↦ None | Some op ↦ Some l.last ]) ≡ Some n
+fit_of : (l : Link) (op : Operation) (answer : Answer) (x : Replied) → replied_fitting l op answer ≡ Ok x → is_fit answer ≡ true
+fit_of l op answer x e = (taken_if (is_fit answer) (replied l op answer) BadAnswer x e).0
+
+pending_of : (l : Link) (n : ℕ) (answer : Answer) (pending : Option Operation) (x : Replied) → reply_pending l n answer pending ≡ Ok x → ((elim pending [ None ↦ None | Some op ↦ Some l.last ]) ≡ Some n) × (is_fit answer ≡ true)
 pending_of l n answer None x e = cc
 pending_of l n answer (Some op) x e =
-    let b = taken_if (n == l.last) (replied l op answer) Stale x e in
-    ap Some (sym (eqb-true n l.last b.0))
+    let b = taken_if (n == l.last) (replied_fitting l op answer) Stale x e in
+    (ap Some (sym (eqb-true n l.last b.0)), fit_of l op answer x b.1)
 
-link_of : (n : ℕ) (answer : Answer) (link : Option Link) (x : Replied) → reply_link n answer link ≡ Ok x → pending_in link ≡ Some n
+link_of : (n : ℕ) (answer : Answer) (link : Option Link) (x : Replied) → reply_link n answer link ≡ Ok x → (pending_in link ≡ Some n) × (is_fit answer ≡ true)
 link_of n answer None x e = cc
 link_of n answer (Some l) x e = pending_of l n answer l.pending x e
 
@@ -59,22 +58,23 @@ taken_of : (r : Record) (inc act : ℕ) (o : Object) (R : Result Replied Contain
 taken_of r inc act o (Err fault) t e = cc
 taken_of r inc act o (Ok x) t e = (x, refl, sym (ap (λ (y : Result Took ContainerFault). elim y [ Ok z ↦ z.rec.objects | Err fault ↦ [] ]) e))
 
-number_of : (r : Record) (inc act n : ℕ) (answer : Answer) (o : Option Object) (t : Took) → reply_found r inc act n answer o ≡ Ok t → pending_number o ≡ Some n
+number_of : (r : Record) (inc act n : ℕ) (answer : Answer) (o : Option Object) (t : Took) → reply_found r inc act n answer o ≡ Ok t → (pending_number o ≡ Some n) × (is_fit answer ≡ true)
 number_of r inc act n answer None t e = cc
 number_of r inc act n answer (Some o) t e =
     let x = taken_of r inc act o (reply_link n answer o.link) t e in
     link_of n answer o.link x.0 x.1
 
-pub only-pending_replies : OnlyPendingReplies
-only-pending_replies r link (Call inc act n op) t e = cc
-only-pending_replies r link (Reply inc act n answer) t e =
+pub only-expected_messages : OnlyExpectedMessages
+only-expected_messages r link (Call inc act n op) t e = cc
+only-expected_messages r link (Reply inc act n answer) t e =
     let a = taken_if (inc == link) (on_reply r inc act n answer) WrongLink t e in
     let b = taken_if (is_alive r inc) (reply_found r inc act n answer (find (is_linked inc act) r.objects)) Stale t a.1 in
-    (eqb-true inc link a.0, b.0, number_of r inc act n answer (find (is_linked inc act) r.objects) t b.1)
-only-pending_replies r link (Write inc act s w content) t e =
-    let a = taken_if (inc == link) (Err Stale) WrongLink t e in
-    cc (a.1)
-only-pending_replies r link (Ask inc act g) t e =
+    let c = number_of r inc act n answer (find (is_linked inc act) r.objects) t b.1 in
+    (eqb-true inc link a.0, b.0, c.0, c.1)
+only-expected_messages r link (Write inc act s w content) t e =
+    let h = write_taken r link inc act s w content t e in
+    (h.same, h.alive, ap (takes_write s w) h.found ∙ (ap (is_open_in s w) h.is ∙ h.opened), h.within)
+only-expected_messages r link (Ask inc act g) t e =
     let a = taken_if (inc == link) (Err Stale) WrongLink t e in
     cc (a.1)
 
@@ -109,8 +109,9 @@ messages-keep_others r link (Reply inc act n answer) t e i o at apart =
     let b = taken_if (is_alive r inc) (reply_found r inc act n answer (find (is_linked inc act) r.objects)) Stale t a.1 in
     found_keeps r inc act n answer (find (is_linked inc act) r.objects) t b.1 i o at apart
 messages-keep_others r link (Write inc act s w content) t e i o at apart =
-    let a = taken_if (inc == link) (Err Stale) WrongLink t e in
-    cc (a.1)
+    let h = write_taken r link inc act s w content t e in
+    let made : t.rec.objects ≡ put (is_linked inc act) (written_object h.o h.l w content) r.objects = ap (λ (z : Record). z.objects) h.made in
+    rw made (put_keeps (is_linked inc act) (written_object h.o h.l w content) r.objects i o at apart)
 messages-keep_others r link (Ask inc act g) t e i o at apart =
     let a = taken_if (inc == link) (Err Stale) WrongLink t e in
     cc (a.1)

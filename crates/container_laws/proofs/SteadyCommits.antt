@@ -1,5 +1,5 @@
 -- A commit that is done keeps a record steady, and what it wrote.
-use Rattle.std.proofs.Common.{◌≡◌, ℕ, Bool, true, false, List, Option, Some, None, Result, Ok, Err, refl, sym, ap, ◌∙◌, subst, ◌==◌, if◌then◌else◌}
+use Rattle.std.proofs.Common.{◌≡◌, ◌≤◌, ℕ, Bool, true, false, List, Option, Some, None, Result, Ok, Err, refl, sym, ap, ◌∙◌, subst, ◌==◌, if◌then◌else◌}
 use Rattle.std.proofs.lemmas.Bool.{eqb-true, eqb-false}
 use Rattle.std.specs.Prelude.{IfSome, is_some}
 use Rattle.wire_msgs.specs.Found.{nth}
@@ -13,12 +13,13 @@ use Rattle.container_model.specs.declared.record.Phase.{Phase}
 use Rattle.container_model.specs.declared.record.Phase.TheVariants.{Idle, Committing}
 use Rattle.container_model.specs.declared.fault.ContainerFault.{ContainerFault}
 use Rattle.container_model.specs.declared.fault.ContainerFault.TheVariants.{WrongState}
-use Rattle.container_model.specs.Record.{Record, Took, is_object, asked_link, asked_object}
+use Rattle.container_model.specs.Record.{Record, Took, MOST_OBJECTS, is_object, asked_link, asked_object}
 use Rattle.container_model.specs.Saves.{kept, kept_by, kept_in, cleared, completion, completed, committed_frame, is_some_name, commit_made, is_committing, commit_fitting, commit_at, image}
 use Rattle.container_laws.specs.Steady.{SteadyLink, SteadyObject, SteadyFrame, IsSavedIn, InOrder, Steady, SteadyAfterCommits, CommitsAnsweredContents}
 use Rattle.container_laws.proofs.SteadyLookups.{each_found, each_map, each_set, pairs_map}
+use Rattle.container_laws.proofs.SteadyCounts.{count_map}
 use Rattle.container_laws.proofs.SteadyLinks.{completion_asked}
-use Rattle.container_laws.proofs.SteadyRecords.{if_told, at_some, if_at, Held, Follows, TookPlace, order_both}
+use Rattle.container_laws.proofs.SteadyRecords.{if_told, at_some, if_at, Held, kept_object_within, Follows, TookPlace, order_both}
 use Rattle.container_laws.proofs.SteadyCommands.{asked_follows, set_object, unset_object}
 
 -- an object of the frame is told
@@ -39,8 +40,8 @@ completed_if P f frame o here other = elim (o.frame == f) as (λ b. (o.frame == 
 
 pub completed_took : (f : ℕ) (frame : Frame) (o : Object) → TookPlace (completed f frame o) o
 completed_took f frame o = completed_if (λ (z : Object). TookPlace z o) f frame o
-    (λ e. record { number = refl; link = cleared_follows (completion frame) o.link })
-    (λ e. record { number = refl; link = λ l g. (l, g, refl) })
+    (λ e. record { number = refl; frame = refl; link = cleared_follows (completion frame) o.link })
+    (λ e. record { number = refl; frame = refl; link = λ l g. (l, g, refl) })
 
 module _ (r : Record) (f : ℕ) (frame : Frame) (s : Steady r) (at : nth r.frames f ≡ Some frame) (committing : frame.phase ≡ Committing) where
   abbrev after : Record
@@ -48,7 +49,8 @@ module _ (r : Record) (f : ℕ) (frame : Frame) (s : Steady r) (at : nth r.frame
 
   completed_steady : (o : Object) → SteadyObject r o → SteadyObject after (completed f frame o)
   completed_steady o h = completed_if (SteadyObject after) f frame o
-      (λ here. set_object r after f frame (committed_frame frame) o (record o { work = kept o; link = asked_link (completion frame) (cleared o.link) }) at refl here refl refl refl h
+      (λ here. let was = at_some (Held r o.link) (nth r.frames o.frame) frame (ap (nth r.frames) here ∙ at) h.linked in
+      set_object r after f frame (committed_frame frame) o (record o { work = kept o; link = asked_link (completion frame) (cleared o.link) }) at refl here refl refl refl (kept_object_within r o frame h.within was) refl h
       (completed_held r.servers r.last_act frame.k (is_some_name frame.asked) frame.phase o.link committing))
       (λ other. unset_object r after f (committed_frame frame) o refl other refl refl refl h)
 
@@ -57,6 +59,7 @@ module _ (r : Record) (f : ℕ) (frame : Frame) (s : Steady r) (at : nth r.frame
     frames = each_set SteadyFrame r.frames f (committed_frame frame) s.frames (record { asked = refl; phase = tt });
     objects = each_map (SteadyObject r) (SteadyObject after) (completed f frame) r.objects completed_steady s.objects;
     order = pairs_map InOrder (completed f frame) r.objects (order_both (completed f frame) (completed_took f frame)) s.order;
+    count = λ g. subst (λ (n : ℕ). n ≤ MOST_OBJECTS) (sym (count_map g (completed f frame) r.objects (λ o. (completed_took f frame o).frame))) (s.count g);
   }
 
 pub committing_by : (phase : Phase) → is_committing phase ≡ true → phase ≡ Committing

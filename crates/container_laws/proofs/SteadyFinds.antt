@@ -6,7 +6,7 @@ use Rattle.std.specs.List.{AllByRecursion}
 use Rattle.wire_msgs.specs.Found.{find, put}
 use Rattle.container_model.specs.declared.record.Link.{Link}
 use Rattle.container_model.specs.declared.record.Object.{Object}
-use Rattle.container_model.specs.Record.{is_object, is_link, is_linked}
+use Rattle.container_model.specs.Record.{is_object, is_link, is_linked, without_first}
 use Rattle.container_laws.specs.Steady.{InOrder, EachPair, OneObjectAnActivation}
 use Rattle.container_laws.proofs.SteadyLookups.{each_found}
 use Rattle.container_laws.proofs.SteadyRecords.{if_at}
@@ -66,6 +66,25 @@ find-append_other n a (y ∷ ys) ne = ap (λ (r : Option Object). if y.number ==
 pub find-append_same : (a : Object) (os : List Object) → AllByRecursion (λ (o : Object). o.number < a.number) os → find (is_object a.number) (os ++ a ∷ []) ≡ Some a
 find-append_same a [] h = here a.number a [] refl
 find-append_same a (y ∷ ys) h = (let up = h.0 in rw (ne_eqb y.number a.number (λ e. absurd (omega arith))) (find-append_same a ys h.1))
+
+-- after an object went
+absent : (y : Object) (os : List Object) → AllByRecursion (InOrder y) os → find (is_object y.number) os ≡ None
+absent y [] h = refl
+absent y (z ∷ zs) h = (let up = h.0.rising in rw (ne_eqb z.number y.number (λ e. absurd (omega arith))) (absent y zs h.1))
+
+pub find-without_same : (n : ℕ) (os : List Object) → EachPair InOrder os → find (is_object n) (without_first (is_object n) os) ≡ None
+find-without_same n [] h = refl
+find-without_same n (y ∷ ys) h = elim (y.number == n) as (λ b. (y.number == n) ≡ b → find (is_object n) (if b then ys else y ∷ without_first (is_object n) ys) ≡ None) [
+  | true ↦ (λ s. ap (λ (m : ℕ). find (is_object m) ys) (sym (eqb-true y.number n s)) ∙ absent y ys h.0)
+  | false ↦ (λ s. rw s (find-without_same n ys h.1))
+] refl
+
+pub find-without_other : (n m : ℕ) (os : List Object) → (n ≡ m → ⊥) → find (is_object m) (without_first (is_object n) os) ≡ find (is_object m) os
+find-without_other n m [] ne = refl
+find-without_other n m (y ∷ ys) ne = elim (y.number == n) as (λ b. (y.number == n) ≡ b → find (is_object m) (if b then ys else y ∷ without_first (is_object n) ys) ≡ find (is_object m) (y ∷ ys)) [
+  | true ↦ (λ s. rw (ne_eqb y.number m (λ q. ne (sym (eqb-true y.number n s) ∙ q))) refl)
+  | false ↦ (λ s. ap (λ (r : Option Object). if y.number == m then Some y else r) (find-without_other n m ys ne))
+] refl
 
 -- an activation's object is found by the activation
 linked_here : (o : Object) (l : Link) → o.link ≡ Some l → is_linked l.inc l.act o ≡ true

@@ -4,11 +4,12 @@ use Rattle.std.specs.Prelude.{IsSomeAnd, IsOkAnd}
 use Rattle.std.specs.List.{AllByRecursion}
 use Rattle.wire_msgs.specs.Operations.{op_of}
 use Rattle.wire_msgs.specs.declared.operation.Operation.{Operation}
-use Rattle.wire_msgs.specs.declared.operation.Operation.TheVariants.{InitNew, Load, Edit, Save, SaveCompleted}
+use Rattle.wire_msgs.specs.declared.operation.Operation.TheVariants.{InitNew, Load, Edit, Save, SaveCompleted, Close}
 use Rattle.object_state.specs.Both as both
 use Rattle.object_state.specs.Persists as persist
 use Rattle.object_state.specs.Objects as object
 use Rattle.object_state.specs.declared.both_states.States.{States}
+use Rattle.object_state.specs.declared.operations.CloseOption.{CloseOption}
 use Rattle.object_state.specs.declared.operations.Op.{Op}
 use Rattle.object_state.specs.declared.operations.Op.TheVariants as op
 use Rattle.object_state.specs.declared.faults.StateFault.{StateFault}
@@ -43,7 +44,7 @@ pub taken : (P : States → Type 0) (v : States) (op : Operation) (ops : List Op
 taken P v op ops h = taken_at P (both.step v (op_of op)) ops h
 
 -- what the tables lead to
-joined_ok : (p : Result Persist StateFault) (o : Result ObjectState StateFault) (w : States) → both.joined p o ≡ Ok w → (p ≡ Ok w.persist) × (o ≡ Ok w.object)
+pub joined_ok : (p : Result Persist StateFault) (o : Result ObjectState StateFault) (w : States) → both.joined p o ≡ Ok w → (p ≡ Ok w.persist) × (o ≡ Ok w.object)
 joined_ok (Err refusal) o w e = cc
 joined_ok (Ok p) (Err refusal) w e = cc
 joined_ok (Ok p) (Ok o) w e =
@@ -61,46 +62,71 @@ numbered_set p q op (Ok s) h e = elim (persist.ends_last (persist.ended_save op)
   | false ↦ (λ g. cc)
 ] e
 
-row_set : (phase : Phase) (saved : Option Stored) (op : Operation) (s : PersistState) → IsTimely phase saved op → IsSet (persist.table (op_of op) s)
-row_set phase saved (InitNew class) Unset t = tt
-row_set phase saved (InitNew class) _ t = tt
-row_set phase saved (Load class content) Unset t = tt
-row_set phase saved (Load class content) _ t = tt
-row_set phase saved (Edit bytes) Unset t = tt
-row_set phase saved (Edit bytes) _ t = tt
-row_set phase saved (Save k) Unset t = tt
-row_set phase saved (Save k) _ t = tt
-row_set phase saved (SaveCompleted k true) Unset t = tt
-row_set phase saved (SaveCompleted k true) _ t = tt
-row_set phase saved (SaveCompleted k false) Unset t = tt
-row_set phase saved (SaveCompleted k false) _ t = tt
-row_set phase saved _ s t = absurd t
+-- operations that leave an object running
+abbrev pub LeavesRunning : Operation → Type 0
+LeavesRunning (InitNew class) = Unit {0}
+LeavesRunning (Load class content) = Unit {0}
+LeavesRunning (Edit bytes) = Unit {0}
+LeavesRunning (Save k) = Unit {0}
+LeavesRunning (SaveCompleted k storage) = Unit {0}
+LeavesRunning op = ⊥
+
+row_set : (op : Operation) (s : PersistState) → LeavesRunning op → IsSet (persist.table (op_of op) s)
+row_set (InitNew class) Unset t = tt
+row_set (InitNew class) _ t = tt
+row_set (Load class content) Unset t = tt
+row_set (Load class content) _ t = tt
+row_set (Edit bytes) Unset t = tt
+row_set (Edit bytes) _ t = tt
+row_set (Save k) Unset t = tt
+row_set (Save k) _ t = tt
+row_set (SaveCompleted k true) Unset t = tt
+row_set (SaveCompleted k true) _ t = tt
+row_set (SaveCompleted k false) Unset t = tt
+row_set (SaveCompleted k false) _ t = tt
+row_set _ s t = absurd t
 
 abbrev IsUp : Result ObjectState StateFault → Type 0
 IsUp (Ok s) = IsRunning s
 IsUp (Err refusal) = Unit {0}
 
-same_up : (s : ObjectState) → IsUp (object.same_if_running s)
-same_up Passive = tt
-same_up _ = tt
+-- states of an object before its first call is done, and after it
+abbrev pub HasBegun : ObjectState → Type 0
+HasBegun Loaded = Unit {0}
+HasBegun state = IsRunning state
 
-row_up : (phase : Phase) (saved : Option Stored) (op : Operation) (s : ObjectState) → IsTimely phase saved op → IsUp (object.table (op_of op) s)
-row_up phase saved (InitNew class) Passive t = tt
-row_up phase saved (InitNew class) _ t = tt
-row_up phase saved (Load class content) Passive t = tt
-row_up phase saved (Load class content) _ t = tt
-row_up phase saved (Edit bytes) s t = same_up s
-row_up phase saved (Save k) s t = same_up s
-row_up phase saved (SaveCompleted k storage) s t = same_up s
-row_up phase saved _ s t = absurd t
+begun_if_running : (s : ObjectState) → IsRunning s → HasBegun s
+begun_if_running Running r = tt
+begun_if_running _ r = absurd r
 
--- once an operation was done, an object has its storage and runs
-pub done_past : (phase : Phase) (saved : Option Stored) (op : Operation) (v w : States) → IsTimely phase saved op → both.step v (op_of op) ≡ Ok w → PastFirstCall w
-done_past phase saved op v w t e =
+pub has_begun : (servers : List Bool) (last_act : ℕ) (phase : Phase) (k : ℕ) (l : Link) → SteadyLink servers last_act phase k l → HasBegun l.states.object
+has_begun servers last_act phase k l h = elim h.first_call [
+  | inl first ↦ subst (λ (v : States). HasBegun v.object) (sym first.states) tt
+  | inr past ↦ begun_if_running l.states.object past.running
+]
+
+same_up : (s : ObjectState) → HasBegun s → IsUp (object.same_if_running s)
+same_up Loaded h = tt
+same_up Running h = tt
+same_up _ h = absurd h
+
+row_up : (op : Operation) (s : ObjectState) → LeavesRunning op → HasBegun s → IsUp (object.table (op_of op) s)
+row_up (InitNew class) Loaded t h = tt
+row_up (InitNew class) _ t h = tt
+row_up (Load class content) Loaded t h = tt
+row_up (Load class content) _ t h = tt
+row_up (Edit bytes) s t h = same_up s h
+row_up (Save k) s t h = same_up s h
+row_up (SaveCompleted k storage) s t h = same_up s h
+row_up _ s t h = absurd t
+
+-- once such an operation was done, an object has its storage and runs
+pub done_past : (op : Operation) (v w : States) → LeavesRunning op → HasBegun v.object → both.step v (op_of op) ≡ Ok w → PastFirstCall w
+done_past op v w t b e =
     let j = joined_ok (persist.step v.persist (op_of op)) (object.step v.object (op_of op)) w e in
     record {
-      storage = numbered_set v.persist w.persist (op_of op) (persist.table (op_of op) v.persist.state) (row_set phase saved op v.persist.state t) j.0;
-      running = subst IsUp j.1 (row_up phase saved op v.object t);
+      storage = numbered_set v.persist w.persist (op_of op) (persist.table (op_of op) v.persist.state) (row_set op v.persist.state t) j.0;
+      running = subst IsUp j.1 (row_up op v.object t b);
     }
 
 -- an edit leaves the states
@@ -122,7 +148,7 @@ save_begins_at state.HandsOff last o k e r = cc
 save_begins_at Normal last Passive k e r = absurd r
 save_begins_at Normal last Loaded k e r = absurd r
 save_begins_at Normal last Running k e r = record { storage = refl; last_save = refl; running = tt }
-save_begins_at Normal last _ k e r = record { storage = refl; last_save = refl; running = tt }
+save_begins_at Normal last _ k e r = absurd r
 
 pub save_begins : (v : States) (k : ℕ) → v.persist.state ≡ Normal → IsRunning v.object → IsOkAnd (both.step v (op.Save k)) (EndsWell Saving k)
 save_begins v k e r = save_begins_at v.persist.state v.persist.last_save v.object k e r
@@ -141,11 +167,21 @@ save_ends_at NoScribble last Passive k j storage e l r = absurd r
 save_ends_at NoScribble last Loaded k j storage e l r = absurd r
 save_ends_at NoScribble (Some n) Running k j true e l r = (let nk : n ≡ k = cc in rw (eq-eqb k n (sym nk)) (record { storage = refl; last_save = tt; running = tt }))
 save_ends_at NoScribble (Some n) Running k j false e l r = (let nk : n ≡ k = cc in rw (eq-eqb k n (sym nk)) (record { storage = refl; last_save = tt; running = tt }))
-save_ends_at NoScribble (Some n) _ k j true e l r = (let nk : n ≡ k = cc in rw (eq-eqb k n (sym nk)) (record { storage = refl; last_save = tt; running = tt }))
-save_ends_at NoScribble (Some n) _ k j false e l r = (let nk : n ≡ k = cc in rw (eq-eqb k n (sym nk)) (record { storage = refl; last_save = tt; running = tt }))
+save_ends_at NoScribble (Some n) _ k j storage e l r = absurd r
 
 pub save_ends : (v : States) (k j : ℕ) (storage : Bool) → v.persist.state ≡ NoScribble → v.persist.last_save ≡ Some k → IsRunning v.object → IsOkAnd (both.step v (op.SaveCompleted k storage)) (EndsWell Idle j)
 save_ends v k j storage e l r = save_ends_at v.persist.state v.persist.last_save v.object k j storage e l r
+
+-- an object is closed: its storage stays as it is, and nothing is taken of it any more
+close_ends_at : (s : PersistState) (last : Option ℕ) (o : ObjectState) (k : ℕ) (option : CloseOption) → s ≡ Normal → IsRunning o → IsOkAnd (both.step (record { persist = record { state = s; last_save = last }; object = o }) (op.Close option)) (EndsWell Idle k)
+close_ends_at Unset last o k option e r = cc
+close_ends_at NoScribble last o k option e r = cc
+close_ends_at state.HandsOff last o k option e r = cc
+close_ends_at Normal last Running k option e r = record { storage = refl; last_save = tt; running = tt }
+close_ends_at Normal last _ k option e r = absurd r
+
+pub close_ends : (v : States) (k : ℕ) (option : CloseOption) → v.persist.state ≡ Normal → IsRunning v.object → IsOkAnd (both.step v (op.Close option)) (EndsWell Idle k)
+close_ends v k option e r = close_ends_at v.persist.state v.persist.last_save v.object k option e r
 
 -- states at a queue's end have a storage
 set_in : (phase : Phase) → HasStorage (storage_in phase)
@@ -202,9 +238,9 @@ none_asked_again k content P (InitNew class ∷ ops) v s h t = (let r = taken P 
 none_asked_again k content P (Load class c ∷ ops) v s h t = (let r = taken P v (Load class c) ops h in absurd (refused_scribbling v r.0 op.Load (λ z e. (fault.AlreadyInitialized, rw e refl)) s r.1))
 none_asked_again k content P (Save j ∷ ops) v s h t = (let r = taken P v (Save j) ops h in absurd (refused_scribbling v r.0 (op.Save j) (λ z e. (fault.Scribble, rw e refl)) s r.1))
 none_asked_again k content P (SaveCompleted j storage ∷ ops) v s h t = absurd (let e = t.0 in cc)
+none_asked_again k content P (Close option ∷ ops) v s h t = absurd (let e = t.0 in cc)
 none_asked_again k content P (Edit bytes ∷ ops) v s h t =
     let r = taken P v (Edit bytes) ops h in
-    let past = done_past Saving None (Edit bytes) v r.0 tt r.1 in
     let j = joined_ok (persist.step v.persist op.Edit) (object.step v.object op.Edit) r.0 r.1 in
     let kept : r.0.persist.state ≡ NoScribble = edit_scribbling v.persist r.0.persist s j.0 in
     (tt, none_asked_again k content P ops r.0 kept r.2 t.1)

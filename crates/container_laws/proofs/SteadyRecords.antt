@@ -1,19 +1,22 @@
 -- Records: what keeps each object steady.
-use Rattle.std.proofs.Common.{◌≡◌, ◌<◌, ℕ, Bool, true, false, List, [], ◌∷◌, Option, Some, None, Result, Ok, refl, sym, ◌∙◌, subst, if◌then◌else◌}
+use Rattle.std.proofs.Common.{◌≡◌, ◌≤◌, ◌<◌, ℕ, Bool, true, false, List, [], ◌∷◌, Option, Some, None, Result, Ok, refl, sym, ◌∙◌, arith, subst, if◌then◌else◌}
 use Rattle.std.specs.Prelude.{◌||◌, IsSomeAnd, IfSome, is_some}
 use Rattle.std.specs.List.{AllByRecursion}
 use Rattle.wire_msgs.specs.Found.{find, put, nth}
+use Rattle.object_parts.specs.Limits.{is_within}
+use Rattle.storage_tree.specs.declared.stored.Stored.{Stored}
 use Rattle.container_model.specs.declared.record.Link.{Link}
 use Rattle.container_model.specs.declared.record.Object.{Object}
 use Rattle.container_model.specs.declared.record.Frame.{Frame}
 use Rattle.container_model.specs.declared.record.Phase.{Phase}
 use Rattle.container_model.specs.declared.record.Phase.TheVariants.{Idle, Saving, HandingOff, Committing, InDoubt}
 use Rattle.container_model.specs.declared.fault.ContainerFault.{ContainerFault}
-use Rattle.container_model.specs.Record.{Record}
-use Rattle.container_model.specs.Saves.{awaits, is_awaited_link, is_ready, is_ready_at, settled_frame, settled_frames, settle}
+use Rattle.container_model.specs.Record.{Record, MOST_OBJECTS}
+use Rattle.container_model.specs.Saves.{kept, kept_by, kept_in, awaits, is_awaited_link, is_ready, is_ready_at, settled_frame, settled_frames, settle}
 use Rattle.container_model.specs.Commands.{unless}
-use Rattle.container_laws.specs.Steady.{SteadyLink, SteadyObject, SteadyFrame, InOrder, Steady, SteadyFromTheStart}
+use Rattle.container_laws.specs.Steady.{MayBeStored, SteadyLink, SteadyObject, SteadyFrame, InOrder, Steady, SteadyFromTheStart}
 use Rattle.container_laws.proofs.SteadyLookups.{each_weaker, each_both, each_put, pairs_put, nth-settled, each_settled, none_awaited}
+use Rattle.container_laws.proofs.SteadyCounts.{count_put}
 use Rattle.container_laws.proofs.SteadyLinks.{now_committing}
 
 pub if_told : {A : Type 0} (P : A → Type 0) (b : Bool) (x y : A) → (b ≡ true → P x) → (b ≡ false → P y) → P (if b then x else y)
@@ -47,11 +50,23 @@ if_at P o x e h = subst (λ z. IfSome z P) e h
 
 -- from the start
 pub empty_steady : SteadyFromTheStart
-empty_steady numbers = record { frames = tt; objects = tt; order = tt }
+empty_steady numbers = record { frames = tt; objects = tt; order = tt; count = λ f. omega arith }
 
 -- an object's link in its frame
 abbrev pub Held : Record → Option Link → Frame → Type 0
 Held r link frame = IfSome link (SteadyLink r.servers r.last_act frame.phase frame.k)
+
+-- the content that is kept of an object may be stored
+pub kept_within : (work : Stored) (saved : Option Stored) → is_within work ≡ true → MayBeStored saved → is_within (kept_in work saved) ≡ true
+kept_within work None w m = w
+kept_within work (Some content) w m = m
+
+kept_link_within : (r : Record) (work : Stored) (link : Option Link) (frame : Frame) → is_within work ≡ true → Held r link frame → is_within (kept_by work link) ≡ true
+kept_link_within r work None frame w h = w
+kept_link_within r work (Some l) frame w h = kept_within work l.saved w h.saved_within
+
+pub kept_object_within : (r : Record) (o : Object) (frame : Frame) → is_within o.work ≡ true → Held r o.link frame → is_within (kept o) ≡ true
+kept_object_within r o frame w h = kept_link_within r o.work o.link frame w h
 
 -- a link that is none, or of the same activation as before
 abbrev pub Follows : Option Link → Option Link → Type 0
@@ -77,6 +92,7 @@ apart_left a (Some l) (Some m) f h = (let g = f m refl in let k = if_at (λ (n :
 -- an object that took another's place
 pub record TookPlace (o before : Object) : Type 0 where
   pub number : o.number ≡ before.number
+  pub frame : o.frame ≡ before.frame
   pub link : Follows o.link before.link
 
 pub order_right : (y x a : Object) → TookPlace a x → InOrder y x → InOrder y a
@@ -92,8 +108,9 @@ order_both g t x y h = order_right (g x) y (g y) (t y) (order_left y x (g x) (t 
 pub put_steady : (r : Record) (test : Object → Bool) (x a : Object) → Steady r → find test r.objects ≡ Some x → TookPlace a x → SteadyObject r a → Steady (record r { objects = put test a r.objects })
 put_steady r test x a h e t s = record {
   frames = h.frames;
-  objects = each_weaker (SteadyObject r) (SteadyObject (record r { objects = put test a r.objects })) (put test a r.objects) (λ o k. record { drawn = k.drawn; linked = k.linked }) (each_put (SteadyObject r) test a r.objects h.objects s);
+  objects = each_weaker (SteadyObject r) (SteadyObject (record r { objects = put test a r.objects })) (put test a r.objects) (λ o k. record { drawn = k.drawn; within = k.within; user_type = k.user_type; linked = k.linked }) (each_put (SteadyObject r) test a r.objects h.objects s);
   order = pairs_put InOrder (SteadyObject r) test a x r.objects (λ y p k. order_right y x a t k) (λ y p k. order_left y x a t k) h.order h.objects e;
+  count = λ f. subst (λ (n : ℕ). n ≤ MOST_OBJECTS) (sym (count_put f test a x r.objects e t.frame)) (h.count f);
 }
 
 -- saves go on
@@ -128,6 +145,8 @@ settled_object r o h a =
     let s = some_and (Held r o.link) (nth r.frames o.frame) h.linked in
     record {
       drawn = h.drawn;
+      within = h.within;
+      user_type = h.user_type;
       linked = and_some (Held r o.link) (nth (settled_frames 1 r.objects r.frames) o.frame) (settled_frame o.frame r.objects s.0) (nth-settled r.objects r.frames o.frame s.0 s.1)
           (if_told (Held r o.link) (is_ready o.frame r.objects s.0) (record s.0 { phase = Committing }) s.0
           (λ e. let ready = ready_at s.0.phase (awaits o.frame r.objects) e in settled_link r o.link s.0 ready.0 (a o.frame ready.1 refl) s.2)
@@ -141,4 +160,5 @@ settle_steady r h = record {
       (each_both (SteadyObject r) (Answered r.objects) r.objects h.objects
       (each_forall (λ f. awaits f r.objects ≡ false) (λ f (o : Object). o.frame ≡ f → is_awaited_link o.link ≡ false) r.objects (λ f e. none_awaited f r.objects e)));
   order = h.order;
+  count = h.count;
 }

@@ -1,15 +1,17 @@
 -- Laws above a container's steps on messages, and on the end of a server.
 use Rattle.std.specs.Prelude.{◌≡◌, ◌≢◌, ℕ, Bool, true, false, Option, Some, None, Ok, Err, slice_get}
-use Rattle.wire_msgs.specs.Found.{find}
+use Rattle.wire_msgs.specs.Found.{find, put}
 use Rattle.wire_msgs.specs.declared.message.Message.{Message}
 use Rattle.wire_msgs.specs.declared.message.Message.TheVariants.{Call, Reply, Write, Ask}
 use Rattle.wire_msgs.specs.declared.answer.Answer.{Answer}
+use Rattle.object_parts.specs.Limits.{is_within}
+use Rattle.storage_tree.specs.declared.stored.Stored.{Stored}
 use Rattle.container_model.specs.declared.record.Link.{Link}
 use Rattle.container_model.specs.declared.record.Object.{Object}
 use Rattle.container_model.specs.declared.fault.ContainerFault.TheVariants.{Stale, WrongLink}
 use Rattle.container_model.specs.Record.{Record, Took, is_alive, is_linked}
 use Rattle.container_model.specs.Saves.{kept}
-use Rattle.container_model.specs.Messages.{on_message, on_reap}
+use Rattle.container_model.specs.Messages.{is_fit, is_open_to, on_message, on_reap}
 use Rattle.container_model.specs.Replies.{is_of}
 
 -- the number of the call that an object is to answer, if it is to answer one
@@ -34,20 +36,40 @@ is_about (Reply inc act n answer) o = is_linked inc act o
 is_about (Write inc act s w content) o = is_linked inc act o
 is_about (Ask inc act g) o = is_linked inc act o
 
--- a reply on the link of its server, which isn't reaped, to the pending call of the object that has this activation
-abbrev pub IsPendingReply : Record → ℕ → Message → Type 0
-IsPendingReply r link (Reply inc act n answer) = (inc ≡ link) × (is_alive r inc ≡ true) × (pending_number (find (is_linked inc act) r.objects) ≡ Some n)
-IsPendingReply r link (Call inc act n op) = ⊥
-IsPendingReply r link (Write inc act s w content) = ⊥
-IsPendingReply r link (Ask inc act g) = ⊥
+-- whether an object takes this write: under the storage grant that is held open, later than each before
+abbrev pub is_open_in : ℕ → ℕ → Option Link → Bool
+is_open_in s w None = false
+is_open_in s w (Some l) = is_open_to l s w
 
--- only the reply to a pending call moves a record
-abbrev pub OnlyPendingReplies : Type 0
-OnlyPendingReplies = (r : Record) (link : ℕ) (m : Message) (t : Took) → on_message r link m ≡ Ok t → IsPendingReply r link m
+abbrev pub takes_write : ℕ → ℕ → Option Object → Bool
+takes_write s w None = false
+takes_write s w (Some o) = is_open_in s w o.link
+
+-- A message that is expected, on the link of its server, which isn't reaped: a reply to the pending call of the object
+-- that has this activation, or a write under the grant that this object holds open; its content may be stored.
+abbrev pub IsExpected : Record → ℕ → Message → Type 0
+IsExpected r link (Reply inc act n answer) = (inc ≡ link) × (is_alive r inc ≡ true) × (pending_number (find (is_linked inc act) r.objects) ≡ Some n) × (is_fit answer ≡ true)
+IsExpected r link (Write inc act s w content) = (inc ≡ link) × (is_alive r inc ≡ true) × (takes_write s w (find (is_linked inc act) r.objects) ≡ true) × (is_within content ≡ true)
+IsExpected r link (Call inc act n op) = ⊥
+IsExpected r link (Ask inc act g) = ⊥
+
+-- only the reply to a pending call, or a write under the grant held open, moves a record
+abbrev pub OnlyExpectedMessages : Type 0
+OnlyExpectedMessages = (r : Record) (link : ℕ) (m : Message) (t : Took) → on_message r link m ≡ Ok t → IsExpected r link m
 
 -- a reply to another call than the pending one is stale
 abbrev pub OthersAreStale : Type 0
 OthersAreStale = (r : Record) (inc act n : ℕ) (answer : Answer) → pending_number (find (is_linked inc act) r.objects) ≢ Some n → on_message r inc (Reply inc act n answer) ≡ Err Stale
+
+-- a write under a grant that isn't held open, or that isn't later than each before, is stale
+abbrev pub OtherWritesAreStale : Type 0
+OtherWritesAreStale = (r : Record) (inc act s w : ℕ) (content : Stored) → takes_write s w (find (is_linked inc act) r.objects) ≡ false → on_message r inc (Write inc act s w content) ≡ Err Stale
+
+-- a write that is taken becomes the work content of the object that has this activation, and changes nothing else of it
+-- but the number of its last write
+abbrev pub WritesAreKept : Type 0
+WritesAreKept = (r : Record) (link inc act s w : ℕ) (content : Stored) (t : Took) → on_message r link (Write inc act s w content) ≡ Ok t
+    → (o : Object) × (l : Link) × (find (is_linked inc act) r.objects ≡ Some o) × (o.link ≡ Some l) × (t.rec ≡ record r { objects = put (is_linked inc act) (record o { work = content; link = Some (record l { w = w }) }) r.objects })
 
 -- a message of another server than its link's is refused
 abbrev pub OtherServersAreRefused : Type 0

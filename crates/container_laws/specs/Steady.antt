@@ -1,21 +1,28 @@
 -- What holds of a container's record by itself, whatever is answered to it.
-use Rattle.std.specs.Prelude.{◌≡◌, ◌≤◌, ◌<◌, ◌⊎◌, ℕ, Bool, true, List, [], ◌∷◌, Option, Some, None, Result, Ok, Err, IfSome, IsSomeAnd, IsOkAnd, IsOk, is_some}
+use Rattle.std.specs.Prelude.{◌≡◌, ◌≤◌, ◌<◌, ◌⊎◌, ℕ, Bool, true, false, List, [], ◌∷◌, length, nat_lt, Option, Some, None, Result, Ok, Err, IfSome, IsSomeAnd, IsOkAnd, IsOk, is_some}
 use Rattle.std.specs.List.{AllByRecursion}
 use Rattle.wire_msgs.specs.Found.{find, nth}
 use Rattle.wire_msgs.specs.Operations.{op_of}
 use Rattle.wire_msgs.specs.declared.message.Message.{Message}
 use Rattle.wire_msgs.specs.declared.message.Message.TheVariants.{Reply}
 use Rattle.wire_msgs.specs.declared.operation.Operation.{Operation}
-use Rattle.wire_msgs.specs.declared.operation.Operation.TheVariants.{InitNew, Load, Edit, Save, SaveCompleted}
+use Rattle.wire_msgs.specs.declared.operation.Operation.TheVariants.{InitNew, Load, Edit, Save, SaveCompleted, Close}
 use Rattle.wire_msgs.specs.declared.answer.Answer.{Answer}
 use Rattle.wire_msgs.specs.declared.answer.Answer.TheVariants.{Done, Refused, Content}
+use Rattle.object_parts.specs.Limits.{is_within}
+use Rattle.ole_parts.specs.CompObjs.{PAST_USER_TYPE}
+use Rattle.file_model.specs.Refusals.{writable}
+use Rattle.file_model.specs.declared.fault.WriteFault.TheVariants.{TooBig}
 use Rattle.object_state.specs.Both as both
+use Rattle.object_state.specs.Persists.{may_write}
+use Rattle.object_state.specs.declared.operations.CloseOption.{CloseOption}
+use Rattle.object_state.specs.declared.operations.CloseOption.TheVariants.{SaveIfDirty, NoSave}
 use Rattle.object_state.specs.declared.both_states.States.{States}
 use Rattle.object_state.specs.declared.faults.StateFault.{StateFault}
 use Rattle.object_state.specs.declared.persist_states.PersistState.{PersistState}
 use Rattle.object_state.specs.declared.persist_states.PersistState.TheVariants.{Unset, Normal, NoScribble}
 use Rattle.object_state.specs.declared.object_states.ObjectState.{ObjectState}
-use Rattle.object_state.specs.declared.object_states.ObjectState.TheVariants.{Passive, Loaded}
+use Rattle.object_state.specs.declared.object_states.ObjectState.TheVariants.{Passive, Running}
 use Rattle.storage_tree.specs.declared.stored.Stored.{Stored}
 use Rattle.container_model.specs.declared.record.Link.{Link}
 use Rattle.container_model.specs.declared.record.Object.{Object}
@@ -24,9 +31,10 @@ use Rattle.container_model.specs.declared.record.Phase.{Phase}
 use Rattle.container_model.specs.declared.record.Phase.TheVariants.{Idle, Saving, Committing}
 use Rattle.container_model.specs.declared.command.Command.{Command}
 use Rattle.container_model.specs.declared.fault.ContainerFault.{ContainerFault}
-use Rattle.container_model.specs.Record.{Record, Took, empty, is_object, is_linked, is_unreaped}
-use Rattle.container_model.specs.Saves.{commit_done, kept}
-use Rattle.container_model.specs.Messages.{on_message, on_reap}
+use Rattle.container_model.specs.declared.fault.ContainerFault.TheVariants.{Full}
+use Rattle.container_model.specs.Record.{Record, Took, MOST_OBJECTS, count_objects, empty, is_object, is_linked, is_unreaped}
+use Rattle.container_model.specs.Saves.{commit_done, document, document_tree, image, is_document, kept, parts_in}
+use Rattle.container_model.specs.Messages.{awaits_save, on_message, on_reap}
 use Rattle.container_model.specs.Commands.{on_command}
 
 -- what an object is still to do: the pending operation, then those that wait
@@ -46,17 +54,17 @@ abbrev pub ended : Result States StateFault → List Operation → Result States
 ended outcome [] = outcome
 ended outcome (op ∷ ops) = ended (stepped outcome op) ops
 
--- states of an object whose first call was done
+-- the state of an object whose first call was done; nothing activates one in place or opens its window yet
 abbrev pub IsRunning : ObjectState → Type 0
-IsRunning Passive = ⊥
-IsRunning Loaded = ⊥
-IsRunning state = Unit {0}
+IsRunning Running = Unit {0}
+IsRunning state = ⊥
 
 abbrev pub HasStorage : PersistState → Type 0
 HasStorage Unset = ⊥
 HasStorage state = Unit {0}
 
--- where a queue ends: with its storage, but for a save that is under way, which is the last one then
+-- Where a queue ends: with its storage, but for a save that is under way, which is the last one then. While no save is
+-- under way it may end with a close, which leaves the object passive.
 abbrev pub storage_in : Phase → PersistState
 storage_in Idle = Normal
 storage_in phase = NoScribble
@@ -65,10 +73,14 @@ abbrev pub IsOfSave : Phase → ℕ → Option ℕ → Type 0
 IsOfSave Idle k last_save = Unit {0}
 IsOfSave phase k last_save = last_save ≡ Some k
 
+abbrev pub EndsAs : Phase → ObjectState → Type 0
+EndsAs Idle Passive = Unit {0}
+EndsAs phase state = IsRunning state
+
 pub record EndsWell (phase : Phase) (k : ℕ) (v : States) : Type 0 where
   pub storage : v.persist.state ≡ storage_in phase
   pub last_save : IsOfSave phase k v.persist.last_save
-  pub running : IsRunning v.object
+  pub running : EndsAs phase v.object
 
 -- an activation's first call gives it its storage, alone in the queue
 abbrev pub IsBeginning : Operation → Type 0
@@ -92,13 +104,14 @@ WaitsBehind None waiting = waiting ≡ []
 WaitsBehind (Some op) waiting = Unit {0}
 
 -- operations that stand in a queue: a content is asked for only while its frame is saving and until it is answered, and
--- the end of a save is told only while none is under way; nothing asks for the others yet
+-- the end of a save is told, and an object closed, only while none is under way; nothing asks for the others yet
 abbrev pub IsTimely : Phase → Option Stored → Operation → Type 0
 IsTimely phase saved (InitNew class) = Unit {0}
 IsTimely phase saved (Load class content) = Unit {0}
 IsTimely phase saved (Edit bytes) = Unit {0}
 IsTimely phase saved (Save k) = (phase ≡ Saving) × (saved ≡ None)
 IsTimely phase saved (SaveCompleted k storage) = phase ≡ Idle
+IsTimely phase saved (Close option) = phase ≡ Idle
 IsTimely phase saved op = ⊥
 
 -- contents are answered while a frame is saving, and all are there from then on
@@ -106,6 +119,11 @@ abbrev pub IsSavedIn : Phase → Option Stored → Type 0
 IsSavedIn Idle saved = saved ≡ None
 IsSavedIn Saving saved = Unit {0}
 IsSavedIn phase saved = is_some saved ≡ true
+
+-- what may be stored, if there is a content
+abbrev pub MayBeStored : Option Stored → Type 0
+MayBeStored None = Unit {0}
+MayBeStored (Some content) = is_within content ≡ true
 
 -- an activation of an object of a frame in this phase, whose last save has number k
 pub record SteadyLink (servers : List Bool) (last_act : ℕ) (phase : Phase) (k : ℕ) (l : Link) : Type 0 where
@@ -118,10 +136,14 @@ pub record SteadyLink (servers : List Bool) (last_act : ℕ) (phase : Phase) (k 
   pub queue_runs : IsOkAnd (ended (Ok l.states) (queue l)) (EndsWell phase k)
   pub save_in_queue : AllByRecursion (IsTimely phase l.saved) (queue l)
   pub saved_known : IsSavedIn phase l.saved
+  -- what it answered may be stored
+  pub saved_within : MayBeStored l.saved
 
--- an object: its number was drawn, and its frame is there
+-- an object: its number was drawn, its frame is there, and a document may hold it
 pub record SteadyObject (r : Record) (o : Object) : Type 0 where
   pub drawn : o.number ≤ r.last_object
+  pub within : is_within o.work ≡ true
+  pub user_type : nat_lt (length o.user_type) PAST_USER_TYPE ≡ true
   pub linked : IsSomeAnd (nth r.frames o.frame) (λ (frame : Frame). IfSome o.link (SteadyLink r.servers r.last_act frame.phase frame.k))
 
 -- a frame: no save is under another name, and none hands off or is in doubt yet
@@ -144,11 +166,12 @@ abbrev pub EachPair : {A : Type 0} → (A → A → Type 0) → List A → Type 
 EachPair R [] = Unit {0}
 EachPair R (x ∷ xs) = AllByRecursion (R x) xs × EachPair R xs
 
--- the record of a container
+-- the record of a container: no frame has more objects than a document may have
 pub record Steady (r : Record) : Type 0 where
   pub frames : AllByRecursion SteadyFrame r.frames
   pub objects : AllByRecursion (SteadyObject r) r.objects
   pub order : EachPair InOrder r.objects
+  pub count : (f : ℕ) → count_objects f r.objects ≤ MOST_OBJECTS
 
 -- Laws: it holds from the start, and each step keeps it.
 abbrev pub SteadyFromTheStart : Type 0
@@ -166,7 +189,7 @@ SteadyAfterReaps = (r : Record) (inc : ℕ) (t : Took) → Steady r → on_reap 
 abbrev pub SteadyAfterCommits : Type 0
 SteadyAfterCommits = (r : Record) (f : ℕ) (t : Took) → Steady r → commit_done r f ≡ Ok t → Steady t.rec
 
--- an answer that fits an operation
+-- an answer that fits an operation, with a content that may be stored where it has one
 abbrev pub Fits : Operation → Answer → Type 0
 Fits (InitNew class) Done = Unit {0}
 Fits (InitNew class) (Refused why) = Unit {0}
@@ -174,8 +197,10 @@ Fits (Load class content) Done = Unit {0}
 Fits (Load class content) (Refused why) = Unit {0}
 Fits (Edit bytes) Done = Unit {0}
 Fits (Edit bytes) (Refused why) = Unit {0}
-Fits (Save k) (Content content) = Unit {0}
+Fits (Save k) (Content content) = is_within content ≡ true
 Fits (SaveCompleted k storage) Done = Unit {0}
+Fits (Close SaveIfDirty) (Content content) = is_within content ≡ true
+Fits (Close NoSave) Done = Unit {0}
 Fits op answer = ⊥
 
 -- an answer to the pending call that fits it is taken: the tables refuse none
@@ -190,22 +215,42 @@ CommitsAnsweredContents = (r : Record) (n : ℕ) (o : Object) (l : Link) (frame 
 abbrev pub OneObjectAnActivation : Type 0
 OneObjectAnActivation = (r : Record) (n m : ℕ) (o p : Object) (l k : Link) → Steady r → find (is_object n) r.objects ≡ Some o → find (is_object m) r.objects ≡ Some p → o.link ≡ Some l → p.link ≡ Some k → l.act ≡ k.act → n ≡ m
 
--- What may be done with a container, and a whole run of it: each step is taken, one after the other.
-pub data Deed : Type 0 where
-  Ordered : Command → Deed
-  Told : ℕ → Message → Deed
-  Reaped : ℕ → Deed
-  Committed : ℕ → Deed
+-- A close ends its queue, in a frame that is idle: the content that it answers comes under a storage that may be written
+-- into, while none is asked for and none was answered.
+pub record IsOpenWhileClosing (l : Link) : Type 0 where
+  pub storage : may_write l.states.persist.state ≡ true
+  pub running : IsRunning l.states.object
+  pub last : l.waiting ≡ []
+  pub unasked : awaits_save l ≡ false
+  pub unsaved : l.saved ≡ None
 
-abbrev pub done : Record → Deed → Result Took ContainerFault
-done r (Deed.Ordered c) = on_command r c
-done r (Deed.Told link m) = on_message r link m
-done r (Deed.Reaped inc) = on_reap r inc
-done r (Deed.Committed f) = commit_done r f
+abbrev pub ClosesAreOpen : Type 0
+ClosesAreOpen = (r : Record) (test : Object → Bool) (o : Object) (l : Link) (option : CloseOption) → Steady r → find test r.objects ≡ Some o → o.link ≡ Some l → l.pending ≡ Some (Close option) → IsOpenWhileClosing l
 
-abbrev pub Leads : Record → List Deed → Record → Type 0
+-- what a frame has is a document
+abbrev pub DocumentsHold : Type 0
+DocumentsHold = (r : Record) (f : ℕ) → Steady r → is_document (document (parts_in f r.objects)) ≡ true
+
+-- so there is no room for a document only where its tree is past what a file holds
+abbrev pub FullByTheFileAlone : Type 0
+FullByTheFileAlone = (r : Record) (f : ℕ) → Steady r → image r f ≡ Err Full → writable (document_tree (parts_in f r.objects)) ≡ Err TooBig
+
+-- What a container may be given, and a whole run of it: each step is taken, one after the other.
+pub data Input : Type 0 where
+  Ordered : Command → Input
+  Told : ℕ → Message → Input
+  Reaped : ℕ → Input
+  Committed : ℕ → Input
+
+abbrev pub on_input : Record → Input → Result Took ContainerFault
+on_input r (Input.Ordered c) = on_command r c
+on_input r (Input.Told link m) = on_message r link m
+on_input r (Input.Reaped inc) = on_reap r inc
+on_input r (Input.Committed f) = commit_done r f
+
+abbrev pub Leads : Record → List Input → Record → Type 0
 Leads r [] u = r ≡ u
-Leads r (d ∷ ds) u = (t : Took) × (done r d ≡ Ok t) × Leads t.rec ds u
+Leads r (x ∷ xs) u = (t : Took) × (on_input r x ≡ Ok t) × Leads t.rec xs u
 
 abbrev pub SteadyAlways : Type 0
-SteadyAlways = (numbers : ℕ) (ds : List Deed) (u : Record) → Leads (empty numbers) ds u → Steady u
+SteadyAlways = (numbers : ℕ) (xs : List Input) (u : Record) → Leads (empty numbers) xs u → Steady u

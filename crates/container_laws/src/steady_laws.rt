@@ -1,5 +1,5 @@
 //! Laws of a container's record. Each function is empty: its contract is the law, which is proved.
-ghost use Rattle.container_laws.specs.Steady.{SteadyFromTheStart, SteadyAfterCommands, SteadyAfterMessages, SteadyAfterReaps, SteadyAfterCommits, FittingAnswersTaken, CommitsAnsweredContents, OneObjectAnActivation, SteadyAlways};
+ghost use Rattle.container_laws.specs.Steady.{SteadyFromTheStart, SteadyAfterCommands, SteadyAfterMessages, SteadyAfterReaps, SteadyAfterCommits, FittingAnswersTaken, CommitsAnsweredContents, OneObjectAnActivation, ClosesAreOpen, DocumentsHold, FullByTheFileAlone, SteadyAlways};
 
 /// A container without frames, objects and servers has a steady record.
 pub fn steady_from_the_start()
@@ -44,4 +44,20 @@ pub fn commits_answered_contents()
 /// Where a record is steady, an activation is of one object.
 pub fn one_object_an_activation()
     ensures { OneObjectAnActivation }
+{}
+
+/// Where a record is steady, a close that is to be answered is the last call of its activation, and its storage may be
+/// written into.
+pub fn closes_are_open()
+    ensures { ClosesAreOpen }
+{}
+
+/// Where a record is steady, what a frame has is a document: as many objects as one may have, each within its limits.
+pub fn documents_hold()
+    ensures { DocumentsHold }
+{}
+
+/// Where a record is steady, there is no room for a frame's document only where its tree is past what a file holds.
+pub fn full_by_the_file_alone()
+    ensures { FullByTheFileAlone }
 {}
