@@ -2,6 +2,7 @@
 
 use container_model::answer::{Action, Answer, Committed};
 use container_model::fault::ContainerFault;
+use object_state::CloseOption;
 use std::alloc::{AllocError, Global};
 use wire_msgs::message::Message;
 use wire_msgs::operation::Operation;
@@ -15,24 +16,44 @@ fn operation_name(operation: &Operation) -> &'static str {
             save: 1,
             storage: false,
         } => "SaveCompleted 1",
+        Operation::Close(CloseOption::SaveIfDirty) => "Close save",
+        Operation::Close(CloseOption::NoSave) => "Close drop",
         _ => "another",
     }
 }
 
-fn action_text(alloc: Global, action: &Action) -> Result<String, AllocError> {
-    match action {
-        Action::Send(
-            Message::Call {
-                inc: 1,
-                act: 1,
-                n,
-                operation,
-            },
-        ) => {
+/// A call of activation 1 of server 1.
+fn message_text(alloc: Global, message: &Message) -> Result<String, AllocError> {
+    match message {
+        Message::Call {
+            inc: 1,
+            act: 1,
+            n,
+            operation,
+        } => {
             let name = operation_name(operation);
             format!(in alloc; " call {n} {name}")
         }
-        Action::Send(_) => String::from_str(alloc, " another message"),
+        _ => String::from_str(alloc, " another message"),
+    }
+}
+
+/// Calls that are sent once more.
+pub(crate) fn resent(
+    alloc: Global,
+    calls: Result<Vec<Message>, AllocError>,
+) -> Result<String, AllocError> {
+    let mut text = String::new(alloc);
+    for call in calls?.as_slice() {
+        let call = message_text(alloc, call)?;
+        text.push_str(&call)?;
+    }
+    Ok(text)
+}
+
+fn action_text(alloc: Global, action: &Action) -> Result<String, AllocError> {
+    match action {
+        Action::Send(message) => message_text(alloc, message),
         Action::Start(inc) => format!(in alloc; " start {inc}"),
         Action::End(inc) => format!(in alloc; " end {inc}"),
         Action::Commit(frame) => format!(in alloc; " commit {frame}"),
@@ -59,6 +80,9 @@ fn answer_text(alloc: Global, answer: &Answer) -> Result<String, AllocError> {
     }
     if let Some(refusal) = answer.refused {
         push_made(alloc, &mut text, "refused", u32::from(refusal.code()))?;
+    }
+    if answer.taken {
+        text.push_str(" taken")?;
     }
     for action in answer.actions.as_slice() {
         let action = action_text(alloc, action)?;

@@ -6,6 +6,7 @@ use container_model::answer::Answer;
 use container_model::command::{Command, ObjectKind};
 use container_model::fault::ContainerFault;
 use object_parts::area::Area;
+use object_state::CloseOption;
 use std::alloc::{AllocError, Global};
 use storage_tree::bytes::Bytes;
 
@@ -21,6 +22,13 @@ fn kind(name: &str) -> ObjectKind {
     }
 }
 
+fn option(name: &str) -> CloseOption {
+    match name.as_bytes() {
+        [b's', ..] => CloseOption::SaveIfDirty,
+        _ => CloseOption::NoSave,
+    }
+}
+
 /// A new object of frame 1, so many columns wide.
 fn insert(name: &str, w: u32) -> Command {
     let area = Area {
@@ -32,7 +40,8 @@ fn insert(name: &str, w: u32) -> Command {
     Command::Insert(1, kind(name), area)
 }
 
-/// `new NAME`, `insert KIND COLUMNS`, `start`, `run`, `edit` or `save FRAME`.
+/// `new NAME`, `insert KIND COLUMNS`, `start`, `run`, `edit`, `save FRAME`, `delete OBJECT`, `kill SERVER`, or `close save` or
+/// `close drop` of object 1.
 fn command(alloc: Global, verb: &str, rest: &str) -> Result<Option<Command>, AllocError> {
     match verb.as_bytes() {
         [b'n', ..] => Ok(Some(Command::New(bytes(alloc, rest)?, 80, 25))),
@@ -43,6 +52,9 @@ fn command(alloc: Global, verb: &str, rest: &str) -> Result<Option<Command>, All
         [b's', b't', ..] => Ok(Some(Command::Start)),
         [b's', b'a', ..] => Ok(Some(Command::Save(number(rest)))),
         [b'r', b'u', ..] => Ok(Some(Command::Run(1, 1))),
+        [b'd', b'e', ..] => Ok(Some(Command::Delete(number(rest)))),
+        [b'k', ..] => Ok(Some(Command::Kill(number(rest)))),
+        [b'c', b'l', ..] => Ok(Some(Command::Close(1, option(rest)))),
         [b'e', ..] => Ok(Some(Command::Edit(1, bytes(alloc, "x")?))),
         _ => Ok(None),
     }

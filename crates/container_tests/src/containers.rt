@@ -1,10 +1,10 @@
 //! Containers: what they are told, and what they answer. Tables are texts, a line each: what is told, and the answer
 //! behind ` =>`; and the functions have no contracts: so the tests are quick to prove.
 
-use crate::answers::{answered, committed};
+use crate::answers::{answered, committed, resent};
 use crate::commands::commanded;
 use crate::files::{document, file, object, phase, sizes};
-use crate::messages::{reaped, replied};
+use crate::messages::{reaped, replied, written};
 use crate::words::halves;
 use container_core::container::{ContainerCore, Limits};
 use container_model::answer::Committed;
@@ -22,10 +22,11 @@ edit => Busy
 done 1 1 =>";
 
 const REFUSED: &str = "new a.ole => Busy
-new b.ole => Full
 save 2 => NoSuch
 insert table 0 => WrongState
-insert drawing 1 => Full
+delete 1 => WrongState
+delete 2 => NoSuch
+kill 2 => NoSuch
 edit => call 2 Edit
 bad_edit 1 2 => refused 1
 object => active, empty
@@ -57,6 +58,72 @@ const ANSWERED: &str = "save 1 => call 2 Save 1
 content 1 2 => commit 1
 reap =>
 object => passive";
+
+/// An object that is closed, with its content and without.
+const CLOSED: &str = "close save => call 2 Close save
+close drop => Busy
+done 1 2 => BadAnswer
+large_content 1 2 => BadAnswer
+content 1 2 => taken
+content 1 2 => Stale
+object => passive
+close save => NotRunning
+delete 1 =>
+object => none
+insert note 10 => object 2";
+
+const DROPPED: &str = "close drop => call 2 Close drop
+content 1 2 => BadAnswer
+done 1 2 =>
+object => passive, empty";
+
+/// Writes under a storage grant, and while a save is asked.
+const WRITTEN: &str = "write 2 1 => Stale
+xwrite 1 1 => BadAnswer
+write 1 1 => taken
+write 1 1 => Stale
+object => active
+save 1 => call 2 Save 1
+write 1 2 => Stale
+content 1 2 => commit 1
+write 1 2 => Stale
+committed => call 3 SaveCompleted 1 counted 1
+done 1 3 =>
+write 1 2 => Stale
+write 2 2 => taken";
+
+/// A server that is killed, and calls that are sent once more.
+const KILLED: &str = "twice =>
+edit => call 2 Edit
+twice => call 2 Edit
+kill 1 => end 1
+write 1 1 => taken
+reap =>
+write 1 2 => Stale
+kill 1 => NoSuch
+object => passive
+twice =>
+delete 1 =>";
+
+/// As many frames and servers as there may be.
+const FULL: &str = "new b => frame 2
+new c => frame 3
+new d => frame 4
+new e => frame 5
+new f => frame 6
+new g => frame 7
+new h => frame 8
+new i => Full
+start => server 2 start 2
+start => server 3 start 3
+start => server 4 start 4
+start => server 5 start 5
+start => server 6 start 6
+start => server 7 start 7
+start => server 8 start 8
+start => Full
+insert table 1 => object 2
+sizes => 8 2 100";
 
 /// A frame whose object doesn't run.
 const ALONE: &str = "document => NoSuch
@@ -93,7 +160,9 @@ fn heard(alloc: Global, core: &mut ContainerCore, verb: &str, rest: &str) -> Res
     match verb.as_bytes() {
         [b'r', ..] => Ok(answered(alloc, reaped(alloc, core))?),
         [b'c', b'o', b'm', ..] => Ok(committed(alloc, commit(alloc, core))?),
-        [b'b', ..] | [b'c', ..] | [b'd', b'o', b'n', ..] => {
+        [b't', ..] => Ok(resent(alloc, core.resend(alloc))?),
+        [b'w', ..] | [b'x', ..] => Ok(answered(alloc, written(alloc, core, verb, rest)?)?),
+        [b'b', ..] | [b'c', ..] | [b'l', ..] | [b'd', b'o', b'n', ..] => {
             Ok(answered(alloc, replied(alloc, core, verb, rest)?)?)
         }
         _ => shown(alloc, core, verb),
@@ -134,7 +203,9 @@ fn assert_told(rt: &impl Abort, alloc: Global, before: &str, rows: &str) -> Resu
 
 #[test]
 fn containers_answer_what_they_are_told(rt: HostRuntime) -> Result<(), Fail> {
-    for rows in [REFUSED, SAVED, REAPED, ANSWERED] {
+    for rows in [
+        REFUSED, SAVED, REAPED, ANSWERED, CLOSED, DROPPED, WRITTEN, KILLED, FULL,
+    ] {
         assert_told(&rt, rt.alloc(), RUN, rows)?;
     }
     assert_told(&rt, rt.alloc(), ALONE, "phase => Committing")?;

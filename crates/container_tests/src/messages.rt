@@ -5,6 +5,7 @@ use cfb_directory::name::Name;
 use container_core::container::ContainerCore;
 use container_model::answer::Answer;
 use container_model::fault::ContainerFault;
+use object_parts::limits::MOST_BYTES;
 use std::alloc::Global;
 use std::test::Fail;
 use storage_tree::bytes::Bytes;
@@ -34,15 +35,26 @@ fn content(alloc: Global) -> Result<Stored, Fail> {
     Ok(content)
 }
 
+/// A content of one byte more than may be stored.
+fn large(alloc: Global) -> Result<Stored, Fail> {
+    let mut content = Stored::new(alloc);
+    let mut bytes = Vec::new(alloc);
+    bytes.resize(MOST_BYTES + 1, 0)?;
+    content.picture = Bytes::from_vec(bytes);
+    Ok(content)
+}
+
 fn said(alloc: Global, verb: &str) -> Result<Said, Fail> {
     match verb.as_bytes() {
         [b'c', ..] => Ok(Said::Content(content(alloc)?)),
+        [b'l', ..] => Ok(Said::Content(large(alloc)?)),
         [b'b', ..] => Ok(Said::Refused(Refusal::BadEdit)),
         _ => Ok(Said::Done),
     }
 }
 
-/// A reply of activation 1 of server 1 on the link of a server: `done LINK N`, `content LINK N` or `bad_edit LINK N`.
+/// A reply of activation 1 of server 1 on the link of a server: `done LINK N`, `content LINK N`,
+/// `large_content LINK N` or `bad_edit LINK N`.
 pub(crate) fn replied(
     alloc: Global,
     core: &mut ContainerCore,
@@ -57,6 +69,37 @@ pub(crate) fn replied(
         answer: said(alloc, verb)?,
     };
     Ok(core.on_message(alloc, number(link), message))
+}
+
+fn told(
+    alloc: Global,
+    core: &mut ContainerCore,
+    link: u32,
+    message: Message,
+) -> Result<Answer, ContainerFault> {
+    core.on_message(alloc, link, message)
+}
+
+/// A write of activation 1 of server 1 on its link, or one of a content that is too large: `write S W` or `xwrite S W`.
+pub(crate) fn written(
+    alloc: Global,
+    core: &mut ContainerCore,
+    verb: &str,
+    rest: &str,
+) -> Result<Result<Answer, ContainerFault>, Fail> {
+    let (s, w) = halves(rest, " ");
+    let content = match verb.as_bytes() {
+        [b'w', ..] => content(alloc)?,
+        _ => large(alloc)?,
+    };
+    let message = Message::Write {
+        inc: 1,
+        act: 1,
+        s: number(s),
+        w: number(w),
+        content,
+    };
+    Ok(told(alloc, core, 1, message))
 }
 
 /// The end of server 1.
