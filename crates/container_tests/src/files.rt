@@ -6,6 +6,7 @@ use container_core::container::ContainerCore;
 use container_model::answer::Part;
 use container_model::fault::ContainerFault;
 use container_model::record::{Object, Phase};
+use ole_streams::document_of::document_of;
 use std::alloc::{AllocError, Global};
 use std::test::Fail;
 use storage_tree::storage::Found;
@@ -73,8 +74,8 @@ fn commit_image(
     core.commit_image(alloc, 1)
 }
 
-fn stream_text(tree: &Tree, name: &Name) -> &'static str {
-    match tree.get(&[name.copy()]) {
+fn stream_text(tree: &Tree, object: Name, name: Name) -> &'static str {
+    match tree.get(&[object, name]) {
         Ok(Found::Stream(bytes)) if bytes.as_slice() == [5, 6].as_slice() => "of 5 6",
         Ok(_) => "of others",
         Err(_) => "missing",
@@ -92,7 +93,12 @@ fn is_image(alloc: Global, core: &ContainerCore, file: &[u8]) -> bool {
     }
 }
 
-/// How many objects the document of frame 1 has, and how many streams its file, and one of them.
+/// How many objects the document that a tree holds has.
+fn held(alloc: Global, tree: Tree) -> Result<usize, Fail> {
+    Ok(document_of(alloc, tree)?.len())
+}
+
+/// How many objects the document of frame 1 has, and the document that its file holds, and a stream of the first.
 fn file_text(
     alloc: Global,
     core: &ContainerCore,
@@ -100,10 +106,10 @@ fn file_text(
     file: &[u8],
 ) -> Result<String, Fail> {
     let tree = read(alloc, file)?;
-    let streams = tree.root().children.len();
-    let stream = stream_text(&tree, &Name::new(b"aa")?);
+    let stream = stream_text(&tree, Name::new(b"Obj1")?, Name::new(b"aa")?);
+    let objects = held(alloc, tree)?;
     let same = is_image(alloc, core, file);
-    Ok(format!(in alloc; " {parts} {streams} aa {stream} {same}")?)
+    Ok(format!(in alloc; " {parts} {objects} aa {stream} {same}")?)
 }
 
 /// The same, or why there is no file.

@@ -40,7 +40,7 @@ fn large(alloc: Global) -> Result<Stored, Fail> {
     let mut content = Stored::new(alloc);
     let mut bytes = Vec::new(alloc);
     bytes.resize(MOST_BYTES + 1, 0)?;
-    content.picture = Bytes::from_vec(bytes);
+    content.picture = Bytes::from_vec(alloc, bytes)?;
     Ok(content)
 }
 
