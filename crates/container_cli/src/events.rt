@@ -158,7 +158,7 @@ fn new_frame(alloc: Global, rest: &[u8]) -> Result<Option<Event>, AllocError>
     let (true, Some(width), Some(height)) = (is_file_name(name), short(width), short(height)) else {
         return Ok(None);
     };
-    let name = Bytes::from_vec(Vec::from_slice(alloc, name)?);
+    let name = Bytes::from_slice(alloc, name)?;
     Ok(Some(Event::Command(Command::New(name, width, height))))
 }
 
@@ -238,6 +238,6 @@ fn edit(alloc: Global, rest: &[u8]) -> Result<Option<Event>, AllocError>
     let Some(object) = number(object) else {
         return Ok(None);
     };
-    let bytes = Bytes::from_vec(Vec::from_slice(alloc, bytes)?);
+    let bytes = Bytes::from_slice(alloc, bytes)?;
     Ok(Some(Event::Command(Command::Edit(object, bytes))))
 }

@@ -401,7 +401,7 @@ fn user_type(alloc: Global, kind: ObjectKind) -> Result<Bytes, AllocError>
         ObjectKind::Table => "Table",
         ObjectKind::Drawing => "Drawing",
     };
-    Ok(Bytes::from_vec(Vec::from_slice(alloc, text.as_bytes())?))
+    Bytes::from_slice(alloc, text.as_bytes())
 }
 
 // What a new activation of an object is asked first.

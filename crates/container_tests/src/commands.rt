@@ -10,7 +10,7 @@ use std::alloc::{AllocError, Global};
 use storage_tree::bytes::Bytes;
 
 fn bytes(alloc: Global, text: &str) -> Result<Bytes, AllocError> {
-    Ok(Bytes::from_vec(Vec::from_slice(alloc, text.as_bytes())?))
+    Bytes::from_slice(alloc, text.as_bytes())
 }
 
 fn kind(name: &str) -> ObjectKind {

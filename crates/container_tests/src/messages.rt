@@ -15,7 +15,7 @@ use wire_msgs::message::Message;
 use wire_msgs::refusal::Refusal;
 
 fn bytes(alloc: Global, bytes: &[u8]) -> Result<Bytes, Fail> {
-    Ok(Bytes::from_vec(Vec::from_slice(alloc, bytes)?))
+    Ok(Bytes::from_slice(alloc, bytes)?)
 }
 
 fn stream(alloc: Global, name: &[u8], content: &[u8]) -> Result<NamedStream, Fail> {

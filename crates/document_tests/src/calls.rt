@@ -20,7 +20,7 @@ use storage_tree::streams::{NamedStream, Streams};
 use storage_tree::tree::Tree;
 
 pub(crate) fn bytes(alloc: Global, bytes: &[u8]) -> Result<Bytes, Fail> {
-    Ok(Bytes::from_vec(Vec::from_slice(alloc, bytes)?))
+    Ok(Bytes::from_slice(alloc, bytes)?)
 }
 
 /// Bytes with those from a place on replaced.
@@ -190,7 +190,7 @@ pub(crate) fn layout(alloc: Global, count: u8, areas: usize) -> Result<Bytes, Fa
     for _ in 0..areas {
         out.extend_from_slice(&[0, 0, 0, 0, 1, 0, 1, 0])?;
     }
-    Ok(Bytes::from_vec(out))
+    Ok(Bytes::from_vec(alloc, out)?)
 }
 
 /// A root with the objects of these numbers, and a layout that counts so many.

@@ -29,7 +29,9 @@ pub fn streams(alloc: Global, name: Name, bytes: Vec<u8>) -> Result<Streams, Emb
     ensures refused { IfErr result (λ e. e ≡ EmbedFault.NoMemory) }
 {
     let mut streams = Streams::new(alloc);
-    let bytes = Bytes::from_vec(bytes);
+    let Ok(bytes) = Bytes::from_vec(alloc, bytes) else {
+        return Err(EmbedFault::NoMemory);
+    };
     match streams.push(NamedStream { name, bytes }) {
         Ok(()) => Ok(streams),
         Err(_) => Err(EmbedFault::NoMemory),

@@ -159,5 +159,5 @@ impl Building {
 fn filled(alloc: Global, count: u32, byte: u8) -> Result<Bytes, AllocError>
     ensures { IfOk result (λ bytes. bytes ≡ replicate count byte) }
 {
-    Ok(Bytes::from_vec(vec![in alloc; byte; count as usize]?))
+    Bytes::from_vec(alloc, vec![in alloc; byte; count as usize]?)
 }

@@ -78,7 +78,7 @@ fn stream(alloc: Global, mut words: Pieces<'_>) -> Result<Option<Command>, Alloc
     }
     match Path::parse(alloc, path)? {
         Some(path) => match content(alloc, bytes)? {
-            Some(bytes) => Ok(Some(Command::Stream(path, Bytes::from_vec(bytes)))),
+            Some(bytes) => Ok(Some(Command::Stream(path, Bytes::from_vec(alloc, bytes)?))),
             None => Ok(None),
         },
         None => Ok(None),

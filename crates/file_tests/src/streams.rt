@@ -12,7 +12,7 @@ use storage_tree::streams::{NamedStream, Streams};
 fn stream(alloc: Global, name: &str, text: &str) -> Result<NamedStream, Fail> {
     Ok(NamedStream {
         name: Name::new(name.as_bytes())?,
-        bytes: Bytes::from_vec(Vec::from_slice(alloc, text.as_bytes())?),
+        bytes: Bytes::from_slice(alloc, text.as_bytes())?,
     })
 }
 
@@ -59,7 +59,7 @@ fn streams_stand_in_name_order(rt: HostRuntime) -> Result<(), Fail> {
             "{name}"
         );
     }
-    stored.picture = Bytes::from_vec(Vec::from_slice(rt.alloc(), b"7")?);
+    stored.picture = Bytes::from_slice(rt.alloc(), b"7")?;
     let copy = stored.copy(rt.alloc())?;
     assert_eq!(rt; copy.streams.as_slice().len(), 2);
     assert_eq!(rt; copy.streams.len(), 2);
@@ -68,7 +68,10 @@ fn streams_stand_in_name_order(rt: HostRuntime) -> Result<(), Fail> {
     assert!(rt; !holds(&copy.streams, "Shapes", "4")?);
     assert!(rt; is_next(&copy.streams, "Shapes")?);
     assert!(rt; !is_next(&copy.streams, "Cell")?);
-    assert_eq!(rt; copy.picture.into_vec().as_slice(), b"7".as_slice());
+    assert_eq!(rt;
+        copy.picture.into_vec(rt.alloc())?.as_slice(),
+        b"7".as_slice()
+    );
     Ok(())
 }
 

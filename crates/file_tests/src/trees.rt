@@ -93,7 +93,7 @@ fn path(alloc: Global, text: &str) -> Result<Vec<Name>, Fail> {
 /// The bytes of a text.
 fn content(alloc: Global, text: &str) -> Result<Bytes, Fail> {
     let text = if text == "." { "" } else { text };
-    Ok(Bytes::from_vec(Vec::from_slice(alloc, text.as_bytes())?))
+    Ok(Bytes::from_slice(alloc, text.as_bytes())?)
 }
 
 fn number(text: &str) -> u8 {

@@ -17,7 +17,7 @@ fn empty(alloc: Global) -> Tree {
 
 /// Puts a stream of so many bytes 7.
 fn put(alloc: Global, tree: &mut Tree, name: &str, len: usize) -> Result<(), Fail> {
-    let bytes = Bytes::from_vec(vec![in alloc; 7; len]?);
+    let bytes = Bytes::from_vec(alloc, vec![in alloc; 7; len]?)?;
     tree.put_stream(&[Name::new(name.as_bytes())?], bytes)?;
     Ok(())
 }
@@ -128,7 +128,7 @@ fn nested_storages_stand_depth_first(rt: HostRuntime) -> Result<(), Fail> {
     make(&mut tree, "S")?;
     let within = Name::new(b"S")?;
     for (name, byte, len) in [("B", 8, 4097), ("C", 9, 3)] {
-        let bytes = Bytes::from_vec(vec![in alloc; byte; len]?);
+        let bytes = Bytes::from_vec(alloc, vec![in alloc; byte; len]?)?;
         tree.put_stream(&[within.copy(), Name::new(name.as_bytes())?], bytes)?;
     }
     put(alloc, &mut tree, "A", 4096)?;

@@ -119,7 +119,7 @@ fn take_blob(alloc: Global, most: usize, xs: &[u8]) -> Result<(Bytes, &[u8]), Bo
         return Err(BodyFault::Bad);
     }
     let (value, rest) = rest.split_at(n);
-    Ok((Bytes::from_vec(Vec::from_slice(alloc, value)?), rest))
+    Ok((Bytes::from_slice(alloc, value)?, rest))
 }
 
 // A name behind its length.

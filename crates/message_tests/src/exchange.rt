@@ -54,7 +54,7 @@ fn ask(g: u32) -> Frame {
 
 /// These bytes.
 fn bytes(alloc: Global, items: &[u8]) -> Result<Bytes, Fail> {
-    Ok(Bytes::from_vec(Vec::from_slice(alloc, items)?))
+    Ok(Bytes::from_slice(alloc, items)?)
 }
 
 /// A note of `ab`.

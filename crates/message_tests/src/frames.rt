@@ -44,10 +44,10 @@ fn content(alloc: Global) -> Result<Stored, Fail> {
     let mut stored = Stored::new(alloc);
     for name in [b"b".as_slice(), b"Text".as_slice()] {
         let name = Name::new(name)?;
-        let bytes = Bytes::from_vec(Vec::from_slice(alloc, b"ab")?);
+        let bytes = Bytes::from_slice(alloc, b"ab")?;
         stored.streams.push(NamedStream { name, bytes })?;
     }
-    stored.picture = Bytes::from_vec(Vec::from_slice(alloc, b"pic")?);
+    stored.picture = Bytes::from_slice(alloc, b"pic")?;
     Ok(stored)
 }
 
@@ -65,7 +65,7 @@ fn tools() -> Result<Frame, Fail> {
 
 /// An edit.
 fn edit(alloc: Global) -> Result<Frame, Fail> {
-    let bytes = Bytes::from_vec(Vec::from_slice(alloc, b"i 0 a")?);
+    let bytes = Bytes::from_slice(alloc, b"i 0 a")?;
     Ok(call(Operation::Edit(bytes)))
 }
 

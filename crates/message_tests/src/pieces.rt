@@ -109,7 +109,7 @@ fn faults_are_shown_by_their_bytes(rt: HostRuntime) -> Result<(), Fail> {
 /// A write of so many bytes in its picture.
 fn write(alloc: Global, count: usize) -> Result<Frame, Fail> {
     let mut content = Stored::new(alloc);
-    content.picture = Bytes::from_vec(vec![in alloc; 7; count]?);
+    content.picture = Bytes::from_vec(alloc, vec![in alloc; 7; count]?)?;
     Ok(Frame::Message(Message::Write {
         inc: 1,
         act: 1,

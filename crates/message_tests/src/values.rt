@@ -80,7 +80,7 @@ fn edit_of(operation: &Operation) -> Option<&[u8]> {
 
 #[test]
 fn an_operation_is_copied(rt: HostRuntime) -> Result<(), Fail> {
-    let edit = Bytes::from_vec(Vec::from_slice(rt.alloc(), b"i 0 a")?);
+    let edit = Bytes::from_slice(rt.alloc(), b"i 0 a")?;
     let copy = Operation::Edit(edit).copy(rt.alloc())?;
     assert!(rt; edit_of(&copy) == Some(b"i 0 a".as_slice()));
     Ok(())

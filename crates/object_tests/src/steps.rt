@@ -111,7 +111,7 @@ fn streams_of(alloc: Global, text: &str) -> Result<Streams, Fail> {
 fn push(alloc: Global, streams: &mut Streams, text: &str) -> Result<(), Fail> {
     let (name, bytes) = halves(text, "=");
     let name = Name::new(name.as_bytes())?;
-    let bytes = Bytes::from_vec(spelled(alloc, bytes)?);
+    let bytes = Bytes::from_vec(alloc, spelled(alloc, bytes)?)?;
     streams.push(NamedStream { name, bytes })?;
     Ok(())
 }

@@ -60,7 +60,7 @@ impl CompObj {
     {
         match user_type(bytes) {
             Ok(user) => Ok(CompObj {
-                user_type: Bytes::from_vec(Vec::from_slice(alloc, user)?),
+                user_type: Bytes::from_slice(alloc, user)?,
             }),
             Err(fault) => Err(fault),
         }
@@ -90,5 +90,5 @@ pub fn write_stream(alloc: Global, class: ClassId, user_type: &[u8]) -> Result<B
     push_string(&mut out, user_type)?;
     push_number(&mut out, 0)?;
     push_number(&mut out, 0)?;
-    Ok(Bytes::from_vec(out))
+    Bytes::from_vec(alloc, out)
 }

@@ -129,8 +129,8 @@ impl Presentation {
         ensures { IfOk result (λ p. p ≡ presentation bytes.now) }
     {
         match lines(bytes) {
-            Some(lines) => Ok(Presentation::Text(Bytes::from_vec(Vec::from_slice(alloc, lines)?))),
-            None => Ok(Presentation::Other(Bytes::from_vec(Vec::from_slice(alloc, bytes)?))),
+            Some(lines) => Ok(Presentation::Text(Bytes::from_slice(alloc, lines)?)),
+            None => Ok(Presentation::Other(Bytes::from_slice(alloc, bytes)?)),
         }
     }
 
@@ -162,5 +162,5 @@ fn write_stream(alloc: Global, lines: &[u8]) -> Result<Bytes, AllocError>
     push_number(&mut out, height(lines) as u32)?;
     push_number(&mut out, lines.len() as u32)?;
     out.extend_from_slice(lines)?;
-    Ok(Bytes::from_vec(out))
+    Bytes::from_vec(alloc, out)
 }

@@ -77,7 +77,7 @@ fn place_ole_streams(
     ensures whole { OnOk result ((depth : ℕ) → AreTrees depth (children entries.old.entries) → AreTrees depth (children entries.new.entries)) }
 {
     let says_ole = Vec::from_slice(alloc, &OleStream.write())?;
-    place_stream(entries, ole(), Bytes::from_vec(says_ole))?;
+    place_stream(entries, ole(), Bytes::from_vec(alloc, says_ole)?)?;
     place_stream(entries, comp_obj(), write_stream(alloc, class, user_type)?)?;
     if !picture.is_empty() {
         place_stream(entries, ole_pres(), picture)?;

@@ -66,7 +66,7 @@ pub(crate) fn write_layout(alloc: Global, objects: &[DocObject]) -> Result<Bytes
     push_number(&mut out, VERSION)?;
     push_number(&mut out, objects.len() as u32)?;
     push_areas(&mut out, &areas_of(alloc, objects)?)?;
-    Ok(Bytes::from_vec(out))
+    Bytes::from_vec(alloc, out)
 }
 
 /// The area in eight bytes.

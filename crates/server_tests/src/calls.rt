@@ -12,7 +12,7 @@ use wire_msgs::message::Message;
 use wire_msgs::operation::Operation;
 
 fn bytes(alloc: Global, text: &str) -> Result<Bytes, Fail> {
-    Ok(Bytes::from_vec(Vec::from_slice(alloc, text.as_bytes())?))
+    Ok(Bytes::from_slice(alloc, text.as_bytes())?)
 }
 
 /// A text as a note stores it.

@@ -216,7 +216,7 @@ impl<'a> Reader<'a> {
         match entry.kind {
             EntryKind::Stream => {
                 let bytes = self.read_stream(alloc, entry.first, entry.size)?;
-                Ok(Node::Stream(Bytes::from_vec(bytes)))
+                Ok(Node::Stream(Bytes::from_vec(alloc, bytes)?))
             }
             _ => {
                 if depth == 0 {

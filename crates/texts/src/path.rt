@@ -190,5 +190,5 @@ fn parse_name(alloc: Global, part: &[u8]) -> Result<Option<Bytes>, AllocError>
             None => return Ok(None),
         }
     }
-    Ok(Some(Bytes::from_vec(bytes)))
+    Ok(Some(Bytes::from_vec(alloc, bytes)?))
 }

@@ -102,6 +102,7 @@ impl Host {
         };
         let k = frame.k;
         let name = name_after(alloc, frame)?;
+        let bytes = Bytes::from_vec(alloc, bytes)?;
         let count = self.most();
         let room = Room::new(alloc, count)?;
         self.reserve(count)?;
@@ -110,7 +111,7 @@ impl Host {
         match self.core.commit_done(alloc, f) {
             Ok(committed) => {
                 let Committed { answer, counted } = committed;
-                put_file(&mut self.files, name, Bytes::from_vec(bytes));
+                put_file(&mut self.files, name, bytes);
                 add_all(&mut self.container_done, counted.into_vec());
                 set_counted(&mut self.counted, f, Document { k, parts });
                 Ok(self.join(answer, room))

@@ -13,7 +13,7 @@ fn bytes(alloc: Global, word: &str, more: u32) -> Result<Bytes, AllocError> {
     for _ in 0..more {
         bytes.push(b'a')?;
     }
-    Ok(Bytes::from_vec(bytes))
+    Bytes::from_vec(alloc, bytes)
 }
 
 fn insert() -> Command {
