@@ -1,8 +1,5 @@
-pub mod NumberedRanges
 pub mod Held
 pub mod Alike
-pub mod Joins
-pub mod Filed
 pub mod Servers
 pub mod Lifts
 pub mod Stocks

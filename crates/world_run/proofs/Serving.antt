@@ -15,7 +15,7 @@ use Rattle.world_model.specs.declared.logs.View.{View}
 use Rattle.world_model.specs.declared.logs.EventAnswer.TheVariants as told
 use Rattle.world_model.specs.World.{World, Instance, MOST_EVENTS, limited, served, view_in}
 use Rattle.world_run.specs.Plans.{serving}
-use Rattle.world_run.specs.Rooms.{replied}
+use Rattle.world_host.specs.Rooms.{replied}
 use Rattle.world_run.proofs.Lifts.{emptied}
 
 pub if_some : {A : Type 0} (o : Option A) (x : A) (P : A → Type 0) → o ≡ Some x → IfSome o P → P x

@@ -1,6 +1,3 @@
-pub mod Starts
-pub mod Rooms
-pub mod Files
 pub mod View
 pub mod Shown
 pub mod Plans

@@ -1,33 +1,14 @@
 -- States of worlds as they are seen: the objects in boxes by what they contain.
-use Rattle.std.specs.Prelude.{ℕ, List, [], map}
+use Rattle.std.specs.Prelude.{map}
 use Rattle.embed_core.specs.Content.{Content}
 use Rattle.embed_core.specs.Kinds.{Kind, kind_of}
 use Rattle.server_core.specs.declared.server.Seat.{Seat}
 use Rattle.server_core.specs.View as server
 use Rattle.world_run.specs.declared.instance.Instance as code
 use Rattle.world_run.specs.declared.instance.Stocked.{Stocked}
-use Rattle.world_run.specs.declared.host.Host.{Host}
 use Rattle.world_run.specs.declared.state.State.{State}
-use Rattle.world_model.specs.World.{World, Instance, fresh}
-
--- a host as a world without servers and stock
-abbrev pub bare : Host → World
-bare l = record {
-  rec = l.core;
-  instances = [];
-  files = l.files.items;
-  stock = [];
-  sent = l.sent.items;
-  owners = l.owners.items;
-  answers = l.answers.items;
-  container_done = l.container_done.items;
-  server_done = l.server_done.items;
-  counted = l.counted.items;
-}
-
--- the same with new servers of these incarnations
-abbrev pub started : World → ℕ → List ℕ → World
-started w numbers starts = record w { instances = map (fresh numbers) starts }
+use Rattle.world_host.specs.View.{bare}
+use Rattle.world_model.specs.World.{World, Instance}
 
 module _ {X : Type 0} {V : X → Type 0} (content : Seat X V → Content) where
   abbrev pub seen_instance : code.Instance X V → Instance

@@ -1,8 +1,6 @@
 //! Worlds: a container, its servers, the messages between them, and what happens.
 #![tactic(auto)]
 
-mod commits;
-pub mod host;
 pub mod instance;
 mod plan;
 mod readers;

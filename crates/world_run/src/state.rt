@@ -12,7 +12,6 @@ ghost use Rattle.world_model.specs.World.{IsImage, Refuses, Run, StopsAt, delive
 ghost use Rattle.wire_msgs.specs.declared.message.Message.TheVariants as message;
 ghost use Rattle.world_model.specs.declared.event.Event.TheVariants as event;
 
-use crate::host::{Host, add};
 use crate::instance::{Instance, Stocked};
 use crate::plan::Plan;
 use crate::stock::Stock;
@@ -25,6 +24,7 @@ use server_model::fault::ServerFault;
 use std::alloc::Global;
 use wire_msgs::message::Message;
 use wire_msgs::operation::Operation;
+use world_host::host::{Host, add};
 use world_model::event::{Event, Stop};
 use world_model::life::Life;
 use world_model::logs::View;

@@ -2,10 +2,11 @@ use Rattle.std.proofs.Common.{◌∷◌, [], ◌++◌, ap, ◌∙◌, map, None,
 use Rattle.std.specs.Prelude.{slice_get}
 use Rattle.std.proofs.Math.Seq.{map-set_same}
 use Rattle.server_model.specs.Server.{Server}
-use Rattle.world_run.specs.View.{seen, seen_instance, seen_stocked, bare}
+use Rattle.world_run.specs.View.{seen, seen_instance, seen_stocked}
+use Rattle.world_host.specs.View.{bare}
 use Rattle.world_model.specs.World.{World}
 use Rattle.world_model.specs.declared.logs.EventAnswer.TheVariants as told
-use Rattle.world_run.specs.Rooms.{replied}
+use Rattle.world_host.specs.Rooms.{replied}
 use Rattle.world_run.proofs.Servers.{seen_at, set_at}
 use Rattle.world_run.proofs.Serving.{if_some, stands, serve_allowed, serve_taken, serve_dropped, same_world, refuses_told}
 use Rattle.world_run.proofs.state.State.serve.Goals as goal

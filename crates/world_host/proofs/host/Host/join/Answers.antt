@@ -1,10 +1,10 @@
 use Rattle.std.proofs.Common.{◌≡◌, ◌∙◌, ◌++◌, ◌+◌, ◌-◌, ap, length, map, arith}
 use Rattle.std.specs.List.{range_with_len}
 use Rattle.world_model.specs.World.{messages_of, commits_of, of_container}
-use Rattle.world_run.specs.Starts.{starts_of}
-use Rattle.world_run.specs.View.{bare}
-use Rattle.world_run.proofs.Joins.{joins, starts_few}
-use Rattle.world_run.proofs.host.Host.join.Goals as goal
+use Rattle.world_host.specs.Starts.{starts_of}
+use Rattle.world_host.specs.View.{bare}
+use Rattle.world_host.proofs.Joins.{joins, starts_few}
+use Rattle.world_host.proofs.host.Host.join.Goals as goal
 
 pub returns-clause-joined : goal.returns-clause-joined
 returns-clause-joined c =

@@ -6,7 +6,7 @@ use Rattle.std.proofs.Math.ListN.{drop_of_length-le}
 use Rattle.wire_msgs.specs.Found.{find}
 use Rattle.world_model.specs.declared.logs.File.{File}
 use Rattle.world_model.specs.World.{is_file, put_file}
-use Rattle.world_run.specs.Files.{IsFileAt, IsNoFile}
+use Rattle.world_host.specs.Files.{IsFileAt, IsNoFile}
 
 -- the file stands nowhere before i
 pub record IsPast (name : List ℕ) (xs : List File) (i : ℕ) : Type 0 where

@@ -1,8 +1,8 @@
 use Rattle.std.proofs.Common.{◌++◌, ◌+◌, ◌≤◌, ◌≡◌, length, map, vec_len, vec_capacity}
 use Rattle.std.specs.Vec.Iter.{into_iter_items, into_iter_len}
 use Rattle.world_model.specs.World.{messages_of, commits_of, of_container}
-use Rattle.world_run.specs.Starts.{starts_of}
-use Rattle.world_run.proofs.host.share.Given as goal
+use Rattle.world_host.specs.Starts.{starts_of}
+use Rattle.world_host.proofs.host.share.Given as goal
 
 abbrev pub invariant-loop-action : goal.invariant-loop-action
 invariant-loop-action l = record {

@@ -1,6 +1,6 @@
 use Rattle.std.proofs.Common.{◌+◌, ◌≤◌, ◌≡◌, vec_len, vec_capacity}
 use Rattle.std.specs.List.{range_with_len}
-use Rattle.world_run.proofs.host.number.Given as goal
+use Rattle.world_host.proofs.host.number.Given as goal
 
 abbrev pub invariant-loop-i : goal.invariant-loop-i
 invariant-loop-i l = record {

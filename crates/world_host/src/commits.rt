@@ -7,9 +7,9 @@ ghost use Rattle.container_model.specs.declared.record.Phase.TheVariants as phas
 ghost use Rattle.file_model.specs.Denotes.{Denotes};
 ghost use Rattle.world_model.specs.World.{IsImage, Refuses, done, frame_file, is_file, kept_commit, limited, put_file};
 ghost use Rattle.world_model.specs.declared.event.Event.TheVariants as event;
-ghost use Rattle.world_run.specs.Files.{IsFileAt, IsNoFile, is_committing_in};
-ghost use Rattle.world_run.specs.Rooms.{most};
-ghost use Rattle.world_run.specs.View.{bare, started};
+ghost use Rattle.world_host.specs.Files.{IsFileAt, IsNoFile, is_committing_in};
+ghost use Rattle.world_host.specs.Rooms.{most};
+ghost use Rattle.world_host.specs.View.{bare, started};
 
 use crate::host::{Host, Room, add, add_all};
 use container_model::answer::{Committed, Part};
@@ -102,6 +102,7 @@ impl Host {
         };
         let k = frame.k;
         let name = name_after(alloc, frame)?;
+        let bytes = Bytes::from_vec(alloc, bytes)?;
         let count = self.most();
         let room = Room::new(alloc, count)?;
         self.reserve(count)?;
@@ -110,7 +111,7 @@ impl Host {
         match self.core.commit_done(alloc, f) {
             Ok(committed) => {
                 let Committed { answer, counted } = committed;
-                put_file(&mut self.files, name, Bytes::from_vec(bytes));
+                put_file(&mut self.files, name, bytes);
                 add_all(&mut self.container_done, counted.into_vec());
                 set_counted(&mut self.counted, f, Document { k, parts });
                 Ok(self.join(answer, room))
@@ -123,7 +124,7 @@ impl Host {
     /// which there is room or not.
     ///
     /// Refused: `NotEnabled` where the commit isn't asked for; then `EventLimit`; then `NoMemory`. Then nothing changes.
-    pub(crate) fn done(&mut self, alloc: Global, f: u32, room: bool) -> Result<Vec<u32>, Stop>
+    pub fn done(&mut self, alloc: Global, f: u32, room: bool) -> Result<Vec<u32>, Stop>
         ensures room { OnOk result (room ≡ true) }
         ensures taken { IfOk result (λ starts. (bytes : List ℕ) × IsImage (bare self.old) bytes (event.Done f) × (limited (bare self.old) (done (bare self.old) f bytes) ≡ Ok (started (bare self.new) self.new.core.numbers starts.items))) }
         ensures few { IfOk result (λ starts. vec_len starts ≤ most self.old.core) }
@@ -157,7 +158,7 @@ impl Host {
     }
 
     /// The file of a frame whose commit was counted, none while it is in doubt whether the last one was done.
-    pub(crate) fn frame_file(&self, f: u32) -> Option<&[u8]>
+    pub fn frame_file(&self, f: u32) -> Option<&[u8]>
         ensures { option_copied result ≡ frame_file (bare self.now) f }
     {
         let frame = match self.core.frame(f) {

@@ -8,8 +8,8 @@ use Rattle.world_model.specs.declared.event.Stop.TheVariants.{NotEnabled, OutOfS
 use Rattle.world_model.specs.declared.logs.View.{View}
 use Rattle.world_model.specs.declared.logs.EventAnswer.TheVariants as told
 use Rattle.world_model.specs.World.{World, quiet_outcome, places, counted_by}
-use Rattle.world_run.specs.declared.host.Host.{Host}
-use Rattle.world_run.specs.declared.host.Room.{Room}
+use Rattle.world_host.specs.declared.host.Host.{Host}
+use Rattle.world_host.specs.declared.host.Room.{Room}
 
 -- no step of the container asks for more actions
 abbrev pub most : Record → ℕ

@@ -10,8 +10,8 @@ use Rattle.world_model.specs.declared.logs.Document.{Document}
 use Rattle.world_model.specs.declared.logs.EventAnswer.{EventAnswer}
 use Rattle.world_model.specs.declared.logs.EventAnswer.TheVariants as told
 use Rattle.world_model.specs.World.{World, joined, started_by, messages_of, commits_of, of_container, uncounted, fresh}
-use Rattle.world_run.specs.Starts.{starts_of}
-use Rattle.world_run.specs.View.{started}
+use Rattle.world_host.specs.Starts.{starts_of}
+use Rattle.world_host.specs.View.{started}
 
 pub started_starts : (n : ℕ) (actions : List Action) → started_by n actions ≡ map (fresh n) (starts_of actions)
 started_starts n [] = refl

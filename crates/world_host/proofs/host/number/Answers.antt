@@ -1,6 +1,6 @@
 use Rattle.std.proofs.Common.{sym, ◌∙◌, ap, ◌+◌, ◌++◌, ◌∷◌, [], arith}
-use Rattle.world_run.proofs.NumberedRanges.{range_more}
-use Rattle.world_run.proofs.host.number.Goals as goal
+use Rattle.world_host.proofs.NumberedRanges.{range_more}
+use Rattle.world_host.proofs.host.number.Goals as goal
 
 pub loop-i-preserved : goal.loop-i-preserved
 loop-i-preserved c = record {

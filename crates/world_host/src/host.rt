@@ -7,9 +7,9 @@ ghost use Rattle.container_model.specs.Messages.{on_message, on_reap};
 ghost use Rattle.container_model.specs.Record.{counts_none};
 ghost use Rattle.world_model.specs.World.{messages_of, commits_of, of_container, joined, uncounted, took, owner, counted_by, quiet_outcome, limited, commanded, owners_by, empty_world, Refuses, MOST_EVENTS};
 ghost use Rattle.world_model.specs.declared.logs.EventAnswer.TheVariants as told;
-ghost use Rattle.world_run.specs.Starts.{starts_of};
-ghost use Rattle.world_run.specs.Rooms.{HasLogRoom, HasReplyRoom, IsBarred, IsRoom, most, replied};
-ghost use Rattle.world_run.specs.View.{bare, started};
+ghost use Rattle.world_host.specs.Starts.{starts_of};
+ghost use Rattle.world_host.specs.Rooms.{HasLogRoom, HasReplyRoom, IsBarred, IsRoom, most, replied};
+ghost use Rattle.world_host.specs.View.{bare, started};
 
 use container_core::container::{ContainerCore, Limits};
 use container_model::answer::{Action, Answer, Done};
@@ -27,18 +27,26 @@ use world_model::logs::{Document, EventAnswer, File, Outcome, Sent, ServerDone, 
 /// logs.
 #[derive(Drop)]
 pub struct Host {
-    pub(crate) core: ContainerCore,
-    pub(crate) files: Vec<File>,
-    pub(crate) sent: Vec<Sent>,
-    pub(crate) owners: Vec<u32>,
-    pub(crate) answers: Vec<EventAnswer>,
-    pub(crate) container_done: Vec<Done>,
-    pub(crate) server_done: Vec<ServerDone>,
-    pub(crate) counted: Vec<Option<Document>>,
+    /// The container.
+    pub core: ContainerCore,
+    /// The files, each under its name.
+    pub files: Vec<File>,
+    /// The messages that were sent, by their places from 1.
+    pub sent: Vec<Sent>,
+    /// The object that each activation was made for, by the activations' numbers from 1.
+    pub owners: Vec<u32>,
+    /// What each event was answered, by its number from 1.
+    pub answers: Vec<EventAnswer>,
+    /// What the container counted.
+    pub container_done: Vec<Done>,
+    /// What the servers counted.
+    pub server_done: Vec<ServerDone>,
+    /// The document of each frame's last counted commit.
+    pub counted: Vec<Option<Document>>,
 }
 
-// Adds what room was taken for.
-pub(crate) fn add<T: Drop>(items: &mut Vec<T>, item: T)
+/// Adds what room was taken for.
+pub fn add<T: Drop>(items: &mut Vec<T>, item: T)
     requires { vec_len items.old < vec_capacity items.old }
     ensures added { items.new.items ≡ items.old.items ++ item ∷ [] }
     ensures len { vec_len items.new ≡ vec_len items.old + 1 }
@@ -145,7 +153,7 @@ impl Room {
 
 impl Host {
     /// Nothing has happened.
-    pub(crate) fn new(alloc: Global, limits: Limits) -> Host
+    pub fn new(alloc: Global, limits: Limits) -> Host
         requires { limits.numbers ≤ 1000000 }
         ensures { bare result ≡ empty_world limits.numbers [] }
     {
@@ -162,14 +170,14 @@ impl Host {
     }
 
     /// Whether a world takes no more events.
-    pub(crate) fn is_full(&self) -> bool
+    pub fn is_full(&self) -> bool
         ensures { result ≡ nat_le MOST_EVENTS (length self.now.answers.items) }
     {
         self.answers.len() >= 10_000
     }
 
     /// No step of the container asks for more actions.
-    pub(crate) fn most(&self) -> usize
+    pub fn most(&self) -> usize
         ensures { result ≡ most self.now.core }
     {
         self.core.objects().len() + self.core.frames().len() + 1
@@ -236,11 +244,7 @@ impl Host {
     /// A command of a user. Gives the servers that it starts.
     ///
     /// Refused for want of memory alone. Then nothing changes.
-    pub(crate) fn command(
-        &mut self,
-        alloc: Global,
-        command: &Command,
-    ) -> Result<Vec<u32>, AllocError>
+    pub fn command(&mut self, alloc: Global, command: &Command) -> Result<Vec<u32>, AllocError>
         ensures taken { IfOk result (λ starts. commanded (bare self.old) command.now (on_command self.old.core command.now) ≡ started (bare self.new) self.new.core.numbers starts.items) }
         ensures few { IfOk result (λ starts. vec_len starts ≤ most self.old.core) }
         ensures kept { OnErr result (bare self.new ≡ bare self.old) }
@@ -265,7 +269,7 @@ impl Host {
     /// A message comes to the container. Gives the servers that it starts.
     ///
     /// Refused for want of memory alone. Then nothing changes.
-    pub(crate) fn tell(
+    pub fn tell(
         &mut self,
         alloc: Global,
         inc: u32,
@@ -291,7 +295,7 @@ impl Host {
     /// The end of a server is told to the container. Gives the servers that it starts.
     ///
     /// Refused for want of memory alone. Then nothing changes.
-    pub(crate) fn reap(&mut self, alloc: Global, inc: u32) -> Result<Vec<u32>, AllocError>
+    pub fn reap(&mut self, alloc: Global, inc: u32) -> Result<Vec<u32>, AllocError>
         ensures taken { IfOk result (λ starts. took (bare self.old) (on_reap self.old.core inc) ≡ started (bare self.new) self.new.core.numbers starts.items) }
         ensures few { IfOk result (λ starts. vec_len starts ≤ most self.old.core) }
         ensures kept { OnErr result (bare self.new ≡ bare self.old) }
@@ -312,7 +316,7 @@ impl Host {
     /// Room for the answer of one event.
     ///
     /// Refused: `EventLimit` where a world takes no more events, else `NoMemory`.
-    pub(crate) fn open(&mut self) -> Result<(), Stop>
+    pub fn open(&mut self) -> Result<(), Stop>
         ensures open { OnOk result (nat_le MOST_EVENTS (length self.old.answers.items) ≡ false) }
         ensures room { OnOk result (vec_len self.new.answers < vec_capacity self.new.answers) }
         ensures barred { IfErr result (IsBarred (nat_le MOST_EVENTS (length self.old.answers.items))) }
@@ -328,7 +332,7 @@ impl Host {
     }
 
     /// An event that led to nothing.
-    pub(crate) fn quiet(&mut self, alloc: Global)
+    pub fn quiet(&mut self, alloc: Global)
         requires { vec_len self.old.answers < vec_capacity self.old.answers }
         ensures { bare self.new ≡ record (bare self.old) { answers = self.old.answers.items ++ told.Took quiet_outcome ∷ [] } }
     {
@@ -336,7 +340,7 @@ impl Host {
     }
 
     /// A message that a server did nothing with.
-    pub(crate) fn dropped(&mut self, fault: ServerFault)
+    pub fn dropped(&mut self, fault: ServerFault)
         requires { vec_len self.old.answers < vec_capacity self.old.answers }
         ensures { bare self.new ≡ record (bare self.old) { answers = self.old.answers.items ++ told.Dropped fault ∷ [] } }
     {
@@ -359,7 +363,7 @@ impl Host {
     }
 
     /// Room for a reply; gives room for its place.
-    pub(crate) fn reply_room(&mut self, alloc: Global) -> Result<Vec<u32>, AllocError>
+    pub fn reply_room(&mut self, alloc: Global) -> Result<Vec<u32>, AllocError>
         ensures place { IfOk result (λ v. v.items ≡ []) }
         ensures place_room { IfOk result (λ v. 1 ≤ vec_capacity v) }
         ensures room { OnOk result (HasReplyRoom self.new) }
@@ -399,7 +403,7 @@ impl Host {
     }
 
     /// A reply of a server, its activation's state just before, and what the server counted.
-    pub(crate) fn replied(
+    pub fn replied(
         &mut self,
         alloc: Global,
         inc: u32,

@@ -1,7 +1,7 @@
 use Rattle.std.proofs.Common.{sym, ap, ◌∙◌, arith}
 use Rattle.std.specs.Str.{bytes_eq}
-use Rattle.world_run.proofs.Filed.{past_none, past_more, past_here, past_all}
-use Rattle.world_run.proofs.commits.file_place.Goals as goal
+use Rattle.world_host.proofs.Filed.{past_none, past_more, past_here, past_all}
+use Rattle.world_host.proofs.commits.file_place.Goals as goal
 
 pub loop-i-init : goal.loop-i-init
 loop-i-init c = past_none _ _

@@ -1,0 +1,3 @@
+pub mod NumberedRanges
+pub mod Joins
+pub mod Filed

@@ -1,0 +1,4 @@
+pub mod Starts
+pub mod Rooms
+pub mod Files
+pub mod View

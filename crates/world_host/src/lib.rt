@@ -1,0 +1,5 @@
+//! The host of a container in a world: the container, its files, and the logs of what happened.
+#![tactic(auto)]
+
+mod commits;
+pub mod host;
