@@ -1,2 +1,3 @@
 pub mod AskingAll
+pub mod AskingEach
 pub mod MessageReplies

@@ -1,5 +1,5 @@
 -- Replies to a pending call.
-use Rattle.std.proofs.Common.{◌≡◌, ℕ, List, [], ◌∷◌, ◌++◌, Option, Some, None, Result, Ok, Err, IfErr, refl, ap, sym, ◌∙◌, eq-eqb, subst, ◌==◌, ◌+◌, Bool, true}
+use Rattle.std.proofs.Common.{◌≡◌, ℕ, List, [], ◌∷◌, Option, Some, None, Result, Ok, Err, IfErr, refl, ap, sym, ◌∙◌, eq-eqb, subst, ◌==◌, ◌+◌, Bool, true}
 use Rattle.wire_msgs.specs.declared.answer.Answer.{Answer}
 use Rattle.wire_msgs.specs.declared.operation.Operation.{Operation}
 use Rattle.wire_msgs.specs.declared.answer.Answer.TheVariants as told
@@ -14,13 +14,8 @@ use Rattle.storage_tree.specs.declared.stored.Stored.{Stored}
 use Rattle.container_model.specs.declared.record.Link.{Link}
 use Rattle.container_model.specs.declared.answer.Action.{Action}
 use Rattle.container_model.specs.declared.fault.ContainerFault.{ContainerFault}
-use Rattle.container_model.specs.declared.answer.Answer as told_answer
-use Rattle.container_model.specs.declared.record.Frame.{Frame}
-use Rattle.container_model.specs.declared.record.Object.{Object}
-use Rattle.wire_msgs.specs.Found.{find, put}
-use Rattle.container_model.specs.Saves.{settle, settled_actions, settled_frames}
-use Rattle.container_model.specs.Record.{Record, Refuses, is_linked, quiet_answer, sends}
-use Rattle.container_model.specs.Messages.{Replied, done_link, next_at, replied, reply_link, saved_link, next_link, next_sent, reply_found, reply_taken}
+use Rattle.container_model.specs.Record.{Refuses, sends}
+use Rattle.container_model.specs.Messages.{Replied, done_link, is_fit, next_at, replied, reply_link, saved_link}
 use Rattle.container_model.specs.Replies.{Went, went}
 
 -- a refusal of what is equal
@@ -28,10 +23,10 @@ pub refused_as : {A B : Type 0} (R S : Result A ContainerFault) (result : Result
 refused_as {A} {B} R S result e h = subst (λ (r : Result A ContainerFault). IfErr result (Refuses r)) (sym e) h
 
 -- the reply to a pending call
-pub reply_is : (n : ℕ) (answer : Answer) (link : Option Link) (l : Link) (op : Operation) → link ≡ Some l → l.pending ≡ Some op → n ≡ l.last → reply_link n answer link ≡ replied l op answer
-reply_is n answer link l op e p q =
+pub reply_is : (n : ℕ) (answer : Answer) (link : Option Link) (l : Link) (op : Operation) → link ≡ Some l → l.pending ≡ Some op → n ≡ l.last → is_fit answer ≡ true → reply_link n answer link ≡ replied l op answer
+reply_is n answer link l op e p q fit =
     let t : (n == l.last) ≡ true = eq-eqb n l.last q in
-    rw (e, p, t) refl
+    rw (e, p, t, fit) refl
 
 next_saved : (content : Stored) (l : Link) (ops : List Operation) → (next_at (record l { saved = Some content }) ops).link ≡ record ((next_at l ops).link) { saved = Some content }
 next_saved content l [] = refl
@@ -49,28 +44,33 @@ abbrev refused_in : Result Went ContainerFault → Option Refusal
 refused_in (Ok w) = w.refused
 refused_in (Err fault) = None
 
+abbrev taken_in : Result Went ContainerFault → Option Stored
+taken_in (Ok w) = w.taken
+taken_in (Err fault) = None
+
 abbrev actions_in : Result Went ContainerFault → List Action
 actions_in (Ok w) = w.actions
 actions_in (Err fault) = []
 
-saved_ok : (content : Stored) (link : Option Link) (why told : Option Refusal) (next : Link) (actions : List Action) → went (Ok (record { link = link; refused = why })) ≡ Ok (record { link = Some next; refused = told; actions = actions }) → went (saved_link content (Ok (record { link = link; refused = why }))) ≡ Ok (record { link = Some (record next { saved = Some content }); refused = told; actions = actions })
-saved_ok content None why told next actions e = let l : None ≡ Some next = ap link_in e in cc
-saved_ok content (Some l) why told next actions e =
+saved_ok : (content : Stored) (link : Option Link) (had has : Option Stored) (why told : Option Refusal) (next : Link) (actions : List Action) → went (Ok (record { link = link; taken = had; refused = why })) ≡ Ok (record { link = Some next; taken = has; refused = told; actions = actions }) → went (saved_link content (Ok (record { link = link; taken = had; refused = why }))) ≡ Ok (record { link = Some (record next { saved = Some content }); taken = has; refused = told; actions = actions })
+saved_ok content None had has why told next actions e = let l : None ≡ Some next = ap link_in e in cc
+saved_ok content (Some l) had has why told next actions e =
     let m : Some (next_at l l.waiting).link ≡ Some next = ap link_in e in
     let n : (next_at l l.waiting).link ≡ next = cc in
     let s : sends (next_at l l.waiting).sent ≡ actions = ap actions_in e in
     let w : why ≡ told = ap refused_in e in
-    rw (next_saved content l l.waiting, next_same content l l.waiting, n, s, w) refl
+    let x : had ≡ has = ap taken_in e in
+    rw (next_saved content l l.waiting, next_same content l l.waiting, n, s, w, x) refl
 
 -- the content is saved after what waits is called
-pub saved_as : (content : Stored) (R : Result Replied ContainerFault) (told : Option Refusal) (next : Link) (actions : List Action) → went R ≡ Ok (record { link = Some next; refused = told; actions = actions }) → went (saved_link content R) ≡ Ok (record { link = Some (record next { saved = Some content }); refused = told; actions = actions })
-saved_as content (Err fault) told next actions e = cc
-saved_as content (Ok replied) told next actions e = saved_ok content replied.link replied.refused told next actions e
+pub saved_as : (content : Stored) (R : Result Replied ContainerFault) (has : Option Stored) (told : Option Refusal) (next : Link) (actions : List Action) → went R ≡ Ok (record { link = Some next; taken = has; refused = told; actions = actions }) → went (saved_link content R) ≡ Ok (record { link = Some (record next { saved = Some content }); taken = has; refused = told; actions = actions })
+saved_as content (Err fault) has told next actions e = cc
+saved_as content (Ok replied) has told next actions e = saved_ok content replied.link replied.taken has replied.refused told next actions e
 
 -- a refusal of the operation that was to be done
-module _ {A : Type 0} (result : Result A ContainerFault) (n : ℕ) (answer : Answer) (link : Option Link) (l : Link) (op : Operation) (o : Op) (linked : link ≡ Some l) (pending : l.pending ≡ Some op) (number : n ≡ l.last) (known : o ≡ op_of op) where
+module _ {A : Type 0} (result : Result A ContainerFault) (n : ℕ) (answer : Answer) (link : Option Link) (l : Link) (op : Operation) (o : Op) (linked : link ≡ Some l) (pending : l.pending ≡ Some op) (number : n ≡ l.last) (fit : is_fit answer ≡ true) (known : o ≡ op_of op) where
   refused_reply : (R : Result Replied ContainerFault) → replied l op answer ≡ R → IfErr result (Refuses R) → IfErr result (Refuses (reply_link n answer link))
-  refused_reply R e h = refused_as (reply_link n answer link) R result (reply_is n answer link l op linked pending number ∙ e) h
+  refused_reply R e h = refused_as (reply_link n answer link) R result (reply_is n answer link l op linked pending number fit ∙ e) h
 
   refused_done : answer ≡ told.Done → (s : ℕ) → replied l op told.Done ≡ done_link l s (both.step l.states (op_of op)) → IfErr result (Refuses (done_link l s (both.step l.states o))) → IfErr result (Refuses (reply_link n answer link))
   refused_done a s e h =
@@ -91,17 +91,3 @@ module _ {A : Type 0} (result : Result A ContainerFault) (n : ℕ) (answer : Ans
   pub refused_save : (content : Stored) → answer ≡ told.Content content → (k : ℕ) → op ≡ operation.Save k → IfErr result (Refuses (saved_link content (done_link l l.s (both.step l.states o)))) → IfErr result (Refuses (reply_link n answer link))
   refused_save content a k e h =
       refused_reply (saved_link content (done_link l l.s (both.step l.states o))) (rw (known, a, e) refl) h
-
-went_found : (r : Record) (inc act : ℕ) (o : Object) (R : Result Replied ContainerFault) (w : Went) → went R ≡ Ok w → reply_taken r inc act o R ≡ Ok (record { rec = settle (record r { objects = put (is_linked inc act) (record o { link = w.link }) r.objects }); answer = record quiet_answer { refused = w.refused; actions = w.actions ++ settled_actions 1 (put (is_linked inc act) (record o { link = w.link }) r.objects) r.frames }; counted = [] })
-went_found r inc act o (Err fault) w e = cc
-went_found r inc act o (Ok x) w e =
-    let m : next_link x.link ≡ w.link = ap link_in e in
-    let s : sends (next_sent x.link) ≡ w.actions = ap actions_in e in
-    let y : x.refused ≡ w.refused = ap refused_in e in
-    rw (m, s, y) refl
-
--- what a reply makes of the record
-pub reply_made : (r : Record) (inc act n : ℕ) (answer : Answer) (o next : Object) (w : Went) (objects : List Object) (frames : List Frame) (actions : List Action) (told : told_answer.Answer) → find (is_linked inc act) r.objects ≡ Some o → went (reply_link n answer o.link) ≡ Ok w → next ≡ record o { link = w.link } → put (is_linked inc act) next r.objects ≡ objects → frames ≡ settled_frames 1 objects r.frames → actions ≡ w.actions ++ settled_actions 1 objects r.frames → told ≡ record quiet_answer { refused = w.refused; actions = actions } → reply_found r inc act n answer (find (is_linked inc act) r.objects) ≡ Ok (record { rec = record r { frames = frames; objects = objects }; answer = told; counted = [] })
-reply_made r inc act n answer o next w objects frames actions told found e same puts settled asked answered =
-    let p : put (is_linked inc act) (record o { link = w.link }) r.objects ≡ objects = rw (← same) puts in
-    rw (found, went_found r inc act o (reply_link n answer o.link) w e, p, answered, asked, settled) refl

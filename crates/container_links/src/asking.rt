@@ -64,7 +64,7 @@ pub fn ask_link(
 }
 
 // Adds a message that room was taken for.
-fn add(actions: &mut Vec<Action>, message: Message)
+pub(crate) fn add(actions: &mut Vec<Action>, message: Message)
     requires { vec_len actions.old < vec_capacity actions.old }
     ensures { actions.new.items ≡ actions.old.items ++ Send message ∷ [] }
 {

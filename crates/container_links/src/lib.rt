@@ -1,7 +1,10 @@
-//! Activations of objects as a container has them: what is asked of them, what a reply makes of them, and how saves go on
-//! once all of a frame have answered.
+//! Activations of objects as a container has them: what is asked of them, what a reply makes of them, when they may write, and
+//! how saves go on once all of a frame have answered.
 #![tactic(auto)]
 
 pub mod asking;
+pub mod closing;
 pub mod replies;
+pub mod resending;
 pub mod settling;
+pub mod writes;

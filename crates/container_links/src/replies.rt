@@ -3,14 +3,15 @@
 ghost use Rattle.std.specs.Prelude.{◌≡◌, ◌+◌, ◌≤◌, IfErr, IfOk, OnErr, Ok, Some, None, length, vec_len, vec_capacity};
 ghost use Rattle.object_state.specs.Both as both;
 ghost use Rattle.container_model.specs.Record.{Refuses, sends};
-ghost use Rattle.container_model.specs.Messages.{done_link, lost, next_at, noted, reply_link, saved_link};
+ghost use Rattle.container_model.specs.Messages.{closed_with, done_link, is_fit, lost, next_at, noted, reply_link, saved_link};
 ghost use Rattle.container_model.specs.Replies.{first_call, went};
 ghost use Rattle.container_model.specs.Room.{IfLinked, IsRoomy};
 
 use container_model::answer::Action;
 use container_model::fault::ContainerFault;
 use container_model::record::Link;
-use object_state::Op;
+use object_parts::limits::is_within;
+use object_state::{CloseOption, Op, States};
 use std::alloc::{AllocError, Global};
 use storage_tree::stored::Stored;
 use wire_msgs::answer::Answer;
@@ -21,6 +22,8 @@ use wire_msgs::refusal::Refusal;
 /// What a reply gives.
 #[derive(Drop)]
 pub struct Replied {
+    /// The content that is the object's work content from now on, if any.
+    pub taken: Option<Stored>,
     /// Why the object refused the call.
     pub refused: Option<Refusal>,
     /// The call that is sent next, if any.
@@ -82,7 +85,7 @@ fn done(
 ) -> Result<Replied, ContainerFault>
     requires numbers { link.old.last + length link.old.waiting ≤ 1000000 }
     requires few { more ≤ 1000000 }
-    ensures taken { IfOk result (λ t. went (done_link link.old s (both.step link.old.states op)) ≡ Ok (record { link = Some link.new; refused = t.refused; actions = t.actions.items })) }
+    ensures taken { IfOk result (λ t. went (done_link link.old s (both.step link.old.states op)) ≡ Ok (record { link = Some link.new; taken = t.taken; refused = t.refused; actions = t.actions.items })) }
     ensures few { IfOk result (λ t. vec_len t.actions ≤ 1) }
     ensures room { IfOk result (λ t. vec_len t.actions + more ≤ vec_capacity t.actions) }
     ensures refused { IfErr result (Refuses (done_link link.old s (both.step link.old.states op))) }
@@ -98,6 +101,7 @@ fn done(
     link.states = states;
     link.s = s;
     Ok(Replied {
+        taken: None,
         refused: None,
         actions,
     })
@@ -113,7 +117,7 @@ fn saved(
 ) -> Result<Replied, ContainerFault>
     requires numbers { link.old.last + length link.old.waiting ≤ 1000000 }
     requires few { more ≤ 1000000 }
-    ensures taken { IfOk result (λ t. went (saved_link content (done_link link.old link.old.s (both.step link.old.states op))) ≡ Ok (record { link = Some link.new; refused = t.refused; actions = t.actions.items })) }
+    ensures taken { IfOk result (λ t. went (saved_link content (done_link link.old link.old.s (both.step link.old.states op))) ≡ Ok (record { link = Some link.new; taken = t.taken; refused = t.refused; actions = t.actions.items })) }
     ensures few { IfOk result (λ t. vec_len t.actions ≤ 1) }
     ensures room { IfOk result (λ t. vec_len t.actions + more ≤ vec_capacity t.actions) }
     ensures refused { IfErr result (Refuses (saved_link content (done_link link.old link.old.s (both.step link.old.states op)))) }
@@ -138,7 +142,7 @@ fn noted(
 ) -> Result<Replied, ContainerFault>
     requires numbers { link.old.last + length link.old.waiting ≤ 1000000 }
     requires few { more ≤ 1000000 }
-    ensures taken { IfOk result (λ t. went (noted link.old why) ≡ Ok (record { link = Some link.new; refused = t.refused; actions = t.actions.items })) }
+    ensures taken { IfOk result (λ t. went (noted link.old why) ≡ Ok (record { link = Some link.new; taken = t.taken; refused = t.refused; actions = t.actions.items })) }
     ensures few { IfOk result (λ t. vec_len t.actions ≤ 1) }
     ensures room { IfOk result (λ t. vec_len t.actions + more ≤ vec_capacity t.actions) }
     ensures refused { IfErr result (Refuses (noted link.old why)) }
@@ -149,6 +153,7 @@ fn noted(
     };
     go_on(link);
     Ok(Replied {
+        taken: None,
         refused: Some(why),
         actions,
     })
@@ -162,7 +167,7 @@ fn lost(
     more: usize,
 ) -> Result<Replied, ContainerFault>
     requires { more ≤ 1000000 }
-    ensures taken { IfOk result (λ t. went (lost why) ≡ Ok (record { link = link.new; refused = t.refused; actions = t.actions.items })) }
+    ensures taken { IfOk result (λ t. went (lost why) ≡ Ok (record { link = link.new; taken = t.taken; refused = t.refused; actions = t.actions.items })) }
     ensures few { IfOk result (λ t. vec_len t.actions ≤ 1) }
     ensures room { IfOk result (λ t. vec_len t.actions + more ≤ vec_capacity t.actions) }
     ensures refused { IfErr result (Refuses (lost why)) }
@@ -173,16 +178,57 @@ fn lost(
     };
     *link = None;
     Ok(Replied {
+        taken: None,
         refused: Some(why),
         actions,
     })
 }
 
+// The object is passive again, and has this content, if any.
+fn closed(
+    alloc: Global,
+    link: &mut Option<Link>,
+    states: States,
+    op: Op,
+    content: Option<Stored>,
+    more: usize,
+) -> Result<Replied, ContainerFault>
+    requires { more ≤ 1000000 }
+    ensures taken { IfOk result (λ t. went (closed_with content (both.step states op)) ≡ Ok (record { link = link.new; taken = t.taken; refused = t.refused; actions = t.actions.items })) }
+    ensures few { IfOk result (λ t. vec_len t.actions ≤ 1) }
+    ensures room { IfOk result (λ t. vec_len t.actions + more ≤ vec_capacity t.actions) }
+    ensures refused { IfErr result (Refuses (closed_with content (both.step states op))) }
+    ensures kept { OnErr result (link.new ≡ link.old) }
+{
+    if states.step(op).is_err() {
+        return Err(ContainerFault::BadAnswer);
+    }
+    let Ok(actions) = Vec::with_capacity(alloc, more) else {
+        return Err(ContainerFault::NoMemory);
+    };
+    *link = None;
+    Ok(Replied {
+        taken: content,
+        refused: None,
+        actions,
+    })
+}
+
+// Whether an answer's content, if it has one, may be stored.
+fn is_fit(answer: &Answer) -> bool
+    ensures { result ≡ is_fit answer.now }
+{
+    match answer {
+        Answer::Content(content) => is_within(content),
+        _ => true,
+    }
+}
+
 /// The answer to the call of this number; then the first operation that waits is called. The actions have room for so
 /// many more.
 ///
-/// Refused as stale unless the call is pending, as a bad answer if it doesn't fit the operation or its states, and last
-/// for want of memory. Then nothing changes.
+/// Refused as stale unless the call is pending, as a bad answer if its content is past what may be stored or it doesn't fit
+/// the operation or its states, and last for want of memory. Then nothing changes.
 pub fn told(
     alloc: Global,
     link: &mut Option<Link>,
@@ -192,7 +238,7 @@ pub fn told(
 ) -> Result<Replied, ContainerFault>
     requires numbers { IfLinked (IsRoomy 1000000 0) link.old }
     requires few { more ≤ 1000000 }
-    ensures taken { IfOk result (λ t. went (reply_link n answer link.old) ≡ Ok (record { link = link.new; refused = t.refused; actions = t.actions.items })) }
+    ensures taken { IfOk result (λ t. went (reply_link n answer link.old) ≡ Ok (record { link = link.new; taken = t.taken; refused = t.refused; actions = t.actions.items })) }
     ensures few { IfOk result (λ t. vec_len t.actions ≤ 1) }
     ensures room { IfOk result (λ t. vec_len t.actions + more ≤ vec_capacity t.actions) }
     ensures refused { IfErr result (Refuses (reply_link n answer link.old)) }
@@ -207,8 +253,12 @@ pub fn told(
     if n != l.last {
         return Err(ContainerFault::Stale);
     }
+    if !is_fit(&answer) {
+        return Err(ContainerFault::BadAnswer);
+    }
     let op = operation.op();
     let s = l.s;
+    let states = l.states;
     match (operation, answer) {
         (Operation::InitNew(_) | Operation::Load(_, _), Answer::Done) => done(
             alloc, l, op, 1, more,
@@ -220,6 +270,17 @@ pub fn told(
         (Operation::Edit(_), Answer::Refused(why)) => noted(alloc, l, why, more),
         (Operation::Save(_), Answer::Content(content)) => saved(alloc, l, op, content, more),
         (Operation::SaveCompleted { .. }, Answer::Done) => done(alloc, l, op, s + 1, more),
+        (Operation::Close(CloseOption::SaveIfDirty), Answer::Content(content)) => closed(
+            alloc,
+            link,
+            states,
+            op,
+            Some(content),
+            more,
+        ),
+        (Operation::Close(CloseOption::NoSave), Answer::Done) => closed(
+            alloc, link, states, op, None, more,
+        ),
         _ => Err(ContainerFault::BadAnswer),
     }
 }

@@ -1,9 +1,12 @@
 -- What a reply makes of a link, with what is sent next.
-use Rattle.std.specs.Prelude.{◌+◌, ◌==◌, ℕ, Bool, false, List, [], ◌∷◌, Option, Some, None, Result, Ok, Err}
+use Rattle.std.specs.Prelude.{◌+◌, ◌==◌, ℕ, Bool, false, List, [], ◌∷◌, ◌++◌, Option, Some, None, Result, Ok, Err}
 use Rattle.wire_msgs.specs.declared.refusal.Refusal.{Refusal}
+use Rattle.wire_msgs.specs.declared.message.Message.{Message}
 use Rattle.wire_msgs.specs.declared.message.Message.TheVariants.{Call}
 use Rattle.wire_msgs.specs.declared.operation.Operation.{Operation}
+use Rattle.storage_tree.specs.declared.stored.Stored.{Stored}
 use Rattle.container_model.specs.declared.record.Link.{Link}
+use Rattle.container_model.specs.declared.record.Object.{Object}
 use Rattle.container_model.specs.declared.answer.Action.{Action}
 use Rattle.container_model.specs.declared.answer.Action.TheVariants.{Send}
 use Rattle.container_model.specs.declared.fault.ContainerFault.{ContainerFault}
@@ -12,12 +15,13 @@ use Rattle.container_model.specs.Messages.{Replied, next_link, next_sent}
 
 pub record Went : Type 0 where
   pub link : Option Link
+  pub taken : Option Stored
   pub refused : Option Refusal
   pub actions : List Action
 
 abbrev pub went : Result Replied ContainerFault → Result Went ContainerFault
 went (Err fault) = Err fault
-went (Ok replied) = Ok (record { link = next_link replied.link; refused = replied.refused; actions = sends (next_sent replied.link) })
+went (Ok replied) = Ok (record { link = next_link replied.link; taken = replied.taken; refused = replied.refused; actions = sends (next_sent replied.link) })
 
 -- the call of the first operation that waits
 abbrev pub first_call : Link → List Operation → Option Action
@@ -28,3 +32,16 @@ first_call l (op ∷ ops) = Some (Send (Call l.inc l.act (l.last + 1) op))
 abbrev pub is_of : ℕ → Option Link → Bool
 is_of inc None = false
 is_of inc (Some l) = l.inc == inc
+
+-- The calls that are pending, as they were first sent, by the objects' order.
+abbrev pub pending_at : Link → Option Operation → List Message
+pending_at l None = []
+pending_at l (Some op) = Call l.inc l.act l.last op ∷ []
+
+abbrev pub pending_call : Option Link → List Message
+pending_call None = []
+pending_call (Some l) = pending_at l l.pending
+
+abbrev pub pending_calls : List Object → List Message
+pending_calls [] = []
+pending_calls (o ∷ os) = pending_call o.link ++ pending_calls os
