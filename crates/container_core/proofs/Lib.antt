@@ -1,5 +1,6 @@
 pub mod CommitsDone
 pub mod MessageSound
+pub mod MessageMade
 pub mod CommandsRoom
 pub mod CommandsEdit
 pub mod CommandsSave

@@ -9,12 +9,12 @@ use Rattle.container_model.specs.declared.record.Frame.{Frame}
 use Rattle.container_model.specs.declared.record.Phase.{Phase}
 use Rattle.container_model.specs.declared.record.Phase.TheVariants.{Idle, Saving, HandingOff, Committing, InDoubt}
 use Rattle.container_model.specs.declared.fault.ContainerFault.{ContainerFault}
-use Rattle.container_model.specs.declared.fault.ContainerFault.TheVariants.{Stale}
+use Rattle.container_model.specs.declared.fault.ContainerFault.TheVariants.{BadAnswer, Stale}
 use Rattle.container_model.specs.Record.{Record, is_linked}
-use Rattle.container_model.specs.Replies.{Went, went}
-use Rattle.container_links.proofs.MessageReplies.{link_in}
+use Rattle.container_objects.specs.Told.{ToldObject, told_of}
 use Rattle.object_state.specs.Both as both
 use Rattle.object_state.specs.declared.operations.Op.TheVariants as op
+use Rattle.object_state.specs.declared.operations.CloseOption.TheVariants.{SaveIfDirty, NoSave}
 use Rattle.object_state.specs.declared.both_states.States.{States}
 use Rattle.object_state.specs.declared.faults.StateFault.{StateFault}
 use Rattle.storage_tree.specs.declared.stored.Stored.{Stored}
@@ -24,7 +24,7 @@ use Rattle.wire_msgs.specs.declared.operation.Operation.{Operation}
 use Rattle.wire_msgs.specs.declared.operation.Operation.TheVariants as operation
 use Rattle.container_model.specs.Room.{HasRoom, count_pending, IfLinked, IsRoomy, IsSound, debt, debt_in}
 use Rattle.container_model.specs.Saves.{is_ready, is_ready_at, kept, awaits, settle, settled_frame, settled_frames}
-use Rattle.container_model.specs.Messages.{Replied, done_link, next_at, next_link, reaped, reaped_object, replied, reply_link, reply_pending, saved_link}
+use Rattle.container_model.specs.Messages.{Replied, closed_with, done_link, is_fit, next_at, next_link, reaped, reaped_object, replied, replied_fitting, reply_link, reply_pending, saved_link}
 
 pub found_all : {A : Type 0} (P : A → Type 0) (test : A → Bool) (xs : List A) (x : A) → find test xs ≡ Some x → All P xs → P x
 found_all P test [] x e h = cc
@@ -135,6 +135,10 @@ saved_fine : (l : Link) (content : Stored) (R : Result Replied ContainerFault) �
 saved_fine l content (Err fault) h = tt
 saved_fine l content (Ok x) h = saved_link_fine l content x.link h
 
+closed_fine : (l : Link) (content : Option Stored) (R : Result States StateFault) → IsFine l (closed_with content R)
+closed_fine l content (Err fault) = tt
+closed_fine l content (Ok v) = tt
+
 replied_fine : (l : Link) (op : Operation) (answer : Answer) → IsFine l (replied l op answer)
 replied_fine l (operation.InitNew class) told.Done = done_fine l 1 (both.step l.states op.InitNew) (omega arith)
 replied_fine l (operation.InitNew class) (told.Refused why) = tt
@@ -163,7 +167,17 @@ replied_fine l (operation.SaveCompleted k storage) (told.Refused why) = tt
 replied_fine l (operation.SaveCompleted k storage) (told.Content kept) = tt
 replied_fine l (operation.SaveCompleted k storage) (told.Tools menus border) = tt
 replied_fine l (operation.SaveDropped k) answer = tt
-replied_fine l (operation.Close option) answer = tt
+replied_fine l (operation.Close SaveIfDirty) told.Done = tt
+replied_fine l (operation.Close SaveIfDirty) (told.Refused why) = tt
+replied_fine l (operation.Close SaveIfDirty) (told.Content kept) = closed_fine l (Some kept) (both.step l.states (op.Close SaveIfDirty))
+replied_fine l (operation.Close SaveIfDirty) (told.Tools menus border) = tt
+replied_fine l (operation.Close NoSave) told.Done = closed_fine l None (both.step l.states (op.Close NoSave))
+replied_fine l (operation.Close NoSave) (told.Refused why) = tt
+replied_fine l (operation.Close NoSave) (told.Content kept) = tt
+replied_fine l (operation.Close NoSave) (told.Tools menus border) = tt
+
+fitting_fine : (l : Link) (op : Operation) (answer : Answer) → IsFine l (replied_fitting l op answer)
+fitting_fine l op answer = elim (is_fit answer) as (λ b. IsFine l (if b then replied l op answer else Err BadAnswer)) [ true ↦ replied_fine l op answer | false ↦ tt ]
 
 next_roomy : (numbers more : ℕ) (l next : Link) (op : Operation) (ops : List Operation) → IsRoomy numbers more l → l.pending ≡ Some op → Grown l next → length next.waiting ≡ length ops → IsRoomy numbers more (next_at next ops).link
 next_roomy numbers more l next op [] h p g k =
@@ -180,32 +194,42 @@ link_roomy : (numbers more : ℕ) (l : Link) (op : Operation) (link : Option Lin
 link_roomy numbers more l op None h p g = tt
 link_roomy numbers more l op (Some next) h p g = next_roomy numbers more l next op next.waiting h p g refl
 
-fine_roomy : (numbers more : ℕ) (l : Link) (op : Operation) (R : Result Replied ContainerFault) (w : Went) → IsRoomy numbers more l → l.pending ≡ Some op → IsFine l R → went R ≡ Ok w → IfLinked (IsRoomy numbers more) w.link
-fine_roomy numbers more l op (Err fault) w h p g e = cc
-fine_roomy numbers more l op (Ok x) w h p g e =
-    subst (IfLinked (IsRoomy numbers more)) (ap link_in e) (link_roomy numbers more l op x.link h p g)
+abbrev IsRoomyAfter : ℕ → ℕ → Result Replied ContainerFault → Type 0
+IsRoomyAfter numbers more R = IfOk R (λ x. IfLinked (IsRoomy numbers more) (next_link x.link))
 
-pending_roomy : (numbers more : ℕ) (n : ℕ) (answer : Answer) (l : Link) (pending : Option Operation) (w : Went) → IsRoomy numbers more l → l.pending ≡ pending → went (reply_pending l n answer pending) ≡ Ok w → IfLinked (IsRoomy numbers more) w.link
-pending_roomy numbers more n answer l None w h p e = cc
-pending_roomy numbers more n answer l (Some op) w h p e = elim (n == l.last) as (λ b. went (if b then replied l op answer else Err Stale) ≡ Ok w → IfLinked (IsRoomy numbers more) w.link) [
-  | true ↦ λ t. fine_roomy numbers more l op (replied l op answer) w h p (replied_fine l op answer) t
-  | false ↦ λ t. cc
-] e
+fine_roomy : (numbers more : ℕ) (l : Link) (op : Operation) (R : Result Replied ContainerFault) → IsRoomy numbers more l → l.pending ≡ Some op → IsFine l R → IsRoomyAfter numbers more R
+fine_roomy numbers more l op (Err fault) h p g = tt
+fine_roomy numbers more l op (Ok x) h p g = link_roomy numbers more l op x.link h p g
+
+pending_roomy : (numbers more : ℕ) (n : ℕ) (answer : Answer) (l : Link) (pending : Option Operation) → IsRoomy numbers more l → l.pending ≡ pending → IsRoomyAfter numbers more (reply_pending l n answer pending)
+pending_roomy numbers more n answer l None h p = tt
+pending_roomy numbers more n answer l (Some op) h p = elim (n == l.last) as (λ b. IsRoomyAfter numbers more (if b then replied_fitting l op answer else Err Stale)) [
+  | true ↦ fine_roomy numbers more l op (replied_fitting l op answer) h p (fitting_fine l op answer)
+  | false ↦ tt
+]
 
 -- a link has room after a reply
-pub went_roomy : (numbers more : ℕ) (n : ℕ) (answer : Answer) (link : Option Link) (w : Went) → IfLinked (IsRoomy numbers more) link → went (reply_link n answer link) ≡ Ok w → IfLinked (IsRoomy numbers more) w.link
-went_roomy numbers more n answer None w h e = cc
-went_roomy numbers more n answer (Some l) w h e = pending_roomy numbers more n answer l l.pending w h refl e
+reply_roomy : (numbers more : ℕ) (n : ℕ) (answer : Answer) (link : Option Link) → IfLinked (IsRoomy numbers more) link → IsRoomyAfter numbers more (reply_link n answer link)
+reply_roomy numbers more n answer None h = tt
+reply_roomy numbers more n answer (Some l) h = pending_roomy numbers more n answer l l.pending h refl
+
+abbrev object_in : Object → Result ToldObject ContainerFault → Object
+object_in o (Ok t) = t.object
+object_in o (Err fault) = o
+
+told_roomy : (numbers : ℕ) (frames : List Frame) (o : Object) (R : Result Replied ContainerFault) (t : ToldObject) → IsRoomyAfter numbers (debt_in (nth frames o.frame)) R → told_of o R ≡ Ok t → HasRoom numbers frames t.object
+told_roomy numbers frames o (Err fault) t h e = cc
+told_roomy numbers frames o (Ok x) t h e = subst (HasRoom numbers frames) (ap (object_in o) e) h
 
 -- the record after a reply has room
-pub reply_sound : (r : Record) (inc act n : ℕ) (answer : Answer) (o next : Object) (w : Went) → IsSound r → find (is_linked inc act) r.objects ≡ Some o → went (reply_link n answer o.link) ≡ Ok w → next ≡ record o { link = w.link } → IsSound (record r { objects = put (is_linked inc act) next r.objects })
-reply_sound r inc act n answer o next w h found e same =
+pub reply_sound : (r : Record) (inc act n : ℕ) (answer : Answer) (o : Object) (t : ToldObject) → IsSound r → find (is_linked inc act) r.objects ≡ Some o → told_of o (reply_link n answer o.link) ≡ Ok t → IsSound (record r { objects = put (is_linked inc act) t.object r.objects })
+reply_sound r inc act n answer o t h found e =
     let P = HasRoom r.numbers r.frames in
     let old : P o = found_all P (is_linked inc act) r.objects o found h.room in
-    let new : P (record o { link = w.link }) = went_roomy r.numbers (debt_in (nth r.frames o.frame)) n answer o.link w old e in
+    let new : P t.object = told_roomy r.numbers r.frames o (reply_link n answer o.link) t (reply_roomy r.numbers (debt_in (nth r.frames o.frame)) n answer o.link old) e in
     record {
       limit = h.limit;
-      room = put_all P (is_linked inc act) next r.objects (rw same new) h.room;
+      room = put_all P (is_linked inc act) t.object r.objects new h.room;
       saves = h.saves;
       frames = h.frames;
       servers = h.servers;

@@ -5,6 +5,7 @@ ghost use Rattle.container_laws.specs.Steady.{Steady};
 ghost use Rattle.container_model.specs.Commands.{on_command};
 ghost use Rattle.container_model.specs.Messages.{on_message, on_reap};
 ghost use Rattle.container_model.specs.Record.{Record, Refuses, counts_none, empty, is_object};
+ghost use Rattle.container_model.specs.Replies.{pending_calls};
 ghost use Rattle.container_model.specs.Saves.{commit_done, document_tree, image};
 ghost use Rattle.container_model.specs.declared.answer.Part.{Part};
 ghost use Rattle.file_model.specs.Denotes.{Denotes};
@@ -15,7 +16,7 @@ use container_model::answer::{Answer, Committed, Part};
 use container_model::command::Command;
 use container_model::fault::ContainerFault;
 use container_model::record::{Frame, Object};
-use std::alloc::Global;
+use std::alloc::{AllocError, Global};
 use std::marker::Model;
 use wire_msgs::items::Items;
 use wire_msgs::message::Message;
@@ -50,6 +51,7 @@ impl ContainerCore {
     ghost use Rattle.container_model.specs.Commands.{on_command};
     ghost use Rattle.container_model.specs.Messages.{on_message, on_reap};
     ghost use Rattle.container_model.specs.Record.{Refuses, counts_none, empty, is_object};
+    ghost use Rattle.container_model.specs.Replies.{pending_calls};
     ghost use Rattle.container_model.specs.Saves.{commit_done, document_tree, image};
     ghost use Rattle.container_model.specs.declared.answer.Part.{Part};
     ghost use Rattle.file_model.specs.Denotes.{Denotes};
@@ -111,16 +113,20 @@ impl ContainerCore {
     /// A command of a user. The answer has what was made, what is sent and which files are to be committed.
     ///
     /// - New: `Busy` where a frame bears the name or is to be saved under it; `WrongState` where it isn't 1 to 200 columns
-    ///   wide and 1 to 100 lines high; `Full` where there is a frame already; `NumbersSpent`.
+    ///   wide and 1 to 100 lines high; `Full` where there are 8 frames already; `NumbersSpent`.
     /// - Insert: `NoSuch` where there is no such frame; `InDoubt` and `Busy` where its commit is in doubt, or it is
-    ///   saving; `WrongState` where the area has no cell; `Full` where it has an object already; `NumbersSpent`.
-    /// - Start: `Full` where there is a server that isn't reaped; `NumbersSpent`.
+    ///   saving; `WrongState` where the area has no cell; `Full` where it has 64 objects already; `NumbersSpent`.
+    /// - Start: `Full` where there are 8 servers that aren't reaped; `NumbersSpent`.
     /// - Run: `NoSuch` where there is no such object or no such server; `InDoubt`; `Busy` where its frame is saving or the
     ///   object has a pending call or waits for the frame; `WrongState` where it runs; `UnknownClass`; `NumbersSpent`.
     /// - Edit: `NoSuch`, `InDoubt` and `Busy` as for a run; `NotRunning`; `WrongState` where the edit has more than 65,536
     ///   bytes; `NumbersSpent`.
     /// - Save: `NoSuch`; `InDoubt`; `Busy` where the frame is saving, its menus and border are being given or taken back,
     ///   or an object of it is busy; `NumbersSpent`.
+    /// - Delete: `NoSuch`, `InDoubt` and `Busy` as for an edit; `WrongState` where the object isn't passive.
+    /// - Kill: `NoSuch` where there is no such server that isn't reaped.
+    /// - Close: `NoSuch`, `InDoubt` and `Busy` as for an edit; `NotRunning` where the object is passive; `NumbersSpent`;
+    ///   `WrongState` where it isn't running yet.
     ///
     /// Last of all `NoMemory`. A refusal changes nothing.
     pub fn command(&mut self, alloc: Global, command: Command) -> Result<Answer, ContainerFault>
@@ -133,10 +139,12 @@ impl ContainerCore {
         self.state.command(alloc, command)
     }
 
-    /// A message on the link of a server. The answer has what is sent and which files are to be committed.
+    /// A message on the link of a server. The answer has whether a content was taken, what is sent and which files are to be
+    /// committed.
     ///
-    /// Refused as a wrong link if it isn't one of this link, as stale if it answers no pending call of an object, as a
-    /// bad answer if it doesn't fit the call, and last for want of memory. Then nothing changes.
+    /// Refused as a wrong link if it isn't one of this link, as stale if it answers no pending call of an object or is a write
+    /// that the object's storage isn't open to, as a bad answer if its content is past what may be stored or it doesn't fit
+    /// the call, and last for want of memory. Then nothing changes.
     pub fn on_message(
         &mut self,
         alloc: Global,
@@ -180,6 +188,15 @@ impl ContainerCore {
         ensures steady { Steady self.new }
     {
         self.state.commit_done(alloc, f)
+    }
+
+    /// The calls that are pending, by their objects, each as it was first sent.
+    ///
+    /// Refused for want of memory alone.
+    pub fn resend(&self, alloc: Global) -> Result<Vec<Message>, AllocError>
+        ensures { IfOk result (λ v. v.items ≡ pending_calls self.now.objects) }
+    {
+        self.state.resend(alloc)
     }
 
     /// The document of a frame whose commit is asked for or in doubt: its objects in order, each with the content that

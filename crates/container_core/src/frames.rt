@@ -14,7 +14,7 @@ use std::alloc::Global;
 use storage_tree::bytes::Bytes;
 
 // How many frames there may be.
-const MOST_FRAMES: usize = 1;
+const MOST_FRAMES: usize = 8;
 
 impl State {
     ghost use Rattle.std.specs.Prelude.{◌≡◌, ◌≤◌, IfErr, IfOk, Ok, OnErr, length};

@@ -15,7 +15,7 @@ use object_parts::area::Area;
 use std::alloc::Global;
 
 // How many objects a frame may have.
-const MOST_OBJECTS: usize = 1;
+const MOST_OBJECTS: usize = 64;
 
 impl State {
     ghost use Rattle.std.specs.Prelude.{◌≡◌, ◌≤◌, IfErr, IfOk, Ok, OnErr, length};

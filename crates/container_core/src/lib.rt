@@ -1,13 +1,16 @@
 //! A container: its frames and objects, what it does with commands and messages, and its saves.
 #![tactic(auto)]
 
+mod closes;
 mod commands;
 mod commits;
 pub mod container;
+mod deletes;
 mod edits;
 mod frames;
 mod images;
 mod inserts;
+mod kills;
 mod messages;
 mod reaps;
 mod runs;

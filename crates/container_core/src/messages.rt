@@ -1,25 +1,38 @@
 //! What a container does with a message.
 
-ghost use Rattle.std.specs.Prelude.{◌+◌, ◌≡◌, ◌≤◌, IfErr, IfOk, Ok, OnErr, length};
-ghost use Rattle.container_model.specs.Record.{Refuses, counts_none, is_linked};
-ghost use Rattle.container_model.specs.Messages.{on_message, on_reply, reply_found};
+ghost use Rattle.std.specs.Prelude.{◌+◌, ◌≡◌, ◌≤◌, IfErr, IfOk, Ok, OnErr, length, true};
+ghost use Rattle.container_model.specs.Record.{Refuses, counts_none, is_linked, quiet_answer};
+ghost use Rattle.container_model.specs.Messages.{on_message, on_reply, on_write, reply_found, write_found};
+ghost use Rattle.container_model.specs.Replies.{pending_calls};
 ghost use Rattle.wire_msgs.specs.Found.{find, IsPlace};
 
 use crate::state::State;
-use container_links::replies::Replied;
+use container_links::resending::pending_calls;
 use container_links::settling::settle_into;
 use container_model::answer::Answer;
 use container_model::fault::ContainerFault;
 use container_objects::lookups::place_linked;
-use container_objects::replies::{answered, told_object};
-use std::alloc::Global;
+use container_objects::replies::{Told, answered, told_object};
+use container_objects::writes::write_one;
+use std::alloc::{AllocError, Global};
+use storage_tree::stored::Stored;
 use wire_msgs::answer as reply;
 use wire_msgs::message::Message;
+
+// The answer to a write that was taken.
+fn content_taken(alloc: Global) -> Answer
+    ensures { result ≡ record quiet_answer { taken = true } }
+{
+    let mut answer = Answer::quiet(alloc);
+    answer.taken = true;
+    answer
+}
 
 impl State {
     ghost use Rattle.std.specs.Prelude.{◌+◌, ◌≡◌, ◌≤◌, IfErr, IfOk, Ok, OnErr, length};
     ghost use Rattle.container_model.specs.Record.{Refuses, counts_none, is_linked};
-    ghost use Rattle.container_model.specs.Messages.{on_message, on_reply, reply_found};
+    ghost use Rattle.container_model.specs.Messages.{on_message, on_reply, on_write, reply_found, write_found};
+    ghost use Rattle.container_model.specs.Replies.{pending_calls};
     ghost use Rattle.wire_msgs.specs.Found.{find, IsPlace};
 
     /// A message on the link of a server.
@@ -48,7 +61,20 @@ impl State {
                     Err(ContainerFault::WrongLink)
                 }
             }
-            Message::Write { inc, .. } | Message::Ask { inc, .. } => {
+            Message::Write {
+                inc,
+                act,
+                s,
+                w,
+                content,
+            } => {
+                if inc == link {
+                    self.on_write(alloc, inc, act, s, w, content)
+                } else {
+                    Err(ContainerFault::WrongLink)
+                }
+            }
+            Message::Ask { inc, .. } => {
                 if inc != link {
                     Err(ContainerFault::WrongLink)
                 } else {
@@ -98,7 +124,8 @@ impl State {
         ensures kept { OnErr result (self.new ≡ self.old) }
     {
         let more = self.frames.len();
-        let Replied {
+        let Told {
+            taken,
             refused,
             mut actions,
         } = match told_object(alloc, &mut self.objects[place], n, answer, more) {
@@ -106,6 +133,61 @@ impl State {
             Err(fault) => return Err(fault),
         };
         settle_into(&mut actions, &mut self.frames, &self.objects);
-        Ok(answered(alloc, refused, actions))
+        Ok(answered(alloc, taken, refused, actions))
+    }
+
+    /// The pending calls, by their objects.
+    pub(crate) fn resend(&self, alloc: Global) -> Result<Vec<Message>, AllocError>
+        ensures { IfOk result (λ v. v.items ≡ pending_calls self.now.objects) }
+    {
+        pending_calls(alloc, self.objects.as_slice())
+    }
+
+    // A write of a server.
+    fn on_write(
+        &mut self,
+        alloc: Global,
+        inc: u32,
+        act: u32,
+        s: u32,
+        w: u32,
+        content: Stored,
+    ) -> Result<Answer, ContainerFault>
+        ensures taken { IfOk result (λ a. on_write self.old inc act s w content ≡ Ok (counts_none self.new a)) }
+        ensures few { IfOk result (λ a. length a.actions ≤ 1) }
+        ensures refused { IfErr result (Refuses (on_write self.old inc act s w content)) }
+        ensures kept { OnErr result (self.new ≡ self.old) }
+    {
+        if !self.servers.is_alive(inc) {
+            return Err(ContainerFault::Stale);
+        }
+        let Some(place) = place_linked(&self.objects, inc, act) else {
+            return Err(ContainerFault::Stale);
+        };
+        self.write_at(alloc, place, inc, act, s, w, content)
+    }
+
+    // A write to the object that stands here.
+    fn write_at(
+        &mut self,
+        alloc: Global,
+        place: usize,
+        inc: u32,
+        act: u32,
+        s: u32,
+        w: u32,
+        content: Stored,
+    ) -> Result<Answer, ContainerFault>
+        requires { IsPlace (is_linked inc act) self.old.objects place }
+        ensures taken { IfOk result (λ a. write_found self.old inc act s w content (find (is_linked inc act) self.old.objects) ≡ Ok (counts_none self.new a)) }
+        ensures few { IfOk result (λ a. length a.actions ≤ 1) }
+        ensures refused { IfErr result (Refuses (write_found self.old inc act s w content (find (is_linked inc act) self.old.objects))) }
+        ensures kept { OnErr result (self.new ≡ self.old) }
+    {
+        match write_one(&mut self.objects[place], s, w, content) {
+            Ok(()) => {}
+            Err(fault) => return Err(fault),
+        }
+        Ok(content_taken(alloc))
     }
 }

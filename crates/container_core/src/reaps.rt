@@ -33,6 +33,6 @@ impl State {
         reap_all(inc, &mut self.objects);
         self.servers.reap(inc);
         settle_into(&mut actions, &mut self.frames, &self.objects);
-        Ok(answered(alloc, None, actions))
+        Ok(answered(alloc, false, None, actions))
     }
 }

@@ -10,7 +10,7 @@ use container_model::fault::ContainerFault;
 use std::alloc::Global;
 
 // How many servers may be there that aren't reaped.
-const MOST_SERVERS: usize = 1;
+const MOST_SERVERS: usize = 8;
 
 impl State {
     ghost use Rattle.std.specs.Prelude.{◌≡◌, ◌≤◌, IfErr, IfOk, Ok, OnErr, length};

@@ -1,3 +1,4 @@
 pub mod LookupPlaces
 pub mod CommitsObjects
+pub mod RepliesTold
 pub mod ServersCounted

@@ -1,15 +1,15 @@
-use Rattle.std.proofs.Common.{◌≡◌, ℕ, ◌+◌, ◌<◌, ◌≤◌, Bool, List, map, zero, suc, [], ◌∷◌, ◌++◌, length, get_or, take, drop, if◌then◌else◌, slice_get, IfSome, ◌==◌, Option, refl, ap, sym, ◌∙◌, append_assoc, Some, None, true, false, arith}
+use Rattle.std.proofs.Common.{◌≡◌, ℕ, ◌+◌, ◌<◌, ◌≤◌, Bool, List, map, zero, suc, [], ◌∷◌, ◌++◌, length, get_or, take, drop, if◌then◌else◌, slice_get, IfSome, remove, ◌==◌, Option, refl, ap, sym, ◌∙◌, append_assoc, Some, None, true, false, arith}
 use Rattle.std.proofs.lemmas.List.{drop_more, take_more, set_split}
 use Rattle.std.proofs.lemmas.Option.{slice_get-get_or}
 use Rattle.std.proofs.Math.ListN.{drop_of_length-le, set}
 use Rattle.std.proofs.Math.Numerals.{add-one}
 use Rattle.wire_msgs.specs.Found.{find, put, IsPlace}
 use Rattle.container_model.specs.Numbered.{IsObjectAt, IsPast}
-use Rattle.container_model.specs.Record.{is_object}
+use Rattle.container_model.specs.Record.{is_object, without_first}
 use Rattle.container_model.specs.declared.record.Object.{Object}
 
 pub past_none : {A : Type 0} (test : A → Bool) (xs : List A) → IsPast test xs 0
-past_none test xs = record { found = refl; puts = λ a. refl }
+past_none test xs = record { found = refl; puts = λ a. refl; without = refl }
 
 pub past_more : {A : Type 0} (test : A → Bool) (xs : List A) (i : ℕ) (x : A) → IsPast test xs i → i < length xs → x ≡ get_or xs i x → test x ≡ false → IsPast test xs (i + 1)
 past_more test xs i x p lt e t =
@@ -18,6 +18,7 @@ past_more test xs i x p lt e t =
     record {
       found = p.found ∙ (ap (find test) split ∙ rw t refl);
       puts = λ a. p.puts a ∙ (ap (λ ys. take i xs ++ put test a ys) split ∙ (rw t (rw tk (sym (append_assoc (take i xs) (x ∷ []) (put test a (drop (i + 1) xs)))))));
+      without = p.without ∙ (ap (λ ys. take i xs ++ without_first test ys) split ∙ (rw t (rw tk (sym (append_assoc (take i xs) (x ∷ []) (without_first test (drop (i + 1) xs)))))));
     }
 
 pub past_here : {A : Type 0} (test : A → Bool) (xs : List A) (i : ℕ) (x : A) → IsPast test xs i → i < length xs → x ≡ get_or xs i x → test x ≡ true → IsPlace test xs i
@@ -28,6 +29,17 @@ past_here test xs i x p lt e t =
       found = p.found ∙ (ap (find test) split ∙ (rw t (ap Some e ∙ sym (slice_get-get_or xs i x lt))));
       puts = λ a. p.puts a ∙ (ap (λ ys. take i xs ++ put test a ys) split ∙ (rw t (sym (rw add-one (set_split xs i a lt)))));
     }
+
+remove_here : {A : Type 0} (xs : List A) (i : ℕ) → i < length xs → take i xs ++ drop (suc i) xs ≡ remove xs i
+remove_here [] i lt = absurd (omega arith)
+remove_here (x ∷ xs) zero lt = refl
+remove_here (x ∷ xs) (suc i) lt = ap (λ ys. x ∷ ys) (remove_here xs i (omega arith))
+
+-- the list without the item that stands there
+pub without_here : {A : Type 0} (test : A → Bool) (xs : List A) (i : ℕ) (x : A) → IsPast test xs i → i < length xs → x ≡ get_or xs i x → test x ≡ true → without_first test xs ≡ remove xs i
+without_here test xs i x p lt e t =
+    let split : drop i xs ≡ x ∷ drop (i + 1) xs = drop_more xs i x lt ∙ ap (λ y. y ∷ drop (i + 1) xs) (sym e) in
+    p.without ∙ (ap (λ ys. take i xs ++ without_first test ys) split ∙ (rw t (rw add-one (remove_here xs i lt))))
 
 pub past_all : {A : Type 0} (test : A → Bool) (xs : List A) (i : ℕ) → IsPast test xs i → length xs ≤ i → find test xs ≡ None
 past_all test xs i p h = p.found ∙ ap (find test) (drop_of_length-le xs h)
@@ -57,8 +69,9 @@ if_some : {A : Type 0} (P : A → Type 0) (t : Option A) → ((x : A) → t ≡ 
 if_some P None h = tt
 if_some P (Some x) h = h x refl
 
-pub own_place : (n : ℕ) (os : List Object) (i : ℕ) → IsPlace (is_object n) os i → IsObjectAt os i
-own_place n os i p = record {
+pub own_place : (n : ℕ) (os : List Object) (i : ℕ) → IsPlace (is_object n) os i → without_first (is_object n) os ≡ remove os i → IsObjectAt os i
+own_place n os i p w = record {
   fits = p.fits;
   own = if_some (λ o. IsPlace (is_object o.number) os i) (slice_get os i) (λ o e. let h : o.number ≡ n = found_number n os o (p.found ∙ e) in rw h p);
+  without = if_some (λ o. without_first (is_object o.number) os ≡ remove os i) (slice_get os i) (λ o e. let h : o.number ≡ n = found_number n os o (p.found ∙ e) in rw h w);
 }

@@ -4,6 +4,7 @@
 
 pub mod activations;
 pub mod checks;
+pub mod closes;
 pub mod commits;
 pub mod edits;
 pub mod lookups;
@@ -11,3 +12,4 @@ pub mod reaps;
 pub mod replies;
 pub mod saves;
 pub mod servers;
+pub mod writes;

@@ -1,0 +1,70 @@
+//! Objects that are asked to close.
+
+ghost use Rattle.std.specs.Prelude.{◌≡◌, ◌≤◌, IfErr, IfOk, IfSome, Ok, OnErr, length, slice_get};
+ghost use Rattle.container_model.specs.Commands.{close, close_linked};
+ghost use Rattle.container_model.specs.Record.{Refuses, counts_none};
+ghost use Rattle.container_model.specs.Numbered.{IsObjectAt};
+
+use crate::state::State;
+use container_model::answer::Answer;
+use container_model::fault::ContainerFault;
+use container_objects::checks;
+use container_objects::closes::close_one;
+use container_objects::lookups::{place, place_object};
+use object_state::CloseOption;
+use std::alloc::Global;
+
+impl State {
+    ghost use Rattle.std.specs.Prelude.{◌≡◌, ◌≤◌, IfErr, IfOk, IfSome, Ok, OnErr, length, slice_get};
+    ghost use Rattle.container_model.specs.Commands.{close, close_linked};
+    ghost use Rattle.container_model.specs.Record.{Refuses, counts_none};
+    ghost use Rattle.container_model.specs.Numbered.{IsObjectAt};
+
+    // An object that isn't passive is asked to close.
+    pub(crate) fn close(
+        &mut self,
+        alloc: Global,
+        object: u32,
+        option: CloseOption,
+    ) -> Result<Answer, ContainerFault>
+        ensures taken { IfOk result (λ a. close self.old object option ≡ Ok (counts_none self.new a)) }
+        ensures few { IfOk result (λ a. length a.actions ≤ 1) }
+        ensures refused { IfErr result (Refuses (close self.old object option)) }
+        ensures kept { OnErr result (self.new ≡ self.old) }
+    {
+        let Some(i) = place_object(self.objects.as_slice(), object) else {
+            return Err(ContainerFault::NoSuch);
+        };
+        let Some(at) = place(self.frames.as_slice(), self.objects[i].frame) else {
+            return Err(ContainerFault::NoSuch);
+        };
+        if checks::is_doubtful(self.frames[at].phase) {
+            return Err(ContainerFault::InDoubt);
+        }
+        let state = self.frames[at].ui.state();
+        if checks::is_saving(self.frames[at].phase) || checks::is_busy(&state, &self.objects[i]) {
+            return Err(ContainerFault::Busy);
+        }
+        self.close_object(alloc, i, option)
+    }
+
+    // The object that stands there is asked to close.
+    fn close_object(
+        &mut self,
+        alloc: Global,
+        i: usize,
+        option: CloseOption,
+    ) -> Result<Answer, ContainerFault>
+        requires { IsObjectAt self.old.objects i }
+        ensures taken { IfOk result (λ a. IfSome (slice_get self.old.objects i) (λ o. close_linked self.old o option o.link ≡ Ok (counts_none self.new a))) }
+        ensures few { IfOk result (λ a. length a.actions ≤ 1) }
+        ensures refused { IfErr result (λ e. IfSome (slice_get self.old.objects i) (λ o. Refuses (close_linked self.old o option o.link) e)) }
+        ensures kept { OnErr result (self.new ≡ self.old) }
+    {
+        let actions = match close_one(alloc, self.numbers, &mut self.objects[i], option) {
+            Ok(actions) => actions,
+            Err(fault) => return Err(fault),
+        };
+        Ok(Answer::acts(alloc, actions))
+    }
+}

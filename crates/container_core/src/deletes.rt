@@ -1,0 +1,60 @@
+//! Passive objects that are deleted.
+
+ghost use Rattle.std.specs.Prelude.{◌≡◌, ◌≤◌, IfErr, IfOk, IfSome, Ok, OnErr, is_some, length, slice_get};
+ghost use Rattle.container_model.specs.Commands.{delete, delete_made, unless};
+ghost use Rattle.container_model.specs.Record.{Refuses, counts_none};
+ghost use Rattle.container_model.specs.Numbered.{IsObjectAt};
+ghost use Rattle.container_model.specs.declared.fault.ContainerFault.TheVariants.{WrongState};
+
+use crate::state::State;
+use container_model::answer::Answer;
+use container_model::fault::ContainerFault;
+use container_objects::checks;
+use container_objects::lookups::{place, place_object};
+use std::alloc::Global;
+
+impl State {
+    ghost use Rattle.std.specs.Prelude.{◌≡◌, ◌≤◌, IfErr, IfOk, IfSome, Ok, OnErr, is_some, length, slice_get};
+    ghost use Rattle.container_model.specs.Commands.{delete, delete_made, unless};
+    ghost use Rattle.container_model.specs.Record.{Refuses, counts_none};
+    ghost use Rattle.container_model.specs.Numbered.{IsObjectAt};
+    ghost use Rattle.container_model.specs.declared.fault.ContainerFault.TheVariants.{WrongState};
+
+    // A passive object goes.
+    pub(crate) fn delete(&mut self, alloc: Global, object: u32) -> Result<Answer, ContainerFault>
+        ensures taken { IfOk result (λ a. delete self.old object ≡ Ok (counts_none self.new a)) }
+        ensures few { IfOk result (λ a. length a.actions ≤ 1) }
+        ensures refused { IfErr result (Refuses (delete self.old object)) }
+        ensures kept { OnErr result (self.new ≡ self.old) }
+    {
+        let Some(i) = place_object(self.objects.as_slice(), object) else {
+            return Err(ContainerFault::NoSuch);
+        };
+        let Some(at) = place(self.frames.as_slice(), self.objects[i].frame) else {
+            return Err(ContainerFault::NoSuch);
+        };
+        if checks::is_doubtful(self.frames[at].phase) {
+            return Err(ContainerFault::InDoubt);
+        }
+        let state = self.frames[at].ui.state();
+        if checks::is_saving(self.frames[at].phase) || checks::is_busy(&state, &self.objects[i]) {
+            return Err(ContainerFault::Busy);
+        }
+        self.delete_object(alloc, i)
+    }
+
+    // The object that stands there goes, where it is passive.
+    fn delete_object(&mut self, alloc: Global, i: usize) -> Result<Answer, ContainerFault>
+        requires { IsObjectAt self.old.objects i }
+        ensures taken { IfOk result (λ a. IfSome (slice_get self.old.objects i) (λ o. unless (is_some o.link) WrongState (Ok (delete_made self.old o)) ≡ Ok (counts_none self.new a))) }
+        ensures few { IfOk result (λ a. length a.actions ≤ 1) }
+        ensures refused { IfErr result (λ e. IfSome (slice_get self.old.objects i) (λ o. Refuses (unless (is_some o.link) WrongState (Ok (delete_made self.old o))) e)) }
+        ensures kept { OnErr result (self.new ≡ self.old) }
+    {
+        if self.objects[i].link.is_some() {
+            return Err(ContainerFault::WrongState);
+        }
+        let _ = self.objects.remove(i);
+        Ok(Answer::quiet(alloc))
+    }
+}
