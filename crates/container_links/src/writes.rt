@@ -38,8 +38,8 @@ fn is_save_pending(pending: &Option<Operation>) -> bool
     }
 }
 
-// Whether a save is pending or waits.
-fn awaits_save(link: &Link) -> bool
+/// Whether a save is asked of an activation and not answered yet: it is pending, or waits.
+pub fn awaits_save(link: &Link) -> bool
     ensures { result ≡ awaits_save link.now }
 {
     is_save_pending(&link.pending) || has_save(link.waiting.as_slice())
