@@ -1,4 +1,5 @@
-pub mod Starts
+pub mod Servers
+pub mod Logging
 pub mod Rooms
 pub mod Files
 pub mod View

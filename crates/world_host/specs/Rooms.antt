@@ -23,10 +23,12 @@ pub record HasLogRoom (n : ℕ) (l : Host) : Type 0 where
   pub counted : vec_len l.counted < vec_capacity l.counted
 
 pub record IsRoom (n : ℕ) (r : Room) : Type 0 where
-  pub no_starts : r.starts.items ≡ []
+  pub no_ends : r.servers.ends.items ≡ []
+  pub no_starts : r.servers.starts.items ≡ []
   pub no_commits : r.commits.items ≡ []
   pub no_places : r.places.items ≡ []
-  pub starts : n ≤ vec_capacity r.starts
+  pub ends : n ≤ vec_capacity r.servers.ends
+  pub starts : n ≤ vec_capacity r.servers.starts
   pub commits : n ≤ vec_capacity r.commits
   pub places : n ≤ vec_capacity r.places
 

@@ -13,6 +13,7 @@ bare l = record {
   sent = l.sent.items;
   owners = l.owners.items;
   answers = l.answers.items;
+  taken = l.taken.items;
   container_done = l.container_done.items;
   server_done = l.server_done.items;
   counted = l.counted.items;

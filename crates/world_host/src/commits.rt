@@ -9,9 +9,10 @@ ghost use Rattle.world_model.specs.World.{IsImage, Refuses, done, frame_file, is
 ghost use Rattle.world_model.specs.declared.event.Event.TheVariants as event;
 ghost use Rattle.world_host.specs.Files.{IsFileAt, IsNoFile, is_committing_in};
 ghost use Rattle.world_host.specs.Rooms.{most};
+ghost use Rattle.world_host.specs.Servers.{ends_in};
 ghost use Rattle.world_host.specs.View.{bare, started};
 
-use crate::host::{Host, Room, add, add_all};
+use crate::host::{Host, Room, Servers, add, add_all};
 use container_model::answer::{Committed, Part};
 use container_model::fault::ContainerFault;
 use container_model::record::{Frame, Phase};
@@ -91,10 +92,11 @@ impl Host {
         f: u32,
         parts: Items<Part>,
         bytes: Vec<u8>,
-    ) -> Result<Vec<u32>, AllocError>
+    ) -> Result<Servers, AllocError>
         requires image { image self.old.core f ≡ Ok parts }
-        ensures taken { IfOk result (λ starts. done (bare self.old) f bytes.items ≡ Ok (started (bare self.new) self.new.core.numbers starts.items)) }
-        ensures few { IfOk result (λ starts. vec_len starts ≤ most self.old.core) }
+        ensures taken { IfOk result (λ s. done (bare self.old) f bytes.items ≡ Ok (started (bare self.new) self.new.core.numbers s.starts.items)) }
+        ensures ends { IfOk result (λ s. s.ends.items ≡ ends_in (commit_done self.old.core f)) }
+        ensures few { IfOk result (λ s. vec_len s.starts ≤ most self.old.core) }
         ensures kept { OnErr result (bare self.new ≡ bare self.old) }
     {
         let Some(frame) = self.core.frame(f) else {
@@ -120,14 +122,15 @@ impl Host {
         }
     }
 
-    /// The commit of a frame's file is done: the file denotes its document. Gives the servers that are started, for
-    /// which there is room or not.
+    /// The commit of a frame's file is done: the file denotes its document. Gives the servers that are ended and
+    /// started; for those that are started there is room or not.
     ///
     /// Refused: `NotEnabled` where the commit isn't asked for; then `EventLimit`; then `NoMemory`. Then nothing changes.
-    pub fn done(&mut self, alloc: Global, f: u32, room: bool) -> Result<Vec<u32>, Stop>
+    pub fn done(&mut self, alloc: Global, f: u32, room: bool) -> Result<Servers, Stop>
         ensures room { OnOk result (room ≡ true) }
-        ensures taken { IfOk result (λ starts. (bytes : List ℕ) × IsImage (bare self.old) bytes (event.Done f) × (limited (bare self.old) (done (bare self.old) f bytes) ≡ Ok (started (bare self.new) self.new.core.numbers starts.items))) }
-        ensures few { IfOk result (λ starts. vec_len starts ≤ most self.old.core) }
+        ensures taken { IfOk result (λ s. (bytes : List ℕ) × IsImage (bare self.old) bytes (event.Done f) × (limited (bare self.old) (done (bare self.old) f bytes) ≡ Ok (started (bare self.new) self.new.core.numbers s.starts.items))) }
+        ensures ends { IfOk result (λ s. s.ends.items ≡ ends_in (commit_done self.old.core f)) }
+        ensures few { IfOk result (λ s. vec_len s.starts ≤ most self.old.core) }
         ensures refused { IfErr result (λ stop. (bytes : List ℕ) → Refuses (limited (bare self.old) (done (bare self.old) f bytes)) stop) }
         ensures kept { OnErr result (bare self.new ≡ bare self.old) }
     {
@@ -143,7 +146,7 @@ impl Host {
                     return Err(Stop::NoMemory);
                 }
                 match self.commit(alloc, f, parts, bytes) {
-                    Ok(starts) => Ok(starts),
+                    Ok(servers) => Ok(servers),
                     Err(_) => Err(Stop::NoMemory),
                 }
             }

@@ -7,10 +7,12 @@ ghost use Rattle.container_model.specs.Messages.{on_message, on_reap};
 ghost use Rattle.container_model.specs.Record.{counts_none};
 ghost use Rattle.world_model.specs.World.{messages_of, commits_of, of_container, joined, uncounted, took, owner, counted_by, quiet_outcome, limited, commanded, owners_by, empty_world, Refuses, MOST_EVENTS};
 ghost use Rattle.world_model.specs.declared.logs.EventAnswer.TheVariants as told;
-ghost use Rattle.world_host.specs.Starts.{starts_of};
+ghost use Rattle.world_host.specs.Logging.{heard};
+ghost use Rattle.world_host.specs.Servers.{ends_in, ends_of, starts_of};
 ghost use Rattle.world_host.specs.Rooms.{HasLogRoom, HasReplyRoom, IsBarred, IsRoom, most, replied};
 ghost use Rattle.world_host.specs.View.{bare, started};
 
+use crate::taking::{entry, log};
 use container_core::container::{ContainerCore, Limits};
 use container_model::answer::{Action, Answer, Done};
 use container_model::command::Command;
@@ -21,7 +23,7 @@ use std::alloc::{AllocError, Global};
 use wire_msgs::items::Items;
 use wire_msgs::message::Message;
 use world_model::event::{Stop, copy_command};
-use world_model::logs::{Document, EventAnswer, File, Outcome, Sent, ServerDone, View};
+use world_model::logs::{Document, EventAnswer, File, Outcome, Sent, ServerDone, Taken, View};
 
 /// The host of a world's container: what the world keeps besides its servers and its stock, the container, the files and the
 /// logs.
@@ -37,12 +39,23 @@ pub struct Host {
     pub owners: Vec<u32>,
     /// What each event was answered, by its number from 1.
     pub answers: Vec<EventAnswer>,
+    /// The contents that the container took as work contents.
+    pub taken: Vec<Taken>,
     /// What the container counted.
     pub container_done: Vec<Done>,
     /// What the servers counted.
     pub server_done: Vec<ServerDone>,
     /// The document of each frame's last counted commit.
     pub counted: Vec<Option<Document>>,
+}
+
+/// The servers that a step of the container ends, and those that it starts.
+#[derive(Drop)]
+pub struct Servers {
+    /// The incarnations of those that end.
+    pub ends: Vec<u32>,
+    /// The incarnations of those that start.
+    pub starts: Vec<u32>,
 }
 
 /// Adds what room was taken for.
@@ -72,19 +85,27 @@ pub(crate) fn add_all<T: Drop>(items: &mut Vec<T>, mut more: Vec<T>)
 /// Room for what a step of the container may lead to.
 #[derive(Drop)]
 pub(crate) struct Room {
-    pub(crate) starts: Vec<u32>,
+    servers: Servers,
     commits: Vec<u32>,
     places: Vec<u32>,
 }
 
 // Shares out what an answer's actions ask for.
-fn share(actions: Vec<Action>, sent: &mut Vec<Sent>, starts: &mut Vec<u32>, commits: &mut Vec<u32>)
+fn share(
+    actions: Vec<Action>,
+    sent: &mut Vec<Sent>,
+    ends: &mut Vec<u32>,
+    starts: &mut Vec<u32>,
+    commits: &mut Vec<u32>,
+)
     requires sent_room { vec_len sent.old + vec_len actions ≤ vec_capacity sent.old }
+    requires ends_room { vec_len ends.old + vec_len actions ≤ vec_capacity ends.old }
     requires starts_room { vec_len starts.old + vec_len actions ≤ vec_capacity starts.old }
     requires commits_room { vec_len commits.old + vec_len actions ≤ vec_capacity commits.old }
     ensures sent { sent.new.items ≡ sent.old.items ++ map of_container (messages_of actions.items) }
     ensures count { vec_len sent.new ≡ vec_len sent.old + length (messages_of actions.items) }
     ensures few { vec_len sent.new ≤ vec_len sent.old + vec_len actions }
+    ensures ends { ends.new.items ≡ ends.old.items ++ ends_of actions.items }
     ensures starts { starts.new.items ≡ starts.old.items ++ starts_of actions.items }
     ensures commits { commits.new.items ≡ commits.old.items ++ commits_of actions.items }
 {
@@ -98,7 +119,7 @@ fn share(actions: Vec<Action>, sent: &mut Vec<Sent>, starts: &mut Vec<u32>, comm
                 },
             ),
             Action::Start(inc) => add(starts, inc),
-            Action::End(_) => {}
+            Action::End(inc) => add(ends, inc),
             Action::Commit(frame) => add(commits, frame),
         }
     }
@@ -143,8 +164,12 @@ impl Room {
     pub(crate) fn new(alloc: Global, count: usize) -> Result<Room, AllocError>
         ensures { IfOk result (λ r. IsRoom count r) }
     {
-        Ok(Room {
+        let servers = Servers {
+            ends: Vec::with_capacity(alloc, count)?,
             starts: Vec::with_capacity(alloc, count)?,
+        };
+        Ok(Room {
+            servers,
             commits: Vec::with_capacity(alloc, count)?,
             places: Vec::with_capacity(alloc, count)?,
         })
@@ -163,6 +188,7 @@ impl Host {
             sent: Vec::new(alloc),
             owners: Vec::new(alloc),
             answers: Vec::new(alloc),
+            taken: Vec::new(alloc),
             container_done: Vec::new(alloc),
             server_done: Vec::new(alloc),
             counted: Vec::new(alloc),
@@ -197,12 +223,13 @@ impl Host {
         Ok(())
     }
 
-    // Keeps what a step of the container asks for; gives the servers that it starts.
-    pub(crate) fn join(&mut self, answer: Answer, room: Room) -> Vec<u32>
+    // Keeps what a step of the container asks for; gives the servers that it ends and starts.
+    pub(crate) fn join(&mut self, answer: Answer, room: Room) -> Servers
         requires logs { HasLogRoom (length answer.actions) self.old }
         requires room { IsRoom (length answer.actions) room }
-        ensures joined { joined (bare self.old) (counts_none self.old.core answer) ≡ started (bare self.new) self.old.core.numbers result.items }
-        ensures few { length result.items ≤ length answer.actions }
+        ensures joined { joined (bare self.old) (counts_none self.old.core answer) ≡ started (bare self.new) self.old.core.numbers result.starts.items }
+        ensures ends { result.ends.items ≡ ends_of answer.actions }
+        ensures few { length result.starts.items ≤ length answer.actions }
     {
         let Answer {
             frame,
@@ -214,7 +241,10 @@ impl Host {
             actions,
         } = answer;
         let Room {
-            mut starts,
+            servers: Servers {
+                mut ends,
+                mut starts,
+            },
             mut commits,
             mut places,
         } = room;
@@ -222,6 +252,7 @@ impl Host {
         share(
             actions.into_vec(),
             &mut self.sent,
+            &mut ends,
             &mut starts,
             &mut commits,
         );
@@ -238,15 +269,26 @@ impl Host {
             commits: Items::from_vec(commits),
         };
         add(&mut self.answers, EventAnswer::Took(outcome));
-        starts
+        Servers { ends, starts }
     }
 
-    /// A command of a user. Gives the servers that it starts.
+    // Keeps why the container refused an event; no server ends or starts.
+    fn refuse(&mut self, fault: ContainerFault, room: Room) -> Servers
+        requires { vec_len self.old.answers < vec_capacity self.old.answers }
+        ensures kept { bare self.new ≡ record (bare self.old) { answers = self.old.answers.items ++ told.Refused fault ∷ [] } }
+        ensures none { result ≡ room.servers }
+    {
+        add(&mut self.answers, EventAnswer::Refused(fault));
+        room.servers
+    }
+
+    /// A command of a user. Gives the servers that it ends and starts.
     ///
     /// Refused for want of memory alone. Then nothing changes.
-    pub fn command(&mut self, alloc: Global, command: &Command) -> Result<Vec<u32>, AllocError>
-        ensures taken { IfOk result (λ starts. commanded (bare self.old) command.now (on_command self.old.core command.now) ≡ started (bare self.new) self.new.core.numbers starts.items) }
-        ensures few { IfOk result (λ starts. vec_len starts ≤ most self.old.core) }
+    pub fn command(&mut self, alloc: Global, command: &Command) -> Result<Servers, AllocError>
+        ensures taken { IfOk result (λ s. commanded (bare self.old) command.now (on_command self.old.core command.now) ≡ started (bare self.new) self.new.core.numbers s.starts.items) }
+        ensures ends { IfOk result (λ s. s.ends.items ≡ ends_in (on_command self.old.core command.now)) }
+        ensures few { IfOk result (λ s. vec_len s.starts ≤ most self.old.core) }
         ensures kept { OnErr result (bare self.new ≡ bare self.old) }
     {
         let count = self.most();
@@ -259,45 +301,48 @@ impl Host {
                 Ok(self.join(answer, room))
             }
             Err(ContainerFault::NoMemory) => Err(AllocError),
-            Err(fault) => {
-                add(&mut self.answers, EventAnswer::Refused(fault));
-                Ok(room.starts)
-            }
+            Err(fault) => Ok(self.refuse(fault, room)),
         }
     }
 
-    /// A message comes to the container. Gives the servers that it starts.
+    /// A message comes to the container from its place among those that were sent. A content of it that is taken is logged,
+    /// with what the container's record held of its object just before. Gives the servers that are ended and started.
     ///
     /// Refused for want of memory alone. Then nothing changes.
     pub fn tell(
         &mut self,
         alloc: Global,
+        place: u32,
         inc: u32,
         message: Message,
-    ) -> Result<Vec<u32>, AllocError>
-        ensures taken { IfOk result (λ starts. took (bare self.old) (on_message self.old.core inc message) ≡ started (bare self.new) self.new.core.numbers starts.items) }
-        ensures few { IfOk result (λ starts. vec_len starts ≤ most self.old.core) }
+    ) -> Result<Servers, AllocError>
+        ensures taken { IfOk result (λ s. heard (bare self.old) place inc message ≡ started (bare self.new) self.new.core.numbers s.starts.items) }
+        ensures ends { IfOk result (λ s. s.ends.items ≡ ends_in (on_message self.old.core inc message)) }
+        ensures few { IfOk result (λ s. vec_len s.starts ≤ most self.old.core) }
         ensures kept { OnErr result (bare self.new ≡ bare self.old) }
     {
         let count = self.most();
         let room = Room::new(alloc, count)?;
         self.reserve(count)?;
+        self.taken.reserve(1)?;
+        let entry = entry(place, &message, self.core.objects());
         match self.core.on_message(alloc, inc, message) {
-            Ok(answer) => Ok(self.join(answer, room)),
-            Err(ContainerFault::NoMemory) => Err(AllocError),
-            Err(fault) => {
-                add(&mut self.answers, EventAnswer::Refused(fault));
-                Ok(room.starts)
+            Ok(answer) => {
+                log(&mut self.taken, answer.taken, entry);
+                Ok(self.join(answer, room))
             }
+            Err(ContainerFault::NoMemory) => Err(AllocError),
+            Err(fault) => Ok(self.refuse(fault, room)),
         }
     }
 
-    /// The end of a server is told to the container. Gives the servers that it starts.
+    /// The end of a server is told to the container. Gives the servers that are ended and started.
     ///
     /// Refused for want of memory alone. Then nothing changes.
-    pub fn reap(&mut self, alloc: Global, inc: u32) -> Result<Vec<u32>, AllocError>
-        ensures taken { IfOk result (λ starts. took (bare self.old) (on_reap self.old.core inc) ≡ started (bare self.new) self.new.core.numbers starts.items) }
-        ensures few { IfOk result (λ starts. vec_len starts ≤ most self.old.core) }
+    pub fn reap(&mut self, alloc: Global, inc: u32) -> Result<Servers, AllocError>
+        ensures taken { IfOk result (λ s. took (bare self.old) (on_reap self.old.core inc) ≡ started (bare self.new) self.new.core.numbers s.starts.items) }
+        ensures ends { IfOk result (λ s. s.ends.items ≡ ends_in (on_reap self.old.core inc)) }
+        ensures few { IfOk result (λ s. vec_len s.starts ≤ most self.old.core) }
         ensures kept { OnErr result (bare self.new ≡ bare self.old) }
     {
         let count = self.most();
@@ -306,10 +351,7 @@ impl Host {
         match self.core.on_reap(alloc, inc) {
             Ok(answer) => Ok(self.join(answer, room)),
             Err(ContainerFault::NoMemory) => Err(AllocError),
-            Err(fault) => {
-                add(&mut self.answers, EventAnswer::Refused(fault));
-                Ok(room.starts)
-            }
+            Err(fault) => Ok(self.refuse(fault, room)),
         }
     }
 

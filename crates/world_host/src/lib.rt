@@ -3,3 +3,4 @@
 
 mod commits;
 pub mod host;
+mod taking;

@@ -13,4 +13,5 @@ module _ {X : Type 0} {V : X → Type 0} (c d : Seat X V → Content) where
   held_seen st h = record {
     agrees = agrees_alike _ _ _ _ _ _ _ (many_alike c d st.instances.items) (acts_alike c d st.instances.items) (lives_alike c d st.instances.items) h.agrees;
     files = record { counted_bounded = h.files.counted_bounded; filed = h.files.filed; commits = h.files.commits };
+    taken_held = λ t a. (let g = h.taken_held t a in record { message = g.message; delivered = g.delivered; brings = g.brings; sent = g.sent; held_open = g.held_open; unasked = g.unasked });
   }

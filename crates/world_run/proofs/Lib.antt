@@ -2,7 +2,10 @@ pub mod Held
 pub mod Alike
 pub mod Servers
 pub mod Lifts
+pub mod Joins
 pub mod Stocks
 pub mod Planning
 pub mod Serving
+pub mod Delivering
+pub mod Scribbling
 pub mod Runs

@@ -1,4 +1,5 @@
--- What a world without servers and stock refuses, the same world with them refuses.
+-- What a world without servers and stock refuses, the same world with them refuses; and what is made of the one is made of the
+-- other.
 use Rattle.std.proofs.Common.{ℕ, Bool, true, false, List, [], Option, Some, None, Result, Ok, Err, length, if◌then◌else◌, rules}
 use Rattle.std.specs.Prelude.{nat_le}
 use Rattle.wire_msgs.specs.Found.{nth}

@@ -14,7 +14,9 @@ use Rattle.world_run.specs.declared.plan.Plan.TheVariants.{Quiet, Tell, Serve, B
 use Rattle.world_model.specs.declared.logs.EventAnswer.TheVariants as told
 use Rattle.world_model.specs.declared.event.Stop.{Stop}
 use Rattle.world_model.specs.declared.event.Stop.TheVariants.{NotEnabled}
-use Rattle.world_model.specs.World.{World, Instance, limited, served, took, quiet_outcome, is_of, without_first}
+use Rattle.world_model.specs.World.{World, Instance, limited, served, scribbled_by, took, quiet_outcome, is_of, without_first}
+use Rattle.server_model.specs.Server as server
+use Rattle.world_host.specs.Logging.{heard}
 
 abbrev pub quiet : World → World
 quiet w = record w { answers = w.answers ++ told.Took quiet_outcome ∷ [] }
@@ -36,13 +38,28 @@ carried w (Reply inc act n answer) plan = Ok (took w (on_message w.rec inc (Repl
 carried w (Write inc act s number content) plan = Ok (took w (on_message w.rec inc (Write inc act s number content)))
 carried w (Ask inc act g) plan = Ok (took w (on_message w.rec inc (Ask inc act g)))
 
+-- the same for the message at a place, where what the container takes is logged
+abbrev pub logged : World → ℕ → Message → Plan → Result World Stop
+logged w p (Call inc act n op) plan = carried_call w inc act n op plan
+logged w p (Reply inc act n answer) plan = Ok (heard w p inc (Reply inc act n answer))
+logged w p (Write inc act s number content) plan = Ok (heard w p inc (Write inc act s number content))
+logged w p (Ask inc act g) plan = Ok (heard w p inc (Ask inc act g))
+
 -- what is made of a world that takes no more events than it may
-abbrev pub carry : World → Message → Plan → Result World Stop
-carry w message plan = limited w (carried w message plan)
+abbrev pub carry_call : World → ℕ → ℕ → ℕ → Operation → Plan → Result World Stop
+carry_call w inc act n op plan = limited w (carried_call w inc act n op plan)
+
+abbrev pub carry : World → ℕ → Message → Plan → Result World Stop
+carry w p message plan = limited w (logged w p message plan)
 
 -- a message that comes to the container
-abbrev pub tell : World → ℕ → Message → Result World Stop
-tell w inc message = limited w (Ok (took w (on_message w.rec inc message)))
+abbrev pub tell : World → ℕ → ℕ → Message → Result World Stop
+tell w p inc message = limited w (Ok (heard w p inc message))
+
+-- an activation of a server writes
+abbrev pub scribbling : World → ℕ → ℕ → Option Instance → Result World Stop
+scribbling w inc act None = Err NotEnabled
+scribbling w inc act (Some i) = Ok (scribbled_by w inc act i (server.scribble i.core act))
 
 -- the places that a plan names are those of the server that is called, and of an object in stock
 abbrev pub FitsCall : World → ℕ → Plan → Type 0

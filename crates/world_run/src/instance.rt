@@ -2,6 +2,7 @@
 
 ghost use Rattle.std.specs.Prelude.{◌≡◌};
 ghost use Rattle.embed_core.specs.Kinds.{class_of};
+ghost use Rattle.world_model.specs.World.{end_of};
 ghost use Rattle.world_run.specs.View.{seen_stocked};
 
 use embed_core::embedded::Embedded;
@@ -14,6 +15,16 @@ use world_model::life::Life;
 pub struct Instance {
     pub(crate) life: Life,
     pub(crate) core: ServerCore,
+}
+
+// How far the life of a server is once it has ended.
+pub(crate) fn end_of(life: Life) -> Life
+    ensures { result ≡ end_of life }
+{
+    match life {
+        Life::Running | Life::Ended => Life::Ended,
+        Life::Reaped => Life::Reaped,
+    }
 }
 
 /// An object in stock.

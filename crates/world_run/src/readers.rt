@@ -5,12 +5,12 @@ ghost use Rattle.wire_msgs.specs.Found.{nth};
 ghost use Rattle.world_run.specs.Shown.{shown};
 ghost use Rattle.world_model.specs.World.{counted_document, frame_file};
 
-use crate::state::place;
 use crate::world::World;
 use container_core::container::ContainerCore;
 use container_model::answer::Done;
+use container_objects::lookups::place;
 use embed_core::embedded::Embedded;
-use world_model::logs::{Document, EventAnswer, Sent, ServerDone};
+use world_model::logs::{Document, EventAnswer, Sent, ServerDone, Taken};
 
 impl World {
     /// The container.
@@ -42,6 +42,13 @@ impl World {
         ensures { result.now ≡ (shown (λ s. content s.boxed) self.now).sent }
     {
         &self.state.host.sent
+    }
+
+    /// The contents that the container took as work contents, each with what its record held of the object just before.
+    pub fn taken(&self) -> &[Taken]
+        ensures { result.now ≡ (shown (λ s. content s.boxed) self.now).taken }
+    {
+        &self.state.host.taken
     }
 
     /// What the container counted.

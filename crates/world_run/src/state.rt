@@ -6,17 +6,18 @@ ghost use Rattle.wire_msgs.specs.Found.{nth, set_nth};
 ghost use Rattle.embed_core.specs.Kinds.{kind_of};
 ghost use Rattle.world_model.specs.declared.event.Event.{Event};
 ghost use Rattle.world_run.specs.declared.plan.Plan.TheVariants as plan;
-ghost use Rattle.world_run.specs.Plans.{Fits, IsCallOf, carried, carry, stock_with, tell};
+ghost use Rattle.world_host.specs.Servers.{ends_by};
+ghost use Rattle.world_run.specs.Plans.{Fits, IsCallOf, carried, carry, carry_call, scribbling, stock_with, tell};
 ghost use Rattle.world_run.specs.View.{seen, seen_instance, seen_stocked};
-ghost use Rattle.world_model.specs.World.{IsImage, Refuses, Run, StopsAt, delivered, empty_world, fresh, step, view_in};
-ghost use Rattle.wire_msgs.specs.declared.message.Message.TheVariants as message;
+ghost use Rattle.world_model.specs.World.{IsImage, Refuses, Run, StopsAt, delivered, empty_world, ended_at, fresh, limited, step, view_in};
 ghost use Rattle.world_model.specs.declared.event.Event.TheVariants as event;
 
-use crate::instance::{Instance, Stocked};
+use crate::instance::{Instance, Stocked, end_of};
 use crate::plan::Plan;
 use crate::stock::Stock;
 use container_core::container::Limits;
 use container_model::command::Command;
+use container_objects::lookups::place;
 use embed_core::embedded::Embedded;
 use server_core::refusal::Refusal;
 use server_core::server::ServerCore;
@@ -24,7 +25,7 @@ use server_model::fault::ServerFault;
 use std::alloc::Global;
 use wire_msgs::message::Message;
 use wire_msgs::operation::Operation;
-use world_host::host::{Host, add};
+use world_host::host::{Host, Servers, add};
 use world_model::event::{Event, Stop};
 use world_model::life::Life;
 use world_model::logs::View;
@@ -36,21 +37,6 @@ pub(crate) struct State {
     pub(crate) host: Host,
     pub(crate) instances: Vec<Instance>,
     pub(crate) stock: Stock,
-}
-
-// Where the item of this number stands.
-pub(crate) fn place<T>(items: &[T], number: u32) -> Option<usize>
-    ensures { MatchOption result (nth items.now number ≡ None) (IsNth number items.now) }
-{
-    if number == 0 {
-        return None;
-    }
-    let place = (number - 1) as usize;
-    if place < items.len() {
-        Some(place)
-    } else {
-        None
-    }
 }
 
 impl State {
@@ -84,6 +70,16 @@ impl State {
         }
     }
 
+    // The servers that a step of the container ends and starts.
+    fn finish(&mut self, alloc: Global, servers: Servers)
+        requires { vec_len self.old.instances + vec_len servers.starts ≤ vec_capacity self.old.instances }
+        ensures { seen (λ s. content s.boxed) self.new ≡ record (seen (λ s. content s.boxed) self.old) { instances = ends_by servers.ends.items (seen (λ s. content s.boxed) self.old).instances ++ map (fresh self.old.host.core.numbers) servers.starts.items } }
+    {
+        let Servers { ends, starts } = servers;
+        self.end(&ends);
+        self.start(alloc, starts);
+    }
+
     // A command of a user.
     fn command(&mut self, alloc: Global, command: &Command) -> Result<(), Stop>
         ensures taken { OnOk result (step (seen (λ s. content s.boxed) self.old) [] (event.Command command.now) ≡ Ok (seen (λ s. content s.boxed) self.new)) }
@@ -95,27 +91,27 @@ impl State {
             return Err(Stop::NoMemory);
         }
         match self.host.command(alloc, command) {
-            Ok(starts) => {
-                self.start(alloc, starts);
+            Ok(servers) => {
+                self.finish(alloc, servers);
                 Ok(())
             }
             Err(_) => Err(Stop::NoMemory),
         }
     }
 
-    // A message comes to the container.
-    fn tell(&mut self, alloc: Global, inc: u32, message: Message) -> Result<(), Stop>
-        ensures taken { OnOk result (tell (seen (λ s. content s.boxed) self.old) inc message ≡ Ok (seen (λ s. content s.boxed) self.new)) }
-        ensures refused { IfErr result (Refuses (tell (seen (λ s. content s.boxed) self.old) inc message)) }
+    // A message comes to the container, from its place among those that were sent.
+    fn tell(&mut self, alloc: Global, p: u32, inc: u32, message: Message) -> Result<(), Stop>
+        ensures taken { OnOk result (tell (seen (λ s. content s.boxed) self.old) p inc message ≡ Ok (seen (λ s. content s.boxed) self.new)) }
+        ensures refused { IfErr result (Refuses (tell (seen (λ s. content s.boxed) self.old) p inc message)) }
         ensures kept { OnErr result (seen (λ s. content s.boxed) self.new ≡ seen (λ s. content s.boxed) self.old) }
     {
         self.host.open()?;
         if self.instances.reserve(self.host.most()).is_err() {
             return Err(Stop::NoMemory);
         }
-        match self.host.tell(alloc, inc, message) {
-            Ok(starts) => {
-                self.start(alloc, starts);
+        match self.host.tell(alloc, p, inc, message) {
+            Ok(servers) => {
+                self.finish(alloc, servers);
                 Ok(())
             }
             Err(_) => Err(Stop::NoMemory),
@@ -142,6 +138,31 @@ impl State {
         match place(&self.instances, inc) {
             Some(i) => Some((i, self.instances[i].life)),
             None => None,
+        }
+    }
+
+    // The server of this incarnation ends, if there is one that runs.
+    fn end_one(&mut self, inc: u32)
+        ensures ended { seen (λ s. content s.boxed) self.new ≡ record (seen (λ s. content s.boxed) self.old) { instances = ended_at inc (seen (λ s. content s.boxed) self.old).instances (nth (seen (λ s. content s.boxed) self.old).instances inc) } }
+        ensures host { self.new.host ≡ self.old.host }
+        ensures capacity { vec_capacity self.new.instances ≡ vec_capacity self.old.instances }
+        ensures length { vec_len self.new.instances ≡ vec_len self.old.instances }
+    {
+        match self.life(inc) {
+            Some((i, life)) => self.set_life(i, inc, end_of(life)),
+            None => {}
+        }
+    }
+
+    // The servers of these incarnations end, one after the other.
+    fn end(&mut self, ends: &[u32])
+        ensures ended { seen (λ s. content s.boxed) self.new ≡ record (seen (λ s. content s.boxed) self.old) { instances = ends_by ends.now (seen (λ s. content s.boxed) self.old).instances } }
+        ensures host { self.new.host ≡ self.old.host }
+        ensures capacity { vec_capacity self.new.instances ≡ vec_capacity self.old.instances }
+        ensures length { vec_len self.new.instances ≡ vec_len self.old.instances }
+    {
+        for inc in ends {
+            self.end_one(*inc);
         }
     }
 
@@ -182,9 +203,9 @@ impl State {
             return Err(Stop::NoMemory);
         }
         match self.host.reap(alloc, inc) {
-            Ok(starts) => {
+            Ok(servers) => {
                 self.set_life(i, inc, Life::Reaped);
-                self.start(alloc, starts);
+                self.finish(alloc, servers);
                 Ok(())
             }
             Err(_) => Err(Stop::NoMemory),
@@ -199,8 +220,8 @@ impl State {
     {
         let room = self.instances.reserve(self.host.most()).is_ok();
         match self.host.done(alloc, f, room) {
-            Ok(starts) => {
-                self.start(alloc, starts);
+            Ok(servers) => {
+                self.finish(alloc, servers);
                 Ok(())
             }
             Err(stop) => Err(stop),
@@ -233,8 +254,8 @@ impl State {
         operation: Operation,
     ) -> Result<(), Stop>
         requires { IsNth inc self.old.instances.items i }
-        ensures taken { OnOk result (carry (seen (λ s. content s.boxed) self.old) (message.Call inc act n operation) (plan.Serve i) ≡ Ok (seen (λ s. content s.boxed) self.new)) }
-        ensures refused { IfErr result (Refuses (carry (seen (λ s. content s.boxed) self.old) (message.Call inc act n operation) (plan.Serve i))) }
+        ensures taken { OnOk result (carry_call (seen (λ s. content s.boxed) self.old) inc act n operation (plan.Serve i) ≡ Ok (seen (λ s. content s.boxed) self.new)) }
+        ensures refused { IfErr result (Refuses (carry_call (seen (λ s. content s.boxed) self.old) inc act n operation (plan.Serve i))) }
         ensures kept { OnErr result (seen (λ s. content s.boxed) self.new ≡ seen (λ s. content s.boxed) self.old) }
     {
         self.host.open()?;
@@ -293,8 +314,8 @@ impl State {
     ) -> Result<(), Stop>
         requires place { IsNth inc self.old.instances.items i }
         requires stock { at < length self.old.stock.boxes.items }
-        ensures taken { OnOk result (carry (seen (λ s. content s.boxed) self.old) (message.Call inc act n operation) (plan.Begin i at) ≡ Ok (seen (λ s. content s.boxed) self.new)) }
-        ensures refused { IfErr result (Refuses (carry (seen (λ s. content s.boxed) self.old) (message.Call inc act n operation) (plan.Begin i at))) }
+        ensures taken { OnOk result (carry_call (seen (λ s. content s.boxed) self.old) inc act n operation (plan.Begin i at) ≡ Ok (seen (λ s. content s.boxed) self.new)) }
+        ensures refused { IfErr result (Refuses (carry_call (seen (λ s. content s.boxed) self.old) inc act n operation (plan.Begin i at))) }
         ensures kept { OnErr result (seen (λ s. content s.boxed) self.new ≡ seen (λ s. content s.boxed) self.old) }
     {
         self.host.open()?;
@@ -364,11 +385,17 @@ impl State {
         }
     }
 
-    // What a plan says is done.
-    fn carry_out(&mut self, alloc: Global, plan: Plan, message: Message) -> Result<(), Stop>
+    // What a plan says of the message at this place is done.
+    fn carry_out(
+        &mut self,
+        alloc: Global,
+        p: u32,
+        plan: Plan,
+        message: Message,
+    ) -> Result<(), Stop>
         requires { Fits (seen (λ s. content s.boxed) self.old) message plan }
-        ensures taken { OnOk result (carry (seen (λ s. content s.boxed) self.old) message plan ≡ Ok (seen (λ s. content s.boxed) self.new)) }
-        ensures refused { IfErr result (Refuses (carry (seen (λ s. content s.boxed) self.old) message plan)) }
+        ensures taken { OnOk result (carry (seen (λ s. content s.boxed) self.old) p message plan ≡ Ok (seen (λ s. content s.boxed) self.new)) }
+        ensures refused { IfErr result (Refuses (carry (seen (λ s. content s.boxed) self.old) p message plan)) }
         ensures kept { OnErr result (seen (λ s. content s.boxed) self.new ≡ seen (λ s. content s.boxed) self.old) }
     {
         match message {
@@ -394,6 +421,7 @@ impl State {
                 answer,
             } => self.tell(
                 alloc,
+                p,
                 inc,
                 Message::Reply {
                     inc,
@@ -410,6 +438,7 @@ impl State {
                 content,
             } => self.tell(
                 alloc,
+                p,
                 inc,
                 Message::Write {
                     inc,
@@ -419,7 +448,7 @@ impl State {
                     content,
                 },
             ),
-            Message::Ask { inc, act, g } => self.tell(alloc, inc, Message::Ask { inc, act, g }),
+            Message::Ask { inc, act, g } => self.tell(alloc, p, inc, Message::Ask { inc, act, g }),
         }
     }
 
@@ -437,7 +466,50 @@ impl State {
         let Ok(message) = self.host.sent[i].message.copy(alloc) else {
             return Err(Stop::NoMemory);
         };
-        self.carry_out(alloc, plan, message)
+        self.carry_out(alloc, p, plan, message)
+    }
+
+    // The activation of a server that stands at i writes.
+    fn scribble_at(&mut self, alloc: Global, i: usize, inc: u32, act: u32) -> Result<(), Stop>
+        requires { IsNth inc self.old.instances.items i }
+        ensures taken { OnOk result (limited (seen (λ s. content s.boxed) self.old) (scribbling (seen (λ s. content s.boxed) self.old) inc act (slice_get (seen (λ s. content s.boxed) self.old).instances i)) ≡ Ok (seen (λ s. content s.boxed) self.new)) }
+        ensures refused { IfErr result (Refuses (limited (seen (λ s. content s.boxed) self.old) (scribbling (seen (λ s. content s.boxed) self.old) inc act (slice_get (seen (λ s. content s.boxed) self.old).instances i)))) }
+        ensures kept { OnErr result (seen (λ s. content s.boxed) self.new ≡ seen (λ s. content s.boxed) self.old) }
+    {
+        self.host.open()?;
+        let Ok(room) = self.host.reply_room(alloc) else {
+            return Err(Stop::NoMemory);
+        };
+        let view = self.view(i, act);
+        match self.instances[i].core.scribble(alloc, act) {
+            Ok(message) => {
+                self.host.replied(alloc, inc, view, message, None, room);
+                Ok(())
+            }
+            Err(fault) => match fault {
+                ServerFault::NoMemory => Err(Stop::NoMemory),
+                fault => {
+                    self.host.dropped(fault);
+                    Ok(())
+                }
+            },
+        }
+    }
+
+    // An activation of a server that runs writes.
+    fn scribble(&mut self, alloc: Global, inc: u32, act: u32) -> Result<(), Stop>
+        ensures taken { OnOk result (step (seen (λ s. content s.boxed) self.old) [] (event.Scribble inc act) ≡ Ok (seen (λ s. content s.boxed) self.new)) }
+        ensures refused { IfErr result (Refuses (step (seen (λ s. content s.boxed) self.old) [] (event.Scribble inc act))) }
+        ensures kept { OnErr result (seen (λ s. content s.boxed) self.new ≡ seen (λ s. content s.boxed) self.old) }
+    {
+        let Some((i, life)) = self.life(inc) else {
+            return Err(Stop::NotEnabled);
+        };
+        match life {
+            Life::Running => {}
+            Life::Ended | Life::Reaped => return Err(Stop::NotEnabled),
+        }
+        self.scribble_at(alloc, i, inc, act)
     }
 
     // An event happens.
@@ -452,6 +524,7 @@ impl State {
             Event::Crash(inc) => self.crash(alloc, *inc),
             Event::Reap(inc) => self.reap(alloc, *inc),
             Event::Done(f) => self.done(alloc, *f),
+            Event::Scribble(inc, act) => self.scribble(alloc, *inc, *act),
         }
     }
 

@@ -14,8 +14,8 @@ use world_model::event::{Event, Stop};
 
 /// A container, its servers, the messages between them, and the files.
 ///
-/// Every world is safe, whatever happened in it: no call acted twice, a kept reply is the reply to its call, no save was
-/// counted twice, both sides count one content for a save, and the file of a frame denotes the document of its last
+/// Every world is safe, whatever happened in it: no call acted twice, a kept reply is the reply to its call, each content
+/// that was taken was sent under the storage grant that the container held open, no save was counted twice, both sides count one content for a save, and the file of a frame denotes the document of its last
 /// counted commit.
 #[derive(Drop)]
 pub struct World {

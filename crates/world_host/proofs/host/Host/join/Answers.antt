@@ -1,7 +1,7 @@
 use Rattle.std.proofs.Common.{◌≡◌, ◌∙◌, ◌++◌, ◌+◌, ◌-◌, ap, length, map, arith}
 use Rattle.std.specs.List.{range_with_len}
 use Rattle.world_model.specs.World.{messages_of, commits_of, of_container}
-use Rattle.world_host.specs.Starts.{starts_of}
+use Rattle.world_host.specs.Servers.{ends_of, starts_of}
 use Rattle.world_host.specs.View.{bare}
 use Rattle.world_host.proofs.Joins.{joins, starts_few}
 use Rattle.world_host.proofs.host.Host.join.Goals as goal
@@ -23,3 +23,6 @@ pub returns-clause-few : goal.returns-clause-few
 returns-clause-few c =
     let e = c.share.ensures.starts ∙ (ap (λ xs. xs ++ starts_of c.into_vec.result.items) c.requires.room.no_starts ∙ ap starts_of c.into_vec.ensures) in
     rw e (starts_few c.args.answer.actions)
+
+pub returns-clause-ends : goal.returns-clause-ends
+returns-clause-ends c = c.share.ensures.ends ∙ (ap (λ xs. xs ++ ends_of c.into_vec.result.items) c.requires.room.no_ends ∙ ap ends_of c.into_vec.ensures)

@@ -1,0 +1,98 @@
+-- What a step of the container makes of a world without servers and stock, it makes of the same world with them.
+use Rattle.std.proofs.Common.{◌≡◌, ℕ, Bool, true, false, List, [], ◌∷◌, ◌++◌, map, Option, Some, None, Result, Ok, Err, length, if◌then◌else◌, refl, ap, sym, ◌∙◌}
+use Rattle.std.specs.Prelude.{nat_le}
+use Rattle.std.proofs.lemmas.List.{append-nil}
+use Rattle.wire_msgs.specs.Found.{nth}
+use Rattle.wire_msgs.specs.declared.message.Message.{Message}
+use Rattle.container_model.specs.Record.{Took}
+use Rattle.container_model.specs.Commands.{on_command}
+use Rattle.container_model.specs.Messages.{on_message, on_reap}
+use Rattle.container_model.specs.Saves.{image, commit_done}
+use Rattle.container_model.specs.declared.answer.Part.{Part}
+use Rattle.container_model.specs.declared.command.Command.{Command}
+use Rattle.container_model.specs.declared.record.Frame.{Frame}
+use Rattle.container_model.specs.declared.fault.ContainerFault.{ContainerFault}
+use Rattle.world_model.specs.declared.logs.Taken.{Taken}
+use Rattle.world_model.specs.declared.event.Stop.{Stop}
+use Rattle.world_model.specs.declared.event.Stop.TheVariants.{EventLimit}
+use Rattle.world_model.specs.World.{World, Instance, joined, took, commanded, started_by, ended_by, fresh, limited, done, done_in, done_imaged, done_taken, kept_commit, MOST_EVENTS}
+use Rattle.world_host.specs.Logging.{heard, heard_as, brought}
+use Rattle.world_host.specs.Servers.{ends_by, ends_in, ends_of}
+use Rattle.world_host.specs.View.{started}
+use Rattle.world_host.proofs.Joins.{ends_same, none_ended}
+use Rattle.world_run.proofs.Lifts.{emptied}
+
+-- a world whose servers were told of, with those that ended and started
+abbrev pub finished : World → World → ℕ → List ℕ → List ℕ → World
+finished w b numbers ends starts = record b { instances = ends_by ends w.instances ++ map (fresh numbers) starts; stock = w.stock }
+
+abbrev lifted : World → List ℕ → World → World
+lifted w ends x = record x { instances = ends_by ends w.instances ++ x.instances; stock = w.stock }
+
+none_lifted : (w : World) (ends : List ℕ) → ends ≡ [] → ends_by ends w.instances ++ [] ≡ w.instances
+none_lifted w ends e = ap (λ xs. ends_by xs w.instances ++ []) e ∙ append-nil w.instances
+
+joins_lifted : (w : World) (t : Took) (ends : List ℕ) → ends ≡ ends_of t.answer.actions
+    → ends_by ends w.instances ++ (ended_by t.answer.actions [] ++ started_by t.rec.numbers t.answer.actions) ≡ ended_by t.answer.actions w.instances ++ started_by t.rec.numbers t.answer.actions
+joins_lifted w t ends e =
+    ap (λ xs. ends_by xs w.instances ++ (ended_by t.answer.actions [] ++ started_by t.rec.numbers t.answer.actions)) e
+    ∙ (ap (λ is. is ++ (ended_by t.answer.actions [] ++ started_by t.rec.numbers t.answer.actions)) (sym (ends_same t.answer.actions w.instances))
+    ∙ ap (λ is. ended_by t.answer.actions w.instances ++ (is ++ started_by t.rec.numbers t.answer.actions)) (none_ended t.answer.actions))
+
+pub took_lifted : (w b : World) (told : Result Took ContainerFault) (numbers : ℕ) (ends starts : List ℕ) → took (emptied w) told ≡ started b numbers starts → ends ≡ ends_in told → took w told ≡ finished w b numbers ends starts
+took_lifted w b (Err fault) numbers ends starts h e = sym (ap (λ is. record (took w (Err fault)) { instances = is }) (none_lifted w ends e)) ∙ ap (lifted w ends) h
+took_lifted w b (Ok t) numbers ends starts h e = sym (ap (λ is. record (joined w t) { instances = is }) (joins_lifted w t ends e)) ∙ ap (lifted w ends) h
+
+pub commanded_lifted : (w b : World) (c : Command) (told : Result Took ContainerFault) (numbers : ℕ) (ends starts : List ℕ) → commanded (emptied w) c told ≡ started b numbers starts → ends ≡ ends_in told
+    → commanded w c told ≡ finished w b numbers ends starts
+commanded_lifted w b c (Err fault) numbers ends starts h e = took_lifted w b (Err fault) numbers ends starts h e
+commanded_lifted w b c (Ok t) numbers ends starts h e = sym (ap (λ is. record (commanded w c (Ok t)) { instances = is }) (joins_lifted w t ends e)) ∙ ap (lifted w ends) h
+
+pub heard_lifted : (w b : World) (entry : List Taken) (told : Result Took ContainerFault) (numbers : ℕ) (ends starts : List ℕ) → heard_as (emptied w) entry told ≡ started b numbers starts → ends ≡ ends_in told
+    → heard_as w entry told ≡ finished w b numbers ends starts
+heard_lifted w b entry (Err fault) numbers ends starts h e = sym (ap (λ is. record (heard_as w entry (Err fault)) { instances = is }) (none_lifted w ends e)) ∙ ap (lifted w ends) h
+heard_lifted w b entry (Ok t) numbers ends starts h e = sym (ap (λ is. record (heard_as w entry (Ok t)) { instances = is }) (joins_lifted w t ends e)) ∙ ap (lifted w ends) h
+
+-- the same of a commit that is done, and of a world that takes no more
+free : (w v : World) → nat_le MOST_EVENTS (length w.answers) ≡ false → limited w (Ok v) ≡ Ok v
+free w v e = rw e refl
+
+ok_is : (x y : World) → ◌≡◌ {A = Result World Stop} (Ok x) (Ok y) → x ≡ y
+ok_is x y e = cc
+
+limit_lifted : (w b u : World) (t : Took) (full : Bool) (numbers : ℕ) (ends starts : List ℕ) → u.instances ≡ w.instances → u.stock ≡ w.stock → (if full then Err EventLimit else Ok (joined (emptied u) t)) ≡ Ok (started b numbers starts) → ends ≡ ends_of t.answer.actions
+    → (if full then Err EventLimit else Ok (joined u t)) ≡ Ok (finished w b numbers ends starts)
+limit_lifted w b u t true numbers ends starts i s h e = cc
+limit_lifted w b u t false numbers ends starts i s h e = ap Ok (took_lifted u b (Ok t) numbers ends starts (ok_is _ _ h) e ∙ rw (i, s) refl)
+
+taken_lifted : (w b : World) (f : ℕ) (bytes : List ℕ) (frame : Frame) (parts : List Part) (told : Result Took ContainerFault) (numbers : ℕ) (ends starts : List ℕ)
+    → limited (emptied w) (done_taken (emptied w) f bytes frame parts told) ≡ Ok (started b numbers starts) → ends ≡ ends_in told → limited w (done_taken w f bytes frame parts told) ≡ Ok (finished w b numbers ends starts)
+taken_lifted w b f bytes frame parts (Err fault) numbers ends starts h e = cc
+taken_lifted w b f bytes frame parts (Ok t) numbers ends starts h e = limit_lifted w b (kept_commit w f frame parts t.counted bytes) t (nat_le MOST_EVENTS (length w.answers)) numbers ends starts refl refl h e
+
+imaged_lifted : (w b : World) (f : ℕ) (bytes : List ℕ) (frame : Frame) (parts : Result (List Part) ContainerFault) (numbers : ℕ) (ends starts : List ℕ)
+    → limited (emptied w) (done_imaged (emptied w) f bytes frame parts) ≡ Ok (started b numbers starts) → ends ≡ ends_in (commit_done w.rec f) → limited w (done_imaged w f bytes frame parts) ≡ Ok (finished w b numbers ends starts)
+imaged_lifted w b f bytes frame (Err fault) numbers ends starts h e = cc
+imaged_lifted w b f bytes frame (Ok parts) numbers ends starts h e = taken_lifted w b f bytes frame parts (commit_done w.rec f) numbers ends starts h e
+
+in_lifted : (w b : World) (f : ℕ) (bytes : List ℕ) (frame : Option Frame) (numbers : ℕ) (ends starts : List ℕ)
+    → limited (emptied w) (done_in (emptied w) f bytes frame) ≡ Ok (started b numbers starts) → ends ≡ ends_in (commit_done w.rec f) → limited w (done_in w f bytes frame) ≡ Ok (finished w b numbers ends starts)
+in_lifted w b f bytes None numbers ends starts h e = cc
+in_lifted w b f bytes (Some frame) numbers ends starts h e = imaged_lifted w b f bytes frame (image w.rec f) numbers ends starts h e
+
+-- what an event made of a world that takes it
+pub command_taken : (w b v : World) (c : Command) (numbers : ℕ) (ends starts : List ℕ) → nat_le MOST_EVENTS (length w.answers) ≡ false → commanded (emptied w) c (on_command w.rec c) ≡ started b numbers starts → ends ≡ ends_in (on_command w.rec c)
+    → v ≡ finished w b numbers ends starts → limited w (Ok (commanded w c (on_command w.rec c))) ≡ Ok v
+command_taken w b v c numbers ends starts room h e is = free w _ room ∙ ap Ok (commanded_lifted w b c (on_command w.rec c) numbers ends starts h e ∙ sym is)
+
+pub told_taken : (w b v : World) (p inc : ℕ) (m : Message) (numbers : ℕ) (ends starts : List ℕ) → nat_le MOST_EVENTS (length w.answers) ≡ false → heard (emptied w) p inc m ≡ started b numbers starts → ends ≡ ends_in (on_message w.rec inc m)
+    → v ≡ finished w b numbers ends starts → limited w (Ok (heard w p inc m)) ≡ Ok v
+told_taken w b v p inc m numbers ends starts room h e is = free w _ room ∙ ap Ok (heard_lifted w b (brought p w.rec.objects m) (on_message w.rec inc m) numbers ends starts h e ∙ sym is)
+
+pub reap_taken : (w b v : World) (inc : ℕ) (numbers : ℕ) (ends starts : List ℕ) → took (emptied w) (on_reap w.rec inc) ≡ started b numbers starts → ends ≡ ends_in (on_reap w.rec inc)
+    → v ≡ finished w b numbers ends starts → took w (on_reap w.rec inc) ≡ v
+reap_taken w b v inc numbers ends starts h e is = took_lifted w b (on_reap w.rec inc) numbers ends starts h e ∙ sym is
+
+pub done_taken_all : (w b v : World) (f : ℕ) (bytes : List ℕ) (numbers : ℕ) (ends starts : List ℕ) → limited (emptied w) (done (emptied w) f bytes) ≡ Ok (started b numbers starts) → ends ≡ ends_in (commit_done w.rec f)
+    → v ≡ finished w b numbers ends starts → limited w (done w f bytes) ≡ Ok v
+done_taken_all w b v f bytes numbers ends starts h e is = in_lifted w b f bytes (nth w.rec.frames f) numbers ends starts h e ∙ ap Ok (sym is)
