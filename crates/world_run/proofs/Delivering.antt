@@ -1,5 +1,5 @@
 -- What the delivery of a message makes of a world, with what is logged of it.
-use Rattle.std.proofs.Common.{◌≡◌, ℕ, List, [], ◌∷◌, ◌++◌, Option, Some, None, Result, Ok, Err, refl, ap, sym, ◌∙◌, slice_get}
+use Rattle.std.proofs.Common.{◌≡◌, ◌<◌, ℕ, length, get_or, List, [], ◌++◌, Option, Some, None, Result, Ok, Err, refl, ap, sym, ◌∙◌, slice_get}
 use Rattle.std.specs.List.{remove}
 use Rattle.std.proofs.lemmas.List.{append-nil}
 use Rattle.wire_msgs.specs.Found.{find, nth}
@@ -7,23 +7,19 @@ use Rattle.wire_msgs.specs.declared.message.Message.{Message}
 use Rattle.wire_msgs.specs.declared.message.Message.TheVariants.{Call, Reply, Write, Ask}
 use Rattle.wire_msgs.specs.declared.operation.Operation.{Operation}
 use Rattle.embed_core.specs.Kinds.{Kind}
-use Rattle.server_model.specs.Server.{Served, on_call, wanted}
+use Rattle.server_model.specs.Server.{Served, on_call}
 use Rattle.server_model.specs.declared.fault.ServerFault.{ServerFault}
 use Rattle.container_model.specs.Record.{Record, Took, is_linked}
 use Rattle.container_model.specs.Messages.{on_message}
 use Rattle.container_model.specs.declared.fault.ContainerFault.{ContainerFault}
-use Rattle.world_model.specs.declared.life.Life.{Life}
-use Rattle.world_model.specs.declared.life.Life.TheVariants.{Running, Ended, Reaped}
 use Rattle.world_model.specs.declared.logs.Sent.{Sent}
-use Rattle.world_model.specs.declared.logs.Taken.{Taken}
-use Rattle.world_model.specs.declared.event.Stop.{Stop}
-use Rattle.world_model.specs.declared.event.Stop.TheVariants.{NotEnabled, OutOfStock, EventLimit, NoMemory}
-use Rattle.world_model.specs.World.{World, Instance, Refuses, limited, served, called, called_in, called_wanting, stocked, delivered, deliver, is_of, taken_at, taken_by, taken_of, took, with_taken}
+use Rattle.world_model.specs.World.{World, Instance, served, delivered, deliver, taken_at, taken_by, taken_of, took, with_taken}
 use Rattle.world_host.specs.Logging.{brought, heard_as}
 use Rattle.world_host.specs.Logging as entry
 use Rattle.world_run.specs.declared.plan.Plan.{Plan}
 use Rattle.world_run.specs.declared.plan.Plan.TheVariants.{Quiet, Tell, Serve, Begin}
 use Rattle.world_run.specs.Plans.{carried, carried_call, logged, serving}
+use Rattle.world_run.proofs.Serving.{stands}
 
 -- a call brings nothing
 none_more : (w v : World) → v.taken ≡ w.taken → record v { taken = w.taken ++ [] } ≡ v
@@ -60,36 +56,9 @@ delivers w p (Ask inc act g) plan e = heard_same w p inc act (on_message w.rec i
 pub deliver_is : (w : World) (p : ℕ) (x : Sent) (plan : Plan) → nth w.sent p ≡ Some x → delivered w x.message ≡ carried w x.message plan → deliver w p (nth w.sent p) ≡ logged w p x.message plan
 deliver_is w p x plan at e = ap (deliver w p) at ∙ delivers w p x.message plan e
 
--- a delivery isn't refused for want of memory
-stocked_fine : (w : World) (inc act n : ℕ) (op : Operation) (i : Instance) (class : List ℕ) (o : Option Kind) → stocked w inc act n op i class o ≡ Err NoMemory → ⊥
-stocked_fine w inc act n op i class None e = cc
-stocked_fine w inc act n op i class (Some kind) e = cc
-
-wanting_fine : (w : World) (inc act n : ℕ) (op : Operation) (i : Instance) (o : Option (List ℕ)) → called_wanting w inc act n op i o ≡ Err NoMemory → ⊥
-wanting_fine w inc act n op i None e = cc
-wanting_fine w inc act n op i (Some class) e = stocked_fine w inc act n op i class (find (is_of class) w.stock) e
-
-in_fine : (w : World) (inc act n : ℕ) (op : Operation) (i : Instance) (life : Life) → called_in w inc act n op i life ≡ Err NoMemory → ⊥
-in_fine w inc act n op i Running e = wanting_fine w inc act n op i (wanted i.core (Call inc act n op)) e
-in_fine w inc act n op i Ended e = cc
-in_fine w inc act n op i Reaped e = cc
-
-called_fine : (w : World) (inc act n : ℕ) (op : Operation) (o : Option Instance) → called w inc act n op o ≡ Err NoMemory → ⊥
-called_fine w inc act n op None e = cc
-called_fine w inc act n op (Some i) e = in_fine w inc act n op i i.life e
-
-fine : (w : World) (m : Message) → delivered w m ≡ Err NoMemory → ⊥
-fine w (Call inc act n op) e = called_fine w inc act n op (nth w.instances inc) e
-fine w (Reply inc act n answer) e = cc
-fine w (Write inc act s number content) e = cc
-fine w (Ask inc act g) e = cc
-
-told_refused : (w : World) (m : Message) (stop : Stop) (told : Result World Stop) → delivered w m ≡ Err stop → told ≡ Err stop → Refuses told stop
-told_refused w m NotEnabled told e t = t
-told_refused w m OutOfStock told e t = t
-told_refused w m EventLimit told e t = t
-told_refused w m NoMemory told e t = absurd (fine w m e)
-
-pub deliver_refused : (w : World) (p : ℕ) (x : Sent) (stop : Stop) → nth w.sent p ≡ Some x → delivered w x.message ≡ Err stop → Refuses (limited w (deliver w p (nth w.sent p))) stop
-deliver_refused w p x stop at e =
-    told_refused w x.message stop (limited w (deliver w p (nth w.sent p))) e (ap (λ o. limited w (deliver w p o)) at ∙ ap (λ told. limited w (with_taken w (taken_at w.rec p x.message) told)) e)
+-- a message that is read twice
+pub same_at : {A : Type 0} (xs ys : List A) (i : ℕ) (x y : A) → xs ≡ ys → i < length ys → x ≡ get_or ys i x → y ≡ get_or xs i y → y ≡ x
+same_at xs ys i x y e lt ex ey =
+    let fits : i < length xs = rw e lt in
+    let z : Some y ≡ Some x = sym (stands xs i y fits ey) ∙ (ap (λ zs. slice_get zs i) e ∙ stands ys i x lt ex) in
+    cc

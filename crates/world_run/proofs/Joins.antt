@@ -1,8 +1,8 @@
 -- What a step of the container makes of a world without servers and stock, it makes of the same world with them.
-use Rattle.std.proofs.Common.{◌≡◌, ℕ, Bool, true, false, List, [], ◌∷◌, ◌++◌, map, Option, Some, None, Result, Ok, Err, length, if◌then◌else◌, refl, ap, sym, ◌∙◌}
-use Rattle.std.specs.Prelude.{nat_le}
+use Rattle.std.proofs.Common.{◌≡◌, ℕ, Bool, true, false, List, [], ◌++◌, map, Option, Some, None, Result, Ok, Err, length, if◌then◌else◌, refl, ap, sym, ◌∙◌}
+use Rattle.std.specs.Prelude.{nat_le, IfSome, IsSome}
 use Rattle.std.proofs.lemmas.List.{append-nil}
-use Rattle.wire_msgs.specs.Found.{nth}
+use Rattle.wire_msgs.specs.Found.{nth, set_nth}
 use Rattle.wire_msgs.specs.declared.message.Message.{Message}
 use Rattle.container_model.specs.Record.{Took}
 use Rattle.container_model.specs.Commands.{on_command}
@@ -14,8 +14,10 @@ use Rattle.container_model.specs.declared.record.Frame.{Frame}
 use Rattle.container_model.specs.declared.fault.ContainerFault.{ContainerFault}
 use Rattle.world_model.specs.declared.logs.Taken.{Taken}
 use Rattle.world_model.specs.declared.event.Stop.{Stop}
+use Rattle.world_model.specs.declared.life.Life.{Life}
+use Rattle.world_model.specs.declared.life.Life.TheVariants.{Ended, Reaped}
 use Rattle.world_model.specs.declared.event.Stop.TheVariants.{EventLimit}
-use Rattle.world_model.specs.World.{World, Instance, joined, took, commanded, started_by, ended_by, fresh, limited, done, done_in, done_imaged, done_taken, kept_commit, MOST_EVENTS}
+use Rattle.world_model.specs.World.{World, Instance, joined, took, commanded, started_by, ended, ended_by, fresh, limited, reap, done, done_in, done_imaged, done_taken, kept_commit, MOST_EVENTS}
 use Rattle.world_host.specs.Logging.{heard, heard_as, brought}
 use Rattle.world_host.specs.Servers.{ends_by, ends_in, ends_of}
 use Rattle.world_host.specs.View.{started}
@@ -89,9 +91,21 @@ pub told_taken : (w b v : World) (p inc : ℕ) (m : Message) (numbers : ℕ) (en
     → v ≡ finished w b numbers ends starts → limited w (Ok (heard w p inc m)) ≡ Ok v
 told_taken w b v p inc m numbers ends starts room h e is = free w _ room ∙ ap Ok (heard_lifted w b (brought p w.rec.objects m) (on_message w.rec inc m) numbers ends starts h e ∙ sym is)
 
-pub reap_taken : (w b v : World) (inc : ℕ) (numbers : ℕ) (ends starts : List ℕ) → took (emptied w) (on_reap w.rec inc) ≡ started b numbers starts → ends ≡ ends_in (on_reap w.rec inc)
-    → v ≡ finished w b numbers ends starts → took w (on_reap w.rec inc) ≡ v
-reap_taken w b v inc numbers ends starts h e is = took_lifted w b (on_reap w.rec inc) numbers ends starts h e ∙ sym is
+reap_some : (w b m v : World) (inc : ℕ) (life : Life) (z : Instance) (numbers : ℕ) (ends starts : List ℕ) → nth w.instances inc ≡ Some z → z.life ≡ Ended → nat_le MOST_EVENTS (length w.answers) ≡ false
+    → took (emptied w) (on_reap w.rec inc) ≡ started b numbers starts → ends ≡ ends_in (on_reap w.rec inc)
+    → m ≡ record b { instances = set_nth w.instances inc (record z { life = Reaped }); stock = w.stock } → v ≡ record m { instances = ends_by ends m.instances ++ map (fresh numbers) starts }
+    → limited w (reap w inc (nth w.instances inc)) ≡ Ok v
+reap_some w b m v inc life z numbers ends starts e r room h en em ev =
+    let u : World = record w { instances = set_nth w.instances inc (record z { life = Reaped }) } in
+    ap (λ o. limited w (reap w inc o)) e ∙ (ap (λ l. limited w (ended w inc z l)) r ∙ (free w _ room ∙ ap Ok (took_lifted u b (on_reap w.rec inc) numbers ends starts h en
+    ∙ sym (ev ∙ ap (λ (x : World). record x { instances = ends_by ends x.instances ++ map (fresh numbers) starts }) em))))
+
+pub reap_taken : (w b m v : World) (inc : ℕ) (life : Life) (o : Option Instance) (numbers : ℕ) (ends starts : List ℕ) → nth w.instances inc ≡ o → IsSome o → IfSome o (λ x. x.life ≡ life) → life ≡ Ended
+    → nat_le MOST_EVENTS (length w.answers) ≡ false → took (emptied w) (on_reap w.rec inc) ≡ started b numbers starts → ends ≡ ends_in (on_reap w.rec inc)
+    → IfSome o (λ x. m ≡ record b { instances = set_nth w.instances inc (record x { life = Reaped }); stock = w.stock }) → v ≡ record m { instances = ends_by ends m.instances ++ map (fresh numbers) starts }
+    → limited w (reap w inc (nth w.instances inc)) ≡ Ok v
+reap_taken w b m v inc life None numbers ends starts e is i l room h en em ev = cc
+reap_taken w b m v inc life (Some z) numbers ends starts e is i l room h en em ev = reap_some w b m v inc life z numbers ends starts e (i ∙ l) room h en em ev
 
 pub done_taken_all : (w b v : World) (f : ℕ) (bytes : List ℕ) (numbers : ℕ) (ends starts : List ℕ) → limited (emptied w) (done (emptied w) f bytes) ≡ Ok (started b numbers starts) → ends ≡ ends_in (commit_done w.rec f)
     → v ≡ finished w b numbers ends starts → limited w (done w f bytes) ≡ Ok v

@@ -386,13 +386,7 @@ impl State {
     }
 
     // What a plan says of the message at this place is done.
-    fn carry_out(
-        &mut self,
-        alloc: Global,
-        p: u32,
-        plan: Plan,
-        message: Message,
-    ) -> Result<(), Stop>
+    fn carry_out(&mut self, alloc: Global, p: u32, plan: Plan, message: Message) -> Result<(), Stop>
         requires { Fits (seen (λ s. content s.boxed) self.old) message plan }
         ensures taken { OnOk result (carry (seen (λ s. content s.boxed) self.old) p message plan ≡ Ok (seen (λ s. content s.boxed) self.new)) }
         ensures refused { IfErr result (Refuses (carry (seen (λ s. content s.boxed) self.old) p message plan)) }

@@ -46,7 +46,7 @@ returns g c =
       taken = scribble_dropped (seen (λ s. (goal.Embedded-dyn g (s.boxed.vtable, s.boxed.value)).content s.boxed.value) c.args.self.now) (bare c.dropped.new.self) c.args.inc c.args.act (slice_get (map (seen_instance (λ s. (goal.Embedded-dyn g (s.boxed.vtable, s.boxed.value)).content s.boxed.value)) c.args.self.now.instances.items) c.args.i) ((seen_instance (λ s. (goal.Embedded-dyn g (s.boxed.vtable, s.boxed.value)).content s.boxed.value)) x) _ _ c.in-Err.fault
           (seen_at (seen_instance (λ s. (goal.Embedded-dyn g (s.boxed.vtable, s.boxed.value)).content s.boxed.value)) c.args.self.now.instances.items c.args.i x c.requires.fits c.index_mut.ensures.value)
           c.in_ok-open.ensures.open
-          (refuses_told _ c.in-Err.fault c.in-Err.ensures.refused c.in_default.not-NoMemory)
+          (refuses_told _ c.in-Err.fault c.in-Err.ensures.refused c.in_default-fault.not-NoMemory)
           (c.dropped.ensures ∙ ap (λ (b : World). record b { answers = b.answers ++ told.Dropped c.in-Err.fault ∷ [] }) (c.reply_room.ensures.kept ∙ c.open.ensures.kept))
           (map-set_same (seen_instance (λ s. (goal.Embedded-dyn g (s.boxed.vtable, s.boxed.value)).content s.boxed.value)) c.args.self.now.instances.items c.args.i (record { life = x.life; core = c.scribble.new.self }) x
           (ap (λ (k : Server). record ((seen_instance (λ s. (goal.Embedded-dyn g (s.boxed.vtable, s.boxed.value)).content s.boxed.value)) x) { core = k }) c.in-Err.ensures.kept ∙ ap (seen_instance (λ s. (goal.Embedded-dyn g (s.boxed.vtable, s.boxed.value)).content s.boxed.value)) c.index_mut.ensures.value))
