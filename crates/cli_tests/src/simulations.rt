@@ -66,6 +66,11 @@ fn lines_that_spell_no_event_are_told(rt: HostRuntime) -> Result<(), Fail> {
         "crash",
         "reap 1 1",
         "done 01",
+        "kill",
+        "delete 1 1",
+        "scribble 1",
+        "close 1",
+        "close 1 Save",
     ] {
         assert_eq!(rt;
             refusal(rt.alloc(), text)?.as_str(),
@@ -90,6 +95,11 @@ fn events_that_are_taken_are_no_bad_lines(rt: HostRuntime) -> Result<(), Fail> {
         "crash 1",
         "reap 1",
         "done 1",
+        "kill 1",
+        "delete 1",
+        "close 1 save",
+        "close 1 nosave",
+        "scribble 1 1",
     ] {
         assert_eq!(rt; refusal(rt.alloc(), text)?.as_str(), "taken", "{text}");
     }

@@ -3,6 +3,7 @@
 use crate::words::{halves, number};
 use container_model::command::{Command, ObjectKind};
 use object_parts::area::Area;
+use object_state::CloseOption;
 use std::alloc::{AllocError, Global};
 use storage_tree::bytes::Bytes;
 use world_model::event::Event;
@@ -30,20 +31,26 @@ fn command(alloc: Global, verb: &str, n: &str) -> Result<Command, AllocError> {
     match verb.as_bytes() {
         [b'n', ..] => Ok(Command::New(bytes(alloc, "a", 0)?, 40, 10)),
         [b'i', ..] => Ok(insert()),
+        [b'b', ..] => Ok(Command::New(bytes(alloc, "b", 0)?, 40, 10)),
         [b'r', b'u', ..] => Ok(Command::Run(1, 1)),
+        [b'k', ..] => Ok(Command::Kill(1)),
+        [b'c', ..] => Ok(Command::Close(1, CloseOption::SaveIfDirty)),
+        [b'd', ..] => Ok(Command::Delete(1)),
         [b'e', ..] => Ok(Command::Edit(1, bytes(alloc, "i 0 ", number(n))?)),
         [b's', b'a', ..] => Ok(Command::Save(1)),
         _ => Ok(Command::Start),
     }
 }
 
-/// `new`, `insert`, `start`, `run`, `edit:COUNT` of so many letters, `save`, `deliver:PLACE`, `crash`, `reap` or `done`.
+/// `new`, `beside` for a second frame, `insert`, `start`, `run`, `edit:COUNT` of so many letters, `save`, `kill`, `close`,
+/// `delete`, `deliver:PLACE`, `scribble`, `crash`, `reap` or `done`.
 fn event(alloc: Global, word: &str) -> Result<Event, AllocError> {
     let (verb, n) = halves(word, ":");
     match verb.as_bytes() {
-        [b'd', b'e', ..] => Ok(Event::Deliver(number(n))),
-        [b'd', ..] => Ok(Event::Done(1)),
-        [b'c', ..] => Ok(Event::Crash(1)),
+        [b'd', b'e', b'l', b'i', ..] => Ok(Event::Deliver(number(n))),
+        [b'd', b'o', ..] => Ok(Event::Done(1)),
+        [b's', b'c', ..] => Ok(Event::Scribble(1, 1)),
+        [b'c', b'r', ..] => Ok(Event::Crash(1)),
         [b'r', b'e', ..] => Ok(Event::Reap(1)),
         _ => Ok(Event::Command(command(alloc, verb, n)?)),
     }

@@ -2,12 +2,12 @@
 
 use cfb_directory::name::Name;
 use container_model::answer::Done;
+use ole_streams::doc::{Doc, DocObject};
+use ole_streams::document_of::document_of;
 use std::alloc::{AllocError, Global};
 use std::test::Fail;
-use storage_tree::storage::Found;
-use storage_tree::tree::Tree;
 use stream_io::read::read_file;
-use world_model::logs::{Document, EventAnswer, ServerDone};
+use world_model::logs::{Document, EventAnswer, ServerDone, Taken};
 use world_run::world::World;
 
 /// How many events were taken, messages sent, and frames there are.
@@ -76,22 +76,58 @@ pub(crate) fn answer(world: &World, event: u32) -> &'static str {
     }
 }
 
-fn read(alloc: Global, file: &[u8]) -> Result<Tree, Fail> {
-    Ok(read_file(alloc, file)?)
-}
-
-fn text_of(tree: &Tree, name: &Name) -> &'static str {
-    match tree.get(&[name.copy()]) {
-        Ok(Found::Stream(text)) if text.as_slice() == b"aa".as_slice() => "aa",
-        Ok(_) => "another",
-        Err(_) => "no text",
+/// The document of a file, or none.
+fn read(alloc: Global, file: &[u8]) -> Result<Option<Doc>, Fail> {
+    match document_of(alloc, read_file(alloc, file)?) {
+        Ok(doc) => Ok(Some(doc)),
+        Err(_) => Ok(None),
     }
 }
 
-/// The text of the note in the file of a frame.
+fn text_of(object: &DocObject, name: &Name) -> &'static str {
+    match object.stored.streams.get(name) {
+        Some(text) if text.as_slice() == b"aa".as_slice() => "aa",
+        Some(_) => "another",
+        None => "no text",
+    }
+}
+
+fn document_of_one(doc: &Doc, name: &Name) -> &'static str {
+    match doc.as_slice() {
+        [object] => text_of(object, name),
+        [] => "empty",
+        _ => "many",
+    }
+}
+
+/// The text of the one note in the document of the file of a frame.
 pub(crate) fn file(alloc: Global, world: &World, frame: u32) -> Result<&'static str, Fail> {
     match world.frame_file(frame) {
-        Some(file) => Ok(text_of(&read(alloc, file)?, &Name::new(b"Text")?)),
+        Some(file) => match read(alloc, file)? {
+            Some(doc) => Ok(document_of_one(&doc, &Name::new(b"Text")?)),
+            None => Ok("no document"),
+        },
         None => Ok("none"),
     }
+}
+
+fn taken_text(alloc: Global, taken: &[Taken]) -> Result<String, AllocError> {
+    match taken {
+        [taken] => {
+            let (place, object, inc, act, s) = (
+                taken.place,
+                taken.object,
+                taken.inc,
+                taken.act,
+                taken.s,
+            );
+            format!(in alloc; "{place} {object} {inc} {act} {s}")
+        }
+        _ => taken.len().to_string(alloc),
+    }
+}
+
+/// The one content that the container took, by its place, object, server, activation and storage grant, or how many.
+pub(crate) fn taken(alloc: Global, world: &World) -> Result<String, AllocError> {
+    taken_text(alloc, world.taken())
 }

@@ -3,7 +3,7 @@
 
 use crate::events::{events, starts};
 use crate::reports::{report, unwritten};
-use crate::shown::{answer, container_done, counted, file, server_done, sizes};
+use crate::shown::{answer, container_done, counted, file, server_done, sizes, taken};
 use crate::words::{halves, number};
 use container_core::container::Limits;
 use embed_core::embedded::Embedded;
@@ -51,7 +51,18 @@ stock 0 => 0
 many 10001 => 10000 EventLimit
 answer 1 => took
 answer 10000 => refused
+stock 1 => 0
+run new insert start run deliver:1 deliver:2 edit:2 deliver:3 deliver:4 scribble save deliver:6 deliver:5 deliver:7 done deliver:8 deliver:9 deliver:5 scribble deliver:10 deliver:10 => 21
+taken => 10 1 1 1 2
+file 1 => aa
+stock 1 => 0
+run new beside insert start run deliver:1 deliver:2 close deliver:3 deliver:4 delete kill crash => 12 NotEnabled
+sizes => 12 4 2
+taken => 4 1 1 1 1
+run scribble => 0 NotEnabled
+run reap => 1
 stock 0 => 0
+taken => 0
 report => 0
 unwritten => Unwritable";
 
@@ -108,6 +119,7 @@ fn shown(alloc: Global, world: &World, verb: &str, rest: &str) -> Result<String,
         [b'a', ..] => Ok(String::from_str(alloc, answer(world, number(rest)))?),
         [b'u', ..] => Ok(String::from_str(alloc, unwritten(alloc, world))?),
         [b's', b'i', ..] => Ok(sizes(alloc, world)?),
+        [b't', ..] => Ok(taken(alloc, world)?),
         [b's', ..] => Ok(server_done(alloc, world)?),
         [b'c', b'o', b'n', ..] => Ok(container_done(alloc, world)?),
         [b'c', ..] => Ok(counted(alloc, world)?),
