@@ -1,5 +1,5 @@
 -- Why a file isn't read, told of the reader's bytes.
-use Rattle.std.proofs.Common.{◌≡◌, ◌∙◌, ℕ, List, Option, Some, None, Result, Ok, Err, IfErr, IfSome, subst, sym}
+use Rattle.std.proofs.Common.{◌≡◌, ◌∙◌, ℕ, List, Option, Some, None, Result, Err, IfErr, IfSome, subst, sym}
 use Rattle.storage_tree.specs.Tree.{Tree}
 use Rattle.cfb_chain.specs.Header.{header_read}
 use Rattle.cfb_chain.specs.declared.fault.ChainFault.{ChainFault}

@@ -14,3 +14,5 @@ pub mod ReadingSorted
 pub mod ReadingStreams
 pub mod ReadingFile
 pub mod ReadingThere
+pub mod ReadingOutline
+pub mod ReadingPlaced

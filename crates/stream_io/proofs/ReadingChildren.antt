@@ -39,11 +39,11 @@ keys-child none k (n, inner t) = refl
 keys-child (stream q m b cs) k c = ap (λ ks. q ∷ ks) (keys-child cs k c)
 keys-child (storage q m t cs) k c = ap (λ ks. q ∷ ks) (keys-child cs k c)
 
-abbrev IsBehind : List ℕ → List ℕ → Type 0
+abbrev pub IsBehind : List ℕ → List ℕ → Type 0
 IsBehind k q = key_cmp k q ≡ Greater
 
 -- a child put under a key that is behind all
-place_behind : (k : List ℕ) (c : List ℕ × Seen) (cs : Children) → All (IsBehind k) (keys cs) → place k c cs ≡ followed cs (child k c none)
+pub place_behind : (k : List ℕ) (c : List ℕ × Seen) (cs : Children) → All (IsBehind k) (keys cs) → place k c cs ≡ followed cs (child k c none)
 place_behind k c none all = refl
 place_behind k c (stream q n b cs) all =
     ap (λ o. match_ordering o (child k c (stream q n b cs)) (child q c cs) (stream q n b (place k c cs))) (All-head (IsBehind k) q (keys cs) all)
@@ -113,6 +113,22 @@ next_behind dir ids i cs lt sorted is k e =
     let flip : key_cmp k (get_or ks j d) ≡ ordering_reverse (key_cmp (get_or ks j d) k) = nat_list_cmp_total.antisymm k (get_or ks j d) in
     ap (key_cmp k) there ∙ flip ∙ ap (λ x. ordering_reverse (key_cmp (get_or ks j d) x)) (sym here) ∙ ap ordering_reverse less in
     subst (All (IsBehind k)) (sym is) each
+
+-- the next entry, put behind those so far
+pub put_behind : (depth : ℕ) (ids : List ℕ) (old : Reader) (i : ℕ) (r next : Reader) (cs : Children) (k name : List ℕ) (s : Seen) → i < length ids
+    → IsStrictlySortedBy key_cmp (map (key_at (directory_in old)) ids) → Progress depth ids old i r cs → IsChildRead depth (get_or ids i 0) k name s r next
+    → IsChildPut depth (get_or ids i 0) r next cs (followed cs (child k (name, s) none))
+put_behind depth ids old i r next cs k name s lt sorted h is_read =
+    let dir : List ℕ = directory_in old in
+    let id : ℕ = get_or ids i 0 in
+    let at : k ≡ key_at dir id = is_read.named.under_key ∙ ap key is_read.named.named.units ∙ ap (λ (d : List ℕ). key_at d id) h.kept.directory in
+    record {
+      k = k;
+      name = name;
+      node = s;
+      is_read = is_read;
+      is_put = sym (place_behind k (name, s) cs (next_behind dir ids i cs lt sorted h.keys_are k at));
+    }
 
 pub progress_more : (depth : ℕ) (ids : List ℕ) (old : Reader) (i : ℕ) (r next : Reader) (cs ds : Children) → i < length ids
     → IsStrictlySortedBy key_cmp (map (key_at (directory_in old)) ids) → Progress depth ids old i r cs → IsChildPut depth (get_or ids i 0) r next cs ds

@@ -16,6 +16,8 @@ use Rattle.cfb_directory.specs.declared.fault.DirFault.{DirFault}
 use Rattle.cfb_directory.specs.declared.fault.DirFault.TheVariants as directory
 use Rattle.storage_tree.specs.Change.{Seen, bytes, inner, place}
 use Rattle.storage_tree.specs.Tree.{Tree, Children, tree, none, stream, storage}
+use Rattle.file_model.specs.Limits.{CUTOFF}
+use Rattle.stream_io.specs.View.{table_for}
 use Rattle.stream_io.specs.declared.fault.ReadFault.{ReadFault}
 use Rattle.stream_io.specs.declared.fault.ReadFault.TheVariants.{Chain, Directory, NoMemory}
 use Rattle.stream_io.specs.declared.read.Reader.{Reader}
@@ -43,15 +45,12 @@ key_at directory id = key (name_of (entry_at directory id))
 abbrev pub directory_in : Reader → List ℕ
 directory_in r = r.entries.directory
 
--- the table that a stream of a size lies in, and the tables once its sectors are marked
-abbrev pub table_for : ℕ → FatValue → FatValue → FatValue
-table_for size fat mini = if nat_lt size 4096 then mini else fat
-
+-- the tables once the sectors of a stream of a size are marked
 abbrev pub fat_after : ℕ → List ℕ → FatValue → FatValue
-fat_after size ns fat = if nat_lt size 4096 then fat else sectors_marked fat ns
+fat_after size ns fat = if nat_lt size CUTOFF then fat else sectors_marked fat ns
 
 abbrev pub mini_after : ℕ → List ℕ → FatValue → FatValue
-mini_after size ns mini = if nat_lt size 4096 then sectors_marked mini ns else mini
+mini_after size ns mini = if nat_lt size CUTOFF then sectors_marked mini ns else mini
 
 abbrev pub stream_after : ℕ → List ℕ → Reader → Reader
 stream_after size ns r = record { fat = fat_after size ns r.fat; mini = mini_after size ns r.mini; entries = r.entries }

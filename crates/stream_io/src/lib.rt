@@ -2,6 +2,8 @@
 #![tactic(auto)]
 
 pub mod fault;
+mod filling;
+pub mod outline;
 pub mod read;
 
 pub use file_writer::write;

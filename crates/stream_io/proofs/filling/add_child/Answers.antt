@@ -2,7 +2,7 @@ use Rattle.std.proofs.Common.{refl, sym}
 use Rattle.cfb_directory.specs.Names.{key}
 use Rattle.storage_tree.specs.View.{seen}
 use Rattle.storage_tree.proofs.Entries.{placed}
-use Rattle.stream_io.proofs.read.add_child.Goals as goal
+use Rattle.stream_io.proofs.filling.add_child.Goals as goal
 
 pub returns-in-Ok-clause-added : goal.returns-in-Ok-clause-added
 returns-in-Ok-clause-added c =
