@@ -151,19 +151,17 @@ impl<'a> Fat<'a> {
     }
 
     /// The bytes of the sectors, one after another.
-    pub fn join(&self, alloc: Global, sectors: &[u32]) -> Result<Vec<u8>, ChainFault>
+    pub fn join(&self, alloc: Global, sectors: &[u32]) -> Result<Vec<u8>, AllocError>
         requires { All (λ n. n < length self.now.table) sectors.now }
-        ensures bytes { IfOk result (λ v. v.items ≡ joined (store_of self.now).piece sectors.now) }
-        ensures refused { IfErr result (λ e. e ≡ NoMemory) }
+        ensures { IfOk result (λ v. v.items ≡ joined (store_of self.now).piece sectors.now) }
     {
-        let bytes = join_blocks(
+        join_blocks(
             alloc,
             self.pieces.width(),
             self.pieces.bytes(),
             self.pieces.start(),
             sectors,
-        )?;
-        Ok(bytes)
+        )
     }
 
     /// The bytes of the sectors, one after another, where they stand so in a file and needn't be joined.
@@ -200,9 +198,8 @@ impl<'a> Fat<'a> {
 
     /// The first `len` bytes of what the chain from a sector on holds, as far as it goes, whether its sectors are marked or
     /// not.
-    pub fn held(&self, alloc: Global, start: u32, len: u32) -> Result<Vec<u8>, ChainFault>
-        ensures bytes { IfOk result (λ v. v.items ≡ held self.now start len) }
-        ensures refused { IfErr result (λ e. e ≡ NoMemory) }
+    pub fn held(&self, alloc: Global, start: u32, len: u32) -> Result<Vec<u8>, AllocError>
+        ensures { IfOk result (λ v. v.items ≡ held self.now start len) }
     {
         let sectors = self.followed(alloc, start)?;
         let mut held = self.join(alloc, &sectors)?;
@@ -210,27 +207,10 @@ impl<'a> Fat<'a> {
         Ok(held)
     }
 
-    /// The first `len` bytes of the chain from a sector on, whose sectors it marks. Where `len` is 0 there is no chain,
-    /// and nothing is walked. A refusal marks none.
-    ///
-    /// Refused: as for `chain`, and `ShortChain` where the chain has no room for so many bytes; then `NoMemory`.
-    pub fn bytes(&mut self, alloc: Global, start: u32, len: u32) -> Result<Vec<u8>, ChainFault>
-        ensures found { IfOk result (λ v. (ns : List ℕ) × IsFound self.old start len ns × (v.items ≡ take len (joined (store_of self.old).piece ns)) × (self.new ≡ marked self.old ns)) }
-        ensures refused { IfErr result (MayRefuse self.old start len) }
-        ensures there { (ns : List ℕ) → IsFound self.old start len ns → IfErr result (λ e. e ≡ NoMemory) }
-        ensures kept { OnErr result (self.new ≡ self.old) }
-    {
-        let sectors = self.find(alloc, start, len as u64)?;
-        let mut bytes = self.join(alloc, &sectors)?;
-        bytes.truncate(len as usize);
-        self.mark(&sectors);
-        Ok(bytes)
-    }
-
     /// The table of the mini stream of `size` bytes that begins at `start`, with the mini FAT that the header names. The
     /// sectors of both chains are marked. A refusal marks none.
     ///
-    /// Refused: as for `bytes`, for either chain.
+    /// Refused: as for `mark_chain`, for either chain; then `NoMemory`.
     pub fn mini(
         &mut self,
         alloc: Global,
@@ -293,12 +273,11 @@ impl<'a> Fat<'a> {
     }
 
     /// The mini sectors of a mini stream that lies in these sectors.
-    fn mini_pieces(&self, alloc: Global, sectors: &[u32]) -> Result<Pieces<'a>, ChainFault>
+    fn mini_pieces(&self, alloc: Global, sectors: &[u32]) -> Result<Pieces<'a>, AllocError>
         requires { All (λ n. n < length self.now.table) sectors.now }
         ensures bytes { IfOk result (λ p. bytes_of p ≡ joined (store_of self.now).piece sectors.now) }
         ensures start { IfOk result (λ p. start_of p ≡ 0) }
         ensures width { IfOk result (λ p. width_of p ≡ 64) }
-        ensures refused { IfErr result (λ e. e ≡ NoMemory) }
     {
         match self.run(sectors) {
             Some(stream) => Ok(Pieces::MiniRun(stream)),

@@ -4,12 +4,12 @@ ghost use Rattle.file_commands.specs.Listing.{below, child_lines, listed, root_l
 ghost use Rattle.text_model.specs.Spelled.{name_text};
 ghost use Rattle.std.specs.Fmt.{decimal};
 ghost use Rattle.std.specs.Prelude.{◌≡◌, ◌<◌, ◌++◌, ◌∷◌, [], IfOk, OnOk};
-ghost use Rattle.stream_io.specs.View.{outline_view, part_view};
+ghost use Rattle.file_outline.specs.View.{outline_view, part_view};
 
 use cfb_directory::name::Name;
+use file_outline::outline::{Outline, Part};
 use std::alloc::{AllocError, Global};
 use storage_tree::class_id::ClassId;
-use stream_io::outline::{Outline, Part};
 use texts::writing::{push_class, push_name, push_numbered};
 
 /// The listing of an outline.

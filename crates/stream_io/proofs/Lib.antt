@@ -14,5 +14,4 @@ pub mod ReadingSorted
 pub mod ReadingStreams
 pub mod ReadingFile
 pub mod ReadingThere
-pub mod ReadingOutline
-pub mod ReadingPlaced
+pub mod ReadingTold

@@ -7,7 +7,7 @@ use Rattle.file_model.specs.Limits.{CUTOFF}
 use Rattle.storage_tree.specs.Tree.{Tree, Children, tree, none, stream, storage}
 use Rattle.storage_tree.specs.Change.{Seen, bytes, inner}
 use Rattle.stream_io.specs.Reads.{AreRead, IsNodeRead, IsStorageRead, IsStreamRead, directory_in, met, stream_after}
-use Rattle.stream_io.specs.View.{contents}
+use Rattle.file_outline.specs.View.{contents}
 use Rattle.stream_io.specs.declared.read.Reader.{Reader}
 
 pub record IsKept (old new : Reader) : Type 0 where

@@ -7,7 +7,7 @@ use Rattle.file_model.proofs.Unique.{linked_unique}
 use Rattle.storage_tree.specs.Tree.{Tree, Children, tree, none, stream, storage}
 use Rattle.storage_tree.specs.Change.{Seen, bytes, inner}
 use Rattle.stream_io.specs.Reads.{AreRead, IsNodeRead, IsStorageRead, IsStreamRead, directory_in, met, stream_after}
-use Rattle.stream_io.specs.View.{table_for}
+use Rattle.file_outline.specs.View.{table_for}
 use Rattle.stream_io.specs.declared.read.Reader.{Reader}
 use Rattle.stream_io.proofs.ReadingSorted.{sorted_same}
 

@@ -12,7 +12,8 @@ use Rattle.storage_tree.specs.Change.{Seen, bytes, child as with_child, inner}
 use Rattle.storage_tree.specs.Tree.{Tree, Children, none, tree}
 use Rattle.stream_io.specs.Reads.{AreRead, AreSorted, IsChild, IsChildPut, IsChildRead, IsNodeRead, IsStorage, IsStorageRead, directory_in, key_at, met}
 use Rattle.stream_io.specs.declared.read.Reader.{Reader}
-use Rattle.stream_io.proofs.ReadingChildren.{IsFirstRead, Progress, followed, put_behind, progress_all, progress_more, progress_next}
+use Rattle.file_outline.proofs.Followed.{followed}
+use Rattle.stream_io.proofs.ReadingChildren.{IsFirstRead, Progress, put_behind, progress_all, progress_more, progress_next}
 use Rattle.stream_io.proofs.ReadingEntries.{kind_inside}
 use Rattle.stream_io.proofs.ReadingKept.{IsKept, kept_met, kept_same, kept_then}
 use Rattle.stream_io.proofs.ReadingRefused.{linked_child}

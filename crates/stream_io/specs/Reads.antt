@@ -17,9 +17,13 @@ use Rattle.cfb_directory.specs.declared.fault.DirFault.TheVariants as directory
 use Rattle.storage_tree.specs.Change.{Seen, bytes, inner, place}
 use Rattle.storage_tree.specs.Tree.{Tree, Children, tree, none, stream, storage}
 use Rattle.file_model.specs.Limits.{CUTOFF}
-use Rattle.stream_io.specs.View.{table_for}
+use Rattle.file_model.specs.Denotes.{Denotes}
+use Rattle.file_outline.specs.Streams.{stream_at}
+use Rattle.file_outline.specs.View.{table_for}
 use Rattle.stream_io.specs.declared.fault.ReadFault.{ReadFault}
 use Rattle.stream_io.specs.declared.fault.ReadFault.TheVariants.{Chain, Directory, NoMemory}
+use Rattle.stream_io.specs.declared.fault.StreamFault.{StreamFault}
+use Rattle.stream_io.specs.declared.fault.StreamFault.TheVariants.{Read, Tree as Missing}
 use Rattle.stream_io.specs.declared.read.Reader.{Reader}
 
 -- the faults of the layers below
@@ -194,3 +198,15 @@ MayRefuseFile file (Directory directory.BadEntry) = Unit {0}
 MayRefuseFile file (Directory directory.TreeCycle) = Unit {0}
 MayRefuseFile file (Directory fault) = (dir : List ℕ) × IsDirectory file dir × MayRefuseBelow dir DEEPEST 0 fault
 MayRefuseFile file NoMemory = Unit {0}
+
+-- When bytes may be refused as a file: a header that is at fault is told by its fault, a file that denotes a tree is
+-- refused for want of memory alone, and the file has what is told of it.
+pub record MayRefuseRead (file : List ℕ) (fault : ReadFault) : Type 0 where
+  pub header : (e : ChainFault) → header_read file ≡ Err e → fault ≡ chain_fault e
+  pub reads : (t : Tree) → Denotes file t → fault ≡ NoMemory
+  pub told : MayRefuseFile file fault
+
+-- when the stream at a path of a file may be refused
+abbrev pub MayRefuseStream : List ℕ → List (List ℕ) → StreamFault → Type 0
+MayRefuseStream file path (Read fault) = MayRefuseRead file fault
+MayRefuseStream file path (Missing fault) = (t : Tree) × ∥ Denotes file t ∥₁ × (stream_at path t ≡ Err fault)

@@ -3,6 +3,7 @@
 use cfb_chain::fault::ChainFault;
 use cfb_directory::fault::DirFault;
 use std::alloc::{AllocError, AllocFailed};
+use storage_tree::fault::TreeFault;
 use thiserror::Error;
 
 /// Why a file isn't read.
@@ -17,6 +18,17 @@ pub enum ReadFault {
     /// No memory was left.
     #[error("no memory is left")]
     NoMemory,
+}
+
+/// Why the stream at a path of a file isn't read.
+#[derive(Debug, Clone, Copy, PartialEq, Eq, Error)]
+pub enum StreamFault {
+    /// The file isn't read.
+    #[error("{0}")]
+    Read(ReadFault),
+    /// Its tree has no stream at the path.
+    #[error("{0}")]
+    Tree(TreeFault),
 }
 
 impl ReadFault {

@@ -2,8 +2,6 @@
 #![tactic(auto)]
 
 pub mod fault;
-mod filling;
-pub mod outline;
 pub mod read;
 
 pub use file_writer::write;

@@ -16,19 +16,22 @@ ghost use Rattle.storage_tree.specs.Kept.{kept};
 ghost use Rattle.storage_tree.specs.Tree as tree;
 ghost use Rattle.file_model.specs.Outline.{outline_of, part_of};
 ghost use Rattle.file_model.specs.Denotes.{Denotes};
-ghost use Rattle.stream_io.specs.Reads.{AreSorted, IsChild, IsChildRead, IsKeyed, IsNodeRead, IsStorage, IsStorageRead, MayRefuseFile, MayRefuseNames, MayRefuseStorage, chain_fault, directory_in, key_at, met, stream_after};
-ghost use Rattle.stream_io.specs.View.{contents, directory_bytes, outline_view, part_view, shown, shown_part, table_for};
+ghost use Rattle.stream_io.specs.Reads.{AreSorted, IsChild, IsChildRead, IsKeyed, IsNodeRead, IsStorage, IsStorageRead, MayRefuseFile, MayRefuseNames, MayRefuseStorage, MayRefuseStream, chain_fault, directory_in, key_at, met, stream_after};
+ghost use Rattle.file_outline.specs.Streams.{stream_at};
+ghost use Rattle.file_outline.specs.View.{contents, outline_view, part_view, shown, shown_part, table_for};
+ghost use Rattle.stream_io.specs.View.{directory_bytes};
 ghost use Rattle.stream_io.specs.declared.fault.ReadFault.TheVariants.{NoMemory};
 ghost use Rattle.stream_io.specs.declared.read.Reader as reader;
 
-use crate::fault::ReadFault;
-use crate::filling::storage_at;
-use crate::outline::{Outline, Part, Place, is_short};
+use crate::fault::{ReadFault, StreamFault};
 use cfb_chain::fat::Fat;
 use cfb_chain::header::Header;
 use cfb_directory::entries::{Entries, Entry, EntryKind};
 use cfb_directory::fault::DirFault;
 use cfb_directory::name::Name;
+use file_outline::filling::{bytes_at, storage_at};
+use file_outline::finding::place_at;
+use file_outline::outline::{Outline, Part, Place, is_short};
 use std::alloc::{AllocError, Global};
 use std::collections::BTreeMap;
 use storage_tree::class_id::ClassId;
@@ -325,4 +328,27 @@ pub fn read_outline(alloc: Global, file: &[u8]) -> Result<Outline, ReadFault>
 {
     let layout = lay_out(alloc, file)?;
     Ok(layout.root)
+}
+
+/// The bytes of the stream at a path of the tree that a compound file denotes. Each chain of sectors is walked as for
+/// `read_file`, and no other stream is read.
+///
+/// Refused: as `read_file`; then `NotFound` where nothing stands at the path, and `WrongKind` where a storage does, or where
+/// a stream stands on the way.
+pub fn read_stream(alloc: Global, file: &[u8], path: &[Name]) -> Result<Vec<u8>, StreamFault>
+    ensures found { IfOk result (λ v. (t : tree.Tree) × ∥ Denotes file.now t ∥₁ × (stream_at path.now t ≡ Ok v.items)) }
+    ensures refused { IfErr result (MayRefuseStream file.now path.now) }
+{
+    let layout = match lay_out(alloc, file) {
+        Ok(layout) => layout,
+        Err(fault) => return Err(StreamFault::Read(fault)),
+    };
+    let place = match place_at(&layout.root, path) {
+        Ok(place) => place,
+        Err(fault) => return Err(StreamFault::Tree(fault)),
+    };
+    match bytes_at(alloc, &layout.fat, &layout.mini, place) {
+        Ok(bytes) => Ok(bytes),
+        Err(_) => Err(StreamFault::Read(ReadFault::NoMemory)),
+    }
 }

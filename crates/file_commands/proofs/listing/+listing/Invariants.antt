@@ -1,5 +1,5 @@
 use Rattle.std.proofs.Common.{◌≡◌, ◌++◌, drop}
-use Rattle.stream_io.specs.View.{parts_view}
+use Rattle.file_outline.specs.View.{parts_view}
 use Rattle.file_commands.specs.Listing.{each}
 use Rattle.file_commands.proofs.listing.+listing.Given as goal
 

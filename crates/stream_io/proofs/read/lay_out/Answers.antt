@@ -14,8 +14,9 @@ use Rattle.stream_io.proofs.ReadingFile.{IsOpened, IsReady, denoted, opened_at, 
 use Rattle.stream_io.proofs.ReadingOpened.{directory_is}
 use Rattle.stream_io.proofs.ReadingRefused.{chain_memory, directory_memory, file_chain, file_header, file_load, file_root, file_storage, of_minis, of_table, of_whole_chain, same_memory}
 use Rattle.stream_io.proofs.ReadingThere.{directory_there, load_not_refused, mini_there, root_marked, root_not_refused, storage_read}
-use Rattle.stream_io.specs.View.{contents, directory_bytes, outline_view, shown}
-use Rattle.stream_io.specs.declared.outline.Place.{Place}
+use Rattle.file_outline.specs.View.{contents, outline_view, shown}
+use Rattle.stream_io.specs.View.{directory_bytes}
+use Rattle.file_outline.specs.declared.outline.Place.{Place}
 use Rattle.stream_io.proofs.ReadingKept.{kept_storage}
 use Rattle.stream_io.proofs.read.lay_out.Goals as goal
 

@@ -11,12 +11,12 @@ use Rattle.stream_io.proofs.ReadingRefused.{same_memory}
 use Rattle.stream_io.proofs.read.read_file.Goals as goal
 
 pub from_root-requires : goal.from_root-requires
-from_root-requires c = ∥∥₁_map c.in_ok-layout.ensures.denotes (λ d. subst (λ (t : Tree). IsTree 32 t) (sym (c.in_ok-root.ensures.filled 32 d.is_tree)) d.is_tree)
+from_root-requires c = ∥∥₁_map c.in_ok-layout.ensures.denotes (λ d. subst (λ (t : Tree). IsTree 32 t) (sym (c.in_ok-root.ensures 32 d.is_tree)) d.is_tree)
 
 pub returns-clause-denotes : goal.returns-clause-denotes
 returns-clause-denotes c = ∥∥₁_map c.in_ok-layout.ensures.denotes (λ d.
     subst (λ (k : Kept). Denotes c.args.file.now k.now) (sym c.from_root.ensures)
-    (subst (λ (t : Tree). Denotes c.args.file.now t) (sym (c.in_ok-root.ensures.filled 32 d.is_tree)) d))
+    (subst (λ (t : Tree). Denotes c.args.file.now t) (sym (c.in_ok-root.ensures 32 d.is_tree)) d))
 
 pub returns-in_err-layout-clause-reads : goal.returns-in_err-layout-clause-reads
 returns-in_err-layout-clause-reads c = λ t d.
@@ -27,14 +27,3 @@ pub returns-in_err-layout-clause-refused : goal.returns-in_err-layout-clause-ref
 returns-in_err-layout-clause-refused c =
     let again : IsErrAnd c.from_residual.result (λ x. x ≡ c.in_err-layout.field-0.0) = search rules in
     refused_with c.from_residual.result c.in_err-layout.field-0.0 (MayRefuseFile c.args.file.now) again c.in_err-layout.ensures.refused
-
-pub returns-in_err-root-clause-reads : goal.returns-in_err-root-clause-reads
-returns-in_err-root-clause-reads c = λ t d.
-    let again : IsErrAnd c.from_residual-in_err-root.result (λ x. x ≡ c.in_err-root.field-0.0) = search rules in
-    same_memory c.from_residual-in_err-root.result c.in_err-root.field-0.0 again c.in_err-root.ensures.refused
-
-pub returns-in_err-root-clause-refused : goal.returns-in_err-root-clause-refused
-returns-in_err-root-clause-refused c =
-    let again : IsErrAnd c.from_residual-in_err-root.result (λ x. x ≡ c.in_err-root.field-0.0) = search rules in
-    refused_with c.from_residual-in_err-root.result c.in_err-root.field-0.0 (MayRefuseFile c.args.file.now) again
-    (subst (MayRefuseFile c.args.file.now) (sym c.in_err-root.ensures.refused) tt)

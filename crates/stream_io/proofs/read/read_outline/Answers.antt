@@ -2,7 +2,7 @@ use Rattle.std.proofs.Common.{◌≡◌, rules, sym}
 use Rattle.std.specs.Result.{IsErrAnd}
 use Rattle.cfb_chain.proofs.Results.{refused_with}
 use Rattle.stream_io.specs.Reads.{MayRefuseFile}
-use Rattle.stream_io.specs.View.{contents, shown}
+use Rattle.file_outline.specs.View.{contents, shown}
 use Rattle.stream_io.proofs.ReadingRefused.{same_memory}
 use Rattle.stream_io.proofs.read.read_outline.Goals as goal
 

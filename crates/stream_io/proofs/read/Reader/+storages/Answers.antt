@@ -7,13 +7,14 @@ use Rattle.file_model.specs.Outline.{outline, outline_of, part_of}
 use Rattle.storage_tree.specs.Change.{child}
 use Rattle.storage_tree.specs.Tree.{Tree, Children, none, tree}
 use Rattle.stream_io.specs.Reads.{IsChildRead, IsStorageRead, MayRefuseStorage, directory_fault, directory_in}
-use Rattle.stream_io.specs.View.{contents, part_view, shown_part, shown_parts}
+use Rattle.file_outline.specs.View.{contents, part_view, shown_part, shown_parts}
 use Rattle.stream_io.specs.declared.fault.ReadFault.{ReadFault}
-use Rattle.stream_io.specs.declared.outline.Place.{Place}
+use Rattle.file_outline.specs.declared.outline.Place.{Place}
 use Rattle.stream_io.specs.declared.read.Reader.{Reader}
-use Rattle.stream_io.proofs.ReadingChildren.{IsFirstRead, Progress, followed}
+use Rattle.file_outline.proofs.Followed.{followed}
+use Rattle.stream_io.proofs.ReadingChildren.{IsFirstRead, Progress}
 use Rattle.stream_io.proofs.ReadingEntries.{storage_kind}
-use Rattle.stream_io.proofs.ReadingOutline.{AreSized, shown-push, shown-roll, sized-all, sized-push, view-roll}
+use Rattle.file_outline.proofs.Outlines.{AreSized, shown-push, shown-roll, sized-all, sized-push, view-roll}
 use Rattle.stream_io.proofs.ReadingRefused.{entry_below, never_ok, same_memory, storage_child}
 use Rattle.stream_io.proofs.ReadingSteps.{AreOpen, all_read, back_to, entry_not_refused, inner_read, next_below, next_child, next_root, next_there, opened, positive, put, step}
 use Rattle.stream_io.proofs.read.Reader.+storages.Goals as goal

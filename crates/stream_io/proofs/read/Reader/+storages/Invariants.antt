@@ -1,7 +1,7 @@
 use Rattle.std.proofs.Common.{◌+◌, ◌*◌}
-use Rattle.stream_io.specs.View.{contents, shown_parts}
+use Rattle.file_outline.specs.View.{contents, shown_parts}
 use Rattle.stream_io.proofs.ReadingChildren.{Progress}
-use Rattle.stream_io.proofs.ReadingOutline.{AreSized}
+use Rattle.file_outline.proofs.Outlines.{AreSized}
 use Rattle.stream_io.proofs.read.Reader.+storages.Given as goal
 
 abbrev pub decreases-storage_outline : goal.decreases-storage_outline

@@ -6,20 +6,20 @@ use Rattle.storage_tree.specs.Change.{Seen, child, inner, place}
 use Rattle.storage_tree.specs.Tree.{Children, Tree, tree}
 use Rattle.storage_tree.specs.View.{children, seen}
 use Rattle.storage_tree.specs.Whole.{AreTrees, IsTree, IsWhole}
-use Rattle.stream_io.specs.View.{contents, shown, shown_part, shown_parts}
-use Rattle.stream_io.specs.declared.outline.Place.{Place}
-use Rattle.stream_io.proofs.ReadingChildren.{followed, followed-none}
-use Rattle.stream_io.proofs.ReadingOutline.{shown-nested, shown-out}
-use Rattle.stream_io.proofs.ReadingPlaced.{placed_next, trees_whole, whole_inner}
-use Rattle.stream_io.proofs.filling.+filling.Goals as goal
+use Rattle.file_outline.specs.View.{contents, shown, shown_part, shown_parts}
+use Rattle.file_outline.specs.declared.outline.Place.{Place}
+use Rattle.file_outline.proofs.Followed.{followed, followed-none}
+use Rattle.file_outline.proofs.Outlines.{shown-nested, shown-out}
+use Rattle.file_outline.proofs.Placed.{placed_next, trees_whole, whole_inner}
+use Rattle.file_outline.proofs.filling.+filling.Goals as goal
 
-pub node_at-returns-in_ok-inner-in-Storage-clause-filled : goal.node_at-returns-in_ok-inner-in-Storage-clause-filled
-node_at-returns-in_ok-inner-in-Storage-clause-filled t c = λ depth h.
+pub node_at-returns-in_ok-inner-in-Storage : goal.node_at-returns-in_ok-inner-in-Storage
+node_at-returns-in_ok-inner-in-Storage t c = λ depth h.
     let content : Place → List ℕ = contents c.args.fat.now c.args.mini.now in
     let e : shown_part content c.args.part.now ≡ inner (shown content c.in-Storage.outline) =
     ap (shown_part content) c.in-Storage.is ∙ shown-nested content c.in-Storage.outline in
     let w : (d : ℕ) × IsTree d (shown content c.in-Storage.outline) = whole_inner depth (shown content c.in-Storage.outline) (subst (IsWhole depth) e h) in
-    seen-storage c.in_ok-inner-in-Storage.inner ∙ ap inner (c.in_ok-inner-in-Storage.ensures.filled w.0 w.1) ∙ sym e
+    seen-storage c.in_ok-inner-in-Storage.inner ∙ ap inner (c.in_ok-inner-in-Storage.ensures w.0 w.1) ∙ sym e
 
 pub storage_at-loop-part-preserved : goal.storage_at-loop-part-preserved
 storage_at-loop-part-preserved t c = λ depth h.
@@ -35,13 +35,13 @@ storage_at-loop-part-preserved t c = λ depth h.
     let now : followed cs (child (key p.0) (p.0, s) ds) ≡ shown_parts content items =
     ap (λ xs. followed cs (shown_parts content xs)) (sym cut) ∙ c.loop-part.invariant depth h in
     let trees : AreTrees depth (followed cs (child (key p.0) (p.0, s) ds)) = subst (AreTrees depth) (sym now) h in
-    let node : seen c.in_ok-node.node ≡ s = c.in_ok-node.ensures.filled depth (trees_whole depth cs (key p.0) p.0 s ds trees) in
+    let node : seen c.in_ok-node.node ≡ s = c.in_ok-node.ensures depth (trees_whole depth cs (key p.0) p.0 s ds trees) in
     let added : children c.add_child.new.map.entries ≡ place (key p.0) (p.0, seen c.in_ok-node.node) cs =
-    c.in_ok-add_child.ensures.added ∙ ap (λ (n : List ℕ). place (key n) (n, seen c.in_ok-node.node) cs) c.copy.ensures in
+    c.in_ok-add_child.ensures ∙ ap (λ (n : List ℕ). place (key n) (n, seen c.in_ok-node.node) cs) c.copy.ensures in
     ap (λ (x : Children). followed x ds) added ∙ placed_next depth cs ds (key p.0) p.0 s (seen c.in_ok-node.node) trees node ∙ now
 
-pub storage_at-returns-clause-filled : goal.storage_at-returns-clause-filled
-storage_at-returns-clause-filled t c = λ depth h.
+pub storage_at-returns : goal.storage_at-returns
+storage_at-returns t c = λ depth h.
     let content : Place → List ℕ = contents c.args.fat.now c.args.mini.now in
     let o = c.args.outline.now in
     let items = c.deref-part-items.result.now in

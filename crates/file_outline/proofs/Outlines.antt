@@ -6,14 +6,14 @@ use Rattle.storage_tree.specs.Tree.{Tree, Children, tree, none}
 use Rattle.storage_tree.specs.Change.{Seen, bytes, inner, child}
 use Rattle.file_model.specs.Outline as model
 use Rattle.file_model.specs.Outline.{outline, outline_of, outlines_of, part, part_of}
-use Rattle.stream_io.specs.View.{node_step, outline_step, outline_view, part_step, part_view, parts_view, shown, shown_part, shown_parts, storage_step}
-use Rattle.stream_io.specs.declared.outline.Outline.{Outline, fold-roll-Outline, fold_out-Outline}
-use Rattle.stream_io.specs.declared.outline.Part.{Part, fold-roll-Part}
-use Rattle.stream_io.specs.declared.outline.Part.TheOpen.{Part-F}
-use Rattle.stream_io.specs.declared.outline.Part.TheVariants as variant
-use Rattle.stream_io.specs.declared.outline.Part.TheViews.{roll-Outline, rolls-Storage}
-use Rattle.stream_io.specs.declared.outline.Place.{Place}
-use Rattle.stream_io.proofs.ReadingChildren.{followed}
+use Rattle.file_outline.specs.View.{node_step, outline_step, outline_view, part_step, part_view, parts_view, shown, shown_part, shown_parts, storage_step}
+use Rattle.file_outline.specs.declared.outline.Outline.{Outline, fold-roll-Outline, fold_out-Outline}
+use Rattle.file_outline.specs.declared.outline.Part.{Part, fold-roll-Part}
+use Rattle.file_outline.specs.declared.outline.Part.TheOpen.{Part-F}
+use Rattle.file_outline.specs.declared.outline.Part.TheVariants as variant
+use Rattle.file_outline.specs.declared.outline.Part.TheViews.{roll-Outline, rolls-Storage, rolls-Stream}
+use Rattle.file_outline.specs.declared.outline.Place.{Place}
+use Rattle.file_outline.proofs.Followed.{followed}
 
 followed-front : (k : List ℕ) (c : List ℕ × Seen) (cs ds : Children) → followed (child k c cs) ds ≡ child k c (followed cs ds)
 followed-front k (n, bytes b) cs ds = refl
@@ -35,6 +35,9 @@ module _ (content : Place → List ℕ) where
 
   pub shown-nested : (o : Outline) → shown_part content (variant.Storage o) ≡ inner (shown content o)
   shown-nested o = ap (shown_part content) (sym (rolls-Storage o)) ∙ fold-roll-Part Seen Tree (node_step content) (storage_step content) (Part-F.Storage o)
+
+  pub shown-stream : (place : Place) → shown_part content (variant.Stream place) ≡ bytes (content place)
+  shown-stream place = ap (shown_part content) (sym (rolls-Stream place)) ∙ fold-roll-Part Seen Tree (node_step content) (storage_step content) (Part-F.Stream place)
 
   pub shown-push : (ps : List (List ℕ × Part)) (p : List ℕ × Part) → shown_parts content (ps ++ p ∷ []) ≡ followed (shown_parts content ps) (child (key p.0) (p.0, shown_part content p.1) none)
   shown-push [] p = refl

@@ -9,7 +9,7 @@ use Rattle.cfb_directory.specs.Names.{key_cmp}
 use Rattle.storage_tree.specs.Tree.{Tree, Children, none, stream, storage, keys}
 use Rattle.storage_tree.specs.Change.{Seen, bytes, inner, child, place}
 use Rattle.storage_tree.specs.Whole.{AreAbove, AreTrees, IsTree, IsWhole}
-use Rattle.stream_io.proofs.ReadingChildren.{IsBehind, followed, followed-child, place_behind}
+use Rattle.file_outline.proofs.Followed.{IsBehind, followed, followed-child, place_behind}
 
 -- a key is above those before it
 above_at : (q k n : List ℕ) (s : Seen) (cs ds : Children) → AreAbove q (followed cs (child k (n, s) ds)) → key_cmp q k ≡ Less

@@ -15,7 +15,7 @@ pub struct Place {
 }
 
 /// Whether a stream lies in mini sectors.
-pub(crate) fn is_short(place: Place) -> bool
+pub fn is_short(place: Place) -> bool
     ensures { result ≡ nat_lt place.size CUTOFF }
 {
     (place.size as usize) < CUTOFF

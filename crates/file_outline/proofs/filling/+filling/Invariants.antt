@@ -1,9 +1,9 @@
 use Rattle.std.proofs.Common.{◌≡◌, ℕ, drop}
 use Rattle.storage_tree.specs.View.{children}
 use Rattle.storage_tree.specs.Whole.{AreTrees}
-use Rattle.stream_io.specs.View.{contents, shown_parts}
-use Rattle.stream_io.proofs.ReadingChildren.{followed}
-use Rattle.stream_io.proofs.filling.+filling.Given as goal
+use Rattle.file_outline.specs.View.{contents, shown_parts}
+use Rattle.file_outline.proofs.Followed.{followed}
+use Rattle.file_outline.proofs.filling.+filling.Given as goal
 
 abbrev pub invariant-storage_at-loop-part : goal.invariant-storage_at-loop-part
 invariant-storage_at-loop-part l = (depth : ℕ) → AreTrees depth (shown_parts (contents l.fat l.mini) l.part-items)
