@@ -2,8 +2,8 @@ use Rattle.std.proofs.Common.{◌<◌, sym, ◌∙◌, ap, subst, length, ℕ, a
 use Rattle.std.proofs.lemmas.Grind.{get_or_default_zero}
 use Rattle.file_model.specs.Directory.{linked}
 use Rattle.file_model.specs.Directory.{IsLink}
-use Rattle.file_writer.proofs.ContentsFamily.{left-named, left-same}
-use Rattle.file_writer.proofs.entries.Family.left.Goals as goal
+use Rattle.file_writer.proofs.ContentsSiblings.{left-named, left-same}
+use Rattle.file_writer.proofs.entries.Siblings.left.Goals as goal
 
 pub entry_id-requires : goal.entry_id-requires
 entry_id-requires c =

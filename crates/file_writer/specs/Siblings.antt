@@ -7,19 +7,19 @@ use Rattle.storage_tree.specs.Change.{Seen, bytes, inner}
 use Rattle.file_model.specs.Need.{entries_of, over_streams_of, short_pieces, long_pieces}
 use Rattle.file_writer.specs.Streams.{minis_with, sectors_with}
 use Rattle.file_model.specs.Directory.{IsSpelled, ids_from, entries_with, stream_says, storage_says, entries_below, each_entry, balanced}
-use Rattle.file_writer.specs.declared.entries.Family.{Family}
+use Rattle.file_writer.specs.declared.entries.Siblings.{Siblings}
 use Rattle.file_writer.specs.declared.entries.Cursor.{Cursor}
 
 -- links of as many siblings as there are
-pub record IsJoined (family : Family) : Type 0 where
-  pub search : IsSearchTree family.links.left.items family.links.right.items 0 (length family.ids.items) family.links.top
-  pub lefts : length family.links.left.items ≡ length family.ids.items
-  pub rights : length family.links.right.items ≡ length family.ids.items
+pub record IsJoined (siblings : Siblings) : Type 0 where
+  pub search : IsSearchTree siblings.links.left.items siblings.links.right.items 0 (length siblings.ids.items) siblings.links.top
+  pub lefts : length siblings.links.left.items ≡ length siblings.ids.items
+  pub rights : length siblings.links.right.items ≡ length siblings.ids.items
 
 -- the ids of siblings, of which the first has this one, and their links
-pub record IsFamily (family : Family) (first : ℕ) (cs : Children) : Type 0 where
-  pub ids : family.ids.items ≡ ids_from first cs
-  pub joined : IsJoined family
+pub record AreSiblings (siblings : Siblings) (first : ℕ) (cs : Children) : Type 0 where
+  pub ids : siblings.ids.items ≡ ids_from first cs
+  pub joined : IsJoined siblings
 
 -- where the next entry, mini sector and sector stand behind a child
 abbrev pub past : Cursor → Seen → Cursor
