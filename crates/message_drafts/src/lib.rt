@@ -1,0 +1,4 @@
+//! Bodies of frames that come in pieces: each blob goes into its own vector as its bytes come.
+#![tactic(auto)]
+
+pub mod draft;
