@@ -133,15 +133,19 @@ refused_not_fat file fat TooBig h r = absurd r
 refused_not_fat file fat NoMemory h r = refl
 
 -- a store has one chain from a sector
-pub chain_once : (s : Store) (start bytes : ℕ) (ns ms : List ℕ) → IsChainOf s start bytes ns → IsChainOf s start bytes ms → ns ≡ ms
-chain_once s start zero ns ms h g = h ∙ sym g
-chain_once s start (suc n) ns ms h g =
+pub chain_one : (s : Store) (start : ℕ) (ns ms : List ℕ) → IsChain s start 0 ns → IsChain s start 0 ms → ns ≡ ms
+chain_one s start ns ms h g =
     elim (along s.next 0xFFFFFFFA start ns ms END_OF_CHAIN (lit≤ tt) h.linked g.linked (λ k d l. omega (arith, (g.present k d l).0))) [
       | inl w ↦ sym w.1
       | inr w ↦
           let c : Contains ns END_OF_CHAIN = subst (λ xs. Contains xs END_OF_CHAIN) (sym w.1) (Contains-append_right ms (END_OF_CHAIN ∷ w.0) END_OF_CHAIN (0, omega arith, refl)) in
           absurd (omega (arith, (All-contains (IsPresent s) ns END_OF_CHAIN h.present c).0))
     ]
+
+pub chain_once : (s : Store) (start bytes : ℕ) (ns ms : List ℕ) → IsChainOf s start bytes ns → IsChainOf s start bytes ms → ns ≡ ms
+chain_once s start zero ns ms h g = h ∙ sym g
+chain_once s start (suc n) ns ms h g =
+    chain_one s start ns ms (record { linked = h.linked; present = h.present; enough = omega arith }) (record { linked = g.linked; present = g.present; enough = omega arith })
 
 -- the rest of a way
 leads_drop : (next : ℕ → ℕ) (start : ℕ) (ns : List ℕ) (last : ℕ) (k d : ℕ) → Leads next start ns last → k < length ns

@@ -1,5 +1,5 @@
 -- The table of sectors, and what is used of it (MS-CFB 2.3, 2.4).
-use Rattle.std.specs.Prelude.{◌≡◌, ◌≢◌, ◌≤◌, ◌<◌, ◌+◌, ◌-◌, ◌*◌, ◌/◌, ℕ, Bool, true, false, ◌⊎◌, List, [], ◌∷◌, ◌++◌, length, min, replicate, slice_index, slice_index_or, slice_set}
+use Rattle.std.specs.Prelude.{◌≡◌, ◌≢◌, ◌≤◌, ◌<◌, ◌+◌, ◌-◌, ◌*◌, ◌/◌, ℕ, zero, suc, Bool, true, false, cond, nat_lt, take, ◌⊎◌, List, [], ◌∷◌, ◌++◌, length, min, replicate, slice_index, slice_index_or, slice_set}
 use Rattle.std.specs.List.{All, Contains}
 use Rattle.cfb_chain.specs.Bytes.{u32_at, block, sector, joined}
 use Rattle.cfb_chain.specs.Chain.{Store, Leads, IsPresent, IsChain, IsChainOf, AreDistinct, END_OF_CHAIN}
@@ -85,6 +85,15 @@ pub record IsFreeChain (f : FatValue) (start : ℕ) (ns : List ℕ) : Type 0 whe
 pub record IsFound (f : FatValue) (start bytes : ℕ) (ns : List ℕ) : Type 0 where
   pub chain : IsChainOf (store_of f) start bytes ns
   pub free : AreFree f ns
+
+-- The sectors from one on, each followed by the one that its entry names, as far as entries go, and no more than so many.
+abbrev pub followed : List ℕ → ℕ → ℕ → List ℕ
+followed table zero at = []
+followed table (suc count) at = cond (nat_lt at (length table)) (at ∷ followed table count (slice_index table at)) []
+
+-- the first bytes of what the sectors from one on hold, whether they are marked or not
+abbrev pub held : FatValue → ℕ → ℕ → List ℕ
+held f start len = take len (joined (store_of f).piece (followed f.table (length f.table) start))
 
 -- the mini FAT's chain and the mini stream's, no sector of one in the other
 pub record IsMiniFound (f : FatValue) (first count start size : ℕ) (mini_fat mini_stream : List ℕ) : Type 0 where

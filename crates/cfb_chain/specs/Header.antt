@@ -10,6 +10,10 @@ use Rattle.cfb_chain.specs.declared.fault.ChainFault.TheVariants.{Truncated, Bad
 abbrev pub signature : List ℕ
 signature = 0xD0 ∷ 0xCF ∷ 0x11 ∷ 0xE0 ∷ 0xA1 ∷ 0xB1 ∷ 0x1A ∷ 0xE1 ∷ []
 
+-- how many FAT sectors the header can name
+abbrev pub LISTED : ℕ
+LISTED = 109
+
 -- The fixed fields.
 pub record IsHeader (file : List ℕ) : Type 0 where
   pub whole : 512 ≤ length file
@@ -19,7 +23,7 @@ pub record IsHeader (file : List ℕ) : Type 0 where
   pub sector_shift : u16_at file 30 ≡ 9
   pub mini_sector_shift : u16_at file 32 ≡ 6
   pub cutoff : u32_at file 56 ≡ 4096
-  pub fat_sectors : u32_at file 44 ≤ 109
+  pub fat_sectors : u32_at file 44 ≤ LISTED
   pub difat_sectors : u32_at file 72 ≡ 0
 
 -- Its numbers.
@@ -48,7 +52,7 @@ pub record HeaderValue : Type 0 where
 
 -- What there is room for in a header.
 pub record FitsHeader (h : HeaderValue) : Type 0 where
-  pub listed : length h.fat ≤ 109
+  pub listed : length h.fat ≤ LISTED
   pub fat : All (λ n. n < 2 ^ 32) h.fat
   pub first_directory : h.first_directory < 2 ^ 32
   pub first_mini_fat : h.first_mini_fat < 2 ^ 32
@@ -67,7 +71,7 @@ header_read file =
     cond (not (nat_eq (u16_at file 30) 9)) (Err (Unsupported 30)) (
     cond (not (nat_eq (u16_at file 32) 6)) (Err (Unsupported 32)) (
     cond (not (nat_eq (u32_at file 56) 4096)) (Err (Unsupported 56)) (
-    cond (nat_lt 109 (fat_count file)) (Err TooBig) (
+    cond (nat_lt LISTED (fat_count file)) (Err TooBig) (
     cond (not (nat_eq (u32_at file 72) 0)) (Err TooBig) (
     Ok (header_of file))))))))))
 

@@ -2,7 +2,7 @@
 
 ghost use Rattle.cfb_chain.specs.Bytes.{joined};
 ghost use Rattle.cfb_chain.specs.Chain.{FREE_SECTOR, IsChain};
-ghost use Rattle.cfb_chain.specs.Fat.{AreFree, FatValue, IsFat, IsFound, IsFree, IsFreeChain, IsMiniFound, IsMiniTable, IsTableOf, MayRefuse, MayRefuseChain, MayRefuseFat, MayRefuseMini, marked, sectors_in, store_of};
+ghost use Rattle.cfb_chain.specs.Fat.{AreFree, FatValue, IsFat, IsFound, IsFree, IsFreeChain, IsMiniFound, IsMiniTable, IsTableOf, MayRefuse, MayRefuseChain, MayRefuseFat, MayRefuseMini, followed, held, marked, sectors_in, store_of};
 ghost use Rattle.cfb_chain.specs.View.{bytes_of, start_of, width_of};
 ghost use Rattle.cfb_chain.specs.declared.fault.ChainFault.TheVariants.{CrossLinked, NoMemory, OutOfFile};
 ghost use Rattle.std.specs.List.{All, Contains};
@@ -10,8 +10,8 @@ ghost use Rattle.std.specs.Prelude.{◌*◌, ◌+◌, ◌++◌, ◌<◌, ◌^◌
 
 use crate::fault::ChainFault;
 use crate::header::Header;
-use crate::sectors::{SECTOR, join_blocks, numbers};
-use std::alloc::Global;
+use crate::sectors::{SECTOR, join_blocks, numbers, run_of};
+use std::alloc::{AllocError, Global};
 use std::marker::Model;
 
 /// The value that ends a chain.
@@ -34,7 +34,9 @@ pub struct Fat<'a> {
 enum Pieces<'a> {
     /// Behind the header of a file, 512 bytes each.
     Sectors(&'a [u8]),
-    /// In a mini stream, 64 bytes each.
+    /// In a mini stream, 64 bytes each, whose sectors stand one after another.
+    MiniRun(&'a [u8]),
+    /// In a mini stream that was joined of its sectors.
     MiniSectors(Vec<u8>),
 }
 
@@ -45,6 +47,7 @@ impl<'a> Pieces<'a> {
     {
         match self {
             Pieces::Sectors(file) => file,
+            Pieces::MiniRun(stream) => stream,
             Pieces::MiniSectors(stream) => stream.as_slice(),
         }
     }
@@ -55,6 +58,7 @@ impl<'a> Pieces<'a> {
     {
         match self {
             Pieces::Sectors(_) => SECTOR,
+            Pieces::MiniRun(_) => 0,
             Pieces::MiniSectors(_) => 0,
         }
     }
@@ -66,6 +70,7 @@ impl<'a> Pieces<'a> {
     {
         match self {
             Pieces::Sectors(_) => SECTOR,
+            Pieces::MiniRun(_) => 64,
             Pieces::MiniSectors(_) => 64,
         }
     }
@@ -146,42 +151,66 @@ impl<'a> Fat<'a> {
     }
 
     /// The bytes of the sectors, one after another.
-    pub fn join(&self, alloc: Global, sectors: &[u32]) -> Result<Vec<u8>, ChainFault>
+    pub fn join(&self, alloc: Global, sectors: &[u32]) -> Result<Vec<u8>, AllocError>
         requires { All (λ n. n < length self.now.table) sectors.now }
-        ensures bytes { IfOk result (λ v. v.items ≡ joined (store_of self.now).piece sectors.now) }
-        ensures refused { IfErr result (λ e. e ≡ NoMemory) }
+        ensures { IfOk result (λ v. v.items ≡ joined (store_of self.now).piece sectors.now) }
     {
-        let bytes = join_blocks(
+        join_blocks(
             alloc,
             self.pieces.width(),
             self.pieces.bytes(),
             self.pieces.start(),
             sectors,
-        )?;
-        Ok(bytes)
+        )
     }
 
-    /// The first `len` bytes of the chain from a sector on, whose sectors it marks. Where `len` is 0 there is no chain,
-    /// and nothing is walked. A refusal marks none.
+    /// The bytes of the sectors, one after another, where they stand so in a file and needn't be joined.
+    pub fn run(&self, sectors: &[u32]) -> Option<&'a [u8]>
+        ensures { IfSome result (λ bytes. bytes.now ≡ joined (store_of self.now).piece sectors.now) }
+    {
+        match &self.pieces {
+            Pieces::Sectors(file) => run_of(SECTOR, file, SECTOR, sectors),
+            Pieces::MiniRun(stream) => run_of(64, stream, 0, sectors),
+            Pieces::MiniSectors(_) => None,
+        }
+    }
+
+    /// Marks the sectors of the chain from a sector on, which is to have room for `len` bytes. Where `len` is 0 there is no
+    /// chain, and nothing is walked. It takes no memory, and a refusal marks none.
     ///
-    /// Refused: as for `chain`, and `ShortChain` where the chain has no room for so many bytes; then `NoMemory`.
-    pub fn bytes(&mut self, alloc: Global, start: u32, len: u32) -> Result<Vec<u8>, ChainFault>
-        ensures found { IfOk result (λ v. (ns : List ℕ) × IsFound self.old start len ns × (v.items ≡ take len (joined (store_of self.old).piece ns)) × (self.new ≡ marked self.old ns)) }
+    /// Refused: as for `chain`, and `ShortChain` where the chain has no room for so many bytes; never `NoMemory`.
+    pub fn mark_chain(&mut self, start: u32, len: u32) -> Result<(), ChainFault>
+        ensures found { OnOk result ((ns : List ℕ) × IsFound self.old start len ns × (self.new ≡ marked self.old ns)) }
         ensures refused { IfErr result (MayRefuse self.old start len) }
         ensures there { (ns : List ℕ) → IsFound self.old start len ns → IfErr result (λ e. e ≡ NoMemory) }
+        ensures told { IfErr result (λ e. e ≢ NoMemory) }
+        ensures long { OnOk result (length (held self.old start len) ≡ len) }
+        ensures holds { OnOk result ((ns : List ℕ) → IsFound self.old start len ns → held self.old start len ≡ take len (joined (store_of self.old).piece ns)) }
         ensures kept { OnErr result (self.new ≡ self.old) }
     {
-        let sectors = self.find(alloc, start, len as u64)?;
-        let mut bytes = self.join(alloc, &sectors)?;
-        bytes.truncate(len as usize);
-        self.mark(&sectors);
-        Ok(bytes)
+        let count = self.room(start, len as u64)?;
+        if len == 0 {
+            return Ok(());
+        }
+        self.mark_from(start, count);
+        Ok(())
+    }
+
+    /// The first `len` bytes of what the chain from a sector on holds, as far as it goes, whether its sectors are marked or
+    /// not.
+    pub fn held(&self, alloc: Global, start: u32, len: u32) -> Result<Vec<u8>, AllocError>
+        ensures { IfOk result (λ v. v.items ≡ held self.now start len) }
+    {
+        let sectors = self.followed(alloc, start)?;
+        let mut held = self.join(alloc, &sectors)?;
+        held.truncate(len as usize);
+        Ok(held)
     }
 
     /// The table of the mini stream of `size` bytes that begins at `start`, with the mini FAT that the header names. The
     /// sectors of both chains are marked. A refusal marks none.
     ///
-    /// Refused: as for `bytes`, for either chain.
+    /// Refused: as for `mark_chain`, for either chain; then `NoMemory`.
     pub fn mini(
         &mut self,
         alloc: Global,
@@ -234,17 +263,29 @@ impl<'a> Fat<'a> {
         ensures kept { OnErr result (self.new ≡ self.old) }
     {
         let mini_stream = self.find(alloc, start, size as u64)?;
-        let bytes = self.join(alloc, &mini_stream)?;
+        let pieces = self.mini_pieces(alloc, &mini_stream)?;
         let entries = self.join(alloc, mini_fat)?;
         let count = (128 * mini_fat.len()).min((size as usize + 63) / 64);
         let next = numbers(alloc, &entries, count)?;
         let used = vec![in alloc; false; count]?;
         self.mark(&mini_stream);
-        Ok(Fat {
-            pieces: Pieces::MiniSectors(bytes),
-            next,
-            used,
-        })
+        Ok(Fat { pieces, next, used })
+    }
+
+    /// The mini sectors of a mini stream that lies in these sectors.
+    fn mini_pieces(&self, alloc: Global, sectors: &[u32]) -> Result<Pieces<'a>, AllocError>
+        requires { All (λ n. n < length self.now.table) sectors.now }
+        ensures bytes { IfOk result (λ p. bytes_of p ≡ joined (store_of self.now).piece sectors.now) }
+        ensures start { IfOk result (λ p. start_of p ≡ 0) }
+        ensures width { IfOk result (λ p. width_of p ≡ 64) }
+    {
+        match self.run(sectors) {
+            Some(stream) => Ok(Pieces::MiniRun(stream)),
+            None => {
+                let stream = self.join(alloc, sectors)?;
+                Ok(Pieces::MiniSectors(stream))
+            }
+        }
     }
 
     /// The least sector that is free: in the table, not marked, and with the value of a sector that isn't used.
@@ -268,16 +309,32 @@ impl<'a> Fat<'a> {
         ensures there { (ns : List ℕ) → IsFound self.now start len ns → IfErr result (λ e. e ≡ NoMemory) }
         ensures either { (self.now.width ≡ 512) ⊎ (self.now.width ≡ 64) }
     {
-        let width = self.pieces.width();
+        let count = self.room(start, len)?;
         if len == 0 {
             return Ok(Vec::new(alloc));
+        }
+        let sectors = self.listed(alloc, start, count)?;
+        Ok(sectors)
+    }
+
+    /// How many sectors the chain from a sector on has, which is to have room for `len` bytes; none is walked where `len` is 0.
+    fn room(&self, start: u32, len: u64) -> Result<usize, ChainFault>
+        ensures counted { IfOk result (λ count. 0 < len → (ns : List ℕ) × IsFreeChain self.now start ns × IsFound self.now start len ns × (length ns ≡ count)) }
+        ensures refused { IfErr result (MayRefuse self.now start len) }
+        ensures there { (ns : List ℕ) → IsFound self.now start len ns → IfErr result (λ e. e ≡ NoMemory) }
+        ensures told { IfErr result (λ e. e ≢ NoMemory) }
+        ensures few { length self.now.table ≤ 0xFFFFFFF9 }
+        ensures either { (self.now.width ≡ 512) ⊎ (self.now.width ≡ 64) }
+    {
+        let width = self.pieces.width();
+        if len == 0 {
+            return Ok(0);
         }
         let count = self.count(start)?;
         if ((width * count) as u64) < len {
             return Err(ChainFault::ShortChain);
         }
-        let sectors = self.listed(alloc, start, count)?;
-        Ok(sectors)
+        Ok(count)
     }
 
     /// How many sectors the chain from a sector on has.
@@ -335,6 +392,20 @@ impl<'a> Fat<'a> {
         Ok(sectors)
     }
 
+    /// The sectors from one on, each followed by the one that its entry names, as far as entries go.
+    fn followed(&self, alloc: Global, start: u32) -> Result<Vec<u32>, AllocError>
+        ensures listed { IfOk result (λ v. v.items ≡ followed self.now.table (length self.now.table) start) }
+        ensures below { IfOk result (λ v. All (λ n. n < length self.now.table) v.items) }
+    {
+        let mut sectors = Vec::new(alloc);
+        let mut at = start;
+        while sectors.len() < self.next.len() && (at as usize) < self.next.len() {
+            sectors.push(at)?;
+            at = self.next[at as usize];
+        }
+        Ok(sectors)
+    }
+
     /// Marks sectors as used, of which none may be used before.
     fn mark_apart(&mut self, sectors: &[u32]) -> Result<(), ChainFault>
         requires { All (λ n. n < length self.old.table) sectors.now }
@@ -359,6 +430,19 @@ impl<'a> Fat<'a> {
     {
         for n in sectors {
             self.used[*n as usize] = true;
+        }
+    }
+
+    /// Marks the sectors of the chain from a sector on, which has so many sectors.
+    fn mark_from(&mut self, start: u32, count: usize)
+        requires { (ns : List ℕ) × IsFreeChain self.old start ns × (length ns ≡ count) }
+        ensures { (ns : List ℕ) → IsFreeChain self.old start ns → length ns ≡ count → self.new ≡ marked self.old ns }
+    {
+        let mut at = start;
+        for _ in 0..count {
+            let n = at as usize;
+            at = self.next[n];
+            self.used[n] = true;
         }
     }
 

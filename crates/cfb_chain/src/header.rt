@@ -1,6 +1,6 @@
 //! The header of a compound file, its first 512 bytes (MS-CFB 2.2).
 
-ghost use Rattle.cfb_chain.specs.Header.{FitsHeader, HeaderValue, header_bytes, header_read};
+ghost use Rattle.cfb_chain.specs.Header.{FitsHeader, HeaderValue, LISTED, header_bytes, header_read};
 ghost use Rattle.cfb_chain.specs.declared.fault.ChainFault.TheVariants.{TooBig};
 ghost use Rattle.cfb_chain.specs.Header.{IsHeader};
 ghost use Rattle.cfb_chain.specs.Bytes.{u32_at};
@@ -20,9 +20,9 @@ pub const LISTED: usize = 109;
 const SIGNATURE: [u8; 8] = [0xd0, 0xcf, 0x11, 0xe0, 0xa1, 0xb1, 0x1a, 0xe1];
 
 /// The numbers of the header's list.
-fn read_listed(bytes: &[u8]) -> [u32; 109]
+fn read_listed(bytes: &[u8]) -> [u32; LISTED]
     requires { 512 ≤ length bytes.now }
-    ensures { (k : ℕ) → k < 109 → slice_index result k ≡ u32_at bytes.now (76 + 4 * k) }
+    ensures { (k : ℕ) → k < LISTED → slice_index result k ≡ u32_at bytes.now (76 + 4 * k) }
 {
     let mut fat = [0; LISTED];
     for k in 0..LISTED {
@@ -44,7 +44,7 @@ fn write_listed(entries: &mut [u8], fat: &[u32])
 #[derive(Drop)]
 pub struct Header {
     fat_count: u32,
-    fat: [u32; 109],
+    fat: [u32; LISTED],
     first_directory: u32,
     first_mini_fat: u32,
     mini_fat_count: u32,
@@ -52,13 +52,13 @@ pub struct Header {
 
 impl Model for Header {
     ghost use Rattle.std.specs.Prelude.{take, ◌≤◌};
-    ghost use Rattle.cfb_chain.specs.Header.{HeaderValue};
+    ghost use Rattle.cfb_chain.specs.Header.{HeaderValue, LISTED};
 
     ghost Value = { HeaderValue };
 
     ghost view = { λ h. record { fat = take h.fat_count h.fat; first_directory = h.first_directory; first_mini_fat = h.first_mini_fat; mini_fat_count = h.mini_fat_count } };
 
-    ghost invariant = { λ h. h.fat_count ≤ 109 };
+    ghost invariant = { λ h. h.fat_count ≤ LISTED };
 }
 
 impl Header {
@@ -72,7 +72,7 @@ impl Header {
         mini_fat_count: u32,
     ) -> Result<Header, ChainFault>
         ensures made { IfOk result (λ h. h ≡ record { fat = fat.now; first_directory = first_directory; first_mini_fat = first_mini_fat; mini_fat_count = mini_fat_count }) }
-        ensures refused { IfErr result (λ e. (e ≡ TooBig) × (109 < length fat.now)) }
+        ensures refused { IfErr result (λ e. (e ≡ TooBig) × (LISTED < length fat.now)) }
     {
         if fat.len() > LISTED {
             return Err(ChainFault::TooBig);
@@ -120,7 +120,7 @@ impl Header {
             return Err(ChainFault::Unsupported(56));
         }
         let fat_count = read_u32(bytes, 44);
-        if fat_count > 109 || read_u32(bytes, 72) != 0 {
+        if fat_count as usize > LISTED || read_u32(bytes, 72) != 0 {
             return Err(ChainFault::TooBig);
         }
         Ok(Header {
@@ -164,7 +164,7 @@ impl Header {
     /// How many sectors the FAT has.
     pub(crate) fn fat_count(&self) -> usize
         ensures count { result ≡ length self.now.fat }
-        ensures few { result ≤ 109 }
+        ensures few { result ≤ LISTED }
     {
         self.fat_count as usize
     }

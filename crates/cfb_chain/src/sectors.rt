@@ -1,7 +1,7 @@
 //! The bytes of sectors, and the numbers in them.
 
 ghost use Rattle.cfb_chain.specs.Bytes.{block, joined, u32_at};
-ghost use Rattle.std.specs.Prelude.{◌*◌, ◌+◌, ◌++◌, ◌<◌, ◌≡◌, ◌≤◌, IfOk, OnOk, length, slice_index, ◌^◌, ℕ};
+ghost use Rattle.std.specs.Prelude.{◌*◌, ◌+◌, ◌++◌, ◌<◌, ◌≡◌, ◌≤◌, IfOk, IfSome, OnOk, length, slice_index, true, ◌^◌, ℕ};
 
 use crate::bytes::read_u32;
 use std::alloc::{AllocError, Global};
@@ -39,10 +39,48 @@ pub(crate) fn join_blocks(
     ensures { IfOk result (λ v. v.items ≡ joined (λ n. block width bytes.now (start + width * n)) sectors.now) }
 {
     let mut out = Vec::with_capacity(alloc, width.saturating_mul(sectors.len()))?;
+    if let Some(run) = run_of(width, bytes, start, sectors) {
+        out.extend_from_slice(run)?;
+        return Ok(out);
+    }
     for n in sectors {
         push_block(&mut out, width, bytes, start + width * *n as usize)?;
     }
     Ok(out)
+}
+
+/// Whether each number is one more than that before it, the first one being `first`.
+fn are_consecutive(first: u32, sectors: &[u32]) -> bool
+    ensures { result ≡ true → (k : ℕ) → k < length sectors.now → slice_index sectors.now k ≡ first + k }
+{
+    for k in 0..sectors.len() {
+        if sectors[k] as usize != first as usize + k {
+            return false;
+        }
+    }
+    true
+}
+
+/// The bytes of sectors, the first of which stands at `start`, where they are whole and stand one after another.
+pub(crate) fn run_of<'a>(
+    width: usize,
+    bytes: &'a [u8],
+    start: usize,
+    sectors: &[u32],
+) -> Option<&'a [u8]>
+    requires wide { width ≤ 512 }
+    requires near { start ≤ 512 }
+    ensures { IfSome result (λ run. run.now ≡ joined (λ n. block width bytes.now (start + width * n)) sectors.now) }
+{
+    let first = *sectors.first()?;
+    if !are_consecutive(first, sectors) {
+        return None;
+    }
+    let at = start + width * first as usize;
+    let len = width.checked_mul(sectors.len())?;
+    let rest = bytes.get(at..)?;
+    let run = rest.get(..len)?;
+    Some(run)
 }
 
 /// Number k of four bytes each, 0 past the end.

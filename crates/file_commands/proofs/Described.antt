@@ -2,7 +2,7 @@
 use Rattle.std.proofs.Common.{◌≡◌, ◌++◌, ℕ, List, [], ◌∷◌, Result, Ok, Err, refl, sym, ap, ◌∙◌, subst, inl, inr, rules}
 use Rattle.std.specs.Prelude.{IsOk}
 use Rattle.storage_tree.specs.Kept.{Kept}
-use Rattle.texts.specs.Lines.{RefusesText, MayLackMemory}
+use Rattle.texts.specs.Lines.{RefusesText}
 use Rattle.texts.specs.declared.lines.SyntaxFault.{SyntaxFault}
 use Rattle.texts.specs.declared.lines.SyntaxFault.TheVariants as syntax_fault
 use Rattle.file_commands.specs.Commands.{commands_read, numbered_read}

@@ -1,16 +1,17 @@
 -- Why a file isn't read, told of the reader's bytes.
-use Rattle.std.proofs.Common.{◌≡◌, ◌∙◌, ℕ, List, Option, Some, None, Result, Ok, Err, IfErr, IfSome, subst, sym}
+use Rattle.std.proofs.Common.{◌≡◌, ◌∙◌, ℕ, List, Option, Some, None, Result, Err, IfErr, IfSome, subst}
 use Rattle.storage_tree.specs.Tree.{Tree}
 use Rattle.cfb_chain.specs.Header.{header_read}
 use Rattle.cfb_chain.specs.declared.fault.ChainFault.{ChainFault}
 use Rattle.file_model.specs.Denotes.{Denotes}
-use Rattle.stream_io.specs.Reads.{chain_fault, MayRefuseFile}
+use Rattle.stream_io.proofs.ReadingTold.{read_refused as seen_refused}
+use Rattle.stream_io.specs.Reads.{chain_fault, MayRefuseFile, MayRefuseRead}
 use Rattle.stream_io.specs.declared.fault.ReadFault.{ReadFault}
 use Rattle.stream_io.specs.declared.fault.ReadFault.TheVariants.{NoMemory}
-use Rattle.file_commands.specs.Run.{MayRefuseRead}
 
-same_fault : {A : Type 0} {e f : ReadFault} → ◌≡◌ {A = Result A ReadFault} (Err e) (Err f) → e ≡ f
-same_fault p = cc
+of_input : (P : List ℕ → Type 0) (input : Option (List ℕ)) (bytes seen : List ℕ) → IfSome input (λ file. bytes ≡ file) → seen ≡ bytes → P seen → IfSome input P
+of_input P None bytes seen w s h = tt
+of_input P (Some file) bytes seen w s h = subst P (s ∙ w) h
 
 pub read_refused : {A : Type 0} (input : Option (List ℕ)) (bytes seen : List ℕ) (r : Result A ReadFault) (fault : ReadFault)
     → IfSome input (λ file. bytes ≡ file) → seen ≡ bytes → r ≡ Err fault
@@ -18,10 +19,4 @@ pub read_refused : {A : Type 0} (input : Option (List ℕ)) (bytes seen : List �
     → ((t : Tree) → Denotes seen t → IfErr r (λ e. e ≡ NoMemory))
     → IfErr r (MayRefuseFile seen)
     → IfSome input (λ file. MayRefuseRead file fault)
-read_refused None bytes seen r fault w s is h d m = tt
-read_refused {A} (Some file) bytes seen r fault w s is h d m =
-    subst (λ f. MayRefuseRead f fault) (s ∙ w) (record {
-      header = λ e he. same_fault {A = A} (sym is ∙ h e he);
-      reads = λ t dt. subst (λ (x : Result A ReadFault). IfErr x (λ e. e ≡ NoMemory)) is (d t dt);
-      told = subst (λ (x : Result A ReadFault). IfErr x (MayRefuseFile seen)) is m;
-    })
+read_refused input bytes seen r fault w s is h d m = of_input (λ file. MayRefuseRead file fault) input bytes seen w s (seen_refused seen r fault is h d m)

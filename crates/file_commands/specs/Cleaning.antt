@@ -6,7 +6,7 @@ use Rattle.file_model.specs.Denotes.{Denotes}
 use Rattle.file_model.specs.Refusals.{writable, Refuses}
 use Rattle.file_writer.specs.Laid.{IsLaidOut}
 use Rattle.texts.specs.Input.{MayRefuseInput}
-use Rattle.file_commands.specs.Run.{MayRefuseRead}
+use Rattle.stream_io.specs.Reads.{MayRefuseRead}
 use Rattle.file_commands.specs.declared.fault.CleanFault.{CleanFault}
 use Rattle.file_commands.specs.declared.fault.CleanFault.TheVariants.{Input, Read, Write, Unwritable}
 

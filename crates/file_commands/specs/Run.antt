@@ -1,15 +1,11 @@
 -- What the commands answer, given the bytes of their readers and writers.
-use Rattle.std.specs.Prelude.{◌≡◌, ℕ, List, Option, Ok, Err, length}
+use Rattle.std.specs.Prelude.{◌≡◌, ℕ, List, Option, Ok, length}
 use Rattle.std.specs.Io.KnownBytes.{Appends}
 use Rattle.storage_tree.specs.Tree.{Tree}
 use Rattle.storage_tree.specs.Kept.{Kept}
 use Rattle.file_model.specs.Denotes.{Denotes}
 use Rattle.file_model.specs.Refusals.{writable, Refuses}
-use Rattle.cfb_chain.specs.Header.{header_read}
-use Rattle.cfb_chain.specs.declared.fault.ChainFault.{ChainFault}
-use Rattle.stream_io.specs.Reads.{chain_fault, MayRefuseFile}
-use Rattle.stream_io.specs.declared.fault.ReadFault.{ReadFault}
-use Rattle.stream_io.specs.declared.fault.ReadFault.TheVariants.{NoMemory}
+use Rattle.stream_io.specs.Reads.{MayRefuseRead}
 use Rattle.texts.specs.Input.{MayRefuseInput}
 use Rattle.file_commands.specs.Description.{described, RefusesDescription}
 use Rattle.file_commands.specs.Listing.{listing}
@@ -43,13 +39,6 @@ pub record Lists (file : List ℕ) (old new : Option (List ℕ)) : Type 0 where
   pub t : Tree
   pub denotes : ∥ Denotes file t ∥₁
   pub written : Appends old new (listing t)
-
--- When bytes may be refused as a file: a header that is at fault is told by its fault, a file that denotes a tree is
--- refused for want of memory alone, and the file has what is told of it.
-pub record MayRefuseRead (file : List ℕ) (fault : ReadFault) : Type 0 where
-  pub header : (e : ChainFault) → header_read file ≡ Err e → fault ≡ chain_fault e
-  pub reads : (t : Tree) → Denotes file t → fault ≡ NoMemory
-  pub told : MayRefuseFile file fault
 
 -- when a file may be refused a listing; what stands behind its reading can fail only where it denotes a tree
 abbrev pub MayRefuseList : List ℕ → ListFault → Type 0

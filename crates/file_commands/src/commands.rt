@@ -11,7 +11,7 @@ use crate::listing::list;
 use file_model::fault::WriteFault;
 use std::alloc::Global;
 use std::io::{Read, Write};
-use stream_io::read::read_file;
+use stream_io::read::read_outline;
 use stream_io::write::write_file;
 use texts::input::read_all;
 use texts::output::write_all;
@@ -75,11 +75,11 @@ pub fn list_file<R: Read, W: Write>(
         Ok(file) => file,
         Err(fault) => return Err(ListFault::Input(fault)),
     };
-    let tree = match read_file(alloc, &file) {
-        Ok(tree) => tree,
+    let outline = match read_outline(alloc, &file) {
+        Ok(outline) => outline,
         Err(fault) => return Err(ListFault::Read(fault)),
     };
-    let text = match list(alloc, &tree) {
+    let text = match list(alloc, &outline) {
         Ok(text) => text,
         Err(_) => return Err(ListFault::NoMemory),
     };

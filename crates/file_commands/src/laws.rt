@@ -1,6 +1,6 @@
 //! Laws of listings.
 
-ghost use Rattle.file_commands.specs.Listing.{class_text};
+ghost use Rattle.text_model.specs.Spelled.{class_text};
 ghost use Rattle.std.specs.Prelude.{◌≡◌, Some};
 ghost use Rattle.uuid.specs.Parts.{swap_fields};
 ghost use Rattle.uuid.specs.Text.{parsed};

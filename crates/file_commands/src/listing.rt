@@ -1,40 +1,25 @@
-//! Listings of trees.
+//! Listings of outlines.
 
-ghost use Rattle.file_commands.specs.Listing.{below, child_lines, class_of, class_text, listing, root_line, storage_line, storage_lines, stream_line};
-ghost use Rattle.texts.specs.Paths.{name_text};
+ghost use Rattle.file_commands.specs.Listing.{below, child_lines, listed, root_line, storage_line, storage_lines, stream_line};
+ghost use Rattle.text_model.specs.Spelled.{name_text};
 ghost use Rattle.std.specs.Fmt.{decimal};
 ghost use Rattle.std.specs.Prelude.{◌≡◌, ◌<◌, ◌++◌, ◌∷◌, [], IfOk, OnOk};
-ghost use Rattle.storage_tree.specs.Kept.{kept};
-ghost use Rattle.storage_tree.specs.View.{seen, view};
+ghost use Rattle.file_outline.specs.View.{outline_view, part_view};
 
 use cfb_directory::name::Name;
+use file_outline::outline::{Outline, Part};
 use std::alloc::{AllocError, Global};
 use storage_tree::class_id::ClassId;
-use storage_tree::storage::{Node, Storage};
-use storage_tree::tree::Tree;
-use texts::writing::{push_name, push_numbered};
-use uuid::Uuid;
+use texts::writing::{push_class, push_name, push_numbered};
 
-/// The listing of a tree.
-pub fn list(alloc: Global, tree: &Tree) -> Result<Vec<u8>, AllocError>
-    ensures { IfOk result (λ text. text.items ≡ listing (kept tree.now).now) }
+/// The listing of an outline.
+pub fn list(alloc: Global, outline: &Outline) -> Result<Vec<u8>, AllocError>
+    ensures { IfOk result (λ text. text.items ≡ listed (outline_view outline.now)) }
 {
     let mut text = Vec::new(alloc);
-    let root = tree.root();
-    push_root(&mut text, &root.class)?;
-    push_below(alloc, &mut text, &[], root)?;
+    push_root(&mut text, &outline.class)?;
+    push_below(alloc, &mut text, &[], outline)?;
     Ok(text)
-}
-
-/// Writes a class id.
-fn push_class(text: &mut Vec<u8>, class: &ClassId) -> Result<(), AllocError>
-    ensures { OnOk result (text.new.items ≡ text.old.items ++ class_text class.now) }
-{
-    let mut buffer = Uuid::encode_buffer();
-    let id = Uuid::from_bytes_le(*class.as_bytes());
-    let spelled = id.hyphenated().encode_lower(&mut buffer);
-    text.extend_from_slice(spelled.as_bytes())?;
-    Ok(())
 }
 
 /// Writes the root's line.
@@ -90,31 +75,31 @@ fn push_below(
     alloc: Global,
     text: &mut Vec<u8>,
     within: &[u8],
-    storage: &Storage,
+    outline: &Outline,
 ) -> Result<(), AllocError>
-    ensures { OnOk result (text.new.items ≡ text.old.items ++ below within.now (view storage.now)) }
+    ensures { OnOk result (text.new.items ≡ text.old.items ++ below within.now (outline_view outline.now)) }
 {
-    for (_, child) in storage.children.iter() {
-        push_child(alloc, text, within, &child.0, &child.1)?;
+    for part in &outline.parts {
+        push_part(alloc, text, within, &part.0, &part.1)?;
     }
     Ok(())
 }
 
 /// Writes the lines of a child and of what stands below it.
 #[cycle(listing)]
-fn push_child(
+fn push_part(
     alloc: Global,
     text: &mut Vec<u8>,
     within: &[u8],
     name: &Name,
-    node: &Node,
+    part: &Part,
 ) -> Result<(), AllocError>
-    ensures { OnOk result (text.new.items ≡ text.old.items ++ child_lines within.now name.now (seen node.now)) }
+    ensures { OnOk result (text.new.items ≡ text.old.items ++ child_lines within.now name.now (part_view part.now)) }
 {
     let path = path_text(alloc, within, name)?;
-    match node {
-        Node::Stream(content) => push_stream(alloc, text, &path, content.len())?,
-        Node::Storage(inner) => push_inner(alloc, text, path, inner)?,
+    match part {
+        Part::Stream(place) => push_stream(alloc, text, &path, place.size as usize)?,
+        Part::Storage(inner) => push_inner(alloc, text, path, inner)?,
     }
     Ok(())
 }
@@ -125,9 +110,9 @@ fn push_inner(
     alloc: Global,
     text: &mut Vec<u8>,
     mut path: Vec<u8>,
-    inner: &Storage,
+    inner: &Outline,
 ) -> Result<(), AllocError>
-    ensures { OnOk result (text.new.items ≡ text.old.items ++ storage_lines path.items (view inner.now)) }
+    ensures { OnOk result (text.new.items ≡ text.old.items ++ storage_lines path.items (outline_view inner.now)) }
 {
     push_storage(text, &path, &inner.class)?;
     path.push(b'/')?;

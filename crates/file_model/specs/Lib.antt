@@ -1,6 +1,7 @@
 pub mod Limits
 pub mod Denotes
 pub mod Need
+pub mod Outline
 pub mod Refusals
 pub mod FaultNames
 pub mod Image

@@ -1,5 +1,6 @@
 -- The numbers that bound a compound file (MS-CFB 2.2).
 use Rattle.std.specs.Prelude.{ℕ, ◌+◌, ◌*◌}
+use Rattle.cfb_chain.specs.Header.{LISTED}
 
 -- a stream of fewer bytes lies in the mini stream
 abbrev pub CUTOFF : ℕ
@@ -7,7 +8,7 @@ CUTOFF = 4096
 
 -- the most sectors that the FAT of a file has, which are as many as the header can name
 abbrev pub MOST_FAT_SECTORS : ℕ
-MOST_FAT_SECTORS = 109
+MOST_FAT_SECTORS = LISTED
 
 -- more entries, mini sectors or sectors than any file has whose FAT is within the limit
 abbrev pub MANY : ℕ

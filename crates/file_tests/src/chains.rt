@@ -48,8 +48,17 @@ fn chain(alloc: Global, fat: &mut Fat, start: u32) -> Result<Vec<u32>, ChainFaul
     fat.chain(alloc, start)
 }
 
+/// The first bytes of a chain that is marked.
 fn bytes(alloc: Global, fat: &mut Fat, start: u32, len: u32) -> Result<Vec<u8>, ChainFault> {
-    fat.bytes(alloc, start, len)
+    fat.mark_chain(start, len)?;
+    let bytes = fat.held(alloc, start, len)?;
+    Ok(bytes)
+}
+
+/// How many bytes there are of sectors that stand one after another, and the last of them.
+fn run(fat: &Fat, sectors: &[u32]) -> Option<(usize, Option<u8>)> {
+    let run = fat.run(sectors)?;
+    Some((run.len(), run.last().copied()))
 }
 
 /// The chain from a sector on, and its bytes.
@@ -159,6 +168,8 @@ fn chains_are_followed(rt: HostRuntime) -> Result<(), Fail> {
         Some(ChainFault::CrossLinked)
     );
     assert_eq!(rt; bytes(alloc, &mut fat, 2, 0)?.len(), 0);
+    assert_eq!(rt; run(&fat, &[6, 7]), Some((1024, Some(7))));
+    assert_eq!(rt; run(&fat, &[1, 8]), None);
     assert_eq!(rt; free(&fat), None);
     Ok(())
 }

@@ -4,12 +4,13 @@ use crate::made::{
     END, FAT, FREE, changed, header, number_or_end, push_entry, push_equal, push_table,
 };
 use cfb_directory::name::Name;
+use file_outline::outline::{Outline, Part};
 use std::alloc::Global;
 use std::test::Fail;
 use storage_tree::storage::Found;
 use storage_tree::tree::Tree;
-use stream_io::fault::ReadFault;
-use stream_io::read::read_file;
+use stream_io::fault::{ReadFault, StreamFault};
+use stream_io::read::{read_file, read_outline, read_stream};
 
 /// The file of a root without children.
 fn empty_file(alloc: Global) -> Result<Vec<u8>, Fail> {
@@ -164,6 +165,35 @@ fn is_short(alloc: Global, file: &[u8]) -> bool {
     }
 }
 
+/// How many bytes the innermost first stream of an outline has.
+fn first_size(outline: &Outline) -> Option<u32> {
+    let first = outline.parts.first()?;
+    match &first.1 {
+        Part::Stream(place) => Some(place.size),
+        Part::Storage(inner) => first_size(inner),
+    }
+}
+
+/// The size of the innermost first stream of a file.
+fn size_in(alloc: Global, file: &[u8]) -> Result<Option<u32>, Fail> {
+    let outline = read_outline(alloc, file)?;
+    Ok(first_size(&outline))
+}
+
+/// What is told of the stream at a path, each name of which is one letter.
+fn told_at(alloc: Global, file: &[u8], path: &[u8]) -> Result<&'static str, Fail> {
+    let mut names = Vec::new(alloc);
+    for letter in path {
+        names.push(Name::new(&[*letter])?)?;
+    }
+    match read_stream(alloc, file, &names) {
+        Ok(bytes) if bytes.as_slice() == [1, 2, 3].as_slice() => Ok("1, 2, 3"),
+        Ok(_) => Ok("other bytes"),
+        Err(StreamFault::Read(fault)) => Ok(fault.name()),
+        Err(StreamFault::Tree(fault)) => Ok(fault.name()),
+    }
+}
+
 #[test]
 fn files_are_read(rt: HostRuntime) -> Result<(), Fail> {
     let alloc = rt.alloc();
@@ -275,5 +305,33 @@ fn nested_entries_are_refused(rt: HostRuntime) -> Result<(), Fail> {
         &[3, 0, 0, 0, 0xff, 0xff, 0xff, 0xff],
     );
     assert_eq!(rt; told(alloc, &changed(beside, 1408, b"t")), "DuplicateName");
+    Ok(())
+}
+
+#[test]
+fn outlines_are_read(rt: HostRuntime) -> Result<(), Fail> {
+    let alloc = rt.alloc();
+    assert_eq!(rt; size_in(alloc, &empty_file(alloc)?)?, None);
+    assert_eq!(rt; size_in(alloc, &long_file(alloc)?)?, Some(4096));
+    assert_eq!(rt; size_in(alloc, &nested_file(alloc)?)?, Some(3));
+    Ok(())
+}
+
+#[test]
+fn one_stream_is_read(rt: HostRuntime) -> Result<(), Fail> {
+    let alloc = rt.alloc();
+    let file = nested_file(alloc)?;
+    let paths = [
+        ("STA", "1, 2, 3"),
+        ("sta", "1, 2, 3"),
+        ("ST", "WrongKind"),
+        ("", "WrongKind"),
+        ("STAB", "WrongKind"),
+        ("SB", "NotFound"),
+    ];
+    for (path, told) in paths {
+        assert_eq!(rt; told_at(alloc, &file, path.as_bytes())?, told, "{path}");
+    }
+    assert_eq!(rt; told_at(alloc, &part(file, 511), b"STA")?, "Truncated");
     Ok(())
 }

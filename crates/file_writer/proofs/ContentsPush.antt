@@ -12,9 +12,9 @@ use Rattle.storage_tree.proofs.Entries.{seen-storage, view-out}
 use Rattle.file_model.specs.Need.{entries_of, over_streams_of, short_pieces, long_pieces}
 use Rattle.file_model.specs.Directory.{IsSpelled, AreSpelled, class_in, state_in, ids_from, children_in, balanced, storage_says, entries_below, each_entry, entries_with}
 use Rattle.file_writer.specs.Streams.{minis_with, sectors_with}
-use Rattle.file_writer.specs.Family.{IsFamily, IsChildSpelled, past, past_all, child_entries, sibling_entries}
+use Rattle.file_writer.specs.Siblings.{AreSiblings, IsChildSpelled, past, past_all, child_entries, sibling_entries}
 use Rattle.file_writer.specs.declared.entries.Cursor.{Cursor}
-use Rattle.file_writer.specs.declared.entries.Family.{Family}
+use Rattle.file_writer.specs.declared.entries.Siblings.{Siblings}
 use Rattle.file_writer.proofs.ContentsWalk.{Entries, entries-first, ids-first, minis-first, sectors-first, each-first, below-is}
 
 module _ (rest es : Entries) (k : List ℕ) (v : List ℕ × Node) (steps : rest ≡ (k, v) ∷ es) (at next : Cursor) (after : next ≡ past at (seen v.1)) where
@@ -40,16 +40,16 @@ module _ (rest es : Entries) (k : List ℕ) (v : List ℕ × Node) (steps : rest
       ∙ ap (λ x. out ++ x) (sym (each-first ids place at rest es k v steps)) ∙ h
 
 -- the entry of a storage, and those below it
-pub storage-pushed : (ids : List ℕ) (place : ℕ) (at : Cursor) (name name' : List ℕ) (node : Node) (s : Storage) (family : Family) (e : EntryFields) (old mid new : List ℕ)
-    → node ≡ variant.Storage s → name' ≡ name → IsFamily family (at.id + 1) (children_in (view s)) → e ≡ storage_says balanced ids place at.id (view s)
-    → mid ≡ old ++ entry_bytes name' e → new ≡ mid ++ sibling_entries family.ids.items 0 (record { id = at.id + 1; mini = at.mini; sector = at.sector }) (children_in (view s))
+pub storage-pushed : (ids : List ℕ) (place : ℕ) (at : Cursor) (name name' : List ℕ) (node : Node) (s : Storage) (siblings : Siblings) (e : EntryFields) (old mid new : List ℕ)
+    → node ≡ variant.Storage s → name' ≡ name → AreSiblings siblings (at.id + 1) (children_in (view s)) → e ≡ storage_says balanced ids place at.id (view s)
+    → mid ≡ old ++ entry_bytes name' e → new ≡ mid ++ sibling_entries siblings.ids.items 0 (record { id = at.id + 1; mini = at.mini; sector = at.sector }) (children_in (view s))
     → new ≡ old ++ child_entries ids place at name (seen node)
-storage-pushed ids place at name name' node s family e old mid new is named has says first rest =
+storage-pushed ids place at name name' node s siblings e old mid new is named has says first rest =
     let t : Tree = view s in
     let one : List ℕ = entry_bytes name (storage_says balanced ids place at.id t) in
     let more : List ℕ = entries_below balanced at.id at.mini at.sector t in
     let a : mid ≡ old ++ one = first ∙ (λ i. old ++ entry_bytes (named i) (says i)) in
-    let b : sibling_entries family.ids.items 0 (record { id = at.id + 1; mini = at.mini; sector = at.sector }) (children_in t) ≡ more =
+    let b : sibling_entries siblings.ids.items 0 (record { id = at.id + 1; mini = at.mini; sector = at.sector }) (children_in t) ≡ more =
     ap (λ xs. each_entry balanced xs 0 (at.id + 1) at.mini at.sector (children_in t)) has.ids ∙ sym (below-is at.id at.mini at.sector t) in
     rest ∙ (λ i. a i ++ b i) ∙ append_assoc old one more ∙ ap (λ x. old ++ child_entries ids place at name x) (sym (ap seen is ∙ seen-storage s))
 

@@ -8,7 +8,7 @@ use Rattle.file_model.specs.Need.{entries, entries_of, over_streams_of, short_pi
 use Rattle.file_model.specs.Directory.{entries_with, ids_from, children_in, balanced, storage_says, entries_below, each_entry}
 use Rattle.cfb_directory.specs.Written.{entry_bytes}
 use Rattle.file_writer.specs.Streams.{minis_with, sectors_with}
-use Rattle.file_writer.specs.Family.{past, child_entries, sibling_entries}
+use Rattle.file_writer.specs.Siblings.{past, child_entries, sibling_entries}
 use Rattle.file_writer.specs.declared.entries.Cursor.{Cursor}
 
 abbrev pub Entries : Type 0

@@ -1,4 +1,4 @@
 pub mod ContentsWalk
-pub mod ContentsFamily
+pub mod ContentsSiblings
 pub mod Denoted
 pub mod ContentsPush

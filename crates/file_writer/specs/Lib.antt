@@ -1,4 +1,4 @@
 pub mod Streams
-pub mod Family
+pub mod Siblings
 pub mod Counted
 pub mod Laid

@@ -1,6 +1,7 @@
 -- What a child of a storage takes in the mini stream and in sectors.
 use Rattle.std.specs.Prelude.{ℕ, List, [], ◌∷◌, length, if◌then◌else◌, nat_lt}
 use Rattle.storage_tree.specs.Change.{Seen, bytes, inner}
+use Rattle.file_model.specs.Limits.{CUTOFF}
 use Rattle.file_model.specs.Need.{mini_sectors, long_sectors, short_pieces, long_pieces}
 use Rattle.file_model.specs.Directory.{short_streams, long_streams}
 
@@ -13,11 +14,11 @@ abbrev pub sectors_with : Seen → ℕ
 sectors_with (bytes b) = long_pieces b
 sectors_with (inner t) = long_sectors t
 
--- a child's streams below 4,096 bytes, and its other ones
+-- a child's streams that lie in the mini stream, and its other ones
 abbrev pub short_within : Seen → List (List ℕ)
-short_within (bytes b) = if nat_lt (length b) 4096 then b ∷ [] else []
+short_within (bytes b) = if nat_lt (length b) CUTOFF then b ∷ [] else []
 short_within (inner t) = short_streams t
 
 abbrev pub long_within : Seen → List (List ℕ)
-long_within (bytes b) = if nat_lt (length b) 4096 then [] else b ∷ []
+long_within (bytes b) = if nat_lt (length b) CUTOFF then [] else b ∷ []
 long_within (inner t) = long_streams t

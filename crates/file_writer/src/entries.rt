@@ -8,7 +8,7 @@ ghost use Rattle.storage_tree.specs.View.{seen, view};
 ghost use Rattle.file_model.specs.Need.{entries, long_sectors};
 ghost use Rattle.file_model.specs.declared.limit.TheConstants.{MANY};
 ghost use Rattle.file_writer.specs.Counted.{AreCounts};
-ghost use Rattle.file_writer.specs.Family.{IsBelow, IsChildSpelled, IsFamily, IsJoined, child_entries, past, past_all, sibling_entries};
+ghost use Rattle.file_writer.specs.Siblings.{IsBelow, IsChildSpelled, AreSiblings, IsJoined, child_entries, past, past_all, sibling_entries};
 ghost use Rattle.storage_tree.specs.Change.{bytes as seen_bytes};
 ghost use Rattle.file_model.specs.Image.{start};
 ghost use Rattle.file_model.specs.Directory.{AreSpelled, IsSpelled, balanced as balanced_links, children_in, entries_with, first_of_stream, directory_of_tree, ids_from, long_start, root_says, storage_says, stream_says};
@@ -64,24 +64,24 @@ fn child_ids(alloc: Global, storage: &Storage, first: u32) -> Result<Vec<u32>, A
 
 /// The entries of siblings, and how they are linked.
 #[derive(Drop)]
-struct Family {
+struct Siblings {
     ids: Vec<u32>,
     links: Links,
 }
 
 /// The children of a storage, of which the first has this id.
-fn family_of(alloc: Global, storage: &Storage, first: u32) -> Result<Family, AllocError>
+fn siblings_of(alloc: Global, storage: &Storage, first: u32) -> Result<Siblings, AllocError>
     requires { first + entries (view storage.now) < MANY }
-    ensures { IfOk result (λ family. IsFamily family first (children_in (view storage.now))) }
+    ensures { IfOk result (λ siblings. AreSiblings siblings first (children_in (view storage.now))) }
 {
     let ids = child_ids(alloc, storage, first)?;
     let links = balanced(alloc, ids.len() as u32)?;
-    Ok(Family { ids, links })
+    Ok(Siblings { ids, links })
 }
 
-impl Family {
+impl Siblings {
     ghost use Rattle.std.specs.Prelude.{◌≡◌, ◌<◌, ℕ, length, slice_index};
-    ghost use Rattle.file_writer.specs.Family.{IsJoined};
+    ghost use Rattle.file_writer.specs.Siblings.{IsJoined};
     ghost use Rattle.file_model.specs.Directory.{IsLink};
     ghost use Rattle.file_model.specs.Directory.{balanced, linked};
 
@@ -152,16 +152,16 @@ fn stream_start(at: Cursor, bytes: &Bytes) -> u32
 }
 
 /// What the entry of the stream at a place says.
-fn stream_entry(family: &Family, place: usize, at: Cursor, bytes: &Bytes) -> EntryFields
-    requires joined { IsJoined family.now }
-    requires there { place < length family.now.ids.items }
+fn stream_entry(siblings: &Siblings, place: usize, at: Cursor, bytes: &Bytes) -> EntryFields
+    requires joined { IsJoined siblings.now }
+    requires there { place < length siblings.now.ids.items }
     requires few { length bytes.now < 2 ^ 32 }
-    ensures { result ≡ stream_says balanced_links family.now.ids.items place at.mini at.sector (length bytes.now) }
+    ensures { result ≡ stream_says balanced_links siblings.now.ids.items place at.mini at.sector (length bytes.now) }
 {
     EntryFields {
         kind: EntryKind::Stream,
-        left: family.left(place),
-        right: family.right(place),
+        left: siblings.left(place),
+        right: siblings.right(place),
         child: NO_STREAM,
         class: [0; 16],
         state: 0,
@@ -187,19 +187,24 @@ fn state_bits(state: u32) -> u32
 }
 
 /// What the entry of the storage at a place says, whose children are these.
-fn storage_entry(family: &Family, place: usize, storage: &Storage, children: &Family) -> EntryFields
-    requires joined { IsJoined family.now }
-    requires there { place < length family.now.ids.items }
+fn storage_entry(
+    siblings: &Siblings,
+    place: usize,
+    storage: &Storage,
+    children: &Siblings,
+) -> EntryFields
+    requires joined { IsJoined siblings.now }
+    requires there { place < length siblings.now.ids.items }
     requires below { IsJoined children.now }
     ensures class_id { length storage.now.class ≡ 16 }
     ensures state_bits { storage.now.state < 2 ^ 32 }
-    ensures says { (id : ℕ) → IsFamily children.now (id + 1) (children_in (view storage.now)) → result ≡ storage_says balanced_links family.now.ids.items place id (view storage.now) }
+    ensures says { (id : ℕ) → AreSiblings children.now (id + 1) (children_in (view storage.now)) → result ≡ storage_says balanced_links siblings.now.ids.items place id (view storage.now) }
 {
     let state = state_bits(storage.state);
     EntryFields {
         kind: EntryKind::Storage,
-        left: family.left(place),
-        right: family.right(place),
+        left: siblings.left(place),
+        right: siblings.right(place),
         child: children.top(),
         class: class_bytes(storage.class.as_bytes()),
         state,
@@ -236,19 +241,19 @@ fn push_below(
     alloc: Global,
     out: &mut Vec<u8>,
     storage: &Storage,
-    family: &Family,
+    siblings: &Siblings,
     at: Cursor,
 ) -> Result<Cursor, AllocError>
-    requires family { IsFamily family.now at.id (children_in (view storage.now)) }
+    requires siblings { AreSiblings siblings.now at.id (children_in (view storage.now)) }
     requires few { IsBelow (past_all at (children_in (view storage.now))) MANY }
-    ensures pushed { OnOk result (out.new.items ≡ out.old.items ++ sibling_entries family.now.ids.items 0 at (children_in (view storage.now))) }
+    ensures pushed { OnOk result (out.new.items ≡ out.old.items ++ sibling_entries siblings.now.ids.items 0 at (children_in (view storage.now))) }
     ensures next { IfOk result (λ next. next ≡ past_all at (children_in (view storage.now))) }
     ensures spelled { OnOk result (AreSpelled (children_in (view storage.now))) }
 {
     let mut next = at;
     let mut place = 0;
     for (_, child) in storage.children.iter() {
-        next = push_child(alloc, out, child, family, place, next)?;
+        next = push_child(alloc, out, child, siblings, place, next)?;
         place += 1;
     }
     Ok(next)
@@ -260,21 +265,21 @@ fn push_child(
     alloc: Global,
     out: &mut Vec<u8>,
     child: &(Name, Node),
-    family: &Family,
+    siblings: &Siblings,
     place: usize,
     at: Cursor,
 ) -> Result<Cursor, AllocError>
-    requires joined { IsJoined family.now }
-    requires there { place < length family.now.ids.items }
+    requires joined { IsJoined siblings.now }
+    requires there { place < length siblings.now.ids.items }
     requires few { IsBelow (past at (seen child.now.1)) MANY }
-    ensures pushed { OnOk result (out.new.items ≡ out.old.items ++ child_entries family.now.ids.items place at child.now.0 (seen child.now.1)) }
+    ensures pushed { OnOk result (out.new.items ≡ out.old.items ++ child_entries siblings.now.ids.items place at child.now.0 (seen child.now.1)) }
     ensures next { IfOk result (λ next. next ≡ past at (seen child.now.1)) }
     ensures spelled { OnOk result (IsChildSpelled (seen child.now.1)) }
 {
     let name = child.0.as_bytes();
     match &child.1 {
         Node::Stream(bytes) => {
-            write_entry(out, name, &stream_entry(family, place, at, bytes))?;
+            write_entry(out, name, &stream_entry(siblings, place, at, bytes))?;
             Ok(at.past(bytes))
         }
         Node::Storage(inner) => {
@@ -283,8 +288,8 @@ fn push_child(
                 mini: at.mini,
                 sector: at.sector,
             };
-            let children = family_of(alloc, inner, below.id)?;
-            write_entry(out, name, &storage_entry(family, place, inner, &children))?;
+            let children = siblings_of(alloc, inner, below.id)?;
+            write_entry(out, name, &storage_entry(siblings, place, inner, &children))?;
             let next = push_below(alloc, out, inner, &children, below)?;
             Ok(next)
         }
@@ -364,8 +369,8 @@ impl Counts {
 }
 
 /// What the root's entry says, whose children these are.
-fn root_entry(root: &Storage, children: &Family, counts: Counts) -> EntryFields
-    requires children { IsFamily children.now 1 (children_in (view root.now)) }
+fn root_entry(root: &Storage, children: &Siblings, counts: Counts) -> EntryFields
+    requires children { AreSiblings children.now 1 (children_in (view root.now)) }
     requires counts { AreCounts counts (view root.now) }
     ensures class_id { length root.now.class ≡ 16 }
     ensures state_bits { root.now.state < 2 ^ 32 }
@@ -411,7 +416,7 @@ pub(crate) fn push_directory(
 {
     let directory = counts.directory_sectors();
     let sector = counts.fat + directory + counts.mini_fat_sectors() + counts.mini_stream_sectors();
-    let children = family_of(alloc, root, 1)?;
+    let children = siblings_of(alloc, root, 1)?;
     let name = Name::root();
     write_entry(out, name.as_bytes(), &root_entry(root, &children, counts))?;
     push_below(

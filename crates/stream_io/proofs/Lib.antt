@@ -14,3 +14,4 @@ pub mod ReadingSorted
 pub mod ReadingStreams
 pub mod ReadingFile
 pub mod ReadingThere
+pub mod ReadingTold

@@ -2,55 +2,19 @@
 use Rattle.std.proofs.Common.{◌≡◌, ◌<◌, ◌≤◌, ◌+◌, ℕ, List, [], ◌∷◌, ◌++◌, length, get_or, drop, take, map, refl, sym, ◌∙◌, ap, subst, arith}
 use Rattle.std.proofs.lemmas.Cmp.{nat_list_cmp_total}
 use Rattle.std.proofs.lemmas.List.{drop_more, take_more, length-map, length-take, get_or-map, get_or-take, drop_all}
-use Rattle.std.proofs.lemmas.List.Elements.{All-head, All-tail}
 use Rattle.std.proofs.lemmas.Map.Keys.{Less-from_sorted}
 use Rattle.std.specs.List.{All}
 use Rattle.std.specs.List.Sorted.{IsStrictlySortedBy}
-use Rattle.std.specs.Ordering.{match_ordering, ordering_reverse}
-use Rattle.std.specs.declared.cmp.Ordering.TheVariants.{Less, Greater}
+use Rattle.std.specs.Ordering.{ordering_reverse}
+use Rattle.std.specs.declared.cmp.Ordering.TheVariants.{Less}
 use Rattle.cfb_directory.specs.Names.{key, key_cmp}
-use Rattle.storage_tree.specs.Change.{Seen, bytes, inner, child, place}
+use Rattle.storage_tree.specs.Change.{Seen, bytes, inner, child}
 use Rattle.storage_tree.specs.Tree.{Children, none, stream, storage, keys}
 use Rattle.stream_io.specs.Reads.{AreRead, IsChildPut, IsChildRead, directory_in, key_at}
 use Rattle.stream_io.specs.declared.read.Reader.{Reader}
+use Rattle.file_outline.proofs.Followed.{IsBehind, followed, followed-child, followed-none, keys-child, place_behind}
 use Rattle.stream_io.proofs.ReadingKept.{IsKept, kept_node, kept_none, kept_then}
 use Rattle.stream_io.proofs.ReadingOnce.{node_once}
-
--- children with others behind them
-abbrev pub followed : Children → Children → Children
-followed none ds = ds
-followed (stream k n b cs) ds = stream k n b (followed cs ds)
-followed (storage k n t cs) ds = storage k n t (followed cs ds)
-
-pub followed-none : (cs : Children) → followed cs none ≡ cs
-followed-none none = refl
-followed-none (stream k n b cs) = ap (stream k n b) (followed-none cs)
-followed-none (storage k n t cs) = ap (storage k n t) (followed-none cs)
-
-pub followed-child : (cs : Children) (k : List ℕ) (c : List ℕ × Seen) (ds : Children) → followed (followed cs (child k c none)) ds ≡ followed cs (child k c ds)
-followed-child none k (n, bytes b) ds = refl
-followed-child none k (n, inner t) ds = refl
-followed-child (stream q m b cs) k c ds = ap (stream q m b) (followed-child cs k c ds)
-followed-child (storage q m t cs) k c ds = ap (storage q m t) (followed-child cs k c ds)
-
-keys-child : (cs : Children) (k : List ℕ) (c : List ℕ × Seen) → keys (followed cs (child k c none)) ≡ keys cs ++ k ∷ []
-keys-child none k (n, bytes b) = refl
-keys-child none k (n, inner t) = refl
-keys-child (stream q m b cs) k c = ap (λ ks. q ∷ ks) (keys-child cs k c)
-keys-child (storage q m t cs) k c = ap (λ ks. q ∷ ks) (keys-child cs k c)
-
-abbrev IsBehind : List ℕ → List ℕ → Type 0
-IsBehind k q = key_cmp k q ≡ Greater
-
--- a child put under a key that is behind all
-place_behind : (k : List ℕ) (c : List ℕ × Seen) (cs : Children) → All (IsBehind k) (keys cs) → place k c cs ≡ followed cs (child k c none)
-place_behind k c none all = refl
-place_behind k c (stream q n b cs) all =
-    ap (λ o. match_ordering o (child k c (stream q n b cs)) (child q c cs) (stream q n b (place k c cs))) (All-head (IsBehind k) q (keys cs) all)
-    ∙ ap (stream q n b) (place_behind k c cs (All-tail (IsBehind k) q (keys cs) all))
-place_behind k c (storage q n t cs) all =
-    ap (λ o. match_ordering o (child k c (storage q n t cs)) (child q c cs) (storage q n t (place k c cs))) (All-head (IsBehind k) q (keys cs) all)
-    ∙ ap (storage q n t) (place_behind k c cs (All-tail (IsBehind k) q (keys cs) all))
 
 -- ---- one entry after another
 read_cons : (depth id : ℕ) (ids k name : List ℕ) (s : Seen) (ds : Children) (old next new : Reader) → IsChildRead depth id k name s old next
@@ -113,6 +77,22 @@ next_behind dir ids i cs lt sorted is k e =
     let flip : key_cmp k (get_or ks j d) ≡ ordering_reverse (key_cmp (get_or ks j d) k) = nat_list_cmp_total.antisymm k (get_or ks j d) in
     ap (key_cmp k) there ∙ flip ∙ ap (λ x. ordering_reverse (key_cmp (get_or ks j d) x)) (sym here) ∙ ap ordering_reverse less in
     subst (All (IsBehind k)) (sym is) each
+
+-- the next entry, put behind those so far
+pub put_behind : (depth : ℕ) (ids : List ℕ) (old : Reader) (i : ℕ) (r next : Reader) (cs : Children) (k name : List ℕ) (s : Seen) → i < length ids
+    → IsStrictlySortedBy key_cmp (map (key_at (directory_in old)) ids) → Progress depth ids old i r cs → IsChildRead depth (get_or ids i 0) k name s r next
+    → IsChildPut depth (get_or ids i 0) r next cs (followed cs (child k (name, s) none))
+put_behind depth ids old i r next cs k name s lt sorted h is_read =
+    let dir : List ℕ = directory_in old in
+    let id : ℕ = get_or ids i 0 in
+    let at : k ≡ key_at dir id = is_read.named.under_key ∙ ap key is_read.named.named.units ∙ ap (λ (d : List ℕ). key_at d id) h.kept.directory in
+    record {
+      k = k;
+      name = name;
+      node = s;
+      is_read = is_read;
+      is_put = sym (place_behind k (name, s) cs (next_behind dir ids i cs lt sorted h.keys_are k at));
+    }
 
 pub progress_more : (depth : ℕ) (ids : List ℕ) (old : Reader) (i : ℕ) (r next : Reader) (cs ds : Children) → i < length ids
     → IsStrictlySortedBy key_cmp (map (key_at (directory_in old)) ids) → Progress depth ids old i r cs → IsChildPut depth (get_or ids i 0) r next cs ds

@@ -1,31 +1,48 @@
 -- Reading keeps the directory, and all marks of entries.
-use Rattle.std.proofs.Common.{◌≡◌, ◌-◌, ℕ, Bool, true, List, [], ◌∷◌, get_or, refl, sym, ◌∙◌, ap, subst}
+use Rattle.std.proofs.Common.{◌≡◌, ◌-◌, ℕ, Bool, true, false, if◌then◌else◌, nat_lt, List, [], ◌∷◌, get_or, refl, sym, ◌∙◌, ap, subst}
+use Rattle.cfb_chain.specs.Fat.{FatValue, held, marked}
+use Rattle.cfb_directory.specs.Entries.{entry_at, size_of}
 use Rattle.cfb_directory.proofs.Marks.{set_all-stays}
+use Rattle.file_model.specs.Limits.{CUTOFF}
 use Rattle.storage_tree.specs.Tree.{Tree, Children, tree, none, stream, storage}
 use Rattle.storage_tree.specs.Change.{Seen, bytes, inner}
-use Rattle.stream_io.specs.Reads.{AreRead, IsNodeRead, IsStorageRead, IsStreamRead, directory_in, met}
+use Rattle.stream_io.specs.Reads.{AreRead, IsNodeRead, IsStorageRead, IsStreamRead, directory_in, met, stream_after}
+use Rattle.file_outline.specs.View.{contents}
 use Rattle.stream_io.specs.declared.read.Reader.{Reader}
 
 pub record IsKept (old new : Reader) : Type 0 where
   pub directory : directory_in new ≡ directory_in old
   pub marks : (n : ℕ) → get_or old.entries.used n true ≡ true → get_or new.entries.used n true ≡ true
+  pub content : contents new.fat new.mini ≡ contents old.fat old.mini
+
+-- marks change no bytes
+same_content : (b c : Bool) (fat mini : FatValue) (ns : List ℕ) (first size : ℕ)
+    → held (if c then (if b then marked mini ns else mini) else (if b then fat else marked fat ns)) first size ≡ held (if c then mini else fat) first size
+same_content true true fat mini ns first size = refl
+same_content true false fat mini ns first size = refl
+same_content false true fat mini ns first size = refl
+same_content false false fat mini ns first size = refl
+
+content_after : (size : ℕ) (ns : List ℕ) (r : Reader) → contents (stream_after size ns r).fat (stream_after size ns r).mini ≡ contents r.fat r.mini
+content_after size ns r = λ i place. same_content (nat_lt size CUTOFF) (nat_lt place.size CUTOFF) r.fat r.mini ns place.first place.size i
 
 pub kept_none : (r : Reader) → IsKept r r
-kept_none r = record { directory = refl; marks = λ n h. h }
+kept_none r = record { directory = refl; marks = λ n h. h; content = refl }
 
 pub kept_then : (a b c : Reader) → IsKept a b → IsKept b c → IsKept a c
-kept_then a b c h i = record { directory = i.directory ∙ h.directory; marks = λ n m. i.marks n (h.marks n m) }
+kept_then a b c h i = record { directory = i.directory ∙ h.directory; marks = λ n m. i.marks n (h.marks n m); content = i.content ∙ h.content }
 
 pub kept_same : (a b : Reader) → b ≡ a → IsKept a b
 kept_same a b e = subst (IsKept a) (sym e) (kept_none a)
 
 pub kept_met : (ids : List ℕ) (r : Reader) → IsKept r (met ids r)
-kept_met ids r = record { directory = refl; marks = λ n h. set_all-stays r.entries.used ids n h }
+kept_met ids r = record { directory = refl; marks = λ n h. set_all-stays r.entries.used ids n h; content = refl }
 
 pub kept_stream : (id : ℕ) (b : List ℕ) (old new : Reader) → IsStreamRead id b old new → IsKept old new
 kept_stream id b old new h = record {
   directory = ap (λ (r : Reader). directory_in r) h.after;
   marks = λ n m. subst (λ (us : List Bool). get_or us n true ≡ true) (sym (ap (λ (r : Reader). r.entries.used) h.after)) m;
+  content = ap (λ (r : Reader). contents r.fat r.mini) h.after ∙ content_after (size_of (entry_at (directory_in old) id)) h.ns old;
 }
 
 mutual

@@ -8,11 +8,12 @@ use Rattle.cfb_directory.specs.Names.{key_cmp}
 use Rattle.cfb_directory.specs.Entries.{MayRefuseEntry, child, class_of, entry_at, kind, state_of}
 use Rattle.cfb_directory.specs.declared.fault.DirFault.{DirFault}
 use Rattle.file_model.proofs.Unique.{linked_unique}
-use Rattle.storage_tree.specs.Change.{Seen, bytes, inner}
-use Rattle.storage_tree.specs.Tree.{Tree, Children, tree}
+use Rattle.storage_tree.specs.Change.{Seen, bytes, child as with_child, inner}
+use Rattle.storage_tree.specs.Tree.{Tree, Children, none, tree}
 use Rattle.stream_io.specs.Reads.{AreRead, AreSorted, IsChild, IsChildPut, IsChildRead, IsNodeRead, IsStorage, IsStorageRead, directory_in, key_at, met}
 use Rattle.stream_io.specs.declared.read.Reader.{Reader}
-use Rattle.stream_io.proofs.ReadingChildren.{IsFirstRead, Progress, progress_all, progress_more, progress_next}
+use Rattle.file_outline.proofs.Followed.{followed}
+use Rattle.stream_io.proofs.ReadingChildren.{IsFirstRead, Progress, put_behind, progress_all, progress_more, progress_next}
 use Rattle.stream_io.proofs.ReadingEntries.{kind_inside}
 use Rattle.stream_io.proofs.ReadingKept.{IsKept, kept_met, kept_same, kept_then}
 use Rattle.stream_io.proofs.ReadingRefused.{linked_child}
@@ -67,6 +68,10 @@ module _ (depth id : ℕ) (items : List ℕ) (old mid : Reader) (o : AreOpen id 
 
     pub step : (next : Reader) (ds : Children) → i < length items → IsChildPut depth (get_or items i 0) r next cs ds → Progress depth items mid (i + 1) next ds
     step next ds lt h = progress_more depth items mid i r next cs ds lt ordered p h
+
+    pub put : (next : Reader) (k name : List ℕ) (s : Seen) → i < length items → IsChildRead depth (get_or items i 0) k name s r next
+        → IsChildPut depth (get_or items i 0) r next cs (followed cs (with_child k (name, s) none))
+    put next k name s lt h = put_behind depth items mid i r next cs k name s lt ordered p h
 
     -- what can be read from the first child on can be read from here on
     pub next_there : (t : Tree) (new : Reader) → IsStorageRead depth id t old new → i < length items → IsFirstRead depth (get_or items i 0) (drop (i + 1) items) r new

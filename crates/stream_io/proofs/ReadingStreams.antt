@@ -8,7 +8,8 @@ use Rattle.cfb_chain.proofs.Chains.{chain_below, chain_of_same, joined_same, sam
 use Rattle.cfb_chain.proofs.Marks.{Marks, free_when, marks_more}
 use Rattle.cfb_directory.specs.Entries.{entry_at, first_of, kind, size_of}
 use Rattle.file_model.specs.Denotes.{HoldsBytes, Layout, Used, directory_of, minis, sectors, taken}
-use Rattle.stream_io.specs.Reads.{IsStreamRead, directory_in, met, stream_after, table_for}
+use Rattle.stream_io.specs.Reads.{IsStreamRead, directory_in, met, stream_after}
+use Rattle.file_outline.specs.View.{table_for}
 use Rattle.stream_io.specs.declared.read.Reader.{Reader}
 
 -- ---- one stream, whose bytes lie in mini sectors where the test is true

@@ -16,8 +16,14 @@ use Rattle.cfb_directory.specs.declared.fault.DirFault.{DirFault}
 use Rattle.cfb_directory.specs.declared.fault.DirFault.TheVariants as directory
 use Rattle.storage_tree.specs.Change.{Seen, bytes, inner, place}
 use Rattle.storage_tree.specs.Tree.{Tree, Children, tree, none, stream, storage}
+use Rattle.file_model.specs.Limits.{CUTOFF}
+use Rattle.file_model.specs.Denotes.{Denotes}
+use Rattle.file_outline.specs.Streams.{stream_at}
+use Rattle.file_outline.specs.View.{table_for}
 use Rattle.stream_io.specs.declared.fault.ReadFault.{ReadFault}
 use Rattle.stream_io.specs.declared.fault.ReadFault.TheVariants.{Chain, Directory, NoMemory}
+use Rattle.stream_io.specs.declared.fault.StreamFault.{StreamFault}
+use Rattle.stream_io.specs.declared.fault.StreamFault.TheVariants.{Read, Tree as Missing}
 use Rattle.stream_io.specs.declared.read.Reader.{Reader}
 
 -- the faults of the layers below
@@ -43,15 +49,12 @@ key_at directory id = key (name_of (entry_at directory id))
 abbrev pub directory_in : Reader → List ℕ
 directory_in r = r.entries.directory
 
--- the table that a stream of a size lies in, and the tables once its sectors are marked
-abbrev pub table_for : ℕ → FatValue → FatValue → FatValue
-table_for size fat mini = if nat_lt size 4096 then mini else fat
-
+-- the tables once the sectors of a stream of a size are marked
 abbrev pub fat_after : ℕ → List ℕ → FatValue → FatValue
-fat_after size ns fat = if nat_lt size 4096 then fat else sectors_marked fat ns
+fat_after size ns fat = if nat_lt size CUTOFF then fat else sectors_marked fat ns
 
 abbrev pub mini_after : ℕ → List ℕ → FatValue → FatValue
-mini_after size ns mini = if nat_lt size 4096 then sectors_marked mini ns else mini
+mini_after size ns mini = if nat_lt size CUTOFF then sectors_marked mini ns else mini
 
 abbrev pub stream_after : ℕ → List ℕ → Reader → Reader
 stream_after size ns r = record { fat = fat_after size ns r.fat; mini = mini_after size ns r.mini; entries = r.entries }
@@ -195,3 +198,15 @@ MayRefuseFile file (Directory directory.BadEntry) = Unit {0}
 MayRefuseFile file (Directory directory.TreeCycle) = Unit {0}
 MayRefuseFile file (Directory fault) = (dir : List ℕ) × IsDirectory file dir × MayRefuseBelow dir DEEPEST 0 fault
 MayRefuseFile file NoMemory = Unit {0}
+
+-- When bytes may be refused as a file: a header that is at fault is told by its fault, a file that denotes a tree is
+-- refused for want of memory alone, and the file has what is told of it.
+pub record MayRefuseRead (file : List ℕ) (fault : ReadFault) : Type 0 where
+  pub header : (e : ChainFault) → header_read file ≡ Err e → fault ≡ chain_fault e
+  pub reads : (t : Tree) → Denotes file t → fault ≡ NoMemory
+  pub told : MayRefuseFile file fault
+
+-- when the stream at a path of a file may be refused
+abbrev pub MayRefuseStream : List ℕ → List (List ℕ) → StreamFault → Type 0
+MayRefuseStream file path (Read fault) = MayRefuseRead file fault
+MayRefuseStream file path (Missing fault) = (t : Tree) × ∥ Denotes file t ∥₁ × (stream_at path t ≡ Err fault)

@@ -2,7 +2,8 @@
 
 use cfb_chain::fault::ChainFault;
 use cfb_directory::fault::DirFault;
-use std::alloc::AllocError;
+use std::alloc::{AllocError, AllocFailed};
+use storage_tree::fault::TreeFault;
 use thiserror::Error;
 
 /// Why a file isn't read.
@@ -17,6 +18,17 @@ pub enum ReadFault {
     /// No memory was left.
     #[error("no memory is left")]
     NoMemory,
+}
+
+/// Why the stream at a path of a file isn't read.
+#[derive(Debug, Clone, Copy, PartialEq, Eq, Error)]
+pub enum StreamFault {
+    /// The file isn't read.
+    #[error("{0}")]
+    Read(ReadFault),
+    /// Its tree has no stream at the path.
+    #[error("{0}")]
+    Tree(TreeFault),
 }
 
 impl ReadFault {
@@ -70,6 +82,17 @@ impl From<AllocError> for ReadFault {
     ghost from_gives = { λ _ e. e ≡ NoMemory };
 
     fn from(_: AllocError) -> Self {
+        ReadFault::NoMemory
+    }
+}
+
+impl<T: Drop> From<AllocFailed<T>> for ReadFault {
+    ghost use Rattle.std.specs.Prelude.{◌≡◌};
+    ghost use Rattle.stream_io.specs.declared.fault.ReadFault.TheVariants.{NoMemory};
+
+    ghost from_gives = { λ _ e. e ≡ NoMemory };
+
+    fn from(_: AllocFailed<T>) -> Self {
         ReadFault::NoMemory
     }
 }

@@ -11,40 +11,41 @@ ghost use Rattle.std.specs.List.{All, Contains};
 ghost use Rattle.std.specs.List.Sorted.{IsStrictlySortedBy};
 ghost use Rattle.std.specs.Map.{keys_of, values_of};
 ghost use Rattle.std.specs.Prelude.{[], ◌*◌, ◌↔◌, ◌<◌, ◌≡◌, ◌≢◌, IfErr, IfOk, List, OnOk, length, map, slice_index_or, take, true, ℕ};
-ghost use Rattle.storage_tree.specs.Change.{Seen, place};
+ghost use Rattle.storage_tree.specs.Change.{Seen};
 ghost use Rattle.storage_tree.specs.Kept.{kept};
 ghost use Rattle.storage_tree.specs.Tree as tree;
-ghost use Rattle.storage_tree.specs.View.{children, seen, view};
+ghost use Rattle.file_model.specs.Outline.{outline_of, part_of};
 ghost use Rattle.file_model.specs.Denotes.{Denotes};
-ghost use Rattle.stream_io.specs.Reads.{AreSorted, IsChild, IsChildPut, IsChildRead, IsKeyed, IsNodeRead, IsStorage, IsStorageRead, MayRefuseFile, MayRefuseNames, MayRefuseStorage, chain_fault, directory_in, key_at, met, stream_after, table_for};
+ghost use Rattle.stream_io.specs.Reads.{AreSorted, IsChild, IsChildRead, IsKeyed, IsNodeRead, IsStorage, IsStorageRead, MayRefuseFile, MayRefuseNames, MayRefuseStorage, MayRefuseStream, chain_fault, directory_in, key_at, met, stream_after};
+ghost use Rattle.file_outline.specs.Streams.{stream_at};
+ghost use Rattle.file_outline.specs.View.{contents, outline_view, part_view, shown, shown_part, table_for};
+ghost use Rattle.stream_io.specs.View.{directory_bytes};
 ghost use Rattle.stream_io.specs.declared.fault.ReadFault.TheVariants.{NoMemory};
 ghost use Rattle.stream_io.specs.declared.read.Reader as reader;
 
-use crate::fault::ReadFault;
+use crate::fault::{ReadFault, StreamFault};
 use cfb_chain::fat::Fat;
 use cfb_chain::header::Header;
 use cfb_directory::entries::{Entries, Entry, EntryKind};
 use cfb_directory::fault::DirFault;
 use cfb_directory::name::Name;
+use file_outline::filling::{bytes_at, storage_at};
+use file_outline::finding::place_at;
+use file_outline::outline::{Outline, Part, Place, is_short};
 use std::alloc::{AllocError, Global};
 use std::collections::BTreeMap;
-use storage_tree::bytes::Bytes;
 use storage_tree::class_id::ClassId;
-use storage_tree::storage::{Node, Storage};
 use storage_tree::tree::Tree;
-
-/// A stream of fewer bytes lies in mini sectors (MS-CFB 2.2).
-const CUTOFF: u32 = 4096;
 
 /// How many storages may stand inside one another below the root.
 const DEEPEST: u32 = 32;
 
 /// The tables of a file, which mark what was read of it, and its directory.
 #[derive(Drop)]
-struct Reader<'a> {
+struct Reader<'a, 'd> {
     fat: Fat<'a>,
     mini: Fat<'a>,
-    entries: Entries<'a>,
+    entries: Entries<'d>,
 }
 
 /// The entries under the keys of their names.
@@ -96,35 +97,24 @@ fn by_name(alloc: Global, entries: &Entries<'_>, ids: &[u32]) -> Result<Vec<u32>
     Ok(sorted)
 }
 
-/// Adds a child under the key of its name.
-fn add_child(
-    map: &mut BTreeMap<[u8; 32], (Name, Node)>,
-    name: Name,
-    node: Node,
-) -> Result<(), ReadFault>
-    ensures added { OnOk result (children map.new.entries ≡ place (key name) (name, seen node) (children map.old.entries)) }
-    ensures refused { IfErr result (λ e. e ≡ NoMemory) }
-{
-    match map.insert(name.key(), (name, node)) {
-        Ok(_) => Ok(()),
-        Err(_) => Err(ReadFault::NoMemory),
-    }
-}
-
-impl<'a> Reader<'a> {
-    /// The bytes of a stream, whose sectors are marked.
-    fn read_stream(&mut self, alloc: Global, first: u32, size: u32) -> Result<Vec<u8>, ReadFault>
-        ensures found { IfOk result (λ v. (ns : List ℕ) × IsFound (table_for size self.old.fat self.old.mini) first size ns
-            × (v.items ≡ take size (joined (store_of (table_for size self.old.fat self.old.mini)).piece ns))
-            × (self.new ≡ stream_after size ns self.old)) }
-        ensures there { (ns : List ℕ) → IsFound (table_for size self.old.fat self.old.mini) first size ns → IfErr result (λ e. e ≡ NoMemory) }
+impl<'a, 'd> Reader<'a, 'd> {
+    /// Marks the sectors of the stream that lies at a place. It takes no memory.
+    ///
+    /// Refused: as `Fat::mark_chain`.
+    fn mark_stream(&mut self, place: Place) -> Result<(), ReadFault>
+        ensures found { OnOk result ((ns : List ℕ) × IsFound (table_for place.size self.old.fat self.old.mini) place.first place.size ns
+            × (contents self.old.fat self.old.mini place ≡ take place.size (joined (store_of (table_for place.size self.old.fat self.old.mini)).piece ns))
+            × (self.new ≡ stream_after place.size ns self.old)) }
+        ensures long { OnOk result (length (contents self.old.fat self.old.mini place) ≡ place.size) }
+        ensures there { (ns : List ℕ) → IsFound (table_for place.size self.old.fat self.old.mini) place.first place.size ns → IfErr result (λ e. e ≡ NoMemory) }
         ensures refused { (depth id : ℕ) → IfErr result (MayRefuseStorage (directory_in self.old) depth id) }
     {
-        if size < CUTOFF {
-            Ok(self.mini.bytes(alloc, first, size)?)
+        if is_short(place) {
+            self.mini.mark_chain(place.first, place.size)?;
         } else {
-            Ok(self.fat.bytes(alloc, first, size)?)
+            self.fat.mark_chain(place.first, place.size)?;
         }
+        Ok(())
     }
 
     /// The children of an entry in the order of their names, which are marked.
@@ -142,91 +132,172 @@ impl<'a> Reader<'a> {
         Ok(sorted)
     }
 
-    /// Reads the storage of an entry, which may have so many levels below it.
+    /// The outline of the storage of an entry, which may have so many levels below it. All that it takes is marked.
     ///
-    /// Refused: as `sorted_children` and `read_child`.
+    /// Refused: as `sorted_children` and `child_outline`.
     #[cycle(storages)]
-    fn read_storage(
+    fn storage_outline(
         &mut self,
         alloc: Global,
         id: u32,
         entry: &Entry,
         depth: u32,
-    ) -> Result<Storage, ReadFault>
+    ) -> Result<Outline, ReadFault>
         requires entry { IsEntry (directory_in self.old) id entry.now }
         requires storage { IsStorage (directory_in self.old) id }
         requires root_marked { slice_index_or self.old.entries.used 0 true ≡ true }
-        ensures read { IfOk result (λ s. IsStorageRead depth id (view s) self.old self.new) }
+        ensures read { IfOk result (λ o. IsStorageRead depth id (shown (contents self.old.fat self.old.mini) o) self.old self.new) }
+        ensures sized { IfOk result (λ o. outline_of (shown (contents self.old.fat self.old.mini) o) ≡ outline_view o) }
         ensures there { (t : tree.Tree) (new : reader.Reader) → IsStorageRead depth id t self.old new → IfErr result (λ e. e ≡ NoMemory) }
         ensures refused { IfErr result (MayRefuseStorage (directory_in self.old) depth id) }
     {
         let ids = self.sorted_children(alloc, id)?;
-        let mut map = BTreeMap::new(alloc);
+        let mut parts = Vec::with_capacity(alloc, ids.len())?;
         for child in &ids {
-            self.read_child(alloc, *child, depth, &mut map)?;
+            let part = self.child_outline(alloc, *child, depth)?;
+            parts.push(part)?;
         }
-        Ok(Storage {
+        Ok(Outline {
             class: ClassId::from_bytes(entry.class),
             state: entry.state,
-            children: map,
+            parts,
         })
     }
 
-    /// Reads an entry, and puts what it holds among the children of its storage, which may have so many levels below it.
+    /// The name of an entry and the outline of what it holds, in a storage that may have so many levels below it.
     ///
-    /// Refused: as `Entries::entry` and `read_node`.
+    /// Refused: as `Entries::entry` and `part_outline`.
     #[cycle(storages)]
-    fn read_child(
+    fn child_outline(
         &mut self,
         alloc: Global,
         id: u32,
         depth: u32,
-        map: &mut BTreeMap<[u8; 32], (Name, Node)>,
-    ) -> Result<(), ReadFault>
+    ) -> Result<(Name, Part), ReadFault>
         requires below_root { id ≢ 0 }
         requires root_marked { slice_index_or self.old.entries.used 0 true ≡ true }
-        ensures read { OnOk result (IsChildPut depth id self.old self.new (children map.old.entries) (children map.new.entries)) }
+        ensures read { IfOk result (λ c. IsChildRead depth id (key c.0) c.0 (shown_part (contents self.old.fat self.old.mini) c.1) self.old self.new) }
+        ensures sized { IfOk result (λ c. part_of (shown_part (contents self.old.fat self.old.mini) c.1) ≡ part_view c.1) }
         ensures there { (k name : List ℕ) (s : Seen) (new : reader.Reader) → IsChildRead depth id k name s self.old new → IfErr result (λ e. e ≡ NoMemory) }
         ensures refused { (parent : ℕ) → IsChild (directory_in self.old) parent id → IfErr result (MayRefuseStorage (directory_in self.old) depth parent) }
     {
         let entry = self.entries.entry(id)?;
-        let node = self.read_node(alloc, id, &entry, depth)?;
-        add_child(map, entry.name, node)?;
-        Ok(())
+        let part = self.part_outline(alloc, id, &entry, depth)?;
+        Ok((entry.name, part))
     }
 
-    /// Reads what an entry holds.
+    /// The outline of what an entry holds.
     ///
-    /// Refused: `TooNested` for a storage where its own may have no level below it; as `Fat::bytes`, and as `read_storage`.
+    /// Refused: `TooNested` for a storage where its own may have no level below it; as `mark_stream`, and as
+    /// `storage_outline`.
     #[cycle(storages)]
-    fn read_node(
+    fn part_outline(
         &mut self,
         alloc: Global,
         id: u32,
         entry: &Entry,
         depth: u32,
-    ) -> Result<Node, ReadFault>
+    ) -> Result<Part, ReadFault>
         requires entry { IsEntry (directory_in self.old) id entry.now }
         requires below_root { id ≢ 0 }
         requires root_marked { slice_index_or self.old.entries.used 0 true ≡ true }
-        ensures read { IfOk result (λ node. IsNodeRead depth id (seen node) self.old self.new) }
+        ensures read { IfOk result (λ part. IsNodeRead depth id (shown_part (contents self.old.fat self.old.mini) part) self.old self.new) }
+        ensures sized { IfOk result (λ part. part_of (shown_part (contents self.old.fat self.old.mini) part) ≡ part_view part) }
         ensures there { (s : Seen) (new : reader.Reader) → IsNodeRead depth id s self.old new → IfErr result (λ e. e ≡ NoMemory) }
         ensures refused { (parent : ℕ) → IsChild (directory_in self.old) parent id → IfErr result (MayRefuseStorage (directory_in self.old) depth parent) }
     {
         match entry.kind {
             EntryKind::Stream => {
-                let bytes = self.read_stream(alloc, entry.first, entry.size)?;
-                Ok(Node::Stream(Bytes::from_vec(alloc, bytes)?))
+                let place = Place {
+                    first: entry.first,
+                    size: entry.size,
+                };
+                self.mark_stream(place)?;
+                Ok(Part::Stream(place))
             }
             _ => {
                 if depth == 0 {
                     return Err(ReadFault::Directory(DirFault::TooNested));
                 }
-                let inner = self.read_storage(alloc, id, entry, depth - 1)?;
-                Ok(Node::Storage(inner))
+                let inner = self.storage_outline(alloc, id, entry, depth - 1)?;
+                Ok(Part::Storage(inner))
             }
         }
     }
+}
+
+/// The tables of a file all of whose chains were walked, and its outline.
+#[derive(Drop)]
+struct Layout<'a> {
+    fat: Fat<'a>,
+    mini: Fat<'a>,
+    root: Outline,
+}
+
+/// The bytes of a directory.
+#[derive(Drop)]
+enum Directory<'a> {
+    /// Its sectors stand one after another in the file.
+    Run(&'a [u8]),
+    /// They were joined.
+    Joined(Vec<u8>),
+}
+
+impl<'a> Directory<'a> {
+    /// Its bytes.
+    fn bytes(&self) -> &[u8]
+        ensures { result.now ≡ directory_bytes self.now }
+    {
+        match self {
+            Directory::Run(run) => run,
+            Directory::Joined(bytes) => bytes.as_slice(),
+        }
+    }
+}
+
+/// The directory that lies in these sectors.
+fn directory_of<'a>(
+    alloc: Global,
+    fat: &Fat<'a>,
+    sectors: &[u32],
+) -> Result<Directory<'a>, ReadFault>
+    requires { All (λ n. n < length fat.now.table) sectors.now }
+    ensures bytes { IfOk result (λ d. directory_bytes d ≡ joined (store_of fat.now).piece sectors.now) }
+    ensures refused { IfErr result (λ e. e ≡ NoMemory) }
+{
+    match fat.run(sectors) {
+        Some(run) => Ok(Directory::Run(run)),
+        None => {
+            let bytes = fat.join(alloc, sectors)?;
+            Ok(Directory::Joined(bytes))
+        }
+    }
+}
+
+/// The tables and the outline of a compound file (MS-CFB 2). Each chain of sectors is walked once, and no stream is read.
+///
+/// Refused: as `read_file`.
+fn lay_out<'a>(alloc: Global, file: &'a [u8]) -> Result<Layout<'a>, ReadFault>
+    ensures denotes { IfOk result (λ l. ∥ Denotes file.now (shown (contents l.fat l.mini) l.root) ∥₁) }
+    ensures sized { IfOk result (λ l. outline_of (shown (contents l.fat l.mini) l.root) ≡ outline_view l.root) }
+    ensures header { (e : ChainFault) → header_read file.now ≡ Err e → result ≡ Err (chain_fault e) }
+    ensures reads { (t : tree.Tree) → Denotes file.now t → IfErr result (λ e. e ≡ NoMemory) }
+    ensures refused { IfErr result (MayRefuseFile file.now) }
+{
+    let header = Header::read(file)?;
+    let mut fat = Fat::load(alloc, &header, file)?;
+    let chain = fat.chain(alloc, header.first_directory())?;
+    let directory = directory_of(alloc, &fat, &chain)?;
+    let entries = Entries::load(alloc, directory.bytes())?;
+    let root = entries.entry(0)?;
+    let mini = fat.mini(alloc, &header, root.first, root.size)?;
+    let mut reader = Reader { fat, mini, entries };
+    let outline = reader.storage_outline(alloc, 0, &root, DEEPEST)?;
+    Ok(Layout {
+        fat: reader.fat,
+        mini: reader.mini,
+        root: outline,
+    })
 }
 
 /// The tree that a compound file denotes (MS-CFB 2), outside transactions.
@@ -240,14 +311,44 @@ pub fn read_file(alloc: Global, file: &[u8]) -> Result<Tree, ReadFault>
     ensures reads { (t : tree.Tree) → Denotes file.now t → IfErr result (λ e. e ≡ NoMemory) }
     ensures refused { IfErr result (MayRefuseFile file.now) }
 {
-    let header = Header::read(file)?;
-    let mut fat = Fat::load(alloc, &header, file)?;
-    let chain = fat.chain(alloc, header.first_directory())?;
-    let directory = fat.join(alloc, &chain)?;
-    let entries = Entries::load(alloc, &directory)?;
-    let root = entries.entry(0)?;
-    let mini = fat.mini(alloc, &header, root.first, root.size)?;
-    let mut reader = Reader { fat, mini, entries };
-    let storage = reader.read_storage(alloc, 0, &root, DEEPEST)?;
-    Ok(Tree::from_root(alloc, storage))
+    let layout = lay_out(alloc, file)?;
+    let root = storage_at(alloc, &layout.fat, &layout.mini, &layout.root)?;
+    Ok(Tree::from_root(alloc, root))
+}
+
+/// The outline of a compound file: its storages and streams, and how many bytes each stream has. Each chain of sectors is
+/// walked as for `read_file`, and no stream is read.
+///
+/// Refused: as `read_file`.
+pub fn read_outline(alloc: Global, file: &[u8]) -> Result<Outline, ReadFault>
+    ensures outlined { IfOk result (λ o. (t : tree.Tree) × ∥ Denotes file.now t ∥₁ × (outline_view o ≡ outline_of t)) }
+    ensures header { (e : ChainFault) → header_read file.now ≡ Err e → result ≡ Err (chain_fault e) }
+    ensures reads { (t : tree.Tree) → Denotes file.now t → IfErr result (λ e. e ≡ NoMemory) }
+    ensures refused { IfErr result (MayRefuseFile file.now) }
+{
+    let layout = lay_out(alloc, file)?;
+    Ok(layout.root)
+}
+
+/// The bytes of the stream at a path of the tree that a compound file denotes. Each chain of sectors is walked as for
+/// `read_file`, and no other stream is read.
+///
+/// Refused: as `read_file`; then `NotFound` where nothing stands at the path, and `WrongKind` where a storage does, or where
+/// a stream stands on the way.
+pub fn read_stream(alloc: Global, file: &[u8], path: &[Name]) -> Result<Vec<u8>, StreamFault>
+    ensures found { IfOk result (λ v. (t : tree.Tree) × ∥ Denotes file.now t ∥₁ × (stream_at path.now t ≡ Ok v.items)) }
+    ensures refused { IfErr result (MayRefuseStream file.now path.now) }
+{
+    let layout = match lay_out(alloc, file) {
+        Ok(layout) => layout,
+        Err(fault) => return Err(StreamFault::Read(fault)),
+    };
+    let place = match place_at(&layout.root, path) {
+        Ok(place) => place,
+        Err(fault) => return Err(StreamFault::Tree(fault)),
+    };
+    match bytes_at(alloc, &layout.fat, &layout.mini, place) {
+        Ok(bytes) => Ok(bytes),
+        Err(_) => Err(StreamFault::Read(ReadFault::NoMemory)),
+    }
 }

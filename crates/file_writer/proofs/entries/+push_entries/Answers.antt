@@ -3,7 +3,7 @@ use Rattle.file_writer.proofs.entries.+push_entries.Goals as goal
 
 pub push_child-returns-in_ok-next-in-Storage-clause-pushed : goal.push_child-returns-in_ok-next-in-Storage-clause-pushed
 push_child-returns-in_ok-next-in-Storage-clause-pushed t c =
-    storage-pushed c.args.family.now.ids.items c.args.place c.args.at c.args.child.now.0 c.as_bytes-name.result.now c.args.child.now.1 c.in-Storage.inner
+    storage-pushed c.args.siblings.now.ids.items c.args.place c.args.at c.args.child.now.0 c.as_bytes-name.result.now c.args.child.now.1 c.in-Storage.inner
     c.in_ok-children-in-Storage.children c.storage_entry.result c.args.out.now.items c.write_entry-in-Storage.new.out.items c.push_below.new.out.items
     c.in-Storage.is c.as_bytes-name.ensures.spelled c.in_ok-children-in-Storage.ensures (c.storage_entry.ensures.says c.args.at.id c.in_ok-children-in-Storage.ensures)
     c.in_ok-write_entry-in-Storage.ensures c.in_ok-next-in-Storage.ensures.pushed
@@ -17,7 +17,7 @@ push_below-loop-child-preserved t c = record {
   spelled = λ h. c.loop-child.invariant.spelled
       (step-spelled c.loop-child.child-iterator c.next.new.self c.in-Some.field-0-0.now c.in-Some.child.now c.in-Some.ensures.steps c.in_ok-next.ensures.spelled h);
   pushed = step-pushed c.loop-child.child-iterator c.next.new.self c.in-Some.field-0-0.now c.in-Some.child.now c.in-Some.ensures.steps c.loop-child.next c.in_ok-next.next c.in_ok-next.ensures.next
-      c.args.family.now.ids.items c.loop-child.place c.loop-child.out.items c.push_child.new.out.items _ c.in_ok-next.ensures.pushed c.loop-child.invariant.pushed;
+      c.args.siblings.now.ids.items c.loop-child.place c.loop-child.out.items c.push_child.new.out.items _ c.in_ok-next.ensures.pushed c.loop-child.invariant.pushed;
 }
 
 pub push_child-returns-in_ok-next-in-Storage-clause-spelled : goal.push_child-returns-in_ok-next-in-Storage-clause-spelled

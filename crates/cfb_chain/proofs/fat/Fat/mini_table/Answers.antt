@@ -7,5 +7,5 @@ pub numbers-requires-clause-whole : goal.numbers-requires-clause-whole
 numbers-requires-clause-whole c =
     let f = c.args.self.now in
     whole_numbers f.width (length c.args.mini_fat.now) (length c.deref-2.result.now) c.find.ensures.either
-    (ap length (c.deref-2.ensures.value ∙ c.in_ok-entries.ensures.bytes)
+    (ap length (c.deref-2.ensures.value ∙ c.in_ok-entries.ensures)
     ∙ length_joined (store_of f).piece f.width c.args.mini_fat.now (λ n. length_block f.width f.bytes (f.start + f.width * n)))

@@ -1,16 +1,19 @@
 use Rattle.std.proofs.Common.{◌+◌, ◌*◌}
-use Rattle.storage_tree.specs.View.{children}
+use Rattle.file_outline.specs.View.{contents, shown_parts}
 use Rattle.stream_io.proofs.ReadingChildren.{Progress}
+use Rattle.file_outline.proofs.Outlines.{AreSized}
 use Rattle.stream_io.proofs.read.Reader.+storages.Given as goal
 
-abbrev pub decreases-read_storage : goal.decreases-read_storage
-decreases-read_storage l = 3 * l.depth + 2
+abbrev pub decreases-storage_outline : goal.decreases-storage_outline
+decreases-storage_outline l = 3 * l.depth + 2
 
-abbrev pub decreases-read_child : goal.decreases-read_child
-decreases-read_child l = 3 * l.depth + 1
+abbrev pub decreases-child_outline : goal.decreases-child_outline
+decreases-child_outline l = 3 * l.depth + 1
 
-abbrev pub decreases-read_node : goal.decreases-read_node
-decreases-read_node l = 3 * l.depth
+abbrev pub decreases-part_outline : goal.decreases-part_outline
+decreases-part_outline l = 3 * l.depth
 
-abbrev pub invariant-read_storage-loop-child : goal.invariant-read_storage-loop-child
-invariant-read_storage-loop-child l = Progress l.depth l.child-items l.initial.self l.child-index l.self (children l.map.entries)
+abbrev pub invariant-storage_outline-loop-child : goal.invariant-storage_outline-loop-child
+invariant-storage_outline-loop-child l =
+    Progress l.depth l.child-items l.initial.self l.child-index l.self (shown_parts (contents l.initial.self.fat l.initial.self.mini) l.parts.items)
+    × AreSized (contents l.initial.self.fat l.initial.self.mini) l.parts.items

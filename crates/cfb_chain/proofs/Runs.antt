@@ -1,0 +1,47 @@
+-- Sectors that stand one after another.
+use Rattle.std.proofs.Common.{◌≡◌, ◌<◌, ◌≤◌, ◌+◌, ◌-◌, ◌*◌, ℕ, zero, suc, List, [], ◌∷◌, ◌++◌, length, take, drop, replicate, get_or, sym, ap, ◌∙◌, arith, length-drop}
+use Rattle.std.proofs.lemmas.List.{append-nil, drop-drop, take_all}
+use Rattle.std.specs.List.{slice_range}
+use Rattle.cfb_chain.specs.Bytes.{block, joined}
+
+take_plus : (a b : ℕ) (xs : List ℕ) → take (a + b) xs ≡ take a xs ++ take b (drop a xs)
+take_plus zero b xs = let e : 0 + b ≡ b = omega arith in ap (λ n. take n xs) e
+take_plus (suc a) b [] = take_all (suc a + b) [] (omega arith) ∙ sym (take_all b [] (omega arith))
+take_plus (suc a) b (x ∷ xs) = let e : suc a + b ≡ suc (a + b) = omega arith in ap (λ n. take n (x ∷ xs)) e ∙ ap (λ ys. x ∷ ys) (take_plus a b xs)
+
+-- a sector that is whole
+whole_block : (w : ℕ) (bytes : List ℕ) (at : ℕ) → at + w ≤ length bytes → block w bytes at ≡ take w (drop at bytes)
+unfolding block
+whole_block w bytes at h =
+    let none : w - length (drop at bytes) ≡ 0 = omega (arith, length-drop at bytes, h) in
+    ap (λ n. take w (drop at bytes) ++ replicate n 0) none ∙ append-nil (take w (drop at bytes))
+
+pub run_joined : (w start : ℕ) (bytes : List ℕ) (first : ℕ) (ns : List ℕ) → ((k : ℕ) → k < length ns → get_or ns k 0 ≡ first + k)
+    → start + w * first + w * length ns ≤ length bytes
+    → take (w * length ns) (drop (start + w * first) bytes) ≡ joined (λ n. block w bytes (start + w * n)) ns
+run_joined w start bytes first [] each room = let e : w * 0 ≡ 0 = omega arith in ap (λ n. take n (drop (start + w * first) bytes)) e
+run_joined w start bytes first (n ∷ ns) each room =
+    let here : n ≡ first = each 0 (omega arith) ∙ omega arith in
+    let at : ℕ = start + w * first in
+    let rest : take (w * length ns) (drop (start + w * (first + 1)) bytes) ≡ joined (λ n. block w bytes (start + w * n)) ns =
+    run_joined w start bytes (first + 1) ns (λ k l. each (suc k) (omega (arith, l)) ∙ omega arith) (omega (arith, room)) in
+    let one : block w bytes (start + w * n) ≡ take w (drop at bytes) = ap (λ m. block w bytes (start + w * m)) here ∙ whole_block w bytes at (omega (arith, room)) in
+    let len : w * length (n ∷ ns) ≡ w + w * length ns = omega arith in
+    let behind : at + w ≡ start + w * (first + 1) = omega arith in
+    ap (λ m. take m (drop at bytes)) len
+    ∙ take_plus w (w * length ns) (drop at bytes)
+    ∙ ap (λ xs. take w (drop at bytes) ++ take (w * length ns) xs) (drop-drop w at bytes ∙ ap (λ m. drop m bytes) behind)
+    ∙ (λ i. sym one i ++ rest i)
+
+-- the bytes that were cut out
+pub run_taken : (w start : ℕ) (bytes : List ℕ) (first : ℕ) (ns : List ℕ) (len : ℕ) (rest run : List ℕ) → ((k : ℕ) → k < length ns → get_or ns k 0 ≡ first + k)
+    → start + w * first ≤ length bytes → rest ≡ slice_range bytes (start + w * first) (length bytes) → len ≤ length rest → run ≡ slice_range rest 0 len → len ≡ w * length ns
+    → run ≡ joined (λ n. block w bytes (start + w * n)) ns
+run_taken w start bytes first ns len rest run each inside rest_is room run_is len_is =
+    let at : ℕ = start + w * first in
+    let behind : List ℕ = drop at bytes in
+    let whole : rest ≡ behind = rest_is ∙ take_all (length bytes - at) behind (omega (arith, length-drop at bytes)) in
+    let long : length rest ≡ length bytes - at = ap length whole ∙ length-drop at bytes in
+    let cut : run ≡ take (len - 0) rest = run_is in
+    let n : len - 0 ≡ w * length ns = omega (arith, len_is) in
+    cut ∙ (λ i. take (n i) (whole i)) ∙ run_joined w start bytes first ns each (omega (arith, long, room, len_is, inside))

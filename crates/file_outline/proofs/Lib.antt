@@ -1,0 +1,4 @@
+pub mod Followed
+pub mod Outlines
+pub mod Placed
+pub mod Found

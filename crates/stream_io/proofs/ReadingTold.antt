@@ -1,0 +1,31 @@
+-- Why a file, or a stream of it, isn't read.
+use Rattle.std.proofs.Common.{◌≡◌, ◌∙◌, ℕ, List, Result, Ok, Err, IfErr, ap, subst, sym}
+use Rattle.cfb_chain.specs.Header.{header_read}
+use Rattle.cfb_chain.specs.declared.fault.ChainFault.{ChainFault}
+use Rattle.storage_tree.specs.Tree.{Tree}
+use Rattle.storage_tree.specs.Change.{map_ok}
+use Rattle.storage_tree.specs.declared.fault.TreeFault.{TreeFault}
+use Rattle.file_model.specs.Denotes.{Denotes}
+use Rattle.stream_io.specs.Reads.{MayRefuseFile, MayRefuseRead, chain_fault}
+use Rattle.stream_io.specs.declared.fault.ReadFault.{ReadFault}
+use Rattle.stream_io.specs.declared.fault.ReadFault.TheVariants.{NoMemory}
+
+same_fault : {A : Type 0} {e f : ReadFault} → ◌≡◌ {A = Result A ReadFault} (Err e) (Err f) → e ≡ f
+same_fault p = cc
+
+pub read_refused : {A : Type 0} (file : List ℕ) (r : Result A ReadFault) (fault : ReadFault) → r ≡ Err fault
+    → ((e : ChainFault) → header_read file ≡ Err e → r ≡ Err (chain_fault e))
+    → ((t : Tree) → Denotes file t → IfErr r (λ e. e ≡ NoMemory))
+    → IfErr r (MayRefuseFile file)
+    → MayRefuseRead file fault
+read_refused {A} file r fault is h d m = record {
+  header = λ e he. same_fault {A = A} (sym is ∙ h e he);
+  reads = λ t dt. subst (λ (x : Result A ReadFault). IfErr x (λ e. e ≡ NoMemory)) is (d t dt);
+  told = subst (λ (x : Result A ReadFault). IfErr x (MayRefuseFile file)) is m;
+}
+
+pub told_ok : {A B : Type 0} (f : A → B) (r : Result A TreeFault) (a : A) (s : Result B TreeFault) → r ≡ Ok a → map_ok f r ≡ s → s ≡ Ok (f a)
+told_ok f r a s is h = sym h ∙ ap (map_ok f) is
+
+pub told_err : {A B : Type 0} (f : A → B) (r : Result A TreeFault) (e : TreeFault) (s : Result B TreeFault) → r ≡ Err e → map_ok f r ≡ s → s ≡ Err e
+told_err f r e s is h = sym h ∙ ap (map_ok f) is
