@@ -1,18 +1,25 @@
 -- Laws above a container's steps on messages, and on the end of a server.
-use Rattle.std.specs.Prelude.{◌≡◌, ◌≢◌, ℕ, Bool, true, false, Option, Some, None, Ok, Err, slice_get}
-use Rattle.wire_msgs.specs.Found.{find, put}
+use Rattle.std.specs.Prelude.{◌≡◌, ◌≢◌, ◌⊎◌, ℕ, Bool, true, false, Option, Some, None, Ok, Err, slice_get}
+use Rattle.wire_msgs.specs.Found.{find, nth, put}
 use Rattle.wire_msgs.specs.declared.message.Message.{Message}
 use Rattle.wire_msgs.specs.declared.message.Message.TheVariants.{Call, Reply, Write, Ask}
 use Rattle.wire_msgs.specs.declared.answer.Answer.{Answer}
+use Rattle.wire_msgs.specs.declared.answer.Answer.TheVariants.{Done}
+use Rattle.wire_msgs.specs.declared.operation.Operation.TheVariants.{UiActivate, UiDeactivate}
+use Rattle.grant_core.specs.declared.grant_states.Claim.{Claim}
+use Rattle.grant_core.specs.Grants.{waiting, who}
+use Rattle.grant_core.specs.Laws.{IsRevoking}
 use Rattle.object_parts.specs.Limits.{is_within}
 use Rattle.storage_tree.specs.declared.stored.Stored.{Stored}
 use Rattle.container_model.specs.declared.record.Link.{Link}
 use Rattle.container_model.specs.declared.record.Object.{Object}
+use Rattle.container_model.specs.declared.record.Frame.{Frame}
 use Rattle.container_model.specs.declared.fault.ContainerFault.TheVariants.{Stale, WrongLink}
-use Rattle.container_model.specs.Record.{Record, Took, is_alive, is_linked}
+use Rattle.container_model.specs.Record.{Record, Took, asked_link, is_alive, is_linked, is_object}
 use Rattle.container_model.specs.Saves.{kept}
-use Rattle.container_model.specs.Messages.{is_fit, is_open_to, on_message, on_reap}
+use Rattle.container_model.specs.Messages.{is_fit, is_held_by, is_open_to, on_message, on_reap}
 use Rattle.container_model.specs.Replies.{is_of}
+use Rattle.container_laws.specs.Steady.{Steady}
 
 -- the number of the call that an object is to answer, if it is to answer one
 abbrev pub pending_in : Option Link → Option ℕ
@@ -45,15 +52,25 @@ abbrev pub takes_write : ℕ → ℕ → Option Object → Bool
 takes_write s w None = false
 takes_write s w (Some o) = is_open_in s w o.link
 
+-- whether an object holds its frame by this activation, under this grant
+abbrev pub is_held_in : ℕ → ℕ → Option Frame → Bool
+is_held_in act g None = false
+is_held_in act g (Some frame) = is_held_by act g frame.ui.state
+
+abbrev pub takes_ask : Record → ℕ → ℕ → Option Object → Bool
+takes_ask r act g None = false
+takes_ask r act g (Some o) = is_held_in act g (nth r.frames o.frame)
+
 -- A message that is expected, on the link of its server, which isn't reaped: a reply to the pending call of the object
--- that has this activation, or a write under the grant that this object holds open; its content may be stored.
+-- that has this activation, or a write under the grant that this object holds open; its content may be stored; or it asks to
+-- be relieved of its frame, which it holds.
 abbrev pub IsExpected : Record → ℕ → Message → Type 0
 IsExpected r link (Reply inc act n answer) = (inc ≡ link) × (is_alive r inc ≡ true) × (pending_number (find (is_linked inc act) r.objects) ≡ Some n) × (is_fit answer ≡ true)
 IsExpected r link (Write inc act s w content) = (inc ≡ link) × (is_alive r inc ≡ true) × (takes_write s w (find (is_linked inc act) r.objects) ≡ true) × (is_within content ≡ true)
 IsExpected r link (Call inc act n op) = ⊥
-IsExpected r link (Ask inc act g) = ⊥
+IsExpected r link (Ask inc act g) = (inc ≡ link) × (is_alive r inc ≡ true) × (takes_ask r act g (find (is_linked inc act) r.objects) ≡ true)
 
--- only the reply to a pending call, or a write under the grant held open, moves a record
+-- only the reply to a pending call, a write under the grant held open, or whoever holds a frame moves a record
 abbrev pub OnlyExpectedMessages : Type 0
 OnlyExpectedMessages = (r : Record) (link : ℕ) (m : Message) (t : Took) → on_message r link m ≡ Ok t → IsExpected r link m
 
@@ -65,6 +82,10 @@ OthersAreStale = (r : Record) (inc act n : ℕ) (answer : Answer) → pending_nu
 abbrev pub OtherWritesAreStale : Type 0
 OtherWritesAreStale = (r : Record) (inc act s w : ℕ) (content : Stored) → takes_write s w (find (is_linked inc act) r.objects) ≡ false → on_message r inc (Write inc act s w content) ≡ Err Stale
 
+-- whoever doesn't hold its frame, by this activation and under this grant, isn't relieved of it
+abbrev pub OtherAsksAreStale : Type 0
+OtherAsksAreStale = (r : Record) (inc act g : ℕ) → takes_ask r act g (find (is_linked inc act) r.objects) ≡ false → on_message r inc (Ask inc act g) ≡ Err Stale
+
 -- a write that is taken becomes the work content of the object that has this activation, and changes nothing else of it
 -- but the number of its last write
 abbrev pub WritesAreKept : Type 0
@@ -75,14 +96,45 @@ WritesAreKept = (r : Record) (link inc act s w : ℕ) (content : Stored) (t : To
 abbrev pub OtherServersAreRefused : Type 0
 OtherServersAreRefused = (r : Record) (link : ℕ) (m : Message) → server_of m ≢ link → on_message r link m ≡ Err WrongLink
 
--- a message leaves the objects as they are that don't have its activation
-abbrev pub MessagesKeepOthers : Type 0
-MessagesKeepOthers = (r : Record) (link : ℕ) (m : Message) (t : Took) → on_message r link m ≡ Ok t → (i : ℕ) (o : Object) → slice_get r.objects i ≡ Some o → is_about m o ≡ false → slice_get t.rec.objects i ≡ Some o
+-- an object that waited for its frame is told of its grant
+pub record IsGranted (r : Record) (o later : Object) : Type 0 where
+  pub frame : Frame
+  pub claim : Claim
+  pub inside : nth r.frames o.frame ≡ Some frame
+  pub waited : waiting frame.ui.state ≡ Some claim
+  pub named : claim.object ≡ o.number
+  pub told : later ≡ record o { link = asked_link (UiActivate claim.g) o.link }
 
--- the end of a server leaves the objects of other servers as they are
+abbrev pub StaysOrIsGranted : Record → Object → Object → Type 0
+StaysOrIsGranted r o later = (later ≡ o) ⊎ IsGranted r o later
+
+-- a message leaves the objects as they are that don't have its activation, but for one that waited for its frame
+abbrev pub MessagesKeepOthers : Type 0
+MessagesKeepOthers = (r : Record) (link : ℕ) (m : Message) (t : Took) → on_message r link m ≡ Ok t → (i : ℕ) (o : Object) → slice_get r.objects i ≡ Some o → is_about m o ≡ false
+    → (later : Object) × (slice_get t.rec.objects i ≡ Some later) × StaysOrIsGranted r o later
+
+-- the end of a server leaves the objects of other servers as they are, but for those that waited for their frames
 abbrev pub ReapsKeepOthers : Type 0
-ReapsKeepOthers = (r : Record) (inc : ℕ) (t : Took) → on_reap r inc ≡ Ok t → (i : ℕ) (o : Object) → slice_get r.objects i ≡ Some o → is_of inc o.link ≡ false → slice_get t.rec.objects i ≡ Some o
+ReapsKeepOthers = (r : Record) (inc : ℕ) (t : Took) → Steady r → on_reap r inc ≡ Ok t → (i : ℕ) (o : Object) → slice_get r.objects i ≡ Some o → is_of inc o.link ≡ false
+    → (later : Object) × (slice_get t.rec.objects i ≡ Some later) × StaysOrIsGranted r o later
 
 -- the objects of a server that has ended are passive, with the content that they answered in the present save, if any
 abbrev pub ReapsEndTheirs : Type 0
-ReapsEndTheirs = (r : Record) (inc : ℕ) (t : Took) → on_reap r inc ≡ Ok t → (i : ℕ) (o : Object) → slice_get r.objects i ≡ Some o → is_of inc o.link ≡ true → slice_get t.rec.objects i ≡ Some (record o { work = kept o; link = None })
+ReapsEndTheirs = (r : Record) (inc : ℕ) (t : Took) → Steady r → on_reap r inc ≡ Ok t → (i : ℕ) (o : Object) → slice_get r.objects i ≡ Some o → is_of inc o.link ≡ true → slice_get t.rec.objects i ≡ Some (record o { work = kept o; link = None })
+
+-- A frame is given up by its holder's own answer alone, once it was told to: no other message changes who has the frame or
+-- is to get it.
+pub record GivesUp (r : Record) (m : Message) (frame : Frame) (holder : Claim) : Type 0 where
+  pub revoking : IsRevoking frame.ui.state
+  pub inc : ℕ
+  pub n : ℕ
+  pub answered : m ≡ Reply inc holder.act n Done
+  pub object : Object
+  pub link : Link
+  pub found : find (is_object holder.object) r.objects ≡ Some object
+  pub linked : object.link ≡ Some link
+  pub pending : link.pending ≡ Some UiDeactivate
+
+abbrev pub FreedByHolders : Type 0
+FreedByHolders = (r : Record) (link : ℕ) (m : Message) (t : Took) (f : ℕ) (frame : Frame) (holder : Claim) → Steady r → on_message r link m ≡ Ok t → nth r.frames f ≡ Some frame → who frame.ui.state ≡ Some holder
+    → ((later : Frame) × (nth t.rec.frames f ≡ Some later) × (who later.ui.state ≡ Some holder)) ⊎ GivesUp r m frame holder

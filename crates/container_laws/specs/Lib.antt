@@ -1,3 +1,4 @@
+pub mod Roles
 pub mod Laws
 pub mod CommitLaws
 pub mod Steady

@@ -6,9 +6,9 @@ use Rattle.wire_msgs.specs.Operations.{op_of}
 use Rattle.wire_msgs.specs.declared.message.Message.{Message}
 use Rattle.wire_msgs.specs.declared.message.Message.TheVariants.{Reply}
 use Rattle.wire_msgs.specs.declared.operation.Operation.{Operation}
-use Rattle.wire_msgs.specs.declared.operation.Operation.TheVariants.{InitNew, Load, Edit, Save, SaveCompleted, Close}
+use Rattle.wire_msgs.specs.declared.operation.Operation.TheVariants.{InitNew, Load, InPlace, UiActivate, UiDeactivate, InPlaceDeactivate, OpenWindow, Edit, Save, SaveCompleted, Close}
 use Rattle.wire_msgs.specs.declared.answer.Answer.{Answer}
-use Rattle.wire_msgs.specs.declared.answer.Answer.TheVariants.{Done, Refused, Content}
+use Rattle.wire_msgs.specs.declared.answer.Answer.TheVariants.{Done, Refused, Content, Tools}
 use Rattle.object_parts.specs.Limits.{is_within}
 use Rattle.ole_parts.specs.CompObjs.{PAST_USER_TYPE}
 use Rattle.file_model.specs.Refusals.{writable}
@@ -22,7 +22,7 @@ use Rattle.object_state.specs.declared.faults.StateFault.{StateFault}
 use Rattle.object_state.specs.declared.persist_states.PersistState.{PersistState}
 use Rattle.object_state.specs.declared.persist_states.PersistState.TheVariants.{Unset, Normal, NoScribble}
 use Rattle.object_state.specs.declared.object_states.ObjectState.{ObjectState}
-use Rattle.object_state.specs.declared.object_states.ObjectState.TheVariants.{Passive, Running}
+use Rattle.object_state.specs.declared.object_states.ObjectState.TheVariants.{Passive, Loaded, InPlaceActive}
 use Rattle.storage_tree.specs.declared.stored.Stored.{Stored}
 use Rattle.container_model.specs.declared.record.Link.{Link}
 use Rattle.container_model.specs.declared.record.Object.{Object}
@@ -33,17 +33,12 @@ use Rattle.container_model.specs.declared.command.Command.{Command}
 use Rattle.container_model.specs.declared.fault.ContainerFault.{ContainerFault}
 use Rattle.container_model.specs.declared.fault.ContainerFault.TheVariants.{Full}
 use Rattle.container_model.specs.Record.{Record, Took, MOST_OBJECTS, count_objects, empty, is_object, is_linked, is_unreaped}
+use Rattle.container_model.specs.Room.{IsSound}
 use Rattle.container_model.specs.Saves.{commit_done, document, document_tree, image, is_document, kept, parts_in}
 use Rattle.container_model.specs.Messages.{awaits_save, on_message, on_reap}
 use Rattle.container_model.specs.Commands.{on_command}
-
--- what an object is still to do: the pending operation, then those that wait
-abbrev pub queue_of : Option Operation → List Operation → List Operation
-queue_of None waiting = waiting
-queue_of (Some op) waiting = op ∷ waiting
-
-abbrev pub queue : Link → List Operation
-queue l = queue_of l.pending l.waiting
+pub use Rattle.container_laws.specs.Roles.{queue, queue_of}
+use Rattle.container_laws.specs.Roles.{Role, Waiting, IsShown, Plays, SteadyGrant, role_in}
 
 -- the states at the end of a queue, by both tables
 abbrev pub stepped : Result States StateFault → Operation → Result States StateFault
@@ -54,10 +49,11 @@ abbrev pub ended : Result States StateFault → List Operation → Result States
 ended outcome [] = outcome
 ended outcome (op ∷ ops) = ended (stepped outcome op) ops
 
--- the state of an object whose first call was done; nothing activates one in place or opens its window yet
+-- the states of an object whose first call was done and that wasn't closed
 abbrev pub IsRunning : ObjectState → Type 0
-IsRunning Running = Unit {0}
-IsRunning state = ⊥
+IsRunning Passive = ⊥
+IsRunning Loaded = ⊥
+IsRunning state = Unit {0}
 
 abbrev pub HasStorage : PersistState → Type 0
 HasStorage Unset = ⊥
@@ -77,10 +73,17 @@ abbrev pub EndsAs : Phase → ObjectState → Type 0
 EndsAs Idle Passive = Unit {0}
 EndsAs phase state = IsRunning state
 
-pub record EndsWell (phase : Phase) (k : ℕ) (v : States) : Type 0 where
+-- an object that waits for its frame is active in place then, and so is ready for the grant
+abbrev pub EndsFor : Role → ObjectState → Type 0
+EndsFor (Waiting g) InPlaceActive = Unit {0}
+EndsFor (Waiting g) state = ⊥
+EndsFor role state = Unit {0}
+
+pub record EndsWell (phase : Phase) (k : ℕ) (role : Role) (v : States) : Type 0 where
   pub storage : v.persist.state ≡ storage_in phase
   pub last_save : IsOfSave phase k v.persist.last_save
   pub running : EndsAs phase v.object
+  pub waits : EndsFor role v.object
 
 -- an activation's first call gives it its storage, alone in the queue
 abbrev pub IsBeginning : Operation → Type 0
@@ -104,7 +107,8 @@ WaitsBehind None waiting = waiting ≡ []
 WaitsBehind (Some op) waiting = Unit {0}
 
 -- operations that stand in a queue: a content is asked for only while its frame is saving and until it is answered, and
--- the end of a save is told, and an object closed, only while none is under way; nothing asks for the others yet
+-- the end of a save is told, and an object closed, only while none is under way; nothing gives storages away or drops saves
+-- yet
 abbrev pub IsTimely : Phase → Option Stored → Operation → Type 0
 IsTimely phase saved (InitNew class) = Unit {0}
 IsTimely phase saved (Load class content) = Unit {0}
@@ -112,6 +116,11 @@ IsTimely phase saved (Edit bytes) = Unit {0}
 IsTimely phase saved (Save k) = (phase ≡ Saving) × (saved ≡ None)
 IsTimely phase saved (SaveCompleted k storage) = phase ≡ Idle
 IsTimely phase saved (Close option) = phase ≡ Idle
+IsTimely phase saved InPlace = Unit {0}
+IsTimely phase saved (UiActivate g) = Unit {0}
+IsTimely phase saved UiDeactivate = Unit {0}
+IsTimely phase saved InPlaceDeactivate = Unit {0}
+IsTimely phase saved OpenWindow = Unit {0}
 IsTimely phase saved op = ⊥
 
 -- contents are answered while a frame is saving, and all are there from then on
@@ -125,26 +134,29 @@ abbrev pub MayBeStored : Option Stored → Type 0
 MayBeStored None = Unit {0}
 MayBeStored (Some content) = is_within content ≡ true
 
--- an activation of an object of a frame in this phase, whose last save has number k
-pub record SteadyLink (servers : List Bool) (last_act : ℕ) (phase : Phase) (k : ℕ) (l : Link) : Type 0 where
+-- an activation of an object of a frame in this phase, whose last save has number k, and in whose grant it has this part
+pub record SteadyLink (servers : List Bool) (last_act : ℕ) (phase : Phase) (k : ℕ) (role : Role) (l : Link) : Type 0 where
   -- its number was drawn, and its server was started and isn't reaped
   pub acts_drawn : l.act ≤ last_act
   pub servers_told : is_unreaped (nth servers l.inc) ≡ true
   pub first_call : AtFirstCall l ⊎ PastFirstCall l.states
   pub waits_behind : WaitsBehind l.pending l.waiting
   -- the tables take the whole queue
-  pub queue_runs : IsOkAnd (ended (Ok l.states) (queue l)) (EndsWell phase k)
+  pub queue_runs : IsOkAnd (ended (Ok l.states) (queue l)) (EndsWell phase k role)
   pub save_in_queue : AllByRecursion (IsTimely phase l.saved) (queue l)
   pub saved_known : IsSavedIn phase l.saved
   -- what it answered may be stored
   pub saved_within : MayBeStored l.saved
+  -- its state and its queue are as its part in the frame's grant says
+  pub shown : IsShown role l.states.object
+  pub plays : Plays role (queue l)
 
 -- an object: its number was drawn, its frame is there, and a document may hold it
 pub record SteadyObject (r : Record) (o : Object) : Type 0 where
   pub drawn : o.number ≤ r.last_object
   pub within : is_within o.work ≡ true
   pub user_type : nat_lt (length o.user_type) PAST_USER_TYPE ≡ true
-  pub linked : IsSomeAnd (nth r.frames o.frame) (λ (frame : Frame). IfSome o.link (SteadyLink r.servers r.last_act frame.phase frame.k))
+  pub linked : IsSomeAnd (nth r.frames o.frame) (λ (frame : Frame). IfSome o.link (SteadyLink r.servers r.last_act frame.phase frame.k (role_in frame.ui.state o.number)))
 
 -- a frame: no save is under another name, and none hands off or is in doubt yet
 abbrev pub IsReached : Phase → Type 0
@@ -166,12 +178,13 @@ abbrev pub EachPair : {A : Type 0} → (A → A → Type 0) → List A → Type 
 EachPair R [] = Unit {0}
 EachPair R (x ∷ xs) = AllByRecursion (R x) xs × EachPair R xs
 
--- the record of a container: no frame has more objects than a document may have
+-- the record of a container: no frame has more objects than a document may have, and each frame's grant is of its objects
 pub record Steady (r : Record) : Type 0 where
   pub frames : AllByRecursion SteadyFrame r.frames
   pub objects : AllByRecursion (SteadyObject r) r.objects
   pub order : EachPair InOrder r.objects
   pub count : (f : ℕ) → count_objects f r.objects ≤ MOST_OBJECTS
+  pub grants : (f : ℕ) (frame : Frame) → nth r.frames f ≡ Some frame → SteadyGrant r f frame.ui.state
 
 -- Laws: it holds from the start, and each step keeps it.
 abbrev pub SteadyFromTheStart : Type 0
@@ -189,12 +202,30 @@ SteadyAfterReaps = (r : Record) (inc : ℕ) (t : Took) → Steady r → on_reap 
 abbrev pub SteadyAfterCommits : Type 0
 SteadyAfterCommits = (r : Record) (f : ℕ) (t : Took) → Steady r → commit_done r f ≡ Ok t → Steady t.rec
 
+-- and so it stays within its numbers
+abbrev pub SoundAfterCommands : Type 0
+SoundAfterCommands = (r : Record) (c : Command) (t : Took) → Steady r → IsSound r → on_command r c ≡ Ok t → IsSound t.rec
+
+abbrev pub SoundAfterMessages : Type 0
+SoundAfterMessages = (r : Record) (link : ℕ) (m : Message) (t : Took) → Steady r → IsSound r → on_message r link m ≡ Ok t → IsSound t.rec
+
+abbrev pub SoundAfterReaps : Type 0
+SoundAfterReaps = (r : Record) (inc : ℕ) (t : Took) → Steady r → IsSound r → on_reap r inc ≡ Ok t → IsSound t.rec
+
+abbrev pub SoundAfterCommits : Type 0
+SoundAfterCommits = (r : Record) (f : ℕ) (t : Took) → Steady r → IsSound r → commit_done r f ≡ Ok t → IsSound t.rec
+
 -- an answer that fits an operation, with a content that may be stored where it has one
 abbrev pub Fits : Operation → Answer → Type 0
 Fits (InitNew class) Done = Unit {0}
 Fits (InitNew class) (Refused why) = Unit {0}
 Fits (Load class content) Done = Unit {0}
 Fits (Load class content) (Refused why) = Unit {0}
+Fits InPlace Done = Unit {0}
+Fits (UiActivate g) (Tools menus border) = Unit {0}
+Fits UiDeactivate Done = Unit {0}
+Fits InPlaceDeactivate Done = Unit {0}
+Fits OpenWindow Done = Unit {0}
 Fits (Edit bytes) Done = Unit {0}
 Fits (Edit bytes) (Refused why) = Unit {0}
 Fits (Save k) (Content content) = is_within content ≡ true

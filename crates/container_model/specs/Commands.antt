@@ -4,12 +4,8 @@ use Rattle.std.specs.Str.{bytes_eq}
 use Rattle.wire_msgs.specs.Found.{find, put, nth, set_nth}
 use Rattle.wire_msgs.specs.declared.message.Message.TheVariants.{Call}
 use Rattle.wire_msgs.specs.declared.operation.Operation.{Operation}
-use Rattle.wire_msgs.specs.declared.operation.Operation.TheVariants.{InitNew, Load, InPlace, UiActivate, UiDeactivate, InPlaceDeactivate, OpenWindow, Edit, Save, Close}
+use Rattle.wire_msgs.specs.declared.operation.Operation.TheVariants.{InitNew, Load, Edit, Save}
 use Rattle.object_state.specs.Both.{loaded}
-use Rattle.object_state.specs.Verbs.{close_steps}
-use Rattle.object_state.specs.declared.operations.CloseOption.{CloseOption}
-use Rattle.object_state.specs.declared.verbs.Step.{Step}
-use Rattle.object_state.specs.declared.verbs.Step.TheVariants as step
 use Rattle.grant_core.specs.Frames.{fresh}
 use Rattle.grant_core.specs.declared.grant_states.GrantState.{GrantState}
 use Rattle.storage_tree.specs.declared.stored.Stored.{Stored}
@@ -27,12 +23,9 @@ use Rattle.container_model.specs.declared.command.Command.TheVariants as command
 use Rattle.container_model.specs.declared.answer.Action.TheVariants.{Start, End}
 use Rattle.container_model.specs.declared.fault.ContainerFault.{ContainerFault}
 use Rattle.container_model.specs.declared.fault.ContainerFault.TheVariants.{NoSuch, Busy, NotRunning, InDoubt, Full, NumbersSpent, WrongState, UnknownClass}
-use Rattle.container_model.specs.Record.{Record, Took, Asked, ask_each, MOST_FRAMES, MOST_OBJECTS, MOST_SERVERS, MARGIN, quiet_answer, acts, sends, is_object, is_alive, is_busy, is_moving, is_saving, is_doubtful, count_alive, count_objects, counts_none, without_first, has_numbers, asked_link, asked_sent, asked_object, asked_all, with_object}
+use Rattle.container_model.specs.Record.{Record, Took, MOST_FRAMES, MOST_OBJECTS, MOST_SERVERS, MARGIN, quiet_answer, acts, sends, is_object, is_alive, is_busy, is_moving, is_saving, is_doubtful, count_alive, count_objects, counts_none, without_first, has_numbers, link_has_numbers, asked_link, asked_sent, asked_object, asked_all, unless, with_object}
 use Rattle.container_model.specs.Saves.{settle, settle_actions}
-
--- checks, in their order
-abbrev pub unless : {A : Type 0} → Bool → ContainerFault → Result A ContainerFault → Result A ContainerFault
-unless refused fault next = if refused then Err fault else next
+use Rattle.container_model.specs.Verbs.{close, verb}
 
 -- New: a name that no frame bears or asked for, a size of 1 to 200 by 1 to 100 cells.
 abbrev pub is_name : List ℕ → Option (List ℕ) → Bool
@@ -209,10 +202,6 @@ abbrev pub any_busy : ℕ → GrantState → List Object → Bool
 any_busy f state [] = false
 any_busy f state (o ∷ os) = if o.frame == f then (if is_busy state o then true else any_busy f state os) else any_busy f state os
 
-abbrev pub link_has_numbers : ℕ → Option Link → Bool
-link_has_numbers numbers None = true
-link_has_numbers numbers (Some l) = has_numbers numbers l
-
 abbrev pub all_have_numbers : ℕ → ℕ → List Object → Bool
 all_have_numbers f numbers [] = true
 all_have_numbers f numbers (o ∷ os) = if o.frame == f then (if link_has_numbers numbers o.link then all_have_numbers f numbers os else false) else all_have_numbers f numbers os
@@ -264,50 +253,6 @@ delete_at r (Some o) = delete_in r o (nth r.frames o.frame)
 abbrev pub delete : Record → ℕ → Result Took ContainerFault
 delete r o = delete_at r (find (is_object o) r.objects)
 
--- the operation of a step, under a grant where it takes one
-abbrev pub operation_of : ℕ → Step → Operation
-operation_of g step.InPlace = InPlace
-operation_of g step.UiActivate = UiActivate g
-operation_of g step.UiDeactivate = UiDeactivate
-operation_of g step.InPlaceDeactivate = InPlaceDeactivate
-operation_of g step.OpenWindow = OpenWindow
-operation_of g (step.Close option) = Close option
-
--- Close: an object that isn't passive takes the steps that hide it, none of which takes a grant, and then ends.
-abbrev pub closed_link : Link → List Step → Asked
-closed_link l steps = ask_each l (map (operation_of 0) steps)
-
-abbrev pub close_made : Record → Object → Link → List Step → Took
-close_made r o l steps = record {
-  rec = with_object r (record o { link = Some (closed_link l steps).link });
-  answer = acts (sends (closed_link l steps).sent);
-  counted = [];
-}
-
-abbrev pub close_steps_made : Record → Object → Link → Option (List Step) → Result Took ContainerFault
-close_steps_made r o l None = Err WrongState
-close_steps_made r o l (Some steps) = Ok (close_made r o l steps)
-
-abbrev pub close_linked : Record → Object → CloseOption → Option Link → Result Took ContainerFault
-close_linked r o option None = Err NotRunning
-close_linked r o option (Some l) =
-    unless (not (has_numbers r.numbers l)) NumbersSpent
-    (close_steps_made r o l (close_steps option l.states.object))
-
-abbrev pub close_in : Record → Object → CloseOption → Option Frame → Result Took ContainerFault
-close_in r o option None = Err NoSuch
-close_in r o option (Some frame) =
-    unless (is_doubtful frame.phase) InDoubt
-    (unless (is_saving frame.phase || is_busy frame.ui.state o) Busy
-    (close_linked r o option o.link))
-
-abbrev pub close_at : Record → CloseOption → Option Object → Result Took ContainerFault
-close_at r option None = Err NoSuch
-close_at r option (Some o) = close_in r o option (nth r.frames o.frame)
-
-abbrev pub close : Record → ℕ → CloseOption → Result Took ContainerFault
-close r o option = close_at r option (find (is_object o) r.objects)
-
 -- Kill: a server that isn't reaped is to be ended.
 abbrev pub kill : Record → ℕ → Result Took ContainerFault
 kill r inc = if is_alive r inc then Ok (counts_none r (acts (End inc ∷ []))) else Err NoSuch
@@ -323,3 +268,4 @@ on_command r (command.Save f) = save r f
 on_command r (command.Delete o) = delete r o
 on_command r (command.Kill inc) = kill r inc
 on_command r (command.Close o option) = close r o option
+on_command r (command.Verb o number) = verb r o number

@@ -1,5 +1,7 @@
 pub mod Record
 pub mod Commands
+pub mod Grants
+pub mod Verbs
 pub mod Messages
 pub mod Saves
 pub mod FaultNames

@@ -1,11 +1,11 @@
 -- What a container does with a message, and with the end of a server.
 use Rattle.std.specs.Prelude.{◌+◌, ◌==◌, ◌&&◌, ◌||◌, ◌++◌, ℕ, Bool, true, false, not, nat_lt, List, [], ◌∷◌, map, Option, Some, None, is_some, Result, Ok, Err, if◌then◌else◌}
-use Rattle.wire_msgs.specs.Found.{find, put, set_nth}
+use Rattle.wire_msgs.specs.Found.{find, put, nth, set_nth}
 use Rattle.wire_msgs.specs.Operations.{op_of}
 use Rattle.wire_msgs.specs.declared.message.Message.{Message}
 use Rattle.wire_msgs.specs.declared.message.Message.TheVariants.{Call, Reply, Write, Ask}
 use Rattle.wire_msgs.specs.declared.operation.Operation.{Operation}
-use Rattle.wire_msgs.specs.declared.operation.Operation.TheVariants.{InitNew, Load, Edit, Save, SaveCompleted, SaveDropped, Close}
+use Rattle.wire_msgs.specs.declared.operation.Operation.TheVariants.{InitNew, Load, InPlace, UiActivate, UiDeactivate, InPlaceDeactivate, OpenWindow, Edit, Save, SaveCompleted, SaveDropped, Close}
 use Rattle.wire_msgs.specs.declared.answer.Answer.{Answer}
 use Rattle.wire_msgs.specs.declared.answer.Answer.TheVariants as told
 use Rattle.wire_msgs.specs.declared.refusal.Refusal.{Refusal}
@@ -17,18 +17,25 @@ use Rattle.object_parts.specs.Limits.{is_within}
 use Rattle.object_state.specs.declared.both_states.States.{States}
 use Rattle.object_state.specs.declared.faults.StateFault.{StateFault}
 use Rattle.storage_tree.specs.declared.stored.Stored.{Stored}
+use Rattle.grant_core.specs.declared.grant_states.GrantState.{GrantState}
+use Rattle.grant_core.specs.declared.grant_states.GrantState.TheVariants.{Held}
+use Rattle.grant_core.specs.Grants as grant
 use Rattle.container_model.specs.declared.record.Link.{Link}
 use Rattle.container_model.specs.declared.record.Object.{Object}
+use Rattle.container_model.specs.declared.record.Frame.{Frame}
 use Rattle.container_model.specs.declared.fault.ContainerFault.{ContainerFault}
 use Rattle.container_model.specs.declared.fault.ContainerFault.TheVariants.{NoSuch, WrongLink, Stale, BadAnswer}
-use Rattle.container_model.specs.Record.{Record, Took, counts_none, quiet_answer, acts, sends, is_linked, is_alive}
+use Rattle.container_model.specs.Record.{Record, Took, counts_none, quiet_answer, acts, sends, is_linked, is_alive, with_frame}
+use Rattle.container_model.specs.Grants.{Regranted, Requested, Tells, Gets, GivesUp, free_grants, moved, regranted, request}
 use Rattle.container_model.specs.Saves.{settle, settle_actions, kept, kept_in}
 
--- A link after an answer, the content that is the object's work content from now on, if any, and why the object refused.
+-- A link after an answer, the content that is the object's work content from now on, if any, why the object refused, and
+-- what is told of the frame's grant.
 pub record Replied : Type 0 where
   pub link : Option Link
   pub taken : Option Stored
   pub refused : Option Refusal
+  pub grant : Option Tells
 
 -- the link of an operation that was done: its states by the tables, its grant from 1 on and one higher after each save
 abbrev pub next_s : Operation → ℕ → ℕ
@@ -40,7 +47,7 @@ next_s op s = s
 
 abbrev pub done_link : Link → ℕ → Result States StateFault → Result Replied ContainerFault
 done_link l s (Err fault) = Err BadAnswer
-done_link l s (Ok v) = Ok (record { link = Some (record l { pending = None; states = v; s = s }); taken = None; refused = None })
+done_link l s (Ok v) = Ok (record { link = Some (record l { pending = None; states = v; s = s }); taken = None; refused = None; grant = None })
 
 abbrev pub done : Link → Operation → Result Replied ContainerFault
 done l op = done_link l (next_s op l.s) (both.step l.states (op_of op))
@@ -51,19 +58,24 @@ saved_link content (Ok replied) = Ok (record replied { link = elim replied.link 
 
 -- the object is passive again
 abbrev pub lost : Refusal → Result Replied ContainerFault
-lost why = Ok (record { link = None; taken = None; refused = Some why })
+lost why = Ok (record { link = None; taken = None; refused = Some why; grant = None })
 
 -- the refusal is noted, and all else stays
 abbrev pub noted : Link → Refusal → Result Replied ContainerFault
-noted l why = Ok (record { link = Some (record l { pending = None }); taken = None; refused = Some why })
+noted l why = Ok (record { link = Some (record l { pending = None }); taken = None; refused = Some why; grant = None })
 
 -- the object is passive again, with the content that it was closed with, if any
 abbrev pub closed_with : Option Stored → Result States StateFault → Result Replied ContainerFault
 closed_with content (Err fault) = Err BadAnswer
-closed_with content (Ok v) = Ok (record { link = None; taken = content; refused = None })
+closed_with content (Ok v) = Ok (record { link = None; taken = content; refused = None; grant = None })
 
 abbrev pub closed : Link → CloseOption → Option Stored → Result Replied ContainerFault
 closed l option content = closed_with content (both.step l.states (op_of (Close option)))
+
+-- the object has its frame, or has given it up
+abbrev pub granted_link : Tells → Result Replied ContainerFault → Result Replied ContainerFault
+granted_link told (Err fault) = Err fault
+granted_link told (Ok replied) = Ok (record replied { grant = Some told })
 
 -- What an answer makes of a link whose pending operation it answers. Nothing asks for the other operations yet.
 abbrev pub replied : Link → Operation → Answer → Result Replied ContainerFault
@@ -71,6 +83,11 @@ replied l (InitNew class) told.Done = done l (InitNew class)
 replied l (InitNew class) (told.Refused why) = lost why
 replied l (Load class content) told.Done = done l (Load class content)
 replied l (Load class content) (told.Refused why) = lost why
+replied l InPlace told.Done = done l InPlace
+replied l (UiActivate g) (told.Tools menus border) = granted_link (Gets g (record { menus = menus; border = border })) (done l (UiActivate g))
+replied l UiDeactivate told.Done = granted_link GivesUp (done l UiDeactivate)
+replied l InPlaceDeactivate told.Done = done l InPlaceDeactivate
+replied l OpenWindow told.Done = done l OpenWindow
 replied l (Edit bytes) told.Done = done l (Edit bytes)
 replied l (Edit bytes) (told.Refused why) = noted l why
 replied l (Save k) (told.Content content) = saved_link content (done l (Save k))
@@ -106,24 +123,32 @@ abbrev pub next_sent : Option Link → List Message
 next_sent None = []
 next_sent (Some l) = (next_at l l.waiting).sent
 
--- the record after an object's link was replied to: what waits is sent, then saves go on
+-- the record after an object's link was replied to: what waits is sent, then its frame's grant moves, then saves go on
 abbrev pub replied_object : Object → Replied → Object
 replied_object o replied = record o { work = kept_in o.work replied.taken; link = next_link replied.link }
 
 abbrev pub replied_record : Record → ℕ → ℕ → Object → Replied → Record
 replied_record r inc act o replied = record r { objects = put (is_linked inc act) (replied_object o replied) r.objects }
 
-abbrev pub reply_taken : Record → ℕ → ℕ → Object → Result Replied ContainerFault → Result Took ContainerFault
-reply_taken r inc act o (Err fault) = Err fault
-reply_taken r inc act o (Ok replied) = Ok (record {
-  rec = settle (replied_record r inc act o replied);
+-- and the frame may pass to whoever waits for it
+abbrev pub replied_grant : Record → ℕ → ℕ → Object → Replied → Regranted
+replied_grant r inc act o replied = regranted (replied_record r inc act o replied) o.frame replied.grant
+
+abbrev pub reply_made : Record → ℕ → ℕ → Object → Replied → Took
+reply_made r inc act o replied = record {
+  rec = settle (replied_grant r inc act o replied).rec;
   answer = record quiet_answer {
     taken = is_some replied.taken;
     refused = replied.refused;
-    actions = sends (next_sent replied.link) ++ settle_actions (replied_record r inc act o replied);
+    no_tools = (replied_grant r inc act o replied).no_tools;
+    actions = sends (next_sent replied.link ++ (replied_grant r inc act o replied).sent) ++ settle_actions (replied_grant r inc act o replied).rec;
   };
   counted = [];
-})
+}
+
+abbrev pub reply_taken : Record → ℕ → ℕ → Object → Result Replied ContainerFault → Result Took ContainerFault
+reply_taken r inc act o (Err fault) = Err fault
+reply_taken r inc act o (Ok replied) = Ok (reply_made r inc act o replied)
 
 -- the answer to call n, which is to be the pending one
 abbrev pub reply_pending : Link → ℕ → Answer → Option Operation → Result Replied ContainerFault
@@ -183,14 +208,36 @@ write_found r inc act s w content (Some o) = write_link r inc act s w content o 
 abbrev pub on_write : Record → ℕ → ℕ → ℕ → ℕ → Stored → Result Took ContainerFault
 on_write r inc act s w content = if is_alive r inc then write_found r inc act s w content (find (is_linked inc act) r.objects) else Err Stale
 
--- A message on the link of an incarnation. There is no frame to be relieved of yet.
+-- An object that holds its frame, under this grant, asks to be relieved of it: it is to give the frame up, and nobody waits.
+abbrev pub is_held_by : ℕ → ℕ → GrantState → Bool
+is_held_by act g (Held holder tools) = holder.act == act && holder.g == g
+is_held_by act g state = false
+
+abbrev pub relieved : Record → Object → ℕ → ℕ → Frame → Requested
+relieved r o act g frame = request (with_frame r o.frame (moved frame (grant.Ask (record { object = o.number; act = act; g = g })))) o.number UiDeactivate
+
+abbrev pub ask_framed : Record → Object → ℕ → ℕ → Option Frame → Result Took ContainerFault
+ask_framed r o act g None = Err Stale
+ask_framed r o act g (Some frame) =
+    if is_held_by act g frame.ui.state then Ok (counts_none (relieved r o act g frame).rec (acts (sends (relieved r o act g frame).sent))) else Err Stale
+
+abbrev pub ask_found : Record → ℕ → ℕ → Option Object → Result Took ContainerFault
+ask_found r act g None = Err Stale
+ask_found r act g (Some o) = ask_framed r o act g (nth r.frames o.frame)
+
+-- of a server that isn't reaped, from the object that has this activation
+abbrev pub on_ask : Record → ℕ → ℕ → ℕ → Result Took ContainerFault
+on_ask r inc act g = if is_alive r inc then ask_found r act g (find (is_linked inc act) r.objects) else Err Stale
+
+-- A message on the link of an incarnation.
 abbrev pub on_message : Record → ℕ → Message → Result Took ContainerFault
 on_message r link (Call inc act n op) = Err WrongLink
 on_message r link (Reply inc act n answer) = if inc == link then on_reply r inc act n answer else Err WrongLink
 on_message r link (Write inc act s w content) = if inc == link then on_write r inc act s w content else Err WrongLink
-on_message r link (Ask inc act g) = if inc == link then Err Stale else Err WrongLink
+on_message r link (Ask inc act g) = if inc == link then on_ask r inc act g else Err WrongLink
 
--- The end of a server: its objects are passive, each with the content that it answered in the present save, if any.
+-- The end of a server: its objects are passive, each with the content that it answered in the present save, if any. Then
+-- their frames are freed, and granted to whoever waits on. Then saves go on.
 abbrev pub reaped_object : ℕ → Object → Option Link → Object
 reaped_object inc o None = o
 reaped_object inc o (Some l) = if l.inc == inc then record o { work = kept o; link = None } else o
@@ -198,5 +245,11 @@ reaped_object inc o (Some l) = if l.inc == inc then record o { work = kept o; li
 abbrev pub reaped : Record → ℕ → Record
 reaped r inc = record r { objects = map (λ o. reaped_object inc o o.link) r.objects; servers = set_nth r.servers inc true }
 
+abbrev pub reaped_grants : Record → ℕ → Requested
+reaped_grants r inc = free_grants inc r.objects (reaped r inc)
+
+abbrev pub reap_made : Record → ℕ → Took
+reap_made r inc = counts_none (settle (reaped_grants r inc).rec) (acts (sends (reaped_grants r inc).sent ++ settle_actions (reaped_grants r inc).rec))
+
 abbrev pub on_reap : Record → ℕ → Result Took ContainerFault
-on_reap r inc = if is_alive r inc then Ok (counts_none (settle (reaped r inc)) (acts (settle_actions (reaped r inc)))) else Err NoSuch
+on_reap r inc = if is_alive r inc then Ok (reap_made r inc) else Err NoSuch

@@ -22,17 +22,18 @@ use Rattle.container_model.specs.declared.fault.ContainerFault.{ContainerFault}
 use Rattle.container_model.specs.declared.fault.ContainerFault.TheVariants.{NoMemory}
 
 -- The frames stand by their numbers, from 1, and so do the servers, each reaped or not. Objects have numbers of their
--- own. The last numbers of objects and activations, and the greatest number that may be drawn.
+-- own. The last numbers of objects, of activations and of grants, and the greatest number that may be drawn.
 pub record Record : Type 0 where
   pub frames : List Frame
   pub objects : List Object
   pub servers : List Bool
   pub last_object : ℕ
   pub last_act : ℕ
+  pub last_g : ℕ
   pub numbers : ℕ
 
 abbrev pub empty : ℕ → Record
-empty numbers = record { frames = []; objects = []; servers = []; last_object = 0; last_act = 0; numbers = numbers }
+empty numbers = record { frames = []; objects = []; servers = []; last_object = 0; last_act = 0; last_g = 0; numbers = numbers }
 
 -- how many frames there may be, and how many servers that aren't reaped; a frame has as many objects as a document may
 abbrev pub MOST_FRAMES : ℕ
@@ -135,6 +136,10 @@ is_moving state = false
 abbrev pub has_numbers : ℕ → Link → Bool
 has_numbers numbers l = not (nat_lt numbers (l.last + length l.waiting + MARGIN))
 
+abbrev pub link_has_numbers : ℕ → Option Link → Bool
+link_has_numbers numbers None = true
+link_has_numbers numbers (Some l) = has_numbers numbers l
+
 -- An operation is asked: at once where none is pending, else behind those that wait.
 pub record Asked : Type 0 where
   pub link : Link
@@ -174,6 +179,10 @@ asked_all f op (o ∷ os) = if o.frame == f then asked_sent op o.link ++ asked_a
 
 abbrev pub sends : List Message → List Action
 sends ms = map Send ms
+
+-- checks, in their order
+abbrev pub unless : {A : Type 0} → Bool → ContainerFault → Result A ContainerFault → Result A ContainerFault
+unless refused fault next = if refused then Err fault else next
 
 -- A call answers what it is told to, or that no memory is left where it would have succeeded.
 abbrev pub Refuses : {A : Type 0} → Result A ContainerFault → ContainerFault → Type 0

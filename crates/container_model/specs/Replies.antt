@@ -11,17 +11,19 @@ use Rattle.container_model.specs.declared.answer.Action.{Action}
 use Rattle.container_model.specs.declared.answer.Action.TheVariants.{Send}
 use Rattle.container_model.specs.declared.fault.ContainerFault.{ContainerFault}
 use Rattle.container_model.specs.Record.{sends}
+use Rattle.container_model.specs.Grants.{Tells}
 use Rattle.container_model.specs.Messages.{Replied, next_link, next_sent}
 
-pub record Went : Type 0 where
+pub record Resumed : Type 0 where
   pub link : Option Link
   pub taken : Option Stored
   pub refused : Option Refusal
+  pub grant : Option Tells
   pub actions : List Action
 
-abbrev pub went : Result Replied ContainerFault → Result Went ContainerFault
-went (Err fault) = Err fault
-went (Ok replied) = Ok (record { link = next_link replied.link; taken = replied.taken; refused = replied.refused; actions = sends (next_sent replied.link) })
+abbrev pub resumed : Result Replied ContainerFault → Result Resumed ContainerFault
+resumed (Err fault) = Err fault
+resumed (Ok replied) = Ok (record { link = next_link replied.link; taken = replied.taken; refused = replied.refused; grant = replied.grant; actions = sends (next_sent replied.link) })
 
 -- the call of the first operation that waits
 abbrev pub first_call : Link → List Operation → Option Action

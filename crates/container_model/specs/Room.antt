@@ -1,6 +1,9 @@
 -- Numbers stay within what a message carries: each activation has a number left for what it may be asked without a check.
-use Rattle.std.specs.Prelude.{◌+◌, ◌≤◌, ℕ, List, length, Option, Some, None, All, cond, is_some}
+use Rattle.std.specs.Prelude.{◌+◌, ◌==◌, ◌≤◌, ℕ, List, length, Option, Some, None, All, cond, is_some, if◌then◌else◌}
 use Rattle.wire_msgs.specs.Found.{nth}
+use Rattle.grant_core.specs.declared.grant_states.Claim.{Claim}
+use Rattle.grant_core.specs.declared.grant_states.GrantState.{GrantState}
+use Rattle.grant_core.specs.declared.grant_states.GrantState.TheVariants.{Free, Granting, Held, Revoking}
 use Rattle.container_model.specs.declared.record.Link.{Link}
 use Rattle.container_model.specs.declared.record.Object.{Object}
 use Rattle.container_model.specs.declared.record.Frame.{Frame}
@@ -16,9 +19,20 @@ debt HandingOff = 1
 debt Committing = 1
 debt InDoubt = 1
 
-abbrev pub debt_in : Option Frame → ℕ
-debt_in None = 0
-debt_in (Some frame) = debt frame.phase
+-- whoever has a frame or is to get it may be told to give it up; whoever waits for it is told of its grant before
+abbrev pub claim_debt : ℕ → ℕ → Option Claim → ℕ
+claim_debt number calls None = 0
+claim_debt number calls (Some claim) = if claim.object == number then calls else 0
+
+abbrev pub grant_debt : ℕ → GrantState → ℕ
+grant_debt number Free = 0
+grant_debt number (Granting claim) = claim_debt number 1 (Some claim)
+grant_debt number (Held holder tools) = claim_debt number 1 (Some holder)
+grant_debt number (Revoking holder next) = claim_debt number 2 next
+
+abbrev pub debt_in : ℕ → Option Frame → ℕ
+debt_in number None = 0
+debt_in number (Some frame) = debt frame.phase + grant_debt number frame.ui.state
 
 abbrev pub count_pending : Link → ℕ
 count_pending l = cond (is_some l.pending) 1 0
@@ -33,7 +47,7 @@ IfLinked P None = Unit {0}
 IfLinked P (Some l) = P l
 
 abbrev pub HasRoom : ℕ → List Frame → Object → Type 0
-HasRoom numbers frames o = IfLinked (IsRoomy numbers (debt_in (nth frames o.frame))) o.link
+HasRoom numbers frames o = IfLinked (IsRoomy numbers (debt_in o.number (nth frames o.frame))) o.link
 
 pub record IsSound (r : Record) : Type 0 where
   pub limit : r.numbers ≤ 1000000
@@ -43,3 +57,4 @@ pub record IsSound (r : Record) : Type 0 where
   pub servers : length r.servers ≤ r.numbers
   pub objects : r.last_object ≤ r.numbers
   pub acts : r.last_act ≤ r.numbers
+  pub grants : r.last_g ≤ r.numbers

@@ -36,4 +36,6 @@ pub enum Command {
     Kill(u32),
     /// An object that isn't passive is closed, with its content or without.
     Close(u32, CloseOption),
+    /// An object does the verb of this number (OLEIVERB).
+    Verb(u32, i64),
 }

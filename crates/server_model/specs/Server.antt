@@ -27,6 +27,7 @@ use Rattle.wire_msgs.specs.Found.{find, put}
 use Rattle.server_model.specs.Pictures.{picture_of}
 use Rattle.server_model.specs.declared.activation_view.ActivationView.{ActivationView}
 pub use Rattle.server_model.specs.declared.counted.Counted.{Counted}
+use Rattle.server_model.specs.declared.hold.Hold.{Hold}
 use Rattle.server_model.specs.declared.fault.ServerFault.{ServerFault}
 use Rattle.server_model.specs.declared.fault.ServerFault.TheVariants.{WrongIncarnation, Ignored, NumbersSpent, NeedObject, WrongClass, NoMemory}
 
@@ -256,3 +257,16 @@ last_reply v act = option_map (kept_reply v) (find (is_act act) v.acts)
 -- what is seen of an activation, but for its content
 abbrev pub view_of : Activation → ActivationView
 view_of a = record { class = a.class; opened = is_some a.content; states = a.states; s = a.s; last = a.last; g = a.g; w = a.w }
+
+-- The activations that have a grant, each with its grant, by rising number.
+abbrev pub place_hold : Hold → List Hold → List Hold
+place_hold h [] = h ∷ []
+place_hold h (x ∷ xs) = cond (nat_le h.act x.act) (h ∷ x ∷ xs) (x ∷ place_hold h xs)
+
+abbrev pub add_hold : ℕ → Option ℕ → List Hold → List Hold
+add_hold act None holds = holds
+add_hold act (Some g) holds = place_hold (record { act = act; g = g }) holds
+
+abbrev pub holds_of : List Activation → List Hold
+holds_of [] = []
+holds_of (a ∷ rest) = add_hold a.act a.g (holds_of rest)

@@ -4,4 +4,5 @@
 pub mod activation_view;
 pub mod counted;
 pub mod fault;
+pub mod hold;
 pub mod laws;

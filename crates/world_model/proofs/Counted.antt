@@ -17,7 +17,7 @@ use Rattle.container_model.specs.declared.answer.Part.{Part}
 use Rattle.container_model.specs.declared.command.Command.{Command}
 use Rattle.container_model.specs.declared.fault.ContainerFault.{ContainerFault}
 use Rattle.container_model.specs.declared.record.Frame.{Frame}
-use Rattle.world_model.specs.World.{World, Instance, took, commanded, served, stocked, called_wanting, called_in, called, delivered, taken_at, with_taken, deliver, scribbled_by, scribbled, scribble, crashed, crash, ended, reap, done_taken, done_imaged, done_in, happened, limited, Run, MOST_EVENTS, is_of}
+use Rattle.world_model.specs.World.{World, Instance, took, commanded, served, stocked, called_wanting, called_in, called, delivered, taken_at, with_taken, deliver, spoken_by, spoken, scribble, ask, crashed, crash, ended, reap, done_taken, done_imaged, done_in, happened, limited, Run, MOST_EVENTS, is_of}
 use Rattle.world_model.specs.declared.event.Event.{Event}
 use Rattle.world_model.specs.declared.event.Event.TheVariants as event
 use Rattle.world_model.specs.declared.event.Stop.{Stop}
@@ -82,18 +82,22 @@ deliver-taken : (w : World) (p : ℕ) (sent : Option Sent) → IfTaken w (delive
 deliver-taken w p None = tt
 deliver-taken w p (Some sent) = with_taken-taken w (taken_at w.rec p sent.message) (delivered w sent.message) (delivered-taken w sent.message)
 
-scribbled_by-more : (w : World) (inc act : ℕ) (i : Instance) (r : Result Told ServerFault) → More w (scribbled_by w inc act i r)
-scribbled_by-more w inc act i (Err fault) = more w.answers _
-scribbled_by-more w inc act i (Ok t) = more w.answers _
+spoken_by-more : (w : World) (inc act : ℕ) (i : Instance) (r : Result Told ServerFault) → More w (spoken_by w inc act i r)
+spoken_by-more w inc act i (Err fault) = more w.answers _
+spoken_by-more w inc act i (Ok t) = more w.answers _
 
-scribbled-taken : (w : World) (inc act : ℕ) (i : Instance) (life : Life) → IfTaken w (scribbled w inc act i life)
-scribbled-taken w inc act i Running = scribbled_by-more w inc act i (server.scribble i.core act)
-scribbled-taken w inc act i Ended = tt
-scribbled-taken w inc act i Reaped = tt
+spoken-taken : (w : World) (inc act : ℕ) (i : Instance) (life : Life) (r : Result Told ServerFault) → IfTaken w (spoken w inc act i life r)
+spoken-taken w inc act i Running r = spoken_by-more w inc act i r
+spoken-taken w inc act i Ended r = tt
+spoken-taken w inc act i Reaped r = tt
 
 scribble-taken : (w : World) (inc act : ℕ) (i : Option Instance) → IfTaken w (scribble w inc act i)
 scribble-taken w inc act None = tt
-scribble-taken w inc act (Some i) = scribbled-taken w inc act i i.life
+scribble-taken w inc act (Some i) = spoken-taken w inc act i i.life (server.scribble i.core act)
+
+ask-taken : (w : World) (inc act : ℕ) (i : Option Instance) → IfTaken w (ask w inc act i)
+ask-taken w inc act None = tt
+ask-taken w inc act (Some i) = spoken-taken w inc act i i.life (server.ask_deactivate i.core act)
 
 crashed-taken : (w : World) (inc : ℕ) (i : Instance) (life : Life) → IfTaken w (crashed w inc i life)
 crashed-taken w inc i Running = more w.answers _
@@ -131,6 +135,7 @@ happened-taken w bytes (event.Deliver p) = deliver-taken w p (nth w.sent p)
 happened-taken w bytes (event.Crash inc) = crash-taken w inc (nth w.instances inc)
 happened-taken w bytes (event.Reap inc) = reap-taken w inc (nth w.instances inc)
 happened-taken w bytes (event.Done f) = done_in-taken w f bytes (nth w.rec.frames f)
+happened-taken w bytes (event.Ask inc act) = ask-taken w inc act (nth w.instances inc)
 happened-taken w bytes (event.Scribble inc act) = scribble-taken w inc act (nth w.instances inc)
 
 limited-few : (w next : World) (r : Result World Stop) → IfTaken w r → limited w r ≡ Ok next → length next.answers ≤ MOST_EVENTS

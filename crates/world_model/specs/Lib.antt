@@ -1,5 +1,6 @@
 pub mod World
 pub mod Safe
 pub mod Runs
+pub mod GrantRuns
 pub mod StopNames
 pub mod Report

@@ -1,5 +1,6 @@
--- The report of a world, as bytes: a line for each frame, for each object and for each content that was counted.
-use Rattle.std.specs.Prelude.{◌+◌, ◌++◌, ℕ, List, [], ◌∷◌, Option, Some, None, if◌then◌else◌, codes}
+-- The report of a world, as bytes: a line for each frame, for each object, for each activation that has a frame's grant, and
+-- for each content that was counted.
+use Rattle.std.specs.Prelude.{◌+◌, ◌++◌, ℕ, List, [], ◌∷◌, map, Option, Some, None, if◌then◌else◌, codes}
 use Rattle.std.specs.List.{flat_map}
 use Rattle.std.specs.Fmt.{decimal}
 use Rattle.std.specs.Str.{bytes_eq}
@@ -19,7 +20,11 @@ use Rattle.container_model.specs.declared.record.Link.{Link}
 use Rattle.container_model.specs.declared.answer.Done.{Done}
 use Rattle.world_model.specs.declared.logs.ServerDone.{ServerDone}
 use Rattle.text_model.specs.Spelled.{line, hex, name_text, class_text}
-use Rattle.world_model.specs.World.{World}
+use Rattle.server_model.specs.Server.{Activation, holds_of}
+use Rattle.server_model.specs.declared.hold.Hold.{Hold}
+use Rattle.world_model.specs.declared.life.Life.{Life}
+use Rattle.world_model.specs.declared.life.Life.TheVariants as life
+use Rattle.world_model.specs.World.{Instance, World}
 
 -- Frames, by their numbers: who has the frame or is to get it, the number of the last save, and whether there is a file.
 abbrev pub grant_text : GrantState → List ℕ
@@ -90,9 +95,26 @@ container_line d = done_line (codes "container") d.object d.k
 abbrev pub server_line : ServerDone → List ℕ
 server_line d = done_line (codes "server") d.object d.k
 
--- the report of a container's frames and objects, and of both logs
-abbrev pub report_of : List Frame → List Object → List Done → List ServerDone → List ℕ
-report_of frames objects container_done server_done = frame_lines 1 frames ++ flat_map object_line objects ++ flat_map container_line container_done ++ flat_map server_line server_done
+-- Who holds a frame's menus and border: the activations of servers that run which have a grant, by server, then by number.
+unfoldable pub hold_line : ℕ → Hold → List ℕ
+hold_line inc h = line (codes "holds" ∷ codes "server" ∷ decimal inc ∷ codes "act" ∷ decimal h.act ∷ codes "grant" ∷ decimal h.g ∷ [])
+
+abbrev pub holds_while : Life → List Activation → List Hold
+holds_while life.Running acts = holds_of acts
+holds_while life.Ended acts = []
+holds_while life.Reaped acts = []
+
+abbrev pub held_by : Instance → List Hold
+held_by i = holds_while i.life i.core.acts
+
+-- the first of them has incarnation inc
+abbrev pub hold_lines : ℕ → List (List Hold) → List ℕ
+hold_lines inc [] = []
+hold_lines inc (holds ∷ rest) = flat_map (hold_line inc) holds ++ hold_lines (inc + 1) rest
+
+-- the report of a container's frames and objects, of who holds frames, by server, and of both logs
+abbrev pub report_of : List Frame → List Object → List (List Hold) → List Done → List ServerDone → List ℕ
+report_of frames objects holds container_done server_done = frame_lines 1 frames ++ flat_map object_line objects ++ hold_lines 1 holds ++ flat_map container_line container_done ++ flat_map server_line server_done
 
 abbrev pub report : World → List ℕ
-report w = report_of w.rec.frames w.rec.objects w.container_done w.server_done
+report w = report_of w.rec.frames w.rec.objects (map held_by w.instances) w.container_done w.server_done

@@ -5,8 +5,15 @@ use Rattle.wire_msgs.specs.Found.{find, nth}
 use Rattle.wire_msgs.specs.declared.message.Message.{Message}
 use Rattle.wire_msgs.specs.declared.message.Message.TheVariants.{Call, Reply, Write, Ask}
 use Rattle.wire_msgs.specs.declared.operation.Operation.{Operation}
+use Rattle.wire_msgs.specs.declared.operation.Operation.TheVariants.{UiActivate, Close}
 use Rattle.wire_msgs.specs.declared.answer.Answer.{Answer}
 use Rattle.wire_msgs.specs.declared.answer.Answer.TheVariants.{Content}
+use Rattle.wire_msgs.specs.declared.answer.Answer.TheVariants as answer
+use Rattle.object_state.specs.declared.operations.CloseOption.TheVariants.{SaveIfDirty}
+use Rattle.grant_core.specs.declared.grant_states.Claim.{Claim}
+use Rattle.grant_core.specs.declared.grant_states.Tools.{Tools}
+use Rattle.grant_core.specs.declared.grant_states.GrantState.TheVariants.{Held}
+use Rattle.grant_core.specs.Grants.{waiting, who}
 use Rattle.object_state.specs.declared.persist_states.PersistState.TheVariants.{Normal}
 use Rattle.storage_tree.specs.declared.stored.Stored.{Stored}
 use Rattle.file_model.specs.Denotes.{Denotes}
@@ -16,13 +23,15 @@ use Rattle.container_model.specs.Saves.{document_tree}
 use Rattle.container_model.specs.declared.answer.Part.{Part}
 use Rattle.container_model.specs.declared.record.Link.{Link}
 use Rattle.container_model.specs.declared.record.Object.{Object}
+use Rattle.container_model.specs.declared.record.Frame.{Frame}
+use Rattle.world_model.specs.declared.life.Life.TheVariants.{Running}
 use Rattle.world_model.specs.declared.logs.Sent.{Sent}
 use Rattle.world_model.specs.declared.logs.Taken.{Taken}
 use Rattle.world_model.specs.declared.logs.View.{View}
 use Rattle.container_model.specs.declared.answer.Done.{Done}
 use Rattle.world_model.specs.declared.logs.ServerDone.{ServerDone}
 use Rattle.world_model.specs.declared.logs.Document.{Document}
-use Rattle.world_model.specs.World.{World, Instance, counted_document, delivered, done_entry, frame_file}
+use Rattle.world_model.specs.World.{World, Instance, counted_document, delivered, done_entry, frame_file, owner}
 
 -- x stands in the list
 abbrev pub Among : {A : Type 0} → List A → A → Type 0
@@ -66,12 +75,12 @@ ServedOnce [] = ⊤
 ServedOnce (d ∷ ds) = ((e : ServerDone) → Among ds e → IsOther d e) × ServedOnce ds
 
 -- the message that brought a content: a write under this storage grant, or the answer to a close
-abbrev pub Brings : Message → Taken → Type 0
-Brings (Call inc act n op) t = ⊥
-Brings (Reply inc act n (Content content)) t = (inc ≡ t.inc) × (act ≡ t.act)
-Brings (Reply inc act n answer) t = ⊥
-Brings (Write inc act s w content) t = (inc ≡ t.inc) × (act ≡ t.act) × (s ≡ t.s)
-Brings (Ask inc act g) t = ⊥
+abbrev pub Brings : World → Message → Taken → Type 0
+Brings w (Call inc act n op) t = ⊥
+Brings w (Reply inc act n (Content content)) t = (inc ≡ t.inc) × (act ≡ t.act) × WasSent w (Call inc act n (Close SaveIfDirty))
+Brings w (Reply inc act n answer) t = ⊥
+Brings w (Write inc act s number content) t = (inc ≡ t.inc) × (act ≡ t.act) × (s ≡ t.s)
+Brings w (Ask inc act g) t = ⊥
 
 -- A content that was taken came with a message that its server sent while the activation was open, its storage open for
 -- reading and writing, under this storage grant; and the container's record held the same grant open just before it took
@@ -79,10 +88,37 @@ Brings (Ask inc act g) t = ⊥
 pub record IsGranted (w : World) (t : Taken) : Type 0 where
   pub message : Message
   pub delivered : nth (messages w.sent) t.place ≡ Some message
-  pub brings : Brings message t
+  pub brings : Brings w message t
   pub sent : (view : View) × Among w.sent (record { message = message; view = Some view }) × (view.opened ≡ true) × (view.states.persist.state ≡ Normal) × (view.s ≡ t.s)
   pub held_open : t.persist ≡ Normal
   pub unasked : t.awaits_save ≡ false
+
+-- An activation of a server that runs holds its frame: it belongs to an object of the frame, and has a grant.
+pub record HoldsFrame (w : World) (inc act g f : ℕ) : Type 0 where
+  pub instance : Instance
+  pub hosted : nth w.instances inc ≡ Some instance
+  pub runs : instance.life ≡ Running
+  pub activation : Activation
+  pub known : find (is_act act) instance.core.acts ≡ Some activation
+  pub has_grant : activation.g ≡ Some g
+  pub object : Object
+  pub owned : find (is_object (owner w act)) w.rec.objects ≡ Some object
+  pub inside : object.frame ≡ f
+
+-- these tools were the answer to the grant
+pub record WasAnswered (w : World) (inc act g : ℕ) (tools : Tools) : Type 0 where
+  pub n : ℕ
+  pub called : WasSent w (Call inc act n (UiActivate g))
+  pub replied : WasSent w (Reply inc act n (answer.Tools tools.menus tools.border))
+
+-- Its frame names it, as the one that has it or is to get it or to give it up, and not as the one that waits; and where the
+-- frame is held, with the menus and the border that the activation answered to its grant.
+pub record IsHolder (w : World) (inc act g f : ℕ) : Type 0 where
+  pub frame : Frame
+  pub there : nth w.rec.frames f ≡ Some frame
+  pub named : who frame.ui.state ≡ Some (record { object = owner w act; act = act; g = g })
+  pub unwaiting : (claim : Claim) → waiting frame.ui.state ≡ Some claim → claim.act ≢ act
+  pub told : (holder : Claim) (tools : Tools) → frame.ui.state ≡ Held holder tools → WasAnswered w inc act g tools
 
 -- A log of commits: the frame, the number of its save, and the parts of its document.
 pub record Commit : Type 0 where
@@ -132,6 +168,9 @@ pub record Safe (w : World) : Type 0 where
   -- the content that an object's save was answered is the one that its activation keeps for it
   pub answered : (n : ℕ) (l : Link) (content : Stored) → links_of w.rec.objects n ≡ Some l → l.saved ≡ Some content
       → (a : Activation) × (acts_of w.instances l.inc l.act ≡ Some a) × (a.saved ≡ Some content)
+  -- at most one activation of a server that runs holds a frame, and the frame names it
+  pub one_holder : (f inc act g inc' act' g' : ℕ) → HoldsFrame w inc act g f → HoldsFrame w inc' act' g' f → (inc ≡ inc') × (act ≡ act') × (g ≡ g')
+  pub holder : (f inc act g : ℕ) → HoldsFrame w inc act g f → IsHolder w inc act g f
   -- every content that was taken was sent under the storage grant that the record then held open
   pub writes : (t : Taken) → Among w.taken t → IsGranted w t
   -- no save is counted twice, and what a server counts the container has counted, with the same content

@@ -152,6 +152,7 @@ owners_by (command.Save f) = []
 owners_by (command.Delete o) = []
 owners_by (command.Kill inc) = []
 owners_by (command.Close o option) = []
+owners_by (command.Verb o number) = []
 
 abbrev pub commanded : World → Command → Result Took ContainerFault → World
 commanded w c (Err fault) = took w (Err fault)
@@ -249,23 +250,27 @@ abbrev pub deliver : World → ℕ → Option Sent → Result World Stop
 deliver w p None = Err NotEnabled
 deliver w p (Some sent) = with_taken w (taken_at w.rec p sent.message) (delivered w sent.message)
 
--- An activation of a server that runs writes.
-abbrev pub scribbled_by : World → ℕ → ℕ → Instance → Result Told ServerFault → World
-scribbled_by w inc act i (Err fault) = record w { answers = w.answers ++ told.Dropped fault ∷ [] }
-scribbled_by w inc act i (Ok t) = record w {
+-- A message of its own accord that a server that runs sends: an activation writes, or asks to be relieved of its frame.
+abbrev pub spoken_by : World → ℕ → ℕ → Instance → Result Told ServerFault → World
+spoken_by w inc act i (Err fault) = record w { answers = w.answers ++ told.Dropped fault ∷ [] }
+spoken_by w inc act i (Ok t) = record w {
   instances = set_nth w.instances inc (record i { core = t.server });
   sent = w.sent ++ record { message = t.message; view = view_in i.core act } ∷ [];
   answers = w.answers ++ told.Took (record quiet_outcome { sent = places w.sent 1 }) ∷ [];
 }
 
-abbrev pub scribbled : World → ℕ → ℕ → Instance → Life → Result World Stop
-scribbled w inc act i Running = Ok (scribbled_by w inc act i (server.scribble i.core act))
-scribbled w inc act i Ended = Err NotEnabled
-scribbled w inc act i Reaped = Err NotEnabled
+abbrev pub spoken : World → ℕ → ℕ → Instance → Life → Result Told ServerFault → Result World Stop
+spoken w inc act i Running told = Ok (spoken_by w inc act i told)
+spoken w inc act i Ended told = Err NotEnabled
+spoken w inc act i Reaped told = Err NotEnabled
 
 abbrev pub scribble : World → ℕ → ℕ → Option Instance → Result World Stop
 scribble w inc act None = Err NotEnabled
-scribble w inc act (Some i) = scribbled w inc act i i.life
+scribble w inc act (Some i) = spoken w inc act i i.life (server.scribble i.core act)
+
+abbrev pub ask : World → ℕ → ℕ → Option Instance → Result World Stop
+ask w inc act None = Err NotEnabled
+ask w inc act (Some i) = spoken w inc act i i.life (server.ask_deactivate i.core act)
 
 -- A server that runs crashes.
 abbrev pub crashed : World → ℕ → Instance → Life → Result World Stop
@@ -325,6 +330,7 @@ happened w bytes (event.Crash inc) = crash w inc (nth w.instances inc)
 happened w bytes (event.Reap inc) = reap w inc (nth w.instances inc)
 happened w bytes (event.Done f) = done w f bytes
 happened w bytes (event.Scribble inc act) = scribble w inc act (nth w.instances inc)
+happened w bytes (event.Ask inc act) = ask w inc act (nth w.instances inc)
 
 -- no more events than these are taken
 abbrev pub MOST_EVENTS : ℕ
@@ -344,6 +350,7 @@ IsImage w bytes (event.Deliver p) = ⊤
 IsImage w bytes (event.Crash inc) = ⊤
 IsImage w bytes (event.Reap inc) = ⊤
 IsImage w bytes (event.Scribble inc act) = ⊤
+IsImage w bytes (event.Ask inc act) = ⊤
 IsImage w bytes (event.Done f) = (parts : List Part) → image w.rec f ≡ Ok parts → ∥ Denotes bytes (document_tree parts) ∥₁
 
 -- The worlds that these events reach; they differ in the bytes of files alone.

@@ -20,6 +20,8 @@ pub enum Event {
     Done(u32),
     /// An activation of a server writes the content that it has now.
     Scribble(u32, u32),
+    /// An activation of a server asks to be relieved of its frame's menus and border.
+    Ask(u32, u32),
 }
 
 /// Why a run stops before an event.
@@ -66,5 +68,6 @@ pub fn copy_command(alloc: Global, command: &Command) -> Result<Command, AllocEr
         Command::Delete(object) => Ok(Command::Delete(*object)),
         Command::Kill(inc) => Ok(Command::Kill(*inc)),
         Command::Close(object, option) => Ok(Command::Close(*object, *option)),
+        Command::Verb(object, number) => Ok(Command::Verb(*object, *number)),
     }
 }

@@ -1,5 +1,6 @@
-//! Worked runs, computed by the definitions. The function is empty: its contract is the law, which is proved.
+//! Worked runs, computed by the definitions. Each function is empty: its contract is the law, which is proved.
 
+ghost use Rattle.world_model.specs.GrantRuns.{IsGranted};
 ghost use Rattle.world_model.specs.Runs.{IsWorked};
 
 /// A note that is made, edited and saved: what each event is answered, and what is reported. The same where its server
@@ -8,4 +9,10 @@ ghost use Rattle.world_model.specs.Runs.{IsWorked};
 /// runs again.
 pub fn worked_runs()
     ensures { IsWorked }
+{}
+
+/// Objects that take the menus and border of their frame in turn; a server that crashes while its note holds them; a drawing
+/// that gets no border and offers them back; a save of a note that holds them, and its close.
+pub fn worked_grants()
+    ensures { IsGranted }
 {}
