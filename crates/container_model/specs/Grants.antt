@@ -5,13 +5,14 @@ use Rattle.wire_msgs.specs.declared.message.Message.{Message}
 use Rattle.wire_msgs.specs.declared.operation.Operation.{Operation}
 use Rattle.wire_msgs.specs.declared.operation.Operation.TheVariants.{UiActivate}
 use Rattle.grant_core.specs.declared.grant_states.Claim.{Claim}
-use Rattle.grant_core.specs.declared.grant_states.Tools.{Tools}
 use Rattle.grant_core.specs.declared.grant_states.GrantState.{GrantState}
 use Rattle.grant_core.specs.declared.grant_states.GrantState.TheVariants.{Granting, Held, Revoking}
 use Rattle.grant_core.specs.declared.faults.GrantFault.{GrantFault}
 use Rattle.grant_core.specs.declared.faults.GrantFault.TheVariants.{NoToolSpace}
 use Rattle.grant_core.specs.Grants.{Event, Granted, Revoked, Lost, who, waiting}
 use Rattle.grant_core.specs.Frames.{Ui, after, answer}
+use Rattle.container_model.specs.declared.grants.Tells.{Tells}
+use Rattle.container_model.specs.declared.grants.Tells.TheVariants.{Gets, GivesUp}
 use Rattle.container_model.specs.declared.record.Link.{Link}
 use Rattle.container_model.specs.declared.record.Object.{Object}
 use Rattle.container_model.specs.declared.record.Frame.{Frame}
@@ -58,12 +59,7 @@ grant_each r (claim ∷ claims) = further (request r claim.object (UiActivate cl
 abbrev pub regrant : Record → ℕ → Frame → Event → Requested
 regrant r f frame e = grant_each (with_frame r f (moved frame e)) (passed_to frame.ui.state (after frame.ui e).state)
 
--- What an answer tells of the frame's grant: the object has the frame from now on, under this grant, with these menus and
--- this border; or it has given the frame up.
-pub data Tells : Type 0 where
-  Gets : ℕ → Tools → Tells
-  GivesUp : Tells
-
+-- What an answer tells of the frame's grant moves it: the object has the frame from now on, or it has given the frame up.
 abbrev pub event_of : GrantState → Tells → Event
 event_of state (Gets g tools) = Granted g tools
 event_of state GivesUp = Revoked (grant_of state)

@@ -26,7 +26,9 @@ use Rattle.container_model.specs.declared.record.Frame.{Frame}
 use Rattle.container_model.specs.declared.fault.ContainerFault.{ContainerFault}
 use Rattle.container_model.specs.declared.fault.ContainerFault.TheVariants.{NoSuch, WrongLink, Stale, BadAnswer}
 use Rattle.container_model.specs.Record.{Record, Took, counts_none, quiet_answer, acts, sends, is_linked, is_alive, with_frame}
-use Rattle.container_model.specs.Grants.{Regranted, Requested, Tells, Gets, GivesUp, free_grants, moved, regranted, request}
+use Rattle.container_model.specs.declared.grants.Tells.{Tells}
+use Rattle.container_model.specs.declared.grants.Tells.TheVariants.{Gets, GivesUp}
+use Rattle.container_model.specs.Grants.{Regranted, Requested, free_grants, moved, regranted, request}
 use Rattle.container_model.specs.Saves.{settle, settle_actions, kept, kept_in}
 
 -- A link after an answer, the content that is the object's work content from now on, if any, why the object refused, and

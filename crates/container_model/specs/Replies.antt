@@ -11,7 +11,7 @@ use Rattle.container_model.specs.declared.answer.Action.{Action}
 use Rattle.container_model.specs.declared.answer.Action.TheVariants.{Send}
 use Rattle.container_model.specs.declared.fault.ContainerFault.{ContainerFault}
 use Rattle.container_model.specs.Record.{sends}
-use Rattle.container_model.specs.Grants.{Tells}
+use Rattle.container_model.specs.declared.grants.Tells.{Tells}
 use Rattle.container_model.specs.Messages.{Replied, next_link, next_sent}
 
 pub record Resumed : Type 0 where

@@ -5,4 +5,5 @@
 pub mod answer;
 pub mod command;
 pub mod fault;
+pub mod grants;
 pub mod record;

@@ -1,0 +1,12 @@
+//! What an object's answer tells of its frame's grant.
+
+use grant_core::Tools;
+
+/// What an answer tells of the frame's menus and border.
+#[derive(Debug, Clone, Copy, PartialEq, Eq)]
+pub enum Tells {
+    /// The object has the frame from now on, under this grant, with these menus and this border.
+    Gets(u32, Tools),
+    /// The object has given the frame up.
+    GivesUp,
+}
