@@ -33,6 +33,10 @@ pub data AsksInTurn : Links → Links → List Message → Type 0 where
   asks_none : (links after : Links) (more : List Message) → ((o : ℕ) → after o ≡ links o) → more ≡ [] → AsksInTurn links after more
   asks_first : (links between after : Links) (first rest more : List Message) → AsksAll (λ o op. IsQuiet op) links between first → AsksInTurn between after rest → more ≡ first ++ rest → AsksInTurn links after more
 
+-- a step that asks objects in turn, and does nothing else that a server or a link is told by
+abbrev pub IsTurned : Record → Took → Type 0
+IsTurned r t = AsksInTurn (links_of r.objects) (links_of t.rec.objects) (messages_of t.answer.actions) × IsPlain r t
+
 -- A reply that is taken, after which whoever waits for the frame may be told of its grant.
 pub record IsReplied (links after : Links) (acts : Acts) (lives : Lives) (more : List Message) : Type 0 where
   pub between : Links
