@@ -9,19 +9,21 @@ use Rattle.wire_msgs.specs.declared.message.Message.{Message}
 use Rattle.wire_msgs.specs.declared.operation.Operation.{Operation}
 use Rattle.wire_msgs.specs.declared.operation.Operation.TheVariants.{UiActivate}
 use Rattle.grant_core.specs.declared.grant_states.Claim.{Claim}
+use Rattle.grant_core.specs.Grants.{Event}
+use Rattle.grant_core.specs.Frames.{after}
 use Rattle.container_model.specs.declared.grants.Tells.{Tells}
 use Rattle.container_model.specs.declared.record.Link.{Link}
 use Rattle.container_model.specs.declared.record.Object.{Object}
 use Rattle.container_model.specs.declared.record.Frame.{Frame}
-use Rattle.container_model.specs.Record.{Record, is_object, ask, ask_at, ask_each, asked_link, asked_sent}
-use Rattle.container_model.specs.Grants.{Requested, requested, request, grant_each, passed_to, moved, event_of, regranted_by, regranted_in, regranted}
+use Rattle.container_model.specs.Record.{Record, is_object, ask, ask_at, ask_each, asked_link, asked_sent, with_frame}
+use Rattle.container_model.specs.Grants.{requested, request, grant_each, passed_to, moved, event_of, Regranted, regranted_by, regranted_in, regranted}
 use Rattle.container_laws.specs.Steady.{WaitsBehind, Steady}
 use Rattle.container_laws.proofs.SteadyRecords.{if_told}
 use Rattle.container_laws.proofs.SteadyFinds.{find-put_same, find-put_other}
 use Rattle.container_laws.proofs.SteadyTests.{found_numbered}
 use Rattle.world_model.specs.Safe.{Among, link_at, links_of}
-use Rattle.world_facts.specs.Words.{Links}
-use Rattle.world_facts.specs.Shapes.{AskedAt, none, stays, queues, sends as sent, AsksAll, IsQuiet}
+use Rattle.world_facts.specs.Words.{Links, Acts, Lives}
+use Rattle.world_facts.specs.Shapes.{AskedAt, none, stays, queues, sends as sent, AsksAll, IsQuiet, EndsSome}
 use Rattle.world_steps.specs.Steps.{AsksInTurn, asks_none, asks_first}
 use Rattle.world_steps.proofs.Objects.{link_held, found_number}
 use Rattle.world_steps.proofs.Asking.{none_asked, is_asked, unasked_as}
@@ -51,6 +53,12 @@ waits_at Asks before after news (sent l k op b a called lw kw asks q) w m e =
 
 pub waits_asked : (Asks : ℕ → Operation → Type 0) (links after : Links) (more : List Message) → AsksAll Asks links after more → Waits links → Waits after
 waits_asked Asks links after more h w o m e = waits_at (Asks o) (links o) (after o) (h.news o) (h.each o) (w o) m e
+
+pub waits_ended : (links after : Links) (acts : Acts) (lives : Lives) → EndsSome links after acts lives → Waits links → Waits after
+waits_ended links after acts lives h w o l e = elim (h.each o) [
+  | inl same ↦ w o l (sym same ∙ e)
+  | inr over ↦ absurd (let z : None ≡ Some l = sym over.0 ∙ e in cc)
+]
 
 -- the same links, told another way
 asks_from : (a b after : Links) (more : List Message) → ((o : ℕ) → b o ≡ a o) → AsksAll (λ o op. IsQuiet op) b after more → AsksAll (λ o op. IsQuiet op) a after more
@@ -98,7 +106,7 @@ each_turns n (op ∷ ops) l links after q at w here there =
     let now : between n ≡ Some first.link = ap (λ b. if b then Some first.link else links n) (eq-eqb n n refl) in
     let others : (k : ℕ) → k ≢ n → between k ≡ links k = λ k ne. ap (λ b. if b then Some first.link else links k) (ne_eqb k n ne) in
     asks_first links between after first.sent (ask_each first.link ops).sent _ (link_asked links between n l op at w q.0 now others)
-        (each_turns n ops first.link between after q.1 now (asked_waits l op) here (λ k ne. there k ne ∙ sym (others k ne))) refl
+    (each_turns n ops first.link between after q.1 now (asked_waits l op) here (λ k ne. there k ne ∙ sym (others k ne))) refl
 
 -- an object takes the place of the one that bears its number
 pub placed_here : (os : List Object) (n : ℕ) (x a : Object) → find (is_object n) os ≡ Some x → a.number ≡ n → links_of (put (is_object n) a os) n ≡ a.link
@@ -175,4 +183,30 @@ grants_asked (c ∷ cs) r w =
     let v = request r c.object op in
     let asked = request_asks r c.object op w (ui_quiet c.g) in
     asks_first (links_of r.objects) (links_of v.rec.objects) (links_of (grant_each v.rec cs).rec.objects) v.sent (grant_each v.rec cs).sent _ asked
-        (grants_asked cs v.rec (waits_asked (λ o p. IsQuiet p) (links_of r.objects) (links_of v.rec.objects) v.sent asked w)) refl
+    (grants_asked cs v.rec (waits_asked (λ o p. IsQuiet p) (links_of r.objects) (links_of v.rec.objects) v.sent asked w)) refl
+
+-- what is told of a frame's grant moves it, and asks whoever waited
+module _ (r : Record) (f : ℕ) (waits : Waits (links_of r.objects)) where
+  -- a change of the links, where all else of the record stays but for its frames
+  pub record IsRegranted (v : Regranted) : Type 0 where
+    pub asked : AsksInTurn (links_of r.objects) (links_of v.rec.objects) v.sent
+    pub servers : v.rec.servers ≡ r.servers
+    pub last_act : v.rec.last_act ≡ r.last_act
+
+  nothing_regranted : IsRegranted (record { rec = r; sent = []; no_tools = false })
+  nothing_regranted = record { asked = asks_none (links_of r.objects) (links_of r.objects) [] (λ o. refl) refl; servers = refl; last_act = refl }
+
+  regranted_by_event : (frame : Frame) (e : Event) → IsRegranted (regranted_by r f frame e)
+  regranted_by_event frame e =
+      let v = with_frame r f (moved frame e) in
+      let claims = passed_to frame.ui.state (after frame.ui e).state in
+      let rest = grants_keep claims v in
+      record { asked = grants_asked claims v waits; servers = rest.servers; last_act = rest.last_act }
+
+  regranted_at : (told : Tells) (frame : Option Frame) → IsRegranted (regranted_in r f told frame)
+  regranted_at told None = nothing_regranted
+  regranted_at told (Some frame) = regranted_by_event frame (event_of frame.ui.state told)
+
+  pub regrants : (told : Option Tells) → IsRegranted (regranted r f told)
+  regrants None = nothing_regranted
+  regrants (Some told) = regranted_at told (nth r.frames f)

@@ -151,7 +151,7 @@ module _ (r : Record) (n : ℕ) (o : Object) (l : Link) (s : Steady r) (found : 
       let same_frame : Some held.frame ≡ Some frame = sym held.framed ∙ (ap (λ (x : Object). nth r.frames x.frame) same_object ∙ framed) in
       let frame_is : held.frame ≡ frame = cc in
       let shown : IsShown (role_in frame.ui.state o.number) l.states.object =
-          subst (λ (x : Object). IsShown (role_in frame.ui.state x.number) l.states.object) same_object (subst (λ (x : Frame). IsShown (role_in x.ui.state held.object.number) l.states.object) frame_is held.steady.shown) in
+      subst (λ (x : Object). IsShown (role_in frame.ui.state x.number) l.states.object) same_object (subst (λ (x : Frame). IsShown (role_in x.ui.state held.object.number) l.states.object) frame_is held.steady.shown) in
       let active : l.states.object ≡ UiActive = shown_at frame.ui.state l.states.object shown h in
       let none : takes ss ≡ false = no_steps v ss (ap (steps_of v) (sym active) ∙ e) in
       let z : true ≡ false = sym t ∙ none in
@@ -160,7 +160,7 @@ module _ (r : Record) (n : ℕ) (o : Object) (l : Link) (s : Steady r) (found : 
   stepped_turned : (frame : Frame) (v : Option Verb) (ss : List Step) (t : Took) → nth r.frames o.frame ≡ Some frame → steps_of v l.states.object ≡ Some ss → stepping r frame o l ss ≡ Ok t → IsTurned r t
   stepped_turned frame v ss t framed steps e = if_told (λ (x : Result Took ContainerFault). x ≡ Ok t → IsTurned r t) (takes ss) (taking r frame o l ss) (Ok (leaving_made r frame o l ss))
       (λ b g. let made : Ok (taking_made r frame o l ss) ≡ Ok t = (unless_ok (nat_le r.numbers r.last_g || not (holder_has_numbers r (holder_of frame.ui.state))) NumbersSpent _ t g).1 in
-          subst (IsTurned r) (ok_took _ t made) (taking_turned frame ss (not_holder frame v ss framed steps b)))
+      subst (IsTurned r) (ok_took _ t made) (taking_turned frame ss (not_holder frame v ss framed steps b)))
       (λ b g. subst (IsTurned r) (ok_took _ t g) (leaving_turned frame ss)) e
 
   pub steps_turned : (frame : Frame) (v : Option Verb) (steps : Option (List Step)) (t : Took) → nth r.frames o.frame ≡ Some frame → steps_of v l.states.object ≡ steps → verb_steps r frame o l steps ≡ Ok t → IsTurned r t
