@@ -1,6 +1,6 @@
 -- Steps of the container that leave files and what was counted alone.
-use Rattle.std.proofs.Common.{◌≡◌, ◌&&◌, ◌||◌, ◌==◌, ℕ, ℤ, ◌+◌, Bool, true, false, not, List, [], ◌∷◌, ◌++◌, length, map, Option, Some, None, is_some, Result, Ok, Err, refl, ap, ◌∙◌, subst, nat_le, nat_lt, if◌then◌else◌}
-use Rattle.wire_msgs.specs.Found.{find, put, nth}
+use Rattle.std.proofs.Common.{◌≡◌, ◌&&◌, ◌||◌, ◌==◌, ℕ, ℤ, ◌+◌, Bool, true, false, not, List, [], ◌∷◌, length, map, Option, Some, None, is_some, Result, Ok, Err, refl, subst, nat_le, nat_lt, if◌then◌else◌}
+use Rattle.wire_msgs.specs.Found.{find, nth}
 use Rattle.wire_msgs.specs.declared.message.Message.{Message}
 use Rattle.wire_msgs.specs.declared.message.Message.TheVariants.{Call, Reply, Write}
 use Rattle.wire_msgs.specs.declared.message.Message.TheVariants as message

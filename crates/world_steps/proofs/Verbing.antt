@@ -1,10 +1,8 @@
 -- Verbs: the holder of a frame is asked to give it up, and an object is asked the steps of the verb, one after the other.
-use Rattle.std.proofs.Common.{◌≡◌, ◌≢◌, ◌+◌, length, ◌&&◌, ◌||◌, ◌==◌, ℕ, ℤ, Bool, true, false, not, List, [], ◌∷◌, ◌++◌, map, Option, Some, None, Result, Ok, Err, refl, sym, ap, ◌∙◌, inl, inr, subst, if◌then◌else◌, nat_le, eq-eqb}
+use Rattle.std.proofs.Common.{◌≡◌, ◌+◌, length, ◌&&◌, ◌||◌, ℕ, ℤ, true, false, not, List, [], ◌∷◌, ◌++◌, map, Option, Some, None, Result, Ok, refl, sym, ap, ◌∙◌, subst, if◌then◌else◌, nat_le, eq-eqb}
 use Rattle.std.specs.List.{AllByRecursion}
 use Rattle.std.proofs.lemmas.List.{append-nil}
 use Rattle.wire_msgs.specs.Found.{find, put, nth, set_nth}
-use Rattle.wire_msgs.specs.declared.message.Message.{Message}
-use Rattle.wire_msgs.specs.declared.operation.Operation.{Operation}
 use Rattle.wire_msgs.specs.declared.operation.Operation.TheVariants.{UiDeactivate}
 use Rattle.object_state.specs.Verbs.{steps, verb_of}
 use Rattle.object_state.specs.declared.object_states.ObjectState.{ObjectState}
@@ -23,18 +21,17 @@ use Rattle.container_model.specs.declared.fault.ContainerFault.{ContainerFault}
 use Rattle.container_model.specs.declared.fault.ContainerFault.TheVariants.{Busy, InDoubt as Doubtful, NumbersSpent}
 use Rattle.container_model.specs.Record.{Record, Took, acts, counts_none, quiet_answer, sends, with_frame, with_object, has_numbers, is_busy, is_doubtful, is_moving, is_object, is_saving}
 use Rattle.container_model.specs.Grants.{Requested, grant_of, moved, request}
-use Rattle.container_model.specs.Verbs.{operation_of, claim_of, takes, gives_up, left, stepped_link, leaving_made, holder_of, holder_has_numbers, revoked_at, claimed, revoked, steps_now, taking_made, taking, stepping, verb_steps, steps_of, verb_linked, wants_ui, verb_in, verb_at, verb}
+use Rattle.container_model.specs.Verbs.{operation_of, claim_of, takes, gives_up, stepped_link, leaving_made, holder_of, holder_has_numbers, revoked_at, claimed, steps_now, taking_made, taking, stepping, verb_steps, steps_of, verb_linked, wants_ui, verb_in, verb_at, verb}
 use Rattle.container_laws.specs.Roles.{Holding, Other, IsShown, role_in}
 use Rattle.container_laws.specs.Steady.{WaitsBehind, Steady}
 use Rattle.container_laws.proofs.SteadyRecords.{if_told, unless_ok}
 use Rattle.container_laws.proofs.SteadyTests.{found_numbered}
 use Rattle.world_model.specs.World.{messages_of}
 use Rattle.world_model.specs.Safe.{link_at, links_of}
-use Rattle.world_facts.specs.Words.{Links}
-use Rattle.world_facts.specs.Shapes.{AsksAll, IsQuiet}
+use Rattle.world_facts.specs.Shapes.{IsQuiet}
 use Rattle.world_steps.specs.Steps.{IsPlain, AsksInTurn, asks_none, asks_first, IsTurned}
-use Rattle.world_steps.proofs.Objects.{IsHeld, found_held, linked_object, found_number, messages_sends, no_start_sent, no_end_sent}
-use Rattle.world_steps.proofs.Turns.{Waits, steady_waits, each_turns, placed_here, placed_there, KeepsRest, rest_same, request_keeps, request_others, request_asks, turns_join}
+use Rattle.world_steps.proofs.Objects.{found_held, linked_object, messages_sends, no_start_sent, no_end_sent}
+use Rattle.world_steps.proofs.Turns.{steady_waits, each_turns, placed_here, placed_there, KeepsRest, rest_same, request_keeps, request_others, request_asks, turns_join}
 
 pub ok_took : (x y : Took) → ◌≡◌ {A = Result Took ContainerFault} (Ok x) (Ok y) → x ≡ y
 ok_took x y e = cc
