@@ -5,6 +5,7 @@ pub mod Calls
 pub mod Answers
 pub mod Asking
 pub mod Turns
+pub mod Keeping
 pub mod Verbing
 pub mod Relieving
 pub mod Closing
