@@ -1,0 +1,6 @@
+//! What a frame shows, as text.
+#![tactic(auto)]
+
+pub mod cells;
+pub mod screen;
+pub mod strip;
