@@ -7,3 +7,4 @@ pub mod Growing
 pub mod Taken
 pub mod Finished
 pub mod Begun
+pub mod Opened

@@ -3,6 +3,8 @@
 
 mod back;
 mod blob;
+pub mod body;
 pub mod draft;
 mod fields;
 mod made;
+mod opening;
