@@ -72,9 +72,9 @@ held_within : (held more : List ℕ) (f : Frame) (used : ℕ) → shown held ≡
 held_within held more f used none w =
     elim (cases_lt used (length held)) [
       | inl lt ↦ (let front : take used held ≡ spell f = sym (take-append-le used held more (omega arith)) ∙ w.spelled in
-        let all : held ≡ spell f ++ drop used held = sym (take-append-drop used held) ∙ ap (λ (x : List ℕ). x ++ drop used held) front in
-        let told : None ≡ Some BadField = sym none ∙ ap shown all ∙ begun f (drop used held) w.frame in
-        absurd cc)
+          let all : held ≡ spell f ++ drop used held = sym (take-append-drop used held) ∙ ap (λ (x : List ℕ). x ++ drop used held) front in
+          let told : None ≡ Some BadField = sym none ∙ ap shown all ∙ begun f (drop used held) w.frame in
+          absurd cc)
       | inr le ↦ le
     ]
 

@@ -182,7 +182,7 @@ pub(crate) fn feed(
     ensures kept { OnErr result ((rest : List ℕ) → Holds bytes.old rest → Holds bytes.new rest) }
     ensures waiting { OnErr result (waiting.new.items ≡ waiting.old.items) }
 {
-    let before = waiting.len();
+    let old = waiting.len();
     match bytes.take_body() {
         Some(body) => {
             let mut body = body;
@@ -192,7 +192,8 @@ pub(crate) fn feed(
                     Ok(shown)
                 }
                 Ok(None) => {
-                    *bytes = Unfinished::of_body(body);
+                    let grown = Unfinished::of_body(body);
+                    *bytes = grown;
                     Ok(None)
                 }
                 Err(fault) => {
@@ -207,7 +208,7 @@ pub(crate) fn feed(
                 Ok(shown)
             }
             Err(fault) => {
-                waiting.truncate(before);
+                waiting.truncate(old);
                 Err(fault)
             }
         },

@@ -64,11 +64,7 @@ pub struct Draft {
 }
 
 // Puts bytes to the end of the last stream, which lacks so many.
-fn lengthen_last(
-    streams: &mut Vec<Growing>,
-    missing: usize,
-    bytes: &[u8],
-) -> Result<(), AllocError>
+fn lengthen_last(streams: &mut Vec<Growing>, missing: usize, bytes: &[u8]) -> Result<(), AllocError>
     requires { length bytes.now ≤ missing }
     ensures added { OnOk result (streams.new.items ≡ lengthened streams.old.items bytes.now) }
     ensures kept { OnErr result (streams.new.items ≡ streams.old.items) }

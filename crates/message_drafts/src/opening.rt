@@ -153,9 +153,9 @@ fn open_reply(xs: &[u8]) -> Option<(Opening, usize, &[u8])>
     match code {
         AnswerCode::Content => {
             let (count, rest) = match take_count(rest) {
-        Some(read) => read,
-        None => return None,
-    };
+                Some(read) => read,
+                None => return None,
+            };
             Some((Opening::Content(inc, act, n), count, rest))
         }
         _ => None,
