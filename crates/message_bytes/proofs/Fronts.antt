@@ -1,5 +1,5 @@
 -- What stands at the front of bytes.
-use Rattle.std.proofs.Common.{◌≡◌, ◌≢◌, ℕ, suc, zero, ◌+◌, ◌-◌, ◌≤◌, false, cond, List, [], ◌∷◌, ◌++◌, length, take, drop, Option, Some, None, Ok, refl, sym, ap, subst, ◌∙◌, append_assoc, arith, nat_lt}
+use Rattle.std.proofs.Common.{◌≡◌, ◌≢◌, ℕ, suc, zero, ◌+◌, ◌-◌, ◌≤◌, ◌<◌, true, false, cond, rules, List, [], ◌∷◌, ◌++◌, length, take, drop, Option, Some, None, Ok, refl, sym, ap, subst, ◌∙◌, append_assoc, arith, nat_lt}
 use Rattle.std.specs.Prelude.{is_some}
 use Rattle.std.specs.List.{AllByRecursion}
 use Rattle.std.proofs.lemmas.Bool.{le-ltb}
@@ -14,7 +14,8 @@ use Rattle.message_model.specs.Spelling as spelling
 use Rattle.message_model.specs.Spelling.{four_bytes, body, head, spell, joined}
 use Rattle.message_model.specs.Frames.{IsFrame, Reads, number_in, shown, shown_body, shown_length}
 use Rattle.message_model.specs.Reading.{read_body}
-use Rattle.message_bytes.specs.Fronts.{IsHead, BeginsNone, IsFaulty, IsWhole, Keeps, Stands, AreRead, HandsOut, Took, Ends}
+use Rattle.message_bytes.specs.Fronts.{BeginsNone, IsFaulty, IsWhole, Keeps, Stands, AreRead, HandsOut, Took, Leaves, Fed}
+use Rattle.message_bytes.specs.Holding.{IsHead, Rest, Holds}
 use Rattle.message_model.proofs.Fields.{IsBytes, IsBytes-take, IsBytes-drop, length-four_bytes, number_in-four_bytes, four_bytes-number_in}
 use Rattle.message_model.proofs.Bodies.{IsRead, kind_in, kind_in-number, kind_again, same_kind, body_again, body_found}
 use Rattle.message_model.proofs.Lengths.{length-body}
@@ -39,6 +40,17 @@ shown-head k cells rest len four says short enough =
     ∙ ap (λ n. shown_body n rest) says
     ∙ ap (λ b. cond b (Some TooLong) (cond (nat_lt (length rest) len) None (Some BadField))) not_long
     ∙ ap (λ b. cond b None (Some BadField)) all_there
+
+shown-begun : (k : Kind) (cells rest : List ℕ) (len : ℕ) → length cells ≡ 4 → number_in cells ≡ len → len ≤ 1048576 → length rest < len
+    → shown ((79 ∷ 76 ∷ 67 ∷ 77 ∷ 1 ∷ kind_number k ∷ cells) ++ rest) ≡ None
+shown-begun k cells rest len four says short few =
+    let not_long : nat_lt 1048576 len ≡ false = le-ltb _ _ short in
+    let lacks : nat_lt (length rest) len ≡ true = search rules in
+    ap (λ o. cond (is_some o) (shown_length (cells ++ rest)) (Some BadKind)) (kind_again k)
+    ∙ shown_length-cells cells rest four
+    ∙ ap (λ n. shown_body n rest) says
+    ∙ ap (λ b. cond b (Some TooLong) (cond (nat_lt (length rest) len) None (Some BadField))) not_long
+    ∙ ap (λ b. cond b None (Some BadField)) lacks
 
 -- a frame's byte form shows no fault before it ends
 pub begun : (f : Frame) (more : List ℕ) → IsFrame f → shown (spell f ++ more) ≡ Some BadField
@@ -126,6 +138,12 @@ spelled_otherwise k len cells rest more f behind four says there read is_frame e
     let told : None ≡ Some f = sym read ∙ ap (read_body k) bodies ∙ ap (λ j. read_body j (body f)) kinds ∙ body_again f is_frame in
     absurd cc
 
+pub partial_body : (k : Kind) (len : ℕ) (bytes : List ℕ) → IsBytes bytes → IsHead k len bytes → length bytes < 10 + len → shown bytes ≡ None
+partial_body k len bytes are is_head few =
+    let h : Headed k len bytes = headed k len bytes are is_head in
+    let long : 10 ≤ length bytes = is_head.long in
+    ap shown h.parts ∙ shown-begun k h.cells h.rest len h.four h.says h.short (omega (arith, length-drop 10 bytes, ap length h.rest_is))
+
 pub faulty_body : (k : Kind) (len : ℕ) (bytes : List ℕ) → IsBytes bytes → IsHead k len bytes → len ≤ length bytes - 10 → read_body k (take len (drop 10 bytes)) ≡ None → IsFaulty BadField bytes
 faulty_body k len bytes are is_head enough read =
     let h : Headed k len bytes = headed k len bytes are is_head in
@@ -139,7 +157,7 @@ faulty_body k len bytes are is_head enough read =
 
 -- ---- a decoder
 
-pub reads_kept : (fault : Option WireFault) (kept rest fed : List ℕ) (frames : List Frame) → fed ≡ joined frames ++ rest → AllByRecursion IsFrame frames → Keeps fault kept rest → Reads fed frames fault
+pub reads_kept : (fault : Option WireFault) (kept : Rest) (rest fed : List ℕ) (frames : List Frame) → fed ≡ joined frames ++ rest → AllByRecursion IsFrame frames → Keeps fault kept rest → Reads fed frames fault
 reads_kept None kept rest fed frames whole each keeps = record { rest = rest; whole = whole; each = each; last = not_begun rest keeps.1; shows = keeps.1 }
 reads_kept (Some fault) kept rest fed frames whole each keeps = record {
   rest = rest;
@@ -159,7 +177,7 @@ next_some old new f fed taken first bytes fault s =
       rest = s.rest;
       whole = s.whole ∙ ap (λ a. joined a ++ s.rest) moved;
       each = subst (AllByRecursion IsFrame) moved s.each;
-      keeps = subst (λ (e : Option WireFault). Keeps e new.bytes s.rest) fault (subst (λ (b : List ℕ). Keeps old.fault b s.rest) bytes s.keeps);
+      keeps = subst (λ (e : Option WireFault). Keeps e new.bytes s.rest) fault (subst (λ (b : Rest). Keeps old.fault b s.rest) bytes s.keeps);
     } in
     (stands, (new.fault, (new.waiting.items, reads new fed (taken ++ f ∷ []) stands)))
 
@@ -169,7 +187,7 @@ next_none old new fed taken same none bytes fault s =
       rest = s.rest;
       whole = s.whole ∙ ap (λ a. joined (taken ++ a) ++ s.rest) same;
       each = subst (λ (a : List Frame). AllByRecursion IsFrame (taken ++ a)) same s.each;
-      keeps = subst (λ (e : Option WireFault). Keeps e new.bytes s.rest) fault (subst (λ (b : List ℕ). Keeps old.fault b s.rest) bytes s.keeps);
+      keeps = subst (λ (e : Option WireFault). Keeps e new.bytes s.rest) fault (subst (λ (b : Rest). Keeps old.fault b s.rest) bytes s.keeps);
     } in
     let all : taken ++ new.waiting.items ≡ taken = ap (λ a. taken ++ a) none ∙ append-nil taken in
     (stands, subst (λ (a : List Frame). Reads fed a new.fault) all (reads new fed taken stands))
@@ -180,11 +198,11 @@ emptied (x ∷ xs) h = let e : suc (length xs) ≡ length xs = ap length h in ab
 
 -- ---- feeding
 
-joined-append : (fs gs : List Frame) → joined (fs ++ gs) ≡ joined fs ++ joined gs
+pub joined-append : (fs gs : List Frame) → joined (fs ++ gs) ≡ joined fs ++ joined gs
 joined-append [] gs = refl
 joined-append (f ∷ fs) gs = ap (λ a. spell f ++ a) (joined-append fs gs) ∙ sym (append_assoc (spell f) (joined fs) (joined gs))
 
-all_both : (fs gs : List Frame) → AllByRecursion IsFrame fs → AllByRecursion IsFrame gs → AllByRecursion IsFrame (fs ++ gs)
+pub all_both : (fs gs : List Frame) → AllByRecursion IsFrame fs → AllByRecursion IsFrame gs → AllByRecursion IsFrame (fs ++ gs)
 all_both [] gs p q = q
 all_both (f ∷ fs) gs p q = (p.0, all_both fs gs p.1 q)
 
@@ -195,7 +213,7 @@ drop_nil : (m : ℕ) → drop {A = ℕ} m [] ≡ []
 drop_nil zero = refl
 drop_nil (suc m) = refl
 
-drop_more : (n m : ℕ) (xs : List ℕ) → drop (n + m) xs ≡ drop m (drop n xs)
+pub drop_more : (n m : ℕ) (xs : List ℕ) → drop (n + m) xs ≡ drop m (drop n xs)
 drop_more zero m xs = let e : zero + m ≡ m = omega arith in ap (λ k. drop k xs) e
 drop_more (suc n) m [] = let e : suc n + m ≡ suc (n + m) = omega arith in ap (λ k. drop k []) e ∙ sym (drop_nil m)
 drop_more (suc n) m (x ∷ xs) = let e : suc n + m ≡ suc (n + m) = omega arith in ap (λ k. drop k (x ∷ xs)) e ∙ drop_more n m xs
@@ -218,46 +236,45 @@ took_more old now new bytes used n f t w pushed =
 pub took_back : (old now : List Frame) (bytes : List ℕ) (used : ℕ) → Took old now bytes used → take (length old) now ≡ old
 took_back old now bytes used t = ap (take (length old)) t.grew ∙ take_at old t.added (length old) refl
 
-keeps_ends : (fault : Option WireFault) (kept rest : List ℕ) → kept ≡ rest → Ends fault rest → Keeps fault kept rest
-keeps_ends None kept rest same ends = (same, ends)
-keeps_ends (Some fault) kept rest same ends = ends
+pub keeps_none : (fault : Option WireFault) (kept : Rest) (rest : List ℕ) → fault ≡ None → Keeps fault kept rest → Holds kept rest × (shown rest ≡ None)
+keeps_none fault kept rest e keeps = subst (λ (f : Option WireFault). Keeps f kept rest) e keeps
 
-kept_is : (fault : Option WireFault) (kept rest : List ℕ) → fault ≡ None → Keeps fault kept rest → kept ≡ rest
-kept_is None kept rest e keeps = keeps.0
-kept_is (Some fault) kept rest e keeps = absurd cc
-
-pub fed_more : (old new : Decoder) (piece fed : List ℕ) (taken : List Frame) (used : ℕ) → old.fault ≡ None → Took old.waiting.items new.waiting.items (old.bytes ++ piece) used
-    → Ends new.fault (drop used (old.bytes ++ piece)) → new.bytes ≡ drop used (old.bytes ++ piece) → Stands old fed taken → Stands new (fed ++ piece) taken × AreRead (fed ++ piece) taken new.fault
-fed_more old new piece fed taken used none t ends bytes s =
-    let rest : List ℕ = drop used (old.bytes ++ piece) in
+-- a piece that was taken
+pub fed_more : (old new : Decoder) (fault : Option WireFault) (piece fed : List ℕ) (taken : List Frame) → old.fault ≡ None → Fed old.bytes new.bytes old.waiting.items new.waiting.items piece new.fault → new.fault ≡ fault → Stands old fed taken
+    → Stands new (fed ++ piece) taken × AreRead (fed ++ piece) taken fault
+fed_more old new fault piece fed taken none f told s =
     let all : List Frame = taken ++ old.waiting.items in
-    let kept : old.bytes ≡ s.rest = kept_is old.fault old.bytes s.rest none s.keeps in
-    let grown : all ++ t.added ≡ taken ++ new.waiting.items = append_assoc taken old.waiting.items t.added ∙ ap (λ a. taken ++ a) (sym t.grew) in
+    let k = keeps_none old.fault old.bytes s.rest none s.keeps in
+    let l : Leaves old.waiting.items new.waiting.items (s.rest ++ piece) new.bytes new.fault = f s.rest k.0 k.1 in
+    let grown : all ++ l.added ≡ taken ++ new.waiting.items = append_assoc taken old.waiting.items l.added ∙ ap (λ a. taken ++ a) (sym l.grew) in
     let stands : Stands new (fed ++ piece) taken = record {
-      rest = rest;
+      rest = l.rest;
       whole =
-          ap (λ a. a ++ piece) s.whole ∙ append_assoc (joined all) s.rest piece ∙ ap (λ a. joined all ++ (a ++ piece)) (sym kept)
-          ∙ ap (λ a. joined all ++ a) t.parts ∙ sym (append_assoc (joined all) (joined t.added) rest) ∙ ap (λ a. a ++ rest) (sym (joined-append all t.added)) ∙ ap (λ a. joined a ++ rest) grown;
-      each = subst (AllByRecursion IsFrame) grown (all_both all t.added s.each t.each);
-      keeps = keeps_ends new.fault new.bytes rest bytes ends;
+          ap (λ a. a ++ piece) s.whole ∙ append_assoc (joined all) s.rest piece
+          ∙ ap (λ a. joined all ++ a) l.parts ∙ sym (append_assoc (joined all) (joined l.added) l.rest) ∙ ap (λ a. a ++ l.rest) (sym (joined-append all l.added)) ∙ ap (λ a. joined a ++ l.rest) grown;
+      each = subst (AllByRecursion IsFrame) grown (all_both all l.added s.each l.each);
+      keeps = l.keeps;
     } in
-    (stands, (new.waiting.items, reads new (fed ++ piece) taken stands))
+    (stands, (new.waiting.items, subst (λ (x : Option WireFault). Reads (fed ++ piece) (taken ++ new.waiting.items) x) told (reads new (fed ++ piece) taken stands)))
 
-pub fed_nothing : (old new : Decoder) (fed : List ℕ) (taken : List Frame) → new.waiting.items ≡ old.waiting.items → new.bytes ≡ old.bytes → new.fault ≡ old.fault → Stands old fed taken → Stands new fed taken
-fed_nothing old new fed taken waiting bytes fault s = record {
-  rest = s.rest;
-  whole = s.whole ∙ ap (λ a. joined (taken ++ a) ++ s.rest) (sym waiting);
-  each = subst (λ (a : List Frame). AllByRecursion IsFrame (taken ++ a)) (sym waiting) s.each;
-  keeps = subst (λ (e : Option WireFault). Keeps e new.bytes s.rest) (sym fault) (subst (λ (b : List ℕ). Keeps old.fault b s.rest) (sym bytes) s.keeps);
-}
+-- a piece that was refused for want of memory
+pub fed_nothing : (old new : Decoder) (fed : List ℕ) (taken : List Frame) → old.fault ≡ None → new.waiting.items ≡ old.waiting.items → ((rest : List ℕ) → Holds old.bytes rest → Holds new.bytes rest) → new.fault ≡ old.fault → Stands old fed taken → Stands new fed taken
+fed_nothing old new fed taken none waiting bytes fault s =
+    let k = keeps_none old.fault old.bytes s.rest none s.keeps in
+    record {
+      rest = s.rest;
+      whole = s.whole ∙ ap (λ a. joined (taken ++ a) ++ s.rest) (sym waiting);
+      each = subst (λ (a : List Frame). AllByRecursion IsFrame (taken ++ a)) (sym waiting) s.each;
+      keeps = subst (λ (e : Option WireFault). Keeps e new.bytes s.rest) (sym (fault ∙ none)) (bytes s.rest k.0, k.1);
+    }
 
-faulty_more : (fault : WireFault) (rest piece : List ℕ) → IsFaulty fault rest → IsFaulty fault (rest ++ piece)
+pub faulty_more : (fault : WireFault) (rest piece : List ℕ) → IsFaulty fault rest → IsFaulty fault (rest ++ piece)
 faulty_more fault rest piece h = record {
   stays = λ more. ap shown (append_assoc rest piece more) ∙ h.stays (piece ++ more);
   none = λ more f behind is_frame e. h.none (piece ++ more) f behind is_frame (sym (append_assoc rest piece more) ∙ e);
 }
 
-keeps_faulty : (told : Option WireFault) (fault : WireFault) (kept rest piece : List ℕ) → told ≡ Some fault → Keeps told kept rest → Keeps told kept (rest ++ piece)
+keeps_faulty : (told : Option WireFault) (fault : WireFault) (kept : Rest) (rest piece : List ℕ) → told ≡ Some fault → Keeps told kept rest → Keeps told kept (rest ++ piece)
 keeps_faulty None fault kept rest piece e keeps = absurd cc
 keeps_faulty (Some f) fault kept rest piece e keeps = faulty_more f rest piece keeps
 
@@ -270,13 +287,3 @@ fed_faulty d fault piece fed taken e s =
       keeps = keeps_faulty d.fault fault d.bytes s.rest piece e s.keeps;
     } in
     (stands, (d.waiting.items, subst (λ (x : Option WireFault). Reads (fed ++ piece) (taken ++ d.waiting.items) x) e (reads d (fed ++ piece) taken stands)))
-
--- what take_frames gave of all bytes, and what is kept of them then
-pub fed_whole : (old new : Decoder) (fault : Option WireFault) (piece all fed : List ℕ) (taken : List Frame) (used : ℕ) → old.fault ≡ None → all ≡ old.bytes ++ piece
-    → Took old.waiting.items new.waiting.items all used × Ends new.fault (drop used all) → new.bytes ≡ drop used (old.bytes ++ piece) → new.fault ≡ fault → Stands old fed taken
-    → Stands new (fed ++ piece) taken × AreRead (fed ++ piece) taken fault
-fed_whole old new fault piece all fed taken used none e took kept told s =
-    let here : Took old.waiting.items new.waiting.items (old.bytes ++ piece) used × Ends new.fault (drop used (old.bytes ++ piece)) =
-    subst (λ (x : List ℕ). Took old.waiting.items new.waiting.items x used × Ends new.fault (drop used x)) e took in
-    let m = fed_more old new piece fed taken used none here.0 here.1 kept s in
-    (m.0, subst (λ (x : Option WireFault). AreRead (fed ++ piece) taken x) told m.1)

@@ -1,3 +1,4 @@
 pub mod Adding
 pub mod Fronts
-pub mod Holding
+pub mod Bodies
+pub mod Leaving

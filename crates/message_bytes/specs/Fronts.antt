@@ -2,6 +2,8 @@
 use Rattle.std.specs.Prelude.{◌≡◌, ◌≢◌, ◌⊎◌, ◌<◌, ◌≤◌, ℕ, List, [], ◌∷◌, ◌++◌, length, take, drop, Option, Some, None, Result, Ok, Err}
 use Rattle.std.specs.List.{AllByRecursion}
 use Rattle.message_model.specs.declared.codes.Kind.{Kind}
+use Rattle.message_drafts.specs.Opens.{Form}
+use Rattle.message_bytes.specs.Holding.{Holds, IsBody, IsHead, Rest}
 use Rattle.message_bytes.specs.declared.front.Head.{Head}
 use Rattle.message_bytes.specs.declared.front.Head.TheVariants.{Short, Bad, Body}
 use Rattle.message_bytes.specs.declared.front.Front.{Front}
@@ -10,16 +12,8 @@ use Rattle.message_bytes.specs.declared.decoder.Decoder.{Decoder}
 use Rattle.message_model.specs.declared.fault.WireFault.{WireFault}
 use Rattle.message_model.specs.declared.fault.WireFault.TheVariants.{TooLong, BadField, NoMemory}
 use Rattle.message_model.specs.declared.frame.Frame.{Frame}
-use Rattle.message_model.specs.Codes.{kind_number}
 use Rattle.message_model.specs.Frames.{IsFrame, MOST_BODY, Reads, number_in, shown, shown_length}
 use Rattle.message_model.specs.Spelling.{spell, joined}
-
--- A head that is whole: so many bytes of a body of this kind come behind it.
-pub record IsHead (kind : Kind) (len : ℕ) (bytes : List ℕ) : Type 0 where
-  pub long : 10 ≤ length bytes
-  pub parts : take 10 bytes ≡ 79 ∷ 76 ∷ 67 ∷ 77 ∷ 1 ∷ kind_number kind ∷ take 4 (drop 6 bytes)
-  pub says : number_in (take 4 (drop 6 bytes)) ≡ len
-  pub short : len ≤ MOST_BODY
 
 abbrev pub HeadIs : Head → List ℕ → Type 0
 HeadIs Short bytes = shown bytes ≡ None
@@ -54,8 +48,8 @@ FrontIs (front.Whole f n) bytes = IsWhole f n bytes
 FrontIs (front.Faulty fault) bytes = IsFaulty fault bytes
 
 -- what is kept of the bytes behind the last whole frame
-abbrev pub Keeps : Option WireFault → List ℕ → List ℕ → Type 0
-Keeps None kept rest = (kept ≡ rest) × (shown rest ≡ None)
+abbrev pub Keeps : Option WireFault → Rest → List ℕ → Type 0
+Keeps None kept rest = Holds kept rest × (shown rest ≡ None)
 Keeps (Some fault) kept rest = IsFaulty fault rest
 
 -- A decoder that was fed these bytes in all, and handed out these frames.
@@ -92,3 +86,21 @@ pub record Took (old new : List Frame) (bytes : List ℕ) (used : ℕ) : Type 0 
 abbrev pub Ends : Option WireFault → List ℕ → Type 0
 Ends None rest = shown rest ≡ None
 Ends (Some fault) rest = IsFaulty fault rest
+
+-- Frames that were put behind others: those at the front of these bytes; and what is kept of the bytes behind them.
+pub record Leaves (old new : List Frame) (bytes : List ℕ) (kept : Rest) (fault : Option WireFault) : Type 0 where
+  pub added : List Frame
+  pub grew : new ≡ old ++ added
+  pub each : AllByRecursion IsFrame added
+  pub rest : List ℕ
+  pub parts : bytes ≡ joined added ++ rest
+  pub keeps : Keeps fault kept rest
+
+-- the same of a piece behind what was kept
+abbrev pub Fed : Rest → Rest → List Frame → List Frame → List ℕ → Option WireFault → Type 0
+Fed kept after old new piece fault = (rest : List ℕ) → Holds kept rest → shown rest ≡ None → Leaves old new (rest ++ piece) after fault
+
+-- A body of which these bytes came: it goes on, or something stands behind it.
+abbrev pub Grows : {X : Type 0} → (X → Rest) → (X → Option WireFault) → Option X → Form → List Frame → List Frame → List ℕ → Type 0
+Grows kept fault None body old new bytes = (new ≡ old) × IsBody body bytes × (shown bytes ≡ None)
+Grows kept fault (Some x) body old new bytes = Leaves old new bytes (kept x) (fault x)

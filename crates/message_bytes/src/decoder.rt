@@ -1,8 +1,6 @@
 //! Bytes as frames, in whatever pieces they come.
 
-ghost use Rattle.std.specs.Prelude.{◌≡◌, ◌≤◌, drop, length};
-
-use crate::front::take_frames;
+use crate::feeding::feed;
 use crate::unfinished::Unfinished;
 use message_model::fault::WireFault;
 use message_model::frame::Frame;
@@ -33,7 +31,7 @@ impl Decoder {
         Decoder {
             alloc,
             waiting: VecDeque::new(alloc),
-            bytes: Unfinished::new(alloc),
+            bytes: Unfinished::new(),
             fault: None,
         }
     }
@@ -64,26 +62,15 @@ impl Decoder {
             Some(fault) => return Err(fault),
             None => {}
         }
-        let kept = self.bytes.len();
-        let before = self.waiting.len();
-        match self.bytes.add(piece) {
-            Ok(()) => {}
-            Err(_) => return Err(WireFault::NoMemory),
-        }
-        match take_frames(self.alloc, self.bytes.as_slice(), &mut self.waiting) {
-            Ok((used, shown)) => {
-                self.bytes.cut_front(used);
+        match feed(self.alloc, &mut self.bytes, piece, &mut self.waiting) {
+            Ok(shown) => {
                 self.fault = shown;
                 match shown {
                     None => Ok(()),
                     Some(found) => Err(found),
                 }
             }
-            Err(_) => {
-                self.bytes.truncate(kept);
-                self.waiting.truncate(before);
-                Err(WireFault::NoMemory)
-            }
+            Err(_) => Err(WireFault::NoMemory),
         }
     }
 }

@@ -52,8 +52,8 @@ fn length_at(kind: Kind, xs: &[u8]) -> Head
     Head::Body(kind, len)
 }
 
-// What the bytes before a body say.
-fn head_of(xs: &[u8]) -> Head
+/// What the bytes before a body say.
+pub(crate) fn head_of(xs: &[u8]) -> Head
     ensures { HeadIs result xs.now }
 {
     let (magic, rest) = match xs {

@@ -3,6 +3,7 @@
 
 pub mod decoder;
 pub mod encode;
+mod feeding;
 mod front;
 mod unfinished;
 

@@ -1,138 +1,148 @@
-//! The bytes of a frame that isn't whole yet.
+//! A frame of which some bytes came.
 
-ghost use Rattle.std.specs.Prelude.{[], ◌≡◌, ◌≤◌, ◌++◌, OnErr, OnOk, drop, length, take};
+ghost use Rattle.message_bytes.specs.Holding.{Holds, IsBody, MOST_HELD};
+ghost use Rattle.message_model.specs.Frames.{shown};
+ghost use Rattle.std.specs.Prelude.{[], ◌≡◌, ◌≤◌, ◌<◌, ◌+◌, ◌++◌, IfOk, None, Some, length, take};
 
+use crate::front::{Head, head_of};
+use message_drafts::body::Body;
 use std::alloc::{AllocError, Global};
 use std::marker::Model;
 
-/// How many bytes are held without memory: a whole frame, where it has neither a blob nor a content.
-const MOST_HELD: usize = 82;
+/// How many bytes are held as they came: a whole frame, where it has neither a blob nor a content.
+pub(crate) const MOST_HELD: usize = 82;
 
-/// The bytes of a frame that isn't whole yet. The first ones take no memory.
+/// How many bytes stand before a body.
+const HEAD_LEN: usize = 10;
+
+/// A frame of which some bytes came: these bytes, or where it is longer, its body.
 #[derive(Drop)]
 pub(crate) struct Unfinished {
-    // They stand in the vector, or where that has none, in the array.
     held: [u8; MOST_HELD],
     len: usize,
-    more: Vec<u8>,
+    body: Option<Body>,
 }
 
 impl Model for Unfinished {
-    ghost use Rattle.std.specs.Prelude.{List, ℕ, ◌≤◌};
-    ghost use Rattle.message_bytes.specs.Holding.{MOST_HELD, kept};
+    ghost use Rattle.std.specs.Prelude.{take, ◌≤◌};
+    ghost use Rattle.message_bytes.specs.Holding.{MOST_HELD, Rest};
 
-    ghost Value = { List ℕ };
+    ghost Value = { Rest };
 
-    ghost view = { λ b. kept b.len b.held b.more.items };
+    ghost view = { λ u. record { front = take u.len u.held; body = u.body } };
 
-    ghost invariant = { λ b. b.len ≤ MOST_HELD };
+    ghost invariant = { λ u. u.len ≤ MOST_HELD };
 }
 
-// Takes so many bytes away from the front.
-fn drop_front(bytes: &mut Vec<u8>, used: usize)
-    requires { used ≤ length bytes.old.items }
-    ensures { bytes.new.items ≡ drop used bytes.old.items }
+/// The body of a frame of which these bytes came.
+///
+/// Refused for want of memory alone.
+pub(crate) fn body_of(alloc: Global, bytes: &[u8]) -> Result<Body, AllocError>
+    requires long { MOST_HELD ≤ length bytes.now }
+    requires partial { shown bytes.now ≡ None }
+    ensures { IfOk result (λ b. IsBody b bytes.now) }
 {
-    let left = bytes.len() - used;
-    bytes.rotate_left(used);
-    bytes.truncate(left);
+    let (kind, len) = match head_of(bytes) {
+        Head::Body(kind, len) => (kind, len),
+        // So many bytes that show no fault have a head.
+        _ => return Err(AllocError),
+    };
+    let (_, behind) = bytes.split_at(HEAD_LEN);
+    Body::open(alloc, kind, len, behind)
 }
 
-// Puts two pieces into a vector that has nothing.
-fn join(front: &[u8], back: &[u8], bytes: &mut Vec<u8>) -> Result<(), AllocError>
-    requires { bytes.old.items ≡ [] }
-    ensures joined { OnOk result (bytes.new.items ≡ front.now ++ back.now) }
-    ensures none { OnErr result (bytes.new.items ≡ []) }
+// Puts bytes behind those that are held, as many as there is room for: how many.
+fn fill(held: &mut [u8; MOST_HELD], len: usize, bytes: &[u8]) -> usize
+    requires { len ≤ MOST_HELD }
+    ensures within { (result ≤ length bytes.now) × (len + result ≤ MOST_HELD) }
+    ensures full { result < length bytes.now → len + result ≡ MOST_HELD }
+    ensures held { take (len + result) held.new ≡ take len held.old ++ take result bytes.now }
 {
-    bytes.extend_from_slice(front)?;
-    match bytes.extend_from_slice(back) {
-        Ok(()) => Ok(()),
-        Err(fault) => {
-            bytes.clear();
-            Err(fault)
-        }
-    }
+    let n = bytes.len().min(MOST_HELD - len);
+    held[len..len + n].copy_from_slice(&bytes[..n]);
+    n
 }
 
 impl Unfinished {
-    /// None.
-    pub(crate) fn new(alloc: Global) -> Unfinished
-        ensures { result ≡ [] }
+    /// Nothing of a frame.
+    pub(crate) fn new() -> Unfinished
+        ensures { result ≡ record { front = []; body = None } }
     {
         Unfinished {
             held: [0; MOST_HELD],
             len: 0,
-            more: Vec::new(alloc),
+            body: None,
         }
     }
 
-    /// The bytes.
-    pub(crate) fn as_slice(&self) -> &[u8]
-        ensures { result.now ≡ self.now }
+    // So few bytes.
+    fn few(bytes: &[u8]) -> Unfinished
+        requires { length bytes.now ≤ MOST_HELD }
+        ensures { result ≡ record { front = bytes.now; body = None } }
     {
-        if self.more.is_empty() {
-            return &self.held[..self.len];
+        let mut held = [0; MOST_HELD];
+        let len = bytes.len();
+        held[..len].copy_from_slice(bytes);
+        Unfinished {
+            held,
+            len,
+            body: None,
         }
-        &self.more
     }
 
-    /// How many bytes there are.
-    pub(crate) fn len(&self) -> usize
-        ensures { result ≡ length self.now }
+    /// A body.
+    pub(crate) fn of_body(body: Body) -> Unfinished
+        ensures { result ≡ record { front = []; body = Some body } }
     {
-        self.as_slice().len()
+        Unfinished {
+            held: [0; MOST_HELD],
+            len: 0,
+            body: Some(body),
+        }
     }
 
-    /// Adds bytes at the end.
+    /// A frame of which these bytes came.
     ///
-    /// Refused for want of memory alone. Then the bytes are as before.
-    pub(crate) fn add(&mut self, piece: &[u8]) -> Result<(), AllocError>
-        ensures added { OnOk result (self.new ≡ self.old ++ piece.now) }
-        ensures kept { OnErr result (self.new ≡ self.old) }
+    /// Refused for want of memory alone.
+    pub(crate) fn begun(alloc: Global, bytes: &[u8]) -> Result<Unfinished, AllocError>
+        requires { shown bytes.now ≡ None }
+        ensures { IfOk result (λ u. Holds u bytes.now) }
     {
-        if !self.more.is_empty() {
-            return self.more.extend_from_slice(piece);
+        if bytes.len() <= MOST_HELD {
+            return Ok(Unfinished::few(bytes));
         }
-        if piece.len() <= MOST_HELD - self.len {
-            let end = self.len + piece.len();
-            self.held[self.len..end].copy_from_slice(piece);
-            self.len = end;
-            return Ok(());
-        }
-        match join(&self.held[..self.len], piece, &mut self.more) {
-            Ok(()) => {
-                self.len = 0;
-                Ok(())
-            }
-            Err(fault) => Err(fault),
-        }
+        let body = body_of(alloc, bytes)?;
+        Ok(Unfinished::of_body(body))
     }
 
-    /// Keeps so many bytes of the front.
-    pub(crate) fn truncate(&mut self, n: usize)
-        ensures { self.new ≡ take n self.old }
+    /// The bytes that are held.
+    pub(crate) fn as_slice(&self) -> &[u8]
+        ensures { result.now ≡ self.now.front }
     {
-        if self.more.is_empty() {
-            if n < self.len {
-                self.len = n;
-            }
-        } else {
-            self.more.truncate(n);
-            self.len = 0;
-        }
+        &self.held[..self.len]
     }
 
-    /// Takes so many bytes away from the front.
-    pub(crate) fn cut_front(&mut self, used: usize)
-        requires { used ≤ length self.old }
-        ensures { self.new ≡ drop used self.old }
+    /// These bytes, and as many of a piece behind them as there is room for: how many.
+    pub(crate) fn with(&self, piece: &[u8]) -> (Unfinished, usize)
+        ensures within { result.1 ≤ length piece.now }
+        ensures full { result.1 < length piece.now → MOST_HELD ≤ length result.0.front }
+        ensures bytes { result.0 ≡ record { front = self.now.front ++ take result.1 piece.now; body = None } }
     {
-        if self.more.is_empty() {
-            self.held.rotate_left(used);
-            self.len -= used;
-        } else {
-            drop_front(&mut self.more, used);
-            self.len = 0;
-        }
+        let mut held = self.held;
+        let n = fill(&mut held, self.len, piece);
+        let more = Unfinished {
+            held,
+            len: self.len + n,
+            body: None,
+        };
+        (more, n)
+    }
+
+    /// Gives the body away.
+    pub(crate) fn take_body(&mut self) -> Option<Body>
+        ensures given { result ≡ self.old.body }
+        ensures left { self.new ≡ record { front = self.old.front; body = None } }
+    {
+        self.body.take()
     }
 }

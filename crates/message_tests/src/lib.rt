@@ -6,6 +6,8 @@ mod exchange;
 #[cfg(test)]
 mod frames;
 #[cfg(test)]
+mod long_frames;
+#[cfg(test)]
 mod pieces;
 #[cfg(test)]
 mod values;

@@ -48,7 +48,7 @@ fn a_call_comes_byte_by_byte(rt: HostRuntime) -> Result<(), Fail> {
 }
 
 /// The fault that bytes show, fed one by one, and after how many of them.
-fn shown(alloc: Global, bytes: &[u8]) -> (usize, Option<WireFault>) {
+pub(crate) fn shown(alloc: Global, bytes: &[u8]) -> (usize, Option<WireFault>) {
     let mut decoder = Decoder::new(alloc);
     for (i, byte) in bytes.iter().enumerate() {
         match decoder.feed(&[*byte]) {
@@ -125,7 +125,7 @@ fn write(alloc: Global, count: usize) -> Result<Frame, Fail> {
 }
 
 /// Whether a frame comes of bytes in pieces of this length, and is spelled as it came.
-fn comes_in_pieces(alloc: Global, spelled: &[u8], len: usize) -> Result<bool, WireFault>
+pub(crate) fn comes_in_pieces(alloc: Global, spelled: &[u8], len: usize) -> Result<bool, WireFault>
     requires { 0 < len }
 {
     let mut decoder = Decoder::new(alloc);

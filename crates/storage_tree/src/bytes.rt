@@ -1,9 +1,10 @@
 //! Lists of bytes whose copies share their memory.
 
-ghost use Rattle.std.specs.Prelude.{[], ◌≡◌, ◌↔◌, IfOk, IsTrue, length};
+ghost use Rattle.std.specs.Prelude.{[], ◌≡◌, ◌↔◌, IfOk, IsTrue, OnErr, OnOk, length};
 
 use std::alloc::{AllocError, Global};
 use std::marker::Model;
+use std::mem;
 use std::rc::Rc;
 
 /// A list of bytes, as a stream's. Its copies share one buffer.
@@ -47,6 +48,28 @@ impl Bytes {
         Ok(Bytes {
             buffer: Some(Rc::new(alloc, items)?),
         })
+    }
+
+    /// The bytes of a vector, which has none then. It takes the memory of a count, and none where there are no bytes.
+    ///
+    /// Refused for want of memory alone. Then the vector has its bytes still.
+    pub fn take_vec(alloc: Global, items: &mut Vec<u8>) -> Result<Bytes, AllocError>
+        ensures taken { IfOk result (λ b. b ≡ items.old.items) }
+        ensures none { OnOk result (items.new.items ≡ []) }
+        ensures kept { OnErr result (items.new.items ≡ items.old.items) }
+    {
+        if items.is_empty() {
+            return Ok(Bytes { buffer: None });
+        }
+        match Rc::new(alloc, mem::replace(items, Vec::new(alloc))) {
+            Ok(buffer) => Ok(Bytes {
+                buffer: Some(buffer),
+            }),
+            Err(refused) => {
+                *items = refused.value;
+                Err(AllocError)
+            }
+        }
     }
 
     /// A copy of these bytes, with memory of its own.

@@ -1,0 +1,10 @@
+pub mod Streams
+pub mod Plans
+pub mod Steps
+pub mod Bodies
+pub mod Ends
+pub mod Growing
+pub mod Taken
+pub mod Finished
+pub mod Begun
+pub mod Opened
