@@ -54,7 +54,7 @@ module _ (links : Links) (acts after : Acts) (lives : Lives) (sent : List Messag
         pending = λ asked p e. f.calls.pending o inc op asked l at p (subst (λ x. Among sent (Call inc l.act x op)) e mine);
       }
 
-  linked_or_closed : IsLinked links inc act ⊎ IsClosed (acts inc act)
+  pub linked_or_closed : IsLinked links inc act ⊎ IsClosed (acts inc act)
   linked_or_closed = f.unlinked.called inc act n op honest runs call
 
   -- the next call of an activation is the pending one of its link, which is at the activation's states
@@ -74,7 +74,7 @@ module _ (links : Links) (acts after : Acts) (lives : Lives) (sent : List Messag
   next_of o l b p en _ e (ahead y q g el d) = (let z : Some y ≡ Some b = e in let is : y ≡ b = cc in let lb : b.last ≡ l.last = ap (λ (w : Activation). w.last) (sym is) ∙ el in let le : n ≤ l.last = p.bound in absurd (omega arith))
 
   -- an activation that is next was called before, so its operation makes none
-  not_first : (o : ℕ) (l : Link) (b : Activation) → acts inc act ≡ Some b → links o ≡ Some l → n ≡ b.last + 1 → IsNextOf l b → IsFirst op → ⊥
+  pub not_first : (o : ℕ) (l : Link) (b : Activation) → acts inc act ≡ Some b → links o ≡ Some l → n ≡ b.last + 1 → IsNextOf l b → IsFirst op → ⊥
   not_first o l b at lk en x fo = (let one = (ready.first o l op lk x.asked fo).0 in let nl = x.number in let le : 1 ≤ b.last = f.drawn.acts_called inc act b at in absurd (omega arith))
 
   step_next : (o : ℕ) (l : Link) (b : Activation) → IsPending o l → acts inc act ≡ Some b → n ≡ b.last + 1 → Makes b op a r told → InStep l (Some a)

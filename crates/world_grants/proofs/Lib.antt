@@ -1,0 +1,9 @@
+pub mod States
+pub mod Objects
+pub mod Frames
+pub mod Moving
+pub mod Following
+pub mod Stepping
+pub mod Acting
+pub mod Alike
+pub mod Commands
