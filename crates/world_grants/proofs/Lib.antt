@@ -7,3 +7,8 @@ pub mod Stepping
 pub mod Acting
 pub mod Alike
 pub mod Commands
+pub mod Verbs
+pub mod Replies
+pub mod Answering
+pub mod Ending
+pub mod Taking
