@@ -35,14 +35,14 @@ use Rattle.world_model.specs.declared.event.Event.{Event}
 use Rattle.world_model.specs.declared.event.Event.TheVariants as event
 use Rattle.world_model.specs.declared.event.Stop.{Stop}
 use Rattle.world_model.specs.declared.event.Stop.TheVariants.{EventLimit}
-use Rattle.world_model.specs.World.{World, Instance, document_in, empty_world, joined, took, commanded, served, stocked, called_wanting, called_in, called, delivered, taken_at, with_taken, deliver, scribbled_by, scribbled, scribble, crashed, crash, ended, reap, kept_commit, done_taken, done_imaged, done_in, happened, limited, IsImage, is_of, frame_file_in, MOST_EVENTS}
+use Rattle.world_model.specs.World.{World, Instance, document_in, empty_world, joined, took, commanded, served, stocked, called_wanting, called_in, called, delivered, taken_at, with_taken, deliver, spoken_by, spoken, scribble, ask, crashed, crash, ended, reap, kept_commit, done_taken, done_imaged, done_in, happened, limited, IsImage, is_of, frame_file_in, MOST_EVENTS}
 use Rattle.world_model.specs.Safe.{Commit, IsCounted, IsKept}
 use Rattle.container_laws.specs.Steady.{Steady}
 use Rattle.container_laws.proofs.SteadyRecords.{unless_ok}
 use Rattle.world_files.specs.Files.{id_of, CountedBounded, FilesCounted, HasCommits, Files}
 use Rattle.world_facts.proofs.Lookups.{map_map_same, nth_aligned}
 use Rattle.world_files.proofs.Numbering.{numbered}
-use Rattle.world_files.proofs.Quiet.{IsQuiet, start_quiet, run_quiet, edit_quiet, save_quiet, close_quiet, kill_quiet, message_quiet, reap_quiet, id_asked}
+use Rattle.world_files.proofs.Quiet.{IsQuiet, start_quiet, run_quiet, edit_quiet, save_quiet, close_quiet, verb_quiet, kill_quiet, message_quiet, reap_quiet, id_asked}
 use Rattle.world_files.proofs.Bounding.{bounded_same, bounded_framed, bounded_object, bounded_fewer, bounded_committed, among_without}
 use Rattle.world_files.proofs.Commits.{counted_framed, counted_committed}
 use Rattle.world_files.proofs.Filing.{stored_same, stored_framed, stored_committed}
@@ -147,6 +147,7 @@ files_command w (command.Save f) t s k e = files_quiet w t k (save_quiet w.rec f
 files_command w (command.Delete o) t s k e = files_delete w (find (is_object o) w.rec.objects) t k e
 files_command w (command.Kill inc) t s k e = files_quiet w t k (kill_quiet w.rec inc t e)
 files_command w (command.Close o option) t s k e = files_quiet w t k (close_quiet w.rec o option t e)
+files_command w (command.Verb o number) t s k e = files_quiet w t k (verb_quiet w.rec o number t e)
 
 -- deliveries
 files_served : (w : World) (inc act n : ℕ) (i : Instance) (stock : List Kind) (told : Result Served ServerFault) → Files w → Files (served w inc act n i stock told)
@@ -191,19 +192,23 @@ files_deliver : (w : World) (p : ℕ) (sent : Option Sent) (v : World) → Files
 files_deliver w p None v k e = cc
 files_deliver w p (Some sent) v k e = files_logged w (taken_at w.rec p sent.message) (delivered w sent.message) v (λ u g. files_delivered w sent.message u k g) e
 
--- what an activation writes
-files_scribbled_by : (w : World) (inc act : ℕ) (i : Instance) (told : Result Told ServerFault) → Files w → Files (scribbled_by w inc act i told)
-files_scribbled_by w inc act i (Err fault) k = record { counted_bounded = k.counted_bounded; filed = k.filed; commits = k.commits }
-files_scribbled_by w inc act i (Ok t) k = record { counted_bounded = k.counted_bounded; filed = k.filed; commits = k.commits }
+-- what an activation says of its own accord
+files_spoken_by : (w : World) (inc act : ℕ) (i : Instance) (told : Result Told ServerFault) → Files w → Files (spoken_by w inc act i told)
+files_spoken_by w inc act i (Err fault) k = record { counted_bounded = k.counted_bounded; filed = k.filed; commits = k.commits }
+files_spoken_by w inc act i (Ok t) k = record { counted_bounded = k.counted_bounded; filed = k.filed; commits = k.commits }
 
-files_scribbled : (w : World) (inc act : ℕ) (i : Instance) (life : Life) (v : World) → Files w → scribbled w inc act i life ≡ Ok v → Files v
-files_scribbled w inc act i Running v k e = subst Files (ok_is _ v e) (files_scribbled_by w inc act i (server.scribble i.core act) k)
-files_scribbled w inc act i Ended v k e = cc
-files_scribbled w inc act i Reaped v k e = cc
+files_spoken : (w : World) (inc act : ℕ) (i : Instance) (life : Life) (told : Result Told ServerFault) (v : World) → Files w → spoken w inc act i life told ≡ Ok v → Files v
+files_spoken w inc act i Running told v k e = subst Files (ok_is _ v e) (files_spoken_by w inc act i told k)
+files_spoken w inc act i Ended told v k e = cc
+files_spoken w inc act i Reaped told v k e = cc
 
 files_scribble : (w : World) (inc act : ℕ) (i : Option Instance) (v : World) → Files w → scribble w inc act i ≡ Ok v → Files v
 files_scribble w inc act None v k e = cc
-files_scribble w inc act (Some i) v k e = files_scribbled w inc act i i.life v k e
+files_scribble w inc act (Some i) v k e = files_spoken w inc act i i.life (server.scribble i.core act) v k e
+
+files_ask : (w : World) (inc act : ℕ) (i : Option Instance) (v : World) → Files w → ask w inc act i ≡ Ok v → Files v
+files_ask w inc act None v k e = cc
+files_ask w inc act (Some i) v k e = files_spoken w inc act i i.life (server.ask_deactivate i.core act) v k e
 
 -- crashes and reaps
 files_crashed : (w : World) (inc : ℕ) (i : Instance) (life : Life) (v : World) → Files w → crashed w inc i life ≡ Ok v → Files v
@@ -302,6 +307,7 @@ files_happened w bytes (event.Deliver p) v s k im e = files_deliver w p (nth w.s
 files_happened w bytes (event.Crash inc) v s k im e = files_crash w inc (nth w.instances inc) v k e
 files_happened w bytes (event.Reap inc) v s k im e = files_reap w inc (nth w.instances inc) v k e
 files_happened w bytes (event.Scribble inc act) v s k im e = files_scribble w inc act (nth w.instances inc) v k e
+files_happened w bytes (event.Ask inc act) v s k im e = files_ask w inc act (nth w.instances inc) v k e
 files_happened w bytes (event.Done f) v s k im e = files_done_in w f bytes (nth w.rec.frames f) v s k refl im e
 
 pub limited_ok : (w : World) (told : Result World Stop) (v : World) → limited w told ≡ Ok v → told ≡ Ok v

@@ -1,11 +1,14 @@
 -- The objects of a steady record have numbers of their own, which were drawn, and their frames are there.
 use Rattle.std.proofs.Common.{◌≡◌, ◌≢◌, ◌<◌, ◌≤◌, List, [], ◌∷◌, map, sym, ap, ◌∙◌, inl, inr, arith, subst}
+use Rattle.std.specs.Prelude.{IfSome}
 use Rattle.std.specs.List.{AllByRecursion}
 use Rattle.wire_msgs.specs.Found.{nth}
 use Rattle.container_model.specs.declared.record.Object.{Object}
+use Rattle.container_model.specs.declared.record.Frame.{Frame}
 use Rattle.container_model.specs.Record.{Record}
-use Rattle.container_laws.specs.Steady.{EachPair, InOrder, SteadyObject, Steady}
-use Rattle.container_laws.proofs.SteadyRecords.{Held, some_and}
+use Rattle.container_laws.specs.Steady.{EachPair, InOrder, SteadyLink, SteadyObject, Steady}
+use Rattle.container_laws.specs.Roles.{role_in}
+use Rattle.container_laws.proofs.SteadyRecords.{some_and}
 use Rattle.world_model.specs.Safe.{Among}
 use Rattle.world_files.specs.Files.{Id, id_of, Distinct, AreNumbered}
 use Rattle.world_facts.proofs.Lookups.{among_mapped}
@@ -33,6 +36,6 @@ numbered r s = record {
       let le : m.0.number ≤ r.last_object = (each_among (SteadyObject r) r.objects m.0 s.objects m.1).drawn in
       subst (λ n. n ≤ r.last_object) (sym (ap (λ (z : Id). z.number) m.2)) le);
   placed = λ x g. (let m = among_mapped id_of r.objects x g in
-      let p = some_and (Held r m.0.link) (nth r.frames m.0.frame) (each_among (SteadyObject r) r.objects m.0 s.objects m.1).linked in
+      let p = some_and (λ (frame : Frame). IfSome m.0.link (SteadyLink r.servers r.last_act frame.phase frame.k (role_in frame.ui.state m.0.number))) (nth r.frames m.0.frame) (each_among (SteadyObject r) r.objects m.0 s.objects m.1).linked in
       (p.0, ap (λ (z : Id). nth r.frames z.frame) m.2 ∙ p.1));
 }

@@ -18,7 +18,6 @@ use Rattle.container_laws.specs.Steady.{WaitsBehind, Steady}
 use Rattle.container_laws.proofs.EditsTaken.{edited, edit_taken}
 use Rattle.std.proofs.lemmas.Bool.{eqb-true, eqb-false}
 use Rattle.container_laws.proofs.SteadyRecords.{if_told, unless_ok}
-use Rattle.container_laws.proofs.SteadyCommands.{asked_took}
 use Rattle.container_laws.proofs.SteadyTests.{found_numbered}
 use Rattle.container_laws.proofs.SteadyShapes.{asked_of, call_of}
 use Rattle.world_model.specs.World.{messages_of}
@@ -164,6 +163,9 @@ edit_asks r n bytes t s e = edit_asks_at r n bytes (find (is_object n) r.objects
 save_quiet : (k : ℕ) → IsQuiet (Save k)
 save_quiet k = λ j storage e. cc
 
+asked_number : (f : ℕ) (op : Operation) (o : Object) → (asked_object f op o).number ≡ o.number
+asked_number f op o = if_told (λ (z : Object). z.number ≡ o.number) (o.frame == f) (record o { link = asked_link op o.link }) o (λ e. refl) (λ e. refl)
+
 module _ (r : Record) (f : ℕ) (op : Operation) (s : Steady r) (quiet : IsQuiet op) where
   asked_one : (n : ℕ) (o : Object) (x : Option Link) → find (is_object n) r.objects ≡ Some o → o.link ≡ x → AskedAt IsQuiet x (asked_link op x) (asked_sent op x)
   asked_one n o None e q = none refl refl refl
@@ -176,7 +178,7 @@ module _ (r : Record) (f : ℕ) (op : Operation) (s : Steady r) (quiet : IsQuiet
   ]
 
   pub frame_asked : AsksAll (λ o p. IsQuiet p) (links_of r.objects) (links_of (map (asked_object f op) r.objects)) (asked_all f op r.objects)
-  frame_asked = all_mapped (λ o p. IsQuiet p) r.objects (asked_object f op) (asked_of f op) (asked_all f op r.objects) (λ o. (asked_took f op o).number) asked_each (λ m h. who_is_asked r f op m s h)
+  frame_asked = all_mapped (λ o p. IsQuiet p) r.objects (asked_object f op) (asked_of f op) (asked_all f op r.objects) (asked_number f op) asked_each (λ m h. who_is_asked r f op m s h)
 
 save_asks_in : (r : Record) (f : ℕ) (frame : Option Frame) (t : Took) → Steady r → save_at r f frame ≡ Ok t → AsksAll (λ o op. IsQuiet op) (links_of r.objects) (links_of t.rec.objects) (messages_of t.answer.actions) × IsPlain r t
 save_asks_in r f None t s e = cc

@@ -1,30 +1,29 @@
--- Commands that end things: a passive object is deleted, a server is killed, an object is asked to close.
-use Rattle.std.proofs.Common.{◌≡◌, ◌⊎◌, ◌<◌, ◌||◌, ◌==◌, ℕ, Bool, true, false, List, [], ◌∷◌, Option, Some, None, is_some, Result, Ok, Err, refl, sym, ap, ◌∙◌, inl, inr, arith, subst, if◌then◌else◌}
-use Rattle.std.specs.Prelude.{IsSomeAnd}
+-- Commands that end things: a passive object is deleted, a server is killed, an object is closed.
+use Rattle.std.proofs.Common.{◌≡◌, ◌<◌, ◌||◌, ◌==◌, ℕ, Bool, true, false, not, List, [], ◌∷◌, Option, Some, None, is_some, Result, Ok, Err, refl, sym, ap, ◌∙◌, arith, subst, if◌then◌else◌}
 use Rattle.std.specs.List.{AllByRecursion}
 use Rattle.std.proofs.lemmas.Bool.{eqb-true, ne_eqb}
-use Rattle.wire_msgs.specs.Found.{find, put, nth}
-use Rattle.wire_msgs.specs.declared.operation.Operation.TheVariants.{Close}
+use Rattle.wire_msgs.specs.Found.{find, nth}
+use Rattle.object_state.specs.Verbs.{close_steps}
 use Rattle.object_state.specs.declared.operations.CloseOption.{CloseOption}
-use Rattle.grant_core.specs.Grants.{waiting}
+use Rattle.object_state.specs.declared.verbs.Step.{Step}
 use Rattle.container_model.specs.declared.record.Link.{Link}
 use Rattle.container_model.specs.declared.record.Object.{Object}
 use Rattle.container_model.specs.declared.record.Frame.{Frame}
 use Rattle.container_model.specs.declared.answer.Action.TheVariants.{End}
 use Rattle.container_model.specs.declared.fault.ContainerFault.{ContainerFault}
-use Rattle.container_model.specs.declared.fault.ContainerFault.TheVariants.{Busy, InDoubt as Doubtful, NoSuch, WrongState}
-use Rattle.container_model.specs.Record.{Record, Took, acts, counts_none, is_object, is_alive, is_asked, is_claim, is_busy, is_saving, is_doubtful, ask, without_first}
-use Rattle.container_model.specs.Commands.{delete, delete_at, delete_in, delete_made, kill, close, close_at, close_in, close_linked}
-use Rattle.container_laws.specs.Steady.{EachPair, InOrder, IsBeginning, IsRunning, AtFirstCall, PastFirstCall, Steady}
-use Rattle.container_laws.proofs.ClosesTaken.{closing, close_taken}
-use Rattle.container_laws.proofs.SteadyRecords.{or_false, unless_ok}
+use Rattle.container_model.specs.declared.fault.ContainerFault.TheVariants.{Busy, InDoubt as Doubtful, NoSuch, NumbersSpent, WrongState}
+use Rattle.container_model.specs.Record.{Record, Took, acts, counts_none, has_numbers, is_object, is_alive, is_busy, is_saving, is_doubtful, without_first}
+use Rattle.container_model.specs.Commands.{delete, delete_at, delete_in, delete_made, kill}
+use Rattle.container_model.specs.Verbs.{close, close_at, close_in, close_linked, close_steps_made}
+use Rattle.container_laws.specs.Steady.{EachPair, InOrder, Steady}
+use Rattle.container_laws.proofs.SteadyRecords.{unless_ok}
 use Rattle.container_laws.proofs.SteadyTests.{found_numbered, none_of}
 use Rattle.world_model.specs.World.{messages_of}
 use Rattle.world_model.specs.Safe.{link_at, links_of}
 use Rattle.world_facts.specs.Shapes.{AsksAll, IsQuiet}
-use Rattle.world_steps.specs.Steps.{IsPlain}
-use Rattle.world_steps.proofs.Objects.{found_held, messages_sends, no_start_sent, no_end_sent}
-use Rattle.world_steps.proofs.Asking.{none_asked, one_asked}
+use Rattle.world_steps.specs.Steps.{IsPlain, AsksInTurn, IsTurned}
+use Rattle.world_steps.proofs.Asking.{none_asked}
+use Rattle.world_steps.proofs.Verbing.{ok_took, leaving_turned}
 
 -- Delete: no object behind another bears its number
 none_later : (o : Object) (os : List Object) → AllByRecursion (InOrder o) os → find (is_object o.number) os ≡ None
@@ -79,41 +78,25 @@ kill_ends r inc t e = at (is_alive r inc) e
     at true g = cc
     at false g = cc
 
--- Close: nothing is pending, so the object runs, and just the close is asked
-close_quiet : (option : CloseOption) → IsQuiet (Close option)
-close_quiet option = λ k storage e. cc
+-- Close: an object takes the steps that hide it, and then it is asked to close
+close_steps_turned : (r : Record) (n : ℕ) (frame : Frame) (x : Object) (l : Link) (steps : Option (List Step)) (t : Took) → Steady r → find (is_object n) r.objects ≡ Some x → x.link ≡ Some l → close_steps_made r frame x l steps ≡ Ok t → IsTurned r t
+close_steps_turned r n frame x l None t s f xl e = cc
+close_steps_turned r n frame x l (Some steps) t s f xl e = subst (IsTurned r) (ok_took _ t e) (leaving_turned r n x l s f xl frame steps)
 
-running_only : (l : Link) → l.pending ≡ None → AtFirstCall l ⊎ PastFirstCall l.states → IsRunning l.states.object
-running_only l free (inl h) = absurd (subst (λ p. IsSomeAnd p IsBeginning) free h.pending)
-running_only l free (inr h) = h.running
+close_linked_turned : (r : Record) (n : ℕ) (option : CloseOption) (frame : Frame) (x : Object) (link : Option Link) (t : Took) → Steady r → find (is_object n) r.objects ≡ Some x → x.link ≡ link → close_linked r frame x option link ≡ Ok t → IsTurned r t
+close_linked_turned r n option frame x None t s f xl e = cc
+close_linked_turned r n option frame x (Some l) t s f xl e = close_steps_turned r n frame x l (close_steps option l.states.object) t s f xl (unless_ok (not (has_numbers r.numbers l)) NumbersSpent _ t e).1
 
-close_asks_linked : (r : Record) (n : ℕ) (option : CloseOption) (x : Object) (link : Option Link) (t : Took) → Steady r → find (is_object n) r.objects ≡ Some x → x.link ≡ link → is_asked link ≡ false → close_linked r x option link ≡ Ok t
-    → AsksAll (λ o op. IsQuiet op) (links_of r.objects) (links_of t.rec.objects) (messages_of t.answer.actions) × IsPlain r t
-close_asks_linked r n option x None t s f xl free e = cc
-close_asks_linked r n option x (Some l) t s f xl free e =
-    let h = found_held r n l x s f xl in
-    let is : closing r x l option ≡ t = close_taken r x l option t (running_only l (none_of l.pending free) h.steady.first_call) e in
-    let ms = (ask l (Close option)).sent in
-    let b : Object = record x { link = Some (ask l (Close option)).link } in
-    subst (λ (v : Took). AsksAll (λ o op. IsQuiet op) (links_of r.objects) (links_of v.rec.objects) (messages_of v.answer.actions) × IsPlain r v) is (
-      subst (λ v. AsksAll (λ o op. IsQuiet op) (links_of r.objects) (links_of (put (is_object x.number) b r.objects)) v) (sym (messages_sends ms)) (one_asked r n (Close option) x l s f xl (close_quiet option)),
-      record { last_act = refl; servers = refl; starts = λ numbers. no_start_sent numbers ms; ends = no_end_sent ms },
-    )
-
-close_asks_in : (r : Record) (n : ℕ) (option : CloseOption) (x : Object) (frame : Option Frame) (t : Took) → Steady r → find (is_object n) r.objects ≡ Some x → close_in r x option frame ≡ Ok t
-    → AsksAll (λ o op. IsQuiet op) (links_of r.objects) (links_of t.rec.objects) (messages_of t.answer.actions) × IsPlain r t
-close_asks_in r n option x None t s f e = cc
-close_asks_in r n option x (Some frame) t s f e =
+close_in_turned : (r : Record) (n : ℕ) (option : CloseOption) (x : Object) (frame : Option Frame) (t : Took) → Steady r → find (is_object n) r.objects ≡ Some x → close_in r x option frame ≡ Ok t → IsTurned r t
+close_in_turned r n option x None t s f e = cc
+close_in_turned r n option x (Some frame) t s f e =
     let a = unless_ok (is_doubtful frame.phase) Doubtful _ t e in
     let b = unless_ok (is_saving frame.phase || is_busy frame.ui.state x) Busy _ t a.1 in
-    let c = or_false (is_saving frame.phase) (is_busy frame.ui.state x) b.0 in
-    let d = or_false (is_asked x.link) (is_claim x.number (waiting frame.ui.state)) c.1 in
-    close_asks_linked r n option x x.link t s f refl d.0 b.1
+    close_linked_turned r n option frame x x.link t s f refl b.1
 
-close_asks_at : (r : Record) (n : ℕ) (option : CloseOption) (x : Option Object) (t : Took) → Steady r → find (is_object n) r.objects ≡ x → close_at r option x ≡ Ok t
-    → AsksAll (λ o op. IsQuiet op) (links_of r.objects) (links_of t.rec.objects) (messages_of t.answer.actions) × IsPlain r t
-close_asks_at r n option None t s f e = cc
-close_asks_at r n option (Some x) t s f e = close_asks_in r n option x (nth r.frames x.frame) t s f e
+close_at_turned : (r : Record) (n : ℕ) (option : CloseOption) (x : Option Object) (t : Took) → Steady r → find (is_object n) r.objects ≡ x → close_at r option x ≡ Ok t → IsTurned r t
+close_at_turned r n option None t s f e = cc
+close_at_turned r n option (Some x) t s f e = close_in_turned r n option x (nth r.frames x.frame) t s f e
 
-pub close_asks : (r : Record) (n : ℕ) (option : CloseOption) (t : Took) → Steady r → close r n option ≡ Ok t → AsksAll (λ o op. IsQuiet op) (links_of r.objects) (links_of t.rec.objects) (messages_of t.answer.actions) × IsPlain r t
-close_asks r n option t s e = close_asks_at r n option (find (is_object n) r.objects) t s refl e
+pub close_asks : (r : Record) (n : ℕ) (option : CloseOption) (t : Took) → Steady r → close r n option ≡ Ok t → AsksInTurn (links_of r.objects) (links_of t.rec.objects) (messages_of t.answer.actions) × IsPlain r t
+close_asks r n option t s e = close_at_turned r n option (find (is_object n) r.objects) t s refl e

@@ -12,7 +12,7 @@ use Rattle.container_model.specs.declared.answer.Done.{Done}
 use Rattle.container_model.specs.Record.{Record, is_object, asked_link, asked_sent, asked_all}
 use Rattle.container_model.specs.Saves.{cleared, kept, completed, completion, commit_made, done_entry, parts_in, part_of, is_some_name}
 use Rattle.container_laws.specs.Steady.{Steady}
-use Rattle.container_laws.proofs.SteadyCommits.{completed_if, completed_took, commits_answered_contents}
+use Rattle.container_laws.proofs.SteadyCommits.{completed_if, commits_answered_contents}
 use Rattle.container_laws.proofs.SteadyShapes.{asked_of}
 use Rattle.world_model.specs.World.{messages_of}
 use Rattle.world_model.specs.Safe.{Among, link_at, links_of}
@@ -65,7 +65,7 @@ module _ (r : Record) (f : ℕ) (frame : Frame) (s : Steady r) (at : nth r.frame
       → CountsAll (links_of r.objects) (links_of (commit_made r f frame).rec.objects) counted frame.k fresh (messages_of (commit_made r f frame).answer.actions)
   commit_counts counted apart = record {
     tells = subst (λ ms. AsksAll (IsTold (links_of r.objects) frame.k fresh) (links_of r.objects) (links_of (map (completed f frame) r.objects)) ms) (sym (messages_sends (asked_all f op r.objects)))
-        (all_mapped (IsTold (links_of r.objects) frame.k fresh) r.objects (completed f frame) (asked_of f op) (asked_all f op r.objects) (λ o. (completed_took f frame o).number) each (λ m h. who_is_asked r f op m s h));
+        (all_mapped (IsTold (links_of r.objects) frame.k fresh) r.objects (completed f frame) (asked_of f op) (asked_all f op r.objects) (λ o. completed_if (λ (z : Object). z.number ≡ o.number) f frame o (λ e. refl) (λ e. refl)) each (λ m h. who_is_asked r f op m s h));
     apart = apart;
   }
 

@@ -4,6 +4,10 @@ pub mod Instances
 pub mod Calls
 pub mod Answers
 pub mod Asking
+pub mod Turns
+pub mod Keeping
+pub mod Verbing
+pub mod Relieving
 pub mod Closing
 pub mod Taking
 pub mod Running

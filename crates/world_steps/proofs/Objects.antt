@@ -1,5 +1,6 @@
 -- Links by the numbers of their objects, after changes of a record; and what a step's actions send and start.
 use Rattle.std.proofs.Common.{◌≡◌, ◌≢◌, ℕ, ◌+◌, Bool, true, false, List, [], ◌∷◌, ◌++◌, map, Option, Some, None, option_map, refl, sym, ap, ◌∙◌, inl, inr, if◌then◌else◌}
+use Rattle.std.specs.Prelude.{IfSome}
 use Rattle.std.proofs.lemmas.Bool.{eqb-true}
 use Rattle.std.proofs.lemmas.List.{append-nil}
 use Rattle.wire_msgs.specs.Found.{find, put, nth}
@@ -11,9 +12,10 @@ use Rattle.container_model.specs.declared.answer.Action.TheVariants.{Send, Start
 use Rattle.container_model.specs.declared.record.Frame.{Frame}
 use Rattle.container_model.specs.declared.record.Link.{Link}
 use Rattle.container_model.specs.declared.record.Object.{Object}
+use Rattle.container_laws.specs.Roles.{role_in}
 use Rattle.container_laws.specs.Steady.{EachPair, InOrder, SteadyLink, SteadyObject, Steady}
 use Rattle.container_laws.proofs.SteadyLookups.{each_found}
-use Rattle.container_laws.proofs.SteadyRecords.{Held, if_at, some_and}
+use Rattle.container_laws.proofs.SteadyRecords.{if_at, some_and}
 use Rattle.container_laws.proofs.SteadyFinds.{found_by_number, put_by_number, find-put_same, find-put_other, find-map}
 use Rattle.container_laws.proofs.SteadyShapes as laws
 use Rattle.world_model.specs.World.{Instance, messages_of, of_container, started_by, ended_by}
@@ -28,13 +30,13 @@ pub record IsHeld (r : Record) (n : ℕ) (l : Link) : Type 0 where
   pub found : find (is_object n) r.objects ≡ Some object
   pub linked : object.link ≡ Some l
   pub framed : nth r.frames object.frame ≡ Some frame
-  pub steady : SteadyLink r.servers r.last_act frame.phase frame.k l
+  pub steady : SteadyLink r.servers r.last_act frame.phase frame.k (role_in frame.ui.state object.number) l
 
 pub found_held : (r : Record) (n : ℕ) (l : Link) (o : Object) → Steady r → find (is_object n) r.objects ≡ Some o → o.link ≡ Some l → IsHeld r n l
 found_held r n l o s e is =
     let h = each_found (SteadyObject r) (is_object n) r.objects o s.objects e in
-    let f = some_and (Held r o.link) (nth r.frames o.frame) h.linked in
-    record { object = o; frame = f.0; found = e; linked = is; framed = f.1; steady = if_at (SteadyLink r.servers r.last_act f.0.phase f.0.k) o.link l is f.2 }
+    let f = some_and (λ (frame : Frame). IfSome o.link (SteadyLink r.servers r.last_act frame.phase frame.k (role_in frame.ui.state o.number))) (nth r.frames o.frame) h.linked in
+    record { object = o; frame = f.0; found = e; linked = is; framed = f.1; steady = if_at (SteadyLink r.servers r.last_act f.0.phase f.0.k (role_in f.0.ui.state o.number)) o.link l is f.2 }
 
 pub linked_object : (os : List Object) (n : ℕ) (l : Link) → links_of os n ≡ Some l → (o : Object) × (find (is_object n) os ≡ Some o) × (o.link ≡ Some l)
 linked_object os n l e = at (find (is_object n) os) refl e

@@ -1,25 +1,32 @@
--- The end of a server that doesn't run any more: links end.
-use Rattle.std.proofs.Common.{◌≡◌, ◌≢◌, ◌⊎◌, ◌==◌, ℕ, Bool, true, false, [], Option, Some, None, option_map, Result, Ok, Err, refl, sym, ap, ◌∙◌, inl, inr, subst, if◌then◌else◌}
+-- The end of a server that doesn't run any more: links end, and whoever waits for a frame that is free by it is told.
+use Rattle.std.proofs.Common.{◌≡◌, ◌≢◌, ◌⊎◌, ◌==◌, ℕ, Bool, true, false, length, map, Option, Some, None, option_map, Result, Ok, Err, refl, sym, ap, ◌∙◌, inl, inr, subst, if◌then◌else◌}
 use Rattle.std.proofs.lemmas.Bool.{eqb-true}
 use Rattle.wire_msgs.specs.Found.{find}
 use Rattle.container_model.specs.declared.record.Link.{Link}
 use Rattle.container_model.specs.declared.record.Object.{Object}
 use Rattle.container_model.specs.declared.fault.ContainerFault.{ContainerFault}
 use Rattle.container_model.specs.declared.fault.ContainerFault.TheVariants.{NoSuch}
-use Rattle.container_model.specs.Record.{Record, Took, acts, is_object, is_alive}
-use Rattle.container_model.specs.Saves.{settle, settle_actions, kept}
-use Rattle.container_model.specs.Messages.{reaped_object, reaped, on_reap}
-use Rattle.container_laws.proofs.SteadyMessages.{reaped_took}
+use Rattle.container_model.specs.Record.{Record, Took, is_object, is_alive}
+use Rattle.container_model.specs.Grants.{freed_frame, freed_claims}
+use Rattle.container_model.specs.Saves.{settle_actions, kept}
+use Rattle.container_model.specs.Messages.{reaped_object, reaped, reaped_grants, reap_made, on_reap}
+use Rattle.container_laws.specs.Steady.{Steady}
+use Rattle.container_laws.proofs.SteadyRecords.{if_told}
 use Rattle.world_model.specs.declared.life.Life.TheVariants.{Running}
 use Rattle.world_model.specs.World.{messages_of}
 use Rattle.world_model.specs.Safe.{link_at, links_of}
 use Rattle.world_facts.specs.Words.{Acts, Lives, IsClosed}
 use Rattle.world_facts.specs.Shapes.{EndsSome}
 use Rattle.world_facts.proofs.Lookups.{length_set_nth}
-use Rattle.world_steps.specs.Steps.{IsPlain}
-use Rattle.world_steps.proofs.Objects.{link_mapped, messages_settled, no_start_settled, no_end_settled}
+use Rattle.world_steps.specs.Steps.{IsPlain, AsksInTurn, IsReaped}
+use Rattle.world_steps.proofs.Objects.{link_mapped, sent_of, no_start, no_start_settled, no_end, no_end_settled}
+use Rattle.world_steps.proofs.Turns.{Waits, steady_waits, waits_ended, grants_keep, grants_asked}
 
-module _ (r : Record) (acts0 : Acts) (lives : Lives) (inc : ℕ) (stopped : lives inc ≡ Some Running → ⊥) where
+reaped_number : (inc : ℕ) (o : Object) (x : Option Link) → (reaped_object inc o x).number ≡ o.number
+reaped_number inc o None = refl
+reaped_number inc o (Some l) = if_told (λ (z : Object). z.number ≡ o.number) (l.inc == inc) (record o { work = kept o; link = None }) o (λ e. refl) (λ e. refl)
+
+module _ (r : Record) (acts0 : Acts) (lives : Lives) (inc : ℕ) (steady : Steady r) (stopped : lives inc ≡ Some Running → ⊥) where
   abbrev after : Object → Object
   after o = reaped_object inc o o.link
 
@@ -43,18 +50,33 @@ module _ (r : Record) (acts0 : Acts) (lives : Lives) (inc : ℕ) (stopped : live
   over_in (Some o) = over_at o o.link refl
 
   over : EndsSome (links_of r.objects) (links_of (reaped r inc).objects) acts0 lives
-  over = record { each = λ n. subst (λ z. IsOver (links_of r.objects n) z) (sym (link_mapped after r.objects n (λ o. (reaped_took r inc o o.link refl).number))) (over_in (find (is_object n) r.objects)) }
+  over = record { each = λ n. subst (λ z. IsOver (links_of r.objects n) z) (sym (link_mapped after r.objects n (λ o. reaped_number inc o o.link))) (over_in (find (is_object n) r.objects)) }
 
   taken : (b : Bool) (m t : Took) → ◌≡◌ {A = Result Took ContainerFault} (if b then Ok m else Err NoSuch) (Ok t) → m ≡ t
   taken true m t g = cc
   taken false m t g = cc
 
-  pub reap_ends : (t : Took) → on_reap r inc ≡ Ok t → EndsSome (links_of r.objects) (links_of t.rec.objects) acts0 lives × (messages_of t.answer.actions ≡ []) × IsPlain r t
-  reap_ends t e =
-      let v = reaped r inc in
-      let made : Took = record { rec = settle v; answer = acts (settle_actions v); counted = [] } in
-      subst (λ x. EndsSome (links_of r.objects) (links_of x.rec.objects) acts0 lives × (messages_of x.answer.actions ≡ []) × IsPlain r x) (taken (is_alive r inc) made t e) (
-        over,
-        messages_settled 1 v.objects v.frames,
-        record { last_act = refl; servers = length_set_nth r.servers inc true; starts = λ numbers. no_start_settled numbers 1 v.objects v.frames; ends = no_end_settled 1 v.objects v.frames },
+  -- whoever waits for a frame that is free by it is told of its grant
+  made_reaped : IsReaped (links_of r.objects) (links_of (reap_made r inc).rec.objects) acts0 lives (messages_of (reap_made r inc).answer.actions) × IsPlain r (reap_made r inc)
+  made_reaped =
+      let u = reaped r inc in
+      let freed = record u { frames = map (freed_frame inc r.objects) u.frames } in
+      let claims = freed_claims inc r.objects u.frames in
+      let v = reaped_grants r inc in
+      let rest = grants_keep claims freed in
+      let waits : Waits (links_of u.objects) = waits_ended (links_of r.objects) (links_of u.objects) acts0 lives over (steady_waits r steady) in (
+        record {
+          between = links_of u.objects;
+          ends = over;
+          asked = subst (AsksInTurn (links_of u.objects) (links_of v.rec.objects)) (sym (sent_of v.sent 1 v.rec.objects v.rec.frames)) (grants_asked claims freed waits);
+        },
+        record {
+          last_act = rest.last_act;
+          servers = ap length rest.servers ∙ length_set_nth r.servers inc true;
+          starts = λ numbers. no_start numbers v.sent (settle_actions v.rec) (no_start_settled numbers 1 v.rec.objects v.rec.frames);
+          ends = λ is. no_end v.sent (settle_actions v.rec) is (no_end_settled 1 v.rec.objects v.rec.frames is);
+        },
       )
+
+  pub reap_ends : (t : Took) → on_reap r inc ≡ Ok t → IsReaped (links_of r.objects) (links_of t.rec.objects) acts0 lives (messages_of t.answer.actions) × IsPlain r t
+  reap_ends t e = subst (λ (x : Took). IsReaped (links_of r.objects) (links_of x.rec.objects) acts0 lives (messages_of x.answer.actions) × IsPlain r x) (taken (is_alive r inc) (reap_made r inc) t e) made_reaped

@@ -1,5 +1,5 @@
 -- A reply that is taken: it settles the pending operation, which was done, and the next that waits is sent; or the link ends.
-use Rattle.std.proofs.Common.{◌≡◌, ◌≢◌, ◌&&◌, ◌==◌, ℕ, ◌+◌, ◌≤◌, Bool, true, false, List, [], ◌∷◌, ◌++◌, Option, Some, None, is_some, Result, Ok, Err, refl, sym, ap, ◌∙◌, inl, inr, arith, subst, if◌then◌else◌}
+use Rattle.std.proofs.Common.{◌≡◌, ◌≢◌, ◌&&◌, ◌==◌, ℕ, ◌+◌, ◌≤◌, Bool, true, false, List, [], ◌∷◌, ◌++◌, length, Option, Some, None, is_some, Result, Ok, Err, refl, sym, ap, ◌∙◌, inl, inr, arith, subst, if◌then◌else◌}
 use Rattle.std.proofs.lemmas.Bool.{eqb-true}
 use Rattle.std.proofs.lemmas.Bool.Decides.{eqb_tells}
 use Rattle.wire_msgs.specs.Found.{find, put}
@@ -17,11 +17,11 @@ use Rattle.container_model.specs.declared.record.Link.{Link}
 use Rattle.container_model.specs.declared.record.Object.{Object}
 use Rattle.container_model.specs.declared.fault.ContainerFault.{ContainerFault}
 use Rattle.container_model.specs.declared.fault.ContainerFault.TheVariants.{Stale, WrongLink, BadAnswer}
-use Rattle.container_model.specs.Record.{Record, Took, quiet_answer, is_linked, is_link, is_alive, sends}
-use Rattle.container_model.specs.Saves.{settle, settle_actions, kept_in}
-use Rattle.container_model.specs.Messages.{Replied, is_fit, replied, next_at, next_link, next_sent, replied_record, reply_taken, reply_pending, reply_link, reply_found, on_message}
+use Rattle.container_model.specs.Record.{Record, Took, is_linked, is_link, is_alive}
+use Rattle.container_model.specs.Saves.{settle_actions, kept_in}
+use Rattle.container_model.specs.Messages.{Replied, is_fit, replied, next_at, next_link, next_sent, replied_record, replied_grant, reply_made, reply_taken, reply_pending, reply_link, reply_found, on_message}
 use Rattle.container_model.specs.declared.answer.Done.{Done}
-use Rattle.container_laws.specs.Steady.{IsOpenWhileClosing, Steady}
+use Rattle.container_laws.specs.Steady.{IsOpenWhileClosing, WaitsBehind, Steady}
 use Rattle.container_laws.proofs.SteadyCloses.{closes-are_open}
 use Rattle.world_model.specs.World.{messages_of}
 use Rattle.world_model.specs.Safe.{Among, links_of}
@@ -32,9 +32,11 @@ use Rattle.world_facts.specs.Facts.{InStep, not_begun, level, behind, ahead, Did
 use Rattle.world_facts.specs.Shapes.{Settles, SendsNext}
 use Rattle.world_facts.specs.Views.{IsSeen, Views}
 use Rattle.world_facts.proofs.Lookups.{find_passes}
-use Rattle.world_steps.specs.Steps.{IsPlain, IsAnswered, settled, goes_on, ended}
+use Rattle.world_steps.specs.Steps.{IsPlain, IsAnswered, settled, goes_on, ended, IsReplied}
 use Rattle.world_steps.proofs.Objects.{link_was, put_here, put_there, sent_of, no_start, no_start_settled, no_end, no_end_settled}
 use Rattle.world_steps.proofs.Taking.{brought}
+use Rattle.world_steps.proofs.Turns.{Waits, steady_waits, regrants}
+use Rattle.world_steps.proofs.Verbing.{ok_took}
 use Rattle.world_steps.proofs.Answers.{IsSettled, Outcome, settles, gone, reply_outcome}
 
 -- the answer to the pending call of an object
@@ -194,6 +196,23 @@ module _ (r : Record) (acts : Acts) (lives : Lives) (sent : List Message) (owner
     is_shown : Shown (next_link p.link) (next_sent p.link)
     is_shown = (let w = is_ahead in shown w.0 w.1 (reply_outcome h.l h.op answer w.0 p h.told w.1.did))
 
+    -- and then no operation waits where none is pending
+    next_waits : (after : Link) (ws : List Operation) → after.pending ≡ None → after.waiting ≡ ws → WaitsBehind (next_at after ws).link.pending (next_at after ws).link.waiting
+    next_waits after [] free w = subst (λ q. WaitsBehind q after.waiting) (sym free) w
+    next_waits after (op ∷ rest) free w = tt
+
+    link_waits : (a : Activation) → Outcome h.l a p → (m : Link) → next_link p.link ≡ Some m → WaitsBehind m.pending m.waiting
+    link_waits a (settles after e t) m g = (let z : Some (next_at after after.waiting).link ≡ Some m = sym (ap next_link e) ∙ g in
+        let is : (next_at after after.waiting).link ≡ m = cc in
+        subst (λ (y : Link). WaitsBehind y.pending y.waiting) is (next_waits after after.waiting t.pending refl))
+    link_waits a (gone e c) m g = (let z : None ≡ Some m = sym (ap next_link e) ∙ g in cc)
+
+    waits_on : Waits (links_of (objects (next_link p.link)))
+    waits_on k m g = elim (eqb_tells k x.number) [
+      | inl q ↦ (let w = is_ahead in link_waits w.0 (reply_outcome h.l h.op answer w.0 p h.told w.1.did) m (sym (here (next_link p.link)) ∙ (ap (links_of (objects (next_link p.link))) (sym q.1) ∙ g)))
+      | inr q ↦ steady_waits r s k m (sym (there (next_link p.link) k q.1) ∙ g)
+    ]
+
     -- what was answered to a close was sent at the link's states and grant
     pub close_seen : (log : List Sent) (option : CloseOption) → Views (links_of r.objects) acts log → h.l.pending ≡ Some (Close option) → IsSeen log inc act n answer h.l.states h.l.s
     close_seen log option v e =
@@ -214,6 +233,8 @@ module _ (r : Record) (acts : Acts) (lives : Lives) (sent : List Message) (owner
     pub linked : object.link ≡ Some link
     pub inc_is : link.inc ≡ inc
     pub act_is : link.act ≡ act
+    pub pending : link.pending ≡ Some (Close SaveIfDirty)
+    pub number : n ≡ link.last
     pub brings : answer ≡ Content content
     pub seen : IsSeen log inc act n answer link.states link.s
     pub held : IsOpenWhileClosing link
@@ -231,6 +252,8 @@ module _ (r : Record) (acts : Acts) (lives : Lives) (sent : List Message) (owner
         linked = h.is;
         inc_is = name.0;
         act_is = name.1;
+        pending = closes;
+        number = h.number;
         brings = b.2;
         seen = close_seen x p h found log SaveIfDirty v closes;
         held = closes-are_open r (is_linked inc act) x h.l SaveIfDirty s found h.is closes;
@@ -239,9 +262,7 @@ module _ (r : Record) (acts : Acts) (lives : Lives) (sent : List Message) (owner
   closing_taken : (log : List Sent) (x : Object) (q : Result Replied ContainerFault) (t : Took) → find (is_linked inc act) r.objects ≡ Some x → reply_link n answer x.link ≡ q → reply_taken r inc act x q ≡ Ok t → t.answer.taken ≡ true → Views (links_of r.objects) acts log → IsClosing log
   closing_taken log x (Err fault) t found g e taken v = cc
   closing_taken log x (Ok p) t found g e taken v =
-      let u = replied_record r inc act x p in
-      let made : Took = record { rec = settle u; answer = record quiet_answer { taken = is_some p.taken; refused = p.refused; actions = sends (next_sent p.link) ++ settle_actions u }; counted = [] } in
-      let is : made ≡ t = cc in
+      let is : reply_made r inc act x p ≡ t = ok_took (reply_made r inc act x p) t e in
       closing_of log x p (answer_link inc act n x.link answer x p refl g) found (ap (λ (z : Took). z.answer.taken) is ∙ taken) v
 
   closing_found : (log : List Sent) (x : Option Object) (t : Took) → find (is_linked inc act) r.objects ≡ x → reply_found r inc act n answer x ≡ Ok t → t.answer.taken ≡ true → Views (links_of r.objects) acts log → IsClosing log
@@ -257,25 +278,33 @@ module _ (r : Record) (acts : Acts) (lives : Lives) (sent : List Message) (owner
       at false b g = cc
 
   abbrev pub Result_of : Took → Type 0
-  Result_of t = IsAnswered (links_of r.objects) (links_of t.rec.objects) acts lives (messages_of t.answer.actions) × IsPlain r t
+  Result_of t = IsReplied (links_of r.objects) (links_of t.rec.objects) acts lives (messages_of t.answer.actions) × IsPlain r t
+
+  -- the next one that waits is sent, and then whoever waits for the frame may be told of its grant
+  made_shows : (x : Object) (p : Replied) → IsAnswer inc act n answer x p → find (is_linked inc act) r.objects ≡ Some x → Result_of (reply_made r inc act x p)
+  made_shows x p h found =
+      let u = replied_record r inc act x p in
+      let v = replied_grant r inc act x p in
+      let g = regrants u x.frame (waits_on x p h found) p.grant in
+      let ms = next_sent p.link ++ v.sent in (
+        record { between = links_of u.objects; first = next_sent p.link; rest = v.sent; answered = is_shown x p h found; asked = g.asked; joined = sent_of ms 1 v.rec.objects v.rec.frames },
+        record {
+          last_act = g.last_act;
+          servers = ap length g.servers;
+          starts = λ numbers. no_start numbers ms (settle_actions v.rec) (no_start_settled numbers 1 v.rec.objects v.rec.frames);
+          ends = λ is. no_end ms (settle_actions v.rec) is (no_end_settled 1 v.rec.objects v.rec.frames is);
+        },
+      )
 
   taken_shows : (x : Object) (q : Result Replied ContainerFault) (t : Took) → find (is_linked inc act) r.objects ≡ Some x → reply_link n answer x.link ≡ q → reply_taken r inc act x q ≡ Ok t → Result_of t
   taken_shows x (Err fault) t found g e = cc
-  taken_shows x (Ok p) t found g e =
-      let u = replied_record r inc act x p in
-      let made : Took = record { rec = settle u; answer = record quiet_answer { taken = is_some p.taken; refused = p.refused; actions = sends (next_sent p.link) ++ settle_actions u }; counted = [] } in
-      let is : made ≡ t = cc in
-      let ms : messages_of (sends (next_sent p.link) ++ settle_actions u) ≡ next_sent p.link = sent_of (next_sent p.link) 1 u.objects u.frames in
-      subst Result_of is (
-        subst (λ v. IsAnswered (links_of r.objects) (links_of u.objects) acts lives v) (sym ms) (is_shown x p (answer_link inc act n x.link answer x p refl g) found),
-        record { last_act = refl; servers = refl; starts = λ numbers. no_start numbers (next_sent p.link) (settle_actions u) (no_start_settled numbers 1 u.objects u.frames); ends = λ is. no_end (next_sent p.link) (settle_actions u) is (no_end_settled 1 u.objects u.frames is) },
-      )
+  taken_shows x (Ok p) t found g e = subst Result_of (ok_took (reply_made r inc act x p) t e) (made_shows x p (answer_link inc act n x.link answer x p refl g) found)
 
   found_shows : (x : Option Object) (t : Took) → find (is_linked inc act) r.objects ≡ x → reply_found r inc act n answer x ≡ Ok t → Result_of t
   found_shows None t found e = cc
   found_shows (Some x) t found e = taken_shows x (reply_link n answer x.link) t found refl e
 
-  pub reply_answers : (t : Took) → on_message r inc (Reply inc act n answer) ≡ Ok t → IsAnswered (links_of r.objects) (links_of t.rec.objects) acts lives (messages_of t.answer.actions) × IsPlain r t
+  pub reply_answers : (t : Took) → on_message r inc (Reply inc act n answer) ≡ Ok t → IsReplied (links_of r.objects) (links_of t.rec.objects) acts lives (messages_of t.answer.actions) × IsPlain r t
   reply_answers t e = at (inc == inc) (is_alive r inc) e
     where
       at : (a b : Bool) → ◌≡◌ {A = Result Took ContainerFault} (if a then (if b then reply_found r inc act n answer (find (is_linked inc act) r.objects) else Err Stale) else Err WrongLink) (Ok t) → Result_of t

@@ -19,12 +19,14 @@ use Rattle.object_state.specs.declared.persist_states.PersistState.{PersistState
 use Rattle.object_state.specs.declared.persist_states.PersistState.TheVariants.{Unset, Normal, NoScribble}
 use Rattle.object_state.specs.declared.persist_states.PersistState.TheVariants as state
 use Rattle.storage_tree.specs.declared.stored.Stored.{Stored}
+use Rattle.container_model.specs.declared.grants.Tells.{Tells}
+use Rattle.container_model.specs.declared.grants.Tells.TheVariants.{Gets, GivesUp}
 use Rattle.container_model.specs.declared.record.Link.{Link}
 use Rattle.container_model.specs.declared.record.Object.{Object}
 use Rattle.container_model.specs.declared.fault.ContainerFault.{ContainerFault}
 use Rattle.container_model.specs.declared.fault.ContainerFault.TheVariants.{Stale, WrongLink, BadAnswer}
 use Rattle.container_model.specs.Record.{Record, Took, is_linked, is_alive}
-use Rattle.container_model.specs.Messages.{Replied, replied, done, done_link, saved_link, closed_with, next_s, awaits_save, is_open_to, written_object, write_made, write_link, write_found, on_message}
+use Rattle.container_model.specs.Messages.{Replied, replied, done, done_link, saved_link, granted_link, closed_with, next_s, awaits_save, is_open_to, written_object, write_made, write_link, write_found, on_message}
 use Rattle.container_laws.specs.Steady.{Steady}
 use Rattle.world_model.specs.World.{messages_of}
 use Rattle.world_model.specs.Safe.{links_of}
@@ -43,11 +45,11 @@ normal_of state.HandsOff e = cc
 -- Which answers bring a content: that to a close alone.
 done_none : (l : Link) (s : ℕ) (x : Result States StateFault) (p : Replied) → done_link l s x ≡ Ok p → p.taken ≡ None
 done_none l s (Err fault) p e = cc
-done_none l s (Ok v) p e = (let q : record { link = Some (record l { pending = None; states = v; s = s }); taken = None; refused = None } ≡ p = cc in ap (λ (x : Replied). x.taken) (sym q))
+done_none l s (Ok v) p e = (let q : record { link = Some (record l { pending = None; states = v; s = s }); taken = None; refused = None; grant = None } ≡ p = cc in ap (λ (x : Replied). x.taken) (sym q))
 
 saved_none : (l : Link) (s : ℕ) (content : Stored) (x : Result States StateFault) (p : Replied) → saved_link content (done_link l s x) ≡ Ok p → p.taken ≡ None
 saved_none l s content (Err fault) p e = cc
-saved_none l s content (Ok v) p e = (let q : record { link = Some (record l { pending = None; states = v; s = s; saved = Some content }); taken = None; refused = None } ≡ p = cc in ap (λ (x : Replied). x.taken) (sym q))
+saved_none l s content (Ok v) p e = (let q : record { link = Some (record l { pending = None; states = v; s = s; saved = Some content }); taken = None; refused = None; grant = None } ≡ p = cc in ap (λ (x : Replied). x.taken) (sym q))
 
 abbrev Brought : Operation → Answer → Replied → Type 0
 Brought op answer p = is_some p.taken ≡ true → (c : Stored) × (op ≡ Close SaveIfDirty) × (answer ≡ told.Content c)
@@ -58,26 +60,48 @@ none_brought op answer p e h = absurd (let z : false ≡ true = ap is_some (sym 
 done_brought : (l : Link) (op o : Operation) (answer : Answer) (p : Replied) → done l o ≡ Ok p → Brought op answer p
 done_brought l op o answer p e = none_brought op answer p (done_none l (next_s o l.s) (both.step l.states (op_of o)) p e)
 
+granted_none : (l : Link) (s : ℕ) (tells : Tells) (x : Result States StateFault) (p : Replied) → granted_link tells (done_link l s x) ≡ Ok p → p.taken ≡ None
+granted_none l s tells (Err fault) p e = cc
+granted_none l s tells (Ok v) p e = (let q : record { link = Some (record l { pending = None; states = v; s = s }); taken = None; refused = None; grant = Some tells } ≡ p = cc in ap (λ (x : Replied). x.taken) (sym q))
+
+granted_brought : (l : Link) (op : Operation) (tells : Tells) (answer : Answer) (p : Replied) → granted_link tells (done l op) ≡ Ok p → Brought op answer p
+granted_brought l op tells answer p e = none_brought op answer p (granted_none l (next_s op l.s) tells (both.step l.states (op_of op)) p e)
+
 closed_none : (l : Link) (p : Replied) (x : Result States StateFault) → closed_with None x ≡ Ok p → p.taken ≡ None
 closed_none l p (Err fault) e = cc
-closed_none l p (Ok v) e = (let q : record { link = None; taken = None; refused = None } ≡ p = cc in ap (λ (x : Replied). x.taken) (sym q))
+closed_none l p (Ok v) e = (let q : record { link = None; taken = None; refused = None; grant = None } ≡ p = cc in ap (λ (x : Replied). x.taken) (sym q))
 
 pub brought : (l : Link) (op : Operation) (answer : Answer) (p : Replied) → replied l op answer ≡ Ok p → Brought op answer p
 brought l (InitNew class) told.Done p e = done_brought l (InitNew class) (InitNew class) told.Done p e
-brought l (InitNew class) (told.Refused why) p e = none_brought (InitNew class) (told.Refused why) p (let q : record { link = None; taken = None; refused = Some why } ≡ p = cc in ap (λ (x : Replied). x.taken) (sym q))
+brought l (InitNew class) (told.Refused why) p e = none_brought (InitNew class) (told.Refused why) p (let q : record { link = None; taken = None; refused = Some why; grant = None } ≡ p = cc in ap (λ (x : Replied). x.taken) (sym q))
 brought l (InitNew class) (told.Content c) p e = cc
 brought l (InitNew class) (told.Tools menus border) p e = cc
 brought l (Load class content) told.Done p e = done_brought l (Load class content) (Load class content) told.Done p e
-brought l (Load class content) (told.Refused why) p e = none_brought (Load class content) (told.Refused why) p (let q : record { link = None; taken = None; refused = Some why } ≡ p = cc in ap (λ (x : Replied). x.taken) (sym q))
+brought l (Load class content) (told.Refused why) p e = none_brought (Load class content) (told.Refused why) p (let q : record { link = None; taken = None; refused = Some why; grant = None } ≡ p = cc in ap (λ (x : Replied). x.taken) (sym q))
 brought l (Load class content) (told.Content c) p e = cc
 brought l (Load class content) (told.Tools menus border) p e = cc
-brought l InPlace answer p e = cc
-brought l (UiActivate g) answer p e = cc
-brought l UiDeactivate answer p e = cc
-brought l InPlaceDeactivate answer p e = cc
-brought l OpenWindow answer p e = cc
+brought l InPlace told.Done p e = done_brought l InPlace InPlace told.Done p e
+brought l InPlace (told.Refused why) p e = cc
+brought l InPlace (told.Content c) p e = cc
+brought l InPlace (told.Tools menus border) p e = cc
+brought l (UiActivate g) told.Done p e = cc
+brought l (UiActivate g) (told.Refused why) p e = cc
+brought l (UiActivate g) (told.Content c) p e = cc
+brought l (UiActivate g) (told.Tools menus border) p e = granted_brought l (UiActivate g) (Gets g (record { menus = menus; border = border })) (told.Tools menus border) p e
+brought l UiDeactivate told.Done p e = granted_brought l UiDeactivate GivesUp told.Done p e
+brought l UiDeactivate (told.Refused why) p e = cc
+brought l UiDeactivate (told.Content c) p e = cc
+brought l UiDeactivate (told.Tools menus border) p e = cc
+brought l InPlaceDeactivate told.Done p e = done_brought l InPlaceDeactivate InPlaceDeactivate told.Done p e
+brought l InPlaceDeactivate (told.Refused why) p e = cc
+brought l InPlaceDeactivate (told.Content c) p e = cc
+brought l InPlaceDeactivate (told.Tools menus border) p e = cc
+brought l OpenWindow told.Done p e = done_brought l OpenWindow OpenWindow told.Done p e
+brought l OpenWindow (told.Refused why) p e = cc
+brought l OpenWindow (told.Content c) p e = cc
+brought l OpenWindow (told.Tools menus border) p e = cc
 brought l (Edit bytes) told.Done p e = done_brought l (Edit bytes) (Edit bytes) told.Done p e
-brought l (Edit bytes) (told.Refused why) p e = none_brought (Edit bytes) (told.Refused why) p (let q : record { link = Some (record l { pending = None }); taken = None; refused = Some why } ≡ p = cc in ap (λ (x : Replied). x.taken) (sym q))
+brought l (Edit bytes) (told.Refused why) p e = none_brought (Edit bytes) (told.Refused why) p (let q : record { link = Some (record l { pending = None }); taken = None; refused = Some why; grant = None } ≡ p = cc in ap (λ (x : Replied). x.taken) (sym q))
 brought l (Edit bytes) (told.Content c) p e = cc
 brought l (Edit bytes) (told.Tools menus border) p e = cc
 brought l (Save k) told.Done p e = cc

@@ -1,11 +1,11 @@
 -- What a step of a container is, as a list of shapes of change.
-use Rattle.std.specs.Prelude.{◌≡◌, ◌+◌, ℕ, List, [], length}
+use Rattle.std.specs.Prelude.{◌≡◌, ◌+◌, ◌++◌, ℕ, List, [], length}
 use Rattle.wire_msgs.specs.declared.message.Message.{Message}
 use Rattle.container_model.specs.Record.{Record, Took}
 use Rattle.world_model.specs.World.{Instance, messages_of, started_by, ended_by}
 use Rattle.world_model.specs.Safe.{links_of}
 use Rattle.world_facts.specs.Words.{Links, Acts, Lives}
-use Rattle.world_facts.specs.Shapes.{Begins, Settles, SendsNext, EndsSome}
+use Rattle.world_facts.specs.Shapes.{AsksAll, IsQuiet, Begins, Settles, SendsNext, EndsSome}
 
 -- a step that makes no activation, and starts and ends no server
 pub record IsPlain (r : Record) (t : Took) : Type 0 where
@@ -27,3 +27,27 @@ pub data IsAnswered (links after : Links) (acts : Acts) (lives : Lives) (more : 
   settled : (o : ℕ) → Settles links after acts o → more ≡ [] → IsAnswered links after acts lives more
   goes_on : (o : ℕ) (between : Links) → Settles links between acts o → SendsNext between after o more → IsAnswered links after acts lives more
   ended : EndsSome links after acts lives → more ≡ [] → IsAnswered links after acts lives more
+
+-- Operations are asked one after the other, of one object or of several.
+pub data AsksInTurn : Links → Links → List Message → Type 0 where
+  asks_none : (links after : Links) (more : List Message) → ((o : ℕ) → after o ≡ links o) → more ≡ [] → AsksInTurn links after more
+  asks_first : (links between after : Links) (first rest more : List Message) → AsksAll (λ o op. IsQuiet op) links between first → AsksInTurn between after rest → more ≡ first ++ rest → AsksInTurn links after more
+
+-- a step that asks objects in turn, and does nothing else that a server or a link is told by
+abbrev pub IsTurned : Record → Took → Type 0
+IsTurned r t = AsksInTurn (links_of r.objects) (links_of t.rec.objects) (messages_of t.answer.actions) × IsPlain r t
+
+-- A reply that is taken, after which whoever waits for the frame may be told of its grant.
+pub record IsReplied (links after : Links) (acts : Acts) (lives : Lives) (more : List Message) : Type 0 where
+  pub between : Links
+  pub first : List Message
+  pub rest : List Message
+  pub answered : IsAnswered links between acts lives first
+  pub asked : AsksInTurn between after rest
+  pub joined : more ≡ first ++ rest
+
+-- The end of a server: its links go, and then whoever waits for a frame that is free by it is told of its grant.
+pub record IsReaped (links after : Links) (acts : Acts) (lives : Lives) (more : List Message) : Type 0 where
+  pub between : Links
+  pub ends : EndsSome links between acts lives
+  pub asked : AsksInTurn between after more
