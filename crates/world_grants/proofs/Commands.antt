@@ -4,7 +4,6 @@ use Rattle.wire_msgs.specs.Found.{find, put, nth, set_nth}
 use Rattle.wire_msgs.specs.declared.operation.Operation.{Operation}
 use Rattle.embed_core.specs.Kinds.{Kind}
 use Rattle.object_parts.specs.declared.area.Area.{Area}
-use Rattle.container_model.specs.declared.answer.Part.{Part}
 use Rattle.container_model.specs.declared.answer.Action.TheVariants.{End}
 use Rattle.container_model.specs.declared.record.Link.{Link}
 use Rattle.container_model.specs.declared.record.Object.{Object}
@@ -12,7 +11,7 @@ use Rattle.container_model.specs.declared.record.Frame.{Frame}
 use Rattle.container_model.specs.declared.fault.ContainerFault.{ContainerFault}
 use Rattle.container_model.specs.declared.fault.ContainerFault.TheVariants.{NoSuch, Busy, NotRunning, InDoubt, Full, NumbersSpent, WrongState, UnknownClass}
 use Rattle.container_model.specs.Record.{Record, Took, MOST_FRAMES, MOST_OBJECTS, MOST_SERVERS, MARGIN, is_object, is_alive, is_busy, is_moving, is_saving, is_doubtful, count_alive, count_objects, asked_link, asked_object, acts, counts_none}
-use Rattle.container_model.specs.Saves.{settle, kept, cleared, completion, completed, counted_object, commit_made, committed_frame, commit_fitting, commit_at, commit_done, image, is_committing}
+use Rattle.container_model.specs.Saves.{settle, kept, cleared, completion, completed, counted_object, commit_made, committed_frame}
 use Rattle.container_model.specs.Commands.{is_named, is_size, new, new_made, is_empty_area, insert, insert_at, insert_made, new_object, start, start_made, run, run_at, run_in, run_object, run_made, is_known_class, edit, edit_at, edit_in, edit_linked, edit_unless, edit_fault, edit_made, any_busy, all_have_numbers, saving_frame, save, save_at, save_made, delete, delete_at, delete_in, delete_made, kill}
 use Rattle.container_laws.specs.Steady.{Steady}
 use Rattle.container_laws.proofs.SteadyRecords.{unless_ok}
@@ -143,18 +142,5 @@ completed_keeps f frame o =
     counted_keeps true = record { number = refl; frame = refl }
     counted_keeps false = record { number = refl; frame = refl }
 
-commit_leaves_at : (r : Record) (f : ℕ) (frame : Option Frame) (t : Took) → nth r.frames f ≡ frame → commit_at r f frame ≡ Ok t → Leaves r t.rec
-commit_leaves_at r f None t at e = cc
-commit_leaves_at r f (Some frame) t at e = by_phase (is_committing frame.phase) (image r f) e
-  where
-    by_phase : (b : Bool) (parts : Result (List Part) ContainerFault) → (if b then commit_fitting r f frame parts else Err WrongState) ≡ Ok t → Leaves r t.rec
-    by_phase true (Err fault) g = cc
-    by_phase true (Ok parts) g = (let is : commit_made r f frame ≡ t = cc in
-        subst (λ (v : Took). Leaves r v.rec) is (
-          kept_stay r.objects _ (map_kept _ r.objects (λ o. completed_keeps f frame o)),
-          one_moves NoClaim NoTools r.frames f frame (committed_frame frame) at (same frame.ui.state),
-        ))
-    by_phase false parts g = cc
-
-pub commit_leaves : (r : Record) (f : ℕ) (t : Took) → commit_done r f ≡ Ok t → Leaves r t.rec
-commit_leaves r f t e = commit_leaves_at r f (nth r.frames f) t refl e
+pub commit_leaves : (r : Record) (f : ℕ) (frame : Frame) → nth r.frames f ≡ Some frame → Leaves r (commit_made r f frame).rec
+commit_leaves r f frame at = (kept_stay r.objects _ (map_kept _ r.objects (λ o. completed_keeps f frame o)), one_moves NoClaim NoTools r.frames f frame (committed_frame frame) at (same frame.ui.state))

@@ -13,7 +13,8 @@ use Rattle.container_model.specs.declared.command.Command.TheVariants as command
 use Rattle.container_model.specs.declared.fault.ContainerFault.{ContainerFault}
 use Rattle.container_model.specs.declared.fault.ContainerFault.TheVariants.{Stale, WrongLink, BadAnswer}
 use Rattle.container_model.specs.Record.{Record, Took, is_object, is_linked, is_alive}
-use Rattle.container_model.specs.Saves.{commit_done}
+use Rattle.container_model.specs.declared.record.Frame.{Frame}
+use Rattle.container_model.specs.Saves.{commit_made}
 use Rattle.container_model.specs.Commands.{on_command, kind_of}
 use Rattle.container_model.specs.Messages.{is_open_to, written_object, write_made, write_link, write_found, on_message, on_ask}
 use Rattle.container_laws.specs.Steady.{Steady}
@@ -48,8 +49,8 @@ command_leaves r (command.Verb o number) t s e = verb_leaves r o (verb_of number
 pub command_moves : (r : Record) (c : Command) (t : Took) → Steady r → on_command r c ≡ Ok t → MovesBy r t.rec []
 command_moves r c t s e = left_moves r t.rec s (command_leaves r c t s e)
 
-pub commit_moves : (r : Record) (f : ℕ) (t : Took) → Steady r → commit_done r f ≡ Ok t → MovesBy r t.rec []
-commit_moves r f t s e = left_moves r t.rec s (commit_leaves r f t e)
+pub committed_moves : (r : Record) (f : ℕ) (frame : Frame) → Steady r → nth r.frames f ≡ Some frame → MovesBy r (commit_made r f frame).rec []
+committed_moves r f frame s at = left_moves r (commit_made r f frame).rec s (commit_leaves r f frame at)
 
 -- a write
 module _ (r : Record) (inc act s w : ℕ) (content : Stored) (t : Took) where

@@ -1,0 +1,125 @@
+-- An activation that has a grant is named by its object's frame: so at most one has a frame.
+use Rattle.std.proofs.Common.{◌≡◌, ◌≢◌, ℕ, List, Option, Some, None, refl, sym, ap, ◌∙◌, inl, inr, subst}
+use Rattle.wire_msgs.specs.Found.{find, nth}
+use Rattle.wire_msgs.specs.declared.message.Message.TheVariants.{Call, Reply}
+use Rattle.wire_msgs.specs.declared.operation.Operation.TheVariants.{UiActivate}
+use Rattle.wire_msgs.specs.declared.answer.Answer.TheVariants as told
+use Rattle.grant_core.specs.declared.grant_states.Claim.{Claim}
+use Rattle.grant_core.specs.declared.grant_states.Tools.{Tools}
+use Rattle.grant_core.specs.declared.grant_states.GrantState.{GrantState}
+use Rattle.grant_core.specs.declared.grant_states.GrantState.TheVariants.{Free, Granting, Held, Revoking}
+use Rattle.grant_core.specs.Grants.{IsApart, waiting, who}
+use Rattle.server_model.specs.Server.{Activation}
+use Rattle.container_model.specs.declared.record.Link.{Link}
+use Rattle.container_model.specs.declared.record.Object.{Object}
+use Rattle.container_model.specs.declared.record.Frame.{Frame}
+use Rattle.container_model.specs.Record.{is_object}
+use Rattle.container_laws.specs.Roles.{Holding, IsClaim, role_in}
+use Rattle.container_laws.proofs.SteadyRecords.{if_at}
+use Rattle.world_model.specs.declared.life.Life.TheVariants.{Running}
+use Rattle.world_model.specs.World.{World, Instance, nth_or_zero, owner}
+use Rattle.world_model.specs.Safe.{Among, link_at, links_of, act_at, acts_of, messages, HoldsFrame, IsHolder, WasAnswered}
+use Rattle.world_facts.specs.Words.{life_at, lives_of, IsLinked}
+use Rattle.world_grants.specs.Grants.{Names, WasTold, roles_of}
+use Rattle.world_grants.proofs.Moving.{in_frame}
+use Rattle.world_grants.proofs.States.{named_is, is_holding}
+use Rattle.world_safety.specs.Holding.{AgreesIn}
+
+claim_is : (c : Claim) (o a g : ℕ) → c.object ≡ o → c.act ≡ a → c.g ≡ g → c ≡ record { object = o; act = a; g = g }
+claim_is c o a g eo ea eg = ap (λ x. record { object = x; act = c.act; g = c.g }) eo ∙ (ap (λ x. record { object = o; act = x; g = c.g }) ea ∙ ap (λ x. record { object = o; act = a; g = x }) eg)
+
+-- whoever waits has another activation
+waits_apart : (s : GrantState) (c next : Claim) → IsApart s → who s ≡ Some c → waiting s ≡ Some next → next.act ≢ c.act
+waits_apart Free c next h e w = cc
+waits_apart (Granting holder) c next h e w = cc
+waits_apart (Held holder tools) c next h e w = cc
+waits_apart (Revoking holder None) c next h e w = cc
+waits_apart (Revoking holder (Some x)) c next h e w = (let xn : x ≡ next = cc in let hc : holder ≡ c = cc in
+    λ q. h.1 (ap (λ (z : Claim). z.act) xn ∙ (q ∙ ap (λ (z : Claim). z.act) (sym hc))))
+
+module _ (w : World) (h : AgreesIn w) where
+  -- the frame's claim, and the link of its object
+  record IsNamed (inc act g f : ℕ) : Type 0 where
+    number : ℕ
+    link : Link
+    frame : Frame
+    claim : Claim
+    owned : owner w act ≡ number
+    linked : links_of w.rec.objects number ≡ Some link
+    inc_is : link.inc ≡ inc
+    act_is : link.act ≡ act
+    there : nth w.rec.frames f ≡ Some frame
+    role : roles_of w.rec number ≡ role_in frame.ui.state number
+    named : who frame.ui.state ≡ Some claim
+    object_is : claim.object ≡ number
+    claimed : claim.act ≡ act
+    g_is : claim.g ≡ g
+
+  named_in : (inc act g f : ℕ) → HoldsFrame w inc act g f → IsNamed inc act g f
+  named_in inc act g f x =
+      let at : acts_of w.instances inc act ≡ Some x.activation = ap (act_at act) x.hosted ∙ x.known in
+      let runs : lives_of w.instances inc ≡ Some Running = ap life_at x.hosted ∙ ap Some x.runs in
+      let ui = h.grants.g_is_ui inc act g x.activation tt at x.has_grant in
+      let k : IsLinked (links_of w.rec.objects) inc act = elim (h.facts.unlinked.known inc act x.activation tt runs at) [
+        | inl k ↦ k
+        | inr c ↦ absurd (let z : None ≡ Some ui.0.0 = sym c ∙ ui.0.1 in cc)
+      ] in
+      let o = k.0 in
+      let l = k.1 in
+      let owned : owner w act ≡ o = ap nth_or_zero (subst (λ a. nth w.owners a ≡ Some o) k.4 (h.facts.drawn.calls_named o l k.2)) in
+      let names : Names (roles_of w.rec o) g = h.grants.holder_named o g l x.activation k.2 tt (ap (λ i. acts_of w.instances i l.act) k.3 ∙ (ap (acts_of w.instances inc) k.4 ∙ at)) x.has_grant in
+      let found : find (is_object o) w.rec.objects ≡ Some x.object = ap (λ n. find (is_object n) w.rec.objects) (sym owned) ∙ x.owned in
+      let i = in_frame w.rec o x.object h.steady found in
+      let same : i.object ≡ x.object = (let z : Some i.object ≡ Some x.object = sym i.found ∙ found in cc) in
+      let there : nth w.rec.frames f ≡ Some i.frame = ap (nth w.rec.frames) (sym (ap (λ (z : Object). z.frame) same ∙ x.inside)) ∙ i.inside in
+      let c = named_is i.frame.ui.state o g (subst (λ r. Names r g) i.role names) in
+      let claim : IsClaim w.rec f c.0 = if_at (IsClaim w.rec f) (who i.frame.ui.state) c.0 c.1 (h.steady.grants f i.frame there).holder in
+      let cl : claim.link ≡ l = (let z : Some claim.link ≡ Some l = sym (ap link_at claim.found ∙ claim.linked) ∙ (ap (links_of w.rec.objects) c.2 ∙ k.2) in cc) in
+      record {
+        number = o;
+        link = l;
+        frame = i.frame;
+        claim = c.0;
+        owned = owned;
+        linked = k.2;
+        inc_is = k.3;
+        act_is = k.4;
+        there = there;
+        role = i.role;
+        named = c.1;
+        object_is = c.2;
+        claimed = sym claim.act ∙ (ap (λ (z : Link). z.act) cl ∙ k.4);
+        g_is = c.3;
+      }
+
+  answered : (inc act g f : ℕ) (n : IsNamed inc act g f) (holder : Claim) (tools : Tools) → n.frame.ui.state ≡ Held holder tools → WasAnswered w inc act g tools
+  answered inc act g f n holder tools e =
+      let hc : holder ≡ n.claim = (let z : Some holder ≡ Some n.claim = ap who (sym e) ∙ n.named in cc) in
+      let role : roles_of w.rec n.number ≡ Holding g tools = n.role ∙ (ap (λ s. role_in s n.number) (e ∙ ap (λ c. Held c tools) hc) ∙ (ap (role_in (Held n.claim tools)) (sym n.object_is) ∙ (is_holding n.claim tools ∙ ap (λ x. Holding x tools) n.g_is))) in
+      let t : WasTold (messages w.sent) inc act g tools = subst (λ i. WasTold (messages w.sent) i act g tools) n.inc_is (subst (λ a. WasTold (messages w.sent) n.link.inc a g tools) n.act_is (h.grants.held_told n.number g tools n.link n.linked tt role)) in
+      record { n = t.n; called = t.called; replied = t.replied }
+
+  pub holder : (f inc act g : ℕ) → HoldsFrame w inc act g f → IsHolder w inc act g f
+  holder f inc act g x =
+      let n = named_in inc act g f x in
+      record {
+        frame = n.frame;
+        there = n.there;
+        named = n.named ∙ ap Some (claim_is n.claim (owner w act) act g (n.object_is ∙ sym n.owned) n.claimed n.g_is);
+        unwaiting = λ claim e q. waits_apart n.frame.ui.state n.claim claim (h.steady.grants f n.frame n.there).apart n.named e (q ∙ sym n.claimed);
+        told = λ holder tools e. answered inc act g f n holder tools e;
+      }
+
+  pub one_holder : (f inc act g inc' act' g' : ℕ) → HoldsFrame w inc act g f → HoldsFrame w inc' act' g' f → (inc ≡ inc') × (act ≡ act') × (g ≡ g')
+  one_holder f inc act g inc' act' g' x y =
+      let n = named_in inc act g f x in
+      let m = named_in inc' act' g' f y in
+      let frames : n.frame ≡ m.frame = (let z : Some n.frame ≡ Some m.frame = sym n.there ∙ m.there in cc) in
+      let claims : n.claim ≡ m.claim = (let z : Some n.claim ≡ Some m.claim = sym n.named ∙ (ap (λ (k : Frame). who k.ui.state) frames ∙ m.named) in cc) in
+      let numbers : n.number ≡ m.number = sym n.object_is ∙ (ap (λ (c : Claim). c.object) claims ∙ m.object_is) in
+      let links : n.link ≡ m.link = (let z : Some n.link ≡ Some m.link = sym n.linked ∙ (ap (links_of w.rec.objects) numbers ∙ m.linked) in cc) in
+      (
+        sym n.inc_is ∙ (ap (λ (l : Link). l.inc) links ∙ m.inc_is),
+        sym n.claimed ∙ (ap (λ (c : Claim). c.act) claims ∙ m.claimed),
+        sym n.g_is ∙ (ap (λ (c : Claim). c.g) claims ∙ m.g_is),
+      )
