@@ -137,7 +137,7 @@ agrees_crash w inc None v h at e = cc
 agrees_crash w inc (Some i) v h at e = agrees_crashed w inc i i.life v h at e
 
 reap_joined : (w : World) (inc : ℕ) (t : Took) → AgreesIn w → (lives_of w.instances inc ≡ Some Running → ⊥) → on_reap w.rec inc ≡ Ok t → AgreesIn (joined w t)
-reap_joined w inc t h over e = reaped_joined w t h (on_reap_keeps w.rec inc t h.steady e) (reap_moves w.rec inc t h.steady e) (reap_ends w.rec h.steady (acts_of w.instances) (lives_of w.instances) inc over t e)
+reap_joined w inc t h over e = reaped_joined w t h (on_reap_keeps w.rec inc t h.steady e) (reap_moves w.rec inc t h.steady e) (reap_ends w.rec (acts_of w.instances) (lives_of w.instances) inc h.steady over t e)
 
 agrees_ended : (w : World) (inc : ℕ) (i : Instance) (life : Life) (v : World) → AgreesIn w → nth w.instances inc ≡ Some i → ended w inc i life ≡ Ok v → AgreesIn v
 agrees_ended w inc i Running v h at e = cc

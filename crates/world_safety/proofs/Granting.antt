@@ -250,8 +250,8 @@ module _ (w : World) (h : AgreesIn w) (p : ℕ) (x : Sent) (at : nth w.sent p �
       })
 
   -- and the close was sent that was answered
-  close_called : (inc act n : ℕ) (answer : Answer) → Among (messages w.sent) (Reply inc act n answer)
-      → IsClosing w.rec (acts_of w.instances) (lives_of w.instances) (messages w.sent) w.owners w.rec.last_act w.container_done w.server_done inc act n answer h.steady h.facts tt _ w.sent → WasSent w (Call inc act n (Close SaveIfDirty))
+  close_called : (inc act n : ℕ) (answer : Answer) (there : Among (messages w.sent) (Reply inc act n answer))
+      → IsClosing w.rec (acts_of w.instances) (lives_of w.instances) (messages w.sent) w.owners w.rec.last_act w.container_done w.server_done inc act n answer h.steady h.facts tt there w.sent → WasSent w (Call inc act n (Close SaveIfDirty))
   close_called inc act n answer there c =
       let l = c.link in
       let at_l : links_of w.rec.objects c.object.number ≡ Some l = ap link_at (found_by_number (is_linked inc act) w.rec.objects c.object h.steady.order c.found) ∙ c.linked in

@@ -19,9 +19,9 @@ use Rattle.container_laws.proofs.SteadyRecords.{if_at}
 use Rattle.world_model.specs.declared.life.Life.TheVariants.{Running}
 use Rattle.world_model.specs.World.{World, Instance, nth_or_zero, owner}
 use Rattle.world_model.specs.Safe.{Among, link_at, links_of, act_at, acts_of, messages, HoldsFrame, IsHolder, WasAnswered}
-use Rattle.world_facts.specs.Words.{life_at, lives_of, IsLinked}
+use Rattle.world_facts.specs.Words.{life_at, lives_of, IsLinked, IsOpen}
 use Rattle.world_grants.specs.Grants.{Names, WasTold, roles_of}
-use Rattle.world_grants.proofs.Moving.{in_frame}
+use Rattle.world_grants.proofs.Moving.{IsIn, in_frame}
 use Rattle.world_grants.proofs.States.{named_is, is_holding}
 use Rattle.world_safety.specs.Holding.{AgreesIn}
 
@@ -55,42 +55,74 @@ module _ (w : World) (h : AgreesIn w) where
     claimed : claim.act ≡ act
     g_is : claim.g ≡ g
 
+  -- the claim of a frame is of its object's activation
+  claimed_by : (f o : ℕ) (l : Link) (frame : Frame) (c : Claim) → nth w.rec.frames f ≡ Some frame → links_of w.rec.objects o ≡ Some l → who frame.ui.state ≡ Some c → c.object ≡ o → c.act ≡ l.act
+  claimed_by f o l frame c there e named object_is = of_claim (if_at (IsClaim w.rec f) (who frame.ui.state) c named (h.steady.grants f frame there).holder)
+    where
+      of_claim : IsClaim w.rec f c → c.act ≡ l.act
+      of_claim claim =
+          let here : links_of w.rec.objects c.object ≡ Some claim.link = ap link_at claim.found ∙ claim.linked in
+          let z : Some claim.link ≡ Some l = sym here ∙ (ap (links_of w.rec.objects) object_is ∙ e) in
+          let cl : claim.link ≡ l = cc in
+          sym claim.act ∙ ap (λ (z : Link). z.act) cl
+
+  -- the frame of an object, and the object's part in it
+  framed : (o f : ℕ) (x : Object) → find (is_object o) w.rec.objects ≡ Some x → x.frame ≡ f → (frame : Frame) × (nth w.rec.frames f ≡ Some frame) × (roles_of w.rec o ≡ role_in frame.ui.state o)
+  framed o f x found inside = of_frame (in_frame w.rec o x h.steady found)
+    where
+      of_frame : IsIn w.rec o → (frame : Frame) × (nth w.rec.frames f ≡ Some frame) × (roles_of w.rec o ≡ role_in frame.ui.state o)
+      of_frame i =
+          let z : Some i.object ≡ Some x = sym i.found ∙ found in
+          let same : i.object ≡ x = cc in
+          (i.frame, ap (nth w.rec.frames) (sym (ap (λ (z : Object). z.frame) same ∙ inside)) ∙ i.inside, i.role)
+
+  named_at : (inc act g f o : ℕ) (l : Link) (frame : Frame) (c : Claim) → owner w act ≡ o → links_of w.rec.objects o ≡ Some l → l.inc ≡ inc → l.act ≡ act → nth w.rec.frames f ≡ Some frame → roles_of w.rec o ≡ role_in frame.ui.state o
+      → who frame.ui.state ≡ Some c → c.object ≡ o → c.g ≡ g → IsNamed inc act g f
+  named_at inc act g f o l frame c owned e ei ea there role named object_is g_is = record {
+    number = o;
+    link = l;
+    frame = frame;
+    claim = c;
+    owned = owned;
+    linked = e;
+    inc_is = ei;
+    act_is = ea;
+    there = there;
+    role = role;
+    named = named;
+    object_is = object_is;
+    claimed = claimed_by f o l frame c there e named object_is ∙ ea;
+    g_is = g_is;
+  }
+
+  named_by : (inc act g f o : ℕ) (l : Link) (frame : Frame) → owner w act ≡ o → links_of w.rec.objects o ≡ Some l → l.inc ≡ inc → l.act ≡ act → nth w.rec.frames f ≡ Some frame → roles_of w.rec o ≡ role_in frame.ui.state o
+      → Names (roles_of w.rec o) g → IsNamed inc act g f
+  named_by inc act g f o l frame owned e ei ea there role names =
+      let c = named_is frame.ui.state o g (subst (λ r. Names r g) role names) in
+      named_at inc act g f o l frame c.0 owned e ei ea there role c.1 c.2 c.3
+
+  named_linked : (inc act g f : ℕ) (a : Activation) (x : Object) → acts_of w.instances inc act ≡ Some a → a.g ≡ Some g → find (is_object (owner w act)) w.rec.objects ≡ Some x → x.frame ≡ f → IsLinked (links_of w.rec.objects) inc act → IsNamed inc act g f
+  named_linked inc act g f a x at has found inside k = of_link k.0 k.1 k.2 k.3 k.4
+    where
+      of_link : (o : ℕ) (l : Link) → links_of w.rec.objects o ≡ Some l → l.inc ≡ inc → l.act ≡ act → IsNamed inc act g f
+      of_link o l e ei ea =
+          let owned : owner w act ≡ o = ap nth_or_zero (subst (λ a. nth w.owners a ≡ Some o) ea (h.facts.drawn.calls_named o l e)) in
+          let names : Names (roles_of w.rec o) g = h.grants.holder_named o g l a e tt (ap (λ i. acts_of w.instances i l.act) ei ∙ (ap (acts_of w.instances inc) ea ∙ at)) has in
+          let p = framed o f x (ap (λ n. find (is_object n) w.rec.objects) (sym owned) ∙ found) inside in
+          named_by inc act g f o l p.0 owned e ei ea p.1 p.2 names
+
+  -- an open activation of a server that runs is linked
+  linked_open : (inc act : ℕ) (a : Activation) → acts_of w.instances inc act ≡ Some a → lives_of w.instances inc ≡ Some Running → IsOpen a → IsLinked (links_of w.rec.objects) inc act
+  linked_open inc act a at runs opened = elim (h.facts.unlinked.known inc act a tt runs at) [
+    | inl k ↦ k
+    | inr c ↦ absurd (let z : None ≡ Some opened.0 = sym c ∙ opened.1 in cc)
+  ]
+
   named_in : (inc act g f : ℕ) → HoldsFrame w inc act g f → IsNamed inc act g f
   named_in inc act g f x =
       let at : acts_of w.instances inc act ≡ Some x.activation = ap (act_at act) x.hosted ∙ x.known in
       let runs : lives_of w.instances inc ≡ Some Running = ap life_at x.hosted ∙ ap Some x.runs in
-      let ui = h.grants.g_is_ui inc act g x.activation tt at x.has_grant in
-      let k : IsLinked (links_of w.rec.objects) inc act = elim (h.facts.unlinked.known inc act x.activation tt runs at) [
-        | inl k ↦ k
-        | inr c ↦ absurd (let z : None ≡ Some ui.0.0 = sym c ∙ ui.0.1 in cc)
-      ] in
-      let o = k.0 in
-      let l = k.1 in
-      let owned : owner w act ≡ o = ap nth_or_zero (subst (λ a. nth w.owners a ≡ Some o) k.4 (h.facts.drawn.calls_named o l k.2)) in
-      let names : Names (roles_of w.rec o) g = h.grants.holder_named o g l x.activation k.2 tt (ap (λ i. acts_of w.instances i l.act) k.3 ∙ (ap (acts_of w.instances inc) k.4 ∙ at)) x.has_grant in
-      let found : find (is_object o) w.rec.objects ≡ Some x.object = ap (λ n. find (is_object n) w.rec.objects) (sym owned) ∙ x.owned in
-      let i = in_frame w.rec o x.object h.steady found in
-      let same : i.object ≡ x.object = (let z : Some i.object ≡ Some x.object = sym i.found ∙ found in cc) in
-      let there : nth w.rec.frames f ≡ Some i.frame = ap (nth w.rec.frames) (sym (ap (λ (z : Object). z.frame) same ∙ x.inside)) ∙ i.inside in
-      let c = named_is i.frame.ui.state o g (subst (λ r. Names r g) i.role names) in
-      let claim : IsClaim w.rec f c.0 = if_at (IsClaim w.rec f) (who i.frame.ui.state) c.0 c.1 (h.steady.grants f i.frame there).holder in
-      let cl : claim.link ≡ l = (let z : Some claim.link ≡ Some l = sym (ap link_at claim.found ∙ claim.linked) ∙ (ap (links_of w.rec.objects) c.2 ∙ k.2) in cc) in
-      record {
-        number = o;
-        link = l;
-        frame = i.frame;
-        claim = c.0;
-        owned = owned;
-        linked = k.2;
-        inc_is = k.3;
-        act_is = k.4;
-        there = there;
-        role = i.role;
-        named = c.1;
-        object_is = c.2;
-        claimed = sym claim.act ∙ (ap (λ (z : Link). z.act) cl ∙ k.4);
-        g_is = c.3;
-      }
+      named_linked inc act g f x.activation x.object at x.has_grant x.owned x.inside (linked_open inc act x.activation at runs (h.grants.g_is_ui inc act g x.activation tt at x.has_grant).0)
 
   answered : (inc act g f : ℕ) (n : IsNamed inc act g f) (holder : Claim) (tools : Tools) → n.frame.ui.state ≡ Held holder tools → WasAnswered w inc act g tools
   answered inc act g f n holder tools e =
