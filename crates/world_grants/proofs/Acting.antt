@@ -19,22 +19,21 @@ use Rattle.object_state.specs.declared.operations.Op.{Op}
 use Rattle.object_state.specs.declared.operations.Op.TheVariants as ops
 use Rattle.object_state.specs.declared.operations.CloseOption.{CloseOption}
 use Rattle.object_state.specs.declared.operations.CloseOption.TheVariants.{SaveIfDirty, NoSave}
-use Rattle.grant_core.specs.declared.grant_states.Tools.{Tools}
 use Rattle.server_model.specs.Server.{Activation}
 use Rattle.server_model.specs.declared.counted.Counted.{Counted}
 use Rattle.container_model.specs.declared.record.Link.{Link}
 use Rattle.container_model.specs.declared.answer.Done.{Done}
-use Rattle.container_laws.specs.Roles.{Role, Getting, Holding}
+use Rattle.container_laws.specs.Roles.{Getting}
 use Rattle.world_model.specs.declared.life.Life.TheVariants.{Running as Runs}
 use Rattle.world_model.specs.declared.logs.ServerDone.{ServerDone}
 use Rattle.world_model.specs.Safe.{Among}
 use Rattle.world_facts.specs.Words.{Links, Acts, Lives, IsHonest, IsOpen, IsClosed}
-use Rattle.world_facts.specs.Facts.{HasDone, IsEven, Did, Facts}
+use Rattle.world_facts.specs.Facts.{Did, Facts}
 use Rattle.world_facts.specs.Shapes.{IsFirst, MovesGrant, IsChanged, Makes, ActsOn, again, next, makes, IsReady}
-use Rattle.world_facts.proofs.Acting.{linked_or_closed, IsPending, of_link, IsNextOf, next_of, not_first}
+use Rattle.world_facts.proofs.Acting.{linked_or_closed, of_link, next_of, not_first}
 use Rattle.world_facts.proofs.Issuing.{same_act}
-use Rattle.world_facts.proofs.Lookups.{among_join, among_old, among_new}
-use Rattle.world_grants.specs.Grants.{Roles, Names, WasTold, IsUi, Grants}
+use Rattle.world_facts.proofs.Lookups.{among_join, among_old}
+use Rattle.world_grants.specs.Grants.{Roles, Names, IsUi, Grants}
 use Rattle.world_grants.proofs.Stepping.{told_more}
 
 -- both tables take an operation: so does the window's
@@ -69,7 +68,6 @@ kept_ui before a op r plain keeps nf g (inr same) d has = inr (sym same ∙ has,
 
 same_ui : (v : States) (a : Activation) (o : Op) → ((s : ObjectState) → window.table o UiActive ≡ Ok s → s ≡ UiActive) → IsOpen a → both.step v o ≡ Ok a.states → v.object ≡ UiActive → IsUi a
 same_ui v a o table opened e ui = (opened, table a.states.object (ap (window.table o) (sym ui) ∙ window_takes v a.states o e))
-
 
 -- no object is closed while it shows them
 not_closed : (v w : States) (option : CloseOption) → both.step v (ops.Close option) ≡ Ok w → v.object ≡ UiActive → ⊥
@@ -178,8 +176,11 @@ module _ (links : Links) (acts after : Acts) (lives : Lives) (sent : List Messag
   called_now i x m q hon k = elim (among_join sent (Reply inc act n r ∷ []) _ k) [
     | inl old ↦ (let c = h.replied_called i x m q hon old in (c.0, among_old sent (Reply inc act n r ∷ []) _ c.1))
     | inr new ↦ elim new [
-      | inl e ↦ (op, among_old sent (Reply inc act n r ∷ []) _ (let ei : i ≡ inc = cc in let ex : x ≡ act = cc in let em : m ≡ n = cc in
-          subst (λ z. Among sent (Call z x m op)) (sym ei) (subst (λ z. Among sent (Call inc z m op)) (sym ex) (subst (λ z. Among sent (Call inc act z op)) (sym em) call))))
+      | inl e ↦ (
+        op,
+        among_old sent (Reply inc act n r ∷ []) _ (let ei : i ≡ inc = cc in let ex : x ≡ act = cc in let em : m ≡ n = cc in
+            subst (λ z. Among sent (Call z x m op)) (sym ei) (subst (λ z. Among sent (Call inc z m op)) (sym ex) (subst (λ z. Among sent (Call inc act z op)) (sym em) call))),
+      )
       | inr z ↦ absurd z
     ]
   ]

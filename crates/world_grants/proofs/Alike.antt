@@ -1,14 +1,10 @@
 -- Activations that stay as they are, but for what they contain: who has frames stays.
-use Rattle.std.proofs.Common.{◌≡◌, ◌⊎◌, ℕ, List, [], ◌++◌, Option, Some, refl, sym, ap, ◌∙◌, inl, inr, subst}
+use Rattle.std.proofs.Common.{◌≡◌, ℕ, List, [], ◌++◌, sym, ap, ◌∙◌, inl, inr, subst}
 use Rattle.std.proofs.lemmas.List.{append-nil}
 use Rattle.wire_msgs.specs.declared.message.Message.{Message}
-use Rattle.wire_msgs.specs.declared.message.Message.TheVariants.{Call, Reply}
-use Rattle.wire_msgs.specs.declared.operation.Operation.{Operation}
-use Rattle.wire_msgs.specs.declared.answer.Answer.{Answer}
 use Rattle.object_state.specs.declared.both_states.States.{States}
-use Rattle.server_model.specs.Server.{Activation}
 use Rattle.world_model.specs.Safe.{Among}
-use Rattle.world_facts.specs.Words.{Links, Acts, IsHonest}
+use Rattle.world_facts.specs.Words.{Links, Acts}
 use Rattle.world_facts.specs.Shapes.{Alike, Tells, IsOwn}
 use Rattle.world_facts.proofs.Alike.{before_of}
 use Rattle.world_facts.proofs.Lookups.{among_join, among_old}

@@ -1,46 +1,38 @@
 -- What a message that the container takes, and the end of a server, make of roles.
-use Rattle.std.proofs.Common.{◌≡◌, ◌⊎◌, ◌==◌, ◌++◌, ℕ, Bool, true, false, List, [], ◌∷◌, map, Option, Some, None, Result, Ok, Err, refl, sym, ap, ◌∙◌, inl, inr, subst, if◌then◌else◌}
+use Rattle.std.proofs.Common.{◌≡◌, ◌==◌, ℕ, Bool, true, false, List, [], ◌∷◌, Option, Some, None, refl, sym, ap, ◌∙◌, inl, inr, subst, if◌then◌else◌}
 use Rattle.std.proofs.lemmas.Bool.{eqb-true}
-use Rattle.std.specs.Prelude.{IfSome}
-use Rattle.std.specs.List.{AllByRecursion}
-use Rattle.wire_msgs.specs.Found.{find, put, nth, set_nth}
+use Rattle.wire_msgs.specs.Found.{find, nth, set_nth}
 use Rattle.wire_msgs.specs.declared.message.Message.{Message}
-use Rattle.wire_msgs.specs.declared.message.Message.TheVariants.{Call, Reply, Write, Ask}
+use Rattle.wire_msgs.specs.declared.message.Message.TheVariants.{Reply}
 use Rattle.wire_msgs.specs.declared.operation.Operation.{Operation}
 use Rattle.wire_msgs.specs.declared.operation.Operation.TheVariants.{UiActivate, UiDeactivate}
 use Rattle.wire_msgs.specs.declared.answer.Answer.{Answer}
 use Rattle.wire_msgs.specs.declared.answer.Answer.TheVariants as told
-use Rattle.storage_tree.specs.declared.stored.Stored.{Stored}
 use Rattle.grant_core.specs.declared.grant_states.Claim.{Claim}
 use Rattle.grant_core.specs.declared.grant_states.Tools.{Tools}
-use Rattle.grant_core.specs.declared.grant_states.GrantState.{GrantState}
-use Rattle.grant_core.specs.declared.grant_states.GrantState.TheVariants.{Free, Granting, Held, Revoking}
-use Rattle.grant_core.specs.Grants.{Event, Granted, Revoked, IsApart}
+use Rattle.grant_core.specs.declared.grant_states.GrantState.TheVariants.{Granting, Revoking}
+use Rattle.grant_core.specs.Grants.{Event, Granted, Revoked}
 use Rattle.container_model.specs.declared.grants.Tells.{Tells}
 use Rattle.container_model.specs.declared.grants.Tells.TheVariants.{Gets, GivesUp}
 use Rattle.container_model.specs.declared.record.Link.{Link}
 use Rattle.container_model.specs.declared.record.Object.{Object}
 use Rattle.container_model.specs.declared.record.Frame.{Frame}
-use Rattle.container_model.specs.declared.fault.ContainerFault.{ContainerFault}
-use Rattle.container_model.specs.declared.fault.ContainerFault.TheVariants.{NoSuch, Stale, WrongLink, BadAnswer}
-use Rattle.container_model.specs.Record.{Record, Took, is_object, is_linked, is_alive, with_frame}
-use Rattle.container_model.specs.Saves.{settle, kept}
-use Rattle.container_model.specs.Grants.{moved, regrant, regranted, regranted_in, event_of, grant_of, grant_each, passed_to, is_hosted, is_hosted_object, free_grants, freed_frame, freed_claims}
-use Rattle.container_model.specs.Messages.{Replied, replied_object, replied_record, replied_grant, reply_made, is_open_to, written_object, write_made, write_link, write_found, on_message, reaped_object, reaped, reaped_grants, reap_made, on_reap}
-use Rattle.container_laws.specs.Roles.{Role, Other, Getting, Holding, Giving, Waiting, Plays, PlaysGetting, IsPlain, waits_as, role_in, queue_of}
+use Rattle.container_model.specs.Record.{Record, Took, is_object, is_linked, with_frame}
+use Rattle.container_model.specs.Saves.{settle}
+use Rattle.container_model.specs.Grants.{moved, regrant, regranted, regranted_in, event_of, grant_of, passed_to}
+use Rattle.container_model.specs.Messages.{replied_object, replied_record, replied_grant}
+use Rattle.container_laws.specs.Roles.{Role, Other, Getting, Holding, Giving, Waiting, Plays, waits_as, role_in, queue_of}
 use Rattle.container_laws.specs.Steady.{SteadyLink, Steady}
 use Rattle.container_laws.proofs.SteadyFinds.{found_by_number}
 use Rattle.container_laws.proofs.SteadyRecords.{if_at}
 use Rattle.world_model.specs.Safe.{Among, link_at, links_of}
 use Rattle.world_facts.specs.Words.{Links}
-use Rattle.world_grants.specs.Grants.{Roles, Names, Moves, RolesMove, GaveUp, GotTools, IsReadyFor, NoClaim, NoTools, roles_of}
-use Rattle.world_grants.proofs.States.{same, granted, revoked, IsGetting, IsGiving, IsHosted}
-use Rattle.world_grants.proofs.Objects.{Keeps, AreKept, all_kept, kept_further, map_kept, put_kept, grants_kept, grants_frames, Stay, kept_stay, found_before}
-use Rattle.world_grants.proofs.Frames.{AllMove, none_move, one_moves, settled_move, freed_move}
-use Rattle.world_grants.proofs.Moving.{IsIn, in_frame, linked_there, named_by, held_by, plain_move, holders_linked}
-use Rattle.world_grants.proofs.Commands.{Leaves}
-use Rattle.world_grants.proofs.Replies.{Told, tells_none, tells_gets, tells_gives, IsReply, reply_is}
-use Rattle.world_grants.proofs.Verbs.{ask_leaves}
+use Rattle.world_grants.specs.Grants.{Roles, RolesMove, IsReadyFor, NoClaim, NoTools, roles_of}
+use Rattle.world_grants.proofs.States.{granted, revoked, IsGetting, IsGiving}
+use Rattle.world_grants.proofs.Objects.{Keeps, AreKept, all_kept, kept_further, put_kept, grants_kept, grants_frames, Stay, kept_stay}
+use Rattle.world_grants.proofs.Frames.{AllMove, none_move, one_moves, settled_move}
+use Rattle.world_grants.proofs.Moving.{in_frame, linked_there, named_by, held_by, plain_move, holders_linked}
+use Rattle.world_grants.proofs.Replies.{Told, tells_none, tells_gets, tells_gives, IsReply}
 
 -- what is pending tells the role
 plays_getting : (role : Role) (g : ℕ) (ops : List Operation) → Plays role (UiActivate g ∷ ops) → role ≡ Getting g
@@ -71,6 +63,7 @@ giving_is c next n g e = at (c.object == n) refl e
     waits_not : (x : Option Claim) → waits_as n x ≡ Giving g → ⊥
     waits_not None k = cc
     waits_not (Some x) k = (elim (x.object == n) as (λ b. (if b then Waiting x.g else Other) ≡ Giving g → ⊥) [ true ↦ (λ z. cc) | false ↦ (λ z. cc) ]) k
+
     at : (b : Bool) → (c.object == n) ≡ b → (if b then Giving c.g else waits_as n next) ≡ Giving g → c.object ≡ n
     at true q k = eqb-true c.object n q
     at false q k = absurd (waits_not next k)
@@ -98,7 +91,7 @@ played r n l s e =
     let sameo : x.0 ≡ i.object = (let z : Some x.0 ≡ Some i.object = sym x.1 ∙ i.found in cc) in
     let number : i.object.number ≡ n = number_of_found n r.objects i.object i.found in
     let held : SteadyLink r.servers r.last_act i.frame.phase i.frame.k (role_in i.frame.ui.state i.object.number) l =
-        if_at (SteadyLink r.servers r.last_act i.frame.phase i.frame.k (role_in i.frame.ui.state i.object.number)) i.object.link l (ap (λ (z : Object). z.link) (sym sameo) ∙ x.2) i.linked in
+    if_at (SteadyLink r.servers r.last_act i.frame.phase i.frame.k (role_in i.frame.ui.state i.object.number)) i.object.link l (ap (λ (z : Object). z.link) (sym sameo) ∙ x.2) i.linked in
     record { frame = i.frame; object = i.object; found = i.found; inside = i.inside; role = i.role; plays = subst (λ k. Plays (role_in i.frame.ui.state k) (queue_of l.pending l.waiting)) number held.plays }
 
 pub ready_for : (r : Record) → Steady r → IsReadyFor (links_of r.objects) (roles_of r)
@@ -183,8 +176,8 @@ module _ (r : Record) (s : Steady r) (inc act n : ℕ) (answer : Answer) (t : To
       let New : Claim → Tools → Type 0 = IsGetting state g tools in
       let getting : role_in state x.number ≡ Getting g = sym it.role ∙ (ready_for r s).getting x.number g h.link at_x (h.pending ∙ ap Some eo) in
       let moves : AllMove NoClaim (IsGetting state g tools) r.frames (settle end).frames = settled_move NoClaim (IsGetting state g tools) end.objects r.frames end.frames
-          (subst (AllMove NoClaim (IsGetting state g tools) r.frames) (sym (frames_by (Gets g tools) e))
-          (one_moves NoClaim (IsGetting state g tools) r.frames x.frame it.frame (moved it.frame (Granted g tools)) inside (granted state g tools))) in
+      (subst (AllMove NoClaim (IsGetting state g tools) r.frames) (sym (frames_by (Gets g tools) e))
+      (one_moves NoClaim (IsGetting state g tools) r.frames x.frame it.frame (moved it.frame (Granted g tools)) inside (granted state g tools))) in
       record {
         named = λ o k m em nm. elim (named_by r (settle end) NoClaim (IsGetting state g tools) s end_stays moves o k m em nm) [ inl y ↦ inl y | inr z ↦ absurd z.3 ];
         held = λ o k ts m em hd. elim (held_by r (settle end) NoClaim (IsGetting state g tools) s end_stays moves o k ts m em hd) [
@@ -206,8 +199,8 @@ module _ (r : Record) (s : Steady r) (inc act n : ℕ) (answer : Answer) (t : To
       let state = it.frame.ui.state in
       let giving = plays_giving (role_in state x.number) h.link.waiting (subst (λ q. Plays (role_in state x.number) (queue_of q h.link.waiting)) (h.pending ∙ ap Some eo) it.plays) in
       let moves : AllMove (IsGiving state) NoTools r.frames (settle end).frames = settled_move (IsGiving state) NoTools end.objects r.frames end.frames
-          (subst (AllMove (IsGiving state) NoTools r.frames) (sym (frames_by GivesUp e))
-          (one_moves (IsGiving state) NoTools r.frames x.frame it.frame (moved it.frame (Revoked (grant_of state))) inside (revoked state (grant_of state)))) in
+      (subst (AllMove (IsGiving state) NoTools r.frames) (sym (frames_by GivesUp e))
+      (one_moves (IsGiving state) NoTools r.frames x.frame it.frame (moved it.frame (Revoked (grant_of state))) inside (revoked state (grant_of state)))) in
       record {
         named = λ o k m em nm. elim (named_by r (settle end) (IsGiving state) NoTools s end_stays moves o k m em nm) [
           | inl y ↦ inl y

@@ -1,23 +1,22 @@
 -- Commands that leave frames to whoever has them; and a commit.
-use Rattle.std.proofs.Common.{◌≡◌, ◌||◌, ◌&&◌, ◌==◌, ◌+◌, ℕ, Bool, true, false, not, List, [], ◌∷◌, ◌++◌, length, map, Option, Some, None, is_some, Result, Ok, Err, refl, sym, ap, ◌∙◌, subst, nat_le, nat_lt, if◌then◌else◌}
+use Rattle.std.proofs.Common.{◌≡◌, ◌||◌, ◌==◌, ◌+◌, ℕ, Bool, true, false, not, List, [], ◌∷◌, length, Option, Some, None, is_some, Ok, Err, refl, sym, ◌∙◌, subst, nat_le, nat_lt, if◌then◌else◌}
 use Rattle.wire_msgs.specs.Found.{find, put, nth, set_nth}
 use Rattle.wire_msgs.specs.declared.operation.Operation.{Operation}
 use Rattle.embed_core.specs.Kinds.{Kind}
 use Rattle.object_parts.specs.declared.area.Area.{Area}
 use Rattle.container_model.specs.declared.answer.Action.TheVariants.{End}
-use Rattle.container_model.specs.declared.record.Link.{Link}
 use Rattle.container_model.specs.declared.record.Object.{Object}
 use Rattle.container_model.specs.declared.record.Frame.{Frame}
 use Rattle.container_model.specs.declared.fault.ContainerFault.{ContainerFault}
-use Rattle.container_model.specs.declared.fault.ContainerFault.TheVariants.{NoSuch, Busy, NotRunning, InDoubt, Full, NumbersSpent, WrongState, UnknownClass}
+use Rattle.container_model.specs.declared.fault.ContainerFault.TheVariants.{NoSuch, Busy, InDoubt, Full, NumbersSpent, WrongState, UnknownClass}
 use Rattle.container_model.specs.Record.{Record, Took, MOST_FRAMES, MOST_OBJECTS, MOST_SERVERS, MARGIN, is_object, is_alive, is_busy, is_moving, is_saving, is_doubtful, count_alive, count_objects, asked_link, asked_object, acts, counts_none}
-use Rattle.container_model.specs.Saves.{settle, kept, cleared, completion, completed, counted_object, commit_made, committed_frame}
-use Rattle.container_model.specs.Commands.{is_named, is_size, new, new_made, is_empty_area, insert, insert_at, insert_made, new_object, start, start_made, run, run_at, run_in, run_object, run_made, is_known_class, edit, edit_at, edit_in, edit_linked, edit_unless, edit_fault, edit_made, any_busy, all_have_numbers, saving_frame, save, save_at, save_made, delete, delete_at, delete_in, delete_made, kill}
+use Rattle.container_model.specs.Saves.{kept, cleared, completion, completed, counted_object, commit_made, committed_frame}
+use Rattle.container_model.specs.Commands.{is_named, is_size, new, new_made, is_empty_area, insert_at, insert_made, new_object, start, start_made, run_at, run_in, run_made, is_known_class, edit_at, edit_in, edit_unless, edit_fault, edit_made, any_busy, all_have_numbers, saving_frame, save_at, save_made, delete_at, delete_in, delete_made, kill}
 use Rattle.container_laws.specs.Steady.{Steady}
 use Rattle.container_laws.proofs.SteadyRecords.{unless_ok}
 use Rattle.world_grants.specs.Grants.{NoClaim, NoTools}
 use Rattle.world_grants.proofs.States.{same}
-use Rattle.world_grants.proofs.Objects.{Keeps, AreKept, all_kept, map_kept, with_found, Stay, kept_stay, more_stay, without_stay}
+use Rattle.world_grants.proofs.Objects.{Keeps, all_kept, map_kept, with_found, Stay, kept_stay, more_stay, without_stay}
 use Rattle.world_grants.proofs.Frames.{AllMove, none_move, one_moves, settled_move, more_move}
 
 -- objects stay in their frames, and frames with whoever has them

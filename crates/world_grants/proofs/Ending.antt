@@ -1,14 +1,12 @@
 -- The end of a server: what it makes of roles.
-use Rattle.std.proofs.Common.{◌≡◌, ◌==◌, ◌++◌, ℕ, Bool, true, false, List, [], ◌∷◌, map, Option, Some, None, option_map, Result, Ok, Err, refl, sym, ap, ◌∙◌, inl, inr, subst, if◌then◌else◌}
+use Rattle.std.proofs.Common.{◌≡◌, ◌==◌, ℕ, Bool, true, false, List, [], ◌∷◌, map, Option, Some, None, option_map, Result, Ok, Err, refl, sym, ap, ◌∙◌, inl, inr, subst, if◌then◌else◌}
 use Rattle.std.proofs.lemmas.Bool.Decides.{eqb_tells}
-use Rattle.wire_msgs.specs.Found.{find, put, nth}
+use Rattle.wire_msgs.specs.Found.{find, put}
 use Rattle.wire_msgs.specs.declared.operation.Operation.{Operation}
 use Rattle.wire_msgs.specs.declared.operation.Operation.TheVariants.{UiActivate}
 use Rattle.grant_core.specs.declared.grant_states.Claim.{Claim}
-use Rattle.grant_core.specs.Grants.{IsApart}
 use Rattle.container_model.specs.declared.record.Link.{Link}
 use Rattle.container_model.specs.declared.record.Object.{Object}
-use Rattle.container_model.specs.declared.record.Frame.{Frame}
 use Rattle.container_model.specs.declared.fault.ContainerFault.{ContainerFault}
 use Rattle.container_model.specs.declared.fault.ContainerFault.TheVariants.{NoSuch}
 use Rattle.container_model.specs.Record.{Record, Took, asked_link, is_object, is_alive}
@@ -22,7 +20,7 @@ use Rattle.world_facts.proofs.Lookups.{find_passes}
 use Rattle.std.proofs.lemmas.Bool.{eqb-true}
 use Rattle.world_grants.specs.Grants.{RolesMove, NoTools, roles_of}
 use Rattle.world_grants.proofs.States.{IsHosted}
-use Rattle.world_grants.proofs.Objects.{Keeps, AreKept, kept_further, map_kept, grants_kept, grants_frames, Stay, kept_stay}
+use Rattle.world_grants.proofs.Objects.{Keeps, kept_further, map_kept, grants_kept, grants_frames, Stay, kept_stay}
 use Rattle.world_grants.proofs.Frames.{AllMove, settled_move, freed_move}
 use Rattle.world_grants.proofs.Moving.{named_by, held_by}
 
@@ -38,7 +36,7 @@ passive_at r n o op (Some x) e h =
     let a : Object = record x { link = asked_link op x.link } in
     elim (eqb_tells x.number o) [
       | inl s ↦ ap (λ m. links_of (put (is_object x.number) a r.objects) m) (sym s.1) ∙ (ap link_at (find-put_same x.number a x r.objects here refl)
-        ∙ passive_asked (find (is_object x.number) r.objects) op x here (ap (links_of r.objects) s.1 ∙ h))
+          ∙ passive_asked (find (is_object x.number) r.objects) op x here (ap (links_of r.objects) s.1 ∙ h))
       | inr s ↦ ap link_at (find-put_other x.number o a r.objects refl s.1) ∙ h
     ]
 

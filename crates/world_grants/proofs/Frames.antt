@@ -1,7 +1,7 @@
 -- Frames that changed: who is named, and who holds each.
-use Rattle.std.proofs.Common.{◌≡◌, ◌+◌, ◌==◌, ℕ, zero, suc, Bool, true, false, List, [], ◌∷◌, ◌++◌, map, Option, Some, None, refl, sym, ap, ◌∙◌, inl, inr, subst, if◌then◌else◌, slice_get}
+use Rattle.std.proofs.Common.{◌≡◌, ℕ, zero, suc, Bool, true, false, List, [], ◌∷◌, ◌++◌, map, Some, refl, sym, ap, ◌∙◌, inl, inr, subst, if◌then◌else◌, slice_get}
 use Rattle.std.proofs.lemmas.Bool.Decides.{eqb_tells}
-use Rattle.wire_msgs.specs.Found.{find, nth, set_nth}
+use Rattle.wire_msgs.specs.Found.{nth, set_nth}
 use Rattle.grant_core.specs.declared.grant_states.Claim.{Claim}
 use Rattle.grant_core.specs.declared.grant_states.Tools.{Tools}
 use Rattle.grant_core.specs.Grants.{IsApart}
@@ -9,11 +9,10 @@ use Rattle.grant_core.specs.Frames.{Ui}
 use Rattle.container_model.specs.declared.record.Object.{Object}
 use Rattle.container_model.specs.declared.record.Frame.{Frame}
 use Rattle.container_model.specs.declared.record.Phase.TheVariants.{Committing}
-use Rattle.container_model.specs.Record.{Record}
 use Rattle.container_model.specs.Saves.{is_ready, settled_frame, settled_frames}
 use Rattle.container_model.specs.Grants.{freed_frame}
 use Rattle.container_laws.proofs.SteadyLookups.{nth-set_same, nth-set_other, nth-settled}
-use Rattle.world_grants.specs.Grants.{Moves, NoClaim, NoTools}
+use Rattle.world_grants.specs.Grants.{Moves, NoTools}
 use Rattle.world_grants.proofs.States.{same, weaker, IsHosted, freed_moves}
 
 -- each frame stays, and its grant moves so

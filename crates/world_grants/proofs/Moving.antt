@@ -1,8 +1,7 @@
 -- What a step of the container makes of roles, by what it makes of objects and of frames.
 use Rattle.std.proofs.Common.{◌≡◌, ◌⊎◌, ℕ, List, [], Option, Some, None, refl, sym, ap, ◌∙◌, inl, inr, subst}
-use Rattle.std.specs.Prelude.{IfSome, IsSomeAnd}
+use Rattle.std.specs.Prelude.{IfSome}
 use Rattle.wire_msgs.specs.Found.{find, nth}
-use Rattle.wire_msgs.specs.declared.message.Message.{Message}
 use Rattle.grant_core.specs.declared.grant_states.Claim.{Claim}
 use Rattle.grant_core.specs.declared.grant_states.Tools.{Tools}
 use Rattle.grant_core.specs.declared.grant_states.GrantState.{GrantState}
@@ -12,13 +11,12 @@ use Rattle.container_model.specs.declared.record.Link.{Link}
 use Rattle.container_model.specs.declared.record.Object.{Object}
 use Rattle.container_model.specs.declared.record.Frame.{Frame}
 use Rattle.container_model.specs.Record.{Record, is_object}
-use Rattle.container_laws.specs.Roles.{Role, Holding, role_in, IsClaim}
+use Rattle.container_laws.specs.Roles.{Holding, role_in, IsClaim}
 use Rattle.container_laws.specs.Steady.{SteadyLink, SteadyObject, Steady}
 use Rattle.container_laws.proofs.SteadyLookups.{each_found}
 use Rattle.container_laws.proofs.SteadyRecords.{some_and, if_at}
 use Rattle.world_model.specs.Safe.{link_at, links_of}
-use Rattle.world_facts.specs.Words.{Links}
-use Rattle.world_grants.specs.Grants.{Roles, Names, Moves, RolesMove, GaveUp, GotTools, IsReadyFor, NoClaim, NoTools, role_at, role_of, roles_of}
+use Rattle.world_grants.specs.Grants.{Names, Moves, RolesMove, NoClaim, NoTools, role_at, role_of, roles_of}
 use Rattle.world_grants.proofs.States.{named_is, is_named, holding_is, is_holding}
 use Rattle.world_grants.proofs.Objects.{Stay}
 use Rattle.world_grants.proofs.Frames.{AllMove}
@@ -35,7 +33,7 @@ pub record IsIn (r : Record) (n : ℕ) : Type 0 where
 pub in_frame : (r : Record) (n : ℕ) (x : Object) → Steady r → find (is_object n) r.objects ≡ Some x → IsIn r n
 in_frame r n x s e =
     let held = some_and (λ (frame : Frame). IfSome x.link (SteadyLink r.servers r.last_act frame.phase frame.k (role_in frame.ui.state x.number))) (nth r.frames x.frame)
-        (each_found (SteadyObject r) (is_object n) r.objects x s.objects e).linked in
+    (each_found (SteadyObject r) (is_object n) r.objects x s.objects e).linked in
     record {
       object = x;
       frame = held.0;

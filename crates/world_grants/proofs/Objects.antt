@@ -1,13 +1,12 @@
 -- Objects that changed, each under its number and in its frame.
 use Rattle.std.proofs.Common.{◌≡◌, ◌⊎◌, ◌==◌, ℕ, Bool, true, false, List, [], ◌∷◌, ◌++◌, map, Option, Some, None, refl, sym, ap, ◌∙◌, inl, inr, subst, if◌then◌else◌}
-use Rattle.std.proofs.lemmas.Bool.{eqb-true, ne_eqb}
+use Rattle.std.proofs.lemmas.Bool.{eqb-true}
 use Rattle.std.proofs.lemmas.Bool.Decides.{eqb_tells}
 use Rattle.wire_msgs.specs.Found.{find, put}
 use Rattle.wire_msgs.specs.declared.operation.Operation.{Operation}
 use Rattle.wire_msgs.specs.declared.operation.Operation.TheVariants.{UiActivate}
 use Rattle.grant_core.specs.declared.grant_states.Claim.{Claim}
 use Rattle.container_model.specs.declared.record.Object.{Object}
-use Rattle.container_model.specs.declared.record.Frame.{Frame}
 use Rattle.container_model.specs.Record.{Record, is_object, without_first}
 use Rattle.container_model.specs.Grants.{requested, request, grant_each}
 use Rattle.container_laws.specs.Steady.{InOrder, EachPair}
@@ -73,7 +72,7 @@ with_found n os us x a h e k =
     let y = found_after n os us x h e in
     let there : find (is_object a.number) us ≡ Some y.0 = ap (λ m. find (is_object m) us) an ∙ y.1 in
     kept_further os us (put (is_object a.number) a us) h (put_kept (is_object a.number) a us (λ z g. (let zy : y.0 ≡ z = (let w : Some y.0 ≡ Some z = sym there ∙ g in cc) in
-        subst (λ v. Keeps v a) zy (record { number = k.number ∙ sym y.2.number; frame = k.frame ∙ sym y.2.frame }))))
+    subst (λ v. Keeps v a) zy (record { number = k.number ∙ sym y.2.number; frame = k.frame ∙ sym y.2.frame }))))
 
 -- operations are asked
 request_at : (r : Record) (n : ℕ) (op : Operation) (x : Option Object) → find (is_object n) r.objects ≡ x → AreKept r.objects (requested r op x).rec.objects

@@ -1,5 +1,5 @@
 -- An answer that is taken: what it tells of its object's frame.
-use Rattle.std.proofs.Common.{◌≡◌, ◌⊎◌, ◌==◌, ◌&&◌, ℕ, Bool, true, false, List, [], ◌∷◌, Option, Some, None, Result, Ok, Err, refl, sym, ap, ◌∙◌, inl, inr, subst, if◌then◌else◌}
+use Rattle.std.proofs.Common.{◌≡◌, ◌==◌, ◌&&◌, ℕ, Bool, true, false, Option, Some, None, Result, Ok, Err, refl, sym, ap, ◌∙◌, if◌then◌else◌}
 use Rattle.wire_msgs.specs.Found.{find}
 use Rattle.wire_msgs.specs.Operations.{op_of}
 use Rattle.wire_msgs.specs.declared.operation.Operation.{Operation}
@@ -10,7 +10,6 @@ use Rattle.wire_msgs.specs.declared.answer.Answer.TheVariants as told
 use Rattle.object_state.specs.Both as both
 use Rattle.object_state.specs.declared.both_states.States.{States}
 use Rattle.object_state.specs.declared.faults.StateFault.{StateFault}
-use Rattle.object_state.specs.declared.operations.CloseOption.{CloseOption}
 use Rattle.object_state.specs.declared.operations.CloseOption.TheVariants.{SaveIfDirty, NoSave}
 use Rattle.storage_tree.specs.declared.stored.Stored.{Stored}
 use Rattle.grant_core.specs.declared.grant_states.Tools.{Tools}
@@ -21,7 +20,7 @@ use Rattle.container_model.specs.declared.record.Object.{Object}
 use Rattle.container_model.specs.declared.fault.ContainerFault.{ContainerFault}
 use Rattle.container_model.specs.declared.fault.ContainerFault.TheVariants.{Stale, WrongLink, BadAnswer}
 use Rattle.container_model.specs.Record.{Record, Took, is_link, is_linked, is_alive}
-use Rattle.container_model.specs.Messages.{Replied, replied, replied_fitting, is_fit, done, done_link, saved_link, granted_link, closed_with, next_s, reply_made, reply_taken, reply_pending, reply_link, reply_found, on_message}
+use Rattle.container_model.specs.Messages.{Replied, replied, replied_fitting, is_fit, done_link, saved_link, granted_link, closed_with, next_s, reply_made, reply_taken, reply_pending, reply_link, reply_found, on_message}
 use Rattle.std.proofs.lemmas.Bool.{eqb-true}
 use Rattle.world_facts.proofs.Lookups.{find_passes}
 

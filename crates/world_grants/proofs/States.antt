@@ -1,19 +1,18 @@
 -- How a frame's grant moves: who is named, and who holds it.
-use Rattle.std.proofs.Common.{◌≡◌, ◌≢◌, ◌==◌, ◌&&◌, ℕ, Bool, true, false, not, List, Option, Some, None, Result, Ok, Err, refl, sym, ap, ◌∙◌, inl, inr, subst, if◌then◌else◌, eq-eqb}
+use Rattle.std.proofs.Common.{◌≡◌, ◌==◌, ℕ, Bool, true, false, List, Option, Some, None, Ok, Err, refl, sym, ap, ◌∙◌, inl, inr, subst, if◌then◌else◌, eq-eqb}
 use Rattle.std.proofs.lemmas.Bool.{eqb-true, ne_eqb}
 use Rattle.wire_msgs.specs.Found.{find}
 use Rattle.grant_core.specs.declared.grant_states.Claim.{Claim}
 use Rattle.grant_core.specs.declared.grant_states.Tools.{Tools}
 use Rattle.grant_core.specs.declared.grant_states.GrantState.{GrantState}
 use Rattle.grant_core.specs.declared.grant_states.GrantState.TheVariants.{Free, Granting, Held, Revoking}
-use Rattle.grant_core.specs.declared.faults.GrantFault.{GrantFault}
 use Rattle.grant_core.specs.declared.faults.GrantFault.TheVariants.{Busy, NotHolder}
-use Rattle.grant_core.specs.Grants.{Ask, Granted, Revoked, Lost, table, who, waiting, passed_on, but_for, is_own, is_another, IsApart}
+use Rattle.grant_core.specs.Grants.{Ask, Granted, Revoked, Lost, table, who, passed_on, but_for, is_own, is_another, IsApart}
 use Rattle.grant_core.specs.Frames.{Ui, kept, after}
 use Rattle.container_model.specs.declared.record.Object.{Object}
 use Rattle.container_model.specs.Record.{is_object}
 use Rattle.container_model.specs.Grants.{is_hosted_object, lost_by, unwaited, freed}
-use Rattle.container_laws.specs.Roles.{Role, Other, Getting, Holding, Giving, Waiting, role_in, waits_as}
+use Rattle.container_laws.specs.Roles.{Other, Getting, Holding, Giving, Waiting, role_in, waits_as}
 use Rattle.world_grants.specs.Grants.{Names, Moves, NoClaim, NoTools}
 
 -- it stays
@@ -89,9 +88,13 @@ module _ (inc : ℕ) (os : List Object) where
     where
       ui : Ui
       ui = record { width = width; height = height; state = Revoking holder (Some next) }
+
       at : (b : Bool) → (rest : Option Claim) × ((if b then after ui (Lost next.act) else ui).state ≡ Revoking holder rest)
-      at true = (but_for next.act (Some next), (let ne : (next.act == holder.act) ≡ false = ne_eqb next.act holder.act apart.1 in
-          ap (λ b. kept (Revoking holder (Some next)) (if b then Ok (passed_on (Some next)) else Ok (Revoking holder (but_for next.act (Some next))))) ne))
+      at true = (
+        but_for next.act (Some next),
+        (let ne : (next.act == holder.act) ≡ false = ne_eqb next.act holder.act apart.1 in
+            ap (λ b. kept (Revoking holder (Some next)) (if b then Ok (passed_on (Some next)) else Ok (Revoking holder (but_for next.act (Some next))))) ne),
+      )
       at false = (Some next, refl)
 
   freed_revoking : (ui : Ui) (holder : Claim) (next rest : Option Claim) → ui.state ≡ Revoking holder rest → Moves IsHosted NoTools (Revoking holder next) (lost_by inc os ui (Some holder)).state
@@ -117,6 +120,7 @@ module _ (inc : ℕ) (os : List Object) where
     where
       ui : Ui
       ui = record { width = width; height = height; state = Granting claim }
+
       at : (b : Bool) → is_hosted_object inc (find (is_object claim.object) os) ≡ b → Moves IsHosted NoTools (Granting claim) (if b then after ui (Lost claim.act) else ui).state
       at true h = record {
         kept = λ c k. inr (let is : claim ≡ c = cc in ap (λ (x : Claim). is_hosted_object inc (find (is_object x.object) os)) (sym is) ∙ h);
@@ -131,6 +135,7 @@ module _ (inc : ℕ) (os : List Object) where
     where
       ui : Ui
       ui = record { width = width; height = height; state = Held holder t }
+
       at : (b : Bool) → is_hosted_object inc (find (is_object holder.object) os) ≡ b → Moves IsHosted NoTools (Held holder t) (if b then after ui (Lost holder.act) else ui).state
       at true h = record {
         kept = λ c k. inr (let is : holder ≡ c = cc in ap (λ (x : Claim). is_hosted_object inc (find (is_object x.object) os)) (sym is) ∙ h);
@@ -165,6 +170,7 @@ named_is (Revoking holder next) n g h = at (holder.object == n) refl h
     waits_not : (x : Option Claim) → Names (waits_as n x) g → ⊥
     waits_not None k = k
     waits_not (Some x) k = (elim (x.object == n) as (λ b. Names (if b then Waiting x.g else Other) g → ⊥) [ true ↦ (λ z. z) | false ↦ (λ z. z) ]) k
+
     at : (b : Bool) → (holder.object == n) ≡ b → Names (if b then Giving holder.g else waits_as n next) g → (c : Claim) × (who (Revoking holder next) ≡ Some c) × (c.object ≡ n) × (c.g ≡ g)
     at true e k = (holder, refl, eqb-true holder.object n e, k)
     at false e k = absurd (waits_not next k)
@@ -201,6 +207,7 @@ holding_is (Revoking holder next) n g tools e = absurd (at (holder.object == n) 
     waits_not : (x : Option Claim) → waits_as n x ≡ Holding g tools → ⊥
     waits_not None k = cc
     waits_not (Some x) k = (elim (x.object == n) as (λ b. (if b then Waiting x.g else Other) ≡ Holding g tools → ⊥) [ true ↦ (λ z. cc) | false ↦ (λ z. cc) ]) k
+
     at : (b : Bool) → (if b then Giving holder.g else waits_as n next) ≡ Holding g tools → ⊥
     at true k = cc
     at false k = waits_not next k

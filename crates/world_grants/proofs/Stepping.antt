@@ -1,5 +1,5 @@
 -- A step of the container leaves who has frames.
-use Rattle.std.proofs.Common.{◌≡◌, ◌⊎◌, ◌+◌, ◌≤◌, ℕ, List, [], ◌∷◌, ◌++◌, Option, Some, None, refl, sym, ap, ◌∙◌, inl, inr, arith, subst}
+use Rattle.std.proofs.Common.{◌≡◌, ◌⊎◌, ◌+◌, ◌≤◌, ℕ, List, [], ◌++◌, Option, Some, None, refl, sym, ap, ◌∙◌, inl, inr, arith, subst}
 use Rattle.wire_msgs.specs.declared.message.Message.{Message}
 use Rattle.wire_msgs.specs.declared.message.Message.TheVariants.{Call, Reply}
 use Rattle.wire_msgs.specs.declared.operation.Operation.{Operation}
@@ -10,7 +10,7 @@ use Rattle.grant_core.specs.declared.grant_states.Tools.{Tools}
 use Rattle.server_model.specs.Server.{Activation}
 use Rattle.container_model.specs.declared.record.Link.{Link}
 use Rattle.container_model.specs.declared.answer.Done.{Done}
-use Rattle.container_laws.specs.Roles.{Role, Holding}
+use Rattle.container_laws.specs.Roles.{Holding}
 use Rattle.world_model.specs.declared.logs.ServerDone.{ServerDone}
 use Rattle.world_model.specs.Safe.{Among}
 use Rattle.world_facts.specs.Words.{Links, Acts, Lives, IsHonest}
@@ -19,7 +19,7 @@ use Rattle.world_facts.specs.Shapes.{Begins}
 use Rattle.world_facts.proofs.Issuing.{which}
 use Rattle.world_facts.proofs.Leaving.{AreCalls}
 use Rattle.world_facts.proofs.Lookups.{among_join, among_old}
-use Rattle.world_grants.specs.Grants.{Roles, Names, WasTold, Grants, Follows, GaveUp, GotTools, RolesMove}
+use Rattle.world_grants.specs.Grants.{Roles, Names, WasTold, Grants, Follows, GaveUp, RolesMove}
 
 -- more was sent
 pub told_more : (sent more : List Message) (inc act g : ℕ) (tools : Tools) → WasTold sent inc act g tools → WasTold (sent ++ more) inc act g tools
@@ -66,7 +66,7 @@ module _ (links : Links) (acts : Acts) (lives : Lives) (sent : List Message) (ow
     no_g o k l a e honest at has gave =
         let same : gave.link ≡ l = (let z : Some gave.link ≡ Some l = sym gave.linked ∙ e in cc) in
         let d : Did l.states l.s UiDeactivate a told.Done = did_answer o l UiDeactivate told.Done a e honest (ap (λ (x : Link). x.pending) (sym same) ∙ gave.pending)
-            (sends _ (subst (λ (x : Link). Among taken (Reply x.inc x.act x.last told.Done)) same gave.answered)) at in
+        (sends _ (subst (λ (x : Link). Among taken (Reply x.inc x.act x.last told.Done)) same gave.answered)) at in
         let z : None ≡ Some k = sym d.1 ∙ has in
         cc
 

@@ -1,6 +1,6 @@
 -- What each step of the container makes of roles.
-use Rattle.std.proofs.Common.{◌≡◌, ◌==◌, ℕ, Bool, true, false, List, [], ◌∷◌, Option, Some, None, Result, Ok, Err, refl, sym, ap, ◌∙◌, subst, if◌then◌else◌}
-use Rattle.wire_msgs.specs.Found.{find, put, nth}
+use Rattle.std.proofs.Common.{◌≡◌, ◌==◌, ℕ, Bool, true, false, List, [], ◌∷◌, Option, Some, None, Result, Ok, Err, refl, sym, ◌∙◌, subst, if◌then◌else◌}
+use Rattle.wire_msgs.specs.Found.{find, nth}
 use Rattle.wire_msgs.specs.declared.message.Message.{Message}
 use Rattle.wire_msgs.specs.declared.message.Message.TheVariants.{Call, Reply, Write, Ask}
 use Rattle.object_state.specs.Verbs.{verb_of}
@@ -55,8 +55,11 @@ committed_moves r f frame s at = left_moves r (commit_made r f frame).rec s (com
 -- a write
 module _ (r : Record) (inc act s w : ℕ) (content : Stored) (t : Took) where
   written_leaves : (o : Object) (l : Link) → find (is_linked inc act) r.objects ≡ Some o → Leaves r (write_made r inc act o l w content).rec
-  written_leaves o l f = (kept_stay r.objects _ (put_kept (is_linked inc act) (written_object o l w content) r.objects (λ x e. (let q : o ≡ x = (let z : Some o ≡ Some x = sym f ∙ e in cc) in
-      subst (λ z. Keeps z (written_object o l w content)) q (record { number = refl; frame = refl })))), none_move NoClaim NoTools r.frames)
+  written_leaves o l f = (
+    kept_stay r.objects _ (put_kept (is_linked inc act) (written_object o l w content) r.objects (λ x e. (let q : o ≡ x = (let z : Some o ≡ Some x = sym f ∙ e in cc) in
+        subst (λ z. Keeps z (written_object o l w content)) q (record { number = refl; frame = refl })))),
+    none_move NoClaim NoTools r.frames,
+  )
 
   write_leaves_link : (o : Object) (l : Option Link) → find (is_linked inc act) r.objects ≡ Some o → write_link r inc act s w content o l ≡ Ok t → Leaves r t.rec
   write_leaves_link o None f e = cc

@@ -1,6 +1,6 @@
 -- Verbs, closes and asks: a frame's grant is asked for or offered back, so nobody loses it and nobody holds it newly.
-use Rattle.std.proofs.Common.{◌≡◌, ◌||◌, ◌&&◌, ◌==◌, ◌+◌, ◌++◌, ℕ, ℤ, Bool, true, false, not, List, [], ◌∷◌, Option, Some, None, Result, Ok, Err, refl, sym, ap, ◌∙◌, subst, nat_le, if◌then◌else◌}
-use Rattle.wire_msgs.specs.Found.{find, put, nth, set_nth}
+use Rattle.std.proofs.Common.{◌≡◌, ◌||◌, ◌&&◌, ◌+◌, ℕ, Bool, true, false, not, List, [], ◌∷◌, Option, Some, None, Ok, Err, refl, sym, subst, nat_le, if◌then◌else◌}
+use Rattle.wire_msgs.specs.Found.{find, nth, set_nth}
 use Rattle.wire_msgs.specs.declared.operation.Operation.TheVariants.{UiDeactivate}
 use Rattle.object_state.specs.Verbs.{close_steps}
 use Rattle.object_state.specs.declared.operations.CloseOption.{CloseOption}
@@ -11,18 +11,15 @@ use Rattle.grant_core.specs.Grants as grant
 use Rattle.container_model.specs.declared.record.Link.{Link}
 use Rattle.container_model.specs.declared.record.Object.{Object}
 use Rattle.container_model.specs.declared.record.Frame.{Frame}
-use Rattle.container_model.specs.declared.fault.ContainerFault.{ContainerFault}
-use Rattle.container_model.specs.declared.fault.ContainerFault.TheVariants.{NoSuch, Busy, NotRunning, InDoubt, NumbersSpent, WrongState, Stale, WrongLink}
+use Rattle.container_model.specs.declared.fault.ContainerFault.TheVariants.{Busy, InDoubt, NumbersSpent, Stale}
 use Rattle.container_model.specs.Record.{Record, Took, is_object, is_linked, is_alive, is_busy, is_moving, is_saving, is_doubtful, has_numbers, counts_none, quiet_answer, with_frame, acts, sends}
-use Rattle.container_model.specs.Grants.{Requested, moved, request, grant_of}
-use Rattle.container_model.specs.Verbs.{gives_up, takes, left, claim_of, stepped_link, leaving_made, holder_of, revoked_at, claimed, revoked, taking_made, taking, holder_has_numbers, stepping, verb_steps, steps_of, verb_linked, wants_ui, verb_in, verb_at, close_steps_made, close_linked, close_in, close_at}
+use Rattle.container_model.specs.Grants.{moved, grant_of}
+use Rattle.container_model.specs.Verbs.{gives_up, takes, left, claim_of, leaving_made, holder_of, revoked_at, claimed, revoked, taking_made, taking, holder_has_numbers, verb_steps, steps_of, verb_linked, wants_ui, verb_in, verb_at, close_steps_made, close_linked, close_in, close_at}
 use Rattle.container_model.specs.Messages.{is_held_by, relieved, ask_framed, ask_found, on_ask}
-use Rattle.container_laws.proofs.SteadyFinds.{found_by_number}
 use Rattle.container_laws.proofs.SteadyRecords.{unless_ok}
-use Rattle.container_laws.specs.Steady.{Steady}
 use Rattle.world_grants.specs.Grants.{NoClaim, NoTools}
 use Rattle.world_grants.proofs.States.{asked}
-use Rattle.world_grants.proofs.Objects.{Keeps, AreKept, all_kept, kept_further, with_found, request_kept, request_frames, Stay, kept_stay}
+use Rattle.world_grants.proofs.Objects.{AreKept, all_kept, with_found, request_kept, request_frames, kept_stay}
 use Rattle.world_grants.proofs.Frames.{AllMove, none_move, one_moves}
 use Rattle.world_grants.proofs.Commands.{Leaves, leaves_all}
 
@@ -50,8 +47,7 @@ revoked_kept u (Some n) = (request_kept u n UiDeactivate, request_frames u n UiD
 taking_leaves : (r : Record) (n : ℕ) (frame : Frame) (o : Object) (l : Link) (steps : List Step) → find (is_object n) r.objects ≡ Some o → nth r.frames o.frame ≡ Some frame → Leaves r (taking_made r frame o l steps).rec
 taking_leaves r n frame o l steps f at =
     let u = claimed r frame o l in
-    let h = revoked_kept u (holder_of frame.ui.state) in
-    (
+    let h = revoked_kept u (holder_of frame.ui.state) in (
       kept_stay r.objects _ (with_found n r.objects (revoked r frame o l).rec.objects o _ h.0 f (record { number = refl; frame = refl })),
       subst (AllMove NoClaim NoTools r.frames) (sym h.1) (asked_moves r o.frame frame (claim_of o l (r.last_g + 1)) at),
     )
@@ -106,8 +102,7 @@ close_leaves r n option (Some o) t f e = close_leaves_in r n o option (nth r.fra
 -- the holder asks to be relieved of its frame
 relieved_leaves : (r : Record) (o : Object) (act g : ℕ) (frame : Frame) → nth r.frames o.frame ≡ Some frame → Leaves r (relieved r o act g frame).rec
 relieved_leaves r o act g frame at =
-    let u = with_frame r o.frame (moved frame (grant.Ask (record { object = o.number; act = act; g = g }))) in
-    (
+    let u = with_frame r o.frame (moved frame (grant.Ask (record { object = o.number; act = act; g = g }))) in (
       kept_stay r.objects _ (request_kept u o.number UiDeactivate),
       subst (AllMove NoClaim NoTools r.frames) (sym (request_frames u o.number UiDeactivate)) (asked_moves r o.frame frame (record { object = o.number; act = act; g = g }) at),
     )
@@ -118,6 +113,7 @@ ask_leaves_framed r o act g (Some frame) t at e = by_holder (is_held_by act g fr
   where
     made : Took
     made = counts_none (relieved r o act g frame).rec (acts (sends (relieved r o act g frame).sent))
+
     by_holder : (b : Bool) → (if b then Ok made else Err Stale) ≡ Ok t → Leaves r t.rec
     by_holder true k = (let is : made ≡ t = cc in subst (λ (v : Took). Leaves r v.rec) is (relieved_leaves r o act g frame at))
     by_holder false k = cc
