@@ -206,6 +206,7 @@ module _ (r : Record) (act g : ℕ) (u : Took) where
     where
       made : Took
       made = counts_none (relieved r o act g frame).rec (acts (sends (relieved r o act g frame).sent))
+
       by_holder : (b : Bool) → ◌≡◌ {A = Result Took ContainerFault} (if b then Ok made else Err Stale) (Ok u) → u.answer.taken ≡ false
       by_holder true k = (let is : made ≡ u = cc in ap (λ (v : Took). v.answer.taken) (sym is))
       by_holder false k = cc
@@ -256,7 +257,7 @@ module _ (w : World) (h : AgreesIn w) (p : ℕ) (x : Sent) (at : nth w.sent p �
       let l = c.link in
       let at_l : links_of w.rec.objects c.object.number ≡ Some l = ap link_at (found_by_number (is_linked inc act) w.rec.objects c.object h.steady.order c.found) ∙ c.linked in
       let replied : Among (messages w.sent) (Reply l.inc l.act l.last answer) = subst (λ i. Among (messages w.sent) (Reply i l.act l.last answer)) (sym c.inc_is)
-          (subst (λ a. Among (messages w.sent) (Reply inc a l.last answer)) (sym c.act_is) (subst (λ k. Among (messages w.sent) (Reply inc act k answer)) c.number there)) in
+      (subst (λ a. Among (messages w.sent) (Reply inc a l.last answer)) (sym c.act_is) (subst (λ k. Among (messages w.sent) (Reply inc act k answer)) c.number there)) in
       subst (λ i. WasSent w (Call i act n (Close SaveIfDirty))) c.inc_is (subst (λ a. WasSent w (Call l.inc a n (Close SaveIfDirty))) c.act_is (subst (λ k. WasSent w (Call l.inc l.act k (Close SaveIfDirty))) (sym c.number)
       (pending_called (links_of w.rec.objects) (acts_of w.instances) (lives_of w.instances) (messages w.sent) w.owners w.rec.last_act w.container_done w.server_done h.facts c.object.number l (Close SaveIfDirty) (roles_of w.rec) answer h.grants at_l tt c.pending replied)))
 

@@ -149,8 +149,7 @@ module _ (w : World) (h : AgreesIn w) where
       let frames : n.frame ≡ m.frame = (let z : Some n.frame ≡ Some m.frame = sym n.there ∙ m.there in cc) in
       let claims : n.claim ≡ m.claim = (let z : Some n.claim ≡ Some m.claim = sym n.named ∙ (ap (λ (k : Frame). who k.ui.state) frames ∙ m.named) in cc) in
       let numbers : n.number ≡ m.number = sym n.object_is ∙ (ap (λ (c : Claim). c.object) claims ∙ m.object_is) in
-      let links : n.link ≡ m.link = (let z : Some n.link ≡ Some m.link = sym n.linked ∙ (ap (links_of w.rec.objects) numbers ∙ m.linked) in cc) in
-      (
+      let links : n.link ≡ m.link = (let z : Some n.link ≡ Some m.link = sym n.linked ∙ (ap (links_of w.rec.objects) numbers ∙ m.linked) in cc) in (
         sym n.inc_is ∙ (ap (λ (l : Link). l.inc) links ∙ m.inc_is),
         sym n.claimed ∙ (ap (λ (c : Claim). c.act) claims ∙ m.claimed),
         sym n.g_is ∙ (ap (λ (c : Claim). c.g) claims ∙ m.g_is),
