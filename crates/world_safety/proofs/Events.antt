@@ -1,5 +1,5 @@
 -- Each event leaves a world that agrees in agreement.
-use Rattle.std.proofs.Common.{◌≡◌, ◌==◌, ℕ, zero, suc, ◌<◌, List, [], ◌∷◌, ◌++◌, map, Option, Some, None, Result, Ok, Err, refl, sym, ap, ◌∙◌, inl, inr, arith, subst, slice_get}
+use Rattle.std.proofs.Common.{◌≡◌, ℕ, zero, suc, ◌<◌, List, [], ◌∷◌, ◌++◌, map, Option, Some, None, Result, Ok, Err, refl, sym, ap, ◌∙◌, inl, inr, arith, subst, slice_get}
 use Rattle.std.proofs.lemmas.List.{append-nil}
 use Rattle.wire_msgs.specs.Found.{nth, set_nth}
 use Rattle.wire_msgs.specs.declared.message.Message.{Message}
@@ -29,7 +29,6 @@ use Rattle.world_model.specs.declared.event.Stop.{Stop}
 use Rattle.world_model.specs.World.{World, Instance, messages_of, of_container, started_by, ended_by, joined, took, commanded, owners_by, delivered, taken_at, with_taken, deliver, crashed, crash, ended, reap, kept_commit, done_taken, done_imaged, done_in, happened}
 use Rattle.world_model.specs.Safe.{Among, links_of, acts_of, messages}
 use Rattle.world_facts.specs.Words.{life_at, lives_of}
-use Rattle.world_facts.specs.Facts.{Facts}
 use Rattle.world_facts.specs.Shapes.{IsTold}
 use Rattle.world_facts.proofs.Lookups.{among_map}
 use Rattle.world_facts.proofs.Counting.{all_counted}

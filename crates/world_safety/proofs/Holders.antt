@@ -1,9 +1,6 @@
 -- An activation that has a grant is named by its object's frame: so at most one has a frame.
-use Rattle.std.proofs.Common.{◌≡◌, ◌≢◌, ℕ, List, Option, Some, None, refl, sym, ap, ◌∙◌, inl, inr, subst}
+use Rattle.std.proofs.Common.{◌≡◌, ◌≢◌, ℕ, Some, None, sym, ap, ◌∙◌, inl, inr, subst}
 use Rattle.wire_msgs.specs.Found.{find, nth}
-use Rattle.wire_msgs.specs.declared.message.Message.TheVariants.{Call, Reply}
-use Rattle.wire_msgs.specs.declared.operation.Operation.TheVariants.{UiActivate}
-use Rattle.wire_msgs.specs.declared.answer.Answer.TheVariants as told
 use Rattle.grant_core.specs.declared.grant_states.Claim.{Claim}
 use Rattle.grant_core.specs.declared.grant_states.Tools.{Tools}
 use Rattle.grant_core.specs.declared.grant_states.GrantState.{GrantState}
@@ -17,8 +14,8 @@ use Rattle.container_model.specs.Record.{is_object}
 use Rattle.container_laws.specs.Roles.{Holding, IsClaim, role_in}
 use Rattle.container_laws.proofs.SteadyRecords.{if_at}
 use Rattle.world_model.specs.declared.life.Life.TheVariants.{Running}
-use Rattle.world_model.specs.World.{World, Instance, nth_or_zero, owner}
-use Rattle.world_model.specs.Safe.{Among, link_at, links_of, act_at, acts_of, messages, HoldsFrame, IsHolder, WasAnswered}
+use Rattle.world_model.specs.World.{World, nth_or_zero, owner}
+use Rattle.world_model.specs.Safe.{link_at, links_of, act_at, acts_of, messages, HoldsFrame, IsHolder, WasAnswered}
 use Rattle.world_facts.specs.Words.{life_at, lives_of, IsLinked, IsOpen}
 use Rattle.world_grants.specs.Grants.{Names, WasTold, roles_of}
 use Rattle.world_grants.proofs.Moving.{IsIn, in_frame}

@@ -15,13 +15,11 @@ use Rattle.container_model.specs.declared.answer.Done.{Done}
 use Rattle.container_laws.specs.Steady.{Steady}
 use Rattle.container_laws.proofs.SteadyRecords.{unless_ok}
 use Rattle.container_laws.proofs.SteadyCommands.{on_command_keeps}
-use Rattle.world_model.specs.declared.logs.Sent.{Sent}
-use Rattle.world_model.specs.declared.logs.ServerDone.{ServerDone}
 use Rattle.world_model.specs.declared.life.Life.{Life}
 use Rattle.world_model.specs.declared.life.Life.TheVariants.{Running, Ended, Reaped}
 use Rattle.world_model.specs.World.{World, Instance, fresh, messages_of, of_container, started_by, end_of, ended_at, ended_by, joined}
 use Rattle.world_model.specs.Safe.{Among, links_of, act_at, acts_of, messages}
-use Rattle.world_facts.specs.Words.{Links, Acts, Lives, life_at, lives_of}
+use Rattle.world_facts.specs.Words.{life_at, lives_of}
 use Rattle.world_facts.specs.Facts.{Facts}
 use Rattle.world_facts.specs.Shapes.{AsksAll, IsQuiet, StartsOrEnds}
 use Rattle.world_facts.specs.Views.{Views}

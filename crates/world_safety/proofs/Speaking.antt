@@ -1,15 +1,13 @@
 -- What a server sends of its own accord: an activation writes, or asks to be relieved of its frame.
-use Rattle.std.proofs.Common.{◌≡◌, ◌==◌, ℕ, ◌+◌, Bool, true, false, List, [], ◌∷◌, ◌++◌, Option, Some, None, is_some, option_map, Result, Ok, Err, refl, sym, ap, ◌∙◌, inl, inr, subst, nat_le, if◌then◌else◌}
+use Rattle.std.proofs.Common.{◌≡◌, ◌==◌, ℕ, ◌+◌, Bool, true, false, Option, Some, None, is_some, option_map, Ok, Err, refl, sym, ap, ◌∙◌, subst, nat_le, if◌then◌else◌}
 use Rattle.std.specs.Prelude.{cond}
 use Rattle.std.proofs.lemmas.Bool.{eqb-true}
 use Rattle.wire_msgs.specs.Found.{find, put}
-use Rattle.wire_msgs.specs.declared.message.Message.{Message}
 use Rattle.wire_msgs.specs.declared.message.Message.TheVariants.{Write, Ask}
 use Rattle.object_state.specs.Persists.{may_write}
 use Rattle.embed_core.specs.Content.{Content}
 use Rattle.server_model.specs.Server.{Server, Activation, Told, is_act, stored_of, writes, scribbled_open, asks, asked}
 use Rattle.server_model.specs.Server as server
-use Rattle.server_model.specs.declared.fault.ServerFault.{ServerFault}
 use Rattle.server_model.specs.declared.fault.ServerFault.TheVariants.{Ignored, NumbersSpent}
 use Rattle.world_model.specs.World.{view_of}
 use Rattle.world_facts.specs.Shapes.{IsAlike, Alike, IsOwn}
