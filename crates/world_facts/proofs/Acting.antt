@@ -54,7 +54,7 @@ module _ (links : Links) (acts after : Acts) (lives : Lives) (sent : List Messag
         pending = λ asked p e. f.calls.pending o inc op asked l at p (subst (λ x. Among sent (Call inc l.act x op)) e mine);
       }
 
-  linked_or_closed : IsLinked links inc act ⊎ IsClosed (acts inc act)
+  pub linked_or_closed : IsLinked links inc act ⊎ IsClosed (acts inc act)
   linked_or_closed = f.unlinked.called inc act n op honest runs call
 
   -- the next call of an activation is the pending one of its link, which is at the activation's states
@@ -74,7 +74,7 @@ module _ (links : Links) (acts after : Acts) (lives : Lives) (sent : List Messag
   next_of o l b p en _ e (ahead y q g el d) = (let z : Some y ≡ Some b = e in let is : y ≡ b = cc in let lb : b.last ≡ l.last = ap (λ (w : Activation). w.last) (sym is) ∙ el in let le : n ≤ l.last = p.bound in absurd (omega arith))
 
   -- an activation that is next was called before, so its operation makes none
-  not_first : (o : ℕ) (l : Link) (b : Activation) → acts inc act ≡ Some b → links o ≡ Some l → n ≡ b.last + 1 → IsNextOf l b → IsFirst op → ⊥
+  pub not_first : (o : ℕ) (l : Link) (b : Activation) → acts inc act ≡ Some b → links o ≡ Some l → n ≡ b.last + 1 → IsNextOf l b → IsFirst op → ⊥
   not_first o l b at lk en x fo = (let one = (ready.first o l op lk x.asked fo).0 in let nl = x.number in let le : 1 ≤ b.last = f.drawn.acts_called inc act b at in absurd (omega arith))
 
   step_next : (o : ℕ) (l : Link) (b : Activation) → IsPending o l → acts inc act ≡ Some b → n ≡ b.last + 1 → Makes b op a r told → InStep l (Some a)
@@ -99,7 +99,7 @@ module _ (links : Links) (acts after : Acts) (lives : Lives) (sent : List Messag
   step_here : (o : ℕ) (l : Link) → IsPending o l → ActsOn acts inc act n op a r told → InStep l (Some a)
   step_here o l p (again at en er ec) = subst (InStep l) at p.step
   step_here o l p (next b at en opened m) = step_next o l b p at en m
-  step_here o l p (makes at en fo al ar d ec) = step_first o l p en al ar d _ at p.step
+  step_here o l p (makes at en fo al ar d ec eg) = step_first o l p en al ar d _ at p.step
 
   pub in_step : InSteps links after
   in_step o l e h = elim (same_act l.inc l.act inc act) [
@@ -111,7 +111,7 @@ module _ (links : Links) (acts after : Acts) (lives : Lives) (sent : List Messag
   called_here : ActsOn acts inc act n op a r told → 1 ≤ a.last
   called_here (again at en er ec) = f.drawn.acts_called inc act a at
   called_here (next b at en opened m) = (let el = m.last in omega arith)
-  called_here (makes at en fo al ar d ec) = omega arith
+  called_here (makes at en fo al ar d ec eg) = omega arith
 
   pub drawn : Drawn links after lives more owners last
   drawn = record {
@@ -139,7 +139,7 @@ module _ (links : Links) (acts after : Acts) (lives : Lives) (sent : List Messag
   closed_here : IsClosed (acts inc act) → ActsOn acts inc act n op a r told → a.content ≡ None
   closed_here c (again at en er ec) = subst IsClosed at c
   closed_here c (next b at en opened m) = absurd (let z : b.content ≡ None = subst IsClosed at c in let y : None ≡ Some opened.0 = sym z ∙ opened.1 in cc)
-  closed_here c (makes at en fo al ar d ec) = absurd (subst IsClosed at c)
+  closed_here c (makes at en fo al ar d ec eg) = absurd (subst IsClosed at c)
 
   known_here : ActsOn acts inc act n op a r told → IsLinked links inc act ⊎ (a.content ≡ None)
   known_here h = elim linked_or_closed [ inl g ↦ inl g | inr c ↦ inr (closed_here c h) ]
@@ -182,12 +182,12 @@ module _ (links : Links) (acts after : Acts) (lives : Lives) (sent : List Messag
       let bl : b.last ≡ b'.last = ap (λ (y : Activation). y.last) is in
       let el = k.last in
       (omega arith, (λ e. absurd (omega arith)), (λ e. absurd (omega arith)))
-  come_before m q b at le same (makes at' en fo al ar d ec) = absurd (let z : Some b ≡ None = sym at ∙ at' in cc)
+  come_before m q b at le same (makes at' en fo al ar d ec eg) = absurd (let z : Some b ≡ None = sym at ∙ at' in cc)
 
   reply_here : ActsOn acts inc act n op a r told → (n ≤ a.last) × (n ≡ a.last → r ≡ a.reply) × ((a.last ≡ n) × (a.reply ≡ r))
   reply_here (again at en er ec) = (let el : n ≡ a.last = en in omega arith, (λ e. er), (sym en, sym er))
   reply_here (next b at en opened k) = (let el : a.last ≡ n = k.last ∙ sym en in (omega arith, (λ e. sym k.reply), (el, k.reply)))
-  reply_here (makes at en fo al ar d ec) = (let el : a.last ≡ n = al ∙ sym en in (omega arith, (λ e. sym ar), (el, ar)))
+  reply_here (makes at en fo al ar d ec eg) = (let el : a.last ≡ n = al ∙ sym en in (omega arith, (λ e. sym ar), (el, ar)))
 
   replies_kept_now : (i x m : ℕ) (q : Answer) → IsHonest i → Among sent (Reply i x m q) → (b : Activation) × (after i x ≡ Some b) × (m ≤ b.last) × (m ≡ b.last → q ≡ b.reply)
   replies_kept_now i x m q h g = (let k = f.replies.replies_kept i x m q h g in elim (same_act i x inc act) [
@@ -237,7 +237,7 @@ module _ (links : Links) (acts after : Acts) (lives : Lives) (sent : List Messag
         absurd (let z : None ≡ Some c = sym (ready.saving o s.0 l p.at (x.asked ∙ ap Some s.1)) ∙ ls in cc))
     | inr e ↦ e ∙ subst (HasSaved c) at h
   ]
-  saved_here o l c p ls h (makes at en fo al ar d ec) = absurd (subst (HasSaved c) at h)
+  saved_here o l c p ls h (makes at en fo al ar d ec eg) = absurd (subst (HasSaved c) at h)
 
   pub saved_same : SavedSame links after
   saved_same o l c e h ls = elim (same_act l.inc l.act inc act) [
@@ -305,7 +305,7 @@ module _ (links : Links) (acts after : Acts) (lives : Lives) (sent : List Messag
             absurd (not_saving lk.0 lk.1 sv.0 k m s lk.2 (x.asked ∙ ap Some sv.1) x.number (omega arith) i))
         | inr same ↦ (before.0, same ∙ before.1, before.2)
       ]
-  content_here m k o s i opened lt e (makes at en fo al ar d ec) =
+  content_here m k o s i opened lt e (makes at en fo al ar d ec eg) =
       let lk = link_of opened (λ b' e'. absurd (let z : None ≡ Some b' = sym at ∙ e' in cc)) in
       let x = first_alone lk.0 lk.1 lk.2 en fo _ at lk.2.step in
       absurd (not_beginning lk.0 lk.1 k m s lk.2 x.0 x.1 (omega arith) i)
@@ -313,7 +313,7 @@ module _ (links : Links) (acts after : Acts) (lives : Lives) (sent : List Messag
   further : (b : Activation) → acts inc act ≡ Some b → ActsOn acts inc act n op a r told → b.last ≤ a.last
   further b at (again at' en er ec) = (let z : Some b ≡ Some a = sym at ∙ at' in let e : b ≡ a = cc in let le : b.last ≡ a.last = ap (λ (y : Activation). y.last) e in omega arith)
   further b at (next b' at' en opened w) = (let z : Some b ≡ Some b' = sym at ∙ at' in let e : b ≡ b' = cc in let le : b.last ≡ b'.last = ap (λ (y : Activation). y.last) e in let la = w.last in omega arith)
-  further b at (makes at' en fo al ar d ec) = absurd (let z : Some b ≡ None = sym at ∙ at' in cc)
+  further b at (makes at' en fo al ar d ec eg) = absurd (let z : Some b ≡ None = sym at ∙ at' in cc)
 
   abbrev pub Called : ServerDone → Type 0
   Called e = (x m : ℕ) × (storage : Bool) × (b : Activation) × Among more (Call e.inc x m (SaveCompleted e.k storage)) × (nth owners x ≡ Some e.object) × (after e.inc x ≡ Some b) × (m ≤ b.last)
@@ -339,7 +339,7 @@ module _ (links : Links) (acts after : Acts) (lives : Lives) (sent : List Messag
   counts_at None c e h k = absurd h
   counts_at (Some v) c e (inr h) k = absurd h
   counts_at (Some v) c e (inl is) (again at en er ec) = absurd (let z : Some v ≡ None = sym c ∙ ec in cc)
-  counts_at (Some v) c e (inl is) (makes at en fo al ar d ec) = absurd (let z : Some v ≡ None = sym c ∙ ec in cc)
+  counts_at (Some v) c e (inl is) (makes at en fo al ar d ec eg) = absurd (let z : Some v ≡ None = sym c ∙ ec in cc)
   counts_at (Some v) c e (inl is) (next b at en opened k) =
       let w = k.counts v c in
       let told_of : Among sent (Call inc act n (SaveCompleted v.k w.0)) = subst (λ (y : Operation). Among sent (Call inc act n y)) w.1 call in

@@ -62,7 +62,7 @@ module _ (links : Links) (acts after : Acts) (lives : Lives) (sent : List Messag
       ap (λ k. record { message = Reply inc act k a.reply; view = Some (view_of b) }) (sym la) ∙ (ap (λ q. record { message = Reply inc act n q; view = Some (view_of b) }) m.reply
       ∙ ap (λ y. record { message = Reply inc act n r; view = option_map view_of y }) (sym at)) in
       record { view = view_of b; among = among_new log (reply ∷ []) _ (inl is); opened = is_opened b opened; states = x.states; grant = x.grant }
-  seen_now o l option e ei ea p el (makes at en fo al ar d ec) =
+  seen_now o l option e ei ea p el (makes at en fo al ar d ec eg) =
       let pb = pending_of o l e ei ea in
       let l1 : l.last ≡ 1 = first_last l (acts inc act) at pb.step in
       let oc : op ≡ Close option = pb.pending (Close option) p (en ∙ sym l1) in

@@ -10,7 +10,7 @@ use Rattle.object_state.specs.declared.both_states.States.{States}
 use Rattle.server_model.specs.Server.{Activation}
 use Rattle.server_model.specs.declared.counted.Counted.{Counted}
 use Rattle.wire_msgs.specs.declared.operation.Operation.{Operation}
-use Rattle.wire_msgs.specs.declared.operation.Operation.TheVariants.{InitNew, Load, Save, SaveCompleted}
+use Rattle.wire_msgs.specs.declared.operation.Operation.TheVariants.{InitNew, Load, UiActivate, UiDeactivate, Save, SaveCompleted}
 use Rattle.storage_tree.specs.declared.stored.Stored.{Stored}
 use Rattle.container_model.specs.Commands.{begun_link}
 use Rattle.container_model.specs.declared.record.Link.{Link}
@@ -128,26 +128,34 @@ IsFirst (InitNew class) = ⊤
 IsFirst (Load class content) = ⊤
 IsFirst op = ⊥
 
+-- an operation that gives an activation its frame's menus and border, or takes them
+abbrev pub MovesGrant : Operation → Type 0
+MovesGrant (UiActivate g) = ⊤
+MovesGrant UiDeactivate = ⊤
+MovesGrant op = ⊥
+
 -- one activation is another one
 pub record IsChanged (acts after : Acts) (inc act : ℕ) (a : Activation) : Type 0 where
   pub here : after inc act ≡ Some a
   pub others : (i x : ℕ) → (i ≡ inc → x ≡ act → ⊥) → after i x ≡ acts i x
 
 -- What the next call makes of an open activation, where the tables take its operation and it isn't a first one; only a
--- save changes the content that is kept, and a save is counted with just that.
+-- save changes the content that is kept, and a save is counted with just that. A grant is given and taken by its own
+-- operations alone.
 pub record Makes (before : Activation) (op : Operation) (after : Activation) (r : Answer) (counted : Option Counted) : Type 0 where
   pub last : after.last ≡ before.last + 1
   pub reply : after.reply ≡ r
   pub did : (v : States) → both.step before.states (op_of op) ≡ Ok v → (IsFirst op → ⊥) → Did before.states before.s op after r
   pub saved : ((k : ℕ) × (op ≡ Save k)) ⊎ (after.saved ≡ before.saved)
   pub counts : (v : Counted) → counted ≡ Some v → (storage : Bool) × (op ≡ SaveCompleted v.k storage) × (before.saved ≡ Some v.content)
+  pub grant : MovesGrant op ⊎ (after.g ≡ before.g)
 
 -- Acts, or answers again: a server takes call n of an activation. It is the last one again, or the next one of an open
 -- activation, or a first one of an activation that it doesn't know.
 pub data ActsOn (acts : Acts) (inc act n : ℕ) (op : Operation) (after : Activation) (r : Answer) (counted : Option Counted) : Type 0 where
   again : acts inc act ≡ Some after → n ≡ after.last → r ≡ after.reply → counted ≡ None → ActsOn acts inc act n op after r counted
   next : (before : Activation) → acts inc act ≡ Some before → n ≡ before.last + 1 → IsOpen before → Makes before op after r counted → ActsOn acts inc act n op after r counted
-  makes : acts inc act ≡ None → n ≡ 1 → IsFirst op → after.last ≡ 1 → after.reply ≡ r → Did both.loaded 0 op after r → counted ≡ None → ActsOn acts inc act n op after r counted
+  makes : acts inc act ≡ None → n ≡ 1 → IsFirst op → after.last ≡ 1 → after.reply ≡ r → Did both.loaded 0 op after r → counted ≡ None → after.g ≡ None → ActsOn acts inc act n op after r counted
 
 -- What a container's record keeps by itself, as far as a server's step leans on it: the tables take what is pending, a
 -- first call is alone, and where a save is asked its content is not answered and no end of a save waits.

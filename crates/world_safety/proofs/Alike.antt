@@ -10,6 +10,8 @@ use Rattle.world_facts.specs.Words.{lives_of}
 pub use Rattle.world_facts.specs.Shapes.{IsAlike, Alike}
 use Rattle.world_facts.proofs.Alike.{facts_alike}
 use Rattle.world_facts.proofs.Leaving.{tells_leave, grows_none, views_kept}
+use Rattle.world_grants.specs.Grants.{roles_of}
+use Rattle.world_grants.proofs.Alike.{grants_alike}
 use Rattle.world_safety.specs.Holding.{Agrees}
 
 pub agrees_alike : (rec : Record) (is js : List Instance) (sent : List Sent) (owners : List ℕ) (counted : List Done) (served : List ServerDone)
@@ -20,4 +22,5 @@ agrees_alike rec is js sent owners counted served many same still h = record {
   servers = h.servers ∙ sym many;
   facts = facts_alike (links_of rec.objects) (acts_of is) (acts_of js) (lives_of is) (lives_of js) (messages sent) owners rec.last_act counted served same still h.facts;
   views = views_kept (links_of rec.objects) (links_of rec.objects) (acts_of is) (acts_of js) sent sent (tells_leave (links_of rec.objects) (acts_of is) (acts_of js) same) (grows_none sent) h.views;
+  grants = grants_alike (links_of rec.objects) (roles_of rec) (acts_of is) (acts_of js) (messages sent) same h.grants;
 }

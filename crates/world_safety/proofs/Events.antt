@@ -1,5 +1,5 @@
 -- Each event leaves a world that agrees in agreement.
-use Rattle.std.proofs.Common.{◌≡◌, ◌==◌, ℕ, zero, suc, ◌<◌, List, [], ◌∷◌, ◌++◌, map, Option, Some, None, Result, Ok, Err, refl, sym, ap, ◌∙◌, inl, inr, arith, subst, slice_get}
+use Rattle.std.proofs.Common.{◌≡◌, ℕ, zero, suc, ◌<◌, List, [], ◌∷◌, ◌++◌, map, Option, Some, None, Result, Ok, Err, refl, sym, ap, ◌∙◌, inl, inr, arith, subst, slice_get}
 use Rattle.std.proofs.lemmas.List.{append-nil}
 use Rattle.wire_msgs.specs.Found.{nth, set_nth}
 use Rattle.wire_msgs.specs.declared.message.Message.{Message}
@@ -29,27 +29,29 @@ use Rattle.world_model.specs.declared.event.Stop.{Stop}
 use Rattle.world_model.specs.World.{World, Instance, messages_of, of_container, started_by, ended_by, joined, took, commanded, owners_by, delivered, taken_at, with_taken, deliver, crashed, crash, ended, reap, kept_commit, done_taken, done_imaged, done_in, happened}
 use Rattle.world_model.specs.Safe.{Among, links_of, acts_of, messages}
 use Rattle.world_facts.specs.Words.{life_at, lives_of}
-use Rattle.world_facts.specs.Facts.{Facts}
 use Rattle.world_facts.specs.Shapes.{IsTold}
 use Rattle.world_facts.proofs.Lookups.{among_map}
 use Rattle.world_facts.proofs.Counting.{all_counted}
-use Rattle.world_facts.proofs.Ending.{some_ended}
-use Rattle.world_facts.proofs.Leaving.{AreCalls, ends_leave, grows_calls, views_kept}
 use Rattle.world_files.specs.Files.{id_of, Files}
 use Rattle.world_files.proofs.Bounding.{parts_of_frame}
 use Rattle.world_files.proofs.Kept.{commit_is_at, image_is_at}
 use Rattle.world_steps.proofs.Instances.{nth_same}
 use Rattle.world_steps.proofs.Asking.{new_asks, insert_asks, edit_asks, save_asks}
+use Rattle.world_grants.proofs.Ending.{reap_moves}
+use Rattle.world_grants.proofs.Taking.{command_moves, committed_moves, message_moves}
+use Rattle.world_steps.specs.Steps.{IsTurned}
 use Rattle.world_steps.proofs.Closing.{delete_asks, close_asks}
+use Rattle.world_steps.proofs.Verbing.{verb_asks}
+use Rattle.world_steps.proofs.Relieving.{ask_asks}
 use Rattle.world_steps.proofs.Replying.{reply_answers}
 use Rattle.world_steps.proofs.Taking.{write_asks}
 use Rattle.world_steps.proofs.Reaping.{reap_ends}
 use Rattle.world_steps.proofs.Committing.{commit_counts, commit_plain}
 use Rattle.world_safety.specs.Holding.{Agrees, AgreesIn}
-use Rattle.world_safety.proofs.Joining.{plain_joined, asked_views, asks_joined, no_calls, answered_joined, run_joined, start_joined, stopped_agrees, kill_joined}
+use Rattle.world_safety.proofs.Joining.{plain_joined, asked_views, joined_grants, turned_joined, asks_turned, answered_joined, reaped_joined, run_joined, start_joined, stopped_agrees, kill_joined}
 use Rattle.world_safety.proofs.Serving.{agrees_called}
-use Rattle.world_safety.proofs.Scribbling.{agrees_scribble}
-use Rattle.world_safety.proofs.Granting.{asked_nothing}
+use Rattle.world_safety.proofs.Shaping.{asks_followed}
+use Rattle.world_safety.proofs.Scribbling.{agrees_scribble, agrees_ask}
 
 ok_is : (x y : World) → ◌≡◌ {A = Result World Stop} (Ok x) (Ok y) → x ≡ y
 ok_is x y e = cc
@@ -58,16 +60,20 @@ ok_is x y e = cc
 plain_owners : (w : World) (t : Took) → AgreesIn (joined w t) → AgreesIn (record (joined w t) { owners = w.owners ++ [] })
 plain_owners w t h = subst (λ o. Agrees t.rec (ended_by t.answer.actions w.instances ++ started_by t.rec.numbers t.answer.actions) (w.sent ++ map of_container (messages_of t.answer.actions)) o w.container_done w.server_done) (sym (append-nil w.owners)) h
 
+turned_command : (w : World) (c : Command) (t : Took) → AgreesIn w → on_command w.rec c ≡ Ok t → IsTurned w.rec t → AgreesIn (record (joined w t) { owners = w.owners ++ [] })
+turned_command w c t h e m = plain_owners w t (turned_joined w t [] h (on_command_keeps w.rec c t h.steady e) (command_moves w.rec c t h.steady e) (λ x z. absurd z) m)
+
 agrees_command : (w : World) (c : Command) (t : Took) → AgreesIn w → on_command w.rec c ≡ Ok t → AgreesIn (record (joined w t) { owners = w.owners ++ owners_by c })
-agrees_command w (command.New name x y) t h e = plain_owners w t (asks_joined w t h (on_command_keeps w.rec (command.New name x y) t h.steady e) (new_asks w.rec name x y t e))
-agrees_command w (command.Insert f kind area) t h e = plain_owners w t (asks_joined w t h (on_command_keeps w.rec (command.Insert f kind area) t h.steady e) (insert_asks w.rec f (kind_of kind) area t e))
+agrees_command w (command.New name x y) t h e = turned_command w (command.New name x y) t h e (asks_turned w.rec t (new_asks w.rec name x y t e))
+agrees_command w (command.Insert f kind area) t h e = turned_command w (command.Insert f kind area) t h e (asks_turned w.rec t (insert_asks w.rec f (kind_of kind) area t e))
 agrees_command w command.Start t h e = plain_owners w t (start_joined w t h e)
 agrees_command w (command.Run o inc) t h e = run_joined w o inc t h e
-agrees_command w (command.Edit o bytes) t h e = plain_owners w t (asks_joined w t h (on_command_keeps w.rec (command.Edit o bytes) t h.steady e) (edit_asks w.rec o bytes t h.steady e))
-agrees_command w (command.Save f) t h e = plain_owners w t (asks_joined w t h (on_command_keeps w.rec (command.Save f) t h.steady e) (save_asks w.rec f t h.steady e))
-agrees_command w (command.Delete o) t h e = plain_owners w t (asks_joined w t h (on_command_keeps w.rec (command.Delete o) t h.steady e) (delete_asks w.rec o t h.steady e))
+agrees_command w (command.Edit o bytes) t h e = turned_command w (command.Edit o bytes) t h e (asks_turned w.rec t (edit_asks w.rec o bytes t h.steady e))
+agrees_command w (command.Save f) t h e = turned_command w (command.Save f) t h e (asks_turned w.rec t (save_asks w.rec f t h.steady e))
+agrees_command w (command.Delete o) t h e = turned_command w (command.Delete o) t h e (asks_turned w.rec t (delete_asks w.rec o t h.steady e))
 agrees_command w (command.Kill inc) t h e = plain_owners w t (kill_joined w inc t h e)
-agrees_command w (command.Close o option) t h e = plain_owners w t (asks_joined w t h (on_command_keeps w.rec (command.Close o option) t h.steady e) (close_asks w.rec o option t h.steady e))
+agrees_command w (command.Close o option) t h e = turned_command w (command.Close o option) t h e (close_asks w.rec o option t h.steady e)
+agrees_command w (command.Verb o number) t h e = turned_command w (command.Verb o number) t h e (verb_asks w.rec o number t h.steady e)
 
 agrees_commanded : (w : World) (c : Command) (told : Result Took ContainerFault) → AgreesIn w → on_command w.rec c ≡ told → AgreesIn (commanded w c told)
 agrees_commanded w c (Err fault) h e = h
@@ -87,15 +93,28 @@ agrees_took : (w : World) (told : Result Took ContainerFault) → AgreesIn w →
 agrees_took w (Err fault) h g = h
 agrees_took w (Ok t) h g = g t refl
 
+-- the message that is taken was sent
+sent_one : (sent : List Message) (m : Message) → Among sent m → (x : Message) → Among (m ∷ []) x → Among sent x
+sent_one sent m g x (inl e) = subst (Among sent) (sym e) g
+sent_one sent m g x (inr z) = absurd z
+
 agrees_replied : (w : World) (inc act n : ℕ) (answer : _) (t : Took) → AgreesIn w → Among (messages w.sent) (Reply inc act n answer) → on_message w.rec inc (Reply inc act n answer) ≡ Ok t → AgreesIn (joined w t)
-agrees_replied w inc act n answer t h g e = answered_joined w t h (on_message_keeps w.rec inc (Reply inc act n answer) t h.steady e)
+agrees_replied w inc act n answer t h g e =
+    let m = Reply inc act n answer in
+    answered_joined w t (m ∷ []) h (on_message_keeps w.rec inc m t h.steady e) (message_moves w.rec inc m t h.steady e) (sent_one (messages w.sent) m g)
     (reply_answers w.rec (acts_of w.instances) (lives_of w.instances) (messages w.sent) w.owners w.rec.last_act w.container_done w.server_done inc act n answer h.steady h.facts tt g t e)
+
+-- a message that asks, or nothing
+agrees_asked : (w : World) (inc : ℕ) (m : Message) (t : Took) → AgreesIn w → Among (messages w.sent) m → on_message w.rec inc m ≡ Ok t → IsTurned w.rec t → AgreesIn (joined w t)
+agrees_asked w inc m t h g e turned = turned_joined w t (m ∷ []) h (on_message_keeps w.rec inc m t h.steady e) (message_moves w.rec inc m t h.steady e) (sent_one (messages w.sent) m g) turned
 
 agrees_delivered : (w : World) (m : Message) (v : World) → AgreesIn w → Among (messages w.sent) m → delivered w m ≡ Ok v → AgreesIn v
 agrees_delivered w (Call inc act n op) v h g e = agrees_called w h inc act n op g (nth w.instances inc) v refl e
 agrees_delivered w (Reply inc act n answer) v h g e = subst AgreesIn (ok_is _ v e) (agrees_took w (on_message w.rec inc (Reply inc act n answer)) h (λ t q. agrees_replied w inc act n answer t h g q))
-agrees_delivered w (Write inc act s n content) v h g e = subst AgreesIn (ok_is _ v e) (agrees_took w (on_message w.rec inc (Write inc act s n content)) h (λ t q. asks_joined w t h (on_message_keeps w.rec inc (Write inc act s n content) t h.steady q) (write_asks w.rec inc act s n content t h.steady q)))
-agrees_delivered w (Ask inc act j) v h g e = subst AgreesIn (ok_is _ v e) (agrees_took w (on_message w.rec inc (Ask inc act j)) h (λ t q. absurd (asked_nothing (inc == inc) t q)))
+agrees_delivered w (Write inc act s n content) v h g e = subst AgreesIn (ok_is _ v e) (agrees_took w (on_message w.rec inc (Write inc act s n content)) h
+    (λ t q. agrees_asked w inc (Write inc act s n content) t h g q (asks_turned w.rec t (write_asks w.rec inc act s n content t h.steady q))))
+agrees_delivered w (Ask inc act j) v h g e = subst AgreesIn (ok_is _ v e) (agrees_took w (on_message w.rec inc (Ask inc act j)) h
+    (λ t q. agrees_asked w inc (Ask inc act j) t h g q (asks_turned w.rec t (ask_asks w.rec inc act j t h.steady q))))
 
 -- what was taken is logged
 agrees_logged : (w : World) (more : List Taken) (told : Result World Stop) (v : World) → ((u : World) → told ≡ Ok u → AgreesIn u) → with_taken w more told ≡ Ok v → AgreesIn v
@@ -117,15 +136,7 @@ agrees_crash w inc None v h at e = cc
 agrees_crash w inc (Some i) v h at e = agrees_crashed w inc i i.life v h at e
 
 reap_joined : (w : World) (inc : ℕ) (t : Took) → AgreesIn w → (lives_of w.instances inc ≡ Some Running → ⊥) → on_reap w.rec inc ≡ Ok t → AgreesIn (joined w t)
-reap_joined w inc t h over e =
-    let m = reap_ends w.rec (acts_of w.instances) (lives_of w.instances) inc over t e in
-    let f = some_ended (links_of w.rec.objects) (links_of t.rec.objects) (acts_of w.instances) (lives_of w.instances) (messages w.sent) w.owners w.rec.last_act w.container_done w.server_done m.0 h.facts in
-    let more = messages_of t.answer.actions in
-    let none : AreCalls more = no_calls more m.1 in
-    plain_joined w t w.container_done h (on_reap_keeps w.rec inc t h.steady e) m.2
-    (subst (λ xs. Facts (links_of t.rec.objects) (acts_of w.instances) (lives_of w.instances) xs w.owners w.rec.last_act w.container_done w.server_done) (sym (ap (λ v. messages w.sent ++ v) m.1 ∙ append-nil (messages w.sent))) f)
-    (views_kept (links_of w.rec.objects) (links_of t.rec.objects) (acts_of w.instances) (acts_of w.instances) w.sent (w.sent ++ map of_container more)
-    (ends_leave (links_of w.rec.objects) (links_of t.rec.objects) (acts_of w.instances) (lives_of w.instances) m.0) (grows_calls w.sent more none) h.views)
+reap_joined w inc t h over e = reaped_joined w t h (on_reap_keeps w.rec inc t h.steady e) (reap_moves w.rec inc t h.steady e) (reap_ends w.rec (acts_of w.instances) (lives_of w.instances) inc h.steady over t e)
 
 agrees_ended : (w : World) (inc : ℕ) (i : Instance) (life : Life) (v : World) → AgreesIn w → nth w.instances inc ≡ Some i → ended w inc i life ≡ Ok v → AgreesIn v
 agrees_ended w inc i Running v h at e = cc
@@ -163,7 +174,8 @@ module _ (w : World) (k : Files w) (h : AgreesIn w) (f : ℕ) (frame : Frame) (a
   commit_agrees steady = (let counts = commit_counts w.rec f frame h.steady at committing w.container_done apart in plain_joined w made (w.container_done ++ fresh) h steady (commit_plain w.rec f frame h.steady at committing)
       (all_counted (links_of w.rec.objects) (links_of made.rec.objects) (acts_of w.instances) (lives_of w.instances) (messages w.sent) (messages_of made.answer.actions) w.owners w.rec.last_act w.container_done fresh w.server_done frame.k
       counts h.facts)
-      (asked_views (IsTold (links_of w.rec.objects) frame.k fresh) w made h counts.tells))
+      (asked_views (IsTold (links_of w.rec.objects) frame.k fresh) w made h counts.tells)
+      (joined_grants w made [] h (committed_moves w.rec f frame h.steady at) (λ x z. absurd z) (asks_followed (IsTold (links_of w.rec.objects) frame.k fresh) (links_of w.rec.objects) (links_of made.rec.objects) (messages_of made.answer.actions) counts.tells)))
 
 agrees_done_taken : (w : World) (f : ℕ) (bytes : List ℕ) (frame : Frame) (parts : List Part) (told : Result Took ContainerFault) (v : World) → Files w → AgreesIn w → nth w.rec.frames f ≡ Some frame
     → image w.rec f ≡ Ok parts → commit_done w.rec f ≡ told → done_taken w f bytes frame parts told ≡ Ok v → AgreesIn v
@@ -193,4 +205,5 @@ agrees_happened w bytes (event.Deliver p) v k h e = agrees_deliver w p (nth w.se
 agrees_happened w bytes (event.Crash inc) v k h e = agrees_crash w inc (nth w.instances inc) v h refl e
 agrees_happened w bytes (event.Reap inc) v k h e = agrees_reap w inc (nth w.instances inc) v h refl e
 agrees_happened w bytes (event.Scribble inc act) v k h e = agrees_scribble w inc act (nth w.instances inc) v h refl e
+agrees_happened w bytes (event.Ask inc act) v k h e = agrees_ask w inc act (nth w.instances inc) v h refl e
 agrees_happened w bytes (event.Done f) v k h e = agrees_done_in w f bytes (nth w.rec.frames f) v k h refl e

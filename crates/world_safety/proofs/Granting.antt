@@ -5,16 +5,19 @@ use Rattle.wire_msgs.specs.Found.{find, nth, set_nth}
 use Rattle.wire_msgs.specs.declared.message.Message.{Message}
 use Rattle.wire_msgs.specs.declared.message.Message.TheVariants.{Call, Reply, Write, Ask}
 use Rattle.wire_msgs.specs.declared.operation.Operation.{Operation}
+use Rattle.wire_msgs.specs.declared.operation.Operation.TheVariants.{Close}
+use Rattle.object_state.specs.declared.operations.CloseOption.TheVariants.{SaveIfDirty}
 use Rattle.wire_msgs.specs.declared.answer.Answer.{Answer}
 use Rattle.wire_msgs.specs.declared.answer.Answer.TheVariants.{Content}
+use Rattle.wire_msgs.specs.declared.answer.Answer.TheVariants as told
 use Rattle.embed_core.specs.Kinds.{Kind}
 use Rattle.storage_tree.specs.declared.stored.Stored.{Stored}
 use Rattle.server_model.specs.Server.{Served, Told, on_call, wanted}
 use Rattle.server_model.specs.Server as server
 use Rattle.server_model.specs.declared.fault.ServerFault.{ServerFault}
-use Rattle.container_model.specs.Record.{Record, Took, is_linked}
+use Rattle.container_model.specs.Record.{Record, Took, acts, counts_none, sends, is_alive, is_linked}
 use Rattle.container_model.specs.Saves.{image, commit_done}
-use Rattle.container_model.specs.Messages.{awaits_save, on_message, on_reap}
+use Rattle.container_model.specs.Messages.{awaits_save, is_held_by, relieved, ask_framed, ask_found, on_message, on_reap}
 use Rattle.container_model.specs.Commands.{on_command}
 use Rattle.container_model.specs.declared.answer.Part.{Part}
 use Rattle.container_model.specs.declared.command.Command.{Command}
@@ -30,13 +33,16 @@ use Rattle.world_model.specs.declared.life.Life.{Life}
 use Rattle.world_model.specs.declared.life.Life.TheVariants.{Running, Ended, Reaped}
 use Rattle.world_model.specs.declared.logs.Sent.{Sent}
 use Rattle.world_model.specs.declared.logs.Taken.{Taken}
-use Rattle.world_model.specs.World.{World, Instance, messages_of, of_container, took, commanded, view_in, served, is_of, stocked, called_wanting, called_in, called, delivered, taken_link, taken_of, taken_by, taken_at, with_taken, deliver, scribbled_by, scribbled, scribble, crashed, crash, ended, reap, done_taken, done_imaged, done_in, happened}
-use Rattle.world_model.specs.Safe.{Among, acts_of, messages, IsGranted}
+use Rattle.world_model.specs.World.{World, Instance, messages_of, of_container, took, commanded, view_in, served, is_of, stocked, called_wanting, called_in, called, delivered, taken_link, taken_of, taken_by, taken_at, with_taken, deliver, spoken_by, spoken, scribble, ask, crashed, crash, ended, reap, done_taken, done_imaged, done_in, happened}
+use Rattle.world_model.specs.Safe.{Among, WasSent, link_at, links_of, acts_of, messages, Brings, IsGranted}
 use Rattle.world_facts.specs.Words.{lives_of}
 use Rattle.world_facts.specs.Views.{IsSentOpen}
 use Rattle.world_facts.proofs.Lookups.{among_join, among_map, among_old, nth_old, find_passes}
 use Rattle.world_steps.proofs.Objects.{messages_of_log}
-use Rattle.world_steps.proofs.Replying.{linked_is, reply_closes}
+use Rattle.container_laws.proofs.SteadyFinds.{found_by_number}
+use Rattle.world_grants.specs.Grants.{roles_of}
+use Rattle.world_grants.proofs.Stepping.{pending_called}
+use Rattle.world_steps.proofs.Replying.{linked_is, IsClosing, reply_closes}
 use Rattle.world_steps.proofs.Taking.{normal_of, write_is, held_open}
 use Rattle.world_safety.specs.Holding.{AgreesIn}
 
@@ -108,18 +114,22 @@ grew_reap : (w : World) (inc : ℕ) (i : Option Instance) (v : World) → reap w
 grew_reap w inc None v e = cc
 grew_reap w inc (Some i) v e = grew_ended w inc i i.life v e
 
-grew_scribbled_by : (w : World) (inc act : ℕ) (i : Instance) (told : Result Told ServerFault) → Grew w (scribbled_by w inc act i told)
-grew_scribbled_by w inc act i (Err fault) = stays w _ refl refl
-grew_scribbled_by w inc act i (Ok t) = record { more = record { message = t.message; view = view_in i.core act } ∷ []; sent = refl; taken = refl }
+grew_spoken_by : (w : World) (inc act : ℕ) (i : Instance) (told : Result Told ServerFault) → Grew w (spoken_by w inc act i told)
+grew_spoken_by w inc act i (Err fault) = stays w _ refl refl
+grew_spoken_by w inc act i (Ok t) = record { more = record { message = t.message; view = view_in i.core act } ∷ []; sent = refl; taken = refl }
 
-grew_scribbled : (w : World) (inc act : ℕ) (i : Instance) (life : Life) (v : World) → scribbled w inc act i life ≡ Ok v → Grew w v
-grew_scribbled w inc act i Running v e = subst (Grew w) (ok_is _ v e) (grew_scribbled_by w inc act i (server.scribble i.core act))
-grew_scribbled w inc act i Ended v e = cc
-grew_scribbled w inc act i Reaped v e = cc
+grew_spoken : (w : World) (inc act : ℕ) (i : Instance) (told : Result Told ServerFault) (life : Life) (v : World) → spoken w inc act i life told ≡ Ok v → Grew w v
+grew_spoken w inc act i told Running v e = subst (Grew w) (ok_is _ v e) (grew_spoken_by w inc act i told)
+grew_spoken w inc act i told Ended v e = cc
+grew_spoken w inc act i told Reaped v e = cc
 
 grew_scribble : (w : World) (inc act : ℕ) (i : Option Instance) (v : World) → scribble w inc act i ≡ Ok v → Grew w v
 grew_scribble w inc act None v e = cc
-grew_scribble w inc act (Some i) v e = grew_scribbled w inc act i i.life v e
+grew_scribble w inc act (Some i) v e = grew_spoken w inc act i (server.scribble i.core act) i.life v e
+
+grew_ask : (w : World) (inc act : ℕ) (i : Option Instance) (v : World) → ask w inc act i ≡ Ok v → Grew w v
+grew_ask w inc act None v e = cc
+grew_ask w inc act (Some i) v e = grew_spoken w inc act i (server.ask_deactivate i.core act) i.life v e
 
 module _ (w : World) (f : ℕ) (bytes : List ℕ) where
   grew_done_taken : (frame : Frame) (parts : List Part) (told : Result Took ContainerFault) (v : World) → done_taken w f bytes frame parts told ≡ Ok v → Grew w v
@@ -135,11 +145,23 @@ module _ (w : World) (f : ℕ) (bytes : List ℕ) where
   grew_done (Some frame) v e = grew_imaged frame (image w.rec f) v e
 
 -- what was granted stays so
+sent_more : (w v : World) (more : List Sent) (m : Message) → v.sent ≡ w.sent ++ more → WasSent w m → WasSent v m
+sent_more w v more m e g = subst (λ xs. Among xs m) (sym (ap messages e ∙ messages_of_log w.sent more)) (among_old (messages w.sent) (messages more) m g)
+
+brings_more : (w v : World) (more : List Sent) (m : Message) (t : Taken) → v.sent ≡ w.sent ++ more → Brings w m t → Brings v m t
+brings_more w v more (Call inc act n op) t e b = absurd b
+brings_more w v more (Reply inc act n told.Done) t e b = absurd b
+brings_more w v more (Reply inc act n (told.Refused why)) t e b = absurd b
+brings_more w v more (Reply inc act n (Content content)) t e b = (b.0, b.1, sent_more w v more (Call inc act n (Close SaveIfDirty)) e b.2)
+brings_more w v more (Reply inc act n (told.Tools menus border)) t e b = absurd b
+brings_more w v more (Write inc act s number content) t e b = b
+brings_more w v more (Ask inc act g) t e b = absurd b
+
 pub granted_more : (w v : World) (more : List Sent) (t : Taken) → v.sent ≡ w.sent ++ more → IsGranted w t → IsGranted v t
 granted_more w v more t e g = (let s = g.sent in record {
   message = g.message;
   delivered = ap (λ xs. nth (messages xs) t.place) e ∙ (ap (λ xs. nth xs t.place) (messages_of_log w.sent more) ∙ nth_old (messages w.sent) (messages more) t.place g.message g.delivered);
-  brings = g.brings;
+  brings = brings_more w v more g.message t e g.brings;
   sent = (s.0, subst (λ xs. Among xs (record { message = g.message; view = Some s.0 })) (sym e) (among_old w.sent more _ s.1), s.2, s.3, s.4);
   held_open = g.held_open;
   unasked = g.unasked;
@@ -176,9 +198,30 @@ took_some r p inc act (Ok u) t g = elim (u.answer.taken) as (λ b. u.answer.take
   | false ↦ (λ q h. absurd h)
 ] refl g
 
-pub asked_nothing : (b : Bool) (u : Took) → ◌≡◌ {A = Result Took ContainerFault} (if b then Err Stale else Err WrongLink) (Ok u) → ⊥
-asked_nothing true u e = cc
-asked_nothing false u e = cc
+-- whoever asks to be relieved of its frame brings no content
+module _ (r : Record) (act g : ℕ) (u : Took) where
+  unframed : (o : Object) (frame : Option Frame) → ask_framed r o act g frame ≡ Ok u → u.answer.taken ≡ false
+  unframed o None e = cc
+  unframed o (Some frame) e = by_holder (is_held_by act g frame.ui.state) e
+    where
+      made : Took
+      made = counts_none (relieved r o act g frame).rec (acts (sends (relieved r o act g frame).sent))
+
+      by_holder : (b : Bool) → ◌≡◌ {A = Result Took ContainerFault} (if b then Ok made else Err Stale) (Ok u) → u.answer.taken ≡ false
+      by_holder true k = (let is : made ≡ u = cc in ap (λ (v : Took). v.answer.taken) (sym is))
+      by_holder false k = cc
+
+  unfound : (o : Option Object) → ask_found r act g o ≡ Ok u → u.answer.taken ≡ false
+  unfound None e = cc
+  unfound (Some o) e = unframed o (nth r.frames o.frame) e
+
+  untaken : (inc link : ℕ) → on_message r link (Ask inc act g) ≡ Ok u → u.answer.taken ≡ false
+  untaken inc link e = at (inc == link) (is_alive r inc) e
+    where
+      at : (a b : Bool) → ◌≡◌ {A = Result Took ContainerFault} (if a then (if b then ask_found r act g (find (is_linked inc act) r.objects) else Err Stale) else Err WrongLink) (Ok u) → u.answer.taken ≡ false
+      at true true k = unfound (find (is_linked inc act) r.objects) k
+      at true false k = cc
+      at false b k = cc
 
 module _ (w : World) (h : AgreesIn w) (p : ℕ) (x : Sent) (at : nth w.sent p ≡ Some x) where
   named_by : (inc act : ℕ) (o : Object) (l : Link) → find (is_linked inc act) w.rec.objects ≡ Some o → o.link ≡ Some l → (l.inc ≡ inc) × (l.act ≡ act)
@@ -207,6 +250,17 @@ module _ (w : World) (h : AgreesIn w) (p : ℕ) (x : Sent) (at : nth w.sent p �
         unasked = open_now.unasked;
       })
 
+  -- and the close was sent that was answered
+  close_called : (inc act n : ℕ) (answer : Answer) (there : Among (messages w.sent) (Reply inc act n answer))
+      → IsClosing w.rec (acts_of w.instances) (lives_of w.instances) (messages w.sent) w.owners w.rec.last_act w.container_done w.server_done inc act n answer h.steady h.facts tt there w.sent → WasSent w (Call inc act n (Close SaveIfDirty))
+  close_called inc act n answer there c =
+      let l = c.link in
+      let at_l : links_of w.rec.objects c.object.number ≡ Some l = ap link_at (found_by_number (is_linked inc act) w.rec.objects c.object h.steady.order c.found) ∙ c.linked in
+      let replied : Among (messages w.sent) (Reply l.inc l.act l.last answer) = subst (λ i. Among (messages w.sent) (Reply i l.act l.last answer)) (sym c.inc_is)
+      (subst (λ a. Among (messages w.sent) (Reply inc a l.last answer)) (sym c.act_is) (subst (λ k. Among (messages w.sent) (Reply inc act k answer)) c.number there)) in
+      subst (λ i. WasSent w (Call i act n (Close SaveIfDirty))) c.inc_is (subst (λ a. WasSent w (Call l.inc a n (Close SaveIfDirty))) c.act_is (subst (λ k. WasSent w (Call l.inc l.act k (Close SaveIfDirty))) (sym c.number)
+      (pending_called (links_of w.rec.objects) (acts_of w.instances) (lives_of w.instances) (messages w.sent) w.owners w.rec.last_act w.container_done w.server_done h.facts c.object.number l (Close SaveIfDirty) (roles_of w.rec) answer h.grants at_l tt c.pending replied)))
+
   close_granted : (inc act n : ℕ) (answer : Answer) (t : Taken) → x.message ≡ Reply inc act n answer → Among (taken_by w.rec p inc act (on_message w.rec inc (Reply inc act n answer))) t → IsGranted w t
   close_granted inc act n answer t e g =
       let k = took_some w.rec p inc act (on_message w.rec inc (Reply inc act n answer)) t g in
@@ -218,7 +272,7 @@ module _ (w : World) (h : AgreesIn w) (p : ℕ) (x : Sent) (at : nth w.sent p �
       subst (IsGranted w) (sym (taken_is p (find (is_linked inc act) w.rec.objects) c.object c.link t c.found c.linked k.3)) (record {
         message = m;
         delivered = message_at m (e ∙ same);
-        brings = (sym c.inc_is, sym c.act_is);
+        brings = (sym c.inc_is, sym c.act_is, close_called inc act n answer there c);
         sent = (c.seen.view, subst (λ y. Among w.sent (record { message = y; view = Some c.seen.view })) same c.seen.among, c.seen.opened, ap (λ v. v.persist.state) c.seen.states ∙ normal, c.seen.grant);
         held_open = normal;
         unasked = c.held.unasked;
@@ -228,7 +282,7 @@ module _ (w : World) (h : AgreesIn w) (p : ℕ) (x : Sent) (at : nth w.sent p �
   granted_at (Call inc act n op) t e g = absurd g
   granted_at (Reply inc act n answer) t e g = close_granted inc act n answer t e g
   granted_at (Write inc act s n content) t e g = write_granted inc act s n content t e g
-  granted_at (Ask inc act j) t e g = (let k = took_some w.rec p inc act (on_message w.rec inc (Ask inc act j)) t g in absurd (asked_nothing (inc == inc) k.0 k.1))
+  granted_at (Ask inc act j) t e g = (let k = took_some w.rec p inc act (on_message w.rec inc (Ask inc act j)) t g in let z : false ≡ true = sym (untaken w.rec act j k.0 inc inc k.1) ∙ k.2 in cc)
 
 -- what was taken after an event
 abbrev AreGranted : World → Type 0
@@ -252,4 +306,5 @@ granted_happened w bytes (event.Deliver p) v k h e = granted_deliver w p (nth w.
 granted_happened w bytes (event.Crash inc) v k h e = granted_grew w v (grew_crash w inc (nth w.instances inc) v e) h
 granted_happened w bytes (event.Reap inc) v k h e = granted_grew w v (grew_reap w inc (nth w.instances inc) v e) h
 granted_happened w bytes (event.Scribble inc act) v k h e = granted_grew w v (grew_scribble w inc act (nth w.instances inc) v e) h
+granted_happened w bytes (event.Ask inc act) v k h e = granted_grew w v (grew_ask w inc act (nth w.instances inc) v e) h
 granted_happened w bytes (event.Done f) v k h e = granted_grew w v (grew_done w f bytes (nth w.rec.frames f) v e) h

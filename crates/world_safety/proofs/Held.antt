@@ -16,6 +16,7 @@ use Rattle.world_files.proofs.Kept.{empty_files, files_happened, limited_ok, com
 use Rattle.world_safety.specs.Holding.{AgreesIn, Holds}
 use Rattle.world_safety.proofs.Events.{agrees_happened}
 use Rattle.world_safety.proofs.Granting.{granted_happened}
+use Rattle.world_safety.proofs.Holders.{holder, one_holder}
 use Rattle.world_safety.proofs.Once.{once_answered}
 
 has_saved : (a : Option Activation) (c : Stored) → HasSaved c a → (b : Activation) × (a ≡ Some b) × (b.saved ≡ Some c)
@@ -30,6 +31,8 @@ safe_held w h = (let f = h.agrees.facts in record {
       let is : a ≡ k.0 = (let z : Some a ≡ Some k.0 = sym e ∙ k.1 in cc) in
       k.3 (ap (λ (x : Activation). x.last) is) ∙ ap (λ (x : Activation). x.reply) (sym is));
   answered = λ n l content e s. has_saved (acts_of w.instances l.inc l.act) content (f.saved_same n l content e tt s);
+  one_holder = one_holder w h.agrees;
+  holder = holder w h.agrees;
   writes = h.taken_held;
   container_once = h.files.counted_bounded.counted_once;
   server_once = f.counts.server_once;
@@ -82,6 +85,12 @@ empty_agrees numbers stock = record {
     };
   };
   views = record { writes_sent = λ x h. absurd h; closes_sent = λ o l a option e. absurd (no_link o l e) };
+  grants = record {
+    g_is_ui = λ inc act g a honest e. absurd (absent inc act a e);
+    holder_named = λ o g l a e. absurd (no_link o l e);
+    replied_called = λ inc act n r honest h. absurd h;
+    held_told = λ o g tools l e. absurd (no_link o l e);
+  };
 }
 
 pub empty_held : (numbers : ℕ) (stock : List Kind) → Holds (empty_world numbers stock)

@@ -6,7 +6,7 @@ use Rattle.wire_msgs.specs.Found.{nth, set_nth}
 use Rattle.wire_msgs.specs.declared.message.Message.{Message}
 use Rattle.wire_msgs.specs.declared.operation.Operation.{Operation}
 use Rattle.server_model.specs.Server.{Activation}
-use Rattle.container_model.specs.Record.{Took, MOST_SERVERS, acts, counts_none, count_alive, is_alive, is_unreaped}
+use Rattle.container_model.specs.Record.{Record, Took, MOST_SERVERS, acts, counts_none, count_alive, is_alive, is_unreaped}
 use Rattle.container_model.specs.Commands.{on_command, kill, start, start_made}
 use Rattle.container_model.specs.declared.command.Command.TheVariants as command
 use Rattle.container_model.specs.declared.fault.ContainerFault.TheVariants.{Full, NumbersSpent}
@@ -15,31 +15,33 @@ use Rattle.container_model.specs.declared.answer.Done.{Done}
 use Rattle.container_laws.specs.Steady.{Steady}
 use Rattle.container_laws.proofs.SteadyRecords.{unless_ok}
 use Rattle.container_laws.proofs.SteadyCommands.{on_command_keeps}
-use Rattle.world_model.specs.declared.logs.Sent.{Sent}
-use Rattle.world_model.specs.declared.logs.ServerDone.{ServerDone}
 use Rattle.world_model.specs.declared.life.Life.{Life}
 use Rattle.world_model.specs.declared.life.Life.TheVariants.{Running, Ended, Reaped}
 use Rattle.world_model.specs.World.{World, Instance, fresh, messages_of, of_container, started_by, end_of, ended_at, ended_by, joined}
 use Rattle.world_model.specs.Safe.{Among, links_of, act_at, acts_of, messages}
-use Rattle.world_facts.specs.Words.{Links, Acts, Lives, life_at, lives_of}
+use Rattle.world_facts.specs.Words.{life_at, lives_of}
 use Rattle.world_facts.specs.Facts.{Facts}
 use Rattle.world_facts.specs.Shapes.{AsksAll, IsQuiet, StartsOrEnds}
 use Rattle.world_facts.specs.Views.{Views}
 use Rattle.world_facts.proofs.Lookups.{nth_old, nth_one, nth_aligned, length_set_nth}
-use Rattle.world_facts.proofs.Asking.{asked_quietly}
 use Rattle.world_facts.proofs.Beginning.{begun}
-use Rattle.world_facts.proofs.Ending.{some_ended}
-use Rattle.world_facts.proofs.Leaving.{AreCalls, asks_calls, asks_leave, begins_calls, begins_leave, ends_leave, grows_calls, grows_none, next_calls, next_leaves, settles_leave, starts_leave, views_kept}
-use Rattle.world_facts.proofs.Sending.{sent_next}
-use Rattle.world_facts.proofs.Settled as settling
+use Rattle.world_facts.proofs.Leaving.{AreCalls, asks_calls, asks_leave, begins_calls, begins_leave, grows_calls, grows_none, starts_leave, views_kept}
 use Rattle.world_facts.proofs.Starting.{started}
 use Rattle.world_files.proofs.Filing.{length_more}
-use Rattle.world_steps.specs.Steps.{IsPlain, IsAnswered, settled, goes_on, ended}
+use Rattle.world_grants.specs.Grants.{Grants, roles_of}
+use Rattle.world_grants.proofs.Alike.{grants_same}
+use Rattle.world_grants.proofs.Answering.{ready_for}
+use Rattle.world_grants.proofs.Stepping as starting
+use Rattle.world_grants.proofs.Stepping.{followed}
+use Rattle.world_grants.proofs.Taking.{MovesBy, command_moves}
+use Rattle.world_steps.specs.Steps.{IsPlain, IsTurned, IsReplied, IsReaped}
+use Rattle.world_steps.proofs.Keeping.{AreKept, longer, messages_longer, turned_kept, replied_kept, reaped_kept}
 use Rattle.world_steps.proofs.Instances.{nth_same, nth_other}
 use Rattle.world_steps.proofs.Objects.{messages_of_log, messages_told}
 use Rattle.world_steps.proofs.Closing.{kill_ends}
 use Rattle.world_steps.proofs.Running.{run_begins}
 use Rattle.world_safety.specs.Holding.{Agrees, AgreesIn}
+use Rattle.world_safety.proofs.Shaping.{IsFollowed, one_turn, turned_followed, replied_followed, reaped_followed}
 
 -- a step that starts and ends no server
 module _ (w : World) (t : Took) (h : AgreesIn w) (steady : Steady t.rec) (servers : length t.rec.servers ≡ length w.rec.servers) (starts : (numbers : ℕ) → started_by numbers t.answer.actions ≡ [])
@@ -47,8 +49,9 @@ module _ (w : World) (t : Took) (h : AgreesIn w) (steady : Steady t.rec) (server
   pub joined_agrees : (owners : List ℕ) (counted : List Done)
       → Facts (links_of t.rec.objects) (acts_of w.instances) (lives_of w.instances) (messages w.sent ++ messages_of t.answer.actions) owners t.rec.last_act counted w.server_done
       → Views (links_of t.rec.objects) (acts_of w.instances) (w.sent ++ map of_container (messages_of t.answer.actions))
+      → Grants (links_of t.rec.objects) (roles_of t.rec) (acts_of w.instances) (messages w.sent ++ messages_of t.answer.actions)
       → Agrees t.rec (ended_by t.answer.actions w.instances ++ started_by t.rec.numbers t.answer.actions) (w.sent ++ map of_container (messages_of t.answer.actions)) owners counted w.server_done
-  joined_agrees owners counted f views =
+  joined_agrees owners counted f views grants =
       let more = messages_of t.answer.actions in
       let ms : messages (w.sent ++ map of_container more) ≡ messages w.sent ++ more = messages_of_log w.sent (map of_container more) ∙ ap (λ v. messages w.sent ++ v) (messages_told more) in
       let same : ended_by t.answer.actions w.instances ++ started_by t.rec.numbers t.answer.actions ≡ w.instances =
@@ -58,6 +61,7 @@ module _ (w : World) (t : Took) (h : AgreesIn w) (steady : Steady t.rec) (server
         servers = servers ∙ h.servers;
         facts = subst (λ s. Facts (links_of t.rec.objects) (acts_of w.instances) (lives_of w.instances) s owners t.rec.last_act counted w.server_done) (sym ms) f;
         views = views;
+        grants = subst (λ s. Grants (links_of t.rec.objects) (roles_of t.rec) (acts_of w.instances) s) (sym ms) grants;
       } in
       subst (λ v. Agrees t.rec v (w.sent ++ map of_container more) owners counted w.server_done) (sym same) base
 
@@ -65,9 +69,10 @@ module _ (w : World) (t : Took) (h : AgreesIn w) (steady : Steady t.rec) (server
 pub plain_joined : (w : World) (t : Took) (counted : List Done) → AgreesIn w → Steady t.rec → IsPlain w.rec t
     → Facts (links_of t.rec.objects) (acts_of w.instances) (lives_of w.instances) (messages w.sent ++ messages_of t.answer.actions) w.owners w.rec.last_act counted w.server_done
     → Views (links_of t.rec.objects) (acts_of w.instances) (w.sent ++ map of_container (messages_of t.answer.actions))
+    → Grants (links_of t.rec.objects) (roles_of t.rec) (acts_of w.instances) (messages w.sent ++ messages_of t.answer.actions)
     → Agrees t.rec (ended_by t.answer.actions w.instances ++ started_by t.rec.numbers t.answer.actions) (w.sent ++ map of_container (messages_of t.answer.actions)) w.owners counted w.server_done
-plain_joined w t counted h steady p f views = joined_agrees w t h steady p.servers p.starts p.ends w.owners counted
-    (subst (λ n. Facts (links_of t.rec.objects) (acts_of w.instances) (lives_of w.instances) (messages w.sent ++ messages_of t.answer.actions) w.owners n counted w.server_done) (sym p.last_act) f) views
+plain_joined w t counted h steady p f views grants = joined_agrees w t h steady p.servers p.starts p.ends w.owners counted
+    (subst (λ n. Facts (links_of t.rec.objects) (acts_of w.instances) (lives_of w.instances) (messages w.sent ++ messages_of t.answer.actions) w.owners n counted w.server_done) (sym p.last_act) f) views grants
 
 -- operations are asked
 pub asked_views : (Asks : ℕ → Operation → Type 0) (w : World) (t : Took) → AgreesIn w → AsksAll Asks (links_of w.rec.objects) (links_of t.rec.objects) (messages_of t.answer.actions)
@@ -79,39 +84,48 @@ asked_views Asks w t h m =
     let more = messages_of t.answer.actions in
     views_kept links after acts acts w.sent (w.sent ++ map of_container more) (asks_leave Asks links after acts more m h.facts.in_step) (grows_calls w.sent more (asks_calls Asks links after more m)) h.views
 
-pub asks_joined : (w : World) (t : Took) → AgreesIn w → Steady t.rec → AsksAll (λ o op. IsQuiet op) (links_of w.rec.objects) (links_of t.rec.objects) (messages_of t.answer.actions) × IsPlain w.rec t → AgreesIn (joined w t)
-asks_joined w t h steady m = plain_joined w t w.container_done h steady m.1
-    (asked_quietly (λ o op. IsQuiet op) (links_of w.rec.objects) (links_of t.rec.objects) (acts_of w.instances) (lives_of w.instances) (messages w.sent) (messages_of t.answer.actions) w.owners w.rec.last_act w.container_done w.server_done m.0 h.facts (λ o op q. q))
-    (asked_views (λ o op. IsQuiet op) w t h m.0)
+-- who has frames, after a step whose links follow those before
+pub joined_grants : (w : World) (t : Took) (taken : List Message) → AgreesIn w → MovesBy w.rec t.rec taken → ((m : Message) → Among taken m → Among (messages w.sent) m) → IsFollowed (links_of w.rec.objects) (links_of t.rec.objects) (messages_of t.answer.actions)
+    → Grants (links_of t.rec.objects) (roles_of t.rec) (acts_of w.instances) (messages w.sent ++ messages_of t.answer.actions)
+joined_grants w t taken h moves sends k =
+    followed (links_of w.rec.objects) (links_of t.rec.objects) (acts_of w.instances) (lives_of w.instances) (messages w.sent) (messages_of t.answer.actions) w.owners w.rec.last_act w.container_done w.server_done (roles_of w.rec) (roles_of t.rec) taken
+    h.facts h.grants (ready_for w.rec h.steady).linked moves sends k.calls k.follows
+
+-- a step that is a list of shapes
+kept_joined : (w : World) (t : Took) (taken : List Message) → AgreesIn w → Steady t.rec → IsPlain w.rec t → MovesBy w.rec t.rec taken → ((m : Message) → Among taken m → Among (messages w.sent) m)
+    → IsFollowed (links_of w.rec.objects) (links_of t.rec.objects) (messages_of t.answer.actions)
+    → AreKept (acts_of w.instances) (lives_of w.instances) w.owners w.rec.last_act w.container_done w.server_done (links_of t.rec.objects) (longer w.sent (messages_of t.answer.actions)) → AgreesIn (joined w t)
+kept_joined w t taken h steady p moves sends k now =
+    let more = messages_of t.answer.actions in
+    plain_joined w t w.container_done h steady p
+    (subst (λ s. Facts (links_of t.rec.objects) (acts_of w.instances) (lives_of w.instances) s w.owners w.rec.last_act w.container_done w.server_done) (messages_longer w.sent more) now.facts) now.views
+    (joined_grants w t taken h moves sends k)
+
+kept_before : (w : World) → AgreesIn w → AreKept (acts_of w.instances) (lives_of w.instances) w.owners w.rec.last_act w.container_done w.server_done (links_of w.rec.objects) w.sent
+kept_before w h = record { facts = h.facts; views = h.views }
+
+-- operations are asked, in turn
+pub turned_joined : (w : World) (t : Took) (taken : List Message) → AgreesIn w → Steady t.rec → MovesBy w.rec t.rec taken → ((m : Message) → Among taken m → Among (messages w.sent) m) → IsTurned w.rec t → AgreesIn (joined w t)
+turned_joined w t taken h steady moves sends m = kept_joined w t taken h steady m.1 moves sends (turned_followed (links_of w.rec.objects) (links_of t.rec.objects) (messages_of t.answer.actions) m.0)
+    (turned_kept (acts_of w.instances) (lives_of w.instances) w.owners w.rec.last_act w.container_done w.server_done (links_of w.rec.objects) (links_of t.rec.objects) w.sent (messages_of t.answer.actions) m.0 (kept_before w h))
+
+-- at once
+pub asks_turned : (r : Record) (t : Took) → AsksAll (λ o op. IsQuiet op) (links_of r.objects) (links_of t.rec.objects) (messages_of t.answer.actions) × IsPlain r t → IsTurned r t
+asks_turned r t m = (one_turn (links_of r.objects) (links_of t.rec.objects) (messages_of t.answer.actions) m.0, m.1)
 
 -- an answer is taken
-answered_facts : (links after : Links) (acts : Acts) (lives : Lives) (sent more : List Message) (owners : List ℕ) (last : ℕ) (counted : List Done) (served : List ServerDone)
-    → IsAnswered links after acts lives more → Facts links acts lives sent owners last counted served → Facts after acts lives (sent ++ more) owners last counted served
-answered_facts links after acts lives sent more owners last counted served (settled o s e) f =
-    subst (λ xs. Facts after acts lives xs owners last counted served) (sym (ap (λ v. sent ++ v) e ∙ append-nil sent)) (settling.settled links after acts lives sent owners last counted served o s f)
-answered_facts links after acts lives sent more owners last counted served (goes_on o between s n) f =
-    sent_next between after acts lives sent more owners last counted served o n (settling.settled links between acts lives sent owners last counted served o s f)
-answered_facts links after acts lives sent more owners last counted served (ended s e) f =
-    subst (λ xs. Facts after acts lives xs owners last counted served) (sym (ap (λ v. sent ++ v) e ∙ append-nil sent)) (some_ended links after acts lives sent owners last counted served s f)
+pub answered_joined : (w : World) (t : Took) (taken : List Message) → AgreesIn w → Steady t.rec → MovesBy w.rec t.rec taken → ((m : Message) → Among taken m → Among (messages w.sent) m)
+    → IsReplied (links_of w.rec.objects) (links_of t.rec.objects) (acts_of w.instances) (lives_of w.instances) (messages_of t.answer.actions) × IsPlain w.rec t → AgreesIn (joined w t)
+answered_joined w t taken h steady moves sends m =
+    kept_joined w t taken h steady m.1 moves sends (replied_followed (links_of w.rec.objects) (links_of t.rec.objects) (acts_of w.instances) (lives_of w.instances) (messages_of t.answer.actions) m.0)
+    (replied_kept (acts_of w.instances) (lives_of w.instances) w.owners w.rec.last_act w.container_done w.server_done (links_of w.rec.objects) (links_of t.rec.objects) w.sent (messages_of t.answer.actions) m.0 (kept_before w h))
 
-pub no_calls : (more : List Message) → more ≡ [] → AreCalls more
-no_calls more e m g = absurd (subst (λ ms. Among ms m) e g)
-
-answered_views : (links after : Links) (acts : Acts) (lives : Lives) (log : List Sent) (more : List Message) (owners : List ℕ) (last : ℕ) (counted : List Done) (served : List ServerDone)
-    → IsAnswered links after acts lives more → Facts links acts lives (messages log) owners last counted served → Views links acts log → Views after acts (log ++ map of_container more)
-answered_views links after acts lives log more owners last counted served (settled o s e) f v =
-    views_kept links after acts acts log (log ++ map of_container more) (settles_leave links after acts o s) (grows_calls log more (no_calls more e)) v
-answered_views links after acts lives log more owners last counted served (goes_on o between s n) f v =
-    let middle = settling.settled links between acts lives (messages log) owners last counted served o s f in
-    views_kept between after acts acts log (log ++ map of_container more) (next_leaves between after acts o more n middle.in_step) (grows_calls log more (next_calls between after o more n))
-    (views_kept links between acts acts log log (settles_leave links between acts o s) (grows_none log) v)
-answered_views links after acts lives log more owners last counted served (ended s e) f v =
-    views_kept links after acts acts log (log ++ map of_container more) (ends_leave links after acts lives s) (grows_calls log more (no_calls more e)) v
-
-pub answered_joined : (w : World) (t : Took) → AgreesIn w → Steady t.rec → IsAnswered (links_of w.rec.objects) (links_of t.rec.objects) (acts_of w.instances) (lives_of w.instances) (messages_of t.answer.actions) × IsPlain w.rec t → AgreesIn (joined w t)
-answered_joined w t h steady m = plain_joined w t w.container_done h steady m.1
-    (answered_facts (links_of w.rec.objects) (links_of t.rec.objects) (acts_of w.instances) (lives_of w.instances) (messages w.sent) (messages_of t.answer.actions) w.owners w.rec.last_act w.container_done w.server_done m.0 h.facts)
-    (answered_views (links_of w.rec.objects) (links_of t.rec.objects) (acts_of w.instances) (lives_of w.instances) w.sent (messages_of t.answer.actions) w.owners w.rec.last_act w.container_done w.server_done m.0 h.facts h.views)
+-- the end of a server
+pub reaped_joined : (w : World) (t : Took) → AgreesIn w → Steady t.rec → MovesBy w.rec t.rec []
+    → IsReaped (links_of w.rec.objects) (links_of t.rec.objects) (acts_of w.instances) (lives_of w.instances) (messages_of t.answer.actions) × IsPlain w.rec t → AgreesIn (joined w t)
+reaped_joined w t h steady moves m =
+    kept_joined w t [] h steady m.1 moves (λ x z. absurd z) (reaped_followed (links_of w.rec.objects) (links_of t.rec.objects) (acts_of w.instances) (lives_of w.instances) (messages_of t.answer.actions) m.0)
+    (reaped_kept (acts_of w.instances) (lives_of w.instances) w.owners w.rec.last_act w.container_done w.server_done (links_of w.rec.objects) (links_of t.rec.objects) w.sent (messages_of t.answer.actions) m.0 (kept_before w h))
 
 -- an activation is made for an object
 owner_new : (owners : List ℕ) (last o : ℕ) → length owners ≡ last → nth (owners ++ o ∷ []) (last + 1) ≡ Some o
@@ -128,11 +142,14 @@ run_joined w o inc t h e =
     let many : length (w.owners ++ o ∷ []) ≡ r.last_act + 1 = length_more w.owners o ∙ (ap suc h.facts.drawn.many ∙ (let y : suc r.last_act ≡ r.last_act + 1 = omega arith in y)) in
     let f = begun (links_of r.objects) (links_of t.rec.objects) (acts_of w.instances) (lives_of w.instances) (messages w.sent) (messages_of t.answer.actions) w.owners (o ∷ []) r.last_act w.container_done w.server_done o b.begins many h.facts in
     let more = messages_of t.answer.actions in
+    let calls : AreCalls more = begins_calls (links_of r.objects) (links_of t.rec.objects) (lives_of w.instances) (w.owners ++ o ∷ []) r.last_act o more b.begins in
     joined_agrees w t h (on_command_keeps r (command.Run o inc) t h.steady e) b.servers b.starts b.ends (w.owners ++ o ∷ []) w.container_done
     (subst (λ n. Facts (links_of t.rec.objects) (acts_of w.instances) (lives_of w.instances) (messages w.sent ++ messages_of t.answer.actions) (w.owners ++ o ∷ []) n w.container_done w.server_done) (sym b.last_act) f)
     (views_kept (links_of r.objects) (links_of t.rec.objects) (acts_of w.instances) (acts_of w.instances) w.sent (w.sent ++ map of_container more)
     (begins_leave (links_of r.objects) (links_of t.rec.objects) (acts_of w.instances) (lives_of w.instances) (w.owners ++ o ∷ []) r.last_act o more b.begins h.facts.drawn.acts_drawn)
-    (grows_calls w.sent more (begins_calls (links_of r.objects) (links_of t.rec.objects) (lives_of w.instances) (w.owners ++ o ∷ []) r.last_act o more b.begins)) h.views)
+    (grows_calls w.sent more calls) h.views)
+    (starting.begun (links_of r.objects) (links_of t.rec.objects) (acts_of w.instances) (lives_of w.instances) (messages w.sent) more w.owners (o ∷ []) r.last_act o w.container_done w.server_done (roles_of r) (roles_of t.rec)
+    h.facts h.grants (ready_for r h.steady).linked (command_moves r (command.Run o inc) t h.steady e) calls b.begins)
   where
     host : is_alive w.rec inc ≡ true → (life : Life) × (lives_of w.instances inc ≡ Some life)
     host a = at (nth w.rec.servers inc) refl a
@@ -193,6 +210,7 @@ start_joined w t h e =
       servers = length_more r.servers false ∙ (ap suc h.servers ∙ sym (length_more w.instances new));
       facts = started (links_of r.objects) (acts_of w.instances) (acts_of (w.instances ++ new ∷ [])) (lives_of w.instances) (lives_of (w.instances ++ new ∷ [])) (messages w.sent) w.owners r.last_act w.container_done w.server_done begins h.facts;
       views = views_kept (links_of r.objects) (links_of r.objects) (acts_of w.instances) (acts_of (w.instances ++ new ∷ [])) w.sent w.sent (starts_leave (links_of r.objects) (acts_of w.instances) (acts_of (w.instances ++ new ∷ [])) (lives_of w.instances) (lives_of (w.instances ++ new ∷ [])) begins) (grows_none w.sent) h.views;
+      grants = grants_same (links_of r.objects) (roles_of r) (acts_of w.instances) (acts_of (w.instances ++ new ∷ [])) (messages w.sent) begins.same h.grants;
     } in
     subst (λ (v : Took). AgreesIn (joined w v)) is (subst (λ s. Agrees (start_made r).rec (w.instances ++ new ∷ []) s w.owners w.container_done w.server_done) (sym (append-nil w.sent)) made)
 
@@ -228,6 +246,7 @@ stopped_agrees w inc i life at over h =
       servers = h.servers ∙ sym (length_set_nth w.instances inc (record i { life = life }));
       facts = started (links_of w.rec.objects) (acts_of w.instances) (acts_of js) (lives_of w.instances) (lives_of js) (messages w.sent) w.owners w.rec.last_act w.container_done w.server_done (server_ends w.instances inc i life at over) h.facts;
       views = views_kept (links_of w.rec.objects) (links_of w.rec.objects) (acts_of w.instances) (acts_of js) w.sent w.sent (starts_leave (links_of w.rec.objects) (acts_of w.instances) (acts_of js) (lives_of w.instances) (lives_of js) (server_ends w.instances inc i life at over)) (grows_none w.sent) h.views;
+      grants = grants_same (links_of w.rec.objects) (roles_of w.rec) (acts_of w.instances) (acts_of js) (messages w.sent) (server_ends w.instances inc i life at over).same h.grants;
     }
 
 -- a server that is to be ended

@@ -1,8 +1,11 @@
+pub mod Shaping
 pub mod Joining
 pub mod Serving
+pub mod Speaking
 pub mod Scribbling
 pub mod Events
 pub mod Granting
 pub mod Once
 pub mod Alike
+pub mod Holders
 pub mod Held

@@ -27,6 +27,9 @@ use Rattle.world_steps.proofs.Instances.{nth_same, nth_other}
 use Rattle.world_steps.proofs.Objects.{messages_of_log}
 use Rattle.world_steps.proofs.Calls.{IsTaken, call_taken}
 use Rattle.world_steps.proofs.Ready.{ready}
+use Rattle.world_grants.specs.Grants.{Grants, roles_of}
+use Rattle.world_grants.proofs.Acting.{grants_acted}
+use Rattle.world_grants.proofs.Answering.{ready_for}
 use Rattle.world_safety.specs.Holding.{Agrees, AgreesIn}
 use Rattle.world_safety.proofs.Joining.{hosted}
 
@@ -80,6 +83,9 @@ module _ (w : World) (h : AgreesIn w) (inc act n : ℕ) (op : Operation) (call :
           facts = subst (λ s. Facts links (acts_of js) (lives_of js) s w.owners w.rec.last_act w.container_done (w.server_done ++ counted_by w inc told.counted)) (sym ms)
               (subst (λ y. Facts links (acts_of js) (lives_of js) more w.owners w.rec.last_act w.container_done (w.server_done ++ y)) es g);
           views = views_served;
+          grants = subst (λ s. Grants links (roles_of w.rec) (acts_of js) s) (sym ms)
+              (grants_acted links (acts_of w.instances) (acts_of js) (lives_of w.instances) (messages w.sent) w.owners w.rec.last_act w.container_done w.server_done inc act n op taken.after told.answer told.counted
+              h.facts (ready w.rec h.steady) tt call (ap life_at at ∙ ap Some runs) taken.changed taken.how (roles_of w.rec) (ready_for w.rec h.steady).getting h.grants);
         }
 
   agrees_served : (i : Instance) (stock : List Kind) (box : Option Kind) (told : Result Served ServerFault) → nth w.instances inc ≡ Some i → i.life ≡ Running → on_call i.core (Call inc act n op) box ≡ told → AgreesIn (served w inc act n i stock told)

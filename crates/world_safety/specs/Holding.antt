@@ -12,14 +12,16 @@ use Rattle.world_facts.specs.Words.{lives_of}
 use Rattle.world_facts.specs.Facts.{Facts}
 use Rattle.world_facts.specs.Views.{Views}
 use Rattle.world_files.specs.Files.{Files}
+use Rattle.world_grants.specs.Grants.{Grants, roles_of}
 
 -- The container's record, the servers, the messages and the logs agree: the record is steady by itself, the servers are
--- those that it started, and the facts hold of what is looked up, and of what senders saw.
+-- those that it started, and the facts hold of what is looked up, of what senders saw, and of who has frames.
 pub record Agrees (rec : Record) (instances : List Instance) (sent : List Sent) (owners : List ℕ) (counted : List Done) (served : List ServerDone) : Type 0 where
   pub steady : Steady rec
   pub servers : length rec.servers ≡ length instances
   pub facts : Facts (links_of rec.objects) (acts_of instances) (lives_of instances) (messages sent) owners rec.last_act counted served
   pub views : Views (links_of rec.objects) (acts_of instances) sent
+  pub grants : Grants (links_of rec.objects) (roles_of rec) (acts_of instances) (messages sent)
 
 abbrev pub AgreesIn : World → Type 0
 AgreesIn w = Agrees w.rec w.instances w.sent w.owners w.container_done w.server_done

@@ -37,7 +37,7 @@ use Rattle.server_model.specs.declared.counted.Counted.{Counted}
 use Rattle.world_model.specs.World.{Instance}
 use Rattle.world_model.specs.Safe.{act_at, acts_of}
 use Rattle.world_facts.specs.Facts.{Did}
-use Rattle.world_facts.specs.Shapes.{IsFirst, IsChanged, Makes, ActsOn, again, next, makes}
+use Rattle.world_facts.specs.Shapes.{IsFirst, MovesGrant, IsChanged, Makes, ActsOn, again, next, makes}
 use Rattle.world_facts.proofs.Lookups.{find_passes}
 use Rattle.world_steps.proofs.Instances.{find_act_put, find_act_more, nth_same, nth_other}
 
@@ -81,48 +81,49 @@ no_act : (a : Activation) (v : Counted) → None ≡ Some v → v.act ≡ a.act
 no_act a v e = cc
 
 -- an answer that counts nothing
-plain : (a c : Activation) (op : Operation) (told : Answer) → c.last ≡ a.last → c.act ≡ a.act → DidIf a op (answers c told).activation told → (((k : ℕ) × (op ≡ Save k)) ⊎ (c.saved ≡ a.saved)) → IsMade a op (answers c told)
-plain a c op told el ea did sv = record { makes = record { last = ap (λ n. n + 1) el; reply = refl; did = did; saved = sv; counts = no_counts a op }; act = ea; of = no_act a }
+plain : (a c : Activation) (op : Operation) (told : Answer) → c.last ≡ a.last → c.act ≡ a.act → DidIf a op (answers c told).activation told → (((k : ℕ) × (op ≡ Save k)) ⊎ (c.saved ≡ a.saved)) → (MovesGrant op ⊎ (c.g ≡ a.g)) → IsMade a op (answers c told)
+plain a c op told el ea did sv gr = record { makes = record { last = ap (λ n. n + 1) el; reply = refl; did = did; saved = sv; counts = no_counts a op; grant = gr }; act = ea; of = no_act a }
 
 -- the tables refuse the operation
 refused : (a : Activation) (op : Operation) (v : States) (fault : StateFault) → both.step a.states (op_of op) ≡ Err fault → both.step a.states (op_of op) ≡ Ok v → ⊥
 refused a op v fault e g = (let z : ◌≡◌ {A = Result States StateFault} (Err fault) (Ok v) = sym e ∙ g in cc)
 
 refuses_made : (a : Activation) (op : Operation) (fault : StateFault) (why : Refusal) → both.step a.states (op_of op) ≡ Err fault → IsMade a op (refuses a op why)
-refuses_made a (InitNew class) fault why e = plain a (record a { content = None }) (InitNew class) _ refl refl (λ v g nf. absurd (refused a (InitNew class) v fault e g)) (inr refl)
-refuses_made a (Load class content) fault why e = plain a (record a { content = None }) (Load class content) _ refl refl (λ v g nf. absurd (refused a (Load class content) v fault e g)) (inr refl)
-refuses_made a InPlace fault why e = plain a a InPlace _ refl refl (λ v g nf. absurd (refused a InPlace v fault e g)) (inr refl)
-refuses_made a (UiActivate n) fault why e = plain a a (UiActivate n) _ refl refl (λ v g nf. absurd (refused a (UiActivate n) v fault e g)) (inr refl)
-refuses_made a UiDeactivate fault why e = plain a a UiDeactivate _ refl refl (λ v g nf. absurd (refused a UiDeactivate v fault e g)) (inr refl)
-refuses_made a InPlaceDeactivate fault why e = plain a a InPlaceDeactivate _ refl refl (λ v g nf. absurd (refused a InPlaceDeactivate v fault e g)) (inr refl)
-refuses_made a OpenWindow fault why e = plain a a OpenWindow _ refl refl (λ v g nf. absurd (refused a OpenWindow v fault e g)) (inr refl)
-refuses_made a (Edit bytes) fault why e = plain a a (Edit bytes) _ refl refl (λ v g nf. absurd (refused a (Edit bytes) v fault e g)) (inr refl)
-refuses_made a (Save k) fault why e = plain a a (Save k) _ refl refl (λ v g nf. absurd (refused a (Save k) v fault e g)) (inr refl)
-refuses_made a HandsOff fault why e = plain a a HandsOff _ refl refl (λ v g nf. absurd (refused a HandsOff v fault e g)) (inr refl)
-refuses_made a (SaveCompleted k storage) fault why e = plain a a (SaveCompleted k storage) _ refl refl (λ v g nf. absurd (refused a (SaveCompleted k storage) v fault e g)) (inr refl)
-refuses_made a (SaveDropped k) fault why e = plain a a (SaveDropped k) _ refl refl (λ v g nf. absurd (refused a (SaveDropped k) v fault e g)) (inr refl)
-refuses_made a (Close option) fault why e = plain a a (Close option) _ refl refl (λ v g nf. absurd (refused a (Close option) v fault e g)) (inr refl)
+refuses_made a (InitNew class) fault why e = plain a (record a { content = None }) (InitNew class) _ refl refl (λ v g nf. absurd (refused a (InitNew class) v fault e g)) (inr refl) (inr refl)
+refuses_made a (Load class content) fault why e = plain a (record a { content = None }) (Load class content) _ refl refl (λ v g nf. absurd (refused a (Load class content) v fault e g)) (inr refl) (inr refl)
+refuses_made a InPlace fault why e = plain a a InPlace _ refl refl (λ v g nf. absurd (refused a InPlace v fault e g)) (inr refl) (inr refl)
+refuses_made a (UiActivate n) fault why e = plain a a (UiActivate n) _ refl refl (λ v g nf. absurd (refused a (UiActivate n) v fault e g)) (inr refl) (inr refl)
+refuses_made a UiDeactivate fault why e = plain a a UiDeactivate _ refl refl (λ v g nf. absurd (refused a UiDeactivate v fault e g)) (inr refl) (inr refl)
+refuses_made a InPlaceDeactivate fault why e = plain a a InPlaceDeactivate _ refl refl (λ v g nf. absurd (refused a InPlaceDeactivate v fault e g)) (inr refl) (inr refl)
+refuses_made a OpenWindow fault why e = plain a a OpenWindow _ refl refl (λ v g nf. absurd (refused a OpenWindow v fault e g)) (inr refl) (inr refl)
+refuses_made a (Edit bytes) fault why e = plain a a (Edit bytes) _ refl refl (λ v g nf. absurd (refused a (Edit bytes) v fault e g)) (inr refl) (inr refl)
+refuses_made a (Save k) fault why e = plain a a (Save k) _ refl refl (λ v g nf. absurd (refused a (Save k) v fault e g)) (inr refl) (inr refl)
+refuses_made a HandsOff fault why e = plain a a HandsOff _ refl refl (λ v g nf. absurd (refused a HandsOff v fault e g)) (inr refl) (inr refl)
+refuses_made a (SaveCompleted k storage) fault why e = plain a a (SaveCompleted k storage) _ refl refl (λ v g nf. absurd (refused a (SaveCompleted k storage) v fault e g)) (inr refl) (inr refl)
+refuses_made a (SaveDropped k) fault why e = plain a a (SaveDropped k) _ refl refl (λ v g nf. absurd (refused a (SaveDropped k) v fault e g)) (inr refl) (inr refl)
+refuses_made a (Close option) fault why e = plain a a (Close option) _ refl refl (λ v g nf. absurd (refused a (Close option) v fault e g)) (inr refl) (inr refl)
 
 -- the tables take the operation, whose content the activation has
 module _ (a : Activation) (c : Content) (v : States) (open_by : a.content ≡ Some c) where
   edits_made : (bytes : List ℕ) (r : Result Content EmbedFault) → both.step a.states (op_of (Edit bytes)) ≡ Ok v → IsMade a (Edit bytes) (edits a v r)
-  edits_made bytes (Ok d) e = plain a (record a { states = v; content = Some d }) (Edit bytes) _ refl refl (λ w g nf. ((d, refl), record { states = e; grant = refl })) (inr refl)
+  edits_made bytes (Ok d) e = plain a (record a { states = v; content = Some d }) (Edit bytes) _ refl refl (λ w g nf. ((d, refl), record { states = e; grant = refl })) (inr refl) (inr refl)
   edits_made bytes (Err fault) e = plain a (record a { states = v }) (Edit bytes) _ refl refl
-      (λ w g nf. record { opened = (c, open_by); states = edit_states a.states a.states.persist.state a.states.object v refl refl e; grant = refl }) (inr refl)
+      (λ w g nf. record { opened = (c, open_by); states = edit_states a.states a.states.persist.state a.states.object v refl refl e; grant = refl }) (inr refl) (inr refl)
 
   closes_made : (option : CloseOption) → both.step a.states (op_of (Close option)) ≡ Ok v → IsMade a (Close option) (closes a v c option)
-  closes_made SaveIfDirty e = plain a (record a { states = v; content = None }) (Close SaveIfDirty) _ refl refl (λ w g nf. (refl, record { states = e; grant = refl })) (inr refl)
-  closes_made NoSave e = plain a (record a { states = v; content = None }) (Close NoSave) _ refl refl (λ w g nf. (refl, record { states = e; grant = refl })) (inr refl)
+  closes_made SaveIfDirty e = plain a (record a { states = v; content = None }) (Close SaveIfDirty) _ refl refl (λ w g nf. (refl, record { states = e; grant = refl })) (inr refl) (inr refl)
+  closes_made NoSave e = plain a (record a { states = v; content = None }) (Close NoSave) _ refl refl (λ w g nf. (refl, record { states = e; grant = refl })) (inr refl) (inr refl)
 
   counts_made : (k : ℕ) (storage : Bool) (saved : Option Stored) → a.saved ≡ saved → both.step a.states (op_of (SaveCompleted k storage)) ≡ Ok v
       → IsMade a (SaveCompleted k storage) (counts a k (answers (record a { states = v; s = a.s + 1 }) told.Done) saved)
-  counts_made k storage None e f = plain a (record a { states = v; s = a.s + 1 }) (SaveCompleted k storage) told.Done refl refl (λ w g nf. ((c, open_by), record { states = f; grant = refl })) (inr refl)
+  counts_made k storage None e f = plain a (record a { states = v; s = a.s + 1 }) (SaveCompleted k storage) told.Done refl refl (λ w g nf. ((c, open_by), record { states = f; grant = refl })) (inr refl) (inr refl)
   counts_made k storage (Some d) e f = record {
     makes = record {
       last = refl;
       reply = refl;
       did = λ w g nf. ((c, open_by), record { states = f; grant = refl });
       saved = inr refl;
+      grant = inr refl;
       counts = λ w g. (let q : record { act = a.act; k = k; content = d } ≡ w = cc in
           (storage, ap (λ (x : Counted). SaveCompleted x.k storage) q, e ∙ ap (λ (x : Counted). Some x.content) q));
     };
@@ -131,18 +132,18 @@ module _ (a : Activation) (c : Content) (v : States) (open_by : a.content ≡ So
   }
 
   does_made : (op : Operation) → both.step a.states (op_of op) ≡ Ok v → IsMade a op (does a c v op)
-  does_made (InitNew class) e = plain a (record a { states = v }) (InitNew class) _ refl refl (λ w g nf. absurd (nf tt)) (inr refl)
-  does_made (Load class content) e = plain a (record a { states = v }) (Load class content) _ refl refl (λ w g nf. absurd (nf tt)) (inr refl)
-  does_made InPlace e = plain a (record a { states = v }) InPlace _ refl refl (λ w g nf. ((c, open_by), record { states = e; grant = refl })) (inr refl)
-  does_made (UiActivate g) e = plain a (record a { states = v; g = Some g }) (UiActivate g) _ refl refl (λ w h nf. (((c, open_by), record { states = e; grant = refl }), refl)) (inr refl)
-  does_made UiDeactivate e = plain a (record a { states = v; g = None }) UiDeactivate _ refl refl (λ w h nf. (((c, open_by), record { states = e; grant = refl }), refl)) (inr refl)
-  does_made InPlaceDeactivate e = plain a (record a { states = v }) InPlaceDeactivate _ refl refl (λ w g nf. ((c, open_by), record { states = e; grant = refl })) (inr refl)
-  does_made OpenWindow e = plain a (record a { states = v }) OpenWindow _ refl refl (λ w g nf. ((c, open_by), record { states = e; grant = refl })) (inr refl)
+  does_made (InitNew class) e = plain a (record a { states = v }) (InitNew class) _ refl refl (λ w g nf. absurd (nf tt)) (inr refl) (inr refl)
+  does_made (Load class content) e = plain a (record a { states = v }) (Load class content) _ refl refl (λ w g nf. absurd (nf tt)) (inr refl) (inr refl)
+  does_made InPlace e = plain a (record a { states = v }) InPlace _ refl refl (λ w g nf. ((c, open_by), record { states = e; grant = refl })) (inr refl) (inr refl)
+  does_made (UiActivate g) e = plain a (record a { states = v; g = Some g }) (UiActivate g) _ refl refl (λ w h nf. (((c, open_by), record { states = e; grant = refl }), refl)) (inr refl) (inl tt)
+  does_made UiDeactivate e = plain a (record a { states = v; g = None }) UiDeactivate _ refl refl (λ w h nf. (((c, open_by), record { states = e; grant = refl }), refl)) (inr refl) (inl tt)
+  does_made InPlaceDeactivate e = plain a (record a { states = v }) InPlaceDeactivate _ refl refl (λ w g nf. ((c, open_by), record { states = e; grant = refl })) (inr refl) (inr refl)
+  does_made OpenWindow e = plain a (record a { states = v }) OpenWindow _ refl refl (λ w g nf. ((c, open_by), record { states = e; grant = refl })) (inr refl) (inr refl)
   does_made (Edit bytes) e = edits_made bytes (object.edit c bytes) e
-  does_made (Save k) e = plain a (record a { states = v; saved = Some (stored_of c) }) (Save k) _ refl refl (λ w g nf. (((c, open_by), record { states = e; grant = refl }), refl)) (inl (k, refl))
-  does_made HandsOff e = plain a (record a { states = v }) HandsOff _ refl refl (λ w g nf. ((c, open_by), record { states = e; grant = refl })) (inr refl)
+  does_made (Save k) e = plain a (record a { states = v; saved = Some (stored_of c) }) (Save k) _ refl refl (λ w g nf. (((c, open_by), record { states = e; grant = refl }), refl)) (inl (k, refl)) (inr refl)
+  does_made HandsOff e = plain a (record a { states = v }) HandsOff _ refl refl (λ w g nf. ((c, open_by), record { states = e; grant = refl })) (inr refl) (inr refl)
   does_made (SaveCompleted k storage) e = counts_made k storage a.saved refl e
-  does_made (SaveDropped k) e = plain a (record a { states = v; s = a.s + 1 }) (SaveDropped k) _ refl refl (λ w g nf. ((c, open_by), record { states = e; grant = refl })) (inr refl)
+  does_made (SaveDropped k) e = plain a (record a { states = v; s = a.s + 1 }) (SaveDropped k) _ refl refl (λ w g nf. ((c, open_by), record { states = e; grant = refl })) (inr refl) (inr refl)
   does_made (Close option) e = closes_made option e
 
 acted_made : (a : Activation) (c : Content) (op : Operation) (r : Result States StateFault) → a.content ≡ Some c → both.step a.states (op_of op) ≡ r → IsMade a op (acted a c op r)
@@ -237,14 +238,15 @@ module _ (is : List Instance) (inc act m : ℕ) (op : Operation) (i : Instance) 
     pub last : after.last ≡ 1
     pub reply : after.reply ≡ r
     pub did : Did both.loaded 0 o after r
+    pub grant : after.g ≡ None
 
   begins_init : (class : List ℕ) (r : Result Content EmbedFault) → Begun (InitNew class) (begins act class (InitNew class) r).activation (begins act class (InitNew class) r).answer
-  begins_init class (Err fault) = record { is_first = tt; last = refl; reply = refl; did = refl }
-  begins_init class (Ok c) = record { is_first = tt; last = refl; reply = refl; did = ((c, refl), record { states = refl; grant = refl }) }
+  begins_init class (Err fault) = record { is_first = tt; last = refl; reply = refl; did = refl; grant = refl }
+  begins_init class (Ok c) = record { is_first = tt; last = refl; reply = refl; did = ((c, refl), record { states = refl; grant = refl }); grant = refl }
 
   begins_load : (class : List ℕ) (content : Stored) (r : Result Content EmbedFault) → Begun (Load class content) (begins act class (Load class content) r).activation (begins act class (Load class content) r).answer
-  begins_load class content (Err fault) = record { is_first = tt; last = refl; reply = refl; did = refl }
-  begins_load class content (Ok c) = record { is_first = tt; last = refl; reply = refl; did = ((c, refl), record { states = refl; grant = refl }) }
+  begins_load class content (Err fault) = record { is_first = tt; last = refl; reply = refl; did = refl; grant = refl }
+  begins_load class content (Ok c) = record { is_first = tt; last = refl; reply = refl; did = ((c, refl), record { states = refl; grant = refl }); grant = refl }
 
   begins_act : (class : List ℕ) (o : Operation) (r : Result Content EmbedFault) → ((begins act class o r).activation.act ≡ act) × ((begins act class o r).counted ≡ None)
   begins_act class o (Err fault) = (refl, refl)
@@ -265,7 +267,7 @@ module _ (is : List Instance) (inc act m : ℕ) (op : Operation) (i : Instance) 
       subst (IsTaken is inc act m op i) isd (record {
         after = b.activation;
         changed = changes (record i.core { acts = i.core.acts ++ b.activation ∷ [] }) b.activation (λ x. find_act_more i.core.acts act x b.activation f ba.0);
-        how = makes (ap (act_at act) at ∙ f) o.0 g.is_first g.last g.reply g.did refl;
+        how = makes (ap (act_at act) at ∙ f) o.0 g.is_first g.last g.reply g.did refl g.grant;
         of = λ v z. cc;
       })
 

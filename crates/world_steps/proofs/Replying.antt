@@ -233,6 +233,8 @@ module _ (r : Record) (acts : Acts) (lives : Lives) (sent : List Message) (owner
     pub linked : object.link ≡ Some link
     pub inc_is : link.inc ≡ inc
     pub act_is : link.act ≡ act
+    pub pending : link.pending ≡ Some (Close SaveIfDirty)
+    pub number : n ≡ link.last
     pub brings : answer ≡ Content content
     pub seen : IsSeen log inc act n answer link.states link.s
     pub held : IsOpenWhileClosing link
@@ -250,6 +252,8 @@ module _ (r : Record) (acts : Acts) (lives : Lives) (sent : List Message) (owner
         linked = h.is;
         inc_is = name.0;
         act_is = name.1;
+        pending = closes;
+        number = h.number;
         brings = b.2;
         seen = close_seen x p h found log SaveIfDirty v closes;
         held = closes-are_open r (is_linked inc act) x h.l SaveIfDirty s found h.is closes;

@@ -1,0 +1,14 @@
+pub mod States
+pub mod Objects
+pub mod Frames
+pub mod Moving
+pub mod Following
+pub mod Stepping
+pub mod Acting
+pub mod Alike
+pub mod Commands
+pub mod Verbs
+pub mod Replies
+pub mod Answering
+pub mod Ending
+pub mod Taking

@@ -1,0 +1,96 @@
+-- What each step of the container makes of roles.
+use Rattle.std.proofs.Common.{◌≡◌, ◌==◌, ℕ, Bool, true, false, List, [], ◌∷◌, Option, Some, None, Result, Ok, Err, refl, sym, ◌∙◌, subst, if◌then◌else◌}
+use Rattle.wire_msgs.specs.Found.{find, nth}
+use Rattle.wire_msgs.specs.declared.message.Message.{Message}
+use Rattle.wire_msgs.specs.declared.message.Message.TheVariants.{Call, Reply, Write, Ask}
+use Rattle.object_state.specs.Verbs.{verb_of}
+use Rattle.object_parts.specs.Limits.{is_within}
+use Rattle.storage_tree.specs.declared.stored.Stored.{Stored}
+use Rattle.container_model.specs.declared.record.Link.{Link}
+use Rattle.container_model.specs.declared.record.Object.{Object}
+use Rattle.container_model.specs.declared.command.Command.{Command}
+use Rattle.container_model.specs.declared.command.Command.TheVariants as command
+use Rattle.container_model.specs.declared.fault.ContainerFault.{ContainerFault}
+use Rattle.container_model.specs.declared.fault.ContainerFault.TheVariants.{Stale, WrongLink, BadAnswer}
+use Rattle.container_model.specs.Record.{Record, Took, is_object, is_linked, is_alive}
+use Rattle.container_model.specs.declared.record.Frame.{Frame}
+use Rattle.container_model.specs.Saves.{commit_made}
+use Rattle.container_model.specs.Commands.{on_command, kind_of}
+use Rattle.container_model.specs.Messages.{is_open_to, written_object, write_made, write_link, write_found, on_message, on_ask}
+use Rattle.container_laws.specs.Steady.{Steady}
+use Rattle.world_model.specs.Safe.{links_of}
+use Rattle.world_grants.specs.Grants.{RolesMove, NoClaim, NoTools, roles_of}
+use Rattle.world_grants.proofs.Objects.{Keeps, put_kept, kept_stay}
+use Rattle.world_grants.proofs.Frames.{none_move}
+use Rattle.world_grants.proofs.Moving.{plain_move}
+use Rattle.world_grants.proofs.Commands.{Leaves, new_leaves, insert_leaves_in, start_leaves, run_leaves, edit_leaves, save_leaves, delete_leaves, kill_leaves, commit_leaves}
+use Rattle.world_grants.proofs.Verbs.{verb_leaves, close_leaves, ask_leaves}
+use Rattle.world_grants.proofs.Replies.{reply_is}
+use Rattle.world_grants.proofs.Answering.{move_more, reply_moves}
+
+abbrev pub MovesBy : Record → Record → List Message → Type 0
+MovesBy r u taken = RolesMove (links_of r.objects) (links_of u.objects) (roles_of r) (roles_of u) taken
+
+left_moves : (r u : Record) → Steady r → Leaves r u → MovesBy r u []
+left_moves r u s h = plain_move r u s h.0 h.1
+
+command_leaves : (r : Record) (c : Command) (t : Took) → Steady r → on_command r c ≡ Ok t → Leaves r t.rec
+command_leaves r (command.New name w h) t s e = new_leaves r name w h t e
+command_leaves r (command.Insert f kind area) t s e = insert_leaves_in r f (kind_of kind) area (nth r.frames f) t e
+command_leaves r command.Start t s e = start_leaves r t e
+command_leaves r (command.Run o inc) t s e = run_leaves r o inc (find (is_object o) r.objects) t refl e
+command_leaves r (command.Edit o bytes) t s e = edit_leaves r o bytes (find (is_object o) r.objects) t refl e
+command_leaves r (command.Save f) t s e = save_leaves r f (nth r.frames f) t refl e
+command_leaves r (command.Delete o) t s e = delete_leaves r (find (is_object o) r.objects) t s e
+command_leaves r (command.Kill inc) t s e = kill_leaves r inc t e
+command_leaves r (command.Close o option) t s e = close_leaves r o option (find (is_object o) r.objects) t refl e
+command_leaves r (command.Verb o number) t s e = verb_leaves r o (verb_of number) (find (is_object o) r.objects) t refl e
+
+pub command_moves : (r : Record) (c : Command) (t : Took) → Steady r → on_command r c ≡ Ok t → MovesBy r t.rec []
+command_moves r c t s e = left_moves r t.rec s (command_leaves r c t s e)
+
+pub committed_moves : (r : Record) (f : ℕ) (frame : Frame) → Steady r → nth r.frames f ≡ Some frame → MovesBy r (commit_made r f frame).rec []
+committed_moves r f frame s at = left_moves r (commit_made r f frame).rec s (commit_leaves r f frame at)
+
+-- a write
+module _ (r : Record) (inc act s w : ℕ) (content : Stored) (t : Took) where
+  written_leaves : (o : Object) (l : Link) → find (is_linked inc act) r.objects ≡ Some o → Leaves r (write_made r inc act o l w content).rec
+  written_leaves o l f = (
+    kept_stay r.objects _ (put_kept (is_linked inc act) (written_object o l w content) r.objects (λ x e. (let q : o ≡ x = (let z : Some o ≡ Some x = sym f ∙ e in cc) in
+        subst (λ z. Keeps z (written_object o l w content)) q (record { number = refl; frame = refl })))),
+    none_move NoClaim NoTools r.frames,
+  )
+
+  write_leaves_link : (o : Object) (l : Option Link) → find (is_linked inc act) r.objects ≡ Some o → write_link r inc act s w content o l ≡ Ok t → Leaves r t.rec
+  write_leaves_link o None f e = cc
+  write_leaves_link o (Some l) f e = at (is_open_to l s w) (is_within content) e
+    where
+      at : (b c : Bool) → ◌≡◌ {A = Result Took ContainerFault} (if b then (if c then Ok (write_made r inc act o l w content) else Err BadAnswer) else Err Stale) (Ok t) → Leaves r t.rec
+      at true true g = (let is : write_made r inc act o l w content ≡ t = cc in subst (λ (v : Took). Leaves r v.rec) is (written_leaves o l f))
+      at true false g = cc
+      at false c g = cc
+
+  write_leaves_found : (o : Option Object) → find (is_linked inc act) r.objects ≡ o → write_found r inc act s w content o ≡ Ok t → Leaves r t.rec
+  write_leaves_found None f e = cc
+  write_leaves_found (Some o) f e = write_leaves_link o o.link f e
+
+  write_leaves : (link : ℕ) → on_message r link (Write inc act s w content) ≡ Ok t → Leaves r t.rec
+  write_leaves link e = at (inc == link) (is_alive r inc) e
+    where
+      at : (a b : Bool) → ◌≡◌ {A = Result Took ContainerFault} (if a then (if b then write_found r inc act s w content (find (is_linked inc act) r.objects) else Err Stale) else Err WrongLink) (Ok t) → Leaves r t.rec
+      at true true g = write_leaves_found (find (is_linked inc act) r.objects) refl g
+      at true false g = cc
+      at false b g = cc
+
+ask_leaves_on : (r : Record) (link inc act g : ℕ) (t : Took) → on_message r link (Ask inc act g) ≡ Ok t → Leaves r t.rec
+ask_leaves_on r link inc act g t e = at (inc == link) e
+  where
+    at : (b : Bool) → ◌≡◌ {A = Result Took ContainerFault} (if b then on_ask r inc act g else Err WrongLink) (Ok t) → Leaves r t.rec
+    at true k = ask_leaves r inc act g t k
+    at false k = cc
+
+pub message_moves : (r : Record) (link : ℕ) (m : Message) (t : Took) → Steady r → on_message r link m ≡ Ok t → MovesBy r t.rec (m ∷ [])
+message_moves r link (Call inc act n op) t s e = cc
+message_moves r link (Reply inc act n answer) t s e = reply_moves r s inc act n answer t (reply_is r inc act n answer t link e)
+message_moves r link (Write inc act k w content) t s e = move_more (links_of r.objects) (links_of t.rec.objects) (roles_of r) (roles_of t.rec) (Write inc act k w content ∷ []) (left_moves r t.rec s (write_leaves r inc act k w content t link e))
+message_moves r link (Ask inc act g) t s e = move_more (links_of r.objects) (links_of t.rec.objects) (roles_of r) (roles_of t.rec) (Ask inc act g ∷ []) (left_moves r t.rec s (ask_leaves_on r link inc act g t e))
