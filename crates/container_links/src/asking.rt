@@ -199,7 +199,7 @@ fn behind(
 }
 
 // Equal operations.
-fn copied(alloc: Global, operations: &[Operation]) -> Result<Vec<Operation>, AllocError>
+pub(crate) fn copied(alloc: Global, operations: &[Operation]) -> Result<Vec<Operation>, AllocError>
     ensures { IfOk result (λ v. v.items ≡ operations.now) }
 {
     let mut out = Vec::new(alloc);
