@@ -1,9 +1,11 @@
 //! What a container does with a message.
 
 ghost use Rattle.std.specs.Prelude.{◌+◌, ◌≡◌, ◌≤◌, IfErr, IfOk, Ok, OnErr, length, true};
+ghost use Rattle.container_laws.specs.Steady.{Steady};
 ghost use Rattle.container_model.specs.Record.{Refuses, counts_none, is_linked, quiet_answer};
 ghost use Rattle.container_model.specs.Messages.{on_message, on_reply, on_write, reply_found, write_found};
 ghost use Rattle.container_model.specs.Replies.{pending_calls};
+ghost use Rattle.container_model.specs.Room.{IsSound};
 ghost use Rattle.wire_msgs.specs.Found.{find, IsPlace};
 
 use crate::state::State;
@@ -30,9 +32,11 @@ fn content_taken(alloc: Global) -> Answer
 
 impl State {
     ghost use Rattle.std.specs.Prelude.{◌+◌, ◌≡◌, ◌≤◌, IfErr, IfOk, Ok, OnErr, length};
+    ghost use Rattle.container_laws.specs.Steady.{Steady};
     ghost use Rattle.container_model.specs.Record.{Refuses, counts_none, is_linked};
     ghost use Rattle.container_model.specs.Messages.{on_message, on_reply, on_write, reply_found, write_found};
     ghost use Rattle.container_model.specs.Replies.{pending_calls};
+    ghost use Rattle.container_model.specs.Room.{IsSound};
     ghost use Rattle.wire_msgs.specs.Found.{find, IsPlace};
 
     /// A message on the link of a server.
@@ -42,6 +46,8 @@ impl State {
         link: u32,
         message: Message,
     ) -> Result<Answer, ContainerFault>
+        requires steady { Steady self.old }
+        requires sound { IsSound self.old }
         ensures taken { IfOk result (λ a. on_message self.old link message ≡ Ok (counts_none self.new a)) }
         ensures few { IfOk result (λ a. length a.actions ≤ length self.old.objects + length self.old.frames + 1) }
         ensures refused { IfErr result (Refuses (on_message self.old link message)) }
@@ -93,6 +99,8 @@ impl State {
         n: u32,
         answer: reply::Answer,
     ) -> Result<Answer, ContainerFault>
+        requires steady { Steady self.old }
+        requires sound { IsSound self.old }
         ensures taken { IfOk result (λ a. on_reply self.old inc act n answer ≡ Ok (counts_none self.new a)) }
         ensures few { IfOk result (λ a. length a.actions ≤ length self.old.objects + length self.old.frames + 1) }
         ensures refused { IfErr result (Refuses (on_reply self.old inc act n answer)) }
@@ -117,7 +125,9 @@ impl State {
         n: u32,
         answer: reply::Answer,
     ) -> Result<Answer, ContainerFault>
-        requires { IsPlace (is_linked inc act) self.old.objects place }
+        requires steady { Steady self.old }
+        requires sound { IsSound self.old }
+        requires place { IsPlace (is_linked inc act) self.old.objects place }
         ensures taken { IfOk result (λ a. reply_found self.old inc act n answer (find (is_linked inc act) self.old.objects) ≡ Ok (counts_none self.new a)) }
         ensures few { IfOk result (λ a. length a.actions ≤ length self.old.objects + length self.old.frames + 1) }
         ensures refused { IfErr result (Refuses (reply_found self.old inc act n answer (find (is_linked inc act) self.old.objects))) }

@@ -1,8 +1,10 @@
 //! What a container does at the end of a server.
 
 ghost use Rattle.std.specs.Prelude.{◌+◌, ◌≡◌, ◌≤◌, IfErr, IfOk, Ok, OnErr, length};
+ghost use Rattle.container_laws.specs.Steady.{Steady};
 ghost use Rattle.container_model.specs.Record.{Refuses, counts_none};
 ghost use Rattle.container_model.specs.Messages.{on_reap};
+ghost use Rattle.container_model.specs.Room.{IsSound};
 
 use crate::state::State;
 use container_links::settling::settle_into;
@@ -14,11 +16,15 @@ use std::alloc::Global;
 
 impl State {
     ghost use Rattle.std.specs.Prelude.{◌+◌, ◌≡◌, ◌≤◌, IfErr, IfOk, Ok, OnErr, length};
+    ghost use Rattle.container_laws.specs.Steady.{Steady};
     ghost use Rattle.container_model.specs.Record.{Refuses, counts_none};
     ghost use Rattle.container_model.specs.Messages.{on_reap};
+    ghost use Rattle.container_model.specs.Room.{IsSound};
 
     /// The end of a server.
     pub(crate) fn on_reap(&mut self, alloc: Global, inc: u32) -> Result<Answer, ContainerFault>
+        requires steady { Steady self.old }
+        requires sound { IsSound self.old }
         ensures taken { IfOk result (λ a. on_reap self.old inc ≡ Ok (counts_none self.new a)) }
         ensures few { IfOk result (λ a. length a.actions ≤ length self.old.objects + length self.old.frames + 1) }
         ensures refused { IfErr result (Refuses (on_reap self.old inc)) }

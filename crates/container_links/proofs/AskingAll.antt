@@ -20,6 +20,9 @@ installed_prepared_link : (op : Operation) (link : Option Link) → installed_li
 installed_prepared_link op None = refl
 installed_prepared_link op (Some l) = installed_at op l l.pending refl
 
+pub installed_one : (op : Operation) (p : Prepared) (o next : Object) → next ≡ installed p o → p ≡ prepared_link op o.link → next ≡ record o { link = asked_link op o.link }
+installed_one op p o next is e = is ∙ (ap (λ q. installed q o) e ∙ ap (λ link. record o { link = link }) (installed_prepared_link op o.link))
+
 installed_nothing : (link : Option Link) → installed_link Nothing link ≡ link
 installed_nothing None = refl
 installed_nothing (Some l) = refl

@@ -75,7 +75,7 @@ pub(crate) fn add(actions: &mut Vec<Action>, message: Message)
 }
 
 // The next call of an activation.
-fn call(alloc: Global, link: &Link, operation: &Operation) -> Result<Message, AllocError>
+pub(crate) fn call(alloc: Global, link: &Link, operation: &Operation) -> Result<Message, AllocError>
     requires { link.now.last ≤ 1000000 }
     ensures { IfOk result (λ m. m ≡ Message.Call link.now.inc link.now.act (link.now.last + 1) operation.now) }
 {
@@ -186,7 +186,7 @@ fn take(
 }
 
 // What waits, and an operation behind it.
-fn behind(
+pub(crate) fn behind(
     alloc: Global,
     waiting: &Items<Operation>,
     operation: &Operation,
@@ -232,7 +232,7 @@ fn install_all(objects: &mut [Object], takes: Vec<Prepared>)
 }
 
 // An object takes up what was prepared for it.
-fn install(object: &mut Object, take: Prepared)
+pub(crate) fn install(object: &mut Object, take: Prepared)
     requires { HasNumber object.old }
     ensures { object.new ≡ installed take object.old }
 {

@@ -3,13 +3,16 @@
 ghost use Rattle.std.specs.Prelude.{◌≡◌, ◌+◌, ◌≤◌, IfErr, IfOk, OnErr, Ok, Some, None, length, vec_len, vec_capacity};
 ghost use Rattle.object_state.specs.Both as both;
 ghost use Rattle.container_model.specs.Record.{Refuses, sends};
-ghost use Rattle.container_model.specs.Messages.{closed_with, done_link, is_fit, lost, next_at, noted, reply_link, saved_link};
-ghost use Rattle.container_model.specs.Replies.{first_call, went};
+ghost use Rattle.container_links.specs.Relieving.{gives_up};
+ghost use Rattle.container_model.specs.Messages.{closed_with, done_link, granted_link, is_fit, lost, next_at, noted, reply_link, saved_link};
+ghost use Rattle.container_model.specs.Replies.{first_call, resumed};
 ghost use Rattle.container_model.specs.Room.{IfLinked, IsRoomy};
 
 use container_model::answer::Action;
 use container_model::fault::ContainerFault;
+use container_model::grants::Tells;
 use container_model::record::Link;
+use grant_core::Tools;
 use object_parts::limits::is_within;
 use object_state::{CloseOption, Op, States};
 use std::alloc::{AllocError, Global};
@@ -26,6 +29,8 @@ pub struct Replied {
     pub taken: Option<Stored>,
     /// Why the object refused the call.
     pub refused: Option<Refusal>,
+    /// What is told of the frame's grant.
+    pub grant: Option<Tells>,
     /// The call that is sent next, if any.
     pub actions: Vec<Action>,
 }
@@ -85,7 +90,7 @@ fn done(
 ) -> Result<Replied, ContainerFault>
     requires numbers { link.old.last + length link.old.waiting ≤ 1000000 }
     requires few { more ≤ 1000000 }
-    ensures taken { IfOk result (λ t. went (done_link link.old s (both.step link.old.states op)) ≡ Ok (record { link = Some link.new; taken = t.taken; refused = t.refused; actions = t.actions.items })) }
+    ensures taken { IfOk result (λ t. resumed (done_link link.old s (both.step link.old.states op)) ≡ Ok (record { link = Some link.new; taken = t.taken; refused = t.refused; grant = t.grant; actions = t.actions.items })) }
     ensures few { IfOk result (λ t. vec_len t.actions ≤ 1) }
     ensures room { IfOk result (λ t. vec_len t.actions + more ≤ vec_capacity t.actions) }
     ensures refused { IfErr result (Refuses (done_link link.old s (both.step link.old.states op))) }
@@ -103,6 +108,7 @@ fn done(
     Ok(Replied {
         taken: None,
         refused: None,
+        grant: None,
         actions,
     })
 }
@@ -117,7 +123,7 @@ fn saved(
 ) -> Result<Replied, ContainerFault>
     requires numbers { link.old.last + length link.old.waiting ≤ 1000000 }
     requires few { more ≤ 1000000 }
-    ensures taken { IfOk result (λ t. went (saved_link content (done_link link.old link.old.s (both.step link.old.states op))) ≡ Ok (record { link = Some link.new; taken = t.taken; refused = t.refused; actions = t.actions.items })) }
+    ensures taken { IfOk result (λ t. resumed (saved_link content (done_link link.old link.old.s (both.step link.old.states op))) ≡ Ok (record { link = Some link.new; taken = t.taken; refused = t.refused; grant = t.grant; actions = t.actions.items })) }
     ensures few { IfOk result (λ t. vec_len t.actions ≤ 1) }
     ensures room { IfOk result (λ t. vec_len t.actions + more ≤ vec_capacity t.actions) }
     ensures refused { IfErr result (Refuses (saved_link content (done_link link.old link.old.s (both.step link.old.states op)))) }
@@ -133,6 +139,33 @@ fn saved(
     }
 }
 
+// An operation was done, which tells this of the frame's grant.
+fn granted(
+    alloc: Global,
+    link: &mut Link,
+    op: Op,
+    told: Tells,
+    more: usize,
+) -> Result<Replied, ContainerFault>
+    requires numbers { link.old.last + length link.old.waiting ≤ 1000000 }
+    requires few { more ≤ 1000000 }
+    ensures taken { IfOk result (λ t. resumed (granted_link told (done_link link.old link.old.s (both.step link.old.states op))) ≡ Ok (record { link = Some link.new; taken = t.taken; refused = t.refused; grant = t.grant; actions = t.actions.items })) }
+    ensures few { IfOk result (λ t. vec_len t.actions ≤ 1) }
+    ensures room { IfOk result (λ t. vec_len t.actions + more ≤ vec_capacity t.actions) }
+    ensures refused { IfErr result (Refuses (granted_link told (done_link link.old link.old.s (both.step link.old.states op)))) }
+    ensures kept { OnErr result (link.new ≡ link.old) }
+{
+    let s = link.s;
+    match done(alloc, link, op, s, more) {
+        Ok(replied) => {
+            let mut replied = replied;
+            replied.grant = Some(told);
+            Ok(replied)
+        }
+        Err(fault) => Err(fault),
+    }
+}
+
 // The refusal of an operation is noted, and all else stays.
 fn noted(
     alloc: Global,
@@ -142,7 +175,7 @@ fn noted(
 ) -> Result<Replied, ContainerFault>
     requires numbers { link.old.last + length link.old.waiting ≤ 1000000 }
     requires few { more ≤ 1000000 }
-    ensures taken { IfOk result (λ t. went (noted link.old why) ≡ Ok (record { link = Some link.new; taken = t.taken; refused = t.refused; actions = t.actions.items })) }
+    ensures taken { IfOk result (λ t. resumed (noted link.old why) ≡ Ok (record { link = Some link.new; taken = t.taken; refused = t.refused; grant = t.grant; actions = t.actions.items })) }
     ensures few { IfOk result (λ t. vec_len t.actions ≤ 1) }
     ensures room { IfOk result (λ t. vec_len t.actions + more ≤ vec_capacity t.actions) }
     ensures refused { IfErr result (Refuses (noted link.old why)) }
@@ -155,6 +188,7 @@ fn noted(
     Ok(Replied {
         taken: None,
         refused: Some(why),
+        grant: None,
         actions,
     })
 }
@@ -167,7 +201,7 @@ fn lost(
     more: usize,
 ) -> Result<Replied, ContainerFault>
     requires { more ≤ 1000000 }
-    ensures taken { IfOk result (λ t. went (lost why) ≡ Ok (record { link = link.new; taken = t.taken; refused = t.refused; actions = t.actions.items })) }
+    ensures taken { IfOk result (λ t. resumed (lost why) ≡ Ok (record { link = link.new; taken = t.taken; refused = t.refused; grant = t.grant; actions = t.actions.items })) }
     ensures few { IfOk result (λ t. vec_len t.actions ≤ 1) }
     ensures room { IfOk result (λ t. vec_len t.actions + more ≤ vec_capacity t.actions) }
     ensures refused { IfErr result (Refuses (lost why)) }
@@ -180,6 +214,7 @@ fn lost(
     Ok(Replied {
         taken: None,
         refused: Some(why),
+        grant: None,
         actions,
     })
 }
@@ -194,7 +229,7 @@ fn closed(
     more: usize,
 ) -> Result<Replied, ContainerFault>
     requires { more ≤ 1000000 }
-    ensures taken { IfOk result (λ t. went (closed_with content (both.step states op)) ≡ Ok (record { link = link.new; taken = t.taken; refused = t.refused; actions = t.actions.items })) }
+    ensures taken { IfOk result (λ t. resumed (closed_with content (both.step states op)) ≡ Ok (record { link = link.new; taken = t.taken; refused = t.refused; grant = t.grant; actions = t.actions.items })) }
     ensures few { IfOk result (λ t. vec_len t.actions ≤ 1) }
     ensures room { IfOk result (λ t. vec_len t.actions + more ≤ vec_capacity t.actions) }
     ensures refused { IfErr result (Refuses (closed_with content (both.step states op))) }
@@ -210,6 +245,7 @@ fn closed(
     Ok(Replied {
         taken: content,
         refused: None,
+        grant: None,
         actions,
     })
 }
@@ -238,7 +274,7 @@ pub fn told(
 ) -> Result<Replied, ContainerFault>
     requires numbers { IfLinked (IsRoomy 1000000 0) link.old }
     requires few { more ≤ 1000000 }
-    ensures taken { IfOk result (λ t. went (reply_link n answer link.old) ≡ Ok (record { link = link.new; taken = t.taken; refused = t.refused; actions = t.actions.items })) }
+    ensures taken { IfOk result (λ t. resumed (reply_link n answer link.old) ≡ Ok (record { link = link.new; taken = t.taken; refused = t.refused; grant = t.grant; actions = t.actions.items })) }
     ensures few { IfOk result (λ t. vec_len t.actions ≤ 1) }
     ensures room { IfOk result (λ t. vec_len t.actions + more ≤ vec_capacity t.actions) }
     ensures refused { IfErr result (Refuses (reply_link n answer link.old)) }
@@ -266,6 +302,14 @@ pub fn told(
         (Operation::InitNew(_) | Operation::Load(_, _), Answer::Refused(why)) => lost(
             alloc, link, why, more,
         ),
+        (Operation::InPlace, Answer::Done) => done(alloc, l, op, s, more),
+        (Operation::InPlaceDeactivate, Answer::Done) => done(alloc, l, op, s, more),
+        (Operation::OpenWindow, Answer::Done) => done(alloc, l, op, s, more),
+        (Operation::UiActivate(g), Answer::Tools { menus, border }) => {
+            let told = Tells::Gets(*g, Tools { menus, border });
+            granted(alloc, l, op, told, more)
+        }
+        (Operation::UiDeactivate, Answer::Done) => granted(alloc, l, op, Tells::GivesUp, more),
         (Operation::Edit(_), Answer::Done) => done(alloc, l, op, s, more),
         (Operation::Edit(_), Answer::Refused(why)) => noted(alloc, l, why, more),
         (Operation::Save(_), Answer::Content(content)) => saved(alloc, l, op, content, more),
@@ -282,5 +326,24 @@ pub fn told(
             alloc, link, states, op, None, more,
         ),
         _ => Err(ContainerFault::BadAnswer),
+    }
+}
+
+/// Whether an answer to the call of this number is one by which the object gives its frame up. It changes nothing.
+pub fn gives_up(link: &Option<Link>, n: u32, answer: &Answer) -> bool
+    ensures { result ≡ gives_up (reply_link n answer.now link.now) }
+{
+    let Some(link) = link else {
+        return false;
+    };
+    let Some(operation) = &link.pending else {
+        return false;
+    };
+    if n != link.last {
+        return false;
+    }
+    match (operation, answer) {
+        (Operation::UiDeactivate, Answer::Done) => link.states.step(Op::UiDeactivate).is_ok(),
+        _ => false,
     }
 }

@@ -7,19 +7,9 @@ use Rattle.container_core.proofs.MessageMade.{reply_made}
 use Rattle.container_core.proofs.MessageSound.{reply_sound, settled_sound}
 use Rattle.container_core.proofs.state.State.reply_at.Goals as goal
 
-pub invariant_of-self-2 : goal.invariant_of-self-2
-invariant_of-self-2 c =
-    let r : Record = record { frames = c.self.inside.frames.items; objects = c.self.inside.objects.items; servers = c.self.inside.servers; last_object = c.self.inside.last_object; last_act = c.self.inside.last_act; numbers = c.self.inside.numbers } in
-    let v : c.args.self.now ≡ r = sym c.self.view_is in
-    let w : ToldObject = record { object = c.told_object.new.object; taken = c.in-Ok.replied.taken; refused = c.in-Ok.replied.refused; actions = c.in-Ok.replied.actions.items } in
-    let p : IsPlace (is_linked c.args.inc c.args.act) r.objects c.args.place = subst (λ (x : Record). IsPlace (is_linked c.args.inc c.args.act) x.objects c.args.place) v c.requires in
-    let g : slice_get r.objects c.args.place ≡ Some c.index_mut.result.now = slice_get-get_or r.objects c.args.place c.index_mut.result.now p.fits ∙ ap Some (sym c.index_mut.ensures.value) in
-    let s = reply_sound r c.args.inc c.args.act c.args.n c.args.answer c.index_mut.result.now w c.self.invariant (p.found ∙ g) c.in-Ok.ensures.taken in
-    rw (c.settle_into.ensures.settled, ← (p.puts c.told_object.new.object)) (settled_sound _ s)
-
 pub returns-clause-taken : goal.returns-clause-taken
 returns-clause-taken c =
-    let r : Record = record { frames = c.self.inside.frames.items; objects = c.self.inside.objects.items; servers = c.self.inside.servers; last_object = c.self.inside.last_object; last_act = c.self.inside.last_act; numbers = c.self.inside.numbers } in
+    let r : Record = record { frames = c.self.inside.frames.items; objects = c.self.inside.objects.items; servers = c.self.inside.servers; last_object = c.self.inside.last_object; last_act = c.self.inside.last_act; last_g = c.self.inside.last_g; numbers = c.self.inside.numbers } in
     let v : c.args.self.now ≡ r = sym c.self.view_is in
     let w : ToldObject = record { object = c.told_object.new.object; taken = c.in-Ok.replied.taken; refused = c.in-Ok.replied.refused; actions = c.in-Ok.replied.actions.items } in
     let p : IsPlace (is_linked c.args.inc c.args.act) r.objects c.args.place = subst (λ (x : Record). IsPlace (is_linked c.args.inc c.args.act) x.objects c.args.place) v c.requires in
