@@ -56,3 +56,8 @@ pub record IsAsking (f : ℕ) (op : Operation) (os : List Object) (actions : Lis
   pub sent : actions ≡ sends (asked_all f op os)
   pub few : length actions ≤ length os
   pub takes : ps ≡ map (prepared f op) os
+
+-- what an activation is once it has taken up operations: the first is pending where none was, and these wait
+abbrev pub stepped_by : Option Operation → List Operation → Link → Link
+stepped_by None ops l = record l { waiting = ops }
+stepped_by (Some op) ops l = record l { last = l.last + 1; pending = Some op; waiting = ops }

@@ -201,7 +201,7 @@ pub(crate) fn behind(
 }
 
 // Equal operations.
-fn copied(alloc: Global, operations: &[Operation]) -> Result<Vec<Operation>, AllocError>
+pub(crate) fn copied(alloc: Global, operations: &[Operation]) -> Result<Vec<Operation>, AllocError>
     ensures { IfOk result (λ v. v.items ≡ operations.now) }
 {
     let mut out = Vec::new(alloc);

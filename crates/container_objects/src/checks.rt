@@ -155,7 +155,7 @@ pub fn has_numbers(numbers: u32, link: &Link) -> bool
 }
 
 // Whether an object that isn't passive has numbers left for operations.
-fn link_has_numbers(numbers: u32, link: &Option<Link>) -> bool
+pub(crate) fn link_has_numbers(numbers: u32, link: &Option<Link>) -> bool
     requires { IfLinked (λ l. l.last + length l.waiting ≤ 1000000) link.now }
     ensures { result ≡ link_has_numbers numbers link.now }
 {

@@ -12,4 +12,5 @@ pub mod reaps;
 pub mod replies;
 pub mod saves;
 pub mod servers;
+pub mod verbs;
 pub mod writes;

@@ -1,0 +1,24 @@
+-- What verbs and closes make of an object's frame.
+use Rattle.std.specs.Prelude.{ℕ, List, [], ◌∷◌, Result, Ok, if◌then◌else◌}
+use Rattle.object_state.specs.declared.verbs.Step.{Step}
+use Rattle.grant_core.specs.Grants.{Ask}
+use Rattle.container_model.specs.declared.fault.ContainerFault.{ContainerFault}
+use Rattle.container_model.specs.declared.record.Frame.{Frame}
+use Rattle.container_model.specs.declared.record.Link.{Link}
+use Rattle.container_model.specs.declared.record.Object.{Object}
+use Rattle.container_model.specs.Grants.{grant_of, moved}
+use Rattle.container_model.specs.Record.{Record, Took, counts_none, quiet_answer}
+use Rattle.container_model.specs.Verbs.{gives_up, stepping}
+
+-- the object, by this activation, gives its frame up
+abbrev pub given_up : ℕ → ℕ → Frame → Frame
+given_up number act frame = moved frame (Ask (record { object = number; act = act; g = grant_of frame.ui.state }))
+
+-- the frame after steps that don't take it
+abbrev pub left_frame : ℕ → ℕ → List Step → Frame → Frame
+left_frame number act steps frame = if gives_up steps then given_up number act frame else frame
+
+-- what a verb comes to that has these steps
+abbrev pub verb_went : Record → Frame → Object → Link → List Step → Result Took ContainerFault
+verb_went r frame o l [] = Ok (counts_none r quiet_answer)
+verb_went r frame o l (s ∷ ss) = stepping r frame o l (s ∷ ss)
