@@ -1,12 +1,13 @@
 //! What an answer makes of an object's link, and what is called next.
 
-ghost use Rattle.std.specs.Prelude.{◌≡◌, ◌+◌, ◌≤◌, IfErr, IfOk, OnErr, Ok, Some, None, length, vec_len, vec_capacity};
+ghost use Rattle.std.specs.Prelude.{◌≡◌, ◌+◌, ◌≤◌, IfErr, IfOk, IfSome, OnErr, OnTrue, Ok, Some, None, length, vec_len, vec_capacity};
 ghost use Rattle.object_state.specs.Both as both;
 ghost use Rattle.container_model.specs.Record.{Refuses, sends};
 ghost use Rattle.container_links.specs.Relieving.{gives_up};
 ghost use Rattle.container_model.specs.Messages.{closed_with, done_link, granted_link, is_fit, lost, next_at, noted, reply_link, saved_link};
 ghost use Rattle.container_model.specs.Replies.{first_call, resumed};
 ghost use Rattle.container_model.specs.Room.{IfLinked, IsRoomy};
+ghost use Rattle.wire_msgs.specs.declared.operation.Operation.TheVariants.{UiDeactivate};
 
 use container_model::answer::Action;
 use container_model::fault::ContainerFault;
@@ -329,9 +330,11 @@ pub fn told(
     }
 }
 
-/// Whether an answer to the call of this number is one by which the object gives its frame up. It changes nothing.
+/// Whether an answer to the call of this number is one by which the object gives its frame up, as it was asked. It changes
+/// nothing.
 pub fn gives_up(link: &Option<Link>, n: u32, answer: &Answer) -> bool
-    ensures { result ≡ gives_up (reply_link n answer.now link.now) }
+    ensures told { result ≡ gives_up (reply_link n answer.now link.now) }
+    ensures asked { OnTrue result (IfSome link.now (λ l. l.pending ≡ Some UiDeactivate)) }
 {
     let Some(link) = link else {
         return false;

@@ -2,3 +2,4 @@ pub mod LookupPlaces
 pub mod CommitsObjects
 pub mod RepliesTold
 pub mod ServersCounted
+pub mod VerbsMade
