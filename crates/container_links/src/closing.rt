@@ -5,7 +5,8 @@ ghost use Rattle.container_links.specs.Asking.{stepped_by};
 ghost use Rattle.container_model.specs.Record.{ask_each, sends};
 ghost use Rattle.container_model.specs.Verbs.{operation_of};
 
-use crate::asking::{add, copied};
+use crate::asking::copied;
+use crate::requests::add_action;
 use container_model::answer::Action;
 use container_model::record::Link;
 use object_state::Step;
@@ -59,8 +60,8 @@ pub struct Stepped {
     pub first: Option<Operation>,
     /// All that wait from now on.
     pub waiting: Items<Operation>,
-    /// The call of what is pending from now on.
-    pub call: Option<Message>,
+    /// What is to be sent, if anything: the call of what is pending from now on.
+    pub action: Option<Action>,
 }
 
 #[tactic(auto, using(crate::proofs::AskingEach::waits_link, crate::proofs::AskingEach::waits_sent, crate::proofs::AskingEach::begins_link, crate::proofs::AskingEach::begins_sent))]
@@ -76,52 +77,52 @@ pub fn prepare_steps(
 ) -> Result<Stepped, AllocError>
     requires { link.now.last ≤ 1000000 }
     ensures asked { IfOk result (λ s. stepped_by s.first s.waiting link.now ≡ (ask_each link.now (map (operation_of g) steps.now)).link) }
-    ensures sent { IfOk result (λ s. option_to_list s.call ≡ (ask_each link.now (map (operation_of g) steps.now)).sent) }
+    ensures sent { IfOk result (λ s. option_to_list s.action ≡ sends (ask_each link.now (map (operation_of g) steps.now)).sent) }
 {
     if link.pending.is_some() {
         return Ok(Stepped {
             first: None,
             waiting: behind(alloc, &link.waiting, g, steps)?,
-            call: None,
+            action: None,
         });
     }
     let Some((first, rest)) = steps.split_first() else {
         return Ok(Stepped {
             first: None,
             waiting: behind(alloc, &link.waiting, g, steps)?,
-            call: None,
+            action: None,
         });
     };
     let waiting = behind(alloc, &link.waiting, g, rest)?;
     Ok(Stepped {
         first: Some(operation_of(g, *first)),
         waiting,
-        call: Some(Message::Call {
+        action: Some(Action::Send(Message::Call {
             inc: link.inc,
             act: link.act,
             n: link.last + 1,
             operation: operation_of(g, *first),
-        }),
+        })),
     })
 }
 
 /// An activation takes up what was prepared for it. It takes no memory. What is to be sent, if anything.
-pub fn take_up_steps(link: &mut Link, stepped: Stepped) -> Option<Message>
+pub fn take_up_steps(link: &mut Link, stepped: Stepped) -> Option<Action>
     requires { link.old.last ≤ 1000000 }
     ensures asked { link.new ≡ stepped_by stepped.first stepped.waiting link.old }
-    ensures call { result ≡ stepped.call }
+    ensures action { result ≡ stepped.action }
 {
     let Stepped {
         first,
         waiting,
-        call,
+        action,
     } = stepped;
     link.waiting = waiting;
     if let Some(operation) = first {
         link.last += 1;
         link.pending = Some(operation);
     }
-    call
+    action
 }
 
 /// Asks an activation for the operations of these steps, one after the other: the first at once where none is pending, the
@@ -142,8 +143,7 @@ pub fn ask_steps(
 {
     let mut actions = Vec::with_capacity(alloc, 1)?;
     let stepped = prepare_steps(alloc, link, g, steps)?;
-    if let Some(call) = take_up_steps(link, stepped) {
-        add(&mut actions, call);
-    }
+    let action = take_up_steps(link, stepped);
+    add_action(&mut actions, action);
     Ok(Items::from_vec(actions))
 }
