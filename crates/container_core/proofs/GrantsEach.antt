@@ -59,8 +59,8 @@ asked_apart n m op os (Some o) e ne = find-put_other o.number m (record o { link
 agrees_on : (before os : List Object) (claim : Claim) (claims : List Claim) → Agrees before os claims → AllByRecursion (IsOther claim) claims → Agrees before (asked_by claim.object (UiActivate claim.g) os) claims
 agrees_on before os claim [] a d = tt
 agrees_on before os claim (c ∷ cs) a d = (
-    asked_apart claim.object c.object (UiActivate claim.g) os (find (is_object claim.object) os) refl d.0 ∙ a.0,
-    agrees_on before os claim cs a.1 d.1
+  asked_apart claim.object c.object (UiActivate claim.g) os (find (is_object claim.object) os) refl d.0 ∙ a.0,
+  agrees_on before os claim cs a.1 d.1,
 )
 
 -- what was prepared for an object before makes of it what the definition says

@@ -1,5 +1,11 @@
 pub mod CommitsDone
-pub mod MessageMade
+pub mod WritesMade
+pub mod GrantsEach
+pub mod GrantsTold
+pub mod GrantsWaiting
+pub mod RepliesMade
+pub mod ReapsMade
+pub mod AsksMade
 pub mod CommandsEdit
 pub mod CommandsSave
 pub mod StepsKeep

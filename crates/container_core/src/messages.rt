@@ -1,13 +1,12 @@
 //! What a container does with a message.
 
-ghost use Rattle.std.specs.Prelude.{◌+◌, ◌<◌, ◌≡◌, ◌≤◌, IfErr, IfOk, IfSome, IsOk, Ok, OnErr, length, map, slice_get, true};
+ghost use Rattle.std.specs.Prelude.{◌+◌, ◌≡◌, ◌≤◌, IfErr, IfOk, Ok, OnErr, length, true};
 ghost use Rattle.container_laws.specs.Steady.{Steady};
 ghost use Rattle.container_model.specs.Record.{Refuses, counts_none, is_linked, quiet_answer};
-ghost use Rattle.container_model.specs.Messages.{on_message, on_reply, on_write, reply_found, reply_link, write_found};
+ghost use Rattle.container_model.specs.Messages.{on_message, on_reply, on_write, reply_found, write_found};
 ghost use Rattle.container_model.specs.Replies.{pending_calls};
 ghost use Rattle.container_model.specs.Room.{IsSound};
-ghost use Rattle.container_objects.specs.Granted.{claims_after, ready};
-ghost use Rattle.wire_msgs.specs.Found.{find, nth, IsPlace};
+ghost use Rattle.wire_msgs.specs.Found.{find, IsPlace};
 
 use crate::state::State;
 use container_links::replies::gives_up;
@@ -15,7 +14,7 @@ use container_links::resending::pending_calls;
 use container_links::settling::settle_into;
 use container_model::answer::Answer;
 use container_model::fault::ContainerFault;
-use container_objects::grants::{Granted, prepare_waiting, take_grants, tell_frame};
+use container_objects::grants::{prepare_waiting, take_grants, tell_frame};
 use container_objects::lookups::place_linked;
 use container_objects::replies::{Told, answered, told_object};
 use container_objects::writes::write_one;
@@ -34,14 +33,13 @@ fn content_taken(alloc: Global) -> Answer
 }
 
 impl State {
-    ghost use Rattle.std.specs.Prelude.{◌+◌, ◌<◌, ◌≡◌, ◌≤◌, IfErr, IfOk, IfSome, IsOk, Ok, OnErr, length, map, slice_get};
+    ghost use Rattle.std.specs.Prelude.{◌+◌, ◌≡◌, ◌≤◌, IfErr, IfOk, Ok, OnErr, length};
     ghost use Rattle.container_laws.specs.Steady.{Steady};
     ghost use Rattle.container_model.specs.Record.{Refuses, counts_none, is_linked};
-    ghost use Rattle.container_model.specs.Messages.{on_message, on_reply, on_write, reply_found, reply_link, write_found};
+    ghost use Rattle.container_model.specs.Messages.{on_message, on_reply, on_write, reply_found, write_found};
     ghost use Rattle.container_model.specs.Replies.{pending_calls};
     ghost use Rattle.container_model.specs.Room.{IsSound};
-    ghost use Rattle.container_objects.specs.Granted.{claims_after, ready};
-ghost use Rattle.wire_msgs.specs.Found.{find, nth, IsPlace};
+    ghost use Rattle.wire_msgs.specs.Found.{find, IsPlace};
 
     /// A message on the link of a server.
     pub(crate) fn on_message(
@@ -85,10 +83,10 @@ ghost use Rattle.wire_msgs.specs.Found.{find, nth, IsPlace};
                 }
             }
             Message::Ask { inc, act, g } => {
-                if inc == link {
-                    self.on_ask(alloc, inc, act, g)
-                } else {
+                if inc != link {
                     Err(ContainerFault::WrongLink)
+                } else {
+                    self.on_ask(alloc, inc, act, g)
                 }
             }
         }
@@ -138,7 +136,9 @@ ghost use Rattle.wire_msgs.specs.Found.{find, nth, IsPlace};
         ensures kept { OnErr result (self.new ≡ self.old) }
     {
         let f = self.objects[place].frame;
-        let Ok(grants) = self.prepare_reply(alloc, place, n, &answer) else {
+        let gives = gives_up(&self.objects[place].link, n, &answer);
+        let frames = self.frames.as_slice();
+        let Ok(grants) = prepare_waiting(alloc, gives, f, frames, self.objects.as_slice()) else {
             return Err(ContainerFault::NoMemory);
         };
         let more = self.frames.len() + 1;
@@ -155,29 +155,6 @@ ghost use Rattle.wire_msgs.specs.Found.{find, nth, IsPlace};
         take_grants(&mut self.objects, &mut actions, grants);
         settle_into(&mut actions, &mut self.frames, &self.objects);
         Ok(answered(alloc, taken, refused, no_tools, actions))
-    }
-
-    // What is needed where an answer of the object that stands here gives its frame up, and another one waits for it.
-    //
-    // Refused for want of memory alone, and only where the answer is taken.
-    fn prepare_reply(
-        &self,
-        alloc: Global,
-        place: usize,
-        n: u32,
-        answer: &reply::Answer,
-    ) -> Result<Vec<Granted>, AllocError>
-        requires sound { IsSound self.now }
-        requires place { place < length self.now.objects }
-        ensures ready { IfOk result (λ v. IfSome (slice_get self.now.objects place) (λ o. v.items ≡ map (ready self.now.objects) (claims_after (nth self.now.frames o.frame) (reply_link n answer.now o.link)))) }
-        ensures few { IfOk result (λ v. vec_len v ≤ 1) }
-        ensures refused { OnErr result (IfSome (slice_get self.now.objects place) (λ o. IsOk (reply_link n answer.now o.link))) }
-    {
-        if !gives_up(&self.objects[place].link, n, answer) {
-            return Ok(Vec::new(alloc));
-        }
-        let f = self.objects[place].frame;
-        prepare_waiting(alloc, f, self.frames.as_slice(), self.objects.as_slice())
     }
 
     /// The pending calls, by their objects.

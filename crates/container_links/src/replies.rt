@@ -1,6 +1,6 @@
 //! What an answer makes of an object's link, and what is called next.
 
-ghost use Rattle.std.specs.Prelude.{◌≡◌, ◌+◌, ◌≤◌, IfErr, IfOk, IfSome, OnErr, OnTrue, Ok, Some, None, length, vec_len, vec_capacity};
+ghost use Rattle.std.specs.Prelude.{◌≡◌, ◌+◌, ◌≤◌, IfErr, IfOk, IfSome, OnErr, Ok, Some, None, true, length, vec_len, vec_capacity};
 ghost use Rattle.object_state.specs.Both as both;
 ghost use Rattle.container_model.specs.Record.{Refuses, sends};
 ghost use Rattle.container_links.specs.Relieving.{gives_up};
@@ -334,7 +334,7 @@ pub fn told(
 /// nothing.
 pub fn gives_up(link: &Option<Link>, n: u32, answer: &Answer) -> bool
     ensures told { result ≡ gives_up (reply_link n answer.now link.now) }
-    ensures asked { OnTrue result (IfSome link.now (λ l. l.pending ≡ Some UiDeactivate)) }
+    ensures asked { result ≡ true → IfSome link.now (λ l. l.pending ≡ Some UiDeactivate) }
 {
     let Some(link) = link else {
         return false;

@@ -9,8 +9,8 @@ ghost use Rattle.container_model.specs.Record.{is_object, sends};
 ghost use Rattle.container_objects.specs.Granted.{actions_of, asked_by, claims_if, installed_by, installed_each, ready, sent_by, told_frame, told_frames, told_space, told_space_in};
 ghost use Rattle.wire_msgs.specs.Found.{find, nth};
 
-use crate::lookups::{place, place_object};
 use crate::edits::ask_object;
+use crate::lookups::{place, place_object};
 use container_links::asking::{Prepared, install};
 use container_links::requests::{Request, add_action, prepare_one};
 use container_model::answer::Action;
@@ -294,10 +294,13 @@ pub fn ask_number(
     ensures asked { OnOk result (objects.new.items ≡ asked_by number operation objects.old.items) }
     ensures sent { IfOk result (λ a. a ≡ sends (sent_by number operation objects.old.items)) }
     ensures few { IfOk result (λ a. length a ≤ 1) }
-    ensures kept { OnErr result (objects.new ≡ objects.old) }
+    ensures kept { OnErr result (objects.new.items ≡ objects.old.items) }
 {
     match place_object(objects.as_slice(), number) {
-        Some(i) => ask_object(alloc, &mut objects[i], operation),
+        Some(i) => match ask_object(alloc, &mut objects[i], operation) {
+            Ok(actions) => Ok(actions),
+            Err(fault) => Err(fault),
+        },
         None => Ok(Items::new(alloc)),
     }
 }
