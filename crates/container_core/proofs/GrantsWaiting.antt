@@ -221,7 +221,7 @@ module _ (inc : ℕ) (r : Record) where
       (freed_from (suc f) xs (λ i y e. subst (λ (n : ℕ). SteadyGrant r n y.ui.state) (omega arith) (grants (suc i) y e)))
 
   pub freed_all : Steady r → AreFreed inc r.objects 1 (freed_claims inc r.objects r.frames)
-  freed_all s = freed_from 1 r.frames (λ i x e. s.grants (suc i) x e)
+  freed_all s = freed_from 1 r.frames (λ i x e. subst (λ (n : ℕ). SteadyGrant r n x.ui.state) (omega arith) (s.grants (suc i) x e))
 
 -- they are as many as there are objects, at the most
 pub freed_few : (inc : ℕ) (os : List Object) (f : ℕ) (claims : List Claim) → AreFreed inc os f claims → length claims ≤ length os

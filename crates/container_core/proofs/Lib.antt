@@ -5,7 +5,6 @@ pub mod GrantsTold
 pub mod GrantsWaiting
 pub mod RepliesMade
 pub mod ReapsMade
-pub mod AsksMade
 pub mod CommandsEdit
 pub mod CommandsSave
 pub mod StepsKeep

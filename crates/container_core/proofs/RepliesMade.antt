@@ -10,6 +10,7 @@ use Rattle.container_model.specs.declared.answer.Action.{Action}
 use Rattle.container_model.specs.declared.answer.Action.TheVariants.{Send}
 use Rattle.container_model.specs.declared.answer.Answer as told_answer
 use Rattle.container_model.specs.declared.fault.ContainerFault.{ContainerFault}
+use Rattle.container_model.specs.declared.fault.ContainerFault.TheVariants.{NoSuch, Busy, NotRunning, InDoubt, WrongLink, Stale, Full, NumbersSpent, WrongState, BadFile, BadAnswer, UnknownClass, NoMemory}
 use Rattle.container_model.specs.declared.record.Frame.{Frame}
 use Rattle.container_model.specs.declared.record.Object.{Object}
 use Rattle.container_model.specs.Messages.{Replied, next_sent, replied_grant, replied_record, reply_found, reply_link, reply_made, reply_taken}
@@ -53,7 +54,30 @@ taken_found r inc act o (Ok x) t e =
 
 taken_fine : (r : Record) (inc act : ℕ) (o : Object) (R : Result Replied ContainerFault) → gives_up R ≡ true → IsOk (reply_taken r inc act o R)
 taken_fine r inc act o (Err fault) h = absurd (cc)
-taken_fine r inc act o (Ok x) h = tt
+taken_fine r inc act o (Ok x) h = refl
+
+-- why a reply is refused
+taken_spent : (r : Record) (inc act : ℕ) (o : Object) (R : Result Replied ContainerFault) → IsOk R → IsOk (reply_taken r inc act o R)
+taken_spent r inc act o (Err fault) h = absurd (cc)
+taken_spent r inc act o (Ok x) h = refl
+
+taken_refused : (r : Record) (inc act : ℕ) (o : Object) (R : Result Replied ContainerFault) (fault : ContainerFault) → Refuses R fault → Refuses (reply_taken r inc act o R) fault
+taken_refused r inc act o R NoMemory h = taken_spent r inc act o R h
+taken_refused r inc act o R NoSuch h = ap (reply_taken r inc act o) h
+taken_refused r inc act o R Busy h = ap (reply_taken r inc act o) h
+taken_refused r inc act o R NotRunning h = ap (reply_taken r inc act o) h
+taken_refused r inc act o R InDoubt h = ap (reply_taken r inc act o) h
+taken_refused r inc act o R WrongLink h = ap (reply_taken r inc act o) h
+taken_refused r inc act o R Stale h = ap (reply_taken r inc act o) h
+taken_refused r inc act o R Full h = ap (reply_taken r inc act o) h
+taken_refused r inc act o R NumbersSpent h = ap (reply_taken r inc act o) h
+taken_refused r inc act o R WrongState h = ap (reply_taken r inc act o) h
+taken_refused r inc act o R BadFile h = ap (reply_taken r inc act o) h
+taken_refused r inc act o R BadAnswer h = ap (reply_taken r inc act o) h
+taken_refused r inc act o R UnknownClass h = ap (reply_taken r inc act o) h
+
+pub reply_refused : (r : Record) (inc act n : ℕ) (answer : Answer) (o : Object) (fault : ContainerFault) → find (is_linked inc act) r.objects ≡ Some o → Refuses (reply_link n answer o.link) fault → Refuses (reply_found r inc act n answer (find (is_linked inc act) r.objects)) fault
+reply_refused r inc act n answer o fault found h = rw found (taken_refused r inc act o (reply_link n answer o.link) fault h)
 
 -- what a reply makes of the record
 module _ (r : Record) (inc act n : ℕ) (answer : Answer) (o : Object) (t : ToldObject) (os : List Object) (gives : Bool)

@@ -1,5 +1,5 @@
 -- The record after a write.
-use Rattle.std.proofs.Common.{◌≡◌, ℕ, true, List, Ok, Result, ap, sym, ◌∙◌, subst}
+use Rattle.std.proofs.Common.{◌≡◌, ℕ, true, List, Some, Ok, Result, ap, sym, ◌∙◌, subst}
 use Rattle.wire_msgs.specs.Found.{find, put}
 use Rattle.storage_tree.specs.declared.stored.Stored.{Stored}
 use Rattle.container_model.specs.declared.answer.Answer as told_answer

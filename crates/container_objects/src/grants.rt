@@ -70,6 +70,7 @@ fn tell(frame: &mut Frame, told: Tells) -> bool
 /// takes no memory.
 pub fn tell_frame(frames: &mut Vec<Frame>, f: u32, told: Option<Tells>) -> bool
     ensures frames { frames.new.items ≡ told_frames f told frames.old.items }
+    ensures len { length frames.new.items ≡ length frames.old.items }
     ensures space { result ≡ told_space_in told (nth frames.old.items f) }
 {
     let Some(told) = told else {
