@@ -61,7 +61,7 @@ found_first : (n : ℕ) (x : Object) (os : List Object) (o : Object) (b : Bool) 
 found_first n x os o true t ih e = sym (ap (λ p. elim p [ None ↦ x.number | Some y ↦ y.number ]) e) ∙ eq_from_test x.number n t
 found_first n x os o false t ih e = ih e
 
-found_number : (n : ℕ) (os : List Object) (o : Object) → find (is_object n) os ≡ Some o → o.number ≡ n
+pub found_number : (n : ℕ) (os : List Object) (o : Object) → find (is_object n) os ≡ Some o → o.number ≡ n
 found_number n [] o e = absurd (grind arith)
 found_number n (x ∷ os) o e = found_first n x os o (x.number == n) refl (found_number n os o) e
 
