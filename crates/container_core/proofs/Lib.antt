@@ -8,3 +8,4 @@ pub mod ReapsMade
 pub mod CommandsEdit
 pub mod CommandsSave
 pub mod StepsKeep
+pub mod VerbsPlaced

@@ -3,3 +3,4 @@ pub mod CommitsObjects
 pub mod RepliesTold
 pub mod ServersCounted
 pub mod VerbsMade
+pub mod VerbsTake

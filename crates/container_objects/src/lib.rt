@@ -13,5 +13,6 @@ pub mod reaps;
 pub mod replies;
 pub mod saves;
 pub mod servers;
+pub mod takings;
 pub mod verbs;
 pub mod writes;

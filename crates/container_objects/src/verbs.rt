@@ -1,14 +1,15 @@
 //! What a verb, or a close, asks of an object, and what it makes of the object's frame.
 
-ghost use Rattle.std.specs.Prelude.{◌≡◌, ◌≤◌, All, IfErr, IfOk, OnErr, OnOk, Ok, IsSomeAnd, length, option_map};
+ghost use Rattle.std.specs.Prelude.{◌≡◌, ◌≤◌, All, IfErr, IfOk, IfSome, OnErr, OnOk, Ok, IsSomeAnd, Some, is_some, length, option_map, true};
 ghost use Rattle.container_links.specs.Asking.{HasNumber};
 ghost use Rattle.container_model.specs.Grants.{grant_of};
-ghost use Rattle.container_model.specs.Record.{Record, Refuses, sends};
-ghost use Rattle.container_model.specs.Verbs.{before_taking, gives_up, holder_has_numbers, holder_of, stepped_link, steps_now, steps_of, takes, verb_linked, wants_ui};
+ghost use Rattle.container_model.specs.Record.{Record, Refuses, acts, counts_none, sends, with_frame, with_object};
+ghost use Rattle.container_model.specs.Verbs.{before_taking, gives_up, holder_has_numbers, holder_of, leaving_made, stepped_link, steps_now, steps_of, takes, verb_linked, wants_ui};
 ghost use Rattle.container_model.specs.declared.record.Frame.{Frame};
 ghost use Rattle.container_model.specs.declared.record.Link.{Link};
 ghost use Rattle.container_objects.specs.Stepping.{given_up, left_frame, verb_went};
 ghost use Rattle.object_state.specs.Verbs.{verb_of};
+ghost use Rattle.wire_msgs.specs.Found.{nth};
 
 use crate::checks::{has_numbers, link_has_numbers};
 use crate::lookups::place_object;
@@ -137,6 +138,7 @@ pub fn verb_steps(
 ) -> Result<&'static [Step], ContainerFault>
     requires { HasNumber object.now }
     ensures taken { IfOk result (λ steps. IsSomeAnd object.now.link (λ l. (r : Record) (frame : Frame) → r.numbers ≡ numbers → verb_linked r frame object.now verb object.now.link ≡ verb_went r frame object.now l steps.now)) }
+    ensures steps { IfOk result (λ steps. IfSome object.now.link (λ l. steps_of verb l.states.object ≡ Some steps.now)) }
     ensures refused { IfErr result (λ e. (r : Record) (frame : Frame) → r.numbers ≡ numbers → Refuses (verb_linked r frame object.now verb object.now.link) e) }
 {
     let Some(link) = &object.link else {
@@ -193,5 +195,30 @@ pub fn leave(
     if gives_up(steps) {
         give_up(frame, number, act);
     }
+    Ok(actions)
+}
+
+/// An object that isn't passive is asked for steps that don't take its frame, as `leave` has it. What is to be done.
+///
+/// Refused for want of memory alone. Then nothing changes.
+pub fn leave_object(
+    alloc: Global,
+    frame: &mut Frame,
+    object: &mut Object,
+    steps: &[Step],
+) -> Result<Items<Action>, AllocError>
+    requires number { HasNumber object.old }
+    requires linked { is_some object.old.link ≡ true }
+    ensures taken { IfOk result (λ actions. (r : Record) (l : Link) → nth r.frames object.old.frame ≡ Some frame.old → object.old.link ≡ Some l → leaving_made r frame.old object.old l steps.now ≡ counts_none (with_object (with_frame r object.old.frame frame.new) object.new) (acts actions)) }
+    ensures few { IfOk result (λ a. length a ≤ 1) }
+    ensures same { object.new.number ≡ object.old.number }
+    ensures kept { OnErr result (object.new ≡ object.old) }
+    ensures frame_kept { OnErr result (frame.new ≡ frame.old) }
+{
+    let number = object.number;
+    let Some(link) = &mut object.link else {
+        unreachable!()
+    };
+    let actions = leave(alloc, frame, number, link, steps)?;
     Ok(actions)
 }
