@@ -198,8 +198,10 @@ module _ (inc : ℕ) (r : Record) where
       let more = from_here f p.0.object claim.object r.objects claim.found claim.inside in
       let few = later.few in
       subst (λ (cs : List Claim). AreFreed inc r.objects f (cs ++ rest)) (sym p.3) (record {
-        each = (record { object = claim.object; found = claim.found; above = rw claim.inside (omega arith); stays = hosted_object inc (find (is_object p.0.object) r.objects) claim.object claim.found p.2 },
-            each_weaker (Above inc r.objects (suc f)) (Above inc r.objects f) rest (above_less inc r.objects f) later.each);
+        each = (
+          record { object = claim.object; found = claim.found; above = rw claim.inside (omega arith); stays = hosted_object inc (find (is_object p.0.object) r.objects) claim.object claim.found p.2 },
+          each_weaker (Above inc r.objects (suc f)) (Above inc r.objects f) rest (above_less inc r.objects f) later.each,
+        );
         differ = (each_weaker (Above inc r.objects (suc f)) (IsOther p.0) rest (above_other inc r.objects f p.0 claim.object claim.found claim.inside) later.each, later.differ);
         few = omega arith;
       })

@@ -81,8 +81,8 @@ reply_refused r inc act n answer o fault found h = rw found (taken_refused r inc
 
 -- what a reply makes of the record
 module _ (r : Record) (inc act n : ℕ) (answer : Answer) (o : Object) (t : ToldObject) (os : List Object) (gives : Bool)
-         (found : find (is_linked inc act) r.objects ≡ Some o)
-         (given : gives ≡ gives_up (reply_link n answer o.link)) where
+    (found : find (is_linked inc act) r.objects ≡ Some o)
+    (given : gives ≡ gives_up (reply_link n answer o.link)) where
   abbrev claims : List Claim
   claims = claims_if gives (nth r.frames o.frame)
 

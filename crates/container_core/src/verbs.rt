@@ -16,7 +16,9 @@ use container_model::fault::ContainerFault;
 use container_objects::checks;
 use container_objects::lookups::{place, place_object};
 use container_objects::takings::{ask_taking, claim_frame, claim_of};
-use container_objects::verbs::{holder_has_numbers, holder_of, leave_object, steps_now, takes, verb_of, verb_steps, wants_ui};
+use container_objects::verbs::{
+    holder_has_numbers, holder_of, leave_object, steps_now, takes, verb_of, verb_steps, wants_ui,
+};
 use object_state::{Step, Verb};
 use std::alloc::Global;
 

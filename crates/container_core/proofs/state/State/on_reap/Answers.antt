@@ -25,7 +25,7 @@ returns-clause-taken c =
     (c.free_frames.ensures ∙ ap (λ (os : List Object). map (freed_frame c.args.inc os) r.frames) c.as_slice-3.ensures.value)
     c.reap.ensures
     (c.take_grants.ensures.objects ∙ (ap (λ qs. installed_each qs c.reap_all.new.objects.items) ready_is ∙ ap (λ (os : List Object). installed_each (map (ready r.objects) (freed_claims c.args.inc r.objects r.frames)) os) c.reap_all.ensures))
-    (c.take_grants.ensures.sent ∙ (ap (λ as. as ++ actions_of c.in-Ok.grants.items) c.in-Ok-with_capacity.ensures.items ∙ ap actions_of ready_is))
+    (c.take_grants.ensures.sent ∙ (ap (λ xs. xs ++ actions_of c.in-Ok.grants.items) c.in-Ok-with_capacity.ensures.items ∙ ap actions_of ready_is))
     c.settle_into.ensures.settled c.settle_into.ensures.asked (c.acts.ensures ∙ ap acts c.from_vec.ensures))
 
 pub returns-clause-few : goal.returns-clause-few
@@ -38,6 +38,6 @@ returns-clause-few c =
     ∙ (ap (λ (os : List Object). map (ready os) (freed_claims c.args.inc os c.as_slice.result.now)) c.as_slice-2.ensures.value
     ∙ ap (λ (fs : List Frame). map (ready r.objects) (freed_claims c.args.inc r.objects fs)) c.as_slice.ensures.value) in
     let few : length c.in-Ok.grants.items ≤ length r.objects =
-    rw (ready_is, length-map (ready r.objects) (freed_claims c.args.inc r.objects r.frames)) (freed_few c.args.inc r.objects 1 (freed_claims c.args.inc r.objects r.frames) (freed_all c.args.inc r steady)) in
+    rw (ready_is, length-map (freed_claims c.args.inc r.objects r.frames) (ready r.objects)) (freed_few c.args.inc r.objects 1 (freed_claims c.args.inc r.objects r.frames) (freed_all c.args.inc r steady)) in
     let objects : length c.args.self.now.objects ≡ length r.objects = ap (λ (x : Record). length x.objects) v in
     search (rules, few, objects)
