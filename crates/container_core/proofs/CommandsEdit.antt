@@ -1,16 +1,13 @@
 -- An object that is asked for an edit or to close, in its container.
 use Rattle.std.proofs.Common.{◌≡◌, ◌<◌, ℕ, List, [], length, Result, Some, Ok, get_or, set, refl, sym, ◌∙◌, ap, subst, IfSome, slice_get}
 use Rattle.std.proofs.lemmas.Option.{slice_get_read}
-use Rattle.std.proofs.lemmas.List.Elements.{All-set}
 use Rattle.wire_msgs.specs.Found.{IsPlace, put}
 use Rattle.container_model.specs.declared.answer.Action.{Action}
 use Rattle.container_model.specs.declared.answer.Answer.{Answer}
 use Rattle.container_model.specs.declared.fault.ContainerFault.{ContainerFault}
-use Rattle.container_model.specs.declared.record.Frame.{Frame}
 use Rattle.container_model.specs.declared.record.Object.{Object}
 use Rattle.container_model.specs.Numbered.{IsObjectAt}
 use Rattle.container_model.specs.Record.{Record, Refuses, Took, acts, is_object, with_object}
-use Rattle.container_model.specs.Room.{HasRoom, IsSound}
 
 -- what holds of the object that stands there
 here : (P : Object → Type 0) (s r : Record) (i : ℕ) (x : Object) → s ≡ r → i < length r.objects → x ≡ get_or s.objects i x → P x → IfSome (slice_get r.objects i) P
@@ -39,19 +36,3 @@ pub object_taken : (F : Record → Object → Result Took ContainerFault) (s r r
 object_taken F s r r2 i x y actions a e p at h number is told =
     here (λ o. F r o ≡ Ok (record { rec = r2; answer = a; counted = [] })) s r i x e p.fits at
     (h r (ap (λ t. t.numbers) (sym e)) ∙ (ap (λ t. Ok (record { rec = t; answer = acts actions; counted = [] })) (changed s r r2 i x y e (place_of s r i x e p at) number is) ∙ ap (λ t. Ok (record { rec = r2; answer = t; counted = [] })) (sym told)))
-
--- one object that keeps its room is changed
-pub sound_changed : (r t : Record) (i : ℕ) (x y : Object) → r ≡ t → IsSound r → i < length t.objects → x ≡ get_or r.objects i x
-    → ((frames : List Frame) → HasRoom r.numbers frames x → HasRoom r.numbers frames y) → IsSound (record r { objects = set r.objects i y })
-sound_changed r t i x y e s lt0 at h =
-    let lt : i < length r.objects = subst (λ (q : Record). i < length q.objects) (sym e) lt0 in
-    let old : HasRoom r.numbers r.frames x = rw at (s.room i x lt) in
-    record {
-      limit = s.limit;
-      room = All-set (HasRoom r.numbers r.frames) r.objects i y (h r.frames old) s.room;
-      saves = s.saves;
-      frames = s.frames;
-      servers = s.servers;
-      objects = s.objects;
-      acts = s.acts;
-    }

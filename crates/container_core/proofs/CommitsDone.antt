@@ -1,54 +1,18 @@
 -- The record after a commit.
 use Rattle.std.proofs.Common.{◌≡◌, ◌≤◌, ℕ, zero, suc, true, List, length, map, Some, get_or, set, refl, sym, ◌∙◌, ap, subst, arith}
-use Rattle.std.proofs.lemmas.List.{get_or_default, length-set}
-use Rattle.std.proofs.lemmas.List.Elements.{All-set}
-use Rattle.std.proofs.lemmas.Option.{get_or_from_slice_get, slice_get-get_or, slice_get_within}
-use Rattle.std.specs.List.{All}
+use Rattle.std.proofs.lemmas.List.{get_or_default}
+use Rattle.std.proofs.lemmas.Option.{slice_get-get_or}
 use Rattle.wire_msgs.specs.Found.{nth, set_nth}
 use Rattle.container_model.specs.declared.answer.Action.{Action}
 use Rattle.container_model.specs.declared.answer.Answer.{Answer}
 use Rattle.container_model.specs.declared.answer.Done.{Done}
 use Rattle.container_model.specs.declared.record.Frame.{Frame}
 use Rattle.container_model.specs.declared.record.Object.{Object}
-use Rattle.container_model.specs.declared.record.Phase.{Phase}
-use Rattle.container_model.specs.declared.record.Phase.TheVariants.{Idle, Saving, HandingOff, Committing, InDoubt}
 use Rattle.container_model.specs.Numbered.{IsNth}
 use Rattle.container_model.specs.Record.{Record, Took, acts, quiet_answer}
-use Rattle.container_model.specs.Room.{IsSound}
-use Rattle.container_model.specs.Saves.{commit_made, committed_frame, completed, done_entry, is_committing, parts_in}
-use Rattle.container_core.proofs.CommitsRoom.{room_objects}
-
-committing_from : (phase : Phase) → is_committing phase ≡ true → phase ≡ Committing
-committing_from Idle h = absurd (cc)
-committing_from Saving h = absurd (cc)
-committing_from HandingOff h = absurd (cc)
-committing_from Committing h = refl
-committing_from InDoubt h = absurd (cc)
-
-length-set_nth : {A : Type 0} (xs : List A) (n : ℕ) (x : A) → length (set_nth xs n x) ≡ length xs
-length-set_nth xs zero x = refl
-length-set_nth xs (suc i) x = length-set xs i x
-
-all_nth : {A : Type 0} (P : A → Type 0) (xs : List A) (n : ℕ) (a : A) → nth xs n ≡ Some a → All P xs → P a
-all_nth P xs zero a h all = absurd (cc)
-all_nth P xs (suc i) a h all = subst P (get_or_from_slice_get xs i a a h) (all i a (slice_get_within xs i a h))
-
-all-set_nth : {A : Type 0} (P : A → Type 0) (xs : List A) (n : ℕ) (x : A) → P x → All P xs → All P (set_nth xs n x)
-all-set_nth P xs zero x p all = all
-all-set_nth P xs (suc i) x p all = All-set P xs i x p all
+use Rattle.container_model.specs.Saves.{commit_made, committed_frame, completed, done_entry, parts_in}
 
 module _ (r : Record) (f : ℕ) (a : Frame) where
-  pub sound_made : IsSound r → nth r.frames f ≡ Some a → is_committing a.phase ≡ true → IsSound (commit_made r f a).rec
-  sound_made s here c = record {
-    limit = s.limit;
-    room = room_objects r.numbers r.frames f a here (committing_from a.phase c) r.objects s.room;
-    saves = all-set_nth (λ (x : Frame). x.k ≤ r.numbers) r.frames f (committed_frame a) (all_nth (λ (x : Frame). x.k ≤ r.numbers) r.frames f a here s.saves) s.saves;
-    frames = (let e : length (set_nth r.frames f (committed_frame a)) ≡ length r.frames = length-set_nth r.frames f (committed_frame a) in omega (arith, e, s.frames));
-    servers = s.servers;
-    objects = s.objects;
-    acts = s.acts;
-  }
-
   -- a frame that stands at its place
   pub frame_here : (i : ℕ) → IsNth f r.frames i → a ≡ get_or r.frames i a → nth r.frames f ≡ Some a
   frame_here i at e = at.found ∙ slice_get-get_or r.frames i a at.fits ∙ ap (λ (x : Frame). Some x) (sym e)

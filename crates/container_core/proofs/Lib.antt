@@ -1,8 +1,11 @@
 pub mod CommitsDone
-pub mod MessageSound
-pub mod MessageMade
-pub mod CommandsRoom
+pub mod WritesMade
+pub mod GrantsEach
+pub mod GrantsTold
+pub mod GrantsWaiting
+pub mod RepliesMade
+pub mod ReapsMade
 pub mod CommandsEdit
 pub mod CommandsSave
-pub mod CommitsRoom
 pub mod StepsKeep
+pub mod VerbsPlaced

@@ -1,8 +1,10 @@
 //! What a container does with a command of a user.
 
 ghost use Rattle.std.specs.Prelude.{◌+◌, ◌≡◌, ◌≤◌, IfErr, IfOk, Ok, OnErr, length};
+ghost use Rattle.container_laws.specs.Steady.{Steady};
 ghost use Rattle.container_model.specs.Commands.{on_command};
 ghost use Rattle.container_model.specs.Record.{Refuses, counts_none};
+ghost use Rattle.container_model.specs.Room.{IsSound};
 
 use crate::state::State;
 use container_model::answer::Answer;
@@ -12,8 +14,10 @@ use std::alloc::Global;
 
 impl State {
     ghost use Rattle.std.specs.Prelude.{◌+◌, ◌≡◌, ◌≤◌, IfErr, IfOk, Ok, OnErr, length};
+    ghost use Rattle.container_laws.specs.Steady.{Steady};
     ghost use Rattle.container_model.specs.Commands.{on_command};
     ghost use Rattle.container_model.specs.Record.{Refuses, counts_none};
+    ghost use Rattle.container_model.specs.Room.{IsSound};
 
     /// A command of a user.
     pub(crate) fn command(
@@ -21,6 +25,8 @@ impl State {
         alloc: Global,
         command: Command,
     ) -> Result<Answer, ContainerFault>
+        requires steady { Steady self.old }
+        requires sound { IsSound self.old }
         ensures taken { IfOk result (λ a. on_command self.old command ≡ Ok (counts_none self.new a)) }
         ensures few { IfOk result (λ a. length a.actions ≤ length self.old.objects + length self.old.frames + 1) }
         ensures refused { IfErr result (Refuses (on_command self.old command)) }

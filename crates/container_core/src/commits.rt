@@ -4,6 +4,7 @@ ghost use Rattle.std.specs.Prelude.{◌≡◌, ◌≤◌, ◌+◌, IfErr, IfOk, 
 ghost use Rattle.container_model.specs.Record.{Refuses};
 ghost use Rattle.wire_msgs.specs.Found.{nth};
 ghost use Rattle.container_model.specs.Numbered.{IsNth};
+ghost use Rattle.container_model.specs.Room.{IsSound};
 ghost use Rattle.container_model.specs.Saves.{commit_done, commit_made, is_committing};
 ghost use Rattle.container_model.specs.declared.record.Frame as declared;
 
@@ -22,6 +23,7 @@ impl State {
     ghost use Rattle.container_model.specs.Record.{Refuses};
     ghost use Rattle.wire_msgs.specs.Found.{nth};
     ghost use Rattle.container_model.specs.Numbered.{IsNth};
+    ghost use Rattle.container_model.specs.Room.{IsSound};
     ghost use Rattle.container_model.specs.Saves.{commit_done, commit_made, is_committing};
     ghost use Rattle.container_model.specs.declared.record.Frame as declared;
 
@@ -45,6 +47,7 @@ impl State {
 
     /// The file of a frame was committed.
     pub(crate) fn commit_done(&mut self, alloc: Global, f: u32) -> Result<Committed, ContainerFault>
+        requires { IsSound self.old }
         ensures taken { IfOk result (λ a. commit_done self.old f ≡ Ok (record { rec = self.new; answer = a.answer; counted = a.counted })) }
         ensures few { IfOk result (λ a. length a.answer.actions ≤ length self.old.objects + length self.old.frames + 1) }
         ensures counted_few { IfOk result (λ a. length a.counted ≤ length self.old.objects) }

@@ -1,21 +1,30 @@
 //! The container.
 
-ghost use Rattle.std.specs.Prelude.{◌≡◌, ◌≤◌, ◌+◌, IfErr, IfOk, List, Ok, OnErr, length, option_copied};
+ghost use Rattle.std.specs.Prelude.{◌≡◌, ◌≤◌, ◌+◌, IfErr, IfOk, List, Ok, OnErr, length, map, option_copied};
+ghost use Rattle.std.specs.List.{range_with_len};
 ghost use Rattle.container_laws.specs.Steady.{Steady};
 ghost use Rattle.container_model.specs.Commands.{on_command};
 ghost use Rattle.container_model.specs.Messages.{on_message, on_reap};
 ghost use Rattle.container_model.specs.Record.{Record, Refuses, counts_none, empty, is_object};
 ghost use Rattle.container_model.specs.Replies.{pending_calls};
+ghost use Rattle.container_model.specs.Room.{IsSound};
 ghost use Rattle.container_model.specs.Saves.{commit_done, document_tree, image};
 ghost use Rattle.container_model.specs.declared.answer.Part.{Part};
 ghost use Rattle.file_model.specs.Denotes.{Denotes};
 ghost use Rattle.wire_msgs.specs.Found.{find, nth};
 
 use crate::state::State;
+use container_laws::sound_laws::{
+    sound_after_commands, sound_after_commits, sound_after_messages, sound_after_reaps,
+};
+use container_laws::steady_laws::{
+    steady_after_commands, steady_after_commits, steady_after_messages, steady_after_reaps,
+};
 use container_model::answer::{Answer, Committed, Part};
 use container_model::command::Command;
 use container_model::fault::ContainerFault;
 use container_model::record::{Frame, Object};
+use container_objects::lookups::{frame_numbers, object_numbers};
 use std::alloc::{AllocError, Global};
 use std::marker::Model;
 use wire_msgs::items::Items;
@@ -28,7 +37,8 @@ pub struct Limits {
     pub numbers: u32,
 }
 
-/// A container: its frames and objects, and the servers that it started. Its record is steady, whatever it was told.
+/// A container: its frames and objects, and the servers that it started. Its record is steady and within its numbers, whatever
+/// it was told.
 #[derive(Drop)]
 pub struct ContainerCore {
     state: State,
@@ -37,21 +47,24 @@ pub struct ContainerCore {
 impl Model for ContainerCore {
     ghost use Rattle.container_laws.specs.Steady.{Steady};
     ghost use Rattle.container_model.specs.Record.{Record};
+    ghost use Rattle.container_model.specs.Room.{IsSound};
 
     ghost Value = { Record };
 
     ghost view = { λ c. c.state };
 
-    ghost invariant = { λ c. Steady c.state };
+    ghost invariant = { λ c. Steady c.state × IsSound c.state };
 }
 
 impl ContainerCore {
-    ghost use Rattle.std.specs.Prelude.{◌≡◌, ◌≤◌, ◌+◌, IfErr, IfOk, List, Ok, OnErr, length, option_copied};
+    ghost use Rattle.std.specs.Prelude.{◌≡◌, ◌≤◌, ◌+◌, IfErr, IfOk, List, Ok, OnErr, length, map, option_copied};
+    ghost use Rattle.std.specs.List.{range_with_len};
     ghost use Rattle.container_laws.specs.Steady.{Steady};
     ghost use Rattle.container_model.specs.Commands.{on_command};
     ghost use Rattle.container_model.specs.Messages.{on_message, on_reap};
     ghost use Rattle.container_model.specs.Record.{Refuses, counts_none, empty, is_object};
     ghost use Rattle.container_model.specs.Replies.{pending_calls};
+    ghost use Rattle.container_model.specs.Room.{IsSound};
     ghost use Rattle.container_model.specs.Saves.{commit_done, document_tree, image};
     ghost use Rattle.container_model.specs.declared.answer.Part.{Part};
     ghost use Rattle.file_model.specs.Denotes.{Denotes};
@@ -62,28 +75,48 @@ impl ContainerCore {
         requires { limits.numbers ≤ 1000000 }
         ensures empty { result ≡ empty limits.numbers }
         ensures steady { Steady result }
+        ensures sound { IsSound result }
     {
         ContainerCore {
             state: State::new(alloc, limits.numbers),
         }
     }
 
-    /// A container's record is steady. It does nothing.
+    /// A container's record is steady, and stays within its numbers. It does nothing.
     pub fn steady(&self)
-        ensures { Steady self.now }
+        ensures steady { Steady self.now }
+        ensures sound { IsSound self.now }
     {
         let _ = &self.state;
     }
 
-    /// The frames, by their numbers from 1.
-    pub fn frames(&self) -> &[Frame]
+    /// The numbers of the frames that there are: from 1 to how many they are.
+    ///
+    /// Refused for want of memory alone.
+    pub fn frames(&self, alloc: Global) -> Result<Vec<u32>, AllocError>
+        ensures { IfOk result (λ v. v.items ≡ range_with_len 1 (length self.now.frames)) }
+    {
+        frame_numbers(alloc, self.state.frames())
+    }
+
+    /// The numbers of the objects that there are, rising: an object that is made has a number past all before.
+    ///
+    /// Refused for want of memory alone.
+    pub fn objects(&self, alloc: Global) -> Result<Vec<u32>, AllocError>
+        ensures { IfOk result (λ v. v.items ≡ map (λ o. o.number) self.now.objects) }
+    {
+        object_numbers(alloc, self.state.objects())
+    }
+
+    /// All frames, by their numbers from 1.
+    pub fn all_frames(&self) -> &[Frame]
         ensures { result.now ≡ self.now.frames }
     {
         self.state.frames()
     }
 
-    /// The objects, in the order in which they were made.
-    pub fn objects(&self) -> &[Object]
+    /// All objects, in the order in which they were made.
+    pub fn all_objects(&self) -> &[Object]
         ensures { result.now ≡ self.now.objects }
     {
         self.state.objects()
@@ -126,7 +159,11 @@ impl ContainerCore {
     /// - Delete: `NoSuch`, `InDoubt` and `Busy` as for an edit; `WrongState` where the object isn't passive.
     /// - Kill: `NoSuch` where there is no such server that isn't reaped.
     /// - Close: `NoSuch`, `InDoubt` and `Busy` as for an edit; `NotRunning` where the object is passive; `NumbersSpent`;
-    ///   `WrongState` where it isn't running yet.
+    ///   `WrongState` where it isn't running yet. An object that has its frame is told to give it up first.
+    /// - Verb: `NoSuch`, `InDoubt` and `Busy` as for an edit, `Busy` also where the verb leads to menus and border of the frame
+    ///   and these are being given or taken back; `NotRunning`; `WrongState` where the object's state doesn't take the verb, or
+    ///   no verb has this number; `NumbersSpent` where no grant can be drawn, or this object, or the one that has the frame, has
+    ///   no numbers left for calls.
     ///
     /// Last of all `NoMemory`. A refusal changes nothing.
     pub fn command(&mut self, alloc: Global, command: Command) -> Result<Answer, ContainerFault>
@@ -135,16 +172,24 @@ impl ContainerCore {
         ensures refused { IfErr result (Refuses (on_command self.old command)) }
         ensures kept { OnErr result (self.new ≡ self.old) }
         ensures steady { Steady self.new }
+        ensures sound { IsSound self.new }
     {
+        steady_after_commands();
+        sound_after_commands();
         self.state.command(alloc, command)
     }
 
-    /// A message on the link of a server. The answer has whether a content was taken, what is sent and which files are to be
-    /// committed.
+    /// A message on the link of a server. The answer has whether a content was taken, why an object refused a call, whether one
+    /// got its frame's menus without border space, what is sent (what the object is asked next, then who waited for the frame
+    /// is told that it gets it), and which files are to be committed.
     ///
-    /// Refused as a wrong link if it isn't one of this link, as stale if it answers no pending call of an object or is a write
-    /// that the object's storage isn't open to, as a bad answer if its content is past what may be stored or it doesn't fit
-    /// the call, and last for want of memory. Then nothing changes.
+    /// - `WrongLink` where it is a call, or says that it is from another server than the link's.
+    /// - `Stale` where that server isn't alive, or no object has the activation; where it answers no pending call; where it is a
+    ///   write that the object's storage isn't open to; where it asks to be relieved of a frame that the object doesn't hold
+    ///   under this grant, or was told to give up.
+    /// - `BadAnswer` where its content is past what may be stored, or it doesn't fit the call.
+    ///
+    /// Last of all `NoMemory`. A refusal changes nothing.
     pub fn on_message(
         &mut self,
         alloc: Global,
@@ -156,21 +201,28 @@ impl ContainerCore {
         ensures refused { IfErr result (Refuses (on_message self.old link message)) }
         ensures kept { OnErr result (self.new ≡ self.old) }
         ensures steady { Steady self.new }
+        ensures sound { IsSound self.new }
     {
+        steady_after_messages();
+        sound_after_messages();
         self.state.on_message(alloc, link, message)
     }
 
-    /// The end of a server: its objects are passive, each with the content that it answered in the present save, if any.
-    /// The answer has which files are to be committed.
+    /// The end of a server: its objects are passive, each with the content that it answered in the present save, if any. They
+    /// wait for no frame any more, and what they have of their frames, or are to get, is free. The answer has what is sent (who
+    /// waited on for such a frame is told that it gets it, by rising frame), and which files are to be committed.
     ///
-    /// Refused if there is no such server that isn't reaped, and last for want of memory. Then nothing changes.
+    /// Refused: `NoSuch` where there is no such server that isn't reaped; then `NoMemory`. A refusal changes nothing.
     pub fn on_reap(&mut self, alloc: Global, inc: u32) -> Result<Answer, ContainerFault>
         ensures taken { IfOk result (λ a. on_reap self.old inc ≡ Ok (counts_none self.new a)) }
         ensures few { IfOk result (λ a. length a.actions ≤ length self.old.objects + length self.old.frames + 1) }
         ensures refused { IfErr result (Refuses (on_reap self.old inc)) }
         ensures kept { OnErr result (self.new ≡ self.old) }
         ensures steady { Steady self.new }
+        ensures sound { IsSound self.new }
     {
+        steady_after_reaps();
+        sound_after_reaps();
         self.state.on_reap(alloc, inc)
     }
 
@@ -186,7 +238,10 @@ impl ContainerCore {
         ensures refused { IfErr result (Refuses (commit_done self.old f)) }
         ensures kept { OnErr result (self.new ≡ self.old) }
         ensures steady { Steady self.new }
+        ensures sound { IsSound self.new }
     {
+        steady_after_commits();
+        sound_after_commits();
         self.state.commit_done(alloc, f)
     }
 

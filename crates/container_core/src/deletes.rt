@@ -1,8 +1,8 @@
 //! Passive objects that are deleted.
 
 ghost use Rattle.std.specs.Prelude.{◌≡◌, ◌≤◌, IfErr, IfOk, IfSome, Ok, OnErr, is_some, length, slice_get};
-ghost use Rattle.container_model.specs.Commands.{delete, delete_made, unless};
-ghost use Rattle.container_model.specs.Record.{Refuses, counts_none};
+ghost use Rattle.container_model.specs.Commands.{delete, delete_made};
+ghost use Rattle.container_model.specs.Record.{Refuses, counts_none, unless};
 ghost use Rattle.container_model.specs.Numbered.{IsObjectAt};
 ghost use Rattle.container_model.specs.declared.fault.ContainerFault.TheVariants.{WrongState};
 
@@ -15,8 +15,8 @@ use std::alloc::Global;
 
 impl State {
     ghost use Rattle.std.specs.Prelude.{◌≡◌, ◌≤◌, IfErr, IfOk, IfSome, Ok, OnErr, is_some, length, slice_get};
-    ghost use Rattle.container_model.specs.Commands.{delete, delete_made, unless};
-    ghost use Rattle.container_model.specs.Record.{Refuses, counts_none};
+    ghost use Rattle.container_model.specs.Commands.{delete, delete_made};
+    ghost use Rattle.container_model.specs.Record.{Refuses, counts_none, unless};
     ghost use Rattle.container_model.specs.Numbered.{IsObjectAt};
     ghost use Rattle.container_model.specs.declared.fault.ContainerFault.TheVariants.{WrongState};
 

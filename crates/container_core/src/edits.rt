@@ -4,6 +4,7 @@ ghost use Rattle.std.specs.Prelude.{◌≡◌, ◌≤◌, IfErr, IfOk, IfSome, O
 ghost use Rattle.container_model.specs.Commands.{edit, edit_linked};
 ghost use Rattle.container_model.specs.Record.{Refuses, counts_none};
 ghost use Rattle.container_model.specs.Numbered.{IsObjectAt};
+ghost use Rattle.container_model.specs.Room.{IsSound};
 
 use crate::state::State;
 use container_model::answer::Answer;
@@ -19,6 +20,7 @@ impl State {
     ghost use Rattle.container_model.specs.Commands.{edit, edit_linked};
     ghost use Rattle.container_model.specs.Record.{Refuses, counts_none};
     ghost use Rattle.container_model.specs.Numbered.{IsObjectAt};
+    ghost use Rattle.container_model.specs.Room.{IsSound};
 
     // A running object is asked for an edit.
     pub(crate) fn edit(
@@ -27,6 +29,7 @@ impl State {
         object: u32,
         bytes: Bytes,
     ) -> Result<Answer, ContainerFault>
+        requires { IsSound self.old }
         ensures taken { IfOk result (λ a. edit self.old object bytes ≡ Ok (counts_none self.new a)) }
         ensures few { IfOk result (λ a. length a.actions ≤ 1) }
         ensures refused { IfErr result (Refuses (edit self.old object bytes)) }
@@ -55,7 +58,8 @@ impl State {
         i: usize,
         bytes: Bytes,
     ) -> Result<Answer, ContainerFault>
-        requires { IsObjectAt self.old.objects i }
+        requires sound { IsSound self.old }
+        requires place { IsObjectAt self.old.objects i }
         ensures taken { IfOk result (λ a. IfSome (slice_get self.old.objects i) (λ o. edit_linked self.old o bytes o.link ≡ Ok (counts_none self.new a))) }
         ensures few { IfOk result (λ a. length a.actions ≤ 1) }
         ensures refused { IfErr result (λ e. IfSome (slice_get self.old.objects i) (λ o. Refuses (edit_linked self.old o bytes o.link) e)) }

@@ -1,6 +1,7 @@
 //! A container: its frames and objects, what it does with commands and messages, and its saves.
 #![tactic(auto)]
 
+mod asks;
 mod closes;
 mod commands;
 mod commits;

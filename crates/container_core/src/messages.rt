@@ -1,16 +1,20 @@
 //! What a container does with a message.
 
 ghost use Rattle.std.specs.Prelude.{◌+◌, ◌≡◌, ◌≤◌, IfErr, IfOk, Ok, OnErr, length, true};
+ghost use Rattle.container_laws.specs.Steady.{Steady};
 ghost use Rattle.container_model.specs.Record.{Refuses, counts_none, is_linked, quiet_answer};
 ghost use Rattle.container_model.specs.Messages.{on_message, on_reply, on_write, reply_found, write_found};
 ghost use Rattle.container_model.specs.Replies.{pending_calls};
+ghost use Rattle.container_model.specs.Room.{IsSound};
 ghost use Rattle.wire_msgs.specs.Found.{find, IsPlace};
 
 use crate::state::State;
+use container_links::replies::gives_up;
 use container_links::resending::pending_calls;
 use container_links::settling::settle_into;
 use container_model::answer::Answer;
 use container_model::fault::ContainerFault;
+use container_objects::grants::{prepare_waiting, take_grants, tell_frame};
 use container_objects::lookups::place_linked;
 use container_objects::replies::{Told, answered, told_object};
 use container_objects::writes::write_one;
@@ -30,9 +34,11 @@ fn content_taken(alloc: Global) -> Answer
 
 impl State {
     ghost use Rattle.std.specs.Prelude.{◌+◌, ◌≡◌, ◌≤◌, IfErr, IfOk, Ok, OnErr, length};
+    ghost use Rattle.container_laws.specs.Steady.{Steady};
     ghost use Rattle.container_model.specs.Record.{Refuses, counts_none, is_linked};
     ghost use Rattle.container_model.specs.Messages.{on_message, on_reply, on_write, reply_found, write_found};
     ghost use Rattle.container_model.specs.Replies.{pending_calls};
+    ghost use Rattle.container_model.specs.Room.{IsSound};
     ghost use Rattle.wire_msgs.specs.Found.{find, IsPlace};
 
     /// A message on the link of a server.
@@ -42,6 +48,8 @@ impl State {
         link: u32,
         message: Message,
     ) -> Result<Answer, ContainerFault>
+        requires steady { Steady self.old }
+        requires sound { IsSound self.old }
         ensures taken { IfOk result (λ a. on_message self.old link message ≡ Ok (counts_none self.new a)) }
         ensures few { IfOk result (λ a. length a.actions ≤ length self.old.objects + length self.old.frames + 1) }
         ensures refused { IfErr result (Refuses (on_message self.old link message)) }
@@ -74,11 +82,11 @@ impl State {
                     Err(ContainerFault::WrongLink)
                 }
             }
-            Message::Ask { inc, .. } => {
+            Message::Ask { inc, act, g } => {
                 if inc != link {
                     Err(ContainerFault::WrongLink)
                 } else {
-                    Err(ContainerFault::Stale)
+                    self.on_ask(alloc, inc, act, g)
                 }
             }
         }
@@ -93,6 +101,8 @@ impl State {
         n: u32,
         answer: reply::Answer,
     ) -> Result<Answer, ContainerFault>
+        requires steady { Steady self.old }
+        requires sound { IsSound self.old }
         ensures taken { IfOk result (λ a. on_reply self.old inc act n answer ≡ Ok (counts_none self.new a)) }
         ensures few { IfOk result (λ a. length a.actions ≤ length self.old.objects + length self.old.frames + 1) }
         ensures refused { IfErr result (Refuses (on_reply self.old inc act n answer)) }
@@ -117,23 +127,34 @@ impl State {
         n: u32,
         answer: reply::Answer,
     ) -> Result<Answer, ContainerFault>
-        requires { IsPlace (is_linked inc act) self.old.objects place }
+        requires steady { Steady self.old }
+        requires sound { IsSound self.old }
+        requires place { IsPlace (is_linked inc act) self.old.objects place }
         ensures taken { IfOk result (λ a. reply_found self.old inc act n answer (find (is_linked inc act) self.old.objects) ≡ Ok (counts_none self.new a)) }
         ensures few { IfOk result (λ a. length a.actions ≤ length self.old.objects + length self.old.frames + 1) }
         ensures refused { IfErr result (Refuses (reply_found self.old inc act n answer (find (is_linked inc act) self.old.objects))) }
         ensures kept { OnErr result (self.new ≡ self.old) }
     {
-        let more = self.frames.len();
+        let f = self.objects[place].frame;
+        let gives = gives_up(&self.objects[place].link, n, &answer);
+        let frames = self.frames.as_slice();
+        let Ok(grants) = prepare_waiting(alloc, gives, f, frames, self.objects.as_slice()) else {
+            return Err(ContainerFault::NoMemory);
+        };
+        let more = self.frames.len() + 1;
         let Told {
             taken,
             refused,
+            grant,
             mut actions,
         } = match told_object(alloc, &mut self.objects[place], n, answer, more) {
             Ok(replied) => replied,
             Err(fault) => return Err(fault),
         };
+        let no_tools = tell_frame(&mut self.frames, f, grant);
+        take_grants(&mut self.objects, &mut actions, grants);
         settle_into(&mut actions, &mut self.frames, &self.objects);
-        Ok(answered(alloc, taken, refused, actions))
+        Ok(answered(alloc, taken, refused, no_tools, actions))
     }
 
     /// The pending calls, by their objects.

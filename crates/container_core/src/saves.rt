@@ -4,6 +4,7 @@ ghost use Rattle.std.specs.Prelude.{◌+◌, ◌≡◌, ◌≤◌, IfErr, IfOk, 
 ghost use Rattle.container_model.specs.Commands.{save, save_numbered};
 ghost use Rattle.container_model.specs.Record.{Refuses, counts_none};
 ghost use Rattle.container_model.specs.Numbered.{IsNth};
+ghost use Rattle.container_model.specs.Room.{IsSound};
 
 use crate::state::State;
 use container_links::asking::take_up;
@@ -21,9 +22,11 @@ impl State {
     ghost use Rattle.container_model.specs.Commands.{save, save_numbered};
     ghost use Rattle.container_model.specs.Record.{Refuses, counts_none};
     ghost use Rattle.container_model.specs.Numbered.{IsNth};
+    ghost use Rattle.container_model.specs.Room.{IsSound};
 
     // The objects of a frame are asked for their contents.
     pub(crate) fn save(&mut self, alloc: Global, frame: u32) -> Result<Answer, ContainerFault>
+        requires { IsSound self.old }
         ensures taken { IfOk result (λ a. save self.old frame ≡ Ok (counts_none self.new a)) }
         ensures few { IfOk result (λ a. length a.actions ≤ length self.old.objects + length self.old.frames) }
         ensures refused { IfErr result (Refuses (save self.old frame)) }
@@ -52,7 +55,8 @@ impl State {
         frame: u32,
         at: usize,
     ) -> Result<Answer, ContainerFault>
-        requires { IsNth frame self.old.frames at }
+        requires sound { IsSound self.old }
+        requires place { IsNth frame self.old.frames at }
         ensures taken { IfOk result (λ a. IfSome (slice_get self.old.frames at) (λ x. save_numbered self.old frame x ≡ Ok (counts_none self.new a))) }
         ensures few { IfOk result (λ a. length a.actions ≤ length self.old.objects + length self.old.frames) }
         ensures refused { IfErr result (λ e. IfSome (slice_get self.old.frames at) (λ x. Refuses (save_numbered self.old frame x) e)) }

@@ -11,7 +11,7 @@ use std::alloc::Global;
 use std::marker::Model;
 
 /// The frames and objects of a container, and the servers that it started. A `ContainerCore` holds it, with what stays true
-/// of its record.
+/// of its record: its methods ask for that where they need it.
 #[derive(Drop)]
 pub(crate) struct State {
     pub(crate) frames: Vec<Frame>,
@@ -19,18 +19,16 @@ pub(crate) struct State {
     pub(crate) servers: Servers,
     pub(crate) last_object: u32,
     pub(crate) last_act: u32,
+    pub(crate) last_g: u32,
     pub(crate) numbers: u32,
 }
 
 impl Model for State {
     ghost use Rattle.container_model.specs.Record.{Record};
-    ghost use Rattle.container_model.specs.Room.{IsSound};
 
     ghost Value = { Record };
 
-    ghost view = { λ c. record { frames = c.frames.items; objects = c.objects.items; servers = c.servers; last_object = c.last_object; last_act = c.last_act; numbers = c.numbers } };
-
-    ghost invariant = { λ c. IsSound (record { frames = c.frames.items; objects = c.objects.items; servers = c.servers; last_object = c.last_object; last_act = c.last_act; numbers = c.numbers }) };
+    ghost view = { λ c. record { frames = c.frames.items; objects = c.objects.items; servers = c.servers; last_object = c.last_object; last_act = c.last_act; last_g = c.last_g; numbers = c.numbers } };
 }
 
 impl State {
@@ -40,7 +38,6 @@ impl State {
 
     /// No frames, objects and servers.
     pub(crate) fn new(alloc: Global, numbers: u32) -> State
-        requires { numbers ≤ 1000000 }
         ensures { result ≡ empty numbers }
     {
         State {
@@ -49,6 +46,7 @@ impl State {
             servers: Servers::new(alloc),
             last_object: 0,
             last_act: 0,
+            last_g: 0,
             numbers,
         }
     }

@@ -15,8 +15,11 @@ use Rattle.container_model.specs.declared.record.Link.{Link}
 use Rattle.container_model.specs.declared.answer.Action.{Action}
 use Rattle.container_model.specs.declared.fault.ContainerFault.{ContainerFault}
 use Rattle.container_model.specs.Record.{Refuses, sends}
-use Rattle.container_model.specs.Messages.{Replied, done_link, is_fit, next_at, replied, reply_link, saved_link}
-use Rattle.container_model.specs.Replies.{Went, went}
+use Rattle.container_model.specs.declared.grants.Tells.{Tells}
+use Rattle.container_model.specs.declared.grants.Tells.TheVariants.{Gets, GivesUp}
+use Rattle.object_state.specs.declared.menu_texts.Menus.{Menus}
+use Rattle.container_model.specs.Messages.{Replied, done_link, granted_link, is_fit, next_at, replied, reply_link, saved_link}
+use Rattle.container_model.specs.Replies.{Resumed, resumed}
 
 -- a refusal of what is equal
 pub refused_as : {A B : Type 0} (R S : Result A ContainerFault) (result : Result B ContainerFault) → R ≡ S → IfErr result (Refuses S) → IfErr result (Refuses R)
@@ -36,36 +39,53 @@ next_same : (content : Stored) (l : Link) (ops : List Operation) → (next_at (r
 next_same content l [] = refl
 next_same content l (op ∷ ops) = refl
 
-abbrev pub link_in : Result Went ContainerFault → Option Link
+abbrev pub link_in : Result Resumed ContainerFault → Option Link
 link_in (Ok w) = w.link
 link_in (Err fault) = None
 
-abbrev refused_in : Result Went ContainerFault → Option Refusal
+abbrev refused_in : Result Resumed ContainerFault → Option Refusal
 refused_in (Ok w) = w.refused
 refused_in (Err fault) = None
 
-abbrev taken_in : Result Went ContainerFault → Option Stored
+abbrev taken_in : Result Resumed ContainerFault → Option Stored
 taken_in (Ok w) = w.taken
 taken_in (Err fault) = None
 
-abbrev actions_in : Result Went ContainerFault → List Action
+abbrev grant_in : Result Resumed ContainerFault → Option Tells
+grant_in (Ok w) = w.grant
+grant_in (Err fault) = None
+
+abbrev actions_in : Result Resumed ContainerFault → List Action
 actions_in (Ok w) = w.actions
 actions_in (Err fault) = []
 
-saved_ok : (content : Stored) (link : Option Link) (had has : Option Stored) (why told : Option Refusal) (next : Link) (actions : List Action) → went (Ok (record { link = link; taken = had; refused = why })) ≡ Ok (record { link = Some next; taken = has; refused = told; actions = actions }) → went (saved_link content (Ok (record { link = link; taken = had; refused = why }))) ≡ Ok (record { link = Some (record next { saved = Some content }); taken = has; refused = told; actions = actions })
-saved_ok content None had has why told next actions e = let l : None ≡ Some next = ap link_in e in cc
-saved_ok content (Some l) had has why told next actions e =
+saved_ok : (content : Stored) (link : Option Link) (had has : Option Stored) (why told : Option Refusal) (tells says : Option Tells) (next : Link) (actions : List Action) → resumed (Ok (record { link = link; taken = had; refused = why; grant = tells })) ≡ Ok (record { link = Some next; taken = has; refused = told; grant = says; actions = actions }) → resumed (saved_link content (Ok (record { link = link; taken = had; refused = why; grant = tells }))) ≡ Ok (record { link = Some (record next { saved = Some content }); taken = has; refused = told; grant = says; actions = actions })
+saved_ok content None had has why told tells says next actions e = let l : None ≡ Some next = ap link_in e in cc
+saved_ok content (Some l) had has why told tells says next actions e =
     let m : Some (next_at l l.waiting).link ≡ Some next = ap link_in e in
     let n : (next_at l l.waiting).link ≡ next = cc in
     let s : sends (next_at l l.waiting).sent ≡ actions = ap actions_in e in
     let w : why ≡ told = ap refused_in e in
     let x : had ≡ has = ap taken_in e in
-    rw (next_saved content l l.waiting, next_same content l l.waiting, n, s, w, x) refl
+    let g : tells ≡ says = ap grant_in e in
+    rw (next_saved content l l.waiting, next_same content l l.waiting, n, s, w, x, g) refl
 
 -- the content is saved after what waits is called
-pub saved_as : (content : Stored) (R : Result Replied ContainerFault) (has : Option Stored) (told : Option Refusal) (next : Link) (actions : List Action) → went R ≡ Ok (record { link = Some next; taken = has; refused = told; actions = actions }) → went (saved_link content R) ≡ Ok (record { link = Some (record next { saved = Some content }); taken = has; refused = told; actions = actions })
-saved_as content (Err fault) has told next actions e = cc
-saved_as content (Ok replied) has told next actions e = saved_ok content replied.link replied.taken has replied.refused told next actions e
+pub saved_as : (content : Stored) (R : Result Replied ContainerFault) (has : Option Stored) (told : Option Refusal) (says : Option Tells) (next : Link) (actions : List Action) → resumed R ≡ Ok (record { link = Some next; taken = has; refused = told; grant = says; actions = actions }) → resumed (saved_link content R) ≡ Ok (record { link = Some (record next { saved = Some content }); taken = has; refused = told; grant = says; actions = actions })
+saved_as content (Err fault) has told says next actions e = cc
+saved_as content (Ok replied) has told says next actions e = saved_ok content replied.link replied.taken has replied.refused told replied.grant says next actions e
+
+-- what is told of the frame's grant, once an operation was done
+abbrev tells_after : Tells → Result Resumed ContainerFault → Result Resumed ContainerFault
+tells_after told (Err fault) = Err fault
+tells_after told (Ok w) = Ok (record w { grant = Some told })
+
+granted_resumed : (told : Tells) (R : Result Replied ContainerFault) → resumed (granted_link told R) ≡ tells_after told (resumed R)
+granted_resumed told (Err fault) = refl
+granted_resumed told (Ok replied) = refl
+
+pub granted_as : (told : Tells) (R : Result Replied ContainerFault) (has : Option Stored) (why : Option Refusal) (says : Option Tells) (next : Link) (actions : List Action) → resumed R ≡ Ok (record { link = Some next; taken = has; refused = why; grant = says; actions = actions }) → resumed (granted_link told R) ≡ Ok (record { link = Some next; taken = has; refused = why; grant = Some told; actions = actions })
+granted_as told R has why says next actions e = granted_resumed told R ∙ ap (tells_after told) e
 
 -- a refusal of the operation that was to be done
 module _ {A : Type 0} (result : Result A ContainerFault) (n : ℕ) (answer : Answer) (link : Option Link) (l : Link) (op : Operation) (o : Op) (linked : link ≡ Some l) (pending : l.pending ≡ Some op) (number : n ≡ l.last) (fit : is_fit answer ≡ true) (known : o ≡ op_of op) where
@@ -81,6 +101,21 @@ module _ {A : Type 0} (result : Result A ContainerFault) (n : ℕ) (answer : Ans
 
   pub refused_load : answer ≡ told.Done → (class : ClassId) (content : Stored) → op ≡ operation.Load class content → IfErr result (Refuses (done_link l 1 (both.step l.states o))) → IfErr result (Refuses (reply_link n answer link))
   refused_load a class content e h = refused_done a 1 (rw e refl) h
+
+  pub refused_in_place : answer ≡ told.Done → op ≡ operation.InPlace → IfErr result (Refuses (done_link l l.s (both.step l.states o))) → IfErr result (Refuses (reply_link n answer link))
+  refused_in_place a e h = refused_done a l.s (rw e refl) h
+
+  pub refused_in_place_deactivate : answer ≡ told.Done → op ≡ operation.InPlaceDeactivate → IfErr result (Refuses (done_link l l.s (both.step l.states o))) → IfErr result (Refuses (reply_link n answer link))
+  refused_in_place_deactivate a e h = refused_done a l.s (rw e refl) h
+
+  pub refused_open_window : answer ≡ told.Done → op ≡ operation.OpenWindow → IfErr result (Refuses (done_link l l.s (both.step l.states o))) → IfErr result (Refuses (reply_link n answer link))
+  refused_open_window a e h = refused_done a l.s (rw e refl) h
+
+  pub refused_giving : answer ≡ told.Done → op ≡ operation.UiDeactivate → IfErr result (Refuses (granted_link GivesUp (done_link l l.s (both.step l.states o)))) → IfErr result (Refuses (reply_link n answer link))
+  refused_giving a e h = refused_reply (granted_link GivesUp (done_link l l.s (both.step l.states o))) (rw (known, a, e) refl) h
+
+  pub refused_getting : (g : ℕ) (menus : Menus) (border : List ℕ) → answer ≡ told.Tools menus border → op ≡ operation.UiActivate g → IfErr result (Refuses (granted_link (Gets g (record { menus = menus; border = border })) (done_link l l.s (both.step l.states o)))) → IfErr result (Refuses (reply_link n answer link))
+  refused_getting g menus border a e h = refused_reply (granted_link (Gets g (record { menus = menus; border = border })) (done_link l l.s (both.step l.states o))) (rw (known, a, e) refl) h
 
   pub refused_edit : answer ≡ told.Done → (bytes : Bytes) → op ≡ operation.Edit bytes → IfErr result (Refuses (done_link l l.s (both.step l.states o))) → IfErr result (Refuses (reply_link n answer link))
   refused_edit a bytes e h = refused_done a l.s (rw e refl) h

@@ -5,6 +5,7 @@
 pub mod asking;
 pub mod closing;
 pub mod replies;
+pub mod requests;
 pub mod resending;
 pub mod settling;
 pub mod writes;

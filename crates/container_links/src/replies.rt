@@ -1,15 +1,19 @@
 //! What an answer makes of an object's link, and what is called next.
 
-ghost use Rattle.std.specs.Prelude.{◌≡◌, ◌+◌, ◌≤◌, IfErr, IfOk, OnErr, Ok, Some, None, length, vec_len, vec_capacity};
+ghost use Rattle.std.specs.Prelude.{◌≡◌, ◌+◌, ◌≤◌, IfErr, IfOk, IfSome, OnErr, Ok, Some, None, true, length, vec_len, vec_capacity};
 ghost use Rattle.object_state.specs.Both as both;
 ghost use Rattle.container_model.specs.Record.{Refuses, sends};
-ghost use Rattle.container_model.specs.Messages.{closed_with, done_link, is_fit, lost, next_at, noted, reply_link, saved_link};
-ghost use Rattle.container_model.specs.Replies.{first_call, went};
+ghost use Rattle.container_links.specs.Relieving.{gives_up};
+ghost use Rattle.container_model.specs.Messages.{closed_with, done_link, granted_link, is_fit, lost, next_at, noted, reply_link, saved_link};
+ghost use Rattle.container_model.specs.Replies.{first_call, resumed};
 ghost use Rattle.container_model.specs.Room.{IfLinked, IsRoomy};
+ghost use Rattle.wire_msgs.specs.declared.operation.Operation.TheVariants.{UiDeactivate};
 
 use container_model::answer::Action;
 use container_model::fault::ContainerFault;
+use container_model::grants::Tells;
 use container_model::record::Link;
+use grant_core::Tools;
 use object_parts::limits::is_within;
 use object_state::{CloseOption, Op, States};
 use std::alloc::{AllocError, Global};
@@ -26,6 +30,8 @@ pub struct Replied {
     pub taken: Option<Stored>,
     /// Why the object refused the call.
     pub refused: Option<Refusal>,
+    /// What is told of the frame's grant.
+    pub grant: Option<Tells>,
     /// The call that is sent next, if any.
     pub actions: Vec<Action>,
 }
@@ -60,7 +66,7 @@ fn go_on(link: &mut Link)
 // The call that is sent next, in a list with room for so many actions more.
 fn next_actions(alloc: Global, link: &Link, more: usize) -> Result<Vec<Action>, AllocError>
     requires numbers { link.now.last + length link.now.waiting ≤ 1000000 }
-    requires few { more ≤ 1000000 }
+    requires few { more ≤ 1000001 }
     ensures sent { IfOk result (λ v. v.items ≡ sends (next_at link.now link.now.waiting).sent) }
     ensures few { IfOk result (λ v. vec_len v ≤ 1) }
     ensures room { IfOk result (λ v. vec_len v + more ≤ vec_capacity v) }
@@ -84,8 +90,8 @@ fn done(
     more: usize,
 ) -> Result<Replied, ContainerFault>
     requires numbers { link.old.last + length link.old.waiting ≤ 1000000 }
-    requires few { more ≤ 1000000 }
-    ensures taken { IfOk result (λ t. went (done_link link.old s (both.step link.old.states op)) ≡ Ok (record { link = Some link.new; taken = t.taken; refused = t.refused; actions = t.actions.items })) }
+    requires few { more ≤ 1000001 }
+    ensures taken { IfOk result (λ t. resumed (done_link link.old s (both.step link.old.states op)) ≡ Ok (record { link = Some link.new; taken = t.taken; refused = t.refused; grant = t.grant; actions = t.actions.items })) }
     ensures few { IfOk result (λ t. vec_len t.actions ≤ 1) }
     ensures room { IfOk result (λ t. vec_len t.actions + more ≤ vec_capacity t.actions) }
     ensures refused { IfErr result (Refuses (done_link link.old s (both.step link.old.states op))) }
@@ -103,6 +109,7 @@ fn done(
     Ok(Replied {
         taken: None,
         refused: None,
+        grant: None,
         actions,
     })
 }
@@ -116,8 +123,8 @@ fn saved(
     more: usize,
 ) -> Result<Replied, ContainerFault>
     requires numbers { link.old.last + length link.old.waiting ≤ 1000000 }
-    requires few { more ≤ 1000000 }
-    ensures taken { IfOk result (λ t. went (saved_link content (done_link link.old link.old.s (both.step link.old.states op))) ≡ Ok (record { link = Some link.new; taken = t.taken; refused = t.refused; actions = t.actions.items })) }
+    requires few { more ≤ 1000001 }
+    ensures taken { IfOk result (λ t. resumed (saved_link content (done_link link.old link.old.s (both.step link.old.states op))) ≡ Ok (record { link = Some link.new; taken = t.taken; refused = t.refused; grant = t.grant; actions = t.actions.items })) }
     ensures few { IfOk result (λ t. vec_len t.actions ≤ 1) }
     ensures room { IfOk result (λ t. vec_len t.actions + more ≤ vec_capacity t.actions) }
     ensures refused { IfErr result (Refuses (saved_link content (done_link link.old link.old.s (both.step link.old.states op)))) }
@@ -133,6 +140,33 @@ fn saved(
     }
 }
 
+// An operation was done, which tells this of the frame's grant.
+fn granted(
+    alloc: Global,
+    link: &mut Link,
+    op: Op,
+    told: Tells,
+    more: usize,
+) -> Result<Replied, ContainerFault>
+    requires numbers { link.old.last + length link.old.waiting ≤ 1000000 }
+    requires few { more ≤ 1000001 }
+    ensures taken { IfOk result (λ t. resumed (granted_link told (done_link link.old link.old.s (both.step link.old.states op))) ≡ Ok (record { link = Some link.new; taken = t.taken; refused = t.refused; grant = t.grant; actions = t.actions.items })) }
+    ensures few { IfOk result (λ t. vec_len t.actions ≤ 1) }
+    ensures room { IfOk result (λ t. vec_len t.actions + more ≤ vec_capacity t.actions) }
+    ensures refused { IfErr result (Refuses (granted_link told (done_link link.old link.old.s (both.step link.old.states op)))) }
+    ensures kept { OnErr result (link.new ≡ link.old) }
+{
+    let s = link.s;
+    match done(alloc, link, op, s, more) {
+        Ok(replied) => {
+            let mut replied = replied;
+            replied.grant = Some(told);
+            Ok(replied)
+        }
+        Err(fault) => Err(fault),
+    }
+}
+
 // The refusal of an operation is noted, and all else stays.
 fn noted(
     alloc: Global,
@@ -141,8 +175,8 @@ fn noted(
     more: usize,
 ) -> Result<Replied, ContainerFault>
     requires numbers { link.old.last + length link.old.waiting ≤ 1000000 }
-    requires few { more ≤ 1000000 }
-    ensures taken { IfOk result (λ t. went (noted link.old why) ≡ Ok (record { link = Some link.new; taken = t.taken; refused = t.refused; actions = t.actions.items })) }
+    requires few { more ≤ 1000001 }
+    ensures taken { IfOk result (λ t. resumed (noted link.old why) ≡ Ok (record { link = Some link.new; taken = t.taken; refused = t.refused; grant = t.grant; actions = t.actions.items })) }
     ensures few { IfOk result (λ t. vec_len t.actions ≤ 1) }
     ensures room { IfOk result (λ t. vec_len t.actions + more ≤ vec_capacity t.actions) }
     ensures refused { IfErr result (Refuses (noted link.old why)) }
@@ -155,6 +189,7 @@ fn noted(
     Ok(Replied {
         taken: None,
         refused: Some(why),
+        grant: None,
         actions,
     })
 }
@@ -166,8 +201,8 @@ fn lost(
     why: Refusal,
     more: usize,
 ) -> Result<Replied, ContainerFault>
-    requires { more ≤ 1000000 }
-    ensures taken { IfOk result (λ t. went (lost why) ≡ Ok (record { link = link.new; taken = t.taken; refused = t.refused; actions = t.actions.items })) }
+    requires { more ≤ 1000001 }
+    ensures taken { IfOk result (λ t. resumed (lost why) ≡ Ok (record { link = link.new; taken = t.taken; refused = t.refused; grant = t.grant; actions = t.actions.items })) }
     ensures few { IfOk result (λ t. vec_len t.actions ≤ 1) }
     ensures room { IfOk result (λ t. vec_len t.actions + more ≤ vec_capacity t.actions) }
     ensures refused { IfErr result (Refuses (lost why)) }
@@ -180,6 +215,7 @@ fn lost(
     Ok(Replied {
         taken: None,
         refused: Some(why),
+        grant: None,
         actions,
     })
 }
@@ -193,8 +229,8 @@ fn closed(
     content: Option<Stored>,
     more: usize,
 ) -> Result<Replied, ContainerFault>
-    requires { more ≤ 1000000 }
-    ensures taken { IfOk result (λ t. went (closed_with content (both.step states op)) ≡ Ok (record { link = link.new; taken = t.taken; refused = t.refused; actions = t.actions.items })) }
+    requires { more ≤ 1000001 }
+    ensures taken { IfOk result (λ t. resumed (closed_with content (both.step states op)) ≡ Ok (record { link = link.new; taken = t.taken; refused = t.refused; grant = t.grant; actions = t.actions.items })) }
     ensures few { IfOk result (λ t. vec_len t.actions ≤ 1) }
     ensures room { IfOk result (λ t. vec_len t.actions + more ≤ vec_capacity t.actions) }
     ensures refused { IfErr result (Refuses (closed_with content (both.step states op))) }
@@ -210,6 +246,7 @@ fn closed(
     Ok(Replied {
         taken: content,
         refused: None,
+        grant: None,
         actions,
     })
 }
@@ -237,8 +274,8 @@ pub fn told(
     more: usize,
 ) -> Result<Replied, ContainerFault>
     requires numbers { IfLinked (IsRoomy 1000000 0) link.old }
-    requires few { more ≤ 1000000 }
-    ensures taken { IfOk result (λ t. went (reply_link n answer link.old) ≡ Ok (record { link = link.new; taken = t.taken; refused = t.refused; actions = t.actions.items })) }
+    requires few { more ≤ 1000001 }
+    ensures taken { IfOk result (λ t. resumed (reply_link n answer link.old) ≡ Ok (record { link = link.new; taken = t.taken; refused = t.refused; grant = t.grant; actions = t.actions.items })) }
     ensures few { IfOk result (λ t. vec_len t.actions ≤ 1) }
     ensures room { IfOk result (λ t. vec_len t.actions + more ≤ vec_capacity t.actions) }
     ensures refused { IfErr result (Refuses (reply_link n answer link.old)) }
@@ -266,6 +303,14 @@ pub fn told(
         (Operation::InitNew(_) | Operation::Load(_, _), Answer::Refused(why)) => lost(
             alloc, link, why, more,
         ),
+        (Operation::InPlace, Answer::Done) => done(alloc, l, op, s, more),
+        (Operation::InPlaceDeactivate, Answer::Done) => done(alloc, l, op, s, more),
+        (Operation::OpenWindow, Answer::Done) => done(alloc, l, op, s, more),
+        (Operation::UiActivate(g), Answer::Tools { menus, border }) => {
+            let told = Tells::Gets(*g, Tools { menus, border });
+            granted(alloc, l, op, told, more)
+        }
+        (Operation::UiDeactivate, Answer::Done) => granted(alloc, l, op, Tells::GivesUp, more),
         (Operation::Edit(_), Answer::Done) => done(alloc, l, op, s, more),
         (Operation::Edit(_), Answer::Refused(why)) => noted(alloc, l, why, more),
         (Operation::Save(_), Answer::Content(content)) => saved(alloc, l, op, content, more),
@@ -282,5 +327,26 @@ pub fn told(
             alloc, link, states, op, None, more,
         ),
         _ => Err(ContainerFault::BadAnswer),
+    }
+}
+
+/// Whether an answer to the call of this number is one by which the object gives its frame up, as it was asked. It changes
+/// nothing.
+pub fn gives_up(link: &Option<Link>, n: u32, answer: &Answer) -> bool
+    ensures told { result ≡ gives_up (reply_link n answer.now link.now) }
+    ensures asked { result ≡ true → IfSome link.now (λ l. l.pending ≡ Some UiDeactivate) }
+{
+    let Some(link) = link else {
+        return false;
+    };
+    let Some(operation) = &link.pending else {
+        return false;
+    };
+    if n != link.last {
+        return false;
+    }
+    match (operation, answer) {
+        (Operation::UiDeactivate, Answer::Done) => link.states.step(Op::UiDeactivate).is_ok(),
+        _ => false,
     }
 }

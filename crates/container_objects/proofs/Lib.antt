@@ -2,3 +2,5 @@ pub mod LookupPlaces
 pub mod CommitsObjects
 pub mod RepliesTold
 pub mod ServersCounted
+pub mod VerbsMade
+pub mod VerbsTake

@@ -2,8 +2,8 @@
 
 ghost use Rattle.std.specs.Prelude.{◌&&◌, ◌+◌, ◌≡◌, ◌≤◌, ◌||◌, All, length};
 ghost use Rattle.container_links.specs.Asking.{HasNumber};
-ghost use Rattle.container_model.specs.Commands.{all_have_numbers, any_busy, is_empty_area, is_known_class, is_name, is_named, is_size, link_has_numbers};
-ghost use Rattle.container_model.specs.Record.{count_objects, has_numbers, is_asked, is_busy, is_claim, is_doubtful, is_moving, is_saving};
+ghost use Rattle.container_model.specs.Commands.{all_have_numbers, any_busy, is_empty_area, is_known_class, is_name, is_named, is_size};
+ghost use Rattle.container_model.specs.Record.{count_objects, has_numbers, is_asked, is_busy, is_claim, is_doubtful, is_moving, is_saving, link_has_numbers};
 ghost use Rattle.container_model.specs.Room.{IfLinked};
 ghost use Rattle.container_model.specs.Saves.{has_image, is_committing};
 ghost use Rattle.grant_core.specs.Grants.{waiting};
@@ -155,7 +155,7 @@ pub fn has_numbers(numbers: u32, link: &Link) -> bool
 }
 
 // Whether an object that isn't passive has numbers left for operations.
-fn link_has_numbers(numbers: u32, link: &Option<Link>) -> bool
+pub(crate) fn link_has_numbers(numbers: u32, link: &Option<Link>) -> bool
     requires { IfLinked (λ l. l.last + length l.waiting ≤ 1000000) link.now }
     ensures { result ≡ link_has_numbers numbers link.now }
 {

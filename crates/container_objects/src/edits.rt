@@ -4,8 +4,7 @@ ghost use Rattle.std.specs.Prelude.{◌+◌, ◌≡◌, ◌≤◌, IfErr, IfOk, 
 ghost use Rattle.container_links.specs.Asking.{HasNumber};
 ghost use Rattle.container_model.specs.Commands.{edit_fault, edit_linked};
 ghost use Rattle.container_model.specs.Record.{Record, Refuses, acts, asked_link, asked_sent, counts_none, sends, with_object};
-ghost use Rattle.container_model.specs.Room.{HasRoom, IfLinked};
-ghost use Rattle.container_model.specs.declared.record.Frame.{Frame};
+ghost use Rattle.container_model.specs.Room.{IfLinked};
 
 use crate::checks::has_numbers;
 use container_links::asking::ask_link;
@@ -55,7 +54,6 @@ pub fn edit_one(
     ensures few { IfOk result (λ actions. length actions ≤ 1) }
     ensures refused { IfErr result (λ e. (r : Record) → r.numbers ≡ numbers → Refuses (edit_linked r object.old bytes object.old.link) e) }
     ensures same { object.new.number ≡ object.old.number }
-    ensures room { (frames : List Frame) → HasRoom numbers frames object.old → HasRoom numbers frames object.new }
     ensures kept { OnErr result (object.new ≡ object.old) }
 {
     if let Some(fault) = edit_fault(numbers, &object.link, bytes.len()) {
@@ -68,7 +66,7 @@ pub fn edit_one(
 }
 
 // An object is asked. What is to be done for it.
-fn ask_object(
+pub(crate) fn ask_object(
     alloc: Global,
     object: &mut Object,
     operation: Operation,

@@ -1,11 +1,13 @@
 //! Where frames and objects stand.
 
-ghost use Rattle.std.specs.Prelude.{◌≡◌, ◌&&◌, ◌==◌, IfSome, MatchOption, None};
+ghost use Rattle.std.specs.List.{range_with_len};
+ghost use Rattle.std.specs.Prelude.{◌≡◌, ◌≤◌, ◌&&◌, ◌==◌, IfOk, IfSome, MatchOption, None, length, map};
 ghost use Rattle.wire_msgs.specs.Found.{find, nth, IsPlace};
 ghost use Rattle.container_model.specs.Record.{is_linked, is_object};
 ghost use Rattle.container_model.specs.Numbered.{IsNth, IsObjectAt};
 
-use container_model::record::Object;
+use container_model::record::{Frame, Object};
+use std::alloc::{AllocError, Global};
 
 /// Where the item of this number stands.
 pub fn place<T>(items: &[T], number: u32) -> Option<usize>
@@ -55,4 +57,31 @@ fn is_linked(object: &Object, inc: u32, act: u32) -> bool
         Some(link) => link.inc == inc && link.act == act,
         None => false,
     }
+}
+
+/// The numbers of frames: from 1 to how many they are.
+///
+/// Refused for want of memory alone.
+pub fn frame_numbers(alloc: Global, frames: &[Frame]) -> Result<Vec<u32>, AllocError>
+    requires { length frames.now ≤ 1000000 }
+    ensures { IfOk result (λ v. v.items ≡ range_with_len 1 (length frames.now)) }
+{
+    let mut numbers = Vec::new(alloc);
+    for i in 0..frames.len() {
+        numbers.push(i as u32 + 1)?;
+    }
+    Ok(numbers)
+}
+
+/// The numbers of objects, in their order.
+///
+/// Refused for want of memory alone.
+pub fn object_numbers(alloc: Global, objects: &[Object]) -> Result<Vec<u32>, AllocError>
+    ensures { IfOk result (λ v. v.items ≡ map (λ o. o.number) objects.now) }
+{
+    let mut numbers = Vec::new(alloc);
+    for object in objects {
+        numbers.push(object.number)?;
+    }
+    Ok(numbers)
 }

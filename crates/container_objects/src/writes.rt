@@ -4,9 +4,7 @@ ghost use Rattle.std.specs.Prelude.{◌≡◌, IfErr, IfOk, Ok, OnErr, OnOk, tru
 ghost use Rattle.wire_msgs.specs.Found.{put};
 ghost use Rattle.container_model.specs.Messages.{write_link};
 ghost use Rattle.container_model.specs.Record.{Record, Refuses, counts_none, is_linked, quiet_answer};
-ghost use Rattle.container_model.specs.Room.{HasRoom};
-ghost use Rattle.container_model.specs.declared.record.Frame.{Frame};
-ghost use Rattle.std.specs.Prelude.{List, ℕ};
+ghost use Rattle.std.specs.Prelude.{ℕ};
 
 use container_links::writes::is_open_to;
 use container_model::fault::ContainerFault;
@@ -22,7 +20,6 @@ use storage_tree::stored::Stored;
 pub fn write_one(object: &mut Object, s: u32, w: u32, content: Stored) -> Result<(), ContainerFault>
     ensures taken { OnOk result ((r : Record) (inc : ℕ) (act : ℕ) → write_link r inc act s w content object.old object.old.link ≡ Ok (counts_none (record r { objects = put (is_linked inc act) object.new r.objects }) (record quiet_answer { taken = true }))) }
     ensures refused { IfErr result (λ e. (r : Record) (inc : ℕ) (act : ℕ) → Refuses (write_link r inc act s w content object.old object.old.link) e) }
-    ensures room { (numbers : ℕ) (frames : List Frame) → HasRoom numbers frames object.old → HasRoom numbers frames object.new }
     ensures kept { OnErr result (object.new ≡ object.old) }
 {
     let Some(link) = &mut object.link else {

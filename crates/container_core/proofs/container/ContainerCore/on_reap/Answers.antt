@@ -1,9 +1,19 @@
-use Rattle.container_laws.proofs.SteadyMessages.{on_reap_keeps}
+use Rattle.container_laws.specs.Steady.{Steady}
+use Rattle.container_model.specs.Messages.{on_reap}
+use Rattle.container_model.specs.Room.{IsSound}
 use Rattle.container_core.proofs.StepsKeep.{step_keeps}
 use Rattle.container_core.proofs.container.ContainerCore.on_reap.Goals as goal
 
-pub invariant_of-self : goal.invariant_of-self
-invariant_of-self c = step_keeps c.self.inside.state c.on_reap.new.self _ c.on_reap.result c.self.invariant (on_reap_keeps c.self.inside.state c.args.inc) c.on_reap.ensures.taken c.on_reap.ensures.kept
-
 pub returns-clause-steady : goal.returns-clause-steady
-returns-clause-steady c = step_keeps c.self.inside.state c.on_reap.new.self _ c.on_reap.result c.self.invariant (on_reap_keeps c.self.inside.state c.args.inc) c.on_reap.ensures.taken c.on_reap.ensures.kept
+returns-clause-steady c =
+    step_keeps Steady c.self.inside.state c.on_reap.new.self (on_reap c.self.inside.state c.args.inc) c.self.invariant.0 (λ t e. c.steady_after_reaps.ensures c.self.inside.state c.args.inc t c.self.invariant.0 e) c.on_reap.result c.on_reap.ensures.taken c.on_reap.ensures.kept
+
+pub returns-clause-sound : goal.returns-clause-sound
+returns-clause-sound c =
+    step_keeps IsSound c.self.inside.state c.on_reap.new.self (on_reap c.self.inside.state c.args.inc) c.self.invariant.1 (λ t e. c.sound_after_reaps.ensures c.self.inside.state c.args.inc t c.self.invariant.0 c.self.invariant.1 e) c.on_reap.result c.on_reap.ensures.taken c.on_reap.ensures.kept
+
+pub invariant_of-self : goal.invariant_of-self
+invariant_of-self c = (
+  step_keeps Steady c.self.inside.state c.on_reap.new.self (on_reap c.self.inside.state c.args.inc) c.self.invariant.0 (λ t e. c.steady_after_reaps.ensures c.self.inside.state c.args.inc t c.self.invariant.0 e) c.on_reap.result c.on_reap.ensures.taken c.on_reap.ensures.kept,
+  step_keeps IsSound c.self.inside.state c.on_reap.new.self (on_reap c.self.inside.state c.args.inc) c.self.invariant.1 (λ t e. c.sound_after_reaps.ensures c.self.inside.state c.args.inc t c.self.invariant.0 c.self.invariant.1 e) c.on_reap.result c.on_reap.ensures.taken c.on_reap.ensures.kept,
+)

@@ -1,13 +1,10 @@
 use Rattle.std.proofs.Common.{refl}
 use Rattle.container_model.specs.Commands.{edit_linked}
-use Rattle.container_core.proofs.CommandsEdit.{object_refused, object_taken, sound_changed}
+use Rattle.container_core.proofs.CommandsEdit.{object_refused, object_taken}
 use Rattle.container_core.proofs.state.State.edit_object.Goals as goal
 
 pub returns-in-Err-clause-refused : goal.returns-in-Err-clause-refused
-returns-in-Err-clause-refused c = object_refused (λ q o. edit_linked q o c.args.bytes o.link) _ c.args.self.now c.args.i c.index_mut.result.now c.in-Err.fault c.self.view_is c.requires.fits c.index_mut.ensures.value c.in-Err.ensures.refused
-
-pub invariant_of-self-2 : goal.invariant_of-self-2
-invariant_of-self-2 c = sound_changed _ c.args.self.now c.args.i c.index_mut.result.now c.edit_one.new.object c.self.view_is c.self.invariant c.requires.fits c.index_mut.ensures.value c.in-Ok.ensures.room
+returns-in-Err-clause-refused c = object_refused (λ q o. edit_linked q o c.args.bytes o.link) _ c.args.self.now c.args.i c.index_mut.result.now c.in-Err.fault c.self.view_is c.requires.place.fits c.index_mut.ensures.value c.in-Err.ensures.refused
 
 pub returns-clause-taken : goal.returns-clause-taken
-returns-clause-taken c = object_taken (λ q o. edit_linked q o c.args.bytes o.link) _ c.args.self.now _ c.args.i c.index_mut.result.now c.edit_one.new.object c.in-Ok.actions _ c.self.view_is c.requires c.index_mut.ensures.value c.in-Ok.ensures.taken c.in-Ok.ensures.same refl c.acts.ensures
+returns-clause-taken c = object_taken (λ q o. edit_linked q o c.args.bytes o.link) _ c.args.self.now _ c.args.i c.index_mut.result.now c.edit_one.new.object c.in-Ok.actions _ c.self.view_is c.requires.place c.index_mut.ensures.value c.in-Ok.ensures.taken c.in-Ok.ensures.same refl c.acts.ensures

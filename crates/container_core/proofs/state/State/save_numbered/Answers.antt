@@ -7,30 +7,16 @@ use Rattle.container_model.specs.Numbered.{IsNth}
 use Rattle.container_model.specs.Record.{Record, acts, asked_object}
 use Rattle.container_model.specs.declared.record.Frame.{Frame}
 use Rattle.container_model.specs.declared.record.Object.{Object}
-use Rattle.container_core.proofs.CommandsSave.{saved_is, saved_taken, sound_saved}
+use Rattle.container_core.proofs.CommandsSave.{saved_is, saved_taken}
 use Rattle.container_core.proofs.state.State.save_numbered.Goals as goal
-
-pub invariant_of-self : goal.invariant_of-self
-invariant_of-self c =
-    let r : Record = record { frames = c.self.inside.frames.items; objects = c.self.inside.objects.items; servers = c.self.inside.servers; last_object = c.self.inside.last_object; last_act = c.self.inside.last_act; numbers = c.self.inside.numbers } in
-    let view : r ≡ c.args.self.now = c.self.view_is in
-    let f : ℕ = c.args.frame in
-    let a : Frame = c.index.result.now in
-    let place : IsNth f r.frames c.args.at = subst (λ (x : Record). IsNth f x.frames c.args.at) (sym view) c.requires in
-    let has : all_have_numbers f r.numbers r.objects ≡ true = ap (all_have_numbers f r.numbers) (sym c.as_slice.ensures.value) ∙ (sym c.all_have_numbers.ensures ∙ c.if-not-all_have_numbers.false) in
-    let asking : IsAsking f (Save (a.k + 1)) r.objects c.in-Ok.asking.actions.items c.in-Ok.asking.takes.items =
-    subst (λ (os : List Object). IsAsking f (Save (a.k + 1)) os c.in-Ok.asking.actions.items c.in-Ok.asking.takes.items) c.as_slice-2.ensures.value c.in-Ok.ensures in
-    let objects : c.take_up.new.objects.items ≡ map (asked_object f (Save (a.k + 1))) r.objects = c.take_up.ensures f (Save (a.k + 1)) asking.takes in
-    sound_saved r f a c.args.at c.index_mut.result.now c.begin_save.new.frame c.take_up.new.objects.items c.settle_into.new.frames.items c.self.invariant (omega (arith, c.if-k-self.false)) has
-    place c.index.ensures c.index_mut.ensures.value c.begin_save.ensures objects c.settle_into.ensures.settled
 
 pub returns-clause-taken : goal.returns-clause-taken
 returns-clause-taken c =
-    let r : Record = record { frames = c.self.inside.frames.items; objects = c.self.inside.objects.items; servers = c.self.inside.servers; last_object = c.self.inside.last_object; last_act = c.self.inside.last_act; numbers = c.self.inside.numbers } in
+    let r : Record = record { frames = c.self.inside.frames.items; objects = c.self.inside.objects.items; servers = c.self.inside.servers; last_object = c.self.inside.last_object; last_act = c.self.inside.last_act; last_g = c.self.inside.last_g; numbers = c.self.inside.numbers } in
     let view : r ≡ c.args.self.now = c.self.view_is in
     let f : ℕ = c.args.frame in
     let a : Frame = c.index.result.now in
-    let place : IsNth f r.frames c.args.at = subst (λ (x : Record). IsNth f x.frames c.args.at) (sym view) c.requires in
+    let place : IsNth f r.frames c.args.at = subst (λ (x : Record). IsNth f x.frames c.args.at) (sym view) c.requires.place in
     let has : all_have_numbers f r.numbers r.objects ≡ true = ap (all_have_numbers f r.numbers) (sym c.as_slice.ensures.value) ∙ (sym c.all_have_numbers.ensures ∙ c.if-not-all_have_numbers.false) in
     let asking : IsAsking f (Save (a.k + 1)) r.objects c.in-Ok.asking.actions.items c.in-Ok.asking.takes.items =
     subst (λ (os : List Object). IsAsking f (Save (a.k + 1)) os c.in-Ok.asking.actions.items c.in-Ok.asking.takes.items) c.as_slice-2.ensures.value c.in-Ok.ensures in

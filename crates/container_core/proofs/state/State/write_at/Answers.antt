@@ -2,16 +2,12 @@ use Rattle.std.proofs.Common.{◌≡◌, Some, slice_get, ap, subst, sym, ◌∙
 use Rattle.std.proofs.lemmas.Option.{slice_get-get_or}
 use Rattle.wire_msgs.specs.Found.{IsPlace}
 use Rattle.container_model.specs.Record.{Record, is_linked}
-use Rattle.container_core.proofs.CommandsEdit.{sound_changed}
-use Rattle.container_core.proofs.MessageMade.{write_made, write_refused}
+use Rattle.container_core.proofs.WritesMade.{write_made, write_refused}
 use Rattle.container_core.proofs.state.State.write_at.Goals as goal
-
-pub invariant_of-self-2 : goal.invariant_of-self-2
-invariant_of-self-2 c = sound_changed _ c.args.self.now c.args.place c.index_mut.result.now c.write_one.new.object c.self.view_is c.self.invariant c.requires.fits c.index_mut.ensures.value (c.in-Ok.ensures.room _)
 
 pub returns-clause-taken : goal.returns-clause-taken
 returns-clause-taken c =
-    let r : Record = record { frames = c.self.inside.frames.items; objects = c.self.inside.objects.items; servers = c.self.inside.servers; last_object = c.self.inside.last_object; last_act = c.self.inside.last_act; numbers = c.self.inside.numbers } in
+    let r : Record = record { frames = c.self.inside.frames.items; objects = c.self.inside.objects.items; servers = c.self.inside.servers; last_object = c.self.inside.last_object; last_act = c.self.inside.last_act; last_g = c.self.inside.last_g; numbers = c.self.inside.numbers } in
     let v : c.args.self.now ≡ r = sym c.self.view_is in
     let p : IsPlace (is_linked c.args.inc c.args.act) r.objects c.args.place = subst (λ (x : Record). IsPlace (is_linked c.args.inc c.args.act) x.objects c.args.place) v c.requires in
     let g : slice_get r.objects c.args.place ≡ Some c.index_mut.result.now = slice_get-get_or r.objects c.args.place c.index_mut.result.now p.fits ∙ ap Some (sym c.index_mut.ensures.value) in
@@ -19,7 +15,7 @@ returns-clause-taken c =
 
 pub returns-in-Err-clause-refused : goal.returns-in-Err-clause-refused
 returns-in-Err-clause-refused c =
-    let r : Record = record { frames = c.self.inside.frames.items; objects = c.self.inside.objects.items; servers = c.self.inside.servers; last_object = c.self.inside.last_object; last_act = c.self.inside.last_act; numbers = c.self.inside.numbers } in
+    let r : Record = record { frames = c.self.inside.frames.items; objects = c.self.inside.objects.items; servers = c.self.inside.servers; last_object = c.self.inside.last_object; last_act = c.self.inside.last_act; last_g = c.self.inside.last_g; numbers = c.self.inside.numbers } in
     let v : c.args.self.now ≡ r = sym c.self.view_is in
     let p : IsPlace (is_linked c.args.inc c.args.act) r.objects c.args.place = subst (λ (x : Record). IsPlace (is_linked c.args.inc c.args.act) x.objects c.args.place) v c.requires in
     let g : slice_get r.objects c.args.place ≡ Some c.index_mut.result.now = slice_get-get_or r.objects c.args.place c.index_mut.result.now p.fits ∙ ap Some (sym c.index_mut.ensures.value) in
