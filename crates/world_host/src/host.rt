@@ -206,7 +206,7 @@ impl Host {
     pub fn most(&self) -> usize
         ensures { result ≡ most self.now.core }
     {
-        self.core.objects().len() + self.core.frames().len() + 1
+        self.core.all_objects().len() + self.core.all_frames().len() + 1
     }
 
     // Room in the logs for a step with so many actions.
@@ -325,7 +325,7 @@ impl Host {
         let room = Room::new(alloc, count)?;
         self.reserve(count)?;
         self.taken.reserve(1)?;
-        let entry = entry(place, &message, self.core.objects());
+        let entry = entry(place, &message, self.core.all_objects());
         match self.core.on_message(alloc, inc, message) {
             Ok(answer) => {
                 log(&mut self.taken, answer.taken, entry);

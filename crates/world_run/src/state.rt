@@ -7,7 +7,7 @@ ghost use Rattle.embed_core.specs.Kinds.{kind_of};
 ghost use Rattle.world_model.specs.declared.event.Event.{Event};
 ghost use Rattle.world_run.specs.declared.plan.Plan.TheVariants as plan;
 ghost use Rattle.world_host.specs.Servers.{ends_by};
-ghost use Rattle.world_run.specs.Plans.{Fits, IsCallOf, carried, carry, carry_call, scribbling, stock_with, tell};
+ghost use Rattle.world_run.specs.Plans.{Fits, IsCallOf, carried, carry, carry_call, stock_with, tell};
 ghost use Rattle.world_run.specs.View.{seen, seen_instance, seen_stocked};
 ghost use Rattle.world_model.specs.World.{IsImage, Refuses, Run, StopsAt, delivered, empty_world, ended_at, fresh, limited, step, view_in};
 ghost use Rattle.world_model.specs.declared.event.Event.TheVariants as event;
@@ -132,7 +132,7 @@ impl State {
 
     #[tactic(auto, using(crate::proofs::Servers::nth_at))]
     // The life of a server of this incarnation, and where it stands.
-    fn life(&self, inc: u32) -> Option<(usize, Life)>
+    pub(crate) fn life(&self, inc: u32) -> Option<(usize, Life)>
         ensures { MatchOption result (nth (seen (λ s. content s.boxed) self.now).instances inc ≡ None) (λ r. IsNth inc self.now.instances.items r.0 × IfSome (nth (seen (λ s. content s.boxed) self.now).instances inc) (λ x. x.life ≡ r.1) × IsSome (nth (seen (λ s. content s.boxed) self.now).instances inc)) }
     {
         match place(&self.instances, inc) {
@@ -229,7 +229,7 @@ impl State {
     }
 
     // The state of an activation of the server that stands at i.
-    fn view(&self, i: usize, act: u32) -> Option<View>
+    pub(crate) fn view(&self, i: usize, act: u32) -> Option<View>
         requires { i < length self.now.instances.items }
         ensures { IfSome (slice_get self.now.instances.items i) (λ x. result ≡ view_in (seen_instance (λ s. content s.boxed) x).core act) }
     {
@@ -463,49 +463,6 @@ impl State {
         self.carry_out(alloc, p, plan, message)
     }
 
-    // The activation of a server that stands at i writes.
-    fn scribble_at(&mut self, alloc: Global, i: usize, inc: u32, act: u32) -> Result<(), Stop>
-        requires { IsNth inc self.old.instances.items i }
-        ensures taken { OnOk result (limited (seen (λ s. content s.boxed) self.old) (scribbling (seen (λ s. content s.boxed) self.old) inc act (slice_get (seen (λ s. content s.boxed) self.old).instances i)) ≡ Ok (seen (λ s. content s.boxed) self.new)) }
-        ensures refused { IfErr result (Refuses (limited (seen (λ s. content s.boxed) self.old) (scribbling (seen (λ s. content s.boxed) self.old) inc act (slice_get (seen (λ s. content s.boxed) self.old).instances i)))) }
-        ensures kept { OnErr result (seen (λ s. content s.boxed) self.new ≡ seen (λ s. content s.boxed) self.old) }
-    {
-        self.host.open()?;
-        let Ok(room) = self.host.reply_room(alloc) else {
-            return Err(Stop::NoMemory);
-        };
-        let view = self.view(i, act);
-        match self.instances[i].core.scribble(alloc, act) {
-            Ok(message) => {
-                self.host.replied(alloc, inc, view, message, None, room);
-                Ok(())
-            }
-            Err(fault) => match fault {
-                ServerFault::NoMemory => Err(Stop::NoMemory),
-                fault => {
-                    self.host.dropped(fault);
-                    Ok(())
-                }
-            },
-        }
-    }
-
-    // An activation of a server that runs writes.
-    fn scribble(&mut self, alloc: Global, inc: u32, act: u32) -> Result<(), Stop>
-        ensures taken { OnOk result (step (seen (λ s. content s.boxed) self.old) [] (event.Scribble inc act) ≡ Ok (seen (λ s. content s.boxed) self.new)) }
-        ensures refused { IfErr result (Refuses (step (seen (λ s. content s.boxed) self.old) [] (event.Scribble inc act))) }
-        ensures kept { OnErr result (seen (λ s. content s.boxed) self.new ≡ seen (λ s. content s.boxed) self.old) }
-    {
-        let Some((i, life)) = self.life(inc) else {
-            return Err(Stop::NotEnabled);
-        };
-        match life {
-            Life::Running => {}
-            Life::Ended | Life::Reaped => return Err(Stop::NotEnabled),
-        }
-        self.scribble_at(alloc, i, inc, act)
-    }
-
     // An event happens.
     fn step(&mut self, alloc: Global, event: &Event) -> Result<(), Stop>
         ensures taken { OnOk result ((bytes : List ℕ) × IsImage (seen (λ s. content s.boxed) self.old) bytes event.now × (step (seen (λ s. content s.boxed) self.old) bytes event.now ≡ Ok (seen (λ s. content s.boxed) self.new))) }
@@ -519,6 +476,7 @@ impl State {
             Event::Reap(inc) => self.reap(alloc, *inc),
             Event::Done(f) => self.done(alloc, *f),
             Event::Scribble(inc, act) => self.scribble(alloc, *inc, *act),
+            Event::Ask(inc, act) => self.ask(alloc, *inc, *act),
         }
     }
 
