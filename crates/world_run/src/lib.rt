@@ -1,6 +1,7 @@
 //! Worlds: a container, its servers, the messages between them, and what happens.
 #![tactic(auto)]
 
+mod deliveries;
 mod holds;
 pub mod instance;
 mod plan;
