@@ -71,6 +71,15 @@ fn lines_that_spell_no_event_are_told(rt: HostRuntime) -> Result<(), Fail> {
         "scribble 1",
         "close 1",
         "close 1 Save",
+        "verb 1",
+        "verb 1 01",
+        "verb 1 -",
+        "verb 1 +1",
+        "verb 1 -00",
+        "verb 1 4294967296",
+        "verb 1 -4294967296",
+        "ask 1",
+        "ask 1 -1",
     ] {
         assert_eq!(rt;
             refusal(rt.alloc(), text)?.as_str(),
@@ -100,6 +109,12 @@ fn events_that_are_taken_are_no_bad_lines(rt: HostRuntime) -> Result<(), Fail> {
         "close 1 save",
         "close 1 nosave",
         "scribble 1 1",
+        "verb 1 0",
+        "verb 1 -0",
+        "verb 1 -5",
+        "verb 1 4294967295",
+        "verb 1 -4294967295",
+        "ask 1 1",
     ] {
         assert_eq!(rt; refusal(rt.alloc(), text)?.as_str(), "taken", "{text}");
     }

@@ -10,6 +10,12 @@ use wire_msgs::operation::Operation;
 fn operation_name(operation: &Operation) -> &'static str {
     match operation {
         Operation::InitNew(_) => "InitNew",
+        Operation::InPlace => "InPlace",
+        Operation::UiActivate(1) => "UiActivate 1",
+        Operation::UiActivate(2) => "UiActivate 2",
+        Operation::UiDeactivate => "UiDeactivate",
+        Operation::InPlaceDeactivate => "InPlaceDeactivate",
+        Operation::OpenWindow => "OpenWindow",
         Operation::Edit(_) => "Edit",
         Operation::Save(1) => "Save 1",
         Operation::SaveCompleted {
@@ -83,6 +89,9 @@ fn answer_text(alloc: Global, answer: &Answer) -> Result<String, AllocError> {
     }
     if answer.taken {
         text.push_str(" taken")?;
+    }
+    if answer.no_tools {
+        text.push_str(" notools")?;
     }
     for action in answer.actions.as_slice() {
         let action = action_text(alloc, action)?;

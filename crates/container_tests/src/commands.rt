@@ -40,8 +40,13 @@ fn insert(name: &str, w: u32) -> Command {
     Command::Insert(1, kind(name), area)
 }
 
-/// `new NAME`, `insert KIND COLUMNS`, `start`, `run`, `edit`, `save FRAME`, `delete OBJECT`, `kill SERVER`, or `close save` or
-/// `close drop` of object 1.
+fn verb_of(rest: &str) -> Command {
+    let (object, n) = halves(rest, " ");
+    Command::Verb(number(object), -i64::from(number(n)))
+}
+
+/// `new NAME`, `insert KIND COLUMNS`, `start`, `run`, `edit`, `save FRAME`, `delete OBJECT`, `kill SERVER`, `verb OBJECT N` for
+/// the verb -N, or `close save` or `close drop` of object 1.
 fn command(alloc: Global, verb: &str, rest: &str) -> Result<Option<Command>, AllocError> {
     match verb.as_bytes() {
         [b'n', ..] => Ok(Some(Command::New(bytes(alloc, rest)?, 80, 25))),
@@ -55,6 +60,7 @@ fn command(alloc: Global, verb: &str, rest: &str) -> Result<Option<Command>, All
         [b'd', b'e', ..] => Ok(Some(Command::Delete(number(rest)))),
         [b'k', ..] => Ok(Some(Command::Kill(number(rest)))),
         [b'c', b'l', ..] => Ok(Some(Command::Close(1, option(rest)))),
+        [b'v', ..] => Ok(Some(verb_of(rest))),
         [b'e', ..] => Ok(Some(Command::Edit(1, bytes(alloc, "x")?))),
         _ => Ok(None),
     }

@@ -3,8 +3,8 @@
 
 use crate::answers::{answered, committed, resent};
 use crate::commands::commanded;
-use crate::files::{document, file, object, phase, sizes};
-use crate::messages::{reaped, replied, written};
+use crate::files::{document, file, frame_numbers, grant, object, object_numbers, phase, sizes};
+use crate::messages::{asked, reaped, replied, written};
 use crate::words::halves;
 use container_core::container::{ContainerCore, Limits};
 use container_model::answer::Committed;
@@ -105,6 +105,53 @@ object => passive
 twice =>
 delete 1 =>";
 
+/// Verbs, by their numbers without the minus sign: an object takes its frame, offers it back, takes it again and gives it up.
+const VERBS: &str = "grant => Free
+verb 1 3 =>
+verb 1 9 => WrongState
+verb 2 4 => NoSuch
+verb 1 4 => call 2 InPlace
+verb 1 4 => Busy
+save 1 => Busy
+grant => Granting
+done 1 2 => call 3 UiActivate 1
+done 1 3 => BadAnswer
+tools 1 3 =>
+grant => Held
+verb 1 4 =>
+ask 2 => Stale
+ask 1 => call 4 UiDeactivate
+ask 1 => Stale
+grant => Revoking
+done 1 4 =>
+grant => Free
+verb 1 1 => call 5 UiActivate 2
+tools_wide 1 5 => notools
+grant => Held
+verb 1 2 => call 6 UiDeactivate
+done 1 6 => call 7 InPlaceDeactivate
+grant => Free
+done 1 7 => call 8 OpenWindow
+done 1 8 =>
+verb 1 0 => WrongState
+close drop => call 9 InPlaceDeactivate
+done 1 9 => call 10 Close drop
+done 1 10 =>
+verb 1 4 => NotRunning";
+
+/// The end of a server whose object has a frame.
+const HELD: &str = "verb 1 0 => call 2 InPlace
+done 1 2 => call 3 UiActivate 1
+tools 1 3 =>
+kill 1 => end 1
+grant => Held
+reap =>
+grant => Free
+tools 1 3 => Stale
+ask 1 => Stale
+verb 1 4 => NotRunning
+made => 1 of 1";
+
 /// As many frames and servers as there may be.
 const FULL: &str = "new b => frame 2
 new c => frame 3
@@ -145,10 +192,21 @@ fn commit(alloc: Global, core: &mut ContainerCore) -> Result<Committed, Containe
     core.commit_done(alloc, 1)
 }
 
+/// The numbers of frames, and those of objects.
+fn numbers(alloc: Global, core: &ContainerCore) -> Result<String, AllocError> {
+    let mut text = frame_numbers(alloc, core)?;
+    text.push_str(" of")?;
+    let objects = object_numbers(alloc, core)?;
+    text.push_str(&objects)?;
+    Ok(text)
+}
+
 fn shown(alloc: Global, core: &ContainerCore, verb: &str) -> Result<String, Fail> {
     match verb.as_bytes() {
         [b'o', ..] => Ok(String::from_str(alloc, object(core))?),
         [b'p', ..] => Ok(String::from_str(alloc, phase(core))?),
+        [b'g', ..] => Ok(String::from_str(alloc, grant(core))?),
+        [b'm', ..] => Ok(numbers(alloc, core)?),
         [b's', ..] => Ok(sizes(alloc, core)?),
         [b'f', ..] => file(alloc, core),
         _ => Ok(document(alloc, core)?),
@@ -160,9 +218,10 @@ fn heard(alloc: Global, core: &mut ContainerCore, verb: &str, rest: &str) -> Res
     match verb.as_bytes() {
         [b'r', ..] => Ok(answered(alloc, reaped(alloc, core))?),
         [b'c', b'o', b'm', ..] => Ok(committed(alloc, commit(alloc, core))?),
-        [b't', ..] => Ok(resent(alloc, core.resend(alloc))?),
+        [b't', b'w', ..] => Ok(resent(alloc, core.resend(alloc))?),
+        [b'a', ..] => Ok(answered(alloc, asked(alloc, core, rest))?),
         [b'w', ..] | [b'x', ..] => Ok(answered(alloc, written(alloc, core, verb, rest)?)?),
-        [b'b', ..] | [b'c', ..] | [b'l', ..] | [b'd', b'o', b'n', ..] => {
+        [b'b', ..] | [b'c', ..] | [b'l', ..] | [b't', ..] | [b'd', b'o', b'n', ..] => {
             Ok(answered(alloc, replied(alloc, core, verb, rest)?)?)
         }
         _ => shown(alloc, core, verb),
@@ -204,7 +263,7 @@ fn assert_told(rt: &impl Abort, alloc: Global, before: &str, rows: &str) -> Resu
 #[test]
 fn containers_answer_what_they_are_told(rt: HostRuntime) -> Result<(), Fail> {
     for rows in [
-        REFUSED, SAVED, REAPED, ANSWERED, CLOSED, DROPPED, WRITTEN, KILLED, FULL,
+        REFUSED, SAVED, REAPED, ANSWERED, CLOSED, DROPPED, WRITTEN, KILLED, VERBS, HELD, FULL,
     ] {
         assert_told(&rt, rt.alloc(), RUN, rows)?;
     }

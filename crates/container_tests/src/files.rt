@@ -1,4 +1,4 @@
-//! What a container shows: an object, a save, a document and its file, as rows spell them.
+//! What a container shows: an object, who has a frame, a save, a document and its file, as rows spell them.
 
 use crate::answers::fault_text;
 use cfb_directory::name::Name;
@@ -6,6 +6,7 @@ use container_core::container::ContainerCore;
 use container_model::answer::Part;
 use container_model::fault::ContainerFault;
 use container_model::record::{Object, Phase};
+use grant_core::GrantState;
 use ole_streams::document_of::document_of;
 use std::alloc::{AllocError, Global};
 use std::test::Fail;
@@ -41,6 +42,23 @@ pub(crate) fn object(core: &ContainerCore) -> &'static str {
     }
 }
 
+fn grant_text(state: &GrantState) -> &'static str {
+    match state {
+        GrantState::Free => " Free",
+        GrantState::Granting(_) => " Granting",
+        GrantState::Held { .. } => " Held",
+        GrantState::Revoking { .. } => " Revoking",
+    }
+}
+
+/// Whether an object has frame 1, is to get it or to give it up.
+pub(crate) fn grant(core: &ContainerCore) -> &'static str {
+    match core.frame(1) {
+        Some(frame) => grant_text(&frame.ui.state()),
+        None => " none",
+    }
+}
+
 /// How far the save of frame 1 is.
 pub(crate) fn phase(core: &ContainerCore) -> &'static str {
     match core.frame(1) {
@@ -51,9 +69,27 @@ pub(crate) fn phase(core: &ContainerCore) -> &'static str {
 
 /// How many frames and objects there are, and the greatest number.
 pub(crate) fn sizes(alloc: Global, core: &ContainerCore) -> Result<String, AllocError> {
-    let (frames, objects) = (core.frames().len(), core.objects().len());
+    let (frames, objects) = (core.all_frames().len(), core.all_objects().len());
     let numbers = core.numbers();
     format!(in alloc; " {frames} {objects} {numbers}")
+}
+
+fn numbers_text(alloc: Global, numbers: &[u32]) -> Result<String, AllocError> {
+    let mut text = String::new(alloc);
+    for number in numbers {
+        let number = format!(in alloc; " {number}")?;
+        text.push_str(&number)?;
+    }
+    Ok(text)
+}
+
+/// The numbers of frames, and those of objects.
+pub(crate) fn frame_numbers(alloc: Global, core: &ContainerCore) -> Result<String, AllocError> {
+    numbers_text(alloc, core.frames(alloc)?.as_slice())
+}
+
+pub(crate) fn object_numbers(alloc: Global, core: &ContainerCore) -> Result<String, AllocError> {
+    numbers_text(alloc, core.objects(alloc)?.as_slice())
 }
 
 /// How many objects the document of frame 1 has.

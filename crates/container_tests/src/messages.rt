@@ -6,6 +6,7 @@ use container_core::container::ContainerCore;
 use container_model::answer::Answer;
 use container_model::fault::ContainerFault;
 use object_parts::limits::MOST_BYTES;
+use object_state::Menus;
 use std::alloc::Global;
 use std::test::Fail;
 use storage_tree::bytes::Bytes;
@@ -44,8 +45,19 @@ fn large(alloc: Global) -> Result<Stored, Fail> {
     Ok(content)
 }
 
+/// What an object wants of its frame: a border as wide as is told.
+fn tools(left: u16) -> Result<Said, Fail> {
+    let menus = Menus::new(b"Edit", b"Note", b"Help").ok_or("three texts")?;
+    Ok(Said::Tools {
+        menus,
+        border: [left, 1, 0, 0],
+    })
+}
+
 fn said(alloc: Global, verb: &str) -> Result<Said, Fail> {
     match verb.as_bytes() {
+        [b't', b'o', b'o', b'l', b's'] => tools(2),
+        [b't', ..] => tools(80),
         [b'c', ..] => Ok(Said::Content(content(alloc)?)),
         [b'l', ..] => Ok(Said::Content(large(alloc)?)),
         [b'b', ..] => Ok(Said::Refused(Refusal::BadEdit)),
@@ -54,7 +66,7 @@ fn said(alloc: Global, verb: &str) -> Result<Said, Fail> {
 }
 
 /// A reply of activation 1 of server 1 on the link of a server: `done LINK N`, `content LINK N`,
-/// `large_content LINK N` or `bad_edit LINK N`.
+/// `large_content LINK N`, `bad_edit LINK N`, `tools LINK N`, or `tools_wide LINK N` with a border as wide as the frame.
 pub(crate) fn replied(
     alloc: Global,
     core: &mut ContainerCore,
@@ -100,6 +112,20 @@ pub(crate) fn written(
         content,
     };
     Ok(told(alloc, core, 1, message))
+}
+
+/// Activation 1 of server 1 asks to be relieved of its frame, under this grant.
+pub(crate) fn asked(
+    alloc: Global,
+    core: &mut ContainerCore,
+    rest: &str,
+) -> Result<Answer, ContainerFault> {
+    let message = Message::Ask {
+        inc: 1,
+        act: 1,
+        g: number(rest),
+    };
+    told(alloc, core, 1, message)
 }
 
 /// The end of server 1.

@@ -1,5 +1,5 @@
 -- The lines of a text of events and the events that they spell.
-use Rattle.std.specs.Prelude.{◌&&◌, ℕ, Bool, not, List, [], ◌∷◌, length, nat_le, nat_eq, cond, codes, if◌then◌else◌, Option, Some, None, option_map, Result}
+use Rattle.std.specs.Prelude.{◌&&◌, ℕ, ℤ, pos, negsuc, zero, suc, Bool, not, List, [], ◌∷◌, length, nat_le, nat_eq, cond, codes, if◌then◌else◌, Option, Some, None, option_map, Result}
 use Rattle.std.specs.List.{ends_with, join_with_byte, list_all}
 use Rattle.std.specs.Str.{bytes_eq}
 use Rattle.embed_core.specs.Words.{words, number_read}
@@ -62,6 +62,15 @@ pair_read _ = None
 abbrev pub two_numbers : (ℕ → ℕ → Event) → List (List ℕ) → Option Event
 two_numbers f words = option_map (λ (p : ℕ × ℕ). f p.0 p.1) (pair_read words)
 
+-- the number of a verb: a number, which may stand behind a minus sign
+abbrev pub opposite : ℕ → ℤ
+opposite zero = pos zero
+opposite (suc n) = negsuc n
+
+abbrev pub signed_read : List ℕ → Option ℤ
+signed_read [] = None
+signed_read (c ∷ cs) = cond (nat_eq c 45) (option_map opposite (number_read cs)) (option_map pos (number_read (c ∷ cs)))
+
 abbrev pub area_of : Option ℕ → Option ℕ → Option ℕ → Option ℕ → Option Area
 area_of (Some x) (Some y) (Some w) (Some h) = Some (record { x = x; y = y; w = w; h = h })
 area_of _ _ _ _ = None
@@ -91,6 +100,14 @@ close_of (Some o) (Some option) = Some (event.Command (command.Close o option))
 close_of (Some o) None = None
 close_of None option = None
 
+abbrev pub verb_of : Option ℕ → Option ℤ → Option Event
+verb_of (Some o) (Some number) = Some (event.Command (command.Verb o number))
+verb_of (Some o) None = None
+verb_of None number = None
+
+abbrev pub ask_of : ℕ → ℕ → Event
+ask_of inc act = event.Ask inc act
+
 abbrev pub edit_of : List ℕ → ℕ → Event
 edit_of bytes o = event.Command (command.Edit o bytes)
 
@@ -114,6 +131,10 @@ abbrev pub close_read : List (List ℕ) → Option Event
 close_read (o ∷ option ∷ []) = close_of (number_read o) (option_read option)
 close_read _ = None
 
+abbrev pub verb_read : List (List ℕ) → Option Event
+verb_read (o ∷ number ∷ []) = verb_of (number_read o) (signed_read number)
+verb_read _ = None
+
 -- an edit is all that stands behind the space, spaces too
 abbrev pub edit_read : List (List ℕ) → Option Event
 edit_read (o ∷ t ∷ ts) = option_map (edit_of (join_with_byte 32 (t ∷ ts))) (number_read o)
@@ -130,7 +151,9 @@ abbrev pub object_named : List ℕ → List (List ℕ) → Option Event
 object_named name others =
     cond (bytes_eq name (codes "delete")) (one_number delete_of others) (
     cond (bytes_eq name (codes "close")) (close_read others) (
-    cond (bytes_eq name (codes "scribble")) (two_numbers scribble_of others) (end_named name others)))
+    cond (bytes_eq name (codes "verb")) (verb_read others) (
+    cond (bytes_eq name (codes "scribble")) (two_numbers scribble_of others) (
+    cond (bytes_eq name (codes "ask")) (two_numbers ask_of others) (end_named name others)))))
 
 abbrev pub numbers_named : List ℕ → List (List ℕ) → Option Event
 numbers_named name others =

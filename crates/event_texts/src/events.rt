@@ -1,6 +1,6 @@
 //! Texts of events.
 
-ghost use Rattle.event_texts.specs.Events.{area_of, close_read, edit_read, end_named, event_named, event_read, insert_read, is_file_name, kind_read, new_read, numbers_named, object_named, option_read, pair_read, short_read, sole_number};
+ghost use Rattle.event_texts.specs.Events.{area_of, close_read, edit_read, end_named, event_named, event_read, insert_read, is_file_name, kind_read, new_read, numbers_named, object_named, option_read, pair_read, short_read, signed_read, sole_number, verb_read};
 ghost use Rattle.embed_core.specs.Words.{words};
 ghost use Rattle.std.specs.List.{list_all};
 ghost use Rattle.std.specs.Prelude.{◌≡◌, [], IfErr, IfOk, IsSome};
@@ -100,9 +100,14 @@ fn parse_object(name: &[u8], rest: &[u8]) -> Option<Event>
         Some(Event::Command(Command::Delete(sole_number(rest)?)))
     } else if name == b"close".as_slice() {
         close(rest)
+    } else if name == b"verb".as_slice() {
+        verb(rest)
     } else if name == b"scribble".as_slice() {
         let (inc, act) = two_numbers(rest)?;
         Some(Event::Scribble(inc, act))
+    } else if name == b"ask".as_slice() {
+        let (inc, act) = two_numbers(rest)?;
+        Some(Event::Ask(inc, act))
     } else {
         parse_end(name, rest)
     }
@@ -149,6 +154,16 @@ fn two_numbers(rest: &[u8]) -> Option<(u32, u32)>
         return None;
     };
     Some((number(first)?, number(second)?))
+}
+
+/// A number that may stand behind a minus sign.
+fn signed(word: &[u8]) -> Option<i64>
+    ensures { result ≡ signed_read word.now }
+{
+    match word {
+        [b'-', digits @ ..] => Some(-i64::from(number(digits)?)),
+        _ => Some(i64::from(number(word)?)),
+    }
 }
 
 /// A number of 16 bits.
@@ -273,6 +288,24 @@ fn close(rest: &[u8]) -> Option<Event>
     };
     match (number(object), option(chosen)) {
         (Some(object), Some(option)) => Some(Event::Command(Command::Close(object, option))),
+        _ => None,
+    }
+}
+
+/// The verb that what stands behind `verb` spells.
+fn verb(rest: &[u8]) -> Option<Event>
+    ensures { result ≡ verb_read (words rest.now) }
+{
+    let mut words = Pieces::new(rest, b' ');
+    let (Some(object), Some(word), None) = (
+        words.next_piece(),
+        words.next_piece(),
+        words.next_piece(),
+    ) else {
+        return None;
+    };
+    match (number(object), signed(word)) {
+        (Some(object), Some(number)) => Some(Event::Command(Command::Verb(object, number))),
         _ => None,
     }
 }

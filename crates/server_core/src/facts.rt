@@ -289,6 +289,13 @@ impl Facts {
         }
     }
 
+    /// The grant of its frame that it has.
+    pub fn grant(&self) -> Option<u32>
+        ensures { result ≡ self.now.g }
+    {
+        self.g
+    }
+
     /// The message that asks to be relieved of its grant, where it has one.
     pub fn ask(&self, inc: u32) -> Option<Message>
         ensures { result ≡ option_map (message.Ask inc self.now.act) self.now.g }

@@ -4,6 +4,7 @@
 mod activation;
 mod calls;
 mod facts;
+mod holds;
 mod own_accord;
 mod picture;
 pub mod refusal;

@@ -6,6 +6,7 @@ use object_state::ObjectState;
 use server_core::refusal::{Reaction, Refusal};
 use server_model::activation_view::ActivationView;
 use server_model::counted::Counted;
+use server_model::hold::Hold;
 use std::alloc::{AllocError, Global};
 use storage_tree::class_id::ClassId;
 use wire_msgs::answer::Answer;
@@ -153,4 +154,18 @@ pub(crate) fn view_text(alloc: Global, view: Option<ActivationView>) -> Result<S
         }
         None => String::from_str(alloc, "none"),
     }
+}
+
+/// The activations that have a grant, each with it.
+pub(crate) fn holds_text(alloc: Global, holds: &[Hold]) -> Result<String, AllocError> {
+    let mut text = String::new(alloc);
+    for hold in holds {
+        let (act, g) = (hold.act, hold.g);
+        text.push_str(&format!(in alloc; "{act} has {g}, ")?)?;
+    }
+    if text.is_empty() {
+        text.push_str("none ")?;
+    }
+    text.pop();
+    Ok(text)
 }

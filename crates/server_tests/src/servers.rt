@@ -3,7 +3,7 @@
 
 use crate::calls::call;
 use crate::objects::handed;
-use crate::replies::{class_text, last_text, message_text, outcome_text, view_text};
+use crate::replies::{class_text, holds_text, last_text, message_text, outcome_text, view_text};
 use crate::words::{halves, number};
 use embed_core::embedded::Embedded;
 use embed_core::tally::Tally;
@@ -64,13 +64,19 @@ wants 1 5 1 - init note => note
 1 5 1 note init note => Done
 last 5 => Reply 1 5 1 Done
 1 5 2 - in_place => Done
+holds => none
 1 5 3 - activate 7 => Tools
 ask 5 => Ask 7
+holds => 5 has 7,
+1 3 1 note init note => Done
+1 3 2 - in_place => Done
+1 3 3 - activate 9 => Tools
+holds => 3 has 9, 5 has 7,
 view 5 => note true UiActive 1 3 7 0
 view 6 => none
 last 6 => none
 wants 1 5 1 - init note => none
-end => 11";
+end => 12";
 
 fn new_server(alloc: Global) -> ServerCore {
     ServerCore::new(alloc, 1, 9)
@@ -102,6 +108,10 @@ fn last_reply(alloc: Global, core: &ServerCore, act: u32) -> Result<String, Allo
     last_text(alloc, core.last_reply(alloc, act)?)
 }
 
+fn holds(alloc: Global, core: &ServerCore) -> Result<String, AllocError> {
+    holds_text(alloc, core.holds(alloc)?.as_slice())
+}
+
 fn wanted(alloc: Global, core: &ServerCore, row: &str) -> Result<&'static str, Fail> {
     let (_, message) = call(alloc, row)?;
     Ok(class_text(core.wants(&message)))
@@ -115,6 +125,7 @@ fn asked(alloc: Global, core: &mut ServerCore, tally: &Tally, row: &str) -> Resu
         [b'v', ..] => Ok(view_text(alloc, core.activation(number(rest)))?),
         [b'l', ..] => Ok(last_reply(alloc, core, number(rest))?),
         [b'w', ..] => Ok(String::from_str(alloc, wanted(alloc, core, rest)?)?),
+        [b'h', ..] => Ok(holds(alloc, core)?),
         [b'd', ..] => Ok(tally.count().to_string(alloc)?),
         _ => called(alloc, core, tally, row),
     }

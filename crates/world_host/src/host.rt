@@ -5,11 +5,11 @@ ghost use Rattle.std.specs.List.{range_with_len};
 ghost use Rattle.container_model.specs.Commands.{on_command};
 ghost use Rattle.container_model.specs.Messages.{on_message, on_reap};
 ghost use Rattle.container_model.specs.Record.{counts_none};
-ghost use Rattle.world_model.specs.World.{messages_of, commits_of, of_container, joined, uncounted, took, owner, counted_by, quiet_outcome, limited, commanded, owners_by, empty_world, Refuses, MOST_EVENTS};
+ghost use Rattle.world_model.specs.World.{messages_of, commits_of, of_container, joined, uncounted, took, commanded, owners_by, empty_world, MOST_EVENTS};
 ghost use Rattle.world_model.specs.declared.logs.EventAnswer.TheVariants as told;
 ghost use Rattle.world_host.specs.Logging.{heard};
 ghost use Rattle.world_host.specs.Servers.{ends_in, ends_of, starts_of};
-ghost use Rattle.world_host.specs.Rooms.{HasLogRoom, HasReplyRoom, IsBarred, IsRoom, most, replied};
+ghost use Rattle.world_host.specs.Rooms.{HasLogRoom, IsBarred, IsRoom, most};
 ghost use Rattle.world_host.specs.View.{bare, started};
 
 use crate::taking::{entry, log};
@@ -17,13 +17,11 @@ use container_core::container::{ContainerCore, Limits};
 use container_model::answer::{Action, Answer, Done};
 use container_model::command::Command;
 use container_model::fault::ContainerFault;
-use server_model::counted::Counted;
-use server_model::fault::ServerFault;
 use std::alloc::{AllocError, Global};
 use wire_msgs::items::Items;
 use wire_msgs::message::Message;
 use world_model::event::{Stop, copy_command};
-use world_model::logs::{Document, EventAnswer, File, Outcome, Sent, ServerDone, Taken, View};
+use world_model::logs::{Document, EventAnswer, File, Outcome, Sent, ServerDone, Taken};
 
 /// The host of a world's container: what the world keeps besides its servers and its stock, the container, the files and the
 /// logs.
@@ -126,7 +124,7 @@ fn share(
 }
 
 // The places of so many messages, behind so many others.
-fn number(places: &mut Vec<u32>, before: usize, count: usize)
+pub(crate) fn number(places: &mut Vec<u32>, before: usize, count: usize)
     requires empty { places.old.items ≡ [] }
     requires room { count ≤ vec_capacity places.old }
     requires last { before + count < 2 ^ 32 }
@@ -206,7 +204,7 @@ impl Host {
     pub fn most(&self) -> usize
         ensures { result ≡ most self.now.core }
     {
-        self.core.objects().len() + self.core.frames().len() + 1
+        self.core.all_objects().len() + self.core.all_frames().len() + 1
     }
 
     // Room in the logs for a step with so many actions.
@@ -325,7 +323,7 @@ impl Host {
         let room = Room::new(alloc, count)?;
         self.reserve(count)?;
         self.taken.reserve(1)?;
-        let entry = entry(place, &message, self.core.objects());
+        let entry = entry(place, &message, self.core.all_objects());
         match self.core.on_message(alloc, inc, message) {
             Ok(answer) => {
                 log(&mut self.taken, answer.taken, entry);
@@ -371,107 +369,5 @@ impl Host {
             Ok(()) => Ok(()),
             Err(_) => Err(Stop::NoMemory),
         }
-    }
-
-    /// An event that led to nothing.
-    pub fn quiet(&mut self, alloc: Global)
-        requires { vec_len self.old.answers < vec_capacity self.old.answers }
-        ensures { bare self.new ≡ record (bare self.old) { answers = self.old.answers.items ++ told.Took quiet_outcome ∷ [] } }
-    {
-        add(&mut self.answers, EventAnswer::Took(Outcome::quiet(alloc)));
-    }
-
-    /// A message that a server did nothing with.
-    pub fn dropped(&mut self, fault: ServerFault)
-        requires { vec_len self.old.answers < vec_capacity self.old.answers }
-        ensures { bare self.new ≡ record (bare self.old) { answers = self.old.answers.items ++ told.Dropped fault ∷ [] } }
-    {
-        add(&mut self.answers, EventAnswer::Dropped(fault));
-    }
-
-    // The object that an activation was made for, 0 where there is none.
-    fn owner(&self, act: u32) -> u32
-        ensures { result ≡ owner (bare self.now) act }
-    {
-        if act == 0 {
-            return 0;
-        }
-        let place = (act - 1) as usize;
-        if place < self.owners.len() {
-            self.owners[place]
-        } else {
-            0
-        }
-    }
-
-    /// Room for a reply; gives room for its place.
-    pub fn reply_room(&mut self, alloc: Global) -> Result<Vec<u32>, AllocError>
-        ensures place { IfOk result (λ v. v.items ≡ []) }
-        ensures place_room { IfOk result (λ v. 1 ≤ vec_capacity v) }
-        ensures room { OnOk result (HasReplyRoom self.new) }
-        ensures answers { vec_len self.old.answers < vec_capacity self.old.answers → vec_len self.new.answers < vec_capacity self.new.answers }
-        ensures kept { bare self.new ≡ bare self.old }
-    {
-        let place = Vec::with_capacity(alloc, 1)?;
-        self.sent.reserve(1)?;
-        self.server_done.reserve(1)?;
-        if self.sent.len() >= 0xffff_ffff {
-            return Err(AllocError);
-        }
-        Ok(place)
-    }
-
-    // What a server counted.
-    fn count(&mut self, inc: u32, counted: Option<Counted>)
-        requires { vec_len self.old.server_done < vec_capacity self.old.server_done }
-        ensures { bare self.new ≡ record (bare self.old) { server_done = self.old.server_done.items ++ counted_by (bare self.old) inc counted } }
-    {
-        match counted {
-            Some(counted) => {
-                let Counted { act, k, content } = counted;
-                let object = self.owner(act);
-                add(
-                    &mut self.server_done,
-                    ServerDone {
-                        inc,
-                        object,
-                        k,
-                        content,
-                    },
-                );
-            }
-            None => {}
-        }
-    }
-
-    /// A reply of a server, its activation's state just before, and what the server counted.
-    pub fn replied(
-        &mut self,
-        alloc: Global,
-        inc: u32,
-        view: Option<View>,
-        reply: Message,
-        counted: Option<Counted>,
-        place: Vec<u32>,
-    )
-        requires place { place.items ≡ [] }
-        requires place_room { 1 ≤ vec_capacity place }
-        requires room { HasReplyRoom self.old }
-        requires answers { vec_len self.old.answers < vec_capacity self.old.answers }
-        ensures { bare self.new ≡ replied (bare self.old) inc view reply counted }
-    {
-        let mut place = place;
-        number(&mut place, self.sent.len(), 1);
-        add(
-            &mut self.sent,
-            Sent {
-                message: reply,
-                view,
-            },
-        );
-        let mut outcome = Outcome::quiet(alloc);
-        outcome.sent = Items::from_vec(place);
-        add(&mut self.answers, EventAnswer::Took(outcome));
-        self.count(inc, counted);
     }
 }

@@ -3,4 +3,5 @@
 
 mod commits;
 pub mod host;
+mod replying;
 mod taking;

@@ -1,4 +1,5 @@
-//! The report of a world: a line for each frame, for each object, and for each content that was counted.
+//! The report of a world: a line for each frame, for each object, for each activation that has a frame's grant, and for each
+//! content that was counted.
 
 ghost use Rattle.std.specs.Io.KnownBytes.{Appends};
 ghost use Rattle.std.specs.Fmt.{decimal};
@@ -7,17 +8,20 @@ ghost use Rattle.std.specs.Prelude.{◌≡◌, ◌≢◌, ◌++◌, ◌∷◌, [
 ghost use Rattle.world_model.specs.Report.{container_line, content_text, done_line, file_word, frame_line, frame_lines, further_text, grant_text, linked_text, object_line, object_state_name, persist_state_name, report_of, server_line, state_text, stream_text, type_text};
 ghost use Rattle.text_model.specs.Spelled.{name_text};
 
+use crate::holds::push_holds;
 use container_model::answer::Done;
 use container_model::record::{Frame, Link, Object, Phase};
 use embed_core::classes;
 use grant_core::GrantState;
 use object_state::{ObjectState, PersistState};
+use server_model::hold::Hold;
 use std::alloc::{AllocError, Global};
 use std::io;
 use std::io::Write;
 use storage_tree::class_id::ClassId;
 use storage_tree::streams::NamedStream;
 use texts::writing::{push_class, push_hex, push_name, push_numbered, push_word};
+use wire_msgs::items::Items;
 use world_model::logs::ServerDone;
 
 /// Why a report isn't written.
@@ -29,8 +33,9 @@ pub enum ReportFault {
     Unwritable,
 }
 
-/// Writes the report of these frames and objects, and of both logs: a line for each frame, for each object, and for each
-/// content that was counted, by the container and then by the servers.
+/// Writes the report of these frames and objects, of who has a frame's grant, by server, and of both logs: a line for each
+/// frame, for each object, for each of those, and for each content that was counted, by the container and then by the
+/// servers.
 ///
 /// Refused for want of memory, where nothing is written, and where a write fails.
 pub fn write_report<W: Write>(
@@ -38,13 +43,14 @@ pub fn write_report<W: Write>(
     writer: &mut W,
     frames: &[Frame],
     objects: &[Object],
+    holds: &[Items<Hold>],
     container_done: &[Done],
     server_done: &[ServerDone],
 ) -> Result<(), ReportFault>
-    ensures reported { OnOk result (Appends (W.contents writer.old) (W.contents writer.new) (report_of frames.now objects.now container_done.now server_done.now)) }
+    ensures reported { OnOk result (Appends (W.contents writer.old) (W.contents writer.new) (report_of frames.now objects.now holds.now container_done.now server_done.now)) }
     ensures unwritten { IfErr result (λ fault. fault ≢ ReportFault.Unwritable → writer.new ≡ writer.old) }
 {
-    let text = match report_text(alloc, frames, objects, container_done, server_done) {
+    let text = match report_text(alloc, frames, objects, holds, container_done, server_done) {
         Ok(text) => text,
         Err(_) => return Err(ReportFault::NoMemory),
     };
@@ -68,14 +74,16 @@ fn report_text(
     alloc: Global,
     frames: &[Frame],
     objects: &[Object],
+    holds: &[Items<Hold>],
     container_done: &[Done],
     server_done: &[ServerDone],
 ) -> Result<Vec<u8>, AllocError>
-    ensures { IfOk result (λ text. text.items ≡ report_of frames.now objects.now container_done.now server_done.now) }
+    ensures { IfOk result (λ text. text.items ≡ report_of frames.now objects.now holds.now container_done.now server_done.now) }
 {
     let mut text = Vec::new(alloc);
     push_frames(alloc, &mut text, frames)?;
     push_objects(alloc, &mut text, objects)?;
+    push_holds(alloc, &mut text, holds)?;
     push_container_done(alloc, &mut text, container_done)?;
     push_server_done(alloc, &mut text, server_done)?;
     Ok(text)

@@ -7,5 +7,5 @@ pub mod Stocks
 pub mod Planning
 pub mod Serving
 pub mod Delivering
-pub mod Scribbling
+pub mod OwnAccord
 pub mod Runs

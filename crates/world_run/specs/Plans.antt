@@ -14,8 +14,9 @@ use Rattle.world_run.specs.declared.plan.Plan.TheVariants.{Quiet, Tell, Serve, B
 use Rattle.world_model.specs.declared.logs.EventAnswer.TheVariants as told
 use Rattle.world_model.specs.declared.event.Stop.{Stop}
 use Rattle.world_model.specs.declared.event.Stop.TheVariants.{NotEnabled}
-use Rattle.world_model.specs.World.{World, Instance, limited, served, scribbled_by, took, quiet_outcome, is_of, without_first}
-use Rattle.server_model.specs.Server as server
+use Rattle.world_model.specs.World.{World, Instance, limited, served, spoken_by, took, quiet_outcome, is_of, without_first}
+use Rattle.server_model.specs.Server.{Server, Told, ask_deactivate, scribble}
+use Rattle.server_model.specs.declared.fault.ServerFault.{ServerFault}
 use Rattle.world_host.specs.Logging.{heard}
 
 abbrev pub quiet : World → World
@@ -56,10 +57,17 @@ carry w p message plan = limited w (logged w p message plan)
 abbrev pub tell : World → ℕ → ℕ → Message → Result World Stop
 tell w p inc message = limited w (Ok (heard w p inc message))
 
--- an activation of a server writes
+-- an activation of a server sends a message of its own accord
+abbrev pub speaking : World → ℕ → ℕ → (Server → Result Told ServerFault) → Option Instance → Result World Stop
+speaking w inc act speak None = Err NotEnabled
+speaking w inc act speak (Some i) = Ok (spoken_by w inc act i (speak i.core))
+
+-- it writes, or asks to be relieved of its frame
 abbrev pub scribbling : World → ℕ → ℕ → Option Instance → Result World Stop
-scribbling w inc act None = Err NotEnabled
-scribbling w inc act (Some i) = Ok (scribbled_by w inc act i (server.scribble i.core act))
+scribbling w inc act i = speaking w inc act (λ (v : Server). scribble v act) i
+
+abbrev pub asking : World → ℕ → ℕ → Option Instance → Result World Stop
+asking w inc act i = speaking w inc act (λ (v : Server). ask_deactivate v act) i
 
 -- the places that a plan names are those of the server that is called, and of an object in stock
 abbrev pub FitsCall : World → ℕ → Plan → Type 0

@@ -13,17 +13,23 @@ pub use world_report::report::ReportFault;
 use world_report::report::write_report;
 
 impl World {
-    /// Writes the report: a line for each frame, for each object, and for each content that was counted, by the
-    /// container and then by the servers.
+    /// Writes the report: a line for each frame, for each object, for each activation of a server that runs which has a
+    /// frame's grant, and for each content that was counted, by the container and then by the servers.
+    ///
+    /// Refused for want of memory, where nothing is written, and where a write fails.
     pub fn report<W: Write>(&self, alloc: Global, writer: &mut W) -> Result<(), ReportFault>
         ensures reported { OnOk result (Appends (W.contents writer.old) (W.contents writer.new) (report (shown (λ s. (⟦<dyn Embedded as Embedded>⟧ s.boxed.vtable).content s.boxed.value) self.now))) }
         ensures unwritten { IfErr result (λ fault. fault ≢ ReportFault.Unwritable → writer.new ≡ writer.old) }
     {
+        let Ok(holds) = self.state.holds(alloc) else {
+            return Err(ReportFault::NoMemory);
+        };
         write_report(
             alloc,
             writer,
-            self.state.host.core.frames(),
-            self.state.host.core.objects(),
+            self.state.host.core.all_frames(),
+            self.state.host.core.all_objects(),
+            &holds,
             &self.state.host.container_done,
             &self.state.host.server_done,
         )

@@ -1,30 +1,24 @@
 //! What a world is made of, and the events that happen in it.
 
-ghost use Rattle.std.specs.Prelude.{◌≡◌, ◌≤◌, ◌<◌, ◌+◌, ◌++◌, [], List, ℕ, IfErr, IfOk, IfSome, IsSome, MatchOption, None, OnErr, OnOk, Ok, Err, Some, length, map, option_map, slice_get, take, vec_len, vec_capacity};
+ghost use Rattle.std.specs.Prelude.{◌≡◌, ◌≤◌, ◌<◌, ◌+◌, ◌++◌, [], List, ℕ, IfErr, IfSome, IsSome, MatchOption, None, OnErr, OnOk, Ok, Err, Some, length, map, slice_get, take, vec_len, vec_capacity};
 ghost use Rattle.container_model.specs.Numbered.{IsNth};
 ghost use Rattle.wire_msgs.specs.Found.{nth, set_nth};
-ghost use Rattle.embed_core.specs.Kinds.{kind_of};
 ghost use Rattle.world_model.specs.declared.event.Event.{Event};
-ghost use Rattle.world_run.specs.declared.plan.Plan.TheVariants as plan;
 ghost use Rattle.world_host.specs.Servers.{ends_by};
-ghost use Rattle.world_run.specs.Plans.{Fits, IsCallOf, carried, carry, carry_call, scribbling, stock_with, tell};
+ghost use Rattle.world_run.specs.Plans.{tell};
 ghost use Rattle.world_run.specs.View.{seen, seen_instance, seen_stocked};
-ghost use Rattle.world_model.specs.World.{IsImage, Refuses, Run, StopsAt, delivered, empty_world, ended_at, fresh, limited, step, view_in};
+ghost use Rattle.world_model.specs.World.{IsImage, Refuses, Run, StopsAt, empty_world, ended_at, fresh, step, view_in};
 ghost use Rattle.world_model.specs.declared.event.Event.TheVariants as event;
 
-use crate::instance::{Instance, Stocked, end_of};
-use crate::plan::Plan;
+use crate::instance::{Instance, end_of};
 use crate::stock::Stock;
 use container_core::container::Limits;
 use container_model::command::Command;
 use container_objects::lookups::place;
 use embed_core::embedded::Embedded;
-use server_core::refusal::Refusal;
 use server_core::server::ServerCore;
-use server_model::fault::ServerFault;
 use std::alloc::Global;
 use wire_msgs::message::Message;
-use wire_msgs::operation::Operation;
 use world_host::host::{Host, Servers, add};
 use world_model::event::{Event, Stop};
 use world_model::life::Life;
@@ -100,7 +94,13 @@ impl State {
     }
 
     // A message comes to the container, from its place among those that were sent.
-    fn tell(&mut self, alloc: Global, p: u32, inc: u32, message: Message) -> Result<(), Stop>
+    pub(crate) fn tell(
+        &mut self,
+        alloc: Global,
+        p: u32,
+        inc: u32,
+        message: Message,
+    ) -> Result<(), Stop>
         ensures taken { OnOk result (tell (seen (λ s. content s.boxed) self.old) p inc message ≡ Ok (seen (λ s. content s.boxed) self.new)) }
         ensures refused { IfErr result (Refuses (tell (seen (λ s. content s.boxed) self.old) p inc message)) }
         ensures kept { OnErr result (seen (λ s. content s.boxed) self.new ≡ seen (λ s. content s.boxed) self.old) }
@@ -132,7 +132,7 @@ impl State {
 
     #[tactic(auto, using(crate::proofs::Servers::nth_at))]
     // The life of a server of this incarnation, and where it stands.
-    fn life(&self, inc: u32) -> Option<(usize, Life)>
+    pub(crate) fn life(&self, inc: u32) -> Option<(usize, Life)>
         ensures { MatchOption result (nth (seen (λ s. content s.boxed) self.now).instances inc ≡ None) (λ r. IsNth inc self.now.instances.items r.0 × IfSome (nth (seen (λ s. content s.boxed) self.now).instances inc) (λ x. x.life ≡ r.1) × IsSome (nth (seen (λ s. content s.boxed) self.now).instances inc)) }
     {
         match place(&self.instances, inc) {
@@ -229,7 +229,7 @@ impl State {
     }
 
     // The state of an activation of the server that stands at i.
-    fn view(&self, i: usize, act: u32) -> Option<View>
+    pub(crate) fn view(&self, i: usize, act: u32) -> Option<View>
         requires { i < length self.now.instances.items }
         ensures { IfSome (slice_get self.now.instances.items i) (λ x. result ≡ view_in (seen_instance (λ s. content s.boxed) x).core act) }
     {
@@ -241,269 +241,6 @@ impl State {
             }),
             None => None,
         }
-    }
-
-    // A call at the server that stands at i, which makes no activation.
-    fn serve(
-        &mut self,
-        alloc: Global,
-        i: usize,
-        inc: u32,
-        act: u32,
-        n: u32,
-        operation: Operation,
-    ) -> Result<(), Stop>
-        requires { IsNth inc self.old.instances.items i }
-        ensures taken { OnOk result (carry_call (seen (λ s. content s.boxed) self.old) inc act n operation (plan.Serve i) ≡ Ok (seen (λ s. content s.boxed) self.new)) }
-        ensures refused { IfErr result (Refuses (carry_call (seen (λ s. content s.boxed) self.old) inc act n operation (plan.Serve i))) }
-        ensures kept { OnErr result (seen (λ s. content s.boxed) self.new ≡ seen (λ s. content s.boxed) self.old) }
-    {
-        self.host.open()?;
-        let Ok(room) = self.host.reply_room(alloc) else {
-            return Err(Stop::NoMemory);
-        };
-        let view = self.view(i, act);
-        let message = Message::Call {
-            inc,
-            act,
-            n,
-            operation,
-        };
-        match self.instances[i].core.on_call(alloc, message, None) {
-            Ok(reaction) => {
-                self.host
-                    .replied(alloc, inc, view, reaction.reply, reaction.counted, room);
-                Ok(())
-            }
-            Err(refusal) => match refusal.fault {
-                ServerFault::NoMemory => Err(Stop::NoMemory),
-                fault => {
-                    self.host.dropped(fault);
-                    Ok(())
-                }
-            },
-        }
-    }
-
-    // An object that a server didn't use stands in stock again.
-    fn put_back(&mut self, at: usize, back: Option<Box<dyn Embedded>>)
-        requires place { at ≤ length self.old.stock.boxes.items }
-        requires room { vec_len self.old.stock.boxes < vec_capacity self.old.stock.boxes }
-        ensures host { self.new.host ≡ self.old.host }
-        ensures put { seen (λ s. content s.boxed) self.new ≡ record (seen (λ s. content s.boxed) self.old) { stock = stock_with (map (seen_stocked (λ s. content s.boxed)) self.old.stock.boxes.items) at (option_map (λ b. kind_of (content b)) back) } }
-    {
-        match back {
-            Some(boxed) => match self.stock.boxes.insert(at, Stocked { boxed }) {
-                Ok(()) => {}
-                Err(_) => unreachable!(),
-            },
-            None => {}
-        }
-    }
-
-    // A call at the server that stands at i, which makes an activation with the object that stands in stock.
-    fn begin(
-        &mut self,
-        alloc: Global,
-        i: usize,
-        at: usize,
-        inc: u32,
-        act: u32,
-        n: u32,
-        operation: Operation,
-    ) -> Result<(), Stop>
-        requires place { IsNth inc self.old.instances.items i }
-        requires stock { at < length self.old.stock.boxes.items }
-        ensures taken { OnOk result (carry_call (seen (λ s. content s.boxed) self.old) inc act n operation (plan.Begin i at) ≡ Ok (seen (λ s. content s.boxed) self.new)) }
-        ensures refused { IfErr result (Refuses (carry_call (seen (λ s. content s.boxed) self.old) inc act n operation (plan.Begin i at))) }
-        ensures kept { OnErr result (seen (λ s. content s.boxed) self.new ≡ seen (λ s. content s.boxed) self.old) }
-    {
-        self.host.open()?;
-        let Ok(room) = self.host.reply_room(alloc) else {
-            return Err(Stop::NoMemory);
-        };
-        let view = self.view(i, act);
-        let message = Message::Call {
-            inc,
-            act,
-            n,
-            operation,
-        };
-        let Stocked { boxed } = self.stock.boxes.remove(at);
-        match self.instances[i].core.on_call(alloc, message, Some(boxed)) {
-            Ok(reaction) => {
-                self.host
-                    .replied(alloc, inc, view, reaction.reply, reaction.counted, room);
-                Ok(())
-            }
-            Err(refusal) => {
-                let Refusal { fault, back } = refusal;
-                self.put_back(at, back);
-                match fault {
-                    ServerFault::NoMemory => Err(Stop::NoMemory),
-                    fault => {
-                        self.host.dropped(fault);
-                        Ok(())
-                    }
-                }
-            }
-        }
-    }
-
-    // What a call at a server comes to.
-    fn plan_call(&self, inc: u32, call: &Message) -> Result<Plan, Stop>
-        requires { IsCallOf inc call.now }
-        ensures planned { IfOk result (λ p. (delivered (seen (λ s. content s.boxed) self.now) call.now ≡ carried (seen (λ s. content s.boxed) self.now) call.now p) × Fits (seen (λ s. content s.boxed) self.now) call.now p) }
-        ensures refused { IfErr result (λ stop. delivered (seen (λ s. content s.boxed) self.now) call.now ≡ Err stop) }
-    {
-        let Some((i, life)) = self.life(inc) else {
-            return Ok(Plan::Quiet);
-        };
-        match life {
-            Life::Running => {}
-            Life::Ended | Life::Reaped => return Ok(Plan::Quiet),
-        }
-        let Some(class) = self.instances[i].core.wants(call) else {
-            return Ok(Plan::Serve(i));
-        };
-        match self.stock.place(class) {
-            Some(at) => Ok(Plan::Begin(i, at)),
-            None => Err(Stop::OutOfStock),
-        }
-    }
-
-    // What the delivery of a message comes to.
-    fn plan(&self, message: &Message) -> Result<Plan, Stop>
-        ensures planned { IfOk result (λ p. (delivered (seen (λ s. content s.boxed) self.now) message.now ≡ carried (seen (λ s. content s.boxed) self.now) message.now p) × Fits (seen (λ s. content s.boxed) self.now) message.now p) }
-        ensures refused { IfErr result (λ stop. delivered (seen (λ s. content s.boxed) self.now) message.now ≡ Err stop) }
-    {
-        match message {
-            Message::Call { inc, .. } => self.plan_call(*inc, message),
-            Message::Reply { inc, .. } | Message::Write { inc, .. } | Message::Ask { inc, .. } => {
-                Ok(Plan::Tell(*inc))
-            }
-        }
-    }
-
-    // What a plan says of the message at this place is done.
-    fn carry_out(&mut self, alloc: Global, p: u32, plan: Plan, message: Message) -> Result<(), Stop>
-        requires { Fits (seen (λ s. content s.boxed) self.old) message plan }
-        ensures taken { OnOk result (carry (seen (λ s. content s.boxed) self.old) p message plan ≡ Ok (seen (λ s. content s.boxed) self.new)) }
-        ensures refused { IfErr result (Refuses (carry (seen (λ s. content s.boxed) self.old) p message plan)) }
-        ensures kept { OnErr result (seen (λ s. content s.boxed) self.new ≡ seen (λ s. content s.boxed) self.old) }
-    {
-        match message {
-            Message::Call {
-                inc,
-                act,
-                n,
-                operation,
-            } => match plan {
-                Plan::Quiet => {
-                    self.host.open()?;
-                    self.host.quiet(alloc);
-                    Ok(())
-                }
-                Plan::Serve(i) => self.serve(alloc, i, inc, act, n, operation),
-                Plan::Begin(i, at) => self.begin(alloc, i, at, inc, act, n, operation),
-                Plan::Tell(_) => unreachable!(),
-            },
-            Message::Reply {
-                inc,
-                act,
-                n,
-                answer,
-            } => self.tell(
-                alloc,
-                p,
-                inc,
-                Message::Reply {
-                    inc,
-                    act,
-                    n,
-                    answer,
-                },
-            ),
-            Message::Write {
-                inc,
-                act,
-                s,
-                w,
-                content,
-            } => self.tell(
-                alloc,
-                p,
-                inc,
-                Message::Write {
-                    inc,
-                    act,
-                    s,
-                    w,
-                    content,
-                },
-            ),
-            Message::Ask { inc, act, g } => self.tell(alloc, p, inc, Message::Ask { inc, act, g }),
-        }
-    }
-
-    // A message that was sent is delivered.
-    fn deliver(&mut self, alloc: Global, p: u32) -> Result<(), Stop>
-        ensures taken { OnOk result (step (seen (λ s. content s.boxed) self.old) [] (event.Deliver p) ≡ Ok (seen (λ s. content s.boxed) self.new)) }
-        ensures refused { IfErr result (Refuses (step (seen (λ s. content s.boxed) self.old) [] (event.Deliver p))) }
-        ensures kept { OnErr result (seen (λ s. content s.boxed) self.new ≡ seen (λ s. content s.boxed) self.old) }
-    {
-        let Some(i) = place(&self.host.sent, p) else {
-            return Err(Stop::NotEnabled);
-        };
-        let plan = self.plan(&self.host.sent[i].message)?;
-        self.host.open()?;
-        let Ok(message) = self.host.sent[i].message.copy(alloc) else {
-            return Err(Stop::NoMemory);
-        };
-        self.carry_out(alloc, p, plan, message)
-    }
-
-    // The activation of a server that stands at i writes.
-    fn scribble_at(&mut self, alloc: Global, i: usize, inc: u32, act: u32) -> Result<(), Stop>
-        requires { IsNth inc self.old.instances.items i }
-        ensures taken { OnOk result (limited (seen (λ s. content s.boxed) self.old) (scribbling (seen (λ s. content s.boxed) self.old) inc act (slice_get (seen (λ s. content s.boxed) self.old).instances i)) ≡ Ok (seen (λ s. content s.boxed) self.new)) }
-        ensures refused { IfErr result (Refuses (limited (seen (λ s. content s.boxed) self.old) (scribbling (seen (λ s. content s.boxed) self.old) inc act (slice_get (seen (λ s. content s.boxed) self.old).instances i)))) }
-        ensures kept { OnErr result (seen (λ s. content s.boxed) self.new ≡ seen (λ s. content s.boxed) self.old) }
-    {
-        self.host.open()?;
-        let Ok(room) = self.host.reply_room(alloc) else {
-            return Err(Stop::NoMemory);
-        };
-        let view = self.view(i, act);
-        match self.instances[i].core.scribble(alloc, act) {
-            Ok(message) => {
-                self.host.replied(alloc, inc, view, message, None, room);
-                Ok(())
-            }
-            Err(fault) => match fault {
-                ServerFault::NoMemory => Err(Stop::NoMemory),
-                fault => {
-                    self.host.dropped(fault);
-                    Ok(())
-                }
-            },
-        }
-    }
-
-    // An activation of a server that runs writes.
-    fn scribble(&mut self, alloc: Global, inc: u32, act: u32) -> Result<(), Stop>
-        ensures taken { OnOk result (step (seen (λ s. content s.boxed) self.old) [] (event.Scribble inc act) ≡ Ok (seen (λ s. content s.boxed) self.new)) }
-        ensures refused { IfErr result (Refuses (step (seen (λ s. content s.boxed) self.old) [] (event.Scribble inc act))) }
-        ensures kept { OnErr result (seen (λ s. content s.boxed) self.new ≡ seen (λ s. content s.boxed) self.old) }
-    {
-        let Some((i, life)) = self.life(inc) else {
-            return Err(Stop::NotEnabled);
-        };
-        match life {
-            Life::Running => {}
-            Life::Ended | Life::Reaped => return Err(Stop::NotEnabled),
-        }
-        self.scribble_at(alloc, i, inc, act)
     }
 
     // An event happens.
@@ -519,6 +256,7 @@ impl State {
             Event::Reap(inc) => self.reap(alloc, *inc),
             Event::Done(f) => self.done(alloc, *f),
             Event::Scribble(inc, act) => self.scribble(alloc, *inc, *act),
+            Event::Ask(inc, act) => self.ask(alloc, *inc, *act),
         }
     }
 

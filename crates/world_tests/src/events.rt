@@ -38,18 +38,20 @@ fn command(alloc: Global, verb: &str, n: &str) -> Result<Command, AllocError> {
         [b'd', ..] => Ok(Command::Delete(1)),
         [b'e', ..] => Ok(Command::Edit(1, bytes(alloc, "i 0 ", number(n))?)),
         [b's', b'a', ..] => Ok(Command::Save(1)),
+        [b'v', ..] => Ok(Command::Verb(1, -4)),
         _ => Ok(Command::Start),
     }
 }
 
 /// `new`, `beside` for a second frame, `insert`, `start`, `run`, `edit:COUNT` of so many letters, `save`, `kill`, `close`,
-/// `delete`, `deliver:PLACE`, `scribble`, `crash`, `reap` or `done`.
+/// `delete`, `verb` for the one that leads to menus and border, `deliver:PLACE`, `scribble`, `ask`, `crash`, `reap` or `done`.
 fn event(alloc: Global, word: &str) -> Result<Event, AllocError> {
     let (verb, n) = halves(word, ":");
     match verb.as_bytes() {
         [b'd', b'e', b'l', b'i', ..] => Ok(Event::Deliver(number(n))),
         [b'd', b'o', ..] => Ok(Event::Done(1)),
         [b's', b'c', ..] => Ok(Event::Scribble(1, 1)),
+        [b'a', ..] => Ok(Event::Ask(1, 1)),
         [b'c', b'r', ..] => Ok(Event::Crash(1)),
         [b'r', b'e', ..] => Ok(Event::Reap(1)),
         _ => Ok(Event::Command(command(alloc, verb, n)?)),

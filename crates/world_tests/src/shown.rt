@@ -13,7 +13,7 @@ use world_run::world::World;
 /// How many events were taken, messages sent, and frames there are.
 pub(crate) fn sizes(alloc: Global, world: &World) -> Result<String, AllocError> {
     let (taken, sent) = (world.events_taken(), world.sent().len());
-    let frames = world.container().frames().len();
+    let frames = world.container().all_frames().len();
     format!(in alloc; "{taken} {sent} {frames}")
 }
 

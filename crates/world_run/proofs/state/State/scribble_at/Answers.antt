@@ -1,7 +1,7 @@
 use Rattle.std.proofs.Common.{◌∷◌, [], ◌++◌, ap, ◌∙◌, map, None, refl}
 use Rattle.std.specs.Prelude.{slice_get}
 use Rattle.std.proofs.Math.Seq.{map-set_same}
-use Rattle.server_model.specs.Server.{Server}
+use Rattle.server_model.specs.Server.{Server, scribble}
 use Rattle.world_run.specs.View.{seen, seen_instance}
 use Rattle.world_host.specs.View.{bare}
 use Rattle.world_model.specs.World.{World}
@@ -9,13 +9,13 @@ use Rattle.world_model.specs.declared.logs.EventAnswer.TheVariants as told
 use Rattle.world_host.specs.Rooms.{replied}
 use Rattle.world_run.proofs.Servers.{seen_at, set_at}
 use Rattle.world_run.proofs.Serving.{if_some, stands, same_world, refuses_told}
-use Rattle.world_run.proofs.Scribbling.{scribble_allowed, scribble_taken, scribble_dropped}
+use Rattle.world_run.proofs.OwnAccord.{speaks_allowed, speaks_taken, speaks_dropped}
 use Rattle.world_run.proofs.state.State.scribble_at.Goals as goal
 
 pub returns-in-Ok-scribble-clause-taken : goal.returns-in-Ok-scribble-clause-taken
 returns-in-Ok-scribble-clause-taken g c =
     let x = c.index_mut.result.now in
-    scribble_taken (seen (λ s. (goal.Embedded-dyn g (s.boxed.vtable, s.boxed.value)).content s.boxed.value) c.args.self.now) (bare c.replied.new.self) c.args.inc c.args.act (slice_get (map (seen_instance (λ s. (goal.Embedded-dyn g (s.boxed.vtable, s.boxed.value)).content s.boxed.value)) c.args.self.now.instances.items) c.args.i) ((seen_instance (λ s. (goal.Embedded-dyn g (s.boxed.vtable, s.boxed.value)).content s.boxed.value)) x) _ _ _ c.view-view.result c.in-Ok-scribble.message
+    speaks_taken (λ (v : Server). scribble v c.args.act) (seen (λ s. (goal.Embedded-dyn g (s.boxed.vtable, s.boxed.value)).content s.boxed.value) c.args.self.now) (bare c.replied.new.self) c.args.inc c.args.act (slice_get (map (seen_instance (λ s. (goal.Embedded-dyn g (s.boxed.vtable, s.boxed.value)).content s.boxed.value)) c.args.self.now.instances.items) c.args.i) ((seen_instance (λ s. (goal.Embedded-dyn g (s.boxed.vtable, s.boxed.value)).content s.boxed.value)) x) _ _ _ c.view-view.result c.in-Ok-scribble.message
     (seen_at (seen_instance (λ s. (goal.Embedded-dyn g (s.boxed.vtable, s.boxed.value)).content s.boxed.value)) c.args.self.now.instances.items c.args.i x c.requires.fits c.index_mut.ensures.value)
     c.in_ok-open.ensures.open
     c.in-Ok-scribble.ensures.told
@@ -27,7 +27,7 @@ returns-in-Ok-scribble-clause-taken g c =
 pub returns-in-NoMemory-clause-refused : goal.returns-in-NoMemory-clause-refused
 returns-in-NoMemory-clause-refused g c =
     let x = c.index_mut.result.now in
-    scribble_allowed (seen (λ s. (goal.Embedded-dyn g (s.boxed.vtable, s.boxed.value)).content s.boxed.value) c.args.self.now) c.args.inc c.args.act (slice_get (map (seen_instance (λ s. (goal.Embedded-dyn g (s.boxed.vtable, s.boxed.value)).content s.boxed.value)) c.args.self.now.instances.items) c.args.i) ((seen_instance (λ s. (goal.Embedded-dyn g (s.boxed.vtable, s.boxed.value)).content s.boxed.value)) x)
+    speaks_allowed (λ (v : Server). scribble v c.args.act) (seen (λ s. (goal.Embedded-dyn g (s.boxed.vtable, s.boxed.value)).content s.boxed.value) c.args.self.now) c.args.inc c.args.act (slice_get (map (seen_instance (λ s. (goal.Embedded-dyn g (s.boxed.vtable, s.boxed.value)).content s.boxed.value)) c.args.self.now.instances.items) c.args.i) ((seen_instance (λ s. (goal.Embedded-dyn g (s.boxed.vtable, s.boxed.value)).content s.boxed.value)) x)
     (seen_at (seen_instance (λ s. (goal.Embedded-dyn g (s.boxed.vtable, s.boxed.value)).content s.boxed.value)) c.args.self.now.instances.items c.args.i x c.requires.fits c.index_mut.ensures.value)
     c.in_ok-open.ensures.open
 
@@ -43,7 +43,7 @@ pub returns : goal.returns
 returns g c =
     let x = c.index_mut.result.now in
     record {
-      taken = scribble_dropped (seen (λ s. (goal.Embedded-dyn g (s.boxed.vtable, s.boxed.value)).content s.boxed.value) c.args.self.now) (bare c.dropped.new.self) c.args.inc c.args.act (slice_get (map (seen_instance (λ s. (goal.Embedded-dyn g (s.boxed.vtable, s.boxed.value)).content s.boxed.value)) c.args.self.now.instances.items) c.args.i) ((seen_instance (λ s. (goal.Embedded-dyn g (s.boxed.vtable, s.boxed.value)).content s.boxed.value)) x) _ _ c.in-Err.fault
+      taken = speaks_dropped (λ (v : Server). scribble v c.args.act) (seen (λ s. (goal.Embedded-dyn g (s.boxed.vtable, s.boxed.value)).content s.boxed.value) c.args.self.now) (bare c.dropped.new.self) c.args.inc c.args.act (slice_get (map (seen_instance (λ s. (goal.Embedded-dyn g (s.boxed.vtable, s.boxed.value)).content s.boxed.value)) c.args.self.now.instances.items) c.args.i) ((seen_instance (λ s. (goal.Embedded-dyn g (s.boxed.vtable, s.boxed.value)).content s.boxed.value)) x) _ _ c.in-Err.fault
           (seen_at (seen_instance (λ s. (goal.Embedded-dyn g (s.boxed.vtable, s.boxed.value)).content s.boxed.value)) c.args.self.now.instances.items c.args.i x c.requires.fits c.index_mut.ensures.value)
           c.in_ok-open.ensures.open
           (refuses_told _ c.in-Err.fault c.in-Err.ensures.refused c.in_default-fault.not-NoMemory)
