@@ -10,6 +10,7 @@ ghost use Rattle.container_model.specs.Replies.{pending_calls};
 ghost use Rattle.container_model.specs.Room.{IsSound};
 ghost use Rattle.container_model.specs.Saves.{commit_done, document_tree, image};
 ghost use Rattle.container_model.specs.declared.answer.Part.{Part};
+ghost use Rattle.container_screen.specs.Screen.{shown};
 ghost use Rattle.file_model.specs.Denotes.{Denotes};
 ghost use Rattle.wire_msgs.specs.Found.{find, nth};
 
@@ -25,6 +26,7 @@ use container_model::command::Command;
 use container_model::fault::ContainerFault;
 use container_model::record::{Frame, Object};
 use container_objects::lookups::{frame_numbers, object_numbers};
+use container_screen::screen::screen;
 use std::alloc::{AllocError, Global};
 use std::marker::Model;
 use wire_msgs::items::Items;
@@ -290,5 +292,21 @@ impl ContainerCore {
     {
         let (_, file) = self.commit_image(alloc, f)?;
         Ok(file)
+    }
+
+    /// What a frame shows, as text: the line of its menus, then each line of its cells.
+    ///
+    /// Refused: `NoSuch` where there is no such frame; then `NoMemory`.
+    pub fn screen(&self, alloc: Global, f: u32) -> Result<Vec<u8>, ContainerFault>
+        ensures shown { IfOk result (λ text. shown self.now f ≡ Ok text.items) }
+        ensures refused { IfErr result (Refuses (shown self.now f)) }
+    {
+        let Some(frame) = self.state.frame(f) else {
+            return Err(ContainerFault::NoSuch);
+        };
+        match screen(alloc, f, frame, self.state.objects()) {
+            Ok(text) => Ok(text),
+            Err(_) => Err(ContainerFault::NoMemory),
+        }
     }
 }

@@ -1,9 +1,13 @@
 -- What a frame shows, as text: a line of its menus, then each line of its cells.
-use Rattle.std.specs.Prelude.{◌+◌, ◌-◌, ◌==◌, ◌&&◌, ◌||◌, ◌++◌, ℕ, zero, suc, Bool, List, [], ◌∷◌, Option, Some, None, if◌then◌else◌, nat_le, nat_lt, drop, replicate, take, slice_get, slice_index}
+use Rattle.std.specs.Prelude.{◌+◌, ◌-◌, ◌==◌, ◌&&◌, ◌||◌, ◌++◌, ℕ, zero, suc, Bool, List, [], ◌∷◌, Option, Some, None, Result, Ok, Err, if◌then◌else◌, nat_le, nat_lt, drop, replicate, take, slice_get, slice_index}
 use Rattle.std.specs.List.{flat_map}
 use Rattle.grant_core.specs.Frames.{Ui, border_of, menu_of}
 use Rattle.object_parts.specs.declared.area.Area.{Area}
 use Rattle.ole_parts.specs.Presentations.{lines_read}
+use Rattle.wire_msgs.specs.Found.{nth}
+use Rattle.container_model.specs.Record.{Record}
+use Rattle.container_model.specs.declared.fault.ContainerFault.{ContainerFault}
+use Rattle.container_model.specs.declared.fault.ContainerFault.TheVariants.{NoSuch}
 use Rattle.container_model.specs.declared.record.Frame.{Frame}
 use Rattle.container_model.specs.declared.record.Object.{Object}
 
@@ -100,3 +104,11 @@ rows f ui os (suc n) = rows f ui os n ++ row f ui os n
 -- the frame of number f, whose objects are among these
 abbrev pub screen : ℕ → Frame → List Object → List ℕ
 screen f frame os = menu_line (menu_of frame.ui.state) ++ rows f frame.ui os frame.ui.height
+
+-- what a container shows of the frame of this number
+abbrev pub shown_in : Record → ℕ → Option Frame → Result (List ℕ) ContainerFault
+shown_in r f None = Err NoSuch
+shown_in r f (Some frame) = Ok (screen f frame r.objects)
+
+abbrev pub shown : Record → ℕ → Result (List ℕ) ContainerFault
+shown r f = shown_in r f (nth r.frames f)
