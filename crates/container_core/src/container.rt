@@ -69,6 +69,7 @@ impl ContainerCore {
     ghost use Rattle.container_model.specs.Room.{IsSound};
     ghost use Rattle.container_model.specs.Saves.{commit_done, document_tree, image};
     ghost use Rattle.container_model.specs.declared.answer.Part.{Part};
+    ghost use Rattle.container_screen.specs.Screen.{shown};
     ghost use Rattle.file_model.specs.Denotes.{Denotes};
     ghost use Rattle.wire_msgs.specs.Found.{find, nth};
 
