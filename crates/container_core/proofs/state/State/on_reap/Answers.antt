@@ -1,4 +1,4 @@
-use Rattle.std.proofs.Common.{◌≡◌, ◌≤◌, ◌++◌, ◌+◌, ℕ, true, List, length, map, ap, arith, rules, subst, sym, ◌∙◌}
+use Rattle.std.proofs.Common.{◌≡◌, ◌≤◌, ◌++◌, ◌+◌, ℕ, true, List, length, map, ap, arith, rules, subst, sym, vec_len, ◌∙◌}
 use Rattle.std.proofs.lemmas.List.{length-map}
 use Rattle.container_model.specs.Grants.{freed_claims, freed_frame}
 use Rattle.container_model.specs.Record.{Record, acts, is_alive}
@@ -40,4 +40,9 @@ returns-clause-few c =
     let few : length c.in-Ok.grants.items ≤ length r.objects =
     rw (ready_is, length-map (freed_claims c.args.inc r.objects r.frames) (ready r.objects)) (freed_few c.args.inc r.objects 1 (freed_claims c.args.inc r.objects r.frames) (freed_all c.args.inc r steady)) in
     let objects : length c.args.self.now.objects ≡ length r.objects = ap (λ (x : Record). length x.objects) v in
-    search (rules, few, objects)
+    let frames : length c.args.self.now.frames ≡ length r.frames = ap (λ (x : Record). length x.frames) v in
+    let freed : length c.free_frames.new.frames.items ≡ length r.frames = ap length c.free_frames.ensures ∙ length-map r.frames (freed_frame c.args.inc c.as_slice-3.result.now) in
+    let granted : vec_len c.in-Ok.grants ≡ length c.in-Ok.grants.items = search rules in
+    let all : vec_len c.settle_into.new.actions ≡ length c.settle_into.new.actions.items = search rules in
+    let told : length c.acts.result.actions ≡ length c.settle_into.new.actions.items = ap (λ a. length a.actions) c.acts.ensures ∙ ap length c.from_vec.ensures in
+    omega (arith, few, objects, frames, freed, granted, all, told, c.settle_into.ensures.few, c.take_grants.ensures.few, c.in-Ok-with_capacity.ensures.len)
