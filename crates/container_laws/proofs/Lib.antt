@@ -2,6 +2,11 @@ pub mod ClosesTaken
 pub mod EditsTaken
 pub mod MessageLaws
 pub mod CommitsLaws
+pub mod SoundGrants
+pub mod SoundMoves
+pub mod SoundReaps
+pub mod SoundRooms
+pub mod SoundSaves
 pub mod SteadyAsks
 pub mod SteadyCloses
 pub mod SteadyCommands

@@ -3,4 +3,5 @@
 
 pub mod commit_laws;
 pub mod laws;
+pub mod sound_laws;
 pub mod steady_laws;
