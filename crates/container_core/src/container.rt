@@ -15,7 +15,7 @@ ghost use Rattle.file_model.specs.Denotes.{Denotes};
 ghost use Rattle.wire_msgs.specs.Found.{find, nth};
 
 use crate::state::State;
-use container_laws::sound_laws::{
+use container_numbers::sound_laws::{
     sound_after_commands, sound_after_commits, sound_after_messages, sound_after_reaps,
 };
 use container_laws::steady_laws::{

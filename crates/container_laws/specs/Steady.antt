@@ -33,7 +33,6 @@ use Rattle.container_model.specs.declared.command.Command.{Command}
 use Rattle.container_model.specs.declared.fault.ContainerFault.{ContainerFault}
 use Rattle.container_model.specs.declared.fault.ContainerFault.TheVariants.{Full}
 use Rattle.container_model.specs.Record.{Record, Took, MOST_OBJECTS, count_objects, empty, is_object, is_linked, is_unreaped}
-use Rattle.container_model.specs.Room.{IsSound}
 use Rattle.container_model.specs.Saves.{commit_done, document, document_tree, image, is_document, kept, parts_in}
 use Rattle.container_model.specs.Messages.{awaits_save, on_message, on_reap}
 use Rattle.container_model.specs.Commands.{on_command}
@@ -201,19 +200,6 @@ SteadyAfterReaps = (r : Record) (inc : ℕ) (t : Took) → Steady r → on_reap 
 
 abbrev pub SteadyAfterCommits : Type 0
 SteadyAfterCommits = (r : Record) (f : ℕ) (t : Took) → Steady r → commit_done r f ≡ Ok t → Steady t.rec
-
--- and so it stays within its numbers
-abbrev pub SoundAfterCommands : Type 0
-SoundAfterCommands = (r : Record) (c : Command) (t : Took) → Steady r → IsSound r → on_command r c ≡ Ok t → IsSound t.rec
-
-abbrev pub SoundAfterMessages : Type 0
-SoundAfterMessages = (r : Record) (link : ℕ) (m : Message) (t : Took) → Steady r → IsSound r → on_message r link m ≡ Ok t → IsSound t.rec
-
-abbrev pub SoundAfterReaps : Type 0
-SoundAfterReaps = (r : Record) (inc : ℕ) (t : Took) → Steady r → IsSound r → on_reap r inc ≡ Ok t → IsSound t.rec
-
-abbrev pub SoundAfterCommits : Type 0
-SoundAfterCommits = (r : Record) (f : ℕ) (t : Took) → Steady r → IsSound r → commit_done r f ≡ Ok t → IsSound t.rec
 
 -- an answer that fits an operation, with a content that may be stored where it has one
 abbrev pub Fits : Operation → Answer → Type 0

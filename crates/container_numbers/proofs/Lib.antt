@@ -1,0 +1,5 @@
+pub mod SoundGrants
+pub mod SoundMoves
+pub mod SoundReaps
+pub mod SoundRooms
+pub mod SoundSaves

@@ -1,0 +1,23 @@
+-- Laws of a container's numbers: a step leaves a record within them.
+use Rattle.std.specs.Prelude.{◌≡◌, ℕ, Ok}
+use Rattle.wire_msgs.specs.declared.message.Message.{Message}
+use Rattle.container_model.specs.declared.command.Command.{Command}
+use Rattle.container_model.specs.Record.{Record, Took}
+use Rattle.container_model.specs.Commands.{on_command}
+use Rattle.container_model.specs.Messages.{on_message, on_reap}
+use Rattle.container_model.specs.Room.{IsSound}
+use Rattle.container_model.specs.Saves.{commit_done}
+use Rattle.container_laws.specs.Steady.{Steady}
+
+abbrev pub SoundAfterCommands : Type 0
+SoundAfterCommands = (r : Record) (c : Command) (t : Took) → Steady r → IsSound r → on_command r c ≡ Ok t → IsSound t.rec
+
+abbrev pub SoundAfterMessages : Type 0
+SoundAfterMessages = (r : Record) (link : ℕ) (m : Message) (t : Took) → Steady r → IsSound r → on_message r link m ≡ Ok t → IsSound t.rec
+
+abbrev pub SoundAfterReaps : Type 0
+SoundAfterReaps = (r : Record) (inc : ℕ) (t : Took) → Steady r → IsSound r → on_reap r inc ≡ Ok t → IsSound t.rec
+
+abbrev pub SoundAfterCommits : Type 0
+SoundAfterCommits = (r : Record) (f : ℕ) (t : Took) → Steady r → IsSound r → commit_done r f ≡ Ok t → IsSound t.rec
+
