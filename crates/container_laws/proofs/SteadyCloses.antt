@@ -1,97 +1,21 @@
--- A close is the last operation of its queue, and its storage may be written into.
-use Rattle.std.proofs.Common.{◌≡◌, ℕ, Bool, false, List, [], ◌∷◌, Option, Some, Result, Ok, Err, refl, sym, ap, ◌∙◌, subst}
-use Rattle.std.specs.Prelude.{◌||◌, IsOkAnd}
+-- An object that is being closed has its storage open.
+use Rattle.std.proofs.Common.{◌≡◌, List, ◌∷◌, Option, Some, subst}
 use Rattle.std.specs.List.{AllByRecursion}
 use Rattle.wire_msgs.specs.Found.{nth}
-use Rattle.wire_msgs.specs.Operations.{op_of}
 use Rattle.wire_msgs.specs.declared.operation.Operation.{Operation}
-use Rattle.wire_msgs.specs.declared.operation.Operation.TheVariants.{InitNew, Load, Edit, Save, SaveCompleted, Close}
-use Rattle.object_state.specs.Persists as persist
-use Rattle.object_state.specs.Persists.{may_write}
-use Rattle.object_state.specs.Objects as object
-use Rattle.object_state.specs.declared.both_states.States.{States}
-use Rattle.object_state.specs.declared.faults.StateFault.{StateFault}
-use Rattle.object_state.specs.declared.faults.StateFault.TheVariants.{WrongState}
-use Rattle.object_state.specs.declared.operations.CloseOption.{CloseOption}
-use Rattle.object_state.specs.declared.operations.Op.TheVariants as op
-use Rattle.object_state.specs.declared.object_states.ObjectState.{ObjectState}
-use Rattle.object_state.specs.declared.object_states.ObjectState.TheVariants.{Passive, Running}
-use Rattle.object_state.specs.declared.persist_states.Persist.{Persist}
-use Rattle.object_state.specs.declared.persist_states.PersistState.{PersistState}
-use Rattle.object_state.specs.declared.persist_states.PersistState.TheVariants.{Unset, Normal, NoScribble}
-use Rattle.object_state.specs.declared.persist_states.PersistState.TheVariants as state
-use Rattle.storage_tree.specs.declared.stored.Stored.{Stored}
-use Rattle.container_model.specs.declared.record.Link.{Link}
+use Rattle.wire_msgs.specs.declared.operation.Operation.TheVariants.{Close}
 use Rattle.container_model.specs.declared.record.Phase.{Phase}
-use Rattle.container_model.specs.declared.record.Phase.TheVariants.{Idle}
-use Rattle.container_model.specs.Messages.{has_save, is_save_pending}
-use Rattle.container_laws.specs.Steady.{queue_of, ended, IsRunning, EndsWell, IsTimely, SteadyLink, SteadyObject, IsOpenWhileClosing, ClosesAreOpen}
+use Rattle.container_laws.specs.Roles.{role_in}
+use Rattle.container_laws.specs.Steady.{queue_of, IsTimely, SteadyLink, SteadyObject, ClosesAreOpen}
+use Rattle.container_laws.proofs.SteadyEnding.{closing_open}
 use Rattle.container_laws.proofs.SteadyLookups.{each_found}
-use Rattle.container_laws.proofs.SteadyQueues.{joined_ok, taken}
 use Rattle.container_laws.proofs.SteadyRecords.{some_and, if_at, Held}
-
--- a passive object takes no operation that may stand in a queue
-passive_refuses : (saved : Option Stored) (x : Operation) → IsTimely Idle saved x → object.table (op_of x) Passive ≡ Err WrongState
-passive_refuses saved (InitNew class) t = refl
-passive_refuses saved (Load class content) t = refl
-passive_refuses saved (Edit bytes) t = refl
-passive_refuses saved (Save k) t = refl
-passive_refuses saved (SaveCompleted k storage) t = refl
-passive_refuses saved (Close option) t = refl
-passive_refuses saved _ t = absurd t
-
-nothing_more : (saved : Option Stored) (P : States → Type 0) (ops : List Operation) (w : States) → w.object ≡ Passive → AllByRecursion (IsTimely Idle saved) ops → IsOkAnd (ended (Ok w) ops) P → ops ≡ []
-nothing_more saved P [] w passive t h = refl
-nothing_more saved P (x ∷ ops) w passive t h =
-    let step = taken P w x ops h in
-    let at = (joined_ok (persist.step w.persist (op_of x)) (object.step w.object (op_of x)) step.0 step.1).1 in
-    let refused : object.table (op_of x) w.object ≡ Err WrongState = ap (object.table (op_of x)) passive ∙ passive_refuses saved x t.0 in
-    absurd (let no : ◌≡◌ {A = Result ObjectState StateFault} (Err WrongState) (Ok step.0.object) = sym refused ∙ at in cc)
-
--- what a close is taken in, and leads to
-closes_running : (option : CloseOption) (s t : ObjectState) → object.table (op.Close option) s ≡ Ok t → IsRunning s × (t ≡ Passive)
-closes_running option Running t e = (tt, (let same : Passive ≡ t = cc in sym same))
-closes_running option _ t e = absurd (cc)
-
-closes_normal_at : (option : CloseOption) (s : PersistState) (last : Option ℕ) (q : Persist) → persist.step (record { state = s; last_save = last }) (op.Close option) ≡ Ok q → q.state ≡ Normal → s ≡ Normal
-closes_normal_at option Unset last q e n = cc
-closes_normal_at option Normal last q e n = refl
-closes_normal_at option NoScribble last q e n =
-    let at : record { state = NoScribble; last_save = last } ≡ q = cc in
-    ap (λ (z : Persist). z.state) at ∙ n
-closes_normal_at option state.HandsOff last q e n =
-    let at : record { state = state.HandsOff; last_save = last } ≡ q = cc in
-    ap (λ (z : Persist). z.state) at ∙ n
-
-closes_normal : (option : CloseOption) (p q : Persist) → persist.step p (op.Close option) ≡ Ok q → q.state ≡ Normal → p.state ≡ Normal
-closes_normal option p q e n = closes_normal_at option p.state p.last_save q e n
-
-module _ (servers : List Bool) (last_act k : ℕ) (l : Link) (h : SteadyLink servers last_act Idle k l) (option : CloseOption) (pending : l.pending ≡ Some (Close option)) where
-  runs : IsOkAnd (ended (Ok l.states) (Close option ∷ l.waiting)) (EndsWell Idle k)
-  runs = subst (λ (p : Option Operation). IsOkAnd (ended (Ok l.states) (queue_of p l.waiting)) (EndsWell Idle k)) pending h.queue_runs
-
-  timely : AllByRecursion (IsTimely Idle l.saved) (Close option ∷ l.waiting)
-  timely = subst (λ (p : Option Operation). AllByRecursion (IsTimely Idle l.saved) (queue_of p l.waiting)) pending h.save_in_queue
-
-  pub closing_open : IsOpenWhileClosing l
-  closing_open =
-      let step = taken (EndsWell Idle k) l.states (Close option) l.waiting runs in
-      let at = joined_ok (persist.step l.states.persist (op.Close option)) (object.step l.states.object (op.Close option)) step.0 step.1 in
-      let closes = closes_running option l.states.object step.0.object at.1 in
-      let none = nothing_more l.saved (EndsWell Idle k) l.waiting step.0 closes.1 timely.1 step.2 in
-      let ends : EndsWell Idle k step.0 = subst (λ (ws : List Operation). IsOkAnd (ended (Ok step.0) ws) (EndsWell Idle k)) none step.2 in
-      record {
-        storage = ap may_write (closes_normal option l.states.persist step.0.persist at.0 ends.storage);
-        running = closes.0;
-        last = none;
-        unasked = ap (λ (p : Option Operation). is_save_pending p || has_save l.waiting) pending ∙ ap (λ (ws : List Operation). false || has_save ws) none;
-        unsaved = h.saved_known;
-      }
 
 pub closes-are_open : ClosesAreOpen
 closes-are_open r test o l option s found is pending =
     let h = each_found (SteadyObject r) test r.objects o s.objects found in
-    let at = some_and (Held r o.link) (nth r.frames o.frame) h.linked in
-    let held = if_at (SteadyLink r.servers r.last_act at.0.phase at.0.k) o.link l is at.2 in
+    let at = some_and (Held r o.number o.link) (nth r.frames o.frame) h.linked in
+    let role = role_in at.0.ui.state o.number in
+    let held = if_at (SteadyLink r.servers r.last_act at.0.phase at.0.k role) o.link l is at.2 in
     let timely : AllByRecursion (IsTimely at.0.phase l.saved) (Close option ∷ l.waiting) = subst (λ (p : Option Operation). AllByRecursion (IsTimely at.0.phase l.saved) (queue_of p l.waiting)) pending held.save_in_queue in
-    closing_open r.servers r.last_act at.0.k l (subst (λ (p : Phase). SteadyLink r.servers r.last_act p at.0.k l) timely.0 held) option pending
+    closing_open r.servers r.last_act at.0.k role l (subst (λ (p : Phase). SteadyLink r.servers r.last_act p at.0.k role l) timely.0 held) option pending

@@ -1,5 +1,5 @@
 -- A commit that is done keeps a record steady, and what it wrote.
-use Rattle.std.proofs.Common.{◌≡◌, ◌≤◌, ℕ, Bool, true, false, List, Option, Some, None, Result, Ok, Err, refl, sym, ap, ◌∙◌, subst, ◌==◌, if◌then◌else◌}
+use Rattle.std.proofs.Common.{◌≡◌, ◌≤◌, inl, inr, arith, ℕ, Bool, true, false, List, Option, Some, None, Result, Ok, Err, refl, sym, ap, ◌∙◌, subst, ◌==◌, if◌then◌else◌}
 use Rattle.std.proofs.lemmas.Bool.{eqb-true, eqb-false}
 use Rattle.std.specs.Prelude.{IfSome, is_some}
 use Rattle.wire_msgs.specs.Found.{nth}
@@ -15,21 +15,29 @@ use Rattle.container_model.specs.declared.fault.ContainerFault.{ContainerFault}
 use Rattle.container_model.specs.declared.fault.ContainerFault.TheVariants.{WrongState}
 use Rattle.container_model.specs.Record.{Record, Took, MOST_OBJECTS, is_object, asked_link, asked_object}
 use Rattle.container_model.specs.Saves.{kept, kept_by, kept_in, cleared, completion, completed, committed_frame, is_some_name, commit_made, is_committing, commit_fitting, commit_at, image}
+use Rattle.grant_core.specs.declared.grant_states.GrantState.{GrantState}
+use Rattle.container_laws.specs.Roles.{Role, SteadyGrant, role_in}
 use Rattle.container_laws.specs.Steady.{SteadyLink, SteadyObject, SteadyFrame, IsSavedIn, InOrder, Steady, SteadyAfterCommits, CommitsAnsweredContents}
 use Rattle.container_laws.proofs.SteadyLookups.{each_found, each_map, each_set, pairs_map}
 use Rattle.container_laws.proofs.SteadyCounts.{count_map}
 use Rattle.container_laws.proofs.SteadyLinks.{completion_asked}
 use Rattle.container_laws.proofs.SteadyRecords.{if_told, at_some, if_at, Held, kept_object_within, Follows, TookPlace, order_both}
-use Rattle.container_laws.proofs.SteadyCommands.{asked_follows, set_object, unset_object}
+use Rattle.container_laws.proofs.SteadyClaims.{LinkStays, claim_kept, grant_kept, keeps_map, set_back}
+use Rattle.container_laws.proofs.SteadyMoves.{set_object, unset_object}
+use Rattle.container_laws.proofs.SteadyTests.{asked_follows, link_asked}
 
 -- an object of the frame is told
-completed_held : (servers : List Bool) (last_act k : ℕ) (storage : Bool) (phase : Phase) (link : Option Link) → phase ≡ Committing → IfSome link (SteadyLink servers last_act phase k) → IfSome (asked_link (SaveCompleted k storage) (cleared link)) (SteadyLink servers last_act Idle k)
-completed_held servers last_act k storage phase None p h = tt
-completed_held servers last_act k storage phase (Some l) p h = completion_asked servers last_act k storage l (subst (λ (z : Phase). SteadyLink servers last_act z k l) p h)
+completed_held : (servers : List Bool) (last_act k : ℕ) (role : Role) (storage : Bool) (phase : Phase) (link : Option Link) → phase ≡ Committing → IfSome link (SteadyLink servers last_act phase k role) → IfSome (asked_link (SaveCompleted k storage) (cleared link)) (SteadyLink servers last_act Idle k role)
+completed_held servers last_act k role storage phase None p h = tt
+completed_held servers last_act k role storage phase (Some l) p h = completion_asked servers last_act k role storage l (subst (λ (z : Phase). SteadyLink servers last_act z k role l) p h)
 
 cleared_follows : (op : Operation) (link : Option Link) → Follows (asked_link op (cleared link)) link
 cleared_follows op None l e = cc
 cleared_follows op (Some m) l e = (let f = asked_follows op (Some (record m { saved = None })) l e in let q = f.1 in let same : record m { saved = None } ≡ f.0 = cc in (m, refl, f.2 ∙ sym (ap (λ (z : Link). z.act) same)))
+
+cleared_stays : (op : Operation) (link : Option Link) → LinkStays link (asked_link op (cleared link))
+cleared_stays op None l e = cc
+cleared_stays op (Some m) l e = (let same : m ≡ l = cc in let f = link_asked op (Some (record m { saved = None })) (record m { saved = None }) refl in (f.0, f.1, f.2 ∙ ap (λ (z : Link). z.act) same))
 
 -- what becomes of an object, whether it is of the frame or not
 pub completed_if : (P : Object → Type 0) (f : ℕ) (frame : Frame) (o : Object) → (o.frame ≡ f → P (record o { work = kept o; link = asked_link (completion frame) (cleared o.link) })) → ((o.frame ≡ f → ⊥) → P o) → P (completed f frame o)
@@ -49,10 +57,17 @@ module _ (r : Record) (f : ℕ) (frame : Frame) (s : Steady r) (at : nth r.frame
 
   completed_steady : (o : Object) → SteadyObject r o → SteadyObject after (completed f frame o)
   completed_steady o h = completed_if (SteadyObject after) f frame o
-      (λ here. let was = at_some (Held r o.link) (nth r.frames o.frame) frame (ap (nth r.frames) here ∙ at) h.linked in
+      (λ here. let was = at_some (Held r o.number o.link) (nth r.frames o.frame) frame (ap (nth r.frames) here ∙ at) h.linked in
       set_object r after f frame (committed_frame frame) o (record o { work = kept o; link = asked_link (completion frame) (cleared o.link) }) at refl here refl refl refl (kept_object_within r o frame h.within was) refl h
-      (completed_held r.servers r.last_act frame.k (is_some_name frame.asked) frame.phase o.link committing))
+      (completed_held r.servers r.last_act frame.k (role_in frame.ui.state o.number) (is_some_name frame.asked) frame.phase o.link committing))
       (λ other. unset_object r after f (committed_frame frame) o refl other refl refl refl h)
+
+  completed_stays : (o : Object) → LinkStays o.link (completed f frame o).link
+  completed_stays o = completed_if (λ (z : Object). LinkStays o.link z.link) f frame o (λ e. cleared_stays (completion frame) o.link) (λ e l g. (l, g, refl))
+
+  grants_stay : (i : ℕ) (x : GrantState) → SteadyGrant r i x → SteadyGrant after i x
+  grants_stay i x h = grant_kept r after i x (λ c names k. claim_kept r after i c
+      (keeps_map r.objects c.object (completed f frame) (λ y. (completed_took f frame y).number) (λ y. (completed_took f frame y).frame) (λ y found. completed_stays y)) (omega arith) k) h
 
   pub commit_steady : Steady after
   commit_steady = record {
@@ -60,6 +75,10 @@ module _ (r : Record) (f : ℕ) (frame : Frame) (s : Steady r) (at : nth r.frame
     objects = each_map (SteadyObject r) (SteadyObject after) (completed f frame) r.objects completed_steady s.objects;
     order = pairs_map InOrder (completed f frame) r.objects (order_both (completed f frame) (completed_took f frame)) s.order;
     count = λ g. subst (λ (n : ℕ). n ≤ MOST_OBJECTS) (sym (count_map g (completed f frame) r.objects (λ o. (completed_took f frame o).frame))) (s.count g);
+    grants = λ i x e. elim (set_back r.frames f i frame (committed_frame frame) x at e) [
+      | inl same ↦ subst (λ (y : Frame). SteadyGrant after i y.ui.state) same.1 (subst (λ (n : ℕ). SteadyGrant after n frame.ui.state) same.0 (grants_stay f frame.ui.state (s.grants f frame at)))
+      | inr other ↦ grants_stay i x.ui.state (s.grants i x other)
+    ];
   }
 
 pub committing_by : (phase : Phase) → is_committing phase ≡ true → phase ≡ Committing
@@ -88,7 +107,7 @@ there (Some x) e = (x, refl)
 pub commits_answered_contents : CommitsAnsweredContents
 commits_answered_contents r n o l frame s found is at committing =
     let h = each_found (SteadyObject r) (is_object n) r.objects o s.objects found in
-    let held = if_at (SteadyLink r.servers r.last_act frame.phase frame.k) o.link l is (at_some (Held r o.link) (nth r.frames o.frame) frame at h.linked) in
+    let held = if_at (SteadyLink r.servers r.last_act frame.phase frame.k (role_in frame.ui.state o.number)) o.link l is (at_some (Held r o.number o.link) (nth r.frames o.frame) frame at h.linked) in
     let known : IsSavedIn Committing l.saved = subst (λ (z : Phase). IsSavedIn z l.saved) committing held.saved_known in
     let c = there l.saved known in
     (c.0, c.1, ap (kept_by o.work) is ∙ ap (kept_in o.work) c.1)

@@ -37,7 +37,7 @@ parts_counted f (o ∷ os) = elim (o.frame == f) as (λ b. length (document (if 
 -- each within its limits
 object_held : (r : Record) (o : Object) → SteadyObject r o → (is_within (kept o) && nat_lt (length o.user_type) PAST_USER_TYPE) ≡ true
 object_held r o h =
-    let s = some_and (Held r o.link) (nth r.frames o.frame) h.linked in
+    let s = some_and (Held r o.number o.link) (nth r.frames o.frame) h.linked in
     both_hold (is_within (kept o)) (nat_lt (length o.user_type) PAST_USER_TYPE) (kept_object_within r o s.0 h.within s.2) h.user_type
 
 parts_held : (r : Record) (f : ℕ) (os : List Object) → AllByRecursion (SteadyObject r) os → are_objects (document (parts_in f os)) ≡ true

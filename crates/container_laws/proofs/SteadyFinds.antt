@@ -9,7 +9,7 @@ use Rattle.container_model.specs.declared.record.Object.{Object}
 use Rattle.container_model.specs.Record.{is_object, is_link, is_linked, without_first}
 use Rattle.container_laws.specs.Steady.{InOrder, EachPair, OneObjectAnActivation}
 use Rattle.container_laws.proofs.SteadyLookups.{each_found}
-use Rattle.container_laws.proofs.SteadyRecords.{if_at}
+use Rattle.container_laws.proofs.SteadyTells.{if_at}
 
 -- an object that stands further on has another number
 pub number_apart : (y x : Object) → InOrder y x → (y.number == x.number) ≡ false
@@ -110,7 +110,7 @@ found_by_link test (y ∷ ys) o l h e is = elim (test y) as (λ b. (if b then So
 ] e
 
 -- an activation is of one object
-acts_differ : (os : List Object) (n m : ℕ) (o p : Object) (l k : Link) → EachPair InOrder os → find (is_object n) os ≡ Some o → find (is_object m) os ≡ Some p → o.link ≡ Some l → p.link ≡ Some k → l.act ≡ k.act → n ≡ m
+pub acts_differ : (os : List Object) (n m : ℕ) (o p : Object) (l k : Link) → EachPair InOrder os → find (is_object n) os ≡ Some o → find (is_object m) os ≡ Some p → o.link ≡ Some l → p.link ≡ Some k → l.act ≡ k.act → n ≡ m
 acts_differ [] n m o p l k h e g is was same = cc
 acts_differ (y ∷ ys) n m o p l k h e g is was same =
     elim (y.number == n) as (λ b. (y.number == n) ≡ b → (if b then Some y else find (is_object n) ys) ≡ Some o → n ≡ m) [

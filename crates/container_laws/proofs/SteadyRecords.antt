@@ -1,72 +1,48 @@
 -- Records: what keeps each object steady.
-use Rattle.std.proofs.Common.{◌≡◌, ◌≤◌, ◌<◌, ℕ, Bool, true, false, List, [], ◌∷◌, Option, Some, None, Result, Ok, refl, sym, ◌∙◌, arith, subst, if◌then◌else◌}
+use Rattle.std.proofs.Common.{◌≡◌, ◌≤◌, ◌<◌, ◌⊎◌, inl, inr, ap, ℕ, Bool, true, false, List, [], ◌∷◌, Option, Some, None, Result, Ok, refl, sym, ◌∙◌, arith, subst, if◌then◌else◌}
 use Rattle.std.specs.Prelude.{◌||◌, IsSomeAnd, IfSome, is_some}
 use Rattle.std.specs.List.{AllByRecursion}
 use Rattle.wire_msgs.specs.Found.{find, put, nth}
 use Rattle.object_parts.specs.Limits.{is_within}
 use Rattle.storage_tree.specs.declared.stored.Stored.{Stored}
+use Rattle.grant_core.specs.Frames.{Ui}
+use Rattle.grant_core.specs.declared.grant_states.Claim.{Claim}
 use Rattle.container_model.specs.declared.record.Link.{Link}
 use Rattle.container_model.specs.declared.record.Object.{Object}
 use Rattle.container_model.specs.declared.record.Frame.{Frame}
 use Rattle.container_model.specs.declared.record.Phase.{Phase}
 use Rattle.container_model.specs.declared.record.Phase.TheVariants.{Idle, Saving, HandingOff, Committing, InDoubt}
 use Rattle.container_model.specs.declared.fault.ContainerFault.{ContainerFault}
-use Rattle.container_model.specs.Record.{Record, MOST_OBJECTS}
+use Rattle.container_model.specs.Record.{Record, MOST_OBJECTS, is_object}
 use Rattle.container_model.specs.Saves.{kept, kept_by, kept_in, awaits, is_awaited_link, is_ready, is_ready_at, settled_frame, settled_frames, settle}
-use Rattle.container_model.specs.Commands.{unless}
+use Rattle.container_laws.specs.Roles.{IsClaim, Other, SteadyGrant, role_in}
 use Rattle.container_laws.specs.Steady.{MayBeStored, SteadyLink, SteadyObject, SteadyFrame, InOrder, Steady, SteadyFromTheStart}
 use Rattle.container_laws.proofs.SteadyLookups.{each_weaker, each_both, each_put, pairs_put, nth-settled, each_settled, none_awaited}
 use Rattle.container_laws.proofs.SteadyCounts.{count_put}
 use Rattle.container_laws.proofs.SteadyLinks.{now_committing}
-
-pub if_told : {A : Type 0} (P : A → Type 0) (b : Bool) (x y : A) → (b ≡ true → P x) → (b ≡ false → P y) → P (if b then x else y)
-if_told P true x y p q = p refl
-if_told P false x y p q = q refl
-
-pub unless_ok : {A : Type 0} (b : Bool) (fault : ContainerFault) (next : Result A ContainerFault) (t : A) → unless b fault next ≡ Ok t → (b ≡ false) × (next ≡ Ok t)
-unless_ok true fault next t e = cc
-unless_ok false fault next t e = (refl, e)
-
-pub or_false : (a b : Bool) → (a || b) ≡ false → (a ≡ false) × (b ≡ false)
-or_false true b e = absurd (cc)
-or_false false b e = (refl, e)
-
-pub some_and : {A : Type 0} (P : A → Type 0) (o : Option A) → IsSomeAnd o P → (x : A) × (o ≡ Some x) × P x
-some_and P None h = absurd h
-some_and P (Some x) h = (x, refl, h)
-
-pub and_some : {A : Type 0} (P : A → Type 0) (o : Option A) (x : A) → o ≡ Some x → P x → IsSomeAnd o P
-and_some P o x e p = subst (λ z. IsSomeAnd z P) (sym e) p
-
-pub at_some : {A : Type 0} (P : A → Type 0) (o : Option A) (x : A) → o ≡ Some x → IsSomeAnd o P → P x
-at_some P o x e h = subst (λ z. IsSomeAnd z P) e h
-
-pub if_weaker : {A : Type 0} (P Q : A → Type 0) (o : Option A) → ((x : A) → P x → Q x) → IfSome o P → IfSome o Q
-if_weaker P Q None k h = tt
-if_weaker P Q (Some x) k h = k x h
-
-pub if_at : {A : Type 0} (P : A → Type 0) (o : Option A) (x : A) → o ≡ Some x → IfSome o P → P x
-if_at P o x e h = subst (λ z. IfSome z P) e h
+use Rattle.container_laws.proofs.SteadyClaims.{Names, KeepsLink, LinkStays, claim_kept, grant_kept, keeps_put, keeps_put_other, keeps_refl, named_part, none_there, settled_back}
+use Rattle.container_laws.proofs.SteadyFinds.{found_by_number, put_by_number}
+pub use Rattle.container_laws.proofs.SteadyTells.{if_told, unless_ok, or_false, some_and, and_some, at_some, if_weaker, if_at}
 
 -- from the start
 pub empty_steady : SteadyFromTheStart
-empty_steady numbers = record { frames = tt; objects = tt; order = tt; count = λ f. omega arith }
+empty_steady numbers = record { frames = tt; objects = tt; order = tt; count = λ f. omega arith; grants = λ f frame e. absurd (none_there f frame e) }
 
 -- an object's link in its frame
-abbrev pub Held : Record → Option Link → Frame → Type 0
-Held r link frame = IfSome link (SteadyLink r.servers r.last_act frame.phase frame.k)
+abbrev pub Held : Record → ℕ → Option Link → Frame → Type 0
+Held r number link frame = IfSome link (SteadyLink r.servers r.last_act frame.phase frame.k (role_in frame.ui.state number))
 
 -- the content that is kept of an object may be stored
 pub kept_within : (work : Stored) (saved : Option Stored) → is_within work ≡ true → MayBeStored saved → is_within (kept_in work saved) ≡ true
 kept_within work None w m = w
 kept_within work (Some content) w m = m
 
-kept_link_within : (r : Record) (work : Stored) (link : Option Link) (frame : Frame) → is_within work ≡ true → Held r link frame → is_within (kept_by work link) ≡ true
-kept_link_within r work None frame w h = w
-kept_link_within r work (Some l) frame w h = kept_within work l.saved w h.saved_within
+kept_link_within : (r : Record) (work : Stored) (number : ℕ) (link : Option Link) (frame : Frame) → is_within work ≡ true → Held r number link frame → is_within (kept_by work link) ≡ true
+kept_link_within r work number None frame w h = w
+kept_link_within r work number (Some l) frame w h = kept_within work l.saved w h.saved_within
 
-pub kept_object_within : (r : Record) (o : Object) (frame : Frame) → is_within o.work ≡ true → Held r o.link frame → is_within (kept o) ≡ true
-kept_object_within r o frame w h = kept_link_within r o.work o.link frame w h
+pub kept_object_within : (r : Record) (o : Object) (frame : Frame) → is_within o.work ≡ true → Held r o.number o.link frame → is_within (kept o) ≡ true
+kept_object_within r o frame w h = kept_link_within r o.work o.number o.link frame w h
 
 -- a link that is none, or of the same activation as before
 abbrev pub Follows : Option Link → Option Link → Type 0
@@ -104,14 +80,36 @@ order_left y x a t h = record { rising = subst (λ (n : ℕ). n < y.number) (sym
 pub order_both : (g : Object → Object) → ((x : Object) → TookPlace (g x) x) → (x y : Object) → InOrder x y → InOrder (g x) (g y)
 order_both g t x y h = order_right (g x) y (g y) (t y) (order_left y x (g x) (t x) h)
 
--- one object takes another's place
-pub put_steady : (r : Record) (test : Object → Bool) (x a : Object) → Steady r → find test r.objects ≡ Some x → TookPlace a x → SteadyObject r a → Steady (record r { objects = put test a r.objects })
-put_steady r test x a h e t s = record {
-  frames = h.frames;
-  objects = each_weaker (SteadyObject r) (SteadyObject (record r { objects = put test a r.objects })) (put test a r.objects) (λ o k. record { drawn = k.drawn; within = k.within; user_type = k.user_type; linked = k.linked }) (each_put (SteadyObject r) test a r.objects h.objects s);
-  order = pairs_put InOrder (SteadyObject r) test a x r.objects (λ y p k. order_right y x a t k) (λ y p k. order_left y x a t k) h.order h.objects e;
-  count = λ f. subst (λ (n : ℕ). n ≤ MOST_OBJECTS) (sym (count_put f test a x r.objects e t.frame)) (h.count f);
-}
+-- an object that has no part in its frame's grant
+abbrev pub IsOut : Record → Object → Type 0
+IsOut r x = (frame : Frame) → nth r.frames x.frame ≡ Some frame → role_in frame.ui.state x.number ≡ Other
+
+-- whoever is named is somebody else then
+pub named_other : (r : Record) (f : ℕ) (frame : Frame) (c : Claim) (x : Object) → nth r.frames f ≡ Some frame → Names frame.ui.state c → IsClaim r f c → find (is_object x.number) r.objects ≡ Some x → IsOut r x → x.number ≡ c.object → ⊥
+named_other r f frame c x at names h found out e =
+    let same = sym (ap (λ (n : ℕ). find (is_object n) r.objects) e ∙ h.found) ∙ found in
+    let is : h.object ≡ x = cc in
+    let here : nth r.frames x.frame ≡ Some frame = ap (λ (z : Object). nth r.frames z.frame) (sym is) ∙ (ap (nth r.frames) h.inside ∙ at) in
+    named_part frame.ui.state c x.number names (sym e) (out frame here)
+
+-- One object takes another's place, under the same part in the frame's grant: with the activation that it had, or, where it
+-- has no part, with any.
+pub put_steady : (r : Record) (test : Object → Bool) (x a : Object) → Steady r → find test r.objects ≡ Some x → TookPlace a x → LinkStays x.link a.link ⊎ IsOut r x → SteadyObject r a → Steady (record r { objects = put test a r.objects })
+put_steady r test x a h e t keeps s =
+    let after : Record = record r { objects = put test a r.objects } in
+    let found = found_by_number test r.objects x h.order e in
+    let same = put_by_number test a x r.objects h.order e in
+    record {
+      frames = h.frames;
+      objects = each_weaker (SteadyObject r) (SteadyObject after) (put test a r.objects) (λ o k. record { drawn = k.drawn; within = k.within; user_type = k.user_type; linked = k.linked }) (each_put (SteadyObject r) test a r.objects h.objects s);
+      order = pairs_put InOrder (SteadyObject r) test a x r.objects (λ y p k. order_right y x a t k) (λ y p k. order_left y x a t k) h.order h.objects e;
+      count = λ f. subst (λ (n : ℕ). n ≤ MOST_OBJECTS) (sym (count_put f test a x r.objects e t.frame)) (h.count f);
+      grants = λ f frame at. grant_kept r after f frame.ui.state (λ c names k. claim_kept r after f c
+          (subst (λ (os : List Object). KeepsLink r.objects os c.object) (sym same) (elim keeps [
+            | inl stays ↦ keeps_put r.objects x.number c.object x a found t.number t.frame stays
+            | inr out ↦ keeps_put_other r.objects x.number c.object a t.number (named_other r f frame c x at names k found out)
+          ])) (omega arith) k) (h.grants f frame at);
+    }
 
 -- saves go on
 pub ready_at : (phase : Phase) (waits : Bool) → is_ready_at phase waits ≡ true → (phase ≡ Saving) × (waits ≡ false)
@@ -128,9 +126,9 @@ settled_steady f os frame h = if_told SteadyFrame (is_ready f os frame) (record 
 answered_link : (l : Link) → is_awaited_link (Some l) ≡ false → is_some l.saved ≡ true
 answered_link l e = elim l.saved as (λ s. elim s [ None ↦ true | Some content ↦ false ] ≡ false → is_some s ≡ true) [ None ↦ (λ g. absurd (cc)) | Some content ↦ (λ g. refl) ] e
 
-settled_link : (r : Record) (link : Option Link) (frame : Frame) → frame.phase ≡ Saving → is_awaited_link link ≡ false → Held r link frame → Held r link (record frame { phase = Committing })
-settled_link r None frame p e h = tt
-settled_link r (Some l) frame p e h = now_committing r.servers r.last_act frame.k l (subst (λ (q : Phase). SteadyLink r.servers r.last_act q frame.k l) p h) (answered_link l e)
+settled_link : (r : Record) (n : ℕ) (link : Option Link) (frame : Frame) → frame.phase ≡ Saving → is_awaited_link link ≡ false → Held r n link frame → Held r n link (record frame { phase = Committing })
+settled_link r n None frame p e h = tt
+settled_link r n (Some l) frame p e h = now_committing r.servers r.last_act frame.k (role_in frame.ui.state n) l (subst (λ (q : Phase). SteadyLink r.servers r.last_act q frame.k (role_in frame.ui.state n) l) p h) (answered_link l e)
 
 each_forall : {A I : Type 0} (C : I → Type 0) (R : I → A → Type 0) (xs : List A) → ((i : I) → C i → AllByRecursion (R i) xs) → AllByRecursion (λ x. (i : I) → C i → R i x) xs
 each_forall C R [] k = tt
@@ -142,14 +140,14 @@ Answered os o = (f : ℕ) → awaits f os ≡ false → o.frame ≡ f → is_awa
 
 settled_object : (r : Record) (o : Object) → SteadyObject r o → Answered r.objects o → SteadyObject (settle r) o
 settled_object r o h a =
-    let s = some_and (Held r o.link) (nth r.frames o.frame) h.linked in
+    let s = some_and (Held r o.number o.link) (nth r.frames o.frame) h.linked in
     record {
       drawn = h.drawn;
       within = h.within;
       user_type = h.user_type;
-      linked = and_some (Held r o.link) (nth (settled_frames 1 r.objects r.frames) o.frame) (settled_frame o.frame r.objects s.0) (nth-settled r.objects r.frames o.frame s.0 s.1)
-          (if_told (Held r o.link) (is_ready o.frame r.objects s.0) (record s.0 { phase = Committing }) s.0
-          (λ e. let ready = ready_at s.0.phase (awaits o.frame r.objects) e in settled_link r o.link s.0 ready.0 (a o.frame ready.1 refl) s.2)
+      linked = and_some (Held r o.number o.link) (nth (settled_frames 1 r.objects r.frames) o.frame) (settled_frame o.frame r.objects s.0) (nth-settled r.objects r.frames o.frame s.0 s.1)
+          (if_told (Held r o.number o.link) (is_ready o.frame r.objects s.0) (record s.0 { phase = Committing }) s.0
+          (λ e. let ready = ready_at s.0.phase (awaits o.frame r.objects) e in settled_link r o.number o.link s.0 ready.0 (a o.frame ready.1 refl) s.2)
           (λ e. s.2));
     }
 
@@ -161,4 +159,6 @@ settle_steady r h = record {
       (each_forall (λ f. awaits f r.objects ≡ false) (λ f (o : Object). o.frame ≡ f → is_awaited_link o.link ≡ false) r.objects (λ f e. none_awaited f r.objects e)));
   order = h.order;
   count = h.count;
+  grants = λ f frame e. (let y = settled_back r.objects r.frames f frame e in
+      subst (λ (u : Ui). SteadyGrant (settle r) f u.state) (sym y.2) (grant_kept r (settle r) f y.0.ui.state (λ c names k. claim_kept r (settle r) f c (keeps_refl r.objects c.object) (omega arith) k) (h.grants f y.0 y.1)));
 }

@@ -4,7 +4,8 @@ use Rattle.container_model.specs.Record.{Record, Took, empty}
 use Rattle.container_laws.specs.Steady.{Steady, Input, on_input, Leads, SteadyAlways}
 use Rattle.container_laws.proofs.SteadyRecords.{empty_steady}
 use Rattle.container_laws.proofs.SteadyCommands.{on_command_keeps}
-use Rattle.container_laws.proofs.SteadyMessages.{on_message_keeps, on_reap_keeps}
+use Rattle.container_laws.proofs.SteadyMessages.{on_message_keeps}
+use Rattle.container_laws.proofs.SteadyReaps.{on_reap_keeps}
 use Rattle.container_laws.proofs.SteadyCommits.{commit_done_keeps}
 
 on_input_keeps : (r : Record) (x : Input) (t : Took) → Steady r → on_input r x ≡ Ok t → Steady t.rec

@@ -7,7 +7,7 @@ use Rattle.container_model.specs.declared.record.Object.{Object}
 use Rattle.container_model.specs.Record.{is_object, asked_sent, asked_all}
 use Rattle.container_laws.specs.Steady.{InOrder, EachPair}
 use Rattle.container_laws.proofs.SteadyLookups.{each_found}
-use Rattle.container_laws.proofs.SteadyRecords.{if_told}
+use Rattle.container_laws.proofs.SteadyTells.{if_told}
 use Rattle.container_laws.proofs.SteadyFinds.{number_apart, here}
 
 -- what is in a list

@@ -9,6 +9,7 @@ use Rattle.container_model.specs.declared.record.Object.{Object}
 use Rattle.container_model.specs.declared.record.Phase.{Phase}
 use Rattle.container_model.specs.declared.record.Phase.TheVariants.{Idle, InDoubt}
 use Rattle.container_model.specs.Record.{is_object, is_saving, is_doubtful, ask, ask_at, asked_link}
+use Rattle.container_laws.proofs.SteadyClaims.{LinkStays}
 use Rattle.container_laws.proofs.SteadyRecords.{Follows}
 
 pub idle_of : (phase : Phase) → is_doubtful phase ≡ false → is_saving phase ≡ false → phase ≡ Idle
@@ -44,3 +45,7 @@ ask_act l op (Some before) = refl
 pub asked_follows : (op : Operation) (link : Option Link) → Follows (asked_link op link) link
 asked_follows op None l e = cc
 asked_follows op (Some m) l e = (let same : (ask m op).link ≡ l = cc in (m, refl, sym (ap (λ (z : Link). z.act) same) ∙ ask_act m op m.pending))
+
+pub link_asked : (op : Operation) (link : Option Link) → LinkStays link (asked_link op link)
+link_asked op None l e = cc
+link_asked op (Some m) l e = (let same : m ≡ l = cc in ((ask m op).link, refl, ask_act m op m.pending ∙ ap (λ (z : Link). z.act) same))

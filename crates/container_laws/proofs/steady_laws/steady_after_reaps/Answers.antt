@@ -1,4 +1,4 @@
-use Rattle.container_laws.proofs.SteadyMessages.{on_reap_keeps}
+use Rattle.container_laws.proofs.SteadyReaps.{on_reap_keeps}
 use Rattle.container_laws.proofs.steady_laws.steady_after_reaps.Goals as goal
 
 pub returns : goal.returns

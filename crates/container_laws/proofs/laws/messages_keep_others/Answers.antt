@@ -1,5 +1,0 @@
-use Rattle.container_laws.proofs.MessageLaws.{messages-keep_others}
-use Rattle.container_laws.proofs.laws.messages_keep_others.Goals as goal
-
-pub returns : goal.returns
-returns c = messages-keep_others

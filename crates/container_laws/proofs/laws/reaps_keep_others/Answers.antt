@@ -1,5 +1,0 @@
-use Rattle.container_laws.proofs.MessageLaws.{reaps-keep_others}
-use Rattle.container_laws.proofs.laws.reaps_keep_others.Goals as goal
-
-pub returns : goal.returns
-returns c = reaps-keep_others
