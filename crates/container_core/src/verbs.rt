@@ -174,8 +174,8 @@ impl State {
         let now = steps_now(&state, steps);
         let g = self.last_g + 1;
         let claim = claim_of(&self.objects[i], g);
-        let objects = self.objects.as_mut_slice();
-        let actions = match ask_taking(alloc, objects, i, holder_of(&state), g, now) {
+        let holder = holder_of(&state);
+        let actions = match ask_taking(alloc, &mut self.objects, i, holder, g, now) {
             Ok(actions) => actions,
             Err(_) => return Err(ContainerFault::NoMemory),
         };

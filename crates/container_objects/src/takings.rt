@@ -100,18 +100,18 @@ fn take_up_object(object: &mut Object, stepped: Stepped) -> Option<Action>
 // The same of the object that stands there.
 fn ask_at(
     alloc: Global,
-    objects: &mut [Object],
+    objects: &mut Vec<Object>,
     i: usize,
     g: u32,
     steps: &[Step],
 ) -> Result<Items<Action>, AllocError>
-    requires numbers { All HasNumber objects.old }
-    requires fits { i < length objects.old }
-    requires linked { IfSome (slice_get objects.old i) (λ o. is_some o.link ≡ true) }
-    ensures asked { OnOk result ((o : Object) (l : Link) → slice_get objects.old i ≡ Some o → o.link ≡ Some l → objects.new ≡ slice_set objects.old i (record o { link = Some (stepped_link g l steps.now).link })) }
-    ensures sent { IfOk result (λ a. (o : Object) (l : Link) → slice_get objects.old i ≡ Some o → o.link ≡ Some l → a ≡ sends (stepped_link g l steps.now).sent) }
+    requires numbers { All HasNumber objects.old.items }
+    requires fits { i < length objects.old.items }
+    requires linked { IfSome (slice_get objects.old.items i) (λ o. is_some o.link ≡ true) }
+    ensures asked { OnOk result ((o : Object) (l : Link) → slice_get objects.old.items i ≡ Some o → o.link ≡ Some l → objects.new.items ≡ slice_set objects.old.items i (record o { link = Some (stepped_link g l steps.now).link })) }
+    ensures sent { IfOk result (λ a. (o : Object) (l : Link) → slice_get objects.old.items i ≡ Some o → o.link ≡ Some l → a ≡ sends (stepped_link g l steps.now).sent) }
     ensures few { IfOk result (λ a. length a ≤ 1) }
-    ensures kept { OnErr result (objects.new ≡ objects.old) }
+    ensures kept { OnErr result (objects.new.items ≡ objects.old.items) }
 {
     ask_object(alloc, &mut objects[i], g, steps)
 }
@@ -119,21 +119,21 @@ fn ask_at(
 // The object that stands at i is asked for steps, once the one at j is told to give the frame up. What is to be done.
 fn ask_both(
     alloc: Global,
-    objects: &mut [Object],
+    objects: &mut Vec<Object>,
     i: usize,
     j: usize,
     g: u32,
     steps: &[Step],
 ) -> Result<Items<Action>, AllocError>
-    requires numbers { All HasNumber objects.old }
-    requires fits { i < length objects.old }
-    requires other_fits { j < length objects.old }
+    requires numbers { All HasNumber objects.old.items }
+    requires fits { i < length objects.old.items }
+    requires other_fits { j < length objects.old.items }
     requires apart { i ≢ j }
-    requires linked { IfSome (slice_get objects.old i) (λ o. is_some o.link ≡ true) }
-    ensures asked { OnOk result ((o h : Object) (l : Link) → slice_get objects.old i ≡ Some o → slice_get objects.old j ≡ Some h → o.link ≡ Some l → objects.new ≡ slice_set (slice_set objects.old i (record o { link = Some (stepped_link g l steps.now).link })) j (record h { link = asked_link UiDeactivate h.link })) }
-    ensures sent { IfOk result (λ a. (o h : Object) (l : Link) → slice_get objects.old i ≡ Some o → slice_get objects.old j ≡ Some h → o.link ≡ Some l → a ≡ sends (asked_sent UiDeactivate h.link) ++ sends (stepped_link g l steps.now).sent) }
+    requires linked { IfSome (slice_get objects.old.items i) (λ o. is_some o.link ≡ true) }
+    ensures asked { OnOk result ((o h : Object) (l : Link) → slice_get objects.old.items i ≡ Some o → slice_get objects.old.items j ≡ Some h → o.link ≡ Some l → objects.new.items ≡ slice_set (slice_set objects.old.items i (record o { link = Some (stepped_link g l steps.now).link })) j (record h { link = asked_link UiDeactivate h.link })) }
+    ensures sent { IfOk result (λ a. (o h : Object) (l : Link) → slice_get objects.old.items i ≡ Some o → slice_get objects.old.items j ≡ Some h → o.link ≡ Some l → a ≡ sends (asked_sent UiDeactivate h.link) ++ sends (stepped_link g l steps.now).sent) }
     ensures few { IfOk result (λ a. length a ≤ 2) }
-    ensures kept { OnErr result (objects.new ≡ objects.old) }
+    ensures kept { OnErr result (objects.new.items ≡ objects.old.items) }
 {
     let mut actions = Vec::with_capacity(alloc, 2)?;
     let Request { takes, action } = prepare_one(alloc, &Operation::UiDeactivate, &objects[j].link)?;
@@ -151,25 +151,25 @@ fn ask_both(
 /// Refused for want of memory alone. Then nothing changes.
 pub fn ask_taking(
     alloc: Global,
-    objects: &mut [Object],
+    objects: &mut Vec<Object>,
     i: usize,
     holder: Option<u32>,
     g: u32,
     steps: &[Step],
 ) -> Result<Items<Action>, AllocError>
-    requires numbers { All HasNumber objects.old }
-    requires place { IsObjectAt objects.old i }
-    requires linked { IfSome (slice_get objects.old i) (λ o. is_some o.link ≡ true) }
-    requires apart { IfSome (slice_get objects.old i) (λ o. IfSome holder (λ n. n ≢ o.number)) }
-    ensures asked { OnOk result ((o : Object) (l : Link) → slice_get objects.old i ≡ Some o → o.link ≡ Some l → objects.new ≡ put (is_object o.number) (record o { link = Some (stepped_link g l steps.now).link }) (told_objects holder objects.old)) }
-    ensures sent { IfOk result (λ a. (o : Object) (l : Link) → slice_get objects.old i ≡ Some o → o.link ≡ Some l → a ≡ sends (told_sent holder objects.old ++ (stepped_link g l steps.now).sent)) }
+    requires numbers { All HasNumber objects.old.items }
+    requires place { IsObjectAt objects.old.items i }
+    requires linked { IfSome (slice_get objects.old.items i) (λ o. is_some o.link ≡ true) }
+    requires apart { IfSome (slice_get objects.old.items i) (λ o. IfSome holder (λ n. n ≢ o.number)) }
+    ensures asked { OnOk result ((o : Object) (l : Link) → slice_get objects.old.items i ≡ Some o → o.link ≡ Some l → objects.new.items ≡ put (is_object o.number) (record o { link = Some (stepped_link g l steps.now).link }) (told_objects holder objects.old.items)) }
+    ensures sent { IfOk result (λ a. (o : Object) (l : Link) → slice_get objects.old.items i ≡ Some o → o.link ≡ Some l → a ≡ sends (told_sent holder objects.old.items ++ (stepped_link g l steps.now).sent)) }
     ensures few { IfOk result (λ a. length a ≤ 2) }
-    ensures kept { OnErr result (objects.new ≡ objects.old) }
+    ensures kept { OnErr result (objects.new.items ≡ objects.old.items) }
 {
     let Some(holder) = holder else {
         return ask_at(alloc, objects, i, g, steps);
     };
-    let Some(j) = place_object(objects, holder) else {
+    let Some(j) = place_object(objects.as_slice(), holder) else {
         return ask_at(alloc, objects, i, g, steps);
     };
     ask_both(alloc, objects, i, j, g, steps)
