@@ -133,7 +133,7 @@ none_there zero y e = cc
 none_there (suc i) y e = cc
 
 -- and after saves went on
-settled_ui : (f : ℕ) (os : List Object) (frame : Frame) → (settled_frame f os frame).ui ≡ frame.ui
+pub settled_ui : (f : ℕ) (os : List Object) (frame : Frame) → (settled_frame f os frame).ui ≡ frame.ui
 settled_ui f os frame = if_told (λ (z : Frame). z.ui ≡ frame.ui) (is_ready f os frame) (record frame { phase = Committing }) frame (λ e. refl) (λ e. refl)
 
 settled_get : (f : ℕ) (os : List Object) (frames : List Frame) (i : ℕ) (x : Frame) → slice_get (settled_frames f os frames) i ≡ Some x → (y : Frame) × (slice_get frames i ≡ Some y) × (x.ui ≡ y.ui)

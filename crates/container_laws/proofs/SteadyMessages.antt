@@ -43,7 +43,7 @@ use Rattle.container_laws.proofs.SteadyTaking.{asked_object_steady}
 use Rattle.container_laws.proofs.SteadyTests.{asked_follows, find_passes, found_numbered, link_asked}
 use Rattle.container_laws.proofs.SteadyVerbs.{ended_grant, ended_parts}
 
-and_both : (a b : Bool) → (a && b) ≡ true → (a ≡ true) × (b ≡ true)
+pub and_both : (a b : Bool) → (a && b) ≡ true → (a ≡ true) × (b ≡ true)
 and_both true b e = (refl, e)
 and_both false b e = absurd (cc)
 
@@ -63,7 +63,7 @@ module _ (r : Record) (frame : Frame) (n : ℕ) where
       record { stays = replied_goes r.servers r.last_act frame.phase frame.k role l h op answer re e f.0 f.1; follows = subst (Keeps l) f.1 (replied_keeps l op answer) })
       (λ t q. cc) g
 
-  link_goes : (number : ℕ) (answer : Answer) (link : Option Link) (re : Replied) → Held r n link frame → reply_link number answer link ≡ Ok re → AnswersSteadily link re
+  pub link_goes : (number : ℕ) (answer : Answer) (link : Option Link) (re : Replied) → Held r n link frame → reply_link number answer link ≡ Ok re → AnswersSteadily link re
   link_goes number answer None re h g = cc
   link_goes number answer (Some l) re h g = pending_goes l number answer l.pending re h refl g
 
@@ -104,10 +104,10 @@ module _ (r : Record) (inc act : ℕ) (o : Object) (re : Replied) (frame : Frame
   there : find (is_object o.number) r.objects ≡ Some o
   there = found_by_number (is_linked inc act) r.objects o s.order found
 
-  abbrev x : Object
+  abbrev pub x : Object
   x = replied_object o re
 
-  took : TookPlace x o
+  pub took : TookPlace x o
   took = record { number = refl; frame = refl; link = next_follows re.link o.link goes.follows }
 
   within : is_within x.work ≡ true
@@ -274,13 +274,13 @@ write_keeps r inc act n w content t s e = if_told (λ (z : Result Took Container
     (λ a g. cc) e
 
 -- an ask that is taken
-held_by : (act g : ℕ) (s : GrantState) → is_held_by act g s ≡ true → (holder : Claim) × (tools : Tools) × (s ≡ state.Held holder tools) × (holder.act ≡ act) × (holder.g ≡ g)
+pub held_by : (act g : ℕ) (s : GrantState) → is_held_by act g s ≡ true → (holder : Claim) × (tools : Tools) × (s ≡ state.Held holder tools) × (holder.act ≡ act) × (holder.g ≡ g)
 held_by act g (state.Held holder tools) e = (let b = and_both (holder.act == act) (holder.g == g) e in (holder, tools, refl, eqb-true holder.act act b.0, eqb-true holder.g g b.1))
 held_by act g state.Free e = absurd (cc)
 held_by act g (state.Granting c) e = absurd (cc)
 held_by act g (state.Revoking c next) e = absurd (cc)
 
-linked_by : (inc act : ℕ) (link : Option Link) → is_link inc act link ≡ true → (l : Link) × (link ≡ Some l) × (l.inc ≡ inc) × (l.act ≡ act)
+pub linked_by : (inc act : ℕ) (link : Option Link) → is_link inc act link ≡ true → (l : Link) × (link ≡ Some l) × (l.inc ≡ inc) × (l.act ≡ act)
 linked_by inc act None e = absurd (cc)
 linked_by inc act (Some l) e = (let b = and_both (l.inc == inc) (l.act == act) e in (l, refl, eqb-true l.inc inc b.0, eqb-true l.act act b.1))
 

@@ -48,7 +48,7 @@ each_put_but Q n a x (y ∷ ys) h e k q = elim (y.number == n) as (λ b. (y.numb
   | false ↦ (λ t g. (k.0 (eqb-false y.number n t), each_put_but Q n a x ys h.1 g k.1 q))
 ] refl e
 
-each_unit : (os : List Object) → AllByRecursion (λ (o : Object). Unit {0}) os
+pub each_unit : (os : List Object) → AllByRecursion (λ (o : Object). Unit {0}) os
 each_unit [] = tt
 each_unit (o ∷ os) = (tt, each_unit os)
 
