@@ -1,11 +1,10 @@
 -- A frame is given up by its holder's own answer alone.
-use Rattle.std.proofs.Common.{◌≡◌, ◌⊎◌, inl, inr, ℕ, ◌+◌, ◌==◌, Bool, true, false, List, [], ◌∷◌, Option, Some, None, Result, Ok, Err, refl, sym, ap, ◌∙◌, subst, if◌then◌else◌}
+use Rattle.std.proofs.Common.{◌≡◌, ◌⊎◌, inl, inr, ℕ, ◌+◌, ◌==◌, true, false, List, [], ◌∷◌, Option, Some, None, Result, Ok, Err, refl, sym, ap, ◌∙◌, subst}
 use Rattle.std.proofs.lemmas.Bool.{eqb-true, eqb-false}
 use Rattle.wire_msgs.specs.Found.{find, nth, set_nth}
 use Rattle.wire_msgs.specs.Operations.{op_of}
 use Rattle.wire_msgs.specs.declared.answer.Answer.{Answer}
 use Rattle.wire_msgs.specs.declared.answer.Answer.TheVariants.{Done, Refused, Content, Tools}
-use Rattle.wire_msgs.specs.declared.message.Message.{Message}
 use Rattle.wire_msgs.specs.declared.message.Message.TheVariants.{Call, Reply, Write, Ask}
 use Rattle.wire_msgs.specs.declared.operation.Operation.{Operation}
 use Rattle.wire_msgs.specs.declared.operation.Operation.TheVariants.{InitNew, Load, InPlace, UiActivate, UiDeactivate, InPlaceDeactivate, OpenWindow, Edit, Save, SaveCompleted, Close}
@@ -19,7 +18,6 @@ use Rattle.grant_core.specs.Grants as grant
 use Rattle.grant_core.specs.Grants.{Event, Granted, Lost, Revoked, who}
 use Rattle.grant_core.specs.Laws.{IsRevoking}
 use Rattle.grant_core.specs.declared.grant_states.Claim.{Claim}
-use Rattle.grant_core.specs.declared.grant_states.GrantState.{GrantState}
 use Rattle.grant_core.specs.declared.grant_states.Tools.{Tools as GrantTools}
 use Rattle.grant_core.specs.declared.grant_states.GrantState.TheVariants as state
 use Rattle.grant_core.proofs.Table.{freed-by_holder}
@@ -32,7 +30,7 @@ use Rattle.container_model.specs.declared.fault.ContainerFault.{ContainerFault}
 use Rattle.container_model.specs.declared.fault.ContainerFault.TheVariants.{Stale, WrongLink}
 use Rattle.container_model.specs.Grants.{event_of, grant_each, grant_of, moved, passed_to, regranted, regranted_in, requested}
 use Rattle.container_model.specs.Record.{Record, Took, is_alive, is_linked, is_object}
-use Rattle.container_model.specs.Saves.{settle, settled_frame, settled_frames}
+use Rattle.container_model.specs.Saves.{settled_frame, settled_frames}
 use Rattle.container_model.specs.Messages.{Replied, ask_found, ask_framed, closed_with, done_link, granted_link, is_held_by, on_ask, on_reply, relieved, replied, replied_fitting, replied_grant, replied_record, reply_found, reply_link, reply_pending, reply_made, reply_taken, saved_link}
 use Rattle.container_laws.specs.Laws.{FreedByHolders, GivesUp}
 use Rattle.container_laws.specs.Roles.{IsClaim, SteadyGrant, role_in}

@@ -1,5 +1,5 @@
 -- The end of a server leaves other objects as they are, but for those that waited for their frames.
-use Rattle.std.proofs.Common.{◌≡◌, ◌⊎◌, inl, inr, ℕ, zero, suc, ◌==◌, Bool, true, false, List, [], ◌∷◌, map, Option, Some, None, Result, Ok, Err, slice_get, refl, sym, ap, ◌∙◌, subst, if◌then◌else◌, arith, eq-eqb, ◌+◌}
+use Rattle.std.proofs.Common.{◌≡◌, inl, inr, ℕ, zero, suc, ◌==◌, Bool, true, false, List, [], ◌∷◌, map, Option, Some, None, Result, Ok, Err, slice_get, refl, sym, ap, ◌∙◌, subst, if◌then◌else◌, arith, eq-eqb, ◌+◌}
 use Rattle.std.proofs.lemmas.Bool.{eqb-true, eqb-false, ne_eqb}
 use Rattle.std.specs.List.{AllByRecursion}
 use Rattle.wire_msgs.specs.Found.{find, nth, put}
@@ -7,7 +7,6 @@ use Rattle.wire_msgs.specs.declared.operation.Operation.{Operation}
 use Rattle.wire_msgs.specs.declared.operation.Operation.TheVariants.{UiActivate}
 use Rattle.grant_core.specs.Grants.{waiting}
 use Rattle.grant_core.specs.declared.grant_states.Claim.{Claim}
-use Rattle.grant_core.specs.declared.grant_states.GrantState.{GrantState}
 use Rattle.container_model.specs.declared.record.Link.{Link}
 use Rattle.container_model.specs.declared.record.Object.{Object}
 use Rattle.container_model.specs.declared.record.Frame.{Frame}
@@ -18,7 +17,7 @@ use Rattle.container_model.specs.Record.{Record, Took, asked_link, is_alive, is_
 use Rattle.container_model.specs.Replies.{is_of}
 use Rattle.container_model.specs.Saves.{kept}
 use Rattle.container_model.specs.Messages.{on_reap, reap_made, reaped_grants, reaped_object}
-use Rattle.container_laws.specs.Laws.{IsGranted, ReapsEndTheirs, ReapsKeepOthers, StaysOrIsGranted}
+use Rattle.container_laws.specs.Laws.{ReapsEndTheirs, ReapsKeepOthers, StaysOrIsGranted}
 use Rattle.container_laws.specs.Roles.{IsClaim}
 use Rattle.container_laws.specs.Steady.{EachPair, InOrder, Steady}
 use Rattle.container_laws.proofs.SteadyFates.{Hosted}

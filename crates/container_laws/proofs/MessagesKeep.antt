@@ -1,5 +1,5 @@
 -- A message to a steady record leaves other objects as they are, but for one that waited for its frame.
-use Rattle.std.proofs.Common.{◌≡◌, ◌⊎◌, inl, inr, ℕ, ◌==◌, Bool, true, false, List, [], ◌∷◌, Option, Some, None, Result, Ok, Err, slice_get, refl, sym, ap, ◌∙◌, subst, if◌then◌else◌}
+use Rattle.std.proofs.Common.{◌≡◌, inl, inr, ℕ, ◌==◌, Bool, true, false, List, [], ◌∷◌, Option, Some, None, Result, Ok, Err, slice_get, refl, sym, ap, ◌∙◌, subst, if◌then◌else◌}
 use Rattle.wire_msgs.specs.Found.{find, nth, put, set_nth}
 use Rattle.wire_msgs.specs.declared.answer.Answer.{Answer}
 use Rattle.wire_msgs.specs.declared.message.Message.{Message}
@@ -31,7 +31,6 @@ use Rattle.container_laws.proofs.SteadyLookups.{each_found, each_get}
 use Rattle.container_laws.proofs.SteadyMessages.{AnswersSteadily, link_goes, took}
 use Rattle.container_laws.proofs.SteadyReaps.{each_own, passed_few}
 use Rattle.container_laws.proofs.SteadyRecords.{Held, if_at, some_and}
-use Rattle.container_laws.proofs.SteadyShapes.{Among}
 use Rattle.container_laws.proofs.SteadyTests.{find_passes}
 use Rattle.container_laws.proofs.WriteLaws.{taken_if, write_taken}
 

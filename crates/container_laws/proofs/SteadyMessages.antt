@@ -1,5 +1,5 @@
 -- Messages keep a record steady.
-use Rattle.std.proofs.Common.{◌≡◌, ◌≤◌, ◌⊎◌, inl, inr, ℕ, Bool, true, false, List, [], ◌∷◌, Option, Some, None, Result, Ok, Err, refl, sym, ap, ◌∙◌, arith, subst, ◌==◌, if◌then◌else◌, eq-eqb}
+use Rattle.std.proofs.Common.{◌≡◌, ◌⊎◌, inl, inr, ℕ, Bool, true, false, List, [], ◌∷◌, Option, Some, None, Result, Ok, Err, refl, sym, ap, ◌∙◌, arith, subst, ◌==◌, if◌then◌else◌, eq-eqb}
 use Rattle.std.proofs.lemmas.Bool.{eqb-true, ne_eqb}
 use Rattle.std.specs.Prelude.{IfSome, IsOk, ◌&&◌}
 use Rattle.wire_msgs.specs.Found.{find, nth, put, set_nth}
@@ -27,9 +27,9 @@ use Rattle.container_model.specs.declared.fault.ContainerFault.TheVariants.{Wron
 use Rattle.container_model.specs.Grants.{grant_each, grant_of, moved, passed_to, regranted, regranted_in, requested}
 use Rattle.container_model.specs.Record.{Record, Took, asked_link, is_alive, is_link, is_linked, is_object, is_unreaped, with_object}
 use Rattle.container_model.specs.Saves.{settle}
-use Rattle.container_model.specs.Messages.{Replied, ask_found, ask_framed, is_fit, is_held_by, is_open_to, next_link, on_ask, on_write, relieved, replied, replied_fitting, replied_grant, replied_object, write_found, write_link, write_made, written_object, replied_record, reply_pending, reply_link, reply_taken, reply_found, on_reply}
+use Rattle.container_model.specs.Messages.{Replied, ask_found, ask_framed, is_held_by, is_open_to, next_link, on_ask, on_write, relieved, replied, replied_fitting, replied_grant, replied_object, write_found, write_link, write_made, written_object, replied_record, reply_pending, reply_link, reply_taken, reply_found, on_reply}
 use Rattle.container_laws.specs.Roles.{IsClaim, Getting, Giving, Holding, Other, Role, SteadyGrant, Waiting, role_in}
-use Rattle.container_laws.specs.Steady.{MayBeStored, SteadyLink, SteadyObject, Steady, SteadyAfterMessages, FittingAnswersTaken}
+use Rattle.container_laws.specs.Steady.{SteadyLink, SteadyObject, Steady, SteadyAfterMessages, FittingAnswersTaken}
 use Rattle.container_laws.proofs.SteadyAnswers.{Keeps, fit_replied, next_follows, next_stays, replied_keeps}
 use Rattle.container_laws.proofs.SteadyClaims.{LinkStays}
 use Rattle.container_laws.proofs.SteadyFinds.{acts_differ, find-put_other, found_by_number, put_by_number}

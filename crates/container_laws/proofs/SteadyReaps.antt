@@ -3,7 +3,7 @@ use Rattle.std.proofs.Common.{◌≡◌, ◌≤◌, ◌⊎◌, inl, inr, ℕ, ze
 use Rattle.std.proofs.lemmas.Bool.{eqb-true, eqb-false}
 use Rattle.std.specs.Prelude.{IfSome, option_map, slice_get}
 use Rattle.std.specs.List.{AllByRecursion}
-use Rattle.wire_msgs.specs.Found.{find, nth, put, set_nth}
+use Rattle.wire_msgs.specs.Found.{find, nth, set_nth}
 use Rattle.wire_msgs.specs.declared.operation.Operation.TheVariants.{UiActivate}
 use Rattle.grant_core.specs.declared.grant_states.Claim.{Claim}
 use Rattle.grant_core.specs.declared.grant_states.GrantState.{GrantState}
@@ -15,19 +15,19 @@ use Rattle.container_model.specs.declared.fault.ContainerFault.{ContainerFault}
 use Rattle.container_model.specs.declared.fault.ContainerFault.TheVariants.{NoSuch}
 use Rattle.container_model.specs.Grants.{freed, freed_claims, freed_frame, grant_each, is_hosted, is_hosted_object, passed_to, requested, unwaited}
 use Rattle.container_model.specs.Record.{Record, Took, MOST_OBJECTS, asked_link, is_alive, is_object, is_unreaped, with_object}
-use Rattle.container_model.specs.Saves.{kept, settle}
-use Rattle.container_model.specs.Messages.{on_reap, reaped, reaped_grants, reaped_object}
+use Rattle.container_model.specs.Saves.{kept}
+use Rattle.container_model.specs.Messages.{reaped, reaped_grants, reaped_object}
 use Rattle.container_laws.specs.Roles.{IsClaim, Getting, Role, SteadyGrant, Waiting, role_in}
 use Rattle.container_laws.specs.Steady.{SteadyFrame, SteadyLink, SteadyObject, InOrder, EachPair, Steady, SteadyAfterReaps}
 use Rattle.container_laws.proofs.SteadyAnswers.{none_follows}
-use Rattle.container_laws.proofs.SteadyClaims.{KeepsLink, LinkStays, claim_kept, keeps_map}
+use Rattle.container_laws.proofs.SteadyClaims.{claim_kept, keeps_map}
 use Rattle.container_laws.proofs.SteadyCounts.{count_map}
-use Rattle.container_laws.proofs.SteadyFates.{Fate, stays, ends, unwaits, passes, Hosted, NewPart, keeps_part, granted_part, fate, grant_after, part_after}
+use Rattle.container_laws.proofs.SteadyFates.{Fate, stays, ends, unwaits, passes, Hosted, keeps_part, granted_part, fate, grant_after, part_after}
 use Rattle.container_laws.proofs.SteadyFinds.{find-map, find-put_other, here, number_apart}
 use Rattle.container_laws.proofs.SteadyLinks.{grant_asked, link_moved}
 use Rattle.container_laws.proofs.SteadyLookups.{each_both, each_found, each_map, each_weaker, nth-set_other, pairs_map}
 use Rattle.container_laws.proofs.SteadyMoves.{But, SteadyBut, all_steady, but_all, gets_it, put_but, waits_for_it}
-use Rattle.container_laws.proofs.SteadyRecords.{if_told, some_and, and_some, at_some, if_at, Held, kept_object_within, TookPlace, order_both, settle_steady}
+use Rattle.container_laws.proofs.SteadyRecords.{if_told, some_and, and_some, at_some, Held, kept_object_within, TookPlace, order_both, settle_steady}
 use Rattle.container_laws.proofs.SteadyShapes.{Among}
 use Rattle.container_laws.proofs.SteadyTaking.{asked_part}
 use Rattle.container_laws.proofs.SteadyTests.{asked_follows, find_passes, link_asked}
