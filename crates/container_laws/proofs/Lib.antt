@@ -1,5 +1,8 @@
 pub mod EditsTaken
+pub mod KeepLaws
+pub mod FreedLaws
 pub mod MessageLaws
+pub mod MessagesKeep
 pub mod CommitsLaws
 pub mod SteadyAnswers
 pub mod SteadyAsks

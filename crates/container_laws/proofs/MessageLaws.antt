@@ -1,5 +1,5 @@
 -- The laws of messages and of the end of a server.
-use Rattle.std.proofs.Common.{◌≡◌, ◌≢◌, ◌==◌, ℕ, zero, suc, Bool, true, false, List, [], ◌∷◌, map, Option, Some, None, Ok, Err, Result, slice_get, refl, ap, sym, ◌∙◌, if◌then◌else◌, eq-eqb}
+use Rattle.std.proofs.Common.{◌≡◌, ◌≢◌, ◌==◌, ℕ, Bool, true, false, [], Option, Some, None, Ok, Err, Result, refl, ap, sym, ◌∙◌, if◌then◌else◌, eq-eqb}
 use Rattle.std.proofs.lemmas.Bool.{eqb-true, ne_eqb}
 use Rattle.wire_msgs.specs.Found.{find, nth}
 use Rattle.wire_msgs.specs.declared.answer.Answer.{Answer}
@@ -9,8 +9,8 @@ use Rattle.container_model.specs.declared.record.Link.{Link}
 use Rattle.container_model.specs.declared.record.Object.{Object}
 use Rattle.container_model.specs.declared.record.Frame.{Frame}
 use Rattle.container_model.specs.declared.fault.ContainerFault.{ContainerFault}
-use Rattle.container_model.specs.declared.fault.ContainerFault.TheVariants.{BadAnswer, NoSuch, Stale, WrongLink}
-use Rattle.container_model.specs.Record.{Record, Took, is_alive, is_linked, quiet_answer}
+use Rattle.container_model.specs.declared.fault.ContainerFault.TheVariants.{BadAnswer, Stale, WrongLink}
+use Rattle.container_model.specs.Record.{Record, Took, is_alive, is_linked}
 use Rattle.container_model.specs.Messages.{Replied, ask_found, ask_framed, is_fit, is_held_by, on_ask, on_reply, replied, replied_fitting, replied_grant, reply_found, reply_link, reply_pending, reply_taken}
 use Rattle.container_laws.specs.Laws.{OnlyExpectedMessages, OtherAsksAreStale, OtherServersAreRefused, OthersAreStale, is_held_in, is_open_in, pending_in, pending_number, takes_ask, takes_write}
 use Rattle.container_laws.proofs.WriteLaws.{taken_if, write_taken}

@@ -1,10 +1,9 @@
 -- Claims of a frame after a change of the objects, and frames found after a change.
-use Rattle.std.proofs.Common.{◌≡◌, ◌≤◌, ◌⊎◌, inl, inr, ℕ, zero, suc, ◌+◌, Bool, true, false, List, [], ◌∷◌, ◌++◌, map, Option, Some, None, refl, sym, ap, ◌∙◌, arith, subst, ◌==◌, if◌then◌else◌, eq-eqb}
+use Rattle.std.proofs.Common.{◌≡◌, ◌≤◌, ◌⊎◌, inl, inr, ℕ, zero, suc, ◌+◌, true, false, List, [], ◌∷◌, ◌++◌, map, Option, Some, None, refl, sym, ap, ◌∙◌, arith, subst, ◌==◌, if◌then◌else◌, eq-eqb}
 use Rattle.std.proofs.lemmas.Bool.{eqb-true, eqb-false}
-use Rattle.std.specs.Prelude.{IfSome, option_map, slice_get}
+use Rattle.std.specs.Prelude.{option_map, slice_get}
 use Rattle.wire_msgs.specs.Found.{find, put, nth, set_nth}
-use Rattle.grant_core.specs.Frames.{Ui}
-use Rattle.grant_core.specs.Grants.{IsApart, waiting, who}
+use Rattle.grant_core.specs.Grants.{waiting, who}
 use Rattle.grant_core.specs.declared.grant_states.Claim.{Claim}
 use Rattle.grant_core.specs.declared.grant_states.GrantState.{GrantState}
 use Rattle.grant_core.specs.declared.grant_states.GrantState.TheVariants as state
@@ -15,7 +14,7 @@ use Rattle.container_model.specs.declared.record.Phase.TheVariants.{Committing}
 use Rattle.container_model.specs.Record.{Record, is_object, without_first}
 use Rattle.container_model.specs.Saves.{is_ready, settled_frame, settled_frames}
 use Rattle.container_laws.specs.Roles.{IsClaim, Giving, Other, SteadyGrant, role_in, waits_as}
-use Rattle.container_laws.proofs.SteadyFinds.{find-append_other, find-map, find-put_other, find-put_same, find-without_other}
+use Rattle.container_laws.proofs.SteadyFinds.{find-map, find-put_other, find-put_same, find-without_other}
 use Rattle.container_laws.proofs.SteadyLookups.{nth-set_same, nth-set_other}
 use Rattle.container_laws.proofs.SteadyTells.{if_told, if_each}
 
@@ -133,7 +132,7 @@ none_there zero y e = cc
 none_there (suc i) y e = cc
 
 -- and after saves went on
-settled_ui : (f : ℕ) (os : List Object) (frame : Frame) → (settled_frame f os frame).ui ≡ frame.ui
+pub settled_ui : (f : ℕ) (os : List Object) (frame : Frame) → (settled_frame f os frame).ui ≡ frame.ui
 settled_ui f os frame = if_told (λ (z : Frame). z.ui ≡ frame.ui) (is_ready f os frame) (record frame { phase = Committing }) frame (λ e. refl) (λ e. refl)
 
 settled_get : (f : ℕ) (os : List Object) (frames : List Frame) (i : ℕ) (x : Frame) → slice_get (settled_frames f os frames) i ≡ Some x → (y : Frame) × (slice_get frames i ≡ Some y) × (x.ui ≡ y.ui)

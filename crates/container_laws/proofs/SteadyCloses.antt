@@ -1,5 +1,5 @@
 -- An object that is being closed has its storage open.
-use Rattle.std.proofs.Common.{◌≡◌, List, ◌∷◌, Option, Some, subst}
+use Rattle.std.proofs.Common.{◌∷◌, Option, subst}
 use Rattle.std.specs.List.{AllByRecursion}
 use Rattle.wire_msgs.specs.Found.{nth}
 use Rattle.wire_msgs.specs.declared.operation.Operation.{Operation}

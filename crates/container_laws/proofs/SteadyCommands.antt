@@ -2,7 +2,7 @@
 use Rattle.std.proofs.Common.{◌≡◌, ◌≤◌, ◌<◌, inl, inr, ℕ, zero, suc, ◌+◌, Bool, true, false, not, List, [], ◌∷◌, ◌++◌, length, Option, Some, None, Result, Ok, Err, refl, sym, ap, ◌∙◌, arith, subst, ◌==◌}
 use Rattle.std.proofs.lemmas.Bool.{eqb-true, eqb-false, leb-false, ne_eqb}
 use Rattle.std.specs.Prelude.{IfSome, is_some, nat_lt, nat_le, ◌||◌, slice_get}
-use Rattle.wire_msgs.specs.Found.{find, put, nth, set_nth}
+use Rattle.wire_msgs.specs.Found.{find, put, nth}
 use Rattle.wire_msgs.specs.declared.operation.Operation.{Operation}
 use Rattle.wire_msgs.specs.declared.operation.Operation.TheVariants.{InitNew, Load, Save}
 use Rattle.grant_core.specs.declared.grant_states.GrantState.{GrantState}
@@ -27,7 +27,7 @@ use Rattle.grant_core.specs.Grants.{waiting}
 use Rattle.container_model.specs.Commands
 use Rattle.container_laws.specs.Roles.{IsClaim, Other, Role, SteadyGrant, role_in}
 use Rattle.container_laws.specs.Steady.{SteadyLink, SteadyObject, SteadyFrame, InOrder, Steady, SteadyAfterCommands, IsBeginning}
-use Rattle.container_laws.proofs.SteadyLookups.{each_found, each_weaker, each_both, each_put, each_map, each_append, each_set, each_nth, pairs_put, pairs_map, pairs_append, nth_append, nth-set_same, nth-set_other, none_busy}
+use Rattle.container_laws.proofs.SteadyLookups.{each_found, each_weaker, each_both, each_put, each_map, each_append, each_set, each_nth, pairs_put, pairs_map, pairs_append, nth_append, none_busy}
 use Rattle.container_laws.proofs.SteadyCounts.{count_put, count_map, count_more, count_without, each_without, pairs_without}
 use Rattle.container_laws.proofs.SteadyLinks.{link_moved, save_asked}
 use Rattle.container_laws.proofs.SteadyRecords.{if_told, unless_ok, or_false, some_and, and_some, if_weaker, Held as HeldIn, Apart, apart_none, IsOut, TookPlace, order_both, settle_steady}

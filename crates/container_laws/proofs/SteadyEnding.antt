@@ -22,7 +22,6 @@ use Rattle.object_state.specs.declared.persist_states.PersistState.TheVariants.{
 use Rattle.object_state.specs.declared.persist_states.PersistState.TheVariants as state
 use Rattle.storage_tree.specs.declared.stored.Stored.{Stored}
 use Rattle.container_model.specs.declared.record.Link.{Link}
-use Rattle.container_model.specs.declared.record.Phase.{Phase}
 use Rattle.container_model.specs.declared.record.Phase.TheVariants.{Idle}
 use Rattle.container_model.specs.Messages.{has_save, is_save_pending}
 use Rattle.container_laws.specs.Roles.{Role, Other, Getting, Holding, Giving, Waiting, IsShown, Plays}

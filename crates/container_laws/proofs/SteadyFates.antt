@@ -1,28 +1,17 @@
 -- What the end of a server makes of the frames' grants.
-use Rattle.std.proofs.Common.{◌≡◌, ◌≢◌, ◌≤◌, ◌<◌, ◌⊎◌, inl, inr, ℕ, zero, suc, ◌+◌, Bool, true, false, List, [], ◌∷◌, ◌++◌, map, Option, Some, None, Result, Ok, Err, refl, sym, ap, ◌∙◌, arith, subst, ◌==◌, if◌then◌else◌, eq-eqb}
-use Rattle.std.proofs.lemmas.Bool.{eqb-true, eqb-false, ne_eqb}
-use Rattle.std.specs.Prelude.{IfSome, option_map, slice_get}
-use Rattle.std.specs.List.{AllByRecursion}
-use Rattle.wire_msgs.specs.Found.{find, nth, put, set_nth}
-use Rattle.wire_msgs.specs.declared.operation.Operation.TheVariants.{UiActivate}
-use Rattle.grant_core.specs.Frames.{Ui, after, kept}
-use Rattle.grant_core.specs.Grants.{Lost, IsApart, but_for, passed_on, table, waiting, who}
+use Rattle.std.proofs.Common.{◌≡◌, ℕ, Bool, true, false, List, [], ◌∷◌, Option, Some, None, refl, sym, ap, ◌∙◌, subst, ◌==◌, if◌then◌else◌, eq-eqb}
+use Rattle.std.proofs.lemmas.Bool.{eqb-true, ne_eqb}
+use Rattle.std.specs.Prelude.{IfSome}
+use Rattle.wire_msgs.specs.Found.{find}
+use Rattle.grant_core.specs.Frames.{Ui, after}
+use Rattle.grant_core.specs.Grants.{Lost, IsApart, waiting, who}
 use Rattle.grant_core.specs.declared.grant_states.Claim.{Claim}
-use Rattle.grant_core.specs.declared.grant_states.Tools.{Tools}
 use Rattle.grant_core.specs.declared.grant_states.GrantState.{GrantState}
 use Rattle.grant_core.specs.declared.grant_states.GrantState.TheVariants as state
-use Rattle.container_model.specs.declared.record.Link.{Link}
 use Rattle.container_model.specs.declared.record.Object.{Object}
-use Rattle.container_model.specs.declared.record.Frame.{Frame}
-use Rattle.container_model.specs.declared.fault.ContainerFault.TheVariants.{NoSuch}
-use Rattle.container_model.specs.Grants.{freed, freed_claims, freed_frame, grant_each, is_hosted, is_hosted_object, lost_by, passed_to, requested, unwaited}
-use Rattle.container_model.specs.Record.{Record, Took, MOST_OBJECTS, asked_link, is_alive, is_object, is_unreaped, with_object}
-use Rattle.container_model.specs.Saves.{settle, kept as kept_of}
-use Rattle.container_model.specs.Messages.{on_reap, reaped, reaped_grants, reaped_object}
-use Rattle.container_laws.specs.Roles.{IsClaim, Getting, Giving, Holding, Other, Role, SteadyGrant, Waiting, role_in, waits_as}
-use Rattle.container_laws.specs.Steady.{SteadyFrame, SteadyLink, SteadyObject, InOrder, EachPair, Steady, SteadyAfterReaps}
-use Rattle.container_laws.proofs.SteadyClaims.{LinkStays}
-use Rattle.container_laws.proofs.SteadyRecords.{if_told, some_and, and_some, if_at, Held, TookPlace}
+use Rattle.container_model.specs.Grants.{freed, is_hosted, is_hosted_object, lost_by, passed_to, unwaited}
+use Rattle.container_model.specs.Record.{Record, is_object}
+use Rattle.container_laws.specs.Roles.{IsClaim, Other, SteadyGrant, role_in, waits_as}
 
 -- whether a claim's object is of the server
 abbrev pub Hosted : ℕ → List Object → Claim → Bool

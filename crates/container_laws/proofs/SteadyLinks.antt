@@ -1,5 +1,5 @@
 -- Activations that are asked for operations, and those whose frame's save goes on.
-use Rattle.std.proofs.Common.{◌≡◌, ◌≤◌, inl, inr, ℕ, ◌+◌, Bool, true, List, [], ◌∷◌, ◌++◌, Option, Some, None, Result, Ok, Err, refl, sym, ap, ◌∙◌, subst}
+use Rattle.std.proofs.Common.{◌≡◌, ◌≤◌, inr, ℕ, Bool, true, List, [], ◌∷◌, ◌++◌, Option, Some, None, Result, Ok, Err, refl, sym, ap, ◌∙◌, subst}
 use Rattle.std.proofs.lemmas.List.{append_assoc}
 use Rattle.std.specs.Prelude.{IsOkAnd, is_some}
 use Rattle.std.specs.List.{AllByRecursion}
@@ -10,7 +10,6 @@ use Rattle.wire_msgs.specs.declared.operation.Operation.TheVariants.{InitNew, Lo
 use Rattle.object_state.specs.Both as both
 use Rattle.object_state.specs.declared.both_states.States.{States}
 use Rattle.object_state.specs.declared.faults.StateFault.{StateFault}
-use Rattle.object_state.specs.declared.persist_states.PersistState.TheVariants.{Normal}
 use Rattle.object_state.specs.declared.object_states.ObjectState.{ObjectState}
 use Rattle.object_state.specs.declared.object_states.ObjectState.TheVariants.{InPlaceActive, UiActive}
 use Rattle.storage_tree.specs.declared.stored.Stored.{Stored}
@@ -19,10 +18,10 @@ use Rattle.container_model.specs.declared.record.Link.{Link}
 use Rattle.container_model.specs.declared.record.Phase.{Phase}
 use Rattle.container_model.specs.declared.record.Phase.TheVariants.{Idle, Saving, Committing}
 use Rattle.container_model.specs.Record.{is_unreaped, ask_at, ask, ask_each}
-use Rattle.container_laws.specs.Roles.{Role, Other, Getting, Holding, Giving, Waiting, IsPlain, IsShown, Plays}
+use Rattle.container_laws.specs.Roles.{Role, Getting, Holding, Giving, Waiting, IsShown, Plays}
 use Rattle.container_laws.specs.Steady.{queue_of, queue, stepped, ended, EndsFor, EndsWell, PastFirstCall, WaitsBehind, IsTimely, IsSavedIn, MayBeStored, SteadyLink}
 use Rattle.container_laws.proofs.SteadyLookups.{each_weaker, each_append}
-use Rattle.container_laws.proofs.SteadyQueues.{ended_append, ended_join, edit_taken, ends_set, ends_well, plain_ended, save_begins, save_ends, past_if_part, past_if_saving, past_if_quiet, window_step}
+use Rattle.container_laws.proofs.SteadyQueues.{ended_join, edit_taken, ends_set, ends_well, plain_ended, save_begins, save_ends, past_if_part, past_if_saving, past_if_quiet, window_step}
 use Rattle.container_laws.proofs.SteadyRoles.{getting_last, giving_last, is_ui, plays_append, ui_active}
 
 -- in another record

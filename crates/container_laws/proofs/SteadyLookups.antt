@@ -51,7 +51,7 @@ pub each_set : {A : Type 0} (P : A → Type 0) (xs : List A) (n : ℕ) (a : A) �
 each_set P xs zero a h p = h
 each_set P xs (suc i) a h p = each_slice_set P xs i a h p
 
-each_get : {A : Type 0} (P : A → Type 0) (xs : List A) (i : ℕ) (x : A) → AllByRecursion P xs → slice_get xs i ≡ Some x → P x
+pub each_get : {A : Type 0} (P : A → Type 0) (xs : List A) (i : ℕ) (x : A) → AllByRecursion P xs → slice_get xs i ≡ Some x → P x
 each_get P [] i x h e = cc
 each_get P (y ∷ ys) zero x h e = (let yx : y ≡ x = cc in subst P yx h.0)
 each_get P (y ∷ ys) (suc i) x h e = each_get P ys i x h.1 e

@@ -1,5 +1,5 @@
 -- Messages keep a record steady.
-use Rattle.std.proofs.Common.{◌≡◌, ◌≤◌, ◌⊎◌, inl, inr, ℕ, Bool, true, false, List, [], ◌∷◌, Option, Some, None, Result, Ok, Err, refl, sym, ap, ◌∙◌, arith, subst, ◌==◌, if◌then◌else◌, eq-eqb}
+use Rattle.std.proofs.Common.{◌≡◌, ◌⊎◌, inl, inr, ℕ, Bool, true, false, List, [], ◌∷◌, Option, Some, None, Result, Ok, Err, refl, sym, ap, ◌∙◌, arith, subst, ◌==◌, if◌then◌else◌, eq-eqb}
 use Rattle.std.proofs.lemmas.Bool.{eqb-true, ne_eqb}
 use Rattle.std.specs.Prelude.{IfSome, IsOk, ◌&&◌}
 use Rattle.wire_msgs.specs.Found.{find, nth, put, set_nth}
@@ -27,9 +27,9 @@ use Rattle.container_model.specs.declared.fault.ContainerFault.TheVariants.{Wron
 use Rattle.container_model.specs.Grants.{grant_each, grant_of, moved, passed_to, regranted, regranted_in, requested}
 use Rattle.container_model.specs.Record.{Record, Took, asked_link, is_alive, is_link, is_linked, is_object, is_unreaped, with_object}
 use Rattle.container_model.specs.Saves.{settle}
-use Rattle.container_model.specs.Messages.{Replied, ask_found, ask_framed, is_fit, is_held_by, is_open_to, next_link, on_ask, on_write, relieved, replied, replied_fitting, replied_grant, replied_object, write_found, write_link, write_made, written_object, replied_record, reply_pending, reply_link, reply_taken, reply_found, on_reply}
+use Rattle.container_model.specs.Messages.{Replied, ask_found, ask_framed, is_held_by, is_open_to, next_link, on_ask, on_write, relieved, replied, replied_fitting, replied_grant, replied_object, write_found, write_link, write_made, written_object, replied_record, reply_pending, reply_link, reply_taken, reply_found, on_reply}
 use Rattle.container_laws.specs.Roles.{IsClaim, Getting, Giving, Holding, Other, Role, SteadyGrant, Waiting, role_in}
-use Rattle.container_laws.specs.Steady.{MayBeStored, SteadyLink, SteadyObject, Steady, SteadyAfterMessages, FittingAnswersTaken}
+use Rattle.container_laws.specs.Steady.{SteadyLink, SteadyObject, Steady, SteadyAfterMessages, FittingAnswersTaken}
 use Rattle.container_laws.proofs.SteadyAnswers.{Keeps, fit_replied, next_follows, next_stays, replied_keeps}
 use Rattle.container_laws.proofs.SteadyClaims.{LinkStays}
 use Rattle.container_laws.proofs.SteadyFinds.{acts_differ, find-put_other, found_by_number, put_by_number}
@@ -43,7 +43,7 @@ use Rattle.container_laws.proofs.SteadyTaking.{asked_object_steady}
 use Rattle.container_laws.proofs.SteadyTests.{asked_follows, find_passes, found_numbered, link_asked}
 use Rattle.container_laws.proofs.SteadyVerbs.{ended_grant, ended_parts}
 
-and_both : (a b : Bool) → (a && b) ≡ true → (a ≡ true) × (b ≡ true)
+pub and_both : (a b : Bool) → (a && b) ≡ true → (a ≡ true) × (b ≡ true)
 and_both true b e = (refl, e)
 and_both false b e = absurd (cc)
 
@@ -63,7 +63,7 @@ module _ (r : Record) (frame : Frame) (n : ℕ) where
       record { stays = replied_goes r.servers r.last_act frame.phase frame.k role l h op answer re e f.0 f.1; follows = subst (Keeps l) f.1 (replied_keeps l op answer) })
       (λ t q. cc) g
 
-  link_goes : (number : ℕ) (answer : Answer) (link : Option Link) (re : Replied) → Held r n link frame → reply_link number answer link ≡ Ok re → AnswersSteadily link re
+  pub link_goes : (number : ℕ) (answer : Answer) (link : Option Link) (re : Replied) → Held r n link frame → reply_link number answer link ≡ Ok re → AnswersSteadily link re
   link_goes number answer None re h g = cc
   link_goes number answer (Some l) re h g = pending_goes l number answer l.pending re h refl g
 
@@ -104,10 +104,10 @@ module _ (r : Record) (inc act : ℕ) (o : Object) (re : Replied) (frame : Frame
   there : find (is_object o.number) r.objects ≡ Some o
   there = found_by_number (is_linked inc act) r.objects o s.order found
 
-  abbrev x : Object
+  abbrev pub x : Object
   x = replied_object o re
 
-  took : TookPlace x o
+  pub took : TookPlace x o
   took = record { number = refl; frame = refl; link = next_follows re.link o.link goes.follows }
 
   within : is_within x.work ≡ true
@@ -274,13 +274,13 @@ write_keeps r inc act n w content t s e = if_told (λ (z : Result Took Container
     (λ a g. cc) e
 
 -- an ask that is taken
-held_by : (act g : ℕ) (s : GrantState) → is_held_by act g s ≡ true → (holder : Claim) × (tools : Tools) × (s ≡ state.Held holder tools) × (holder.act ≡ act) × (holder.g ≡ g)
+pub held_by : (act g : ℕ) (s : GrantState) → is_held_by act g s ≡ true → (holder : Claim) × (tools : Tools) × (s ≡ state.Held holder tools) × (holder.act ≡ act) × (holder.g ≡ g)
 held_by act g (state.Held holder tools) e = (let b = and_both (holder.act == act) (holder.g == g) e in (holder, tools, refl, eqb-true holder.act act b.0, eqb-true holder.g g b.1))
 held_by act g state.Free e = absurd (cc)
 held_by act g (state.Granting c) e = absurd (cc)
 held_by act g (state.Revoking c next) e = absurd (cc)
 
-linked_by : (inc act : ℕ) (link : Option Link) → is_link inc act link ≡ true → (l : Link) × (link ≡ Some l) × (l.inc ≡ inc) × (l.act ≡ act)
+pub linked_by : (inc act : ℕ) (link : Option Link) → is_link inc act link ≡ true → (l : Link) × (link ≡ Some l) × (l.inc ≡ inc) × (l.act ≡ act)
 linked_by inc act None e = absurd (cc)
 linked_by inc act (Some l) e = (let b = and_both (l.inc == inc) (l.act == act) e in (l, refl, eqb-true l.inc inc b.0, eqb-true l.act act b.1))
 

@@ -1,5 +1,5 @@
 -- A frame's grant moves: the record is steady but for the objects whose part changes, until these are asked.
-use Rattle.std.proofs.Common.{◌≡◌, ◌≢◌, ◌≤◌, ◌<◌, ◌⊎◌, inl, inr, ℕ, Bool, true, false, List, [], ◌∷◌, length, Option, Some, None, refl, sym, ap, ◌∙◌, arith, subst, ◌==◌, if◌then◌else◌, eq-eqb}
+use Rattle.std.proofs.Common.{◌≡◌, ◌≤◌, inl, inr, ℕ, Bool, true, false, List, [], ◌∷◌, length, Option, Some, None, refl, sym, ap, ◌∙◌, arith, subst, ◌==◌, if◌then◌else◌, eq-eqb}
 use Rattle.std.proofs.lemmas.Bool.{eqb-true, eqb-false, ne_eqb}
 use Rattle.std.specs.Prelude.{IfSome, nat_lt}
 use Rattle.std.specs.List.{AllByRecursion}
@@ -9,17 +9,14 @@ use Rattle.ole_parts.specs.CompObjs.{PAST_USER_TYPE}
 use Rattle.grant_core.specs.Frames.{Ui}
 use Rattle.grant_core.specs.declared.grant_states.Claim.{Claim}
 use Rattle.grant_core.specs.declared.grant_states.Tools.{Tools}
-use Rattle.grant_core.specs.declared.grant_states.GrantState.{GrantState}
 use Rattle.grant_core.specs.declared.grant_states.GrantState.TheVariants as state
-use Rattle.container_model.specs.declared.record.Link.{Link}
 use Rattle.container_model.specs.declared.record.Object.{Object}
 use Rattle.container_model.specs.declared.record.Frame.{Frame}
 use Rattle.container_model.specs.Record.{Record, MOST_OBJECTS, count_objects, is_object, with_frame}
-use Rattle.container_laws.specs.Roles.{Role, Other, Getting, Holding, Giving, Waiting, SteadyGrant, role_in}
+use Rattle.container_laws.specs.Roles.{Role, Getting, Holding, Giving, Waiting, SteadyGrant, role_in}
 use Rattle.container_laws.specs.Steady.{SteadyLink, SteadyObject, SteadyFrame, InOrder, EachPair, Steady}
-use Rattle.container_laws.proofs.SteadyClaims.{KeepsLink, LinkStays, claim_kept, grant_kept, keeps_put, keeps_refl, set_back}
+use Rattle.container_laws.proofs.SteadyClaims.{LinkStays, claim_kept, grant_kept, keeps_put, keeps_refl, set_back}
 use Rattle.container_laws.proofs.SteadyCounts.{count_put}
-use Rattle.container_laws.proofs.SteadyFinds.{put_by_number}
 use Rattle.container_laws.proofs.SteadyLookups.{each_nth, each_set, each_weaker, nth-set_same, nth-set_other, pairs_put}
 use Rattle.container_laws.proofs.SteadyRecords.{Held, TookPlace, and_some, at_some, order_left, order_right, some_and}
 
@@ -48,7 +45,7 @@ each_put_but Q n a x (y ∷ ys) h e k q = elim (y.number == n) as (λ b. (y.numb
   | false ↦ (λ t g. (k.0 (eqb-false y.number n t), each_put_but Q n a x ys h.1 g k.1 q))
 ] refl e
 
-each_unit : (os : List Object) → AllByRecursion (λ (o : Object). Unit {0}) os
+pub each_unit : (os : List Object) → AllByRecursion (λ (o : Object). Unit {0}) os
 each_unit [] = tt
 each_unit (o ∷ os) = (tt, each_unit os)
 

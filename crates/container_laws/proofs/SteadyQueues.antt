@@ -9,7 +9,6 @@ use Rattle.object_state.specs.Both as both
 use Rattle.object_state.specs.Persists as persist
 use Rattle.object_state.specs.Objects as object
 use Rattle.object_state.specs.declared.both_states.States.{States}
-use Rattle.object_state.specs.declared.operations.CloseOption.{CloseOption}
 use Rattle.object_state.specs.declared.operations.Op.{Op}
 use Rattle.object_state.specs.declared.operations.Op.TheVariants as op
 use Rattle.object_state.specs.declared.faults.StateFault.{StateFault}
@@ -25,7 +24,7 @@ use Rattle.container_model.specs.declared.record.Link.{Link}
 use Rattle.container_model.specs.declared.record.Phase.{Phase}
 use Rattle.container_model.specs.declared.record.Phase.TheVariants.{Idle, Saving}
 use Rattle.container_laws.specs.Roles.{Role, Other, Getting, Holding, Giving, Waiting, IsPlain, IsShown, Plays}
-use Rattle.container_laws.specs.Steady.{queue_of, queue, stepped, ended, IsRunning, HasStorage, storage_in, IsOfSave, EndsAs, EndsFor, EndsWell, IsBeginning, AtFirstCall, PastFirstCall, IsTimely, SteadyLink}
+use Rattle.container_laws.specs.Steady.{queue_of, stepped, ended, IsRunning, HasStorage, storage_in, IsOfSave, EndsAs, EndsFor, EndsWell, IsBeginning, AtFirstCall, PastFirstCall, IsTimely, SteadyLink}
 use Rattle.container_laws.proofs.SteadyRoles.{is_ui, plain_shown}
 
 -- runs of a queue

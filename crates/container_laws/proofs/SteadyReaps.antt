@@ -3,7 +3,7 @@ use Rattle.std.proofs.Common.{◌≡◌, ◌≤◌, ◌⊎◌, inl, inr, ℕ, ze
 use Rattle.std.proofs.lemmas.Bool.{eqb-true, eqb-false}
 use Rattle.std.specs.Prelude.{IfSome, option_map, slice_get}
 use Rattle.std.specs.List.{AllByRecursion}
-use Rattle.wire_msgs.specs.Found.{find, nth, put, set_nth}
+use Rattle.wire_msgs.specs.Found.{find, nth, set_nth}
 use Rattle.wire_msgs.specs.declared.operation.Operation.TheVariants.{UiActivate}
 use Rattle.grant_core.specs.declared.grant_states.Claim.{Claim}
 use Rattle.grant_core.specs.declared.grant_states.GrantState.{GrantState}
@@ -15,19 +15,19 @@ use Rattle.container_model.specs.declared.fault.ContainerFault.{ContainerFault}
 use Rattle.container_model.specs.declared.fault.ContainerFault.TheVariants.{NoSuch}
 use Rattle.container_model.specs.Grants.{freed, freed_claims, freed_frame, grant_each, is_hosted, is_hosted_object, passed_to, requested, unwaited}
 use Rattle.container_model.specs.Record.{Record, Took, MOST_OBJECTS, asked_link, is_alive, is_object, is_unreaped, with_object}
-use Rattle.container_model.specs.Saves.{kept, settle}
-use Rattle.container_model.specs.Messages.{on_reap, reaped, reaped_grants, reaped_object}
+use Rattle.container_model.specs.Saves.{kept}
+use Rattle.container_model.specs.Messages.{reaped, reaped_grants, reaped_object}
 use Rattle.container_laws.specs.Roles.{IsClaim, Getting, Role, SteadyGrant, Waiting, role_in}
 use Rattle.container_laws.specs.Steady.{SteadyFrame, SteadyLink, SteadyObject, InOrder, EachPair, Steady, SteadyAfterReaps}
 use Rattle.container_laws.proofs.SteadyAnswers.{none_follows}
-use Rattle.container_laws.proofs.SteadyClaims.{KeepsLink, LinkStays, claim_kept, keeps_map}
+use Rattle.container_laws.proofs.SteadyClaims.{claim_kept, keeps_map}
 use Rattle.container_laws.proofs.SteadyCounts.{count_map}
-use Rattle.container_laws.proofs.SteadyFates.{Fate, stays, ends, unwaits, passes, Hosted, NewPart, keeps_part, granted_part, fate, grant_after, part_after}
+use Rattle.container_laws.proofs.SteadyFates.{Fate, stays, ends, unwaits, passes, Hosted, keeps_part, granted_part, fate, grant_after, part_after}
 use Rattle.container_laws.proofs.SteadyFinds.{find-map, find-put_other, here, number_apart}
 use Rattle.container_laws.proofs.SteadyLinks.{grant_asked, link_moved}
 use Rattle.container_laws.proofs.SteadyLookups.{each_both, each_found, each_map, each_weaker, nth-set_other, pairs_map}
 use Rattle.container_laws.proofs.SteadyMoves.{But, SteadyBut, all_steady, but_all, gets_it, put_but, waits_for_it}
-use Rattle.container_laws.proofs.SteadyRecords.{if_told, some_and, and_some, at_some, if_at, Held, kept_object_within, TookPlace, order_both, settle_steady}
+use Rattle.container_laws.proofs.SteadyRecords.{if_told, some_and, and_some, at_some, Held, kept_object_within, TookPlace, order_both, settle_steady}
 use Rattle.container_laws.proofs.SteadyShapes.{Among}
 use Rattle.container_laws.proofs.SteadyTaking.{asked_part}
 use Rattle.container_laws.proofs.SteadyTests.{asked_follows, find_passes, link_asked}
@@ -52,7 +52,7 @@ map_back g xs zero y e = cc
 map_back g xs (suc i) y e = get_back g xs i y e
 
 -- each object is found by its number
-each_own : (os : List Object) → EachPair InOrder os → AllByRecursion (λ (o : Object). find (is_object o.number) os ≡ Some o) os
+pub each_own : (os : List Object) → EachPair InOrder os → AllByRecursion (λ (o : Object). find (is_object o.number) os ≡ Some o) os
 each_own [] h = tt
 each_own (y ∷ ys) h = (
   here y.number y ys refl,
@@ -70,7 +70,7 @@ but_among [] P o h = absurd h
 but_among (n ∷ ns) P o (inl e) = λ ne. absurd (ne e)
 but_among (n ∷ ns) P o (inr h) = λ ne. but_among ns P o h
 
-passed_few : (s t : GrantState) → (passed_to s t ≡ []) ⊎ ((c : Claim) × (passed_to s t ≡ c ∷ []))
+pub passed_few : (s t : GrantState) → (passed_to s t ≡ []) ⊎ ((c : Claim) × (passed_to s t ≡ c ∷ []))
 passed_few state.Free t = inl refl
 passed_few (state.Granting c) t = inl refl
 passed_few (state.Held c tools) t = inl refl
@@ -84,7 +84,7 @@ module _ (inc : ℕ) (os : List Object) where
   abbrev pub passed : Frame → List Claim
   passed frame = passed_to (unwaited inc os frame.ui).state (freed inc os frame.ui).state
 
-  freed_all : (P : Claim → Type 0) (frames : List Frame) → ((i : ℕ) (frame : Frame) (c : Claim) → slice_get frames i ≡ Some frame → passed frame ≡ c ∷ [] → P c) → AllByRecursion P (freed_claims inc os frames)
+  pub freed_all : (P : Claim → Type 0) (frames : List Frame) → ((i : ℕ) (frame : Frame) (c : Claim) → slice_get frames i ≡ Some frame → passed frame ≡ c ∷ [] → P c) → AllByRecursion P (freed_claims inc os frames)
   freed_all P [] k = tt
   freed_all P (y ∷ ys) k =
       let rest = freed_all P ys (λ i frame c at e. k (suc i) frame c at e) in
@@ -105,16 +105,16 @@ module _ (inc : ℕ) (os : List Object) where
   freed_among (y ∷ ys) (suc i) frame c at e = among_behind (passed y) (freed_claims inc os ys) c.object (freed_among ys i frame c at e)
 
 -- claims of different frames are of different objects
-abbrev ClaimsApart : Claim → Claim → Type 0
+abbrev pub ClaimsApart : Claim → Claim → Type 0
 ClaimsApart c d = c.object ≡ d.object → ⊥
 
-claims_apart : (r : Record) (f g : ℕ) (c d : Claim) → IsClaim r f c → IsClaim r g d → (f ≡ g → ⊥) → ClaimsApart c d
+pub claims_apart : (r : Record) (f g : ℕ) (c d : Claim) → IsClaim r f c → IsClaim r g d → (f ≡ g → ⊥) → ClaimsApart c d
 claims_apart r f g c d h k ne e =
     let both = sym h.found ∙ (ap (λ (n : ℕ). find (is_object n) r.objects) e ∙ k.found) in
     let same : h.object ≡ k.object = cc in
     ne (sym h.inside ∙ (ap (λ (z : Object). z.frame) same ∙ k.inside))
 
-freed_pairs : (r : Record) (inc f : ℕ) (os : List Object) (frames : List Frame) → ((i : ℕ) (frame : Frame) (c : Claim) → slice_get frames i ≡ Some frame → passed inc os frame ≡ c ∷ [] → IsClaim r (f + i) c) → EachPair ClaimsApart (freed_claims inc os frames)
+pub freed_pairs : (r : Record) (inc f : ℕ) (os : List Object) (frames : List Frame) → ((i : ℕ) (frame : Frame) (c : Claim) → slice_get frames i ≡ Some frame → passed inc os frame ≡ c ∷ [] → IsClaim r (f + i) c) → EachPair ClaimsApart (freed_claims inc os frames)
 freed_pairs r inc f os [] k = tt
 freed_pairs r inc f os (y ∷ ys) k =
     let rest = freed_pairs r inc (f + 1) os ys (λ i frame c at e. (let same : f + suc i ≡ (f + 1) + i = omega arith in subst (λ (n : ℕ). IsClaim r n c) same (k (suc i) frame c at e))) in
@@ -149,11 +149,11 @@ granted_steady (c ∷ cs) v h p k =
     subst (λ (z : Option Object). Steady (grant_each (requested v (UiActivate c.g) z).rec cs).rec) (sym k.0.found) (granted_steady cs (with_object v asked) next p.1 ready)
 
 -- the objects of the server are passive
-stays_object : (inc : ℕ) (o : Object) (link : Option Link) → is_hosted inc link ≡ false → reaped_object inc o link ≡ o
+pub stays_object : (inc : ℕ) (o : Object) (link : Option Link) → is_hosted inc link ≡ false → reaped_object inc o link ≡ o
 stays_object inc o None h = refl
 stays_object inc o (Some l) h = rw h refl
 
-gone_link : (inc : ℕ) (o : Object) (link : Option Link) → is_hosted inc link ≡ true → reaped_object inc o link ≡ record o { work = kept o; link = None }
+pub gone_link : (inc : ℕ) (o : Object) (link : Option Link) → is_hosted inc link ≡ true → reaped_object inc o link ≡ record o { work = kept o; link = None }
 gone_link inc o None h = cc
 gone_link inc o (Some l) h = rw h refl
 
@@ -164,10 +164,10 @@ reaped_took inc o (Some l) e = if_told (λ (z : Object). TookPlace z o) (l.inc =
     (λ t. record { number = refl; frame = refl; link = λ m g. (m, g, refl) })
 
 module _ (r : Record) (inc : ℕ) (s : Steady r) where
-  abbrev claims : List Claim
+  abbrev pub claims : List Claim
   claims = freed_claims inc r.objects r.frames
 
-  abbrev gone : Record
+  abbrev pub gone : Record
   gone = record (reaped r inc) { frames = map (freed_frame inc r.objects) r.frames }
 
   others_told : (link : Option Link) (l : Link) → link ≡ Some l → is_hosted inc link ≡ false → is_unreaped (nth r.servers l.inc) ≡ true → is_unreaped (nth (set_nth r.servers inc true) l.inc) ≡ true
@@ -219,7 +219,7 @@ module _ (r : Record) (inc : ℕ) (s : Steady r) where
   ] refl
 
   -- claims of objects that stay
-  unhosted : (c : Claim) (x : Object) → Hosted inc r.objects c ≡ false → find (is_object c.object) r.objects ≡ Some x → is_hosted inc x.link ≡ false
+  pub unhosted : (c : Claim) (x : Object) → Hosted inc r.objects c ≡ false → find (is_object c.object) r.objects ≡ Some x → is_hosted inc x.link ≡ false
   unhosted c x h found = subst (λ (z : Option Object). is_hosted_object inc z ≡ false) found h
 
   claim_stays : (f : ℕ) (c : Claim) → Hosted inc r.objects c ≡ false → IsClaim r f c → IsClaim gone f c
@@ -240,11 +240,11 @@ module _ (r : Record) (inc : ℕ) (s : Steady r) where
   }
 
   -- whoever is granted a frame waited for it
-  record Passing (f : ℕ) (frame : Frame) (c : Claim) : Type 0 where
-    holder : Claim
-    was : frame.ui.state ≡ state.Revoking holder (Some c)
-    now : (freed inc r.objects frame.ui).state ≡ state.Granting c
-    still : Hosted inc r.objects c ≡ false
+  pub record Passing (f : ℕ) (frame : Frame) (c : Claim) : Type 0 where
+    pub holder : Claim
+    pub was : frame.ui.state ≡ state.Revoking holder (Some c)
+    pub now : (freed inc r.objects frame.ui).state ≡ state.Granting c
+    pub still : Hosted inc r.objects c ≡ false
 
   passing_at : (f : ℕ) (frame : Frame) (t : GrantState) (cs : List Claim) (c : Claim) (a : GrantState) → frame.ui.state ≡ a → (freed inc r.objects frame.ui).state ≡ t → Fate inc r.objects a t cs → cs ≡ c ∷ [] → Passing f frame c
   passing_at f frame t cs c a ea et (stays h w) e = cc
@@ -254,10 +254,10 @@ module _ (r : Record) (inc : ℕ) (s : Steady r) where
       let same : two ≡ c = cc in
       record { holder = one; was = ea ∙ ap (λ (z : Claim). state.Revoking one (Some z)) same; now = et ∙ ap state.Granting same; still = subst (λ (z : Claim). Hosted inc r.objects z ≡ false) same w }
 
-  passing : (f : ℕ) (frame : Frame) (c : Claim) → nth r.frames f ≡ Some frame → passed inc r.objects frame ≡ c ∷ [] → Passing f frame c
+  pub passing : (f : ℕ) (frame : Frame) (c : Claim) → nth r.frames f ≡ Some frame → passed inc r.objects frame ≡ c ∷ [] → Passing f frame c
   passing f frame c at e = passing_at f frame (freed inc r.objects frame.ui).state (passed inc r.objects frame) c frame.ui.state refl refl (fate_of f frame at) e
 
-  waits_claim : (f : ℕ) (frame : Frame) (c : Claim) → nth r.frames f ≡ Some frame → Passing f frame c → IsClaim r f c
+  pub waits_claim : (f : ℕ) (frame : Frame) (c : Claim) → nth r.frames f ≡ Some frame → Passing f frame c → IsClaim r f c
   waits_claim f frame c at p = (subst (SteadyGrant r f) p.was (s.grants f frame at)).next
 
   ready : (f : ℕ) (frame : Frame) (c : Claim) → nth r.frames f ≡ Some frame → passed inc r.objects frame ≡ c ∷ [] → IsReady gone c

@@ -5,7 +5,7 @@ use Rattle.std.specs.List.{AllByRecursion}
 use Rattle.wire_msgs.specs.Found.{nth}
 use Rattle.wire_msgs.specs.Operations.{op_of}
 use Rattle.wire_msgs.specs.declared.operation.Operation.{Operation}
-use Rattle.wire_msgs.specs.declared.operation.Operation.TheVariants.{InitNew, Load, InPlace, UiActivate, UiDeactivate, InPlaceDeactivate, OpenWindow, Edit, Save, HandsOff, SaveCompleted, SaveDropped, Close}
+use Rattle.wire_msgs.specs.declared.operation.Operation.TheVariants.{InitNew, Load, InPlace, UiActivate, UiDeactivate, InPlaceDeactivate, OpenWindow, Edit, Save, SaveCompleted, Close}
 use Rattle.wire_msgs.specs.declared.answer.Answer.{Answer}
 use Rattle.wire_msgs.specs.declared.answer.Answer.TheVariants.{Done, Refused, Content}
 use Rattle.wire_msgs.specs.declared.answer.Answer.TheVariants as told
@@ -34,7 +34,7 @@ use Rattle.container_model.specs.declared.record.Phase.TheVariants.{Idle, Saving
 use Rattle.container_model.specs.Record.{is_unreaped}
 use Rattle.container_model.specs.Messages.{Replied, closed, closed_with, granted_link, is_fit, next_at, next_link, next_s, done, saved_link, lost, noted, replied}
 use Rattle.container_laws.specs.Roles.{Role, Other, Getting, Holding, Giving, IsPlain, IsShown, Plays}
-use Rattle.container_laws.specs.Steady.{HasStorage, queue_of, queue, ended, EndsFor, EndsWell, IsBeginning, AtFirstCall, PastFirstCall, IsTimely, IsSavedIn, MayBeStored, SteadyLink, Fits}
+use Rattle.container_laws.specs.Steady.{HasStorage, queue_of, ended, EndsWell, IsBeginning, PastFirstCall, IsTimely, IsSavedIn, MayBeStored, SteadyLink, Fits}
 use Rattle.container_laws.proofs.SteadyEnding.{closing_other}
 use Rattle.container_laws.proofs.SteadyQueues.{LeavesRunning, first_other, has_begun, joined_ok, taken, done_past, edit_taken, none_asked_again, save_scribbles}
 use Rattle.container_laws.proofs.SteadyRoles.{activated, deactivated, getting_role, giving_role, plain_shown, plays_pop, shown_as}

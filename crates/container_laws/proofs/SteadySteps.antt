@@ -1,9 +1,7 @@
 -- The steps of verbs and closes: what queues they make.
-use Rattle.std.proofs.Common.{◌≡◌, inl, inr, ℕ, Bool, true, false, List, [], ◌∷◌, map, Option, Some, None, Result, Ok, Err, refl, sym, ap, ◌∙◌, subst}
-use Rattle.std.specs.Prelude.{IfSome, IsOkAnd}
+use Rattle.std.proofs.Common.{◌≡◌, ℕ, true, false, List, [], ◌∷◌, map, Option, Some, None, Result, Ok, Err, refl, ap, subst}
+use Rattle.std.specs.Prelude.{IfSome}
 use Rattle.std.specs.List.{AllByRecursion}
-use Rattle.wire_msgs.specs.Operations as operation
-use Rattle.wire_msgs.specs.declared.operation.Operation.{Operation}
 use Rattle.object_state.specs.Both as both
 use Rattle.object_state.specs.Laws.{then_run, goal_of}
 use Rattle.object_state.specs.Objects as object

@@ -1,5 +1,5 @@
 -- Verbs that take the frame keep a record steady.
-use Rattle.std.proofs.Common.{◌≡◌, ◌≤◌, inl, ℕ, ◌+◌, ◌==◌, Bool, true, false, List, [], ◌∷◌, map, Option, Some, None, Result, Ok, Err, refl, sym, ap, ◌∙◌, arith, subst, eq-eqb}
+use Rattle.std.proofs.Common.{◌≡◌, ℕ, ◌+◌, Bool, false, List, [], ◌∷◌, map, Option, Some, None, Result, Ok, refl, sym, ap, ◌∙◌, arith, subst}
 use Rattle.std.proofs.lemmas.Bool.{eqb-true, ne_eqb}
 use Rattle.std.specs.Prelude.{IfSome, IsOkAnd}
 use Rattle.std.specs.List.{AllByRecursion}
@@ -29,14 +29,14 @@ use Rattle.container_model.specs.declared.record.Phase.TheVariants.{Idle}
 use Rattle.container_model.specs.Grants.{requested}
 use Rattle.container_model.specs.Record.{Record, ask, ask_each, asked_link, is_asked, is_claim, is_moving, is_object, with_object}
 use Rattle.container_model.specs.Verbs.{before_taking, claim_of, claimed, holder_of, operation_of, revoked_at, stepped_link, steps_now, taking_made}
-use Rattle.container_laws.specs.Roles.{IsClaim, IsPlain, IsShown, Other, Getting, Giving, Holding, Plays, Role, SteadyGrant, Waiting, role_in}
+use Rattle.container_laws.specs.Roles.{IsClaim, IsPlain, IsShown, Getting, Giving, Holding, Plays, Role, SteadyGrant, Waiting, role_in}
 use Rattle.container_laws.specs.Steady.{ended, EndsWell, IsTimely, SteadyLink, SteadyObject, Steady}
 use Rattle.container_laws.proofs.SteadyAsks.{held_idle, free, was}
 use Rattle.container_laws.proofs.SteadyFinds.{acts_differ, find-put_other}
-use Rattle.container_laws.proofs.SteadyLinks.{asked_each, end_asked, quiet_asked, quiet_ends, quiet_plays}
+use Rattle.container_laws.proofs.SteadyLinks.{asked_each, end_asked, quiet_asked, quiet_ends}
 use Rattle.container_laws.proofs.SteadyLookups.{each_found}
 use Rattle.container_laws.proofs.SteadyMoves.{But, SteadyBut, all_steady, gets_it, gives_it, has_it, move_but, moved_to, parts_asked, parts_waited, put_but, set_object, waits_for_it}
-use Rattle.container_laws.proofs.SteadyRoles.{AtHeld, AtRest, holds, rests, at_rest}
+use Rattle.container_laws.proofs.SteadyRoles.{AtHeld}
 use Rattle.container_laws.proofs.SteadySteps.{TakesFrom, hidden, placed, steps_timely}
 use Rattle.container_laws.proofs.SteadyTests.{asked_follows, find_passes, found_numbered, link_asked}
 

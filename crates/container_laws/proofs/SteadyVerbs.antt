@@ -1,18 +1,15 @@
 -- Verbs and closes keep a record steady.
-use Rattle.std.proofs.Common.{◌≡◌, ◌≤◌, inl, ℕ, ◌+◌, ◌==◌, Bool, true, false, not, List, [], ◌∷◌, map, Option, Some, None, Result, Ok, Err, refl, sym, ap, ◌∙◌, arith, subst, if◌then◌else◌, eq-eqb}
-use Rattle.std.proofs.lemmas.Bool.{ne_eqb}
-use Rattle.std.specs.Prelude.{IfSome, IsOkAnd, ◌||◌, ◌&&◌, ℤ, nat_le}
+use Rattle.std.proofs.Common.{◌≡◌, ℕ, Bool, true, false, not, List, [], ◌∷◌, map, Option, Some, None, Result, Ok, refl, sym, ap, ◌∙◌, arith, subst, if◌then◌else◌, eq-eqb}
+use Rattle.std.specs.Prelude.{IsOkAnd, ◌||◌, ◌&&◌, ℤ, nat_le}
 use Rattle.std.specs.List.{AllByRecursion}
 use Rattle.wire_msgs.specs.Found.{find, nth, put}
-use Rattle.wire_msgs.specs.declared.operation.Operation.{Operation}
-use Rattle.wire_msgs.specs.declared.operation.Operation.TheVariants.{UiActivate, UiDeactivate, InPlace}
 use Rattle.object_state.specs.Laws.{goal_of}
 use Rattle.object_state.specs.Verbs.{activates_ui, close_steps, steps, verb_of}
 use Rattle.object_state.specs.declared.both_states.States.{States}
 use Rattle.object_state.specs.declared.faults.StateFault.{StateFault}
 use Rattle.object_state.specs.declared.operations.CloseOption.{CloseOption}
 use Rattle.object_state.specs.declared.object_states.ObjectState.{ObjectState}
-use Rattle.object_state.specs.declared.object_states.ObjectState.TheVariants.{Passive, Running, InPlaceActive, UiActive}
+use Rattle.object_state.specs.declared.object_states.ObjectState.TheVariants.{Passive, UiActive}
 use Rattle.object_state.specs.declared.persist_states.PersistState.{PersistState}
 use Rattle.object_state.specs.declared.persist_states.PersistState.TheVariants.{Normal}
 use Rattle.object_state.specs.declared.verbs.Verb.{Verb}
@@ -20,7 +17,7 @@ use Rattle.object_state.specs.declared.verbs.Verb.TheVariants.{Primary, Show, Hi
 use Rattle.object_state.specs.declared.verbs.Verb.TheVariants as verb
 use Rattle.object_state.specs.declared.verbs.Step.{Step}
 use Rattle.object_state.specs.declared.verbs.Step.TheVariants as step
-use Rattle.grant_core.specs.Frames.{Ui, after, kept}
+use Rattle.grant_core.specs.Frames.{after, kept}
 use Rattle.grant_core.specs.Grants.{Ask, table, waiting}
 use Rattle.grant_core.specs.declared.grant_states.Claim.{Claim}
 use Rattle.grant_core.specs.declared.grant_states.Tools.{Tools}
@@ -34,11 +31,11 @@ use Rattle.container_model.specs.declared.record.Phase.TheVariants.{Idle}
 use Rattle.container_model.specs.declared.fault.ContainerFault.{ContainerFault}
 use Rattle.container_model.specs.declared.fault.ContainerFault.TheVariants.{Busy, InDoubt as Doubtful, NumbersSpent}
 use Rattle.container_model.specs.Grants.{grant_of, moved}
-use Rattle.container_model.specs.Record.{Record, Took, ask_each, counts_none, has_numbers, is_asked, is_busy, is_claim, is_doubtful, is_moving, is_object, is_saving, quiet_answer, with_frame, with_object}
+use Rattle.container_model.specs.Record.{Record, Took, counts_none, has_numbers, is_asked, is_busy, is_claim, is_doubtful, is_moving, is_object, is_saving, quiet_answer, with_frame, with_object}
 use Rattle.container_model.specs.Verbs as verbs
 use Rattle.container_model.specs.Verbs.{claim_of, gives_up, leaving_made, operation_of, stepped_link, takes, taking_made}
 use Rattle.container_laws.specs.Roles.{IsClaim, IsPlain, IsShown, Other, Giving, Role, SteadyGrant, role_in}
-use Rattle.container_laws.specs.Steady.{ended, EndsAs, EndsWell, SteadyLink, SteadyObject, Steady}
+use Rattle.container_laws.specs.Steady.{ended, EndsAs, EndsWell, SteadyLink, Steady}
 use Rattle.container_laws.proofs.SteadyAsks.{held_idle, free, linked_keeps, was}
 use Rattle.container_laws.proofs.SteadyLinks.{asked_each, quiet_asked, quiet_ends, quiet_plays}
 use Rattle.container_laws.proofs.SteadyMoves.{But, SteadyBut, all_steady, gives_it, has_it, move_but, moved_to, parts_ended, put_but, set_object}

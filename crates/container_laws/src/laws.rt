@@ -1,6 +1,6 @@
 //! Laws above the steps of a container. Each function is empty: its contract is the law, which is proved.
 
-ghost use Rattle.container_laws.specs.Laws.{OnlyExpectedMessages, OtherAsksAreStale, OtherServersAreRefused, OtherWritesAreStale, OthersAreStale, WritesAreKept};
+ghost use Rattle.container_laws.specs.Laws.{FreedByHolders, OnlyExpectedMessages, OtherAsksAreStale, OtherServersAreRefused, OtherWritesAreStale, OthersAreStale, ReapsEndTheirs, ReapsKeepOthers, WritesAreKept};
 
 /// Only the reply to a pending call moves a record, by its number, or a write under the storage grant that the record
 /// holds open, or an ask of whoever holds its frame: by its activation, and on the link of its server.
@@ -32,4 +32,22 @@ pub fn writes_are_kept()
 /// A message on the link of another server is refused, and so changes nothing.
 pub fn other_servers_are_refused()
     ensures { OtherServersAreRefused }
+{}
+
+/// Where a record is steady, the end of a server leaves the objects of other servers as they are, but for those that
+/// waited for their frames, which are told of their grants.
+pub fn reaps_keep_others()
+    ensures { ReapsKeepOthers }
+{}
+
+/// Where a record is steady, the objects of a server that has ended are passive, with the content that they answered in
+/// the present save, if any.
+pub fn reaps_end_theirs()
+    ensures { ReapsEndTheirs }
+{}
+
+/// Where a record is steady, a frame is given up by its holder's own answer alone, once it was told to: no other message
+/// changes who has the frame or is to get it.
+pub fn freed_by_holders()
+    ensures { FreedByHolders }
 {}
