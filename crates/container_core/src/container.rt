@@ -15,9 +15,6 @@ ghost use Rattle.file_model.specs.Denotes.{Denotes};
 ghost use Rattle.wire_msgs.specs.Found.{find, nth};
 
 use crate::state::State;
-use container_numbers::sound_laws::{
-    sound_after_commands, sound_after_commits, sound_after_messages, sound_after_reaps,
-};
 use container_laws::steady_laws::{
     steady_after_commands, steady_after_commits, steady_after_messages, steady_after_reaps,
 };
@@ -25,6 +22,9 @@ use container_model::answer::{Answer, Committed, Part};
 use container_model::command::Command;
 use container_model::fault::ContainerFault;
 use container_model::record::{Frame, Object};
+use container_numbers::sound_laws::{
+    sound_after_commands, sound_after_commits, sound_after_messages, sound_after_reaps,
+};
 use container_objects::lookups::{frame_numbers, object_numbers};
 use container_screen::screen::screen;
 use std::alloc::{AllocError, Global};

@@ -108,9 +108,10 @@ pub record IsGranted (r : Record) (o later : Object) : Type 0 where
 abbrev pub StaysOrIsGranted : Record → Object → Object → Type 0
 StaysOrIsGranted r o later = (later ≡ o) ⊎ IsGranted r o later
 
--- a message leaves the objects as they are that don't have its activation, but for one that waited for its frame
+-- a message leaves the objects as they are that don't have its activation, but for one that waited for its frame (that
+-- whoever waits for a frame stands in it, steadiness says)
 abbrev pub MessagesKeepOthers : Type 0
-MessagesKeepOthers = (r : Record) (link : ℕ) (m : Message) (t : Took) → on_message r link m ≡ Ok t → (i : ℕ) (o : Object) → slice_get r.objects i ≡ Some o → is_about m o ≡ false
+MessagesKeepOthers = (r : Record) (link : ℕ) (m : Message) (t : Took) → Steady r → on_message r link m ≡ Ok t → (i : ℕ) (o : Object) → slice_get r.objects i ≡ Some o → is_about m o ≡ false
     → (later : Object) × (slice_get t.rec.objects i ≡ Some later) × StaysOrIsGranted r o later
 
 -- the end of a server leaves the objects of other servers as they are, but for those that waited for their frames

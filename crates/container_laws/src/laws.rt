@@ -1,6 +1,6 @@
 //! Laws above the steps of a container. Each function is empty: its contract is the law, which is proved.
 
-ghost use Rattle.container_laws.specs.Laws.{FreedByHolders, OnlyExpectedMessages, OtherAsksAreStale, OtherServersAreRefused, OtherWritesAreStale, OthersAreStale, ReapsEndTheirs, ReapsKeepOthers, WritesAreKept};
+ghost use Rattle.container_laws.specs.Laws.{FreedByHolders, OnlyExpectedMessages, OtherAsksAreStale, OtherServersAreRefused, OtherWritesAreStale, OthersAreStale, ReapsEndTheirs, ReapsKeepOthers, WritesAreKept, MessagesKeepOthers};
 
 /// Only the reply to a pending call moves a record, by its number, or a write under the storage grant that the record
 /// holds open, or an ask of whoever holds its frame: by its activation, and on the link of its server.
@@ -32,6 +32,12 @@ pub fn writes_are_kept()
 /// A message on the link of another server is refused, and so changes nothing.
 pub fn other_servers_are_refused()
     ensures { OtherServersAreRefused }
+{}
+
+/// Where a record is steady, a message leaves the objects as they are that don't have its activation, but for one that waited
+/// for its frame, which is told of its grant.
+pub fn messages_keep_others()
+    ensures { MessagesKeepOthers }
 {}
 
 /// Where a record is steady, the end of a server leaves the objects of other servers as they are, but for those that

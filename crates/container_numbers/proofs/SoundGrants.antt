@@ -104,8 +104,8 @@ asks_held holder claim tools n ne =
     if_told (λ r. grant_debt n (kept (Held holder tools) r) ≤ grant_debt n (Held holder tools)) (is_own holder claim) _ _
     (λ t. omega arith)
     (λ t. if_told (λ r. grant_debt n (kept (Held holder tools) r) ≤ grant_debt n (Held holder tools)) (is_another holder claim) _ _
-      (λ u. other_less claim n 2 (grant_debt n (Held holder tools)) ne)
-      (λ u. omega arith))
+    (λ u. other_less claim n 2 (grant_debt n (Held holder tools)) ne)
+    (λ u. omega arith))
 
 pub asks_less : (s : GrantState) (claim : Claim) (n : ℕ) → (claim.object ≡ n → ⊥) → grant_debt n (kept s (table s (Ask claim))) ≤ grant_debt n s
 asks_less Free claim n ne = other_less claim n 1 0 ne

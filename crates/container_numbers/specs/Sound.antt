@@ -20,4 +20,3 @@ SoundAfterReaps = (r : Record) (inc : ℕ) (t : Took) → Steady r → IsSound r
 
 abbrev pub SoundAfterCommits : Type 0
 SoundAfterCommits = (r : Record) (f : ℕ) (t : Took) → Steady r → IsSound r → commit_done r f ≡ Ok t → IsSound t.rec
-
