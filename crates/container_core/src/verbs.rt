@@ -13,10 +13,9 @@ ghost use Rattle.container_model.specs.declared.record.Object.{Object};
 use crate::state::State;
 use container_model::answer::Answer;
 use container_model::fault::ContainerFault;
-use container_objects::checks;
 use container_objects::lookups::{place, place_object};
 use container_objects::takings::{ask_taking, claim_frame, claim_of};
-use container_objects::verbs::{holder_has_numbers, holder_of, leave_object, steps_now, takes, verb_of, verb_steps, wants_ui};
+use container_objects::verbs::{holder_has_numbers, holder_of, leave_object, may_do, steps_now, takes, verb_of, verb_steps};
 use object_state::{Step, Verb};
 use std::alloc::Global;
 
@@ -51,17 +50,10 @@ impl State {
         let Some(at) = place(self.frames.as_slice(), self.objects[i].frame) else {
             return Err(ContainerFault::NoSuch);
         };
-        if checks::is_doubtful(self.frames[at].phase) {
-            return Err(ContainerFault::InDoubt);
-        }
-        let state = self.frames[at].ui.state();
         let verb = verb_of(number);
-        let waits = wants_ui(verb) && checks::is_moving(&state);
-        if checks::is_saving(self.frames[at].phase)
-            || checks::is_busy(&state, &self.objects[i])
-            || waits
-        {
-            return Err(ContainerFault::Busy);
+        match may_do(&self.frames[at], &self.objects[i], verb) {
+            Ok(()) => {}
+            Err(fault) => return Err(fault),
         }
         self.verb_object(alloc, i, at, verb)
     }
