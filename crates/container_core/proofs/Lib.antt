@@ -1,5 +1,13 @@
 pub mod CommitsDone
-pub mod MessageMade
+pub mod WritesMade
+pub mod GrantsEach
+pub mod GrantsTold
+pub mod GrantsWaiting
+pub mod RepliesMade
+pub mod ReapsMade
 pub mod CommandsEdit
 pub mod CommandsSave
 pub mod StepsKeep
+pub mod VerbsPlaced
+pub mod VerbsTaken
+pub mod VerbsApart

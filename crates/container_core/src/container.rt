@@ -159,7 +159,11 @@ impl ContainerCore {
     /// - Delete: `NoSuch`, `InDoubt` and `Busy` as for an edit; `WrongState` where the object isn't passive.
     /// - Kill: `NoSuch` where there is no such server that isn't reaped.
     /// - Close: `NoSuch`, `InDoubt` and `Busy` as for an edit; `NotRunning` where the object is passive; `NumbersSpent`;
-    ///   `WrongState` where it isn't running yet.
+    ///   `WrongState` where it isn't running yet. An object that has its frame is told to give it up first.
+    /// - Verb: `NoSuch`, `InDoubt` and `Busy` as for an edit, `Busy` also where the verb leads to menus and border of the frame
+    ///   and these are being given or taken back; `NotRunning`; `WrongState` where the object's state doesn't take the verb, or
+    ///   no verb has this number; `NumbersSpent` where no grant can be drawn, or this object, or the one that has the frame, has
+    ///   no numbers left for calls.
     ///
     /// Last of all `NoMemory`. A refusal changes nothing.
     pub fn command(&mut self, alloc: Global, command: Command) -> Result<Answer, ContainerFault>
@@ -175,12 +179,17 @@ impl ContainerCore {
         self.state.command(alloc, command)
     }
 
-    /// A message on the link of a server. The answer has whether a content was taken, what is sent and which files are to be
-    /// committed.
+    /// A message on the link of a server. The answer has whether a content was taken, why an object refused a call, whether one
+    /// got its frame's menus without border space, what is sent (what the object is asked next, then who waited for the frame
+    /// is told that it gets it), and which files are to be committed.
     ///
-    /// Refused as a wrong link if it isn't one of this link, as stale if it answers no pending call of an object or is a write
-    /// that the object's storage isn't open to, as a bad answer if its content is past what may be stored or it doesn't fit
-    /// the call, and last for want of memory. Then nothing changes.
+    /// - `WrongLink` where it is a call, or says that it is from another server than the link's.
+    /// - `Stale` where that server isn't alive, or no object has the activation; where it answers no pending call; where it is a
+    ///   write that the object's storage isn't open to; where it asks to be relieved of a frame that the object doesn't hold
+    ///   under this grant, or was told to give up.
+    /// - `BadAnswer` where its content is past what may be stored, or it doesn't fit the call.
+    ///
+    /// Last of all `NoMemory`. A refusal changes nothing.
     pub fn on_message(
         &mut self,
         alloc: Global,
@@ -199,10 +208,11 @@ impl ContainerCore {
         self.state.on_message(alloc, link, message)
     }
 
-    /// The end of a server: its objects are passive, each with the content that it answered in the present save, if any.
-    /// The answer has which files are to be committed.
+    /// The end of a server: its objects are passive, each with the content that it answered in the present save, if any. They
+    /// wait for no frame any more, and what they have of their frames, or are to get, is free. The answer has what is sent (who
+    /// waited on for such a frame is told that it gets it, by rising frame), and which files are to be committed.
     ///
-    /// Refused if there is no such server that isn't reaped, and last for want of memory. Then nothing changes.
+    /// Refused: `NoSuch` where there is no such server that isn't reaped; then `NoMemory`. A refusal changes nothing.
     pub fn on_reap(&mut self, alloc: Global, inc: u32) -> Result<Answer, ContainerFault>
         ensures taken { IfOk result (λ a. on_reap self.old inc ≡ Ok (counts_none self.new a)) }
         ensures few { IfOk result (λ a. length a.actions ≤ length self.old.objects + length self.old.frames + 1) }

@@ -1,6 +1,7 @@
 //! A container: its frames and objects, what it does with commands and messages, and its saves.
 #![tactic(auto)]
 
+mod asks;
 mod closes;
 mod commands;
 mod commits;
@@ -17,3 +18,4 @@ mod runs;
 mod saves;
 mod starts;
 mod state;
+mod verbs;

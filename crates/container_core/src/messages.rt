@@ -9,10 +9,12 @@ ghost use Rattle.container_model.specs.Room.{IsSound};
 ghost use Rattle.wire_msgs.specs.Found.{find, IsPlace};
 
 use crate::state::State;
+use container_links::replies::gives_up;
 use container_links::resending::pending_calls;
 use container_links::settling::settle_into;
 use container_model::answer::Answer;
 use container_model::fault::ContainerFault;
+use container_objects::grants::{prepare_waiting, take_grants, tell_frame};
 use container_objects::lookups::place_linked;
 use container_objects::replies::{Told, answered, told_object};
 use container_objects::writes::write_one;
@@ -80,11 +82,11 @@ impl State {
                     Err(ContainerFault::WrongLink)
                 }
             }
-            Message::Ask { inc, .. } => {
+            Message::Ask { inc, act, g } => {
                 if inc != link {
                     Err(ContainerFault::WrongLink)
                 } else {
-                    Err(ContainerFault::Stale)
+                    self.on_ask(alloc, inc, act, g)
                 }
             }
         }
@@ -133,17 +135,26 @@ impl State {
         ensures refused { IfErr result (Refuses (reply_found self.old inc act n answer (find (is_linked inc act) self.old.objects))) }
         ensures kept { OnErr result (self.new ≡ self.old) }
     {
-        let more = self.frames.len();
+        let f = self.objects[place].frame;
+        let gives = gives_up(&self.objects[place].link, n, &answer);
+        let frames = self.frames.as_slice();
+        let Ok(grants) = prepare_waiting(alloc, gives, f, frames, self.objects.as_slice()) else {
+            return Err(ContainerFault::NoMemory);
+        };
+        let more = self.frames.len() + 1;
         let Told {
             taken,
             refused,
+            grant,
             mut actions,
         } = match told_object(alloc, &mut self.objects[place], n, answer, more) {
             Ok(replied) => replied,
             Err(fault) => return Err(fault),
         };
+        let no_tools = tell_frame(&mut self.frames, f, grant);
+        take_grants(&mut self.objects, &mut actions, grants);
         settle_into(&mut actions, &mut self.frames, &self.objects);
-        Ok(answered(alloc, taken, refused, actions))
+        Ok(answered(alloc, taken, refused, no_tools, actions))
     }
 
     /// The pending calls, by their objects.

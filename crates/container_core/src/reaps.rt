@@ -10,9 +10,10 @@ use crate::state::State;
 use container_links::settling::settle_into;
 use container_model::answer::Answer;
 use container_model::fault::ContainerFault;
+use container_objects::grants::{free_frames, prepare_freed, take_grants};
 use container_objects::reaps::reap_all;
-use container_objects::replies::answered;
 use std::alloc::Global;
+use wire_msgs::items::Items;
 
 impl State {
     ghost use Rattle.std.specs.Prelude.{◌+◌, ◌≡◌, ◌≤◌, IfErr, IfOk, Ok, OnErr, length};
@@ -33,12 +34,18 @@ impl State {
         if !self.servers.is_alive(inc) {
             return Err(ContainerFault::NoSuch);
         }
-        let Ok(mut actions) = Vec::with_capacity(alloc, self.frames.len()) else {
+        let Ok(grants) = prepare_freed(alloc, inc, self.frames.as_slice(), self.objects.as_slice())
+        else {
             return Err(ContainerFault::NoMemory);
         };
+        let Ok(mut actions) = Vec::with_capacity(alloc, grants.len() + self.frames.len()) else {
+            return Err(ContainerFault::NoMemory);
+        };
+        free_frames(inc, &mut self.frames, self.objects.as_slice());
         reap_all(inc, &mut self.objects);
         self.servers.reap(inc);
+        take_grants(&mut self.objects, &mut actions, grants);
         settle_into(&mut actions, &mut self.frames, &self.objects);
-        Ok(answered(alloc, false, None, actions))
+        Ok(Answer::acts(alloc, Items::from_vec(actions)))
     }
 }

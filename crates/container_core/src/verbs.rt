@@ -15,7 +15,9 @@ use container_model::answer::Answer;
 use container_model::fault::ContainerFault;
 use container_objects::lookups::{place, place_object};
 use container_objects::takings::{ask_taking, claim_frame, claim_of};
-use container_objects::verbs::{holder_has_numbers, holder_of, leave_object, may_do, steps_now, takes, verb_of, verb_steps};
+use container_objects::verbs::{
+    holder_has_numbers, holder_of, leave_object, may_do, steps_now, takes, verb_of, verb_steps,
+};
 use object_state::{Step, Verb};
 use std::alloc::Global;
 
@@ -41,6 +43,7 @@ impl State {
         requires sound { IsSound self.old }
         ensures taken { IfOk result (λ a. verb self.old object number ≡ Ok (counts_none self.new a)) }
         ensures few { IfOk result (λ a. length a.actions ≤ 2) }
+        ensures there { IfOk result (λ a. 1 ≤ length self.old.objects) }
         ensures refused { IfErr result (Refuses (verb self.old object number)) }
         ensures kept { OnErr result (self.new ≡ self.old) }
     {

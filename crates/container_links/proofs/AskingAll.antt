@@ -1,6 +1,5 @@
-use Rattle.std.proofs.Common.{◌≡◌, ℕ, ◌+◌, ◌==◌, ◌<◌, ◌≤◌, Bool, true, false, List, Option, Some, None, map, zero, suc, [], ◌∷◌, ◌++◌, All, length, get_or, take, drop, refl, ap, sym, ◌∙◌, arith}
-use Rattle.std.proofs.lemmas.List.{append-nil, drop-drop, drop-set-lt, drop_all, take_all}
-use Rattle.std.proofs.lemmas.List.Elements.{All-drop}
+use Rattle.std.proofs.Common.{◌≡◌, ℕ, ◌+◌, ◌==◌, ◌<◌, ◌≤◌, Bool, true, false, List, Option, Some, None, map, zero, suc, [], ◌∷◌, ◌++◌, length, get_or, option_to_list, take, drop, refl, ap, sym, ◌∙◌, arith}
+use Rattle.std.proofs.lemmas.List.{append-nil, drop_all, take_all}
 use Rattle.std.proofs.Math.ListN.{set}
 use Rattle.std.proofs.Math.Numerals.{add-one}
 use Rattle.wire_msgs.specs.declared.operation.Operation.{Operation}
@@ -8,8 +7,8 @@ use Rattle.container_links.specs.declared.asking.Prepared.{Prepared}
 use Rattle.container_links.specs.declared.asking.Prepared.TheVariants.{Nothing}
 use Rattle.container_model.specs.declared.record.Link.{Link}
 use Rattle.container_model.specs.declared.record.Object.{Object}
-use Rattle.container_model.specs.Record.{ask_at, asked_link, asked_object}
-use Rattle.container_links.specs.Asking.{HasNumber, installed, installed_all, installed_link, prepared, prepared_at, prepared_link}
+use Rattle.container_model.specs.Record.{ask_at, asked_link, asked_object, asked_sent, sends}
+use Rattle.container_links.specs.Asking.{called, called_at, installed, installed_all, installed_link, prepared, prepared_at, prepared_link}
 
 -- what was prepared for an object makes of it what the definition says
 installed_at : (op : Operation) (l : Link) (pending : Option Operation) → l.pending ≡ pending → installed_link (prepared_at op l pending) (Some l) ≡ Some (ask_at l op pending).link
@@ -58,5 +57,11 @@ installed_done ps qs xs os i f op le h e =
     let a : take i xs ++ installed_all (drop i ps) (drop i xs) ≡ xs = rw (drop_all i xs le, installed_end (drop i ps), append-nil (take i xs)) (take_all i xs le) in
     sym a ∙ (h ∙ (ap (λ rs. installed_all rs os) e ∙ installed_prepared f op os))
 
-pub numbers_more : (xs : List Object) (i : ℕ) (n : Object) → All HasNumber (drop i xs) → All HasNumber (drop (i + 1) (set xs i n))
-numbers_more xs i n h = rw (drop-set-lt (i + 1) xs i n (omega arith), sym (drop-drop 1 i xs)) (All-drop HasNumber 1 (drop i xs) h)
+-- what is sent to one object
+called_sent_at : (op : Operation) (l : Link) (pending : Option Operation) → option_to_list (called_at op l pending) ≡ sends (ask_at l op pending).sent
+called_sent_at op l None = refl
+called_sent_at op l (Some before) = refl
+
+pub called_sent : (op : Operation) (link : Option Link) → option_to_list (called op link) ≡ sends (asked_sent op link)
+called_sent op None = refl
+called_sent op (Some l) = called_sent_at op l l.pending

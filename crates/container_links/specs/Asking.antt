@@ -1,7 +1,9 @@
 -- An operation that is asked of all objects of a frame: all memory is taken first, then the objects change.
 use Rattle.std.specs.Prelude.{◌++◌, ◌+◌, ◌==◌, ◌≡◌, ◌≤◌, List, [], ◌∷◌, None, Option, Some, if◌then◌else◌, length, map, ℕ}
 use Rattle.wire_msgs.specs.declared.operation.Operation.{Operation}
+use Rattle.wire_msgs.specs.declared.message.Message.TheVariants.{Call}
 use Rattle.container_model.specs.declared.answer.Action.{Action}
+use Rattle.container_model.specs.declared.answer.Action.TheVariants.{Send}
 use Rattle.container_links.specs.declared.asking.Prepared.{Prepared}
 use Rattle.container_links.specs.declared.asking.Prepared.TheVariants.{Nothing, Now, Behind}
 use Rattle.container_model.specs.declared.record.Link.{Link}
@@ -15,7 +17,7 @@ HasNumber o = IfLinked (λ l. l.last + length l.waiting ≤ 1000000) o.link
 
 -- what an object takes up where it is asked: the operation itself, or all that wait from then on
 abbrev pub prepared_at : Operation → Link → Option Operation → Prepared
-prepared_at op l None = Now op
+prepared_at op l None = Now (l.last + 1) op
 prepared_at op l (Some before) = Behind (l.waiting ++ op ∷ [])
 
 abbrev pub prepared_link : Operation → Option Link → Prepared
@@ -25,11 +27,20 @@ prepared_link op (Some l) = prepared_at op l l.pending
 abbrev pub prepared : ℕ → Operation → Object → Prepared
 prepared f op o = if o.frame == f then prepared_link op o.link else Nothing
 
+-- what is sent to it then, if anything
+abbrev pub called_at : Operation → Link → Option Operation → Option Action
+called_at op l None = Some (Send (Call l.inc l.act (l.last + 1) op))
+called_at op l (Some before) = None
+
+abbrev pub called : Operation → Option Link → Option Action
+called op None = None
+called op (Some l) = called_at op l l.pending
+
 -- what it is once it has taken that up
 abbrev pub installed_link : Prepared → Option Link → Option Link
 installed_link p None = None
 installed_link Nothing (Some l) = Some l
-installed_link (Now op) (Some l) = Some (record l { last = l.last + 1; pending = Some op })
+installed_link (Now last op) (Some l) = Some (record l { last = last; pending = Some op })
 installed_link (Behind ops) (Some l) = Some (record l { waiting = ops })
 
 abbrev pub installed : Prepared → Object → Object

@@ -92,8 +92,8 @@ pub(crate) fn call(alloc: Global, link: &Link, operation: &Operation) -> Result<
 pub enum Prepared {
     /// It isn't asked.
     Nothing,
-    /// It is asked at once.
-    Now(Operation),
+    /// It is asked at once, by the call of this number.
+    Now(u32, Operation),
     /// It is asked later: all that wait from now on.
     Behind(Items<Operation>),
 }
@@ -155,6 +155,7 @@ fn takes(
     operation: &Operation,
     objects: &[Object],
 ) -> Result<Vec<Prepared>, AllocError>
+    requires { All HasNumber objects.now }
     ensures { IfOk result (λ v. v.items ≡ map (prepared frame operation.now) objects.now) }
 {
     let mut out = Vec::new(alloc);
@@ -171,6 +172,7 @@ fn take(
     operation: &Operation,
     object: &Object,
 ) -> Result<Prepared, AllocError>
+    requires { HasNumber object.now }
     ensures { IfOk result (λ p. p ≡ prepared frame operation.now object.now) }
 {
     if object.frame != frame {
@@ -179,7 +181,7 @@ fn take(
     match &object.link {
         None => Ok(Prepared::Nothing),
         Some(link) => match &link.pending {
-            None => Ok(Prepared::Now(operation.copy(alloc)?)),
+            None => Ok(Prepared::Now(link.last + 1, operation.copy(alloc)?)),
             Some(_) => Ok(Prepared::Behind(behind(alloc, &link.waiting, operation)?)),
         },
     }
@@ -211,8 +213,7 @@ pub(crate) fn copied(alloc: Global, operations: &[Operation]) -> Result<Vec<Oper
 
 /// The objects take up what was prepared for them. It takes no memory.
 pub fn take_up(objects: &mut Vec<Object>, takes: Vec<Prepared>)
-    requires numbers { All HasNumber objects.old.items }
-    requires each { vec_len takes ≡ length objects.old.items }
+    requires { vec_len takes ≡ length objects.old.items }
     ensures { (f : ℕ) (op : Operation) → takes.items ≡ map (prepared f op) objects.old.items → objects.new.items ≡ map (asked_object f op) objects.old.items }
 {
     install_all(objects, takes);
@@ -220,8 +221,7 @@ pub fn take_up(objects: &mut Vec<Object>, takes: Vec<Prepared>)
 
 // The same in a slice.
 fn install_all(objects: &mut [Object], takes: Vec<Prepared>)
-    requires numbers { All HasNumber objects.old }
-    requires each { vec_len takes ≡ length objects.old }
+    requires { vec_len takes ≡ length objects.old }
     ensures { (f : ℕ) (op : Operation) → takes.items ≡ map (prepared f op) objects.old → objects.new ≡ map (asked_object f op) objects.old }
 {
     let mut takes = takes;
@@ -231,16 +231,15 @@ fn install_all(objects: &mut [Object], takes: Vec<Prepared>)
     }
 }
 
-// An object takes up what was prepared for it.
-pub(crate) fn install(object: &mut Object, take: Prepared)
-    requires { HasNumber object.old }
+/// An object takes up what was prepared for it. It takes no memory.
+pub fn install(object: &mut Object, take: Prepared)
     ensures { object.new ≡ installed take object.old }
 {
     if let Some(link) = &mut object.link {
         match take {
             Prepared::Nothing => {}
-            Prepared::Now(operation) => {
-                link.last += 1;
+            Prepared::Now(last, operation) => {
+                link.last = last;
                 link.pending = Some(operation);
             }
             Prepared::Behind(waiting) => link.waiting = waiting,

@@ -1,12 +1,13 @@
 //! What an answer makes of an object's link, and what is called next.
 
-ghost use Rattle.std.specs.Prelude.{◌≡◌, ◌+◌, ◌≤◌, IfErr, IfOk, OnErr, Ok, Some, None, length, vec_len, vec_capacity};
+ghost use Rattle.std.specs.Prelude.{◌≡◌, ◌+◌, ◌≤◌, IfErr, IfOk, IfSome, OnErr, Ok, Some, None, true, length, vec_len, vec_capacity};
 ghost use Rattle.object_state.specs.Both as both;
 ghost use Rattle.container_model.specs.Record.{Refuses, sends};
 ghost use Rattle.container_links.specs.Relieving.{gives_up};
 ghost use Rattle.container_model.specs.Messages.{closed_with, done_link, granted_link, is_fit, lost, next_at, noted, reply_link, saved_link};
 ghost use Rattle.container_model.specs.Replies.{first_call, resumed};
 ghost use Rattle.container_model.specs.Room.{IfLinked, IsRoomy};
+ghost use Rattle.wire_msgs.specs.declared.operation.Operation.TheVariants.{UiDeactivate};
 
 use container_model::answer::Action;
 use container_model::fault::ContainerFault;
@@ -65,7 +66,7 @@ fn go_on(link: &mut Link)
 // The call that is sent next, in a list with room for so many actions more.
 fn next_actions(alloc: Global, link: &Link, more: usize) -> Result<Vec<Action>, AllocError>
     requires numbers { link.now.last + length link.now.waiting ≤ 1000000 }
-    requires few { more ≤ 1000000 }
+    requires few { more ≤ 1000001 }
     ensures sent { IfOk result (λ v. v.items ≡ sends (next_at link.now link.now.waiting).sent) }
     ensures few { IfOk result (λ v. vec_len v ≤ 1) }
     ensures room { IfOk result (λ v. vec_len v + more ≤ vec_capacity v) }
@@ -89,7 +90,7 @@ fn done(
     more: usize,
 ) -> Result<Replied, ContainerFault>
     requires numbers { link.old.last + length link.old.waiting ≤ 1000000 }
-    requires few { more ≤ 1000000 }
+    requires few { more ≤ 1000001 }
     ensures taken { IfOk result (λ t. resumed (done_link link.old s (both.step link.old.states op)) ≡ Ok (record { link = Some link.new; taken = t.taken; refused = t.refused; grant = t.grant; actions = t.actions.items })) }
     ensures few { IfOk result (λ t. vec_len t.actions ≤ 1) }
     ensures room { IfOk result (λ t. vec_len t.actions + more ≤ vec_capacity t.actions) }
@@ -122,7 +123,7 @@ fn saved(
     more: usize,
 ) -> Result<Replied, ContainerFault>
     requires numbers { link.old.last + length link.old.waiting ≤ 1000000 }
-    requires few { more ≤ 1000000 }
+    requires few { more ≤ 1000001 }
     ensures taken { IfOk result (λ t. resumed (saved_link content (done_link link.old link.old.s (both.step link.old.states op))) ≡ Ok (record { link = Some link.new; taken = t.taken; refused = t.refused; grant = t.grant; actions = t.actions.items })) }
     ensures few { IfOk result (λ t. vec_len t.actions ≤ 1) }
     ensures room { IfOk result (λ t. vec_len t.actions + more ≤ vec_capacity t.actions) }
@@ -148,7 +149,7 @@ fn granted(
     more: usize,
 ) -> Result<Replied, ContainerFault>
     requires numbers { link.old.last + length link.old.waiting ≤ 1000000 }
-    requires few { more ≤ 1000000 }
+    requires few { more ≤ 1000001 }
     ensures taken { IfOk result (λ t. resumed (granted_link told (done_link link.old link.old.s (both.step link.old.states op))) ≡ Ok (record { link = Some link.new; taken = t.taken; refused = t.refused; grant = t.grant; actions = t.actions.items })) }
     ensures few { IfOk result (λ t. vec_len t.actions ≤ 1) }
     ensures room { IfOk result (λ t. vec_len t.actions + more ≤ vec_capacity t.actions) }
@@ -174,7 +175,7 @@ fn noted(
     more: usize,
 ) -> Result<Replied, ContainerFault>
     requires numbers { link.old.last + length link.old.waiting ≤ 1000000 }
-    requires few { more ≤ 1000000 }
+    requires few { more ≤ 1000001 }
     ensures taken { IfOk result (λ t. resumed (noted link.old why) ≡ Ok (record { link = Some link.new; taken = t.taken; refused = t.refused; grant = t.grant; actions = t.actions.items })) }
     ensures few { IfOk result (λ t. vec_len t.actions ≤ 1) }
     ensures room { IfOk result (λ t. vec_len t.actions + more ≤ vec_capacity t.actions) }
@@ -200,7 +201,7 @@ fn lost(
     why: Refusal,
     more: usize,
 ) -> Result<Replied, ContainerFault>
-    requires { more ≤ 1000000 }
+    requires { more ≤ 1000001 }
     ensures taken { IfOk result (λ t. resumed (lost why) ≡ Ok (record { link = link.new; taken = t.taken; refused = t.refused; grant = t.grant; actions = t.actions.items })) }
     ensures few { IfOk result (λ t. vec_len t.actions ≤ 1) }
     ensures room { IfOk result (λ t. vec_len t.actions + more ≤ vec_capacity t.actions) }
@@ -228,7 +229,7 @@ fn closed(
     content: Option<Stored>,
     more: usize,
 ) -> Result<Replied, ContainerFault>
-    requires { more ≤ 1000000 }
+    requires { more ≤ 1000001 }
     ensures taken { IfOk result (λ t. resumed (closed_with content (both.step states op)) ≡ Ok (record { link = link.new; taken = t.taken; refused = t.refused; grant = t.grant; actions = t.actions.items })) }
     ensures few { IfOk result (λ t. vec_len t.actions ≤ 1) }
     ensures room { IfOk result (λ t. vec_len t.actions + more ≤ vec_capacity t.actions) }
@@ -273,7 +274,7 @@ pub fn told(
     more: usize,
 ) -> Result<Replied, ContainerFault>
     requires numbers { IfLinked (IsRoomy 1000000 0) link.old }
-    requires few { more ≤ 1000000 }
+    requires few { more ≤ 1000001 }
     ensures taken { IfOk result (λ t. resumed (reply_link n answer link.old) ≡ Ok (record { link = link.new; taken = t.taken; refused = t.refused; grant = t.grant; actions = t.actions.items })) }
     ensures few { IfOk result (λ t. vec_len t.actions ≤ 1) }
     ensures room { IfOk result (λ t. vec_len t.actions + more ≤ vec_capacity t.actions) }
@@ -329,9 +330,11 @@ pub fn told(
     }
 }
 
-/// Whether an answer to the call of this number is one by which the object gives its frame up. It changes nothing.
+/// Whether an answer to the call of this number is one by which the object gives its frame up, as it was asked. It changes
+/// nothing.
 pub fn gives_up(link: &Option<Link>, n: u32, answer: &Answer) -> bool
-    ensures { result ≡ gives_up (reply_link n answer.now link.now) }
+    ensures told { result ≡ gives_up (reply_link n answer.now link.now) }
+    ensures asked { result ≡ true → IfSome link.now (λ l. l.pending ≡ Some UiDeactivate) }
 {
     let Some(link) = link else {
         return false;

@@ -1,7 +1,7 @@
 //! An operation that is asked of one object: all memory is taken first, then the object changes.
 
 ghost use Rattle.std.specs.Prelude.{◌≡◌, ◌+◌, ◌<◌, ◌≤◌, ◌++◌, IfOk, length, option_to_list, vec_capacity, vec_len};
-ghost use Rattle.container_links.specs.Asking.{HasNumber, prepared_link};
+ghost use Rattle.container_links.specs.Asking.{called, prepared_link};
 ghost use Rattle.container_model.specs.Record.{asked_link, asked_sent, sends};
 ghost use Rattle.container_model.specs.Room.{IfLinked};
 ghost use Rattle.wire_msgs.specs.declared.operation.Operation.{Operation};
@@ -21,6 +21,7 @@ pub struct Request {
     pub action: Option<Action>,
 }
 
+#[tactic(auto, using(crate::proofs::AskingAll::called_sent))]
 /// Takes the memory to ask an object of this link for an operation: at once where none is pending, else behind those that
 /// wait; a passive one isn't asked.
 ///
@@ -32,6 +33,7 @@ pub fn prepare_one(
 ) -> Result<Request, AllocError>
     requires { IfLinked (λ l. l.last + length l.waiting ≤ 1000000) link.now }
     ensures takes { IfOk result (λ q. q.takes ≡ prepared_link operation.now link.now) }
+    ensures action { IfOk result (λ q. q.action ≡ called operation.now link.now) }
     ensures sent { IfOk result (λ q. option_to_list q.action ≡ sends (asked_sent operation.now link.now)) }
 {
     let Some(link) = link else {
@@ -49,7 +51,7 @@ pub fn prepare_one(
     }
     let message = call(alloc, link, operation)?;
     Ok(Request {
-        takes: Prepared::Now(operation.copy(alloc)?),
+        takes: Prepared::Now(link.last + 1, operation.copy(alloc)?),
         action: Some(Action::Send(message)),
     })
 }
@@ -57,7 +59,6 @@ pub fn prepare_one(
 #[tactic(auto, using(crate::proofs::AskingAll::installed_one))]
 /// An object takes up what was prepared for it. It takes no memory.
 pub fn take_up_one(object: &mut Object, takes: Prepared)
-    requires { HasNumber object.old }
     ensures { (op : Operation) → takes ≡ prepared_link op object.old.link → object.new ≡ record object.old { link = asked_link op object.old.link } }
 {
     install(object, takes);

@@ -1,12 +1,10 @@
 -- What a commit makes of the objects of its frame.
 use Rattle.std.proofs.Common.{◌≡◌, ◌==◌, ℕ, true, false, List, [], ◌∷◌, map, Option, Some, None, inl, inr, refl, ◌∙◌, ap}
 use Rattle.std.proofs.lemmas.Bool.Decides.{eqb_tells}
-use Rattle.std.proofs.lemmas.List.Elements.{All-map, All-weaker}
-use Rattle.std.specs.List.{All}
 use Rattle.wire_msgs.specs.declared.operation.Operation.{Operation}
 use Rattle.container_model.specs.declared.record.Link.{Link}
 use Rattle.container_model.specs.declared.record.Object.{Object}
-use Rattle.container_links.specs.Asking.{HasNumber, prepared, prepared_at, prepared_link}
+use Rattle.container_links.specs.Asking.{prepared, prepared_at, prepared_link}
 use Rattle.container_model.specs.Record.{asked_object}
 use Rattle.container_model.specs.Saves.{cleared, counted_object, kept}
 
@@ -35,17 +33,3 @@ prepared_all f op (o ∷ os) = cc (prepared_counted f op o, prepared_all f op os
 pub completed_all : (f : ℕ) (op : Operation) (os : List Object) → map (asked_object f op) (map (counted_object f) os) ≡ map (λ o. asked_object f op (counted_object f o)) os
 completed_all f op [] = refl
 completed_all f op (o ∷ os) = ap (λ xs. asked_object f op (counted_object f o) ∷ xs) (completed_all f op os)
-
--- each activation still has a number
-number_cleared : (o : Object) → HasNumber o → HasNumber (record o { work = kept o; link = cleared o.link })
-number_cleared o h = elim o.link as (λ x. HasNumber (record o { link = x }) → HasNumber (record o { link = cleared x })) [ None ↦ λ g. tt | Some l ↦ λ g. g ] h
-
-number_counted : (f : ℕ) (o : Object) → HasNumber o → HasNumber (counted_object f o)
-number_counted f o h =
-    elim (eqb_tells o.frame f) [
-      | inl p ↦ rw (counted_in f o p.0) (number_cleared o h)
-      | inr p ↦ rw (counted_out f o p.0) h
-    ]
-
-pub numbers_counted : (f : ℕ) (os : List Object) → All HasNumber os → All HasNumber (map (counted_object f) os)
-numbers_counted f os h = All-map HasNumber (counted_object f) os (All-weaker HasNumber (λ o. HasNumber (counted_object f o)) (number_counted f) os h)

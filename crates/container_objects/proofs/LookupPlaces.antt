@@ -1,4 +1,5 @@
-use Rattle.std.proofs.Common.{◌≡◌, ℕ, ◌+◌, ◌<◌, ◌≤◌, Bool, List, map, zero, suc, [], ◌∷◌, ◌++◌, length, get_or, take, drop, if◌then◌else◌, slice_get, IfSome, remove, ◌==◌, Option, refl, ap, sym, ◌∙◌, append_assoc, Some, None, true, false, arith}
+use Rattle.std.specs.List.{range_with_len}
+use Rattle.std.proofs.Common.{◌≡◌, ℕ, ◌+◌, ◌-◌, ◌<◌, ◌≤◌, Bool, List, map, zero, suc, [], ◌∷◌, ◌++◌, length, get_or, take, drop, if◌then◌else◌, slice_get, IfSome, remove, ◌==◌, Option, refl, ap, sym, ◌∙◌, append_assoc, Some, None, true, false, arith}
 use Rattle.std.proofs.lemmas.List.{drop_more, take_more, set_split}
 use Rattle.std.proofs.lemmas.Option.{slice_get-get_or}
 use Rattle.std.proofs.Math.ListN.{drop_of_length-le, set}
@@ -52,6 +53,10 @@ mapped_suc f (y ∷ ys) (suc i) d lt = ap (λ zs. f y ∷ zs) (mapped_suc f ys i
 -- one more item of a list is changed
 pub mapped_more : {A : Type 0} (f : A → A) (ys zs : List A) (i : ℕ) (d n : A) → zs ≡ map f (take i ys) ++ drop i ys → i < length ys → n ≡ f (get_or zs i d) → set zs i n ≡ map f (take (i + 1) ys) ++ drop (i + 1) ys
 mapped_more f ys zs i d n h lt e = ap (set zs i) e ∙ rw (h, add-one) (mapped_suc f ys i d lt)
+
+-- the numbers from i + 1 on
+pub numbers_more : (n i : ℕ) → i < n → range_with_len (i + 1) (n - i) ≡ (i + 1) ∷ range_with_len (i + 1 + 1) (n - (i + 1))
+numbers_more n i lt = let e : n - i ≡ suc (n - (i + 1)) = omega arith in rw e refl
 
 eq_from_test : (a b : ℕ) → a == b ≡ true → a ≡ b
 eq_from_test a b e = grind arith

@@ -1,7 +1,7 @@
 //! Commits that are done: what they make of a frame and of its objects, and what they count.
 
-ghost use Rattle.std.specs.Prelude.{◌≡◌, ◌≤◌, All, IfOk, length, map, vec_len};
-ghost use Rattle.container_links.specs.Asking.{HasNumber, prepared};
+ghost use Rattle.std.specs.Prelude.{◌≡◌, ◌≤◌, IfOk, length, map, vec_len};
+ghost use Rattle.container_links.specs.Asking.{prepared};
 ghost use Rattle.container_model.specs.Saves.{committed_frame, completed, completion, counted_object, done_entry, part_of, parts_in};
 ghost use Rattle.container_model.specs.declared.record.Frame as declared;
 
@@ -65,8 +65,7 @@ fn count_all(f: u32, objects: &mut Vec<Object>)
 
 /// The contents that are counted are work contents, and each object that isn't passive takes up what was prepared.
 pub fn complete_objects(f: u32, objects: &mut Vec<Object>, takes: Vec<Prepared>)
-    requires numbers { All HasNumber objects.old.items }
-    requires each { vec_len takes ≡ length objects.old.items }
+    requires { vec_len takes ≡ length objects.old.items }
     ensures { (frame : declared.Frame) → takes.items ≡ map (prepared f (completion frame)) objects.old.items → objects.new.items ≡ map (completed f frame) objects.old.items }
 {
     count_all(f, objects);

@@ -66,7 +66,7 @@ pub fn edit_one(
 }
 
 // An object is asked. What is to be done for it.
-fn ask_object(
+pub(crate) fn ask_object(
     alloc: Global,
     object: &mut Object,
     operation: Operation,

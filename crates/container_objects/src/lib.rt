@@ -7,6 +7,7 @@ pub mod checks;
 pub mod closes;
 pub mod commits;
 pub mod edits;
+pub mod grants;
 pub mod lookups;
 pub mod reaps;
 pub mod replies;

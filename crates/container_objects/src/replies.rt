@@ -10,6 +10,7 @@ ghost use Rattle.container_objects.specs.Told.{told_of};
 use container_links::replies::{Replied, told};
 use container_model::answer::{Action, Answer};
 use container_model::fault::ContainerFault;
+use container_model::grants::Tells;
 use container_model::record::Object;
 use std::alloc::Global;
 use storage_tree::stored::Stored;
@@ -24,6 +25,8 @@ pub struct Told {
     pub taken: bool,
     /// Why the object refused the call.
     pub refused: Option<Refusal>,
+    /// What is told of the frame's grant.
+    pub grant: Option<Tells>,
     /// The call that is sent next, if any.
     pub actions: Vec<Action>,
 }
@@ -55,11 +58,12 @@ pub fn told_object(
     more: usize,
 ) -> Result<Told, ContainerFault>
     requires numbers { IfLinked (IsRoomy 1000000 0) object.old.link }
-    requires few { more ≤ 1000000 }
-    ensures taken { IfOk result (λ t. told_of object.old (reply_link n answer object.old.link) ≡ Ok (record { object = object.new; taken = t.taken; refused = t.refused; actions = t.actions.items })) }
+    requires few { more ≤ 1000001 }
+    ensures taken { IfOk result (λ t. told_of object.old (reply_link n answer object.old.link) ≡ Ok (record { object = object.new; taken = t.taken; refused = t.refused; grant = t.grant; actions = t.actions.items })) }
     ensures few { IfOk result (λ t. vec_len t.actions ≤ 1) }
     ensures room { IfOk result (λ t. vec_len t.actions + more ≤ vec_capacity t.actions) }
     ensures refused { IfErr result (Refuses (reply_link n answer object.old.link)) }
+    ensures same { object.new.number ≡ object.old.number }
     ensures kept { OnErr result (object.new ≡ object.old) }
 {
     match told(alloc, &mut object.link, n, answer, more) {
@@ -67,6 +71,7 @@ pub fn told_object(
             Replied {
                 taken,
                 refused,
+                grant,
                 actions,
             },
         ) => {
@@ -74,6 +79,7 @@ pub fn told_object(
             Ok(Told {
                 taken: is_taken,
                 refused,
+                grant,
                 actions,
             })
         }
@@ -81,14 +87,16 @@ pub fn told_object(
     }
 }
 
-/// An answer of what is to be done, whether a content was taken, and why an object refused a call.
+/// An answer of what is to be done, whether a content was taken, why an object refused a call, and whether one got its frame
+/// without border space.
 pub fn answered(
     alloc: Global,
     taken: bool,
     refused: Option<Refusal>,
+    no_tools: bool,
     actions: Vec<Action>,
 ) -> Answer
-    ensures { result ≡ record quiet_answer { taken = taken; refused = refused; actions = actions.items } }
+    ensures { result ≡ record quiet_answer { taken = taken; refused = refused; no_tools = no_tools; actions = actions.items } }
 {
     Answer {
         frame: None,
@@ -96,7 +104,7 @@ pub fn answered(
         server: None,
         taken,
         refused,
-        no_tools: false,
+        no_tools,
         actions: Items::from_vec(actions),
     }
 }

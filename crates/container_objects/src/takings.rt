@@ -136,11 +136,7 @@ fn ask_both(
     ensures kept { OnErr result (objects.new.items ≡ objects.old.items) }
 {
     let mut actions = Vec::with_capacity(alloc, 2)?;
-    let Request { takes, action } = prepare_one(
-        alloc,
-        &Operation::UiDeactivate,
-        &objects[j].link,
-    )?;
+    let Request { takes, action } = prepare_one(alloc, &Operation::UiDeactivate, &objects[j].link)?;
     let stepped = prepare_object(alloc, &objects[i], g, steps)?;
     add_action(&mut actions, action);
     let own = take_up_object(&mut objects[i], stepped);
