@@ -9,3 +9,5 @@ pub mod CommandsEdit
 pub mod CommandsSave
 pub mod StepsKeep
 pub mod VerbsPlaced
+pub mod VerbsTaken
+pub mod VerbsApart

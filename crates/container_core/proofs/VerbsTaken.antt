@@ -1,5 +1,5 @@
 -- An object that takes its frame, in its container.
-use Rattle.std.proofs.Common.{◌≡◌, ◌≢◌, ◌<◌, arith, ◌+◌, ◌++◌, ◌||◌, ℕ, Bool, true, false, not, nat_le, List, [], ◌∷◌, length, Option, Some, None, IfSome, IsSomeAnd, Ok, refl, sym, ◌∙◌, ap, subst, slice_get, get_or, if◌then◌else◌}
+use Rattle.std.proofs.Common.{◌≡◌, ◌≢◌, ◌<◌, arith, ◌+◌, ◌++◌, ◌||◌, ℕ, Bool, true, false, not, nat_eq, nat_le, List, [], ◌∷◌, length, Option, Some, None, IfSome, IsSomeAnd, Ok, refl, sym, ◌∙◌, ap, subst, slice_get, get_or, if◌then◌else◌}
 use Rattle.std.proofs.lemmas.Option.{get_or_from_slice_get}
 use Rattle.wire_msgs.specs.Found.{find, put, set_nth}
 use Rattle.wire_msgs.specs.declared.operation.Operation.TheVariants.{UiDeactivate}
@@ -63,3 +63,12 @@ went_leaving r frame o l (s ∷ ss) n e = ap (λ b. if b then taking r frame o l
 
 pub past_last : (numbers last : ℕ) → last < numbers → nat_le numbers last ≡ false
 past_last numbers last lt = grind arith
+
+-- steps, or none
+pub no_items : {A : Type 0} (xs : List A) → true ≡ nat_eq (length xs) 0 → xs ≡ []
+no_items [] e = refl
+no_items (x ∷ xs) e = absurd (grind arith)
+
+pub some_items : {A : Type 0} (xs : List A) → false ≡ nat_eq (length xs) 0 → xs ≢ []
+some_items [] e is = absurd (grind arith)
+some_items (x ∷ xs) e is = absurd (cc)

@@ -42,6 +42,7 @@ impl State {
             Command::Delete(object) => self.delete(alloc, object),
             Command::Kill(inc) => self.kill(alloc, inc),
             Command::Close(object, option) => self.close(alloc, object, option),
+            Command::Verb(object, number) => self.verb(alloc, object, number),
         }
     }
 }

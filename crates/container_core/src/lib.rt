@@ -18,3 +18,4 @@ mod runs;
 mod saves;
 mod starts;
 mod state;
+mod verbs;

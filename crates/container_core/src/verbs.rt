@@ -13,11 +13,10 @@ ghost use Rattle.container_model.specs.declared.record.Object.{Object};
 use crate::state::State;
 use container_model::answer::Answer;
 use container_model::fault::ContainerFault;
-use container_objects::checks;
 use container_objects::lookups::{place, place_object};
 use container_objects::takings::{ask_taking, claim_frame, claim_of};
 use container_objects::verbs::{
-    holder_has_numbers, holder_of, leave_object, steps_now, takes, verb_of, verb_steps, wants_ui,
+    holder_has_numbers, holder_of, leave_object, may_do, steps_now, takes, verb_of, verb_steps,
 };
 use object_state::{Step, Verb};
 use std::alloc::Global;
@@ -44,6 +43,7 @@ impl State {
         requires sound { IsSound self.old }
         ensures taken { IfOk result (λ a. verb self.old object number ≡ Ok (counts_none self.new a)) }
         ensures few { IfOk result (λ a. length a.actions ≤ 2) }
+        ensures there { IfOk result (λ a. 1 ≤ length self.old.objects) }
         ensures refused { IfErr result (Refuses (verb self.old object number)) }
         ensures kept { OnErr result (self.new ≡ self.old) }
     {
@@ -53,17 +53,10 @@ impl State {
         let Some(at) = place(self.frames.as_slice(), self.objects[i].frame) else {
             return Err(ContainerFault::NoSuch);
         };
-        if checks::is_doubtful(self.frames[at].phase) {
-            return Err(ContainerFault::InDoubt);
-        }
-        let state = self.frames[at].ui.state();
         let verb = verb_of(number);
-        let waits = wants_ui(verb) && checks::is_moving(&state);
-        if checks::is_saving(self.frames[at].phase)
-            || checks::is_busy(&state, &self.objects[i])
-            || waits
-        {
-            return Err(ContainerFault::Busy);
+        match may_do(&self.frames[at], &self.objects[i], verb) {
+            Ok(()) => {}
+            Err(fault) => return Err(fault),
         }
         self.verb_object(alloc, i, at, verb)
     }

@@ -4,14 +4,14 @@ ghost use Rattle.std.specs.Prelude.{◌≡◌, ◌≤◌, All, IfErr, IfOk, IfSo
 ghost use Rattle.container_links.specs.Asking.{HasNumber};
 ghost use Rattle.container_model.specs.Grants.{grant_of};
 ghost use Rattle.container_model.specs.Record.{Record, Refuses, acts, counts_none, sends, with_frame, with_object};
-ghost use Rattle.container_model.specs.Verbs.{before_taking, gives_up, holder_has_numbers, holder_of, leaving_made, stepped_link, steps_now, steps_of, takes, verb_linked, wants_ui};
+ghost use Rattle.container_model.specs.Verbs.{before_taking, gives_up, holder_has_numbers, holder_of, leaving_made, stepped_link, steps_now, steps_of, takes, verb_in, verb_linked, wants_ui};
 ghost use Rattle.container_model.specs.declared.record.Frame.{Frame};
 ghost use Rattle.container_model.specs.declared.record.Link.{Link};
 ghost use Rattle.container_objects.specs.Stepping.{given_up, left_frame, verb_went};
 ghost use Rattle.object_state.specs.Verbs.{verb_of};
 ghost use Rattle.wire_msgs.specs.Found.{nth};
 
-use crate::checks::{has_numbers, link_has_numbers};
+use crate::checks::{has_numbers, is_busy, is_doubtful, is_moving, is_saving, link_has_numbers};
 use crate::lookups::place_object;
 use container_links::closing::ask_steps;
 use container_model::answer::Action;
@@ -125,6 +125,30 @@ pub fn holder_has_numbers(numbers: u32, objects: &[Object], holder: Option<u32>)
         Some(i) => link_has_numbers(numbers, &objects[i].link),
         None => true,
     }
+}
+
+/// Whether an object may do a verb now.
+///
+/// Refused: `InDoubt`; `Busy` where its frame is saving, it has a pending call or waits for the frame, or the verb leads to
+/// menus and border while these pass from object to object.
+pub fn may_do(frame: &Frame, object: &Object, verb: Option<Verb>) -> Result<(), ContainerFault>
+    ensures may { OnOk result ((r : Record) → verb_in r object.now verb (Some frame.now) ≡ verb_linked r frame.now object.now verb object.now.link) }
+    ensures refused { IfErr result (λ e. (r : Record) → Refuses (verb_in r object.now verb (Some frame.now)) e) }
+{
+    if is_doubtful(frame.phase) {
+        return Err(ContainerFault::InDoubt);
+    }
+    let state = frame.ui.state();
+    if is_saving(frame.phase) {
+        return Err(ContainerFault::Busy);
+    }
+    if is_busy(&state, object) {
+        return Err(ContainerFault::Busy);
+    }
+    if wants_ui(verb) && is_moving(&state) {
+        return Err(ContainerFault::Busy);
+    }
+    Ok(())
 }
 
 /// The steps that a verb asks of an object: none where there is nothing to do.
