@@ -1,5 +1,5 @@
 -- Activations that are asked after a check have room for it, and what they owe is little.
-use Rattle.std.proofs.Common.{◌≡◌, ◌≤◌, ◌+◌, ◌==◌, ℕ, zero, suc, Bool, true, false, List, [], ◌∷◌, ◌++◌, length, map, Option, Some, None, refl, sym, ◌∙◌, ap, subst, arith, if◌then◌else◌}
+use Rattle.std.proofs.Common.{◌≡◌, ◌≤◌, ◌+◌, ℕ, true, List, [], ◌∷◌, length, Option, Some, None, refl, arith}
 use Rattle.wire_msgs.specs.Found.{find, nth, set_nth}
 use Rattle.wire_msgs.specs.declared.operation.Operation.{Operation}
 use Rattle.grant_core.specs.declared.grant_states.Claim.{Claim}
@@ -11,7 +11,7 @@ use Rattle.container_model.specs.declared.record.Phase.{Phase}
 use Rattle.container_model.specs.declared.record.Phase.TheVariants.{Idle, Saving, HandingOff, Committing, InDoubt}
 use Rattle.container_model.specs.Grants.{moved}
 use Rattle.container_model.specs.Record.{Record, ask_each, asked_link, has_numbers, is_object, link_has_numbers, with_object}
-use Rattle.container_model.specs.Room.{IfLinked, IsRoomy, debt, debt_in, grant_debt}
+use Rattle.container_model.specs.Room.{IfLinked, IsRoomy, debt, debt_in}
 use Rattle.container_laws.proofs.SteadyLookups.{each_found}
 use Rattle.container_numbers.proofs.SoundGrants.{asks_less, grant_few}
 use Rattle.container_numbers.proofs.SoundMoves.{move_owed}

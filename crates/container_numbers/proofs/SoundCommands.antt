@@ -1,6 +1,6 @@
 -- Commands leave a record sound.
 use Rattle.std.proofs.Common.{◌≡◌, ◌≤◌, ◌<◌, ◌+◌, ◌==◌, ℕ, zero, suc, Bool, true, false, not, List, [], ◌∷◌, ◌++◌, length, map, Option, Some, None, Result, Ok, Err, refl, sym, ◌∙◌, ap, subst, arith, if◌then◌else◌, slice_get}
-use Rattle.std.proofs.lemmas.Bool.{eqb-true, eqb-false, leb-false}
+use Rattle.std.proofs.lemmas.Bool.{eqb-false, leb-false}
 use Rattle.std.proofs.lemmas.List.{length-append}
 use Rattle.std.specs.Prelude.{is_some, nat_lt, nat_le, ◌||◌}
 use Rattle.std.specs.List.{AllByRecursion}
@@ -21,7 +21,7 @@ use Rattle.container_model.specs.Room.{IfLinked, IsRoomy, IsSound, debt_in}
 use Rattle.container_model.specs.Commands
 use Rattle.container_laws.specs.Steady.{Steady}
 use Rattle.container_laws.proofs.SteadyCounts.{each_without}
-use Rattle.container_laws.proofs.SteadyLookups.{each_append, each_map, each_set, each_weaker, nth-set_other, pairs_map}
+use Rattle.container_laws.proofs.SteadyLookups.{each_append, each_set, each_weaker, nth-set_other, pairs_map}
 use Rattle.container_laws.proofs.SteadyTells.{if_told, or_false, unless_ok}
 use Rattle.container_laws.proofs.SteadyTests.{found_numbered, not_false}
 use Rattle.container_numbers.specs.Sound.{SoundAfterCommands}
