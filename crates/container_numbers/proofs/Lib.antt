@@ -1,3 +1,5 @@
+pub mod SoundAsking
+pub mod SoundCommands
 pub mod SoundGrants
 pub mod SoundMessages
 pub mod SoundMoves
@@ -5,3 +7,4 @@ pub mod SoundReaps
 pub mod SoundReplies
 pub mod SoundRooms
 pub mod SoundSaves
+pub mod SoundVerbs

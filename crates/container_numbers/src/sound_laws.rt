@@ -1,10 +1,20 @@
 //! Laws of a container's numbers: each step leaves its activations room for what they may be asked without a check. Each
 //! function is empty: its contract is the law, which is proved.
-ghost use Rattle.container_numbers.specs.Sound.{SoundAfterMessages, SoundAfterCommits};
+ghost use Rattle.container_numbers.specs.Sound.{SoundAfterCommands, SoundAfterMessages, SoundAfterReaps, SoundAfterCommits};
+
+/// A command that is taken leaves a sound record sound.
+pub fn sound_after_commands()
+    ensures { SoundAfterCommands }
+{}
 
 /// A message that is taken leaves a sound record sound, whatever it answers.
 pub fn sound_after_messages()
     ensures { SoundAfterMessages }
+{}
+
+/// The end of a server leaves a sound record sound.
+pub fn sound_after_reaps()
+    ensures { SoundAfterReaps }
 {}
 
 /// A commit that is done leaves a sound record sound.
