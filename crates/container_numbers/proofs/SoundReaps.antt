@@ -1,7 +1,6 @@
 -- The end of a server leaves a record sound.
-use Rattle.std.proofs.Common.{◌≡◌, ◌≤◌, ◌+◌, ◌==◌, ℕ, zero, suc, Bool, true, false, List, [], ◌∷◌, ◌++◌, length, map, Option, Some, None, Result, Ok, Err, refl, sym, ◌∙◌, ap, subst, arith, if◌then◌else◌, slice_get}
-use Rattle.std.specs.List.{AllByRecursion}
-use Rattle.wire_msgs.specs.Found.{find, nth, set_nth}
+use Rattle.std.proofs.Common.{◌≡◌, ◌≤◌, ◌+◌, ◌==◌, ℕ, zero, suc, true, List, [], ◌∷◌, length, map, Option, Some, None, Result, Ok, Err, refl, sym, ◌∙◌, ap, subst, arith, slice_get}
+use Rattle.wire_msgs.specs.Found.{find}
 use Rattle.grant_core.specs.declared.grant_states.Claim.{Claim}
 use Rattle.grant_core.specs.declared.grant_states.GrantState.{GrantState}
 use Rattle.grant_core.specs.declared.grant_states.GrantState.TheVariants.{Free, Granting, Held, Revoking}
@@ -15,11 +14,11 @@ use Rattle.container_model.specs.declared.record.Link.{Link}
 use Rattle.container_model.specs.declared.record.Object.{Object}
 use Rattle.container_model.specs.declared.record.Frame.{Frame}
 use Rattle.container_model.specs.Record.{Record, Took, is_alive, is_object}
-use Rattle.container_model.specs.Grants.{freed, freed_claims, freed_frame, grant_each, is_hosted_object, lost_by, passed_to, unwaited}
-use Rattle.container_model.specs.Messages.{on_reap, reap_made, reaped, reaped_grants, reaped_object}
-use Rattle.container_model.specs.Room.{IsSound, debt, debt_in, grant_debt}
+use Rattle.container_model.specs.Grants.{freed, freed_claims, freed_frame, is_hosted_object, lost_by, passed_to, unwaited}
+use Rattle.container_model.specs.Messages.{reap_made, reaped, reaped_grants, reaped_object}
+use Rattle.container_model.specs.Room.{IsSound, debt_in, grant_debt}
 use Rattle.container_model.specs.Saves.{kept}
-use Rattle.container_laws.specs.Steady.{EachPair, Steady}
+use Rattle.container_laws.specs.Steady.{Steady}
 use Rattle.container_numbers.specs.Sound.{SoundAfterReaps}
 use Rattle.container_laws.proofs.SteadyLookups.{each_both, each_map, pairs_map}
 use Rattle.container_laws.proofs.SteadyTells.{if_told}
