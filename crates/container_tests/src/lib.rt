@@ -12,4 +12,6 @@ mod files;
 #[cfg(test)]
 mod messages;
 #[cfg(test)]
+mod screens;
+#[cfg(test)]
 mod words;
