@@ -192,9 +192,10 @@ module _ (numbers : ℕ) (frames : List Frame) (f : ℕ) (op : Operation) (next 
 
   pub room_all : (os : List Object) → Commands.all_have_numbers f numbers os ≡ true → AllByRecursion (Owing numbers (debts frames)) os → AllByRecursion (Owing numbers (debts after)) (map (asked_object f op) os)
   room_all [] e h = tt
-  room_all (o ∷ os) e h =
-      (room_one o (have_one (o.frame == f) (link_has_numbers numbers o.link) (Commands.all_have_numbers f numbers os) e) h.0,
-      room_all os (have_rest (o.frame == f) (link_has_numbers numbers o.link) (Commands.all_have_numbers f numbers os) e) h.1)
+  room_all (o ∷ os) e h = (
+    room_one o (have_one (o.frame == f) (link_has_numbers numbers o.link) (Commands.all_have_numbers f numbers os) e) h.0,
+    room_all os (have_rest (o.frame == f) (link_has_numbers numbers o.link) (Commands.all_have_numbers f numbers os) e) h.1,
+  )
 
 asked_number : (f : ℕ) (op : Operation) (o : Object) → (asked_object f op o).number ≡ o.number
 asked_number f op o = if_told (λ (z : Object). z.number ≡ o.number) (o.frame == f) (record o { link = asked_link op o.link }) o (λ t. refl) (λ t. refl)
@@ -225,7 +226,7 @@ save_at_sound r f (Some frame) t s h e =
     let made = c.1 in
     let same : Commands.save_made r f frame ≡ t = cc in
     subst (λ (z : Took). IsSound z.rec) same (settled_sound (Commands.saving r f frame)
-      (saving_within r f frame (within_of r s h) (leb-false r.numbers frame.k both.0) (not_false (Commands.all_have_numbers f r.numbers r.objects) both.1)))
+    (saving_within r f frame (within_of r s h) (leb-false r.numbers frame.k both.0) (not_false (Commands.all_have_numbers f r.numbers r.objects) both.1)))
 
 -- ---- an object goes
 deleted_sound : (r : Record) (o : Object) → IsSound r → IsSound (record r { objects = without_first (is_object o.number) r.objects })

@@ -203,8 +203,8 @@ ask_held r inc act g o frame s h found at e =
     let frames : List Frame = set_nth r.frames o.frame next in
     let u : Record = with_frame r o.frame next in
     let less = found_less r (debts r.frames) (λ m f. debts frames m f + cond (o.number == m) 1 0) s w
-        (λ x here. move_owed r.frames o.frame frame next x.number x.frame (cond (o.number == x.number) 1 0) at refl
-        (ends_pays frame.ui.state next.ui.state holder tools o.number x.number held.2 to named) (asks_alone r.objects o x there here)) in
+    (λ x here. move_owed r.frames o.frame frame next x.number x.frame (cond (o.number == x.number) 1 0) at refl
+    (ends_pays frame.ui.state next.ui.state holder tools o.number x.number held.2 to named) (asks_alone r.objects o x there here)) in
     let asked : Within (debts frames) (request u o.number UiDeactivate).rec = request_pays u (debts frames) o.number UiDeactivate (one_framed r (λ m f. debts frames m f + cond (o.number == m) 1 0) o.frame next less k) in
     sound_of (request u o.number UiDeactivate).rec (subst (λ (fs : List Frame). Within (debts fs) (request u o.number UiDeactivate).rec) (sym (requested_frames u UiDeactivate (find (is_object o.number) u.objects))) asked)
 

@@ -105,9 +105,9 @@ module _ (r : Record) (o : Object) (frame : Frame) (l : Link) (h : Within (debts
       let next = moved frame (Ask (claim_of o l (grant_of frame.ui.state))) in
       if_told (λ (u : Record). IsSound (with_object u x)) (gives_up ts) (with_frame r o.frame next) r
       (λ t. sound_of (with_object (with_frame r o.frame next) x)
-        (put_within (with_frame r o.frame next) (debts r.frames) (debts (set_nth r.frames o.frame next)) x o (asks (grant_of frame.ui.state)) found
-        (λ m f ne. asks_debts r.frames o.frame frame (claim_of o l (grant_of frame.ui.state)) at m f (λ q. ne (sym q)))
-        (stepped (set_nth r.frames o.frame next) 0 ts few) refl))
+      (put_within (with_frame r o.frame next) (debts r.frames) (debts (set_nth r.frames o.frame next)) x o (asks (grant_of frame.ui.state)) found
+      (λ m f ne. asks_debts r.frames o.frame frame (claim_of o l (grant_of frame.ui.state)) at m f (λ q. ne (sym q)))
+      (stepped (set_nth r.frames o.frame next) 0 ts few) refl))
       (λ t. sound_of (with_object r x) (put_within r (debts r.frames) (debts r.frames) x o h found (λ m f ne. omega arith) (stepped r.frames 0 ts few) refl))
 
   -- one that takes the frame: meanwhile it owes nothing, and its holder is asked
