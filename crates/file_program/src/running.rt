@@ -1,0 +1,87 @@
+//! The commands over the files of a system.
+
+use crate::ends::{refuse, refuse_path};
+use crate::new_file::NewFile;
+use file_commands::cleaning::clean_file;
+use file_commands::commands::{list_file, make_file};
+use file_commands::getting::get_file;
+use std::process::ExitCode;
+use std::rt::Runtime;
+use std::{fs, io};
+use texts::path::Path;
+use texts::report::{Report, STANDARD};
+
+/// Makes the file that standard input describes.
+pub fn make<R: Runtime + AllocGlobal>(rt: &R, path: &str) -> ExitCode {
+    let mut new = NewFile::new(rt, path);
+    match make_file(rt.alloc(), &mut rt.reader(), &mut new) {
+        Ok(count) => keep(rt, new, path, count),
+        Err(fault) => {
+            new.discard();
+            refuse(rt, &fault.report(path))
+        }
+    }
+}
+
+/// Keeps a new file of so many bytes, and tells their number.
+fn keep<R: Runtime + AllocGlobal>(
+    rt: &R,
+    new: NewFile<'_, R>,
+    path: &str,
+    count: usize,
+) -> ExitCode {
+    if new.keep().is_err() {
+        return refuse(rt, &Report::File(path, "Unwritable"));
+    }
+    match println!(rt; "{count} bytes") {
+        Ok(()) => ExitCode::SUCCESS,
+        Err(_) => refuse(rt, &Report::File(STANDARD, "Unwritable")),
+    }
+}
+
+/// Lists a file on standard output.
+pub fn list<R: Runtime + AllocGlobal>(rt: &R, path: &str) -> ExitCode {
+    let Ok(mut source) = fs::open(rt, path) else {
+        return refuse(rt, &Report::File(path, "Unreadable"));
+    };
+    match list_file(rt.alloc(), &mut source, &mut io::writer(rt)) {
+        Ok(()) => ExitCode::SUCCESS,
+        Err(fault) => refuse(rt, &fault.report(path)),
+    }
+}
+
+/// Writes the stream at a path of a file to standard output.
+pub fn get<R: Runtime + AllocGlobal>(rt: &R, path: &str, word: &str) -> ExitCode {
+    let spelled = match Path::parse(rt.alloc(), word.as_bytes()) {
+        Ok(Some(spelled)) => spelled,
+        Ok(None) => return refuse_path(rt, word, "no path is spelled so"),
+        Err(_) => return refuse(rt, &Report::File(path, "NoMemory")),
+    };
+    let names = match spelled.names() {
+        Ok(names) => names,
+        Err(fault) => return refuse_path(rt, word, fault.name()),
+    };
+    let Ok(mut source) = fs::open(rt, path) else {
+        return refuse(rt, &Report::File(path, "Unreadable"));
+    };
+    match get_file(rt.alloc(), &mut source, names, &mut io::writer(rt)) {
+        Ok(()) => ExitCode::SUCCESS,
+        Err(fault) => refuse(rt, &fault.report(path)),
+    }
+}
+
+/// Writes the tree of a file to another, or to the same.
+pub fn clean<R: Runtime + AllocGlobal>(rt: &R, path: &str, out: &str) -> ExitCode {
+    let Ok(mut source) = fs::open(rt, path) else {
+        return refuse(rt, &Report::File(path, "Unreadable"));
+    };
+    let mut new = NewFile::new(rt, out);
+    match clean_file(rt.alloc(), &mut source, &mut new) {
+        Ok(count) => keep(rt, new, out, count),
+        Err(fault) => {
+            new.discard();
+            refuse(rt, &fault.report(path, out))
+        }
+    }
+}
+

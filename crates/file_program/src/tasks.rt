@@ -1,0 +1,46 @@
+//! What a command line over files asks for.
+
+use crate::command_lines::{CLEAN, FILE, GET, LIST, MAKE, OUT, PATH};
+use crate::running::{clean, get, list, make};
+use clap::ArgMatches;
+use std::process::ExitCode;
+use std::rt::Runtime;
+
+/// What a command line over files asks for.
+pub enum Task<'a> {
+    /// A file of this path, made from standard input.
+    Make(&'a str),
+    /// The listing of a file of this path.
+    List(&'a str),
+    /// The bytes of a stream: the path of its file, and its own.
+    Get(&'a str, &'a str),
+    /// The tree of the file of one path, written to that of another.
+    Clean(&'a str, &'a str),
+}
+
+impl<'a> Task<'a> {
+    /// What a parsed command line asks for; none where it names no command over files.
+    pub fn of(matches: &ArgMatches<'a>) -> Option<Task<'a>> {
+        if let Some(made) = matches.subcommand_matches(MAKE) {
+            return Some(Task::Make(made.get_str(FILE)?));
+        }
+        if let Some(listed) = matches.subcommand_matches(LIST) {
+            return Some(Task::List(listed.get_str(FILE)?));
+        }
+        if let Some(got) = matches.subcommand_matches(GET) {
+            return Some(Task::Get(got.get_str(FILE)?, got.get_str(PATH)?));
+        }
+        let cleaned = matches.subcommand_matches(CLEAN)?;
+        Some(Task::Clean(cleaned.get_str(FILE)?, cleaned.get_str(OUT)?))
+    }
+
+    /// Does what is asked for, and gives the status to end with.
+    pub fn run<R: Runtime + AllocGlobal>(&self, rt: &R) -> ExitCode {
+        match self {
+            Task::Make(path) => make(rt, path),
+            Task::List(path) => list(rt, path),
+            Task::Get(path, word) => get(rt, path, word),
+            Task::Clean(path, out) => clean(rt, path, out),
+        }
+    }
+}

@@ -1,0 +1,35 @@
+//! The program `olecon` with its commands over files alone, which is built sooner: it makes, lists and cleans OLE compound
+//! files.
+#![tactic(auto)]
+
+use clap::ArgMatches;
+use file_program::command_lines::command_line;
+use file_program::ends::{answer_usage, refuse_command, refuse_start};
+use file_program::tasks::Task;
+use std::process::ExitCode;
+use std::rt::Runtime;
+use std::{env, io};
+
+/// Does what a command line asks for.
+fn run<R: Runtime + AllocGlobal>(rt: &R, matches: &ArgMatches<'_>) -> ExitCode {
+    match Task::of(matches) {
+        Some(task) => task.run(rt),
+        None => refuse_command(rt),
+    }
+}
+
+fn start<R: Runtime + AllocGlobal>(rt: &R) -> io::Result<ExitCode> {
+    let alloc = rt.alloc();
+    let words: Vec<String> = env::args(rt)?.collect(alloc)?;
+    match command_line(alloc)?.try_get_matches_from(words.as_slice()) {
+        Ok(matches) => Ok(run(rt, &matches)),
+        Err(error) => Ok(answer_usage(rt, &error)),
+    }
+}
+
+fn main(rt: HostRuntime) -> ExitCode {
+    match start(&rt) {
+        Ok(code) => code,
+        Err(error) => refuse_start(&rt, &error),
+    }
+}
