@@ -7,6 +7,7 @@ use std::process::ExitCode;
 use std::rt::Runtime;
 
 /// What a command line over files asks for.
+#[derive(Clone, Copy)]
 pub enum Task<'a> {
     /// A file of this path, made from standard input.
     Make(&'a str),
@@ -35,7 +36,7 @@ impl<'a> Task<'a> {
     }
 
     /// Does what is asked for, and gives the status to end with.
-    pub fn run<R: Runtime + AllocGlobal>(&self, rt: &R) -> ExitCode {
+    pub fn run<R: Runtime + AllocGlobal>(self, rt: &R) -> ExitCode {
         match self {
             Task::Make(path) => make(rt, path),
             Task::List(path) => list(rt, path),
