@@ -1,0 +1,2 @@
+pub mod VerbsMade
+pub mod VerbsTake
