@@ -6,8 +6,8 @@ ghost use Rattle.container_model.specs.Record.{Record, Refuses, acts, counts_non
 ghost use Rattle.container_model.specs.Verbs.{close_linked};
 ghost use Rattle.wire_msgs.specs.Found.{nth};
 
-use container_checks::checks::has_numbers;
 use crate::leaving::leave;
+use container_checks::checks::has_numbers;
 use container_model::answer::Action;
 use container_model::fault::ContainerFault;
 use container_model::record::{Frame, Object};
