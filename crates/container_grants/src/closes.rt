@@ -1,6 +1,6 @@
 //! Objects that are asked to close.
 
-ghost use Rattle.std.specs.Prelude.{◌≡◌, ◌≤◌, IfErr, IfOk, Ok, OnErr, OnOk, Some, length};
+ghost use Rattle.std.specs.Prelude.{◌≡◌, ◌≤◌, IfErr, IfOk, Ok, OnErr, Some, length};
 ghost use Rattle.container_links.specs.Asking.{HasNumber};
 ghost use Rattle.container_model.specs.Record.{Record, Refuses, acts, counts_none, with_frame, with_object};
 ghost use Rattle.container_model.specs.Verbs.{close_linked};

@@ -1,7 +1,7 @@
 //! How a frame's menus and border pass from object to object: what is told of a frame, who is told of a grant, and which grants
 //! the end of a server frees.
 
-ghost use Rattle.std.specs.Prelude.{◌≡◌, ◌+◌, ◌≤◌, ◌<◌, ◌++◌, All, IfOk, IfErr, IsOk, List, OnErr, OnOk, true, length, map, option_to_list, vec_capacity, vec_len};
+ghost use Rattle.std.specs.Prelude.{◌≡◌, ◌+◌, ◌≤◌, ◌<◌, ◌++◌, All, IfOk, OnErr, OnOk, true, length, map, option_to_list, vec_capacity, vec_len};
 ghost use Rattle.container_links.specs.Asking.{HasNumber};
 ghost use Rattle.container_model.specs.Grants.{freed, freed_claims, freed_frame, is_hosted, is_hosted_object, lacks_space, lost_by, number_of, passed_to, unwaited};
 ghost use Rattle.container_model.specs.Messages.{is_held_by};

@@ -1,9 +1,9 @@
 //! Objects that are asked for an edit.
 
-ghost use Rattle.std.specs.Prelude.{◌+◌, ◌≡◌, ◌≤◌, IfErr, IfOk, Ok, OnErr, OnOk, List, length};
+ghost use Rattle.std.specs.Prelude.{◌+◌, ◌≡◌, ◌≤◌, IfErr, IfOk, Ok, OnErr, length};
 ghost use Rattle.container_links.specs.Asking.{HasNumber};
 ghost use Rattle.container_model.specs.Commands.{edit_fault, edit_linked};
-ghost use Rattle.container_model.specs.Record.{Record, Refuses, acts, asked_link, asked_sent, counts_none, sends, with_object};
+ghost use Rattle.container_model.specs.Record.{Record, Refuses, acts, counts_none, with_object};
 ghost use Rattle.container_model.specs.Room.{IfLinked};
 
 use container_checks::checks::has_numbers;
