@@ -10,7 +10,7 @@ use crate::state::State;
 use container_model::answer::Answer;
 use container_model::fault::ContainerFault;
 use container_objects::checks;
-use container_grants::closes::close_one;
+use container_objects::closes::close_one;
 use container_objects::lookups::{place, place_object};
 use object_state::CloseOption;
 use std::alloc::Global;

@@ -1,2 +1,1 @@
 pub mod Granted
-pub mod Stepping

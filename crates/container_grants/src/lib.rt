@@ -1,7 +1,5 @@
-//! How frames' menus and border pass from object to object: by verbs, closes and replies, and as a server ends.
+//! How frames' menus and border pass from object to object: what a reply tells of a frame, who is told of a grant, and which
+//! grants the end of a server frees.
 #![tactic(auto)]
 
-pub mod closes;
 pub mod grants;
-pub mod leaving;
-pub mod takings;

@@ -2,11 +2,14 @@
 #![tactic(auto)]
 
 pub mod activations;
+pub mod closes;
 pub mod commits;
 pub mod edits;
+pub mod leaving;
 pub mod reaps;
 pub mod replies;
 pub mod saves;
+pub mod takings;
 pub mod writes;
 
 pub use container_checks::{checks, lookups, servers, verbs};

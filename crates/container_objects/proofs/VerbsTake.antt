@@ -9,7 +9,7 @@ use Rattle.wire_msgs.specs.declared.operation.Operation.TheVariants.{UiDeactivat
 use Rattle.container_model.specs.declared.record.Object.{Object}
 use Rattle.container_model.specs.Numbered.{IsObjectAt}
 use Rattle.container_model.specs.Record.{asked_link, asked_sent, is_object, sends}
-use Rattle.container_grants.specs.Stepping.{told_in, told_objects, told_one, told_sent}
+use Rattle.container_objects.specs.Stepping.{told_in, told_objects, told_one, told_sent}
 use Rattle.container_model.specs.declared.answer.Action.TheVariants.{Send}
 use Rattle.container_checks.proofs.LookupPlaces.{found_number}
 

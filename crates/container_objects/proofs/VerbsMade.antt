@@ -12,7 +12,7 @@ use Rattle.container_model.specs.declared.record.Link.{Link}
 use Rattle.container_model.specs.declared.record.Object.{Object}
 use Rattle.container_model.specs.Record.{Record, acts, counts_none, has_numbers, sends, unless, with_frame, with_object}
 use Rattle.container_model.specs.Verbs.{close_linked, close_steps_made, gives_up, leaving_made, left, stepped_link}
-use Rattle.container_grants.specs.Stepping.{left_frame, given_up}
+use Rattle.container_objects.specs.Stepping.{left_frame, given_up}
 
 -- an item in its own place changes nothing
 slice_same : {A : Type 0} (xs : List A) (i : ℕ) (x : A) → slice_get xs i ≡ Some x → slice_set xs i x ≡ xs

@@ -8,7 +8,7 @@ ghost use Rattle.container_model.specs.Verbs.{claim_of, stepped_link};
 ghost use Rattle.container_model.specs.Numbered.{IsObjectAt};
 ghost use Rattle.container_model.specs.declared.record.Link.{Link};
 ghost use Rattle.container_model.specs.declared.record.Object.{Object};
-ghost use Rattle.container_grants.specs.Stepping.{told_objects, told_sent};
+ghost use Rattle.container_objects.specs.Stepping.{told_objects, told_sent};
 ghost use Rattle.grant_core.specs.Grants.{Ask};
 ghost use Rattle.wire_msgs.specs.Found.{put};
 ghost use Rattle.wire_msgs.specs.declared.operation.Operation.TheVariants.{UiDeactivate};

@@ -5,8 +5,8 @@ use Rattle.container_model.specs.declared.record.Object.{Object}
 use Rattle.container_model.specs.Numbered.{IsObjectAt}
 use Rattle.container_model.specs.Record.{is_object}
 use Rattle.container_model.specs.Verbs.{stepped_link}
-use Rattle.container_grants.proofs.VerbsTake.{alone, apart_at, both, both_sent, item_at, told_nobody, told_none}
-use Rattle.container_grants.proofs.takings.ask_taking.Goals as goal
+use Rattle.container_objects.proofs.VerbsTake.{alone, apart_at, both, both_sent, item_at, told_nobody, told_none}
+use Rattle.container_objects.proofs.takings.ask_taking.Goals as goal
 
 pub returns-in_default-clause-asked : goal.returns-in_default-clause-asked
 returns-in_default-clause-asked c =

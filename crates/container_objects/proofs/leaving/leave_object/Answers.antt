@@ -1,8 +1,8 @@
 use Rattle.std.proofs.Common.{◌∙◌, ap, sym}
 use Rattle.std.proofs.lemmas.Option.{same_Some}
 use Rattle.container_model.specs.Verbs.{leaving_made}
-use Rattle.container_grants.proofs.VerbsMade.{left_made}
-use Rattle.container_grants.proofs.leaving.leave_object.Goals as goal
+use Rattle.container_objects.proofs.VerbsMade.{left_made}
+use Rattle.container_objects.proofs.leaving.leave_object.Goals as goal
 
 pub returns-clause-taken : goal.returns-clause-taken
 returns-clause-taken c r l at linked =

@@ -1,6 +1,6 @@
 use Rattle.std.proofs.Common.{sym, ◌∙◌}
-use Rattle.container_grants.proofs.VerbsMade.{close_made}
-use Rattle.container_grants.proofs.closes.close_one.Goals as goal
+use Rattle.container_objects.proofs.VerbsMade.{close_made}
+use Rattle.container_objects.proofs.closes.close_one.Goals as goal
 
 pub returns-in-Ok-clause-taken : goal.returns-in-Ok-clause-taken
 returns-in-Ok-clause-taken c r n at =

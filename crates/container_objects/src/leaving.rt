@@ -1,7 +1,7 @@
 //! Steps that an object takes without its frame, and what they make of the frame where they give it up.
 
 ghost use Rattle.std.specs.Prelude.{◌≡◌, ◌≤◌, IfOk, OnErr, OnOk, Some, is_some, length, true};
-ghost use Rattle.container_grants.specs.Stepping.{given_up, left_frame};
+ghost use Rattle.container_objects.specs.Stepping.{given_up, left_frame};
 ghost use Rattle.container_links.specs.Asking.{HasNumber};
 ghost use Rattle.container_model.specs.Grants.{grant_of};
 ghost use Rattle.container_model.specs.Record.{Record, acts, counts_none, sends, with_frame, with_object};

@@ -1,2 +1,0 @@
-pub mod VerbsMade
-pub mod VerbsTake
