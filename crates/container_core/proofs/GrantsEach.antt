@@ -15,7 +15,7 @@ use Rattle.container_model.specs.declared.answer.Action.TheVariants.{Send}
 use Rattle.container_model.specs.declared.record.Object.{Object}
 use Rattle.container_model.specs.Grants.{Requested, grant_each, requested}
 use Rattle.container_model.specs.Record.{Record, asked_link, asked_sent, is_object, sends}
-use Rattle.container_objects.specs.Granted.{actions_of, asked_by, asked_in, installed_by, installed_each, installed_in, ready, ready_in, sent_by, sent_in}
+use Rattle.container_grants.specs.Granted.{actions_of, asked_by, asked_in, installed_by, installed_each, installed_in, ready, ready_in, sent_by, sent_in}
 use Rattle.container_objects.proofs.LookupPlaces.{found_number}
 use Rattle.container_laws.proofs.SteadyFinds.{find-put_other}
 

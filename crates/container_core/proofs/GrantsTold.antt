@@ -16,7 +16,7 @@ use Rattle.container_model.specs.declared.record.Frame.{Frame}
 use Rattle.container_model.specs.Grants.{Regranted, event_of, grant_of, moved, passed_to, regranted, regranted_in}
 use Rattle.container_model.specs.Messages.{Replied}
 use Rattle.container_model.specs.Record.{Record, with_frame}
-use Rattle.container_objects.specs.Granted.{claims_if, claims_in, told_frames, told_frames_in, told_space_in}
+use Rattle.container_grants.specs.Granted.{claims_if, claims_in, told_frames, told_frames_in, told_space_in}
 use Rattle.container_core.proofs.GrantsEach.{grant_each_is, granted_objects, granted_sent}
 
 -- who gets a frame that an answer moves

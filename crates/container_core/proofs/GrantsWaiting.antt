@@ -20,7 +20,7 @@ use Rattle.container_model.specs.Grants.{freed, freed_claims, is_hosted, is_host
 use Rattle.container_model.specs.Saves as saves
 use Rattle.container_model.specs.Messages.{reaped_object, reply_link}
 use Rattle.container_model.specs.Record.{Record, is_linked, is_object}
-use Rattle.container_objects.specs.Granted.{claims_if}
+use Rattle.container_grants.specs.Granted.{claims_if}
 use Rattle.container_laws.specs.Roles.{Giving, IsClaim, Plays, SteadyGrant, queue_of, role_in, waits_as}
 use Rattle.container_laws.specs.Steady.{Steady, SteadyLink, SteadyObject}
 use Rattle.container_laws.proofs.SteadyFinds.{find-map, find-put_other, put_by_number}

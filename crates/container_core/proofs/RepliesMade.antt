@@ -16,7 +16,7 @@ use Rattle.container_model.specs.declared.record.Object.{Object}
 use Rattle.container_model.specs.Messages.{Replied, next_sent, replied_grant, replied_record, reply_found, reply_link, reply_made, reply_taken}
 use Rattle.container_model.specs.Record.{Record, Refuses, Took, is_linked, quiet_answer, sends}
 use Rattle.container_model.specs.Saves.{settle, settle_actions, settled_actions, settled_frames}
-use Rattle.container_objects.specs.Granted.{actions_of, claims_if, installed_each, ready, told_frames, told_space_in}
+use Rattle.container_grants.specs.Granted.{actions_of, claims_if, installed_each, ready, told_frames, told_space_in}
 use Rattle.container_objects.specs.Told.{ToldObject, told_of}
 use Rattle.container_core.proofs.GrantsEach.{Agrees, Differ, actions_are, granted_objects, granted_sent, installed_each_is}
 use Rattle.container_core.proofs.GrantsTold.{claims_are, claims_told, regranted_is, told_record}

@@ -14,7 +14,8 @@ use Rattle.container_model.specs.declared.record.Object.{Object}
 use Rattle.container_model.specs.Grants.{Requested, moved, requested}
 use Rattle.container_model.specs.Record.{Record, acts, counts_none, is_object, quiet_answer, sends, unless, with_object}
 use Rattle.container_model.specs.Verbs.{claim_of, claimed, holder_has_numbers, holder_of, leaving_made, revoked_at, stepped_link, stepping, steps_now, takes, taking, taking_made}
-use Rattle.container_objects.specs.Stepping.{told_in, told_objects, told_one, told_sent, verb_went}
+use Rattle.container_objects.specs.Stepping.{told_in, told_objects, told_one, told_sent}
+use Rattle.container_objects.specs.Went.{verb_went}
 
 -- the object that has the frame is told
 requested_told : (q : Record) (p : Option Object) → ◌≡◌ {A = Requested} (requested q UiDeactivate p) (record { rec = record q { objects = told_in q.objects p }; sent = told_one p })

@@ -19,3 +19,6 @@ mod saves;
 mod starts;
 mod state;
 mod verbs;
+
+pub use container_links::writes;
+pub use container_objects::lookups;

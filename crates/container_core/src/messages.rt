@@ -14,7 +14,7 @@ use container_links::resending::pending_calls;
 use container_links::settling::settle_into;
 use container_model::answer::Answer;
 use container_model::fault::ContainerFault;
-use container_objects::grants::{prepare_waiting, take_grants, tell_frame};
+use container_grants::grants::{prepare_waiting, take_grants, tell_frame};
 use container_objects::lookups::place_linked;
 use container_objects::replies::{Told, answered, told_object};
 use container_objects::writes::write_one;

@@ -13,10 +13,11 @@ ghost use Rattle.container_model.specs.declared.record.Object.{Object};
 use crate::state::State;
 use container_model::answer::Answer;
 use container_model::fault::ContainerFault;
+use container_objects::leaving::leave_object;
 use container_objects::lookups::{place, place_object};
 use container_objects::takings::{ask_taking, claim_frame, claim_of};
 use container_objects::verbs::{
-    holder_has_numbers, holder_of, leave_object, may_do, steps_now, takes, verb_of, verb_steps,
+    holder_has_numbers, holder_of, may_do, steps_now, takes, verb_of, verb_steps,
 };
 use object_state::{Step, Verb};
 use std::alloc::Global;

@@ -1,11 +1,12 @@
 //! The document of a frame: its objects, each with the content that a save counts, and the file that holds them.
 
 ghost use Rattle.std.specs.Prelude.{◌≡◌, IfOk, is_ok, length};
-ghost use Rattle.container_model.specs.Saves.{are_objects, document, document_tree, fitting, held_part, kept, part_of, parts_in};
+ghost use Rattle.container_model.specs.Saves.{are_objects, document, document_tree, fitting, held_part, part_of, parts_in};
 ghost use Rattle.ole_streams.specs.DocOf.{DocOf, is_object};
 ghost use Rattle.file_model.specs.Denotes.{Denotes};
 
 use crate::room::has_room;
+use container_checks::contents::kept;
 use container_model::answer::Part;
 use container_model::record::Object;
 use file_writer::write::write_file;
@@ -14,23 +15,9 @@ use ole_streams::doc::{Doc, DocObject, MOST_OBJECTS};
 use ole_streams::document_tree::document_tree;
 use ole_streams::laws::document_is_read_again;
 use std::alloc::{AllocError, Global};
-use storage_tree::stored::Stored;
 
 /// The first length that a user type can't have, so that its size with the closing zero fits four bytes.
 const PAST_USER_TYPE: usize = 0xffff_ffff;
-
-/// The content that a save counts: what was answered in it, or the work content where none was.
-pub fn kept(object: &Object) -> &Stored
-    ensures { result.now ≡ kept object.now }
-{
-    match &object.link {
-        Some(link) => match &link.saved {
-            Some(content) => content,
-            None => &object.work,
-        },
-        None => &object.work,
-    }
-}
 
 /// An object of a document.
 fn part_of(alloc: Global, object: &Object) -> Result<Part, AllocError>

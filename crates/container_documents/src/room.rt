@@ -9,7 +9,7 @@ ghost use Rattle.file_model.specs.Refusals.{writable};
 ghost use Rattle.file_model.specs.declared.limit.TheConstants.{MANY};
 ghost use Rattle.ole_parts.specs.CompObjs.{CLASS_BYTES, PAST_USER_TYPE};
 
-use crate::documents::kept;
+use container_checks::contents::kept;
 use container_model::record::Object;
 use file_model::limit::{CUTOFF, MANY, MOST_FAT_SECTORS};
 use storage_tree::streams::NamedStream;

@@ -37,11 +37,8 @@ fn ask(alloc: Global, link: &mut Link, operation: Operation) -> Result<Option<Me
     }
 }
 
-/// Asks an object, where it isn't passive, for an operation: at once where none is pending, else behind those that wait.
-/// What is to be sent.
-///
-/// Refused for want of memory alone. Then nothing changes.
-pub fn ask_link(
+// The same of an object, where it isn't passive. What is to be sent.
+fn ask_link(
     alloc: Global,
     link: &mut Option<Link>,
     operation: Operation,
@@ -61,6 +58,24 @@ pub fn ask_link(
         },
     }
     Ok(Items::from_vec(actions))
+}
+
+/// An object is asked for an operation: at once where none is pending, else behind those that wait; a passive one isn't asked.
+/// What is to be sent.
+///
+/// Refused for want of memory alone. Then nothing changes.
+pub fn ask_object(
+    alloc: Global,
+    object: &mut Object,
+    operation: Operation,
+) -> Result<Items<Action>, AllocError>
+    requires { HasNumber object.old }
+    ensures asked { OnOk result (object.new ≡ record object.old { link = asked_link operation object.old.link }) }
+    ensures sent { IfOk result (λ a. a ≡ sends (asked_sent operation object.old.link)) }
+    ensures few { IfOk result (λ a. length a ≤ 1) }
+    ensures kept { OnErr result (object.new ≡ object.old) }
+{
+    ask_link(alloc, &mut object.link, operation)
 }
 
 // Adds a message that room was taken for.

@@ -1,6 +1,5 @@
-pub mod LookupPlaces
 pub mod CommitsObjects
 pub mod RepliesTold
-pub mod ServersCounted
 pub mod VerbsMade
 pub mod VerbsTake
+pub use Rattle.container_checks.proofs.LookupPlaces

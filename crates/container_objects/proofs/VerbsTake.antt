@@ -11,7 +11,7 @@ use Rattle.container_model.specs.Numbered.{IsObjectAt}
 use Rattle.container_model.specs.Record.{asked_link, asked_sent, is_object, sends}
 use Rattle.container_objects.specs.Stepping.{told_in, told_objects, told_one, told_sent}
 use Rattle.container_model.specs.declared.answer.Action.TheVariants.{Send}
-use Rattle.container_objects.proofs.LookupPlaces.{found_number}
+use Rattle.container_checks.proofs.LookupPlaces.{found_number}
 
 -- what stands at a place
 pub item_at : {A : Type 0} (xs : List A) (i : ℕ) → i < length xs → (x : A) × (slice_get xs i ≡ Some x)

@@ -1,3 +1,3 @@
-pub mod Granted
 pub mod Stepping
 pub mod Told
+pub use Rattle.container_checks.specs.Went

@@ -1,17 +1,15 @@
--- What verbs and closes make of an object's frame.
-use Rattle.std.specs.Prelude.{ℕ, List, [], ◌∷◌, Option, Some, None, Result, Ok, if◌then◌else◌}
+-- What verbs and closes make of an object's frame, and of the object that has it.
+use Rattle.std.specs.Prelude.{ℕ, List, [], Option, Some, None, if◌then◌else◌}
 use Rattle.wire_msgs.specs.Found.{find, put}
 use Rattle.wire_msgs.specs.declared.message.Message.{Message}
 use Rattle.wire_msgs.specs.declared.operation.Operation.TheVariants.{UiDeactivate}
 use Rattle.object_state.specs.declared.verbs.Step.{Step}
 use Rattle.grant_core.specs.Grants.{Ask}
-use Rattle.container_model.specs.declared.fault.ContainerFault.{ContainerFault}
 use Rattle.container_model.specs.declared.record.Frame.{Frame}
-use Rattle.container_model.specs.declared.record.Link.{Link}
 use Rattle.container_model.specs.declared.record.Object.{Object}
 use Rattle.container_model.specs.Grants.{grant_of, moved}
-use Rattle.container_model.specs.Record.{Record, Took, asked_link, asked_sent, counts_none, is_object, quiet_answer}
-use Rattle.container_model.specs.Verbs.{gives_up, stepping}
+use Rattle.container_model.specs.Record.{asked_link, asked_sent, is_object}
+use Rattle.container_model.specs.Verbs.{gives_up}
 
 -- the object, by this activation, gives its frame up
 abbrev pub given_up : ℕ → ℕ → Frame → Frame
@@ -20,11 +18,6 @@ given_up number act frame = moved frame (Ask (record { object = number; act = ac
 -- the frame after steps that don't take it
 abbrev pub left_frame : ℕ → ℕ → List Step → Frame → Frame
 left_frame number act steps frame = if gives_up steps then given_up number act frame else frame
-
--- what a verb comes to that has these steps
-abbrev pub verb_went : Record → Frame → Object → Link → List Step → Result Took ContainerFault
-verb_went r frame o l [] = Ok (counts_none r quiet_answer)
-verb_went r frame o l (s ∷ ss) = stepping r frame o l (s ∷ ss)
 
 -- the objects once the one that has the frame, if any, is told to give it up, and what is sent
 abbrev pub told_in : List Object → Option Object → List Object

@@ -1,13 +1,13 @@
 //! Objects that are asked to close.
 
-ghost use Rattle.std.specs.Prelude.{◌≡◌, ◌≤◌, IfErr, IfOk, Ok, OnErr, OnOk, Some, length};
+ghost use Rattle.std.specs.Prelude.{◌≡◌, ◌≤◌, IfErr, IfOk, Ok, OnErr, Some, length};
 ghost use Rattle.container_links.specs.Asking.{HasNumber};
 ghost use Rattle.container_model.specs.Record.{Record, Refuses, acts, counts_none, with_frame, with_object};
 ghost use Rattle.container_model.specs.Verbs.{close_linked};
 ghost use Rattle.wire_msgs.specs.Found.{nth};
 
-use crate::checks::has_numbers;
-use crate::verbs::leave;
+use crate::leaving::leave;
+use container_checks::checks::has_numbers;
 use container_model::answer::Action;
 use container_model::fault::ContainerFault;
 use container_model::record::{Frame, Object};

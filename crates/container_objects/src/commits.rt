@@ -5,7 +5,7 @@ ghost use Rattle.container_links.specs.Asking.{prepared};
 ghost use Rattle.container_model.specs.Saves.{committed_frame, completed, completion, counted_object, done_entry, part_of, parts_in};
 ghost use Rattle.container_model.specs.declared.record.Frame as declared;
 
-use container_documents::documents::kept;
+use container_checks::contents::kept;
 use container_links::asking::{Prepared, take_up};
 use container_model::answer::Done;
 use container_model::record::{Frame, Object, Phase};

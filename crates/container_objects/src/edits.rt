@@ -1,17 +1,17 @@
 //! Objects that are asked for an edit.
 
-ghost use Rattle.std.specs.Prelude.{◌+◌, ◌≡◌, ◌≤◌, IfErr, IfOk, Ok, OnErr, OnOk, List, length};
+ghost use Rattle.std.specs.Prelude.{◌+◌, ◌≡◌, ◌≤◌, IfErr, IfOk, Ok, OnErr, length};
 ghost use Rattle.container_links.specs.Asking.{HasNumber};
 ghost use Rattle.container_model.specs.Commands.{edit_fault, edit_linked};
-ghost use Rattle.container_model.specs.Record.{Record, Refuses, acts, asked_link, asked_sent, counts_none, sends, with_object};
+ghost use Rattle.container_model.specs.Record.{Record, Refuses, acts, counts_none, with_object};
 ghost use Rattle.container_model.specs.Room.{IfLinked};
 
-use crate::checks::has_numbers;
-use container_links::asking::ask_link;
+use container_checks::checks::has_numbers;
+use container_links::asking::ask_object;
 use container_model::answer::Action;
 use container_model::fault::ContainerFault;
 use container_model::record::{Link, Object};
-use std::alloc::{AllocError, Global};
+use std::alloc::Global;
 use storage_tree::bytes::Bytes;
 use wire_msgs::items::Items;
 use wire_msgs::operation::Operation;
@@ -63,19 +63,4 @@ pub fn edit_one(
         Ok(actions) => Ok(actions),
         Err(_) => Err(ContainerFault::NoMemory),
     }
-}
-
-// An object is asked. What is to be done for it.
-pub(crate) fn ask_object(
-    alloc: Global,
-    object: &mut Object,
-    operation: Operation,
-) -> Result<Items<Action>, AllocError>
-    requires { HasNumber object.old }
-    ensures asked { OnOk result (object.new ≡ record object.old { link = asked_link operation object.old.link }) }
-    ensures sent { IfOk result (λ a. a ≡ sends (asked_sent operation object.old.link)) }
-    ensures few { IfOk result (λ a. length a ≤ 1) }
-    ensures kept { OnErr result (object.new ≡ object.old) }
-{
-    ask_link(alloc, &mut object.link, operation)
 }

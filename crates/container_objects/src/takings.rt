@@ -13,7 +13,7 @@ ghost use Rattle.grant_core.specs.Grants.{Ask};
 ghost use Rattle.wire_msgs.specs.Found.{put};
 ghost use Rattle.wire_msgs.specs.declared.operation.Operation.TheVariants.{UiDeactivate};
 
-use crate::lookups::place_object;
+use container_checks::lookups::place_object;
 use container_links::closing::{Stepped, ask_steps, prepare_steps, take_up_steps};
 use container_links::requests::{Request, add_action, prepare_one, take_up_one};
 use container_model::answer::Action;

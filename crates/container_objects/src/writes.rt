@@ -1,6 +1,6 @@
 //! Writes of objects into their storages.
 
-ghost use Rattle.std.specs.Prelude.{◌≡◌, IfErr, IfOk, Ok, OnErr, OnOk, true};
+ghost use Rattle.std.specs.Prelude.{◌≡◌, IfErr, Ok, OnErr, OnOk, true};
 ghost use Rattle.wire_msgs.specs.Found.{put};
 ghost use Rattle.container_model.specs.Messages.{write_link};
 ghost use Rattle.container_model.specs.Record.{Record, Refuses, counts_none, is_linked, quiet_answer};

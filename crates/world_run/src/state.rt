@@ -14,7 +14,7 @@ use crate::instance::{Instance, end_of};
 use crate::stock::Stock;
 use container_core::container::Limits;
 use container_model::command::Command;
-use container_objects::lookups::place;
+use container_core::lookups::place;
 use embed_core::embedded::Embedded;
 use server_core::server::ServerCore;
 use std::alloc::Global;

@@ -1,5 +1,5 @@
 use Rattle.container_model.specs.Saves.{counted_object}
-use Rattle.container_objects.proofs.LookupPlaces.{mapped_more}
+use Rattle.container_checks.proofs.LookupPlaces.{mapped_more}
 use Rattle.container_objects.proofs.commits.count_objects.Goals as goal
 
 pub loop-object-preserved : goal.loop-object-preserved

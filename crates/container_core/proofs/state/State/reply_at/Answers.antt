@@ -8,7 +8,7 @@ use Rattle.container_model.specs.Record.{Record, Refuses, is_linked}
 use Rattle.container_model.specs.declared.record.Frame.{Frame}
 use Rattle.container_model.specs.declared.record.Object.{Object}
 use Rattle.wire_msgs.specs.declared.operation.Operation.TheVariants.{UiDeactivate}
-use Rattle.container_objects.specs.Granted.{actions_of, claims_if, installed_each, ready, told_frames, told_space_in}
+use Rattle.container_grants.specs.Granted.{actions_of, claims_if, installed_each, ready, told_frames, told_space_in}
 use Rattle.container_objects.specs.Told.{ToldObject}
 use Rattle.container_laws.specs.Steady.{Steady}
 use Rattle.container_core.proofs.GrantsEach.{Agrees}

@@ -1,0 +1,2 @@
+pub mod LookupPlaces
+pub mod ServersCounted

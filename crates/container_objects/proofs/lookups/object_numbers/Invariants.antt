@@ -1,5 +1,0 @@
-use Rattle.std.proofs.Common.{◌≡◌, ◌++◌, drop, map}
-use Rattle.container_objects.proofs.lookups.object_numbers.Given as goal
-
-abbrev pub invariant-loop-object : goal.invariant-loop-object
-invariant-loop-object l = l.numbers.items ++ map (λ o. o.number) (drop l.object-index l.objects) ≡ map (λ o. o.number) l.objects
