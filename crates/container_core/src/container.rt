@@ -2,7 +2,7 @@
 
 ghost use Rattle.std.specs.Prelude.{◌≡◌, ◌≤◌, ◌+◌, IfErr, IfOk, List, Ok, OnErr, length, map, option_copied};
 ghost use Rattle.std.specs.List.{range_with_len};
-ghost use Rattle.container_laws.specs.Steady.{Steady};
+ghost use Rattle.container_steps.specs.Steady.{Steady};
 ghost use Rattle.container_model.specs.Commands.{on_command};
 ghost use Rattle.container_model.specs.Messages.{on_message, on_reap};
 ghost use Rattle.container_model.specs.Record.{Record, Refuses, counts_none, empty, is_object};
@@ -15,7 +15,7 @@ ghost use Rattle.file_model.specs.Denotes.{Denotes};
 ghost use Rattle.wire_msgs.specs.Found.{find, nth};
 
 use crate::state::State;
-use container_laws::steady_laws::{
+use container_steps::steady_laws::{
     steady_after_commands, steady_after_commits, steady_after_messages, steady_after_reaps,
 };
 use container_model::answer::{Answer, Committed, Part};
@@ -47,7 +47,7 @@ pub struct ContainerCore {
 }
 
 impl Model for ContainerCore {
-    ghost use Rattle.container_laws.specs.Steady.{Steady};
+    ghost use Rattle.container_steps.specs.Steady.{Steady};
     ghost use Rattle.container_model.specs.Record.{Record};
     ghost use Rattle.container_model.specs.Room.{IsSound};
 
@@ -61,7 +61,7 @@ impl Model for ContainerCore {
 impl ContainerCore {
     ghost use Rattle.std.specs.Prelude.{◌≡◌, ◌≤◌, ◌+◌, IfErr, IfOk, List, Ok, OnErr, length, map, option_copied};
     ghost use Rattle.std.specs.List.{range_with_len};
-    ghost use Rattle.container_laws.specs.Steady.{Steady};
+    ghost use Rattle.container_steps.specs.Steady.{Steady};
     ghost use Rattle.container_model.specs.Commands.{on_command};
     ghost use Rattle.container_model.specs.Messages.{on_message, on_reap};
     ghost use Rattle.container_model.specs.Record.{Refuses, counts_none, empty, is_object};
