@@ -32,8 +32,8 @@ use Rattle.container_steady.proofs.SteadyLookups.{each_found, each_weaker, each_
 use Rattle.container_steady.proofs.SteadyCounts.{count_put, count_map, count_more, count_without, each_without, pairs_without}
 use Rattle.container_steady.proofs.SteadyLinks.{link_moved, save_asked}
 use Rattle.container_steady.proofs.SteadyRecords.{if_told, unless_ok, or_false, some_and, and_some, if_weaker, Held as HeldIn, Apart, apart_none, IsOut, TookPlace, order_both, settle_steady}
-pub use Rattle.container_steady.proofs.SteadyTests.{idle_of, not_false, none_of, find_passes, found_numbered, asked_follows, link_asked}
-pub use Rattle.container_steady.proofs.SteadyMoves.{set_object, unset_object}
+use Rattle.container_steady.proofs.SteadyTests.{idle_of, not_false, none_of, found_numbered, asked_follows, link_asked}
+use Rattle.container_steady.proofs.SteadyMoves.{set_object, unset_object}
 use Rattle.container_steady.proofs.SteadyClaims.{KeepsLink, LinkStays, append_back, claim_kept, grant_kept, keeps_append, keeps_map, keeps_put, keeps_refl, keeps_without, set_back}
 use Rattle.container_steps.proofs.SteadyAsks.{edit_at_keeps}
 use Rattle.container_steps.proofs.SteadyVerbs.{close_keeps, verb_keeps}
