@@ -1,13 +1,14 @@
 -- Commands keep a record steady.
 use Rattle.std.proofs.Common.{◌≡◌, ◌≤◌, ◌<◌, inl, inr, ℕ, zero, suc, ◌+◌, Bool, true, false, not, List, [], ◌∷◌, ◌++◌, length, Option, Some, None, Result, Ok, Err, refl, sym, ap, ◌∙◌, arith, subst, ◌==◌}
 use Rattle.std.proofs.lemmas.Bool.{eqb-true, eqb-false, leb-false, ne_eqb}
-use Rattle.std.specs.Prelude.{IfSome, is_some, nat_lt, nat_le, ◌||◌, slice_get}
+use Rattle.std.specs.Prelude.{IfSome, IsOkAnd, is_some, nat_lt, nat_le, ◌||◌, slice_get}
 use Rattle.wire_msgs.specs.Found.{find, put, nth}
 use Rattle.wire_msgs.specs.declared.operation.Operation.{Operation}
 use Rattle.wire_msgs.specs.declared.operation.Operation.TheVariants.{InitNew, Load, Save}
 use Rattle.grant_core.specs.declared.grant_states.GrantState.{GrantState}
 use Rattle.grant_core.specs.declared.grant_states.GrantState.TheVariants.{Free, Granting, Held, Revoking}
 use Rattle.grant_core.specs.declared.grant_states.Claim.{Claim}
+use Rattle.object_state.specs.Both as both
 use Rattle.storage_tree.specs.declared.streams.NamedStream.{NamedStream}
 use Rattle.embed_core.specs.Kinds.{Kind, Note, Table, Drawing}
 use Rattle.object_parts.specs.Limits.{is_within}
@@ -25,8 +26,8 @@ use Rattle.container_model.specs.declared.fault.ContainerFault.TheVariants.{NoSu
 use Rattle.container_model.specs.Record.{Record, Took, MOST_FRAMES, MOST_OBJECTS, MOST_SERVERS, MARGIN, is_object, is_alive, is_asked, is_busy, is_claim, is_moving, is_saving, is_doubtful, count_alive, count_objects, is_unreaped, acts, counts_none, without_first, asked_link, asked_object}
 use Rattle.grant_core.specs.Grants.{waiting}
 use Rattle.container_model.specs.Commands
-use Rattle.container_steady.specs.Roles.{IsClaim, Other, Role, SteadyGrant, role_in}
-use Rattle.container_steady.specs.Steady.{SteadyLink, SteadyObject, SteadyFrame, InOrder, Steady, IsBeginning}
+use Rattle.container_steady.specs.Roles.{IsClaim, IsPlain, Other, Role, SteadyGrant, role_in}
+use Rattle.container_steady.specs.Steady.{SteadyLink, SteadyObject, SteadyFrame, InOrder, Steady, IsBeginning, IsTimely, EndsWell, ended}
 use Rattle.container_steps.specs.Steps.{SteadyAfterCommands}
 use Rattle.container_steady.proofs.SteadyLookups.{each_found, each_weaker, each_both, each_put, each_map, each_append, each_set, each_nth, pairs_put, pairs_map, pairs_append, nth_append, none_busy}
 use Rattle.container_steady.proofs.SteadyCounts.{count_put, count_map, count_more, count_without, each_without, pairs_without}
@@ -171,31 +172,23 @@ pub passive_out : (r : Record) (x : Object) → Steady r → find (is_object x.n
 passive_out r x s found none frame at = out_of r x.frame frame.ui.state x (s.grants x.frame frame at) found none
 
 -- a passive object begins
+begun_by : (servers : List Bool) (last_act k inc act : ℕ) (op : Operation) → act ≤ last_act → is_unreaped (nth servers inc) ≡ true → IsBeginning op → IsOkAnd (ended (Ok both.loaded) (op ∷ [])) (EndsWell Idle k Other) → IsTimely Idle None op → IsPlain op → SteadyLink servers last_act Idle k Other (Commands.begun_link inc act op)
+begun_by servers last_act k inc act op a s b runs timely plain = record {
+  acts_drawn = a;
+  servers_told = s;
+  first_call = inl (record { states = refl; last = refl; alone = refl; pending = b });
+  waits_behind = tt;
+  queue_runs = runs;
+  save_in_queue = (timely, tt);
+  saved_known = refl;
+  saved_within = tt;
+  shown = λ e. cc;
+  plays = (plain, tt);
+}
+
 begun_steady : (servers : List Bool) (last_act k inc act : ℕ) (op : Operation) → act ≤ last_act → is_unreaped (nth servers inc) ≡ true → IsBeginning op → SteadyLink servers last_act Idle k Other (Commands.begun_link inc act op)
-begun_steady servers last_act k inc act (InitNew class) a s b = record {
-  acts_drawn = a;
-  servers_told = s;
-  first_call = inl (record { states = refl; last = refl; alone = refl; pending = tt });
-  waits_behind = tt;
-  queue_runs = record { storage = refl; last_save = tt; running = tt; waits = tt };
-  save_in_queue = (tt, tt);
-  saved_known = refl;
-  saved_within = tt;
-  shown = λ e. cc;
-  plays = (tt, tt);
-}
-begun_steady servers last_act k inc act (Load class content) a s b = record {
-  acts_drawn = a;
-  servers_told = s;
-  first_call = inl (record { states = refl; last = refl; alone = refl; pending = tt });
-  waits_behind = tt;
-  queue_runs = record { storage = refl; last_save = tt; running = tt; waits = tt };
-  save_in_queue = (tt, tt);
-  saved_known = refl;
-  saved_within = tt;
-  shown = λ e. cc;
-  plays = (tt, tt);
-}
+begun_steady servers last_act k inc act (InitNew class) a s b = begun_by servers last_act k inc act (InitNew class) a s b (record { storage = refl; last_save = tt; running = tt; waits = tt }) tt tt
+begun_steady servers last_act k inc act (Load class content) a s b = begun_by servers last_act k inc act (Load class content) a s b (record { storage = refl; last_save = tt; running = tt; waits = tt }) tt tt
 begun_steady servers last_act k inc act _ a s b = absurd b
 
 pub first_begins : (o : Object) (streams : List NamedStream) → IsBeginning (Commands.first_operation o streams)
