@@ -15,9 +15,6 @@ ghost use Rattle.file_model.specs.Denotes.{Denotes};
 ghost use Rattle.wire_msgs.specs.Found.{find, nth};
 
 use crate::state::State;
-use container_steps::steady_laws::{
-    steady_after_commands, steady_after_commits, steady_after_messages, steady_after_reaps,
-};
 use container_model::answer::{Answer, Committed, Part};
 use container_model::command::Command;
 use container_model::fault::ContainerFault;
@@ -27,6 +24,9 @@ use container_numbers::sound_laws::{
 };
 use container_objects::lookups::{frame_numbers, object_numbers};
 use container_screen::screen::screen;
+use container_steps::steady_laws::{
+    steady_after_commands, steady_after_commits, steady_after_messages, steady_after_reaps,
+};
 use std::alloc::{AllocError, Global};
 use std::marker::Model;
 use wire_msgs::items::Items;
