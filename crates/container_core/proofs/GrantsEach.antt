@@ -17,7 +17,7 @@ use Rattle.container_model.specs.Grants.{Requested, grant_each, requested}
 use Rattle.container_model.specs.Record.{Record, asked_link, asked_sent, is_object, sends}
 use Rattle.container_grants.specs.Granted.{actions_of, asked_by, asked_in, installed_by, installed_each, installed_in, ready, ready_in, sent_by, sent_in}
 use Rattle.container_objects.proofs.LookupPlaces.{found_number}
-use Rattle.container_laws.proofs.SteadyFinds.{find-put_other}
+use Rattle.container_steps.proofs.SteadyFinds.{find-put_other}
 
 -- what a request makes of the record is what it makes of the objects
 pub requested_is : (r : Record) (op : Operation) (found : Option Object) → requested r op found ≡ record { rec = record r { objects = asked_in op r.objects found }; sent = sent_in op found }

@@ -21,11 +21,11 @@ use Rattle.container_model.specs.Saves as saves
 use Rattle.container_model.specs.Messages.{reaped_object, reply_link}
 use Rattle.container_model.specs.Record.{Record, is_linked, is_object}
 use Rattle.container_grants.specs.Granted.{claims_if}
-use Rattle.container_laws.specs.Roles.{Giving, IsClaim, Plays, SteadyGrant, queue_of, role_in, waits_as}
-use Rattle.container_laws.specs.Steady.{Steady, SteadyLink, SteadyObject}
-use Rattle.container_laws.proofs.SteadyFinds.{find-map, find-put_other, put_by_number}
-use Rattle.container_laws.proofs.SteadyLookups.{each_found, each_weaker}
-use Rattle.container_laws.proofs.SteadyRecords.{at_some, if_at}
+use Rattle.container_steps.specs.Roles.{Giving, IsClaim, Plays, SteadyGrant, queue_of, role_in, waits_as}
+use Rattle.container_steps.specs.Steady.{Steady, SteadyLink, SteadyObject}
+use Rattle.container_steps.proofs.SteadyFinds.{find-map, find-put_other, put_by_number}
+use Rattle.container_steps.proofs.SteadyLookups.{each_found, each_weaker}
+use Rattle.container_steps.proofs.SteadyRecords.{at_some, if_at}
 use Rattle.container_core.proofs.GrantsEach.{Agrees, Differ, IsOther}
 
 -- ---- whoever waits is another object than the one that is to give the frame up

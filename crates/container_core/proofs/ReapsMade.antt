@@ -11,7 +11,7 @@ use Rattle.container_model.specs.Messages.{on_reap, reaped, reaped_object}
 use Rattle.container_model.specs.Record.{Record, acts, counts_none, is_alive, sends}
 use Rattle.container_model.specs.Saves.{settled_actions, settled_frames}
 use Rattle.container_grants.specs.Granted.{actions_of, installed_each, ready}
-use Rattle.container_laws.specs.Steady.{Steady}
+use Rattle.container_steps.specs.Steady.{Steady}
 use Rattle.container_core.proofs.GrantsEach.{Agrees, Differ, actions_are, grant_each_is, granted_objects, granted_sent, installed_each_is}
 use Rattle.container_core.proofs.GrantsWaiting.{freed_agrees, freed_all}
 

@@ -2,7 +2,7 @@
 
 ghost use Rattle.std.specs.Prelude.{◌≡◌, ◌≤◌, ◌+◌, IfErr, IfOk, List, Ok, OnErr, length, map, option_copied};
 ghost use Rattle.std.specs.List.{range_with_len};
-ghost use Rattle.container_laws.specs.Steady.{Steady};
+ghost use Rattle.container_steps.specs.Steady.{Steady};
 ghost use Rattle.container_model.specs.Commands.{on_command};
 ghost use Rattle.container_model.specs.Messages.{on_message, on_reap};
 ghost use Rattle.container_model.specs.Record.{Record, Refuses, counts_none, empty, is_object};
@@ -15,9 +15,6 @@ ghost use Rattle.file_model.specs.Denotes.{Denotes};
 ghost use Rattle.wire_msgs.specs.Found.{find, nth};
 
 use crate::state::State;
-use container_laws::steady_laws::{
-    steady_after_commands, steady_after_commits, steady_after_messages, steady_after_reaps,
-};
 use container_model::answer::{Answer, Committed, Part};
 use container_model::command::Command;
 use container_model::fault::ContainerFault;
@@ -27,6 +24,9 @@ use container_numbers::sound_laws::{
 };
 use container_objects::lookups::{frame_numbers, object_numbers};
 use container_screen::screen::screen;
+use container_steps::steady_laws::{
+    steady_after_commands, steady_after_commits, steady_after_messages, steady_after_reaps,
+};
 use std::alloc::{AllocError, Global};
 use std::marker::Model;
 use wire_msgs::items::Items;
@@ -47,7 +47,7 @@ pub struct ContainerCore {
 }
 
 impl Model for ContainerCore {
-    ghost use Rattle.container_laws.specs.Steady.{Steady};
+    ghost use Rattle.container_steps.specs.Steady.{Steady};
     ghost use Rattle.container_model.specs.Record.{Record};
     ghost use Rattle.container_model.specs.Room.{IsSound};
 
@@ -61,7 +61,7 @@ impl Model for ContainerCore {
 impl ContainerCore {
     ghost use Rattle.std.specs.Prelude.{◌≡◌, ◌≤◌, ◌+◌, IfErr, IfOk, List, Ok, OnErr, length, map, option_copied};
     ghost use Rattle.std.specs.List.{range_with_len};
-    ghost use Rattle.container_laws.specs.Steady.{Steady};
+    ghost use Rattle.container_steps.specs.Steady.{Steady};
     ghost use Rattle.container_model.specs.Commands.{on_command};
     ghost use Rattle.container_model.specs.Messages.{on_message, on_reap};
     ghost use Rattle.container_model.specs.Record.{Refuses, counts_none, empty, is_object};

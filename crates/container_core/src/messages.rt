@@ -1,7 +1,7 @@
 //! What a container does with a message.
 
 ghost use Rattle.std.specs.Prelude.{◌+◌, ◌≡◌, ◌≤◌, IfErr, IfOk, Ok, OnErr, length, true};
-ghost use Rattle.container_laws.specs.Steady.{Steady};
+ghost use Rattle.container_steps.specs.Steady.{Steady};
 ghost use Rattle.container_model.specs.Record.{Refuses, counts_none, is_linked, quiet_answer};
 ghost use Rattle.container_model.specs.Messages.{on_message, on_reply, on_write, reply_found, write_found};
 ghost use Rattle.container_model.specs.Replies.{pending_calls};
@@ -34,7 +34,7 @@ fn content_taken(alloc: Global) -> Answer
 
 impl State {
     ghost use Rattle.std.specs.Prelude.{◌+◌, ◌≡◌, ◌≤◌, IfErr, IfOk, Ok, OnErr, length};
-    ghost use Rattle.container_laws.specs.Steady.{Steady};
+    ghost use Rattle.container_steps.specs.Steady.{Steady};
     ghost use Rattle.container_model.specs.Record.{Refuses, counts_none, is_linked};
     ghost use Rattle.container_model.specs.Messages.{on_message, on_reply, on_write, reply_found, write_found};
     ghost use Rattle.container_model.specs.Replies.{pending_calls};

@@ -1,7 +1,7 @@
 //! What a container does at the end of a server.
 
 ghost use Rattle.std.specs.Prelude.{◌+◌, ◌≡◌, ◌≤◌, IfErr, IfOk, Ok, OnErr, length};
-ghost use Rattle.container_laws.specs.Steady.{Steady};
+ghost use Rattle.container_steps.specs.Steady.{Steady};
 ghost use Rattle.container_model.specs.Record.{Refuses, counts_none};
 ghost use Rattle.container_model.specs.Messages.{on_reap};
 ghost use Rattle.container_model.specs.Room.{IsSound};
@@ -17,7 +17,7 @@ use wire_msgs::items::Items;
 
 impl State {
     ghost use Rattle.std.specs.Prelude.{◌+◌, ◌≡◌, ◌≤◌, IfErr, IfOk, Ok, OnErr, length};
-    ghost use Rattle.container_laws.specs.Steady.{Steady};
+    ghost use Rattle.container_steps.specs.Steady.{Steady};
     ghost use Rattle.container_model.specs.Record.{Refuses, counts_none};
     ghost use Rattle.container_model.specs.Messages.{on_reap};
     ghost use Rattle.container_model.specs.Room.{IsSound};

@@ -1,7 +1,7 @@
 //! Objects that do a verb.
 
 ghost use Rattle.std.specs.Prelude.{◌≡◌, ◌≢◌, ◌≤◌, ◌<◌, IfErr, IfOk, IfSome, Ok, OnErr, Some, is_some, length, slice_get, true};
-ghost use Rattle.container_laws.specs.Steady.{Steady};
+ghost use Rattle.container_steps.specs.Steady.{Steady};
 ghost use Rattle.container_model.specs.Numbered.{IsNth, IsObjectAt};
 ghost use Rattle.container_model.specs.Record.{Refuses, counts_none};
 ghost use Rattle.container_model.specs.Room.{IsSound};
@@ -24,7 +24,7 @@ use std::alloc::Global;
 
 impl State {
     ghost use Rattle.std.specs.Prelude.{◌≡◌, ◌≢◌, ◌≤◌, ◌<◌, IfErr, IfOk, IfSome, Ok, OnErr, Some, is_some, length, slice_get, true};
-    ghost use Rattle.container_laws.specs.Steady.{Steady};
+    ghost use Rattle.container_steps.specs.Steady.{Steady};
     ghost use Rattle.container_model.specs.Numbered.{IsNth, IsObjectAt};
     ghost use Rattle.container_model.specs.Record.{Refuses, counts_none};
     ghost use Rattle.container_model.specs.Room.{IsSound};

@@ -21,7 +21,7 @@ use Rattle.container_model.specs.Record.{Record, Took, ask_at, asked_all, asked_
 use Rattle.container_model.specs.Saves.{awaits, commit_at, commit_done, commit_fitting, commit_made, completed, completion, document, document_tree, fitting, fitting_in, is_document, has_image, image, image_at, is_awaited_link, is_committing, is_ready_at, kept_by, kept_in, part_of, parts_in}
 use Rattle.container_laws.specs.CommitLaws.{AreParts, CommitCounts, CommitTells, Gives, HasAnswered, IsPart, SaveWaits, free_link, free_links, none, one, other, stored_part, stored_parts, telling}
 use Rattle.container_model.proofs.Completing.{completed_in, completed_out}
-use Rattle.container_laws.proofs.SteadyRecords.{if_told}
+use Rattle.container_steady.proofs.SteadyRecords.{if_told}
 
 -- ---- a commit that succeeds
 parts_told : (parts ps : List Part) (told : Result (Unit {0}) WriteFault) → fitting_in parts told ≡ Ok ps → ps ≡ parts

@@ -33,18 +33,20 @@ use Rattle.container_model.specs.Record.{Record, Took, is_alive, is_linked, is_o
 use Rattle.container_model.specs.Saves.{settled_frame, settled_frames}
 use Rattle.container_model.specs.Messages.{Replied, ask_found, ask_framed, closed_with, done_link, granted_link, is_held_by, on_ask, on_reply, relieved, replied, replied_fitting, replied_grant, replied_record, reply_found, reply_link, reply_pending, reply_made, reply_taken, saved_link}
 use Rattle.container_laws.specs.Laws.{FreedByHolders, GivesUp}
-use Rattle.container_laws.specs.Roles.{IsClaim, SteadyGrant, role_in}
-use Rattle.container_laws.specs.Steady.{Steady, SteadyObject}
-use Rattle.container_laws.proofs.SteadyAnswers.{fit_replied}
-use Rattle.container_laws.proofs.SteadyClaims.{settled_ui}
-use Rattle.container_laws.proofs.SteadyFinds.{found_by_number}
-use Rattle.container_laws.proofs.SteadyLookups.{each_found, nth-set_same, nth-set_other, nth-settled}
-use Rattle.container_laws.proofs.SteadyMessages.{link_goes, linked_by}
-use Rattle.container_laws.proofs.SteadyRecords.{Held, some_and}
-use Rattle.container_laws.proofs.SteadyReplies.{IsToldBy}
-use Rattle.container_laws.proofs.SteadyRoles.{giving_at}
-use Rattle.container_laws.proofs.SteadyTests.{find_passes}
-use Rattle.container_laws.proofs.SteadyVerbs.{claim_act}
+use Rattle.container_steady.specs.Roles.{IsClaim, SteadyGrant, role_in}
+use Rattle.container_steady.specs.Steady.{Steady, SteadyObject}
+use Rattle.container_steps.proofs.SteadyAnswers.{fit_replied}
+use Rattle.container_steady.proofs.SteadyClaims.{settled_ui}
+use Rattle.container_steady.proofs.SteadyFinds.{found_by_number}
+use Rattle.container_steady.proofs.SteadyLookups.{each_found, nth-set_same, nth-set_other, nth-settled}
+use Rattle.container_steady.proofs.SteadyHolders.{linked_by}
+use Rattle.container_steps.proofs.SteadyMessages.{link_goes}
+use Rattle.container_steady.proofs.SteadyRecords.{Held, some_and}
+use Rattle.container_steps.proofs.SteadyReplies.{IsToldBy}
+use Rattle.container_steady.proofs.SteadyRoles.{giving_at}
+use Rattle.container_steady.proofs.SteadyTells.{ok_rec}
+use Rattle.container_steady.proofs.SteadyTests.{find_passes}
+use Rattle.container_steps.proofs.SteadyVerbs.{claim_act}
 use Rattle.container_laws.proofs.WriteLaws.{taken_if, write_taken}
 
 -- only the answer to UiDeactivate tells that a frame was given up
@@ -233,9 +235,6 @@ module _ (r : Record) (link inc act n : ℕ) (answer : Answer) (f : ℕ) (frame 
     | inl still ↦ inl (settled_has (replied_grant r inc act o re).rec.objects (replied_grant r inc act o re).rec.frames f holder still)
     | inr up ↦ inr up
   ])
-
-ok_rec : (u t : Took) → ◌≡◌ {A = Result Took ContainerFault} (Ok u) (Ok t) → u.rec ≡ t.rec
-ok_rec u t e = (let same : u ≡ t = cc in ap (λ (z : Took). z.rec) same)
 
 -- an ask tells a holder, and frees nothing
 ask_has : (r : Record) (o : Object) (act g f : ℕ) (frame fr : Frame) (holder : Claim) → nth r.frames f ≡ Some frame → who frame.ui.state ≡ Some holder → nth r.frames o.frame ≡ Some fr → Kept (relieved r o act g fr).rec.frames f holder

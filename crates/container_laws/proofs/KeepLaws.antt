@@ -18,16 +18,16 @@ use Rattle.container_model.specs.Replies.{is_of}
 use Rattle.container_model.specs.Saves.{kept}
 use Rattle.container_model.specs.Messages.{on_reap, reap_made, reaped_grants, reaped_object}
 use Rattle.container_laws.specs.Laws.{ReapsEndTheirs, ReapsKeepOthers, StaysOrIsGranted}
-use Rattle.container_laws.specs.Roles.{IsClaim}
-use Rattle.container_laws.specs.Steady.{EachPair, InOrder, Steady}
-use Rattle.container_laws.proofs.SteadyFates.{Hosted}
-use Rattle.container_laws.proofs.SteadyFinds.{number_apart}
-use Rattle.container_laws.proofs.SteadyLookups.{each_get, each_weaker, pairs_put}
-use Rattle.container_laws.proofs.SteadyMoves.{each_unit}
-use Rattle.container_laws.proofs.SteadyReaps.{ClaimsApart, Passing, claims, each_own, freed_all, freed_pairs, gone, gone_but, gone_link, passing, stays_object, waits_claim}
-use Rattle.container_laws.proofs.SteadyRecords.{TookPlace, order_left, order_right}
-use Rattle.container_laws.proofs.SteadyShapes.{Among}
-use Rattle.container_laws.proofs.SteadyTests.{asked_follows, find_passes, found_numbered}
+use Rattle.container_steady.specs.Roles.{IsClaim}
+use Rattle.container_steady.specs.Steady.{EachPair, InOrder, Steady}
+use Rattle.container_steps.proofs.SteadyFates.{Hosted}
+use Rattle.container_steady.proofs.SteadyFinds.{number_apart}
+use Rattle.container_steady.proofs.SteadyLookups.{each_get, each_weaker, pairs_put}
+use Rattle.container_steady.proofs.SteadyMoves.{each_unit}
+use Rattle.container_steps.proofs.SteadyReaps.{ClaimsApart, Passing, claims, each_own, freed_all, freed_pairs, gone, gone_but, gone_link, passing, stays_object, waits_claim}
+use Rattle.container_steady.proofs.SteadyRecords.{TookPlace, order_left, order_right}
+use Rattle.container_steady.proofs.SteadyShapes.{Among}
+use Rattle.container_steady.proofs.SteadyTests.{asked_follows, find_passes, found_numbered}
 use Rattle.container_laws.proofs.WriteLaws.{taken_if}
 
 -- what doesn't pass a test stays

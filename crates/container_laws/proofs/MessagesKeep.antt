@@ -1,5 +1,5 @@
 -- A message to a steady record leaves other objects as they are, but for one that waited for its frame.
-use Rattle.std.proofs.Common.{◌≡◌, inl, inr, ℕ, ◌==◌, Bool, true, false, List, [], ◌∷◌, Option, Some, None, Result, Ok, Err, slice_get, refl, sym, ap, ◌∙◌, subst, if◌then◌else◌}
+use Rattle.std.proofs.Common.{◌≡◌, inl, inr, ℕ, ◌==◌, Bool, true, false, List, [], ◌∷◌, Option, Some, None, Ok, Err, slice_get, refl, sym, ap, ◌∙◌, subst, if◌then◌else◌}
 use Rattle.wire_msgs.specs.Found.{find, nth, put, set_nth}
 use Rattle.wire_msgs.specs.declared.answer.Answer.{Answer}
 use Rattle.wire_msgs.specs.declared.message.Message.{Message}
@@ -16,22 +16,22 @@ use Rattle.container_model.specs.declared.grants.Tells.{Tells}
 use Rattle.container_model.specs.declared.grants.Tells.TheVariants.{Gets, GivesUp}
 use Rattle.container_model.specs.declared.record.Object.{Object}
 use Rattle.container_model.specs.declared.record.Frame.{Frame}
-use Rattle.container_model.specs.declared.fault.ContainerFault.{ContainerFault}
 use Rattle.container_model.specs.declared.fault.ContainerFault.TheVariants.{Stale, WrongLink}
 use Rattle.container_model.specs.Grants.{event_of, grant_each, moved, passed_to, regranted, regranted_in}
 use Rattle.container_model.specs.Record.{Record, Took, is_alive, is_linked, is_object}
 use Rattle.container_model.specs.Messages.{Replied, ask_found, ask_framed, is_held_by, on_ask, on_message, on_reply, relieved, replied_object, replied_record, reply_found, reply_link, reply_taken, written_object}
 use Rattle.container_laws.specs.Laws.{StaysOrIsGranted, is_about}
-use Rattle.container_laws.specs.Roles.{IsClaim}
-use Rattle.container_laws.specs.Steady.{EachPair, InOrder, Steady, SteadyObject}
+use Rattle.container_steady.specs.Roles.{IsClaim}
+use Rattle.container_steady.specs.Steady.{EachPair, InOrder, Steady, SteadyObject}
 use Rattle.container_laws.proofs.KeepLaws.{IsTold, as_before, of_grant, all_among, grants_tell, order_put, put_keeps, request_keeps}
 use Rattle.container_laws.proofs.MessageLaws.{taken_of}
-use Rattle.container_laws.proofs.SteadyFinds.{found_by_number, put_by_number}
-use Rattle.container_laws.proofs.SteadyLookups.{each_found, each_get}
-use Rattle.container_laws.proofs.SteadyMessages.{AnswersSteadily, link_goes, took}
-use Rattle.container_laws.proofs.SteadyReaps.{each_own, passed_few}
-use Rattle.container_laws.proofs.SteadyRecords.{Held, if_at, some_and}
-use Rattle.container_laws.proofs.SteadyTests.{find_passes}
+use Rattle.container_steady.proofs.SteadyFinds.{found_by_number, put_by_number}
+use Rattle.container_steady.proofs.SteadyLookups.{each_found, each_get}
+use Rattle.container_steps.proofs.SteadyMessages.{AnswersSteadily, link_goes, took}
+use Rattle.container_steps.proofs.SteadyReaps.{each_own, passed_few}
+use Rattle.container_steady.proofs.SteadyRecords.{Held, if_at, some_and}
+use Rattle.container_steady.proofs.SteadyTells.{ok_rec}
+use Rattle.container_steady.proofs.SteadyTests.{find_passes}
 use Rattle.container_laws.proofs.WriteLaws.{taken_if, write_taken}
 
 -- whoever is granted a frame by an answer waited for it
@@ -47,9 +47,6 @@ passed_waits (state.Held c tools) told d e = cc
 passed_waits (state.Revoking c None) told d e = cc
 passed_waits (state.Revoking c (Some w)) (Gets g tools) d e = cc
 passed_waits (state.Revoking c (Some w)) GivesUp d e = passed_on_waits c (Some w) (c.g == c.g) d e
-
-ok_rec : (u t : Took) → ◌≡◌ {A = Result Took ContainerFault} (Ok u) (Ok t) → u.rec ≡ t.rec
-ok_rec u t e = (let same : u ≡ t = cc in ap (λ (z : Took). z.rec) same)
 
 abbrev Later : Record → List Object → ℕ → Object → Type 0
 Later r os i o = (later : Object) × (slice_get os i ≡ Some later) × StaysOrIsGranted r o later

@@ -19,7 +19,7 @@ use Rattle.container_model.specs.Record.{Record, Took, asked_link, is_alive, is_
 use Rattle.container_model.specs.Saves.{kept}
 use Rattle.container_model.specs.Messages.{is_fit, is_held_by, is_open_to, on_message, on_reap}
 use Rattle.container_model.specs.Replies.{is_of}
-use Rattle.container_laws.specs.Steady.{Steady}
+use Rattle.container_steady.specs.Steady.{Steady}
 
 -- the number of the call that an object is to answer, if it is to answer one
 abbrev pub pending_in : Option Link → Option ℕ

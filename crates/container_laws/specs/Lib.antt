@@ -1,4 +1,2 @@
-pub mod Roles
 pub mod Laws
 pub mod CommitLaws
-pub mod Steady

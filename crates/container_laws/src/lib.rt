@@ -1,6 +1,5 @@
-//! What is true of a container, whatever it is told: laws of its steps, and what every record keeps.
+//! Laws of a container's steps: what each message, commit and end of a server moves, and what it leaves as it is.
 #![tactic(auto)]
 
 pub mod commit_laws;
 pub mod laws;
-pub mod steady_laws;

@@ -19,11 +19,11 @@ use Rattle.container_model.specs.declared.fault.ContainerFault.TheVariants.{NoSu
 use Rattle.container_model.specs.Record.{Record, Took, MOST_FRAMES, MOST_OBJECTS, MOST_SERVERS, MARGIN, acts, asked_link, asked_object, count_alive, count_objects, counts_none, has_numbers, is_alive, is_busy, is_doubtful, is_moving, is_object, is_saving, link_has_numbers, without_first}
 use Rattle.container_model.specs.Room.{IfLinked, IsRoomy, IsSound, debt_in}
 use Rattle.container_model.specs.Commands
-use Rattle.container_laws.specs.Steady.{Steady}
-use Rattle.container_laws.proofs.SteadyCounts.{each_without}
-use Rattle.container_laws.proofs.SteadyLookups.{each_append, each_set, each_weaker, nth-set_other, pairs_map}
-use Rattle.container_laws.proofs.SteadyTells.{if_told, or_false, unless_ok}
-use Rattle.container_laws.proofs.SteadyTests.{found_numbered, not_false}
+use Rattle.container_steady.specs.Steady.{Steady}
+use Rattle.container_steady.proofs.SteadyCounts.{each_without}
+use Rattle.container_steady.proofs.SteadyLookups.{each_append, each_set, each_weaker, nth-set_other, pairs_map}
+use Rattle.container_steady.proofs.SteadyTells.{if_told, or_false, unless_ok}
+use Rattle.container_steady.proofs.SteadyTests.{found_numbered, not_false}
 use Rattle.container_numbers.specs.Sound.{SoundAfterCommands}
 use Rattle.container_numbers.proofs.SoundAsking.{debts_few, link_checked, one_asked}
 use Rattle.container_numbers.proofs.SoundRooms.{Differs, IsSaved, Owing, Within, all_of, debts, each_of, length-set_nth, owes_less, put_within, sound_of, within_of}

@@ -1,6 +1,6 @@
 -- What the objects of a frame owe as its grant moves: whoever gets it from another pays as it is told so.
-use Rattle.std.proofs.Common.{◌≡◌, ◌≤◌, ◌+◌, ◌==◌, ℕ, zero, suc, Bool, true, false, List, [], ◌∷◌, ◌++◌, Option, Some, None, Ok, Err, inl, inr, refl, sym, ◌∙◌, ap, subst, arith, if◌then◌else◌, cond}
-use Rattle.std.proofs.lemmas.Bool.{eqb-true, eqb-false}
+use Rattle.std.proofs.Common.{◌≡◌, ◌≤◌, ◌+◌, ◌==◌, ℕ, Bool, true, false, List, [], ◌∷◌, ◌++◌, Option, Some, None, Ok, Err, refl, arith, if◌then◌else◌, cond}
+use Rattle.std.proofs.lemmas.Bool.{eqb-true}
 use Rattle.grant_core.specs.declared.grant_states.Claim.{Claim}
 use Rattle.grant_core.specs.declared.grant_states.Tools.{Tools}
 use Rattle.grant_core.specs.declared.grant_states.GrantState.{GrantState}
@@ -10,7 +10,7 @@ use Rattle.grant_core.specs.Grants.{Event, Ask, Granted, Revoked, Lost, table, a
 use Rattle.grant_core.specs.Frames.{kept}
 use Rattle.container_model.specs.Grants.{passed_to}
 use Rattle.container_model.specs.Room.{claim_debt, grant_debt}
-use Rattle.container_laws.proofs.SteadyTells.{if_told}
+use Rattle.container_steady.proofs.SteadyTells.{if_told}
 
 -- ---- how often an object is told of a grant
 abbrev pub told : List Claim → ℕ → ℕ

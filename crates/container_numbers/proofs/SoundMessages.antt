@@ -1,16 +1,15 @@
 -- Messages leave a record sound.
-use Rattle.std.proofs.Common.{◌≡◌, ◌≤◌, ◌+◌, ◌==◌, ℕ, Bool, true, false, List, Option, Some, None, Result, Ok, Err, refl, sym, ◌∙◌, ap, subst, arith, if◌then◌else◌, cond, eq-eqb}
+use Rattle.std.proofs.Common.{◌≡◌, ◌≤◌, ◌+◌, ◌==◌, ℕ, true, false, List, Option, Some, None, Result, Ok, Err, refl, sym, ◌∙◌, ap, subst, arith, if◌then◌else◌, cond}
 use Rattle.std.proofs.lemmas.Bool.{eqb-true}
-use Rattle.std.specs.Prelude.{◌&&◌}
 use Rattle.wire_msgs.specs.Found.{find, nth, set_nth}
 use Rattle.wire_msgs.specs.declared.operation.Operation.TheVariants.{UiDeactivate}
 use Rattle.wire_msgs.specs.declared.answer.Answer.{Answer}
 use Rattle.wire_msgs.specs.declared.message.Message.TheVariants.{Call, Reply, Write, Ask}
 use Rattle.object_parts.specs.Limits.{is_within}
 use Rattle.storage_tree.specs.declared.stored.Stored.{Stored}
-use Rattle.grant_core.specs.Frames.{after, kept}
+use Rattle.grant_core.specs.Frames.{after}
 use Rattle.grant_core.specs.Grants as grant
-use Rattle.grant_core.specs.Grants.{Event, table}
+use Rattle.grant_core.specs.Grants.{Event}
 use Rattle.grant_core.specs.declared.grant_states.Claim.{Claim}
 use Rattle.grant_core.specs.declared.grant_states.Tools.{Tools}
 use Rattle.grant_core.specs.declared.grant_states.GrantState.{GrantState}
@@ -23,17 +22,18 @@ use Rattle.container_model.specs.declared.record.Frame.{Frame}
 use Rattle.container_model.specs.declared.fault.ContainerFault.{ContainerFault}
 use Rattle.container_model.specs.declared.fault.ContainerFault.TheVariants.{WrongLink, Stale, BadAnswer}
 use Rattle.container_model.specs.Grants.{event_of, grant_each, moved, passed_to, regranted, regranted_in, request}
-use Rattle.container_model.specs.Record.{Record, Took, is_alive, is_link, is_linked, is_object, with_frame}
+use Rattle.container_model.specs.Record.{Record, Took, is_alive, is_linked, is_object, with_frame}
 use Rattle.container_model.specs.Room.{IfLinked, IsRoomy, IsSound, grant_debt}
 use Rattle.container_model.specs.Saves.{settle}
 use Rattle.container_model.specs.Messages.{Replied, ask_found, ask_framed, is_held_by, is_open_to, on_ask, on_reply, on_write, relieved, replied_grant, replied_object, replied_record, reply_found, reply_link, reply_taken, write_found, write_link, write_made, written_object}
-use Rattle.container_laws.specs.Roles.{IsClaim, SteadyGrant}
-use Rattle.container_laws.specs.Steady.{Steady}
+use Rattle.container_steady.specs.Roles.{IsClaim, SteadyGrant}
+use Rattle.container_steady.specs.Steady.{Steady}
 use Rattle.container_numbers.specs.Sound.{SoundAfterMessages}
-use Rattle.container_laws.proofs.SteadyFinds.{acts_differ, found_by_number}
-use Rattle.container_laws.proofs.SteadyLookups.{each_both, each_found, each_nth, each_weaker}
-use Rattle.container_laws.proofs.SteadyTells.{if_told}
-use Rattle.container_laws.proofs.SteadyTests.{find_passes}
+use Rattle.container_steady.proofs.SteadyFinds.{acts_differ, found_by_number}
+use Rattle.container_steady.proofs.SteadyLookups.{each_both, each_found, each_nth, each_weaker}
+use Rattle.container_steady.proofs.SteadyHolders.{asked_state, held_by, linked_by}
+use Rattle.container_steady.proofs.SteadyTells.{if_told, ok_rec}
+use Rattle.container_steady.proofs.SteadyTests.{find_passes}
 use Rattle.container_numbers.proofs.SoundGrants.{IsToldOf, pays_told, told, told_waits}
 use Rattle.container_numbers.proofs.SoundMoves.{FoundIn, all_found, granted_frames, granted_pays, move_owed, one_framed, put_any, request_pays, requested_frames, waits_in}
 use Rattle.container_numbers.proofs.SoundReplies.{IsRoomyAfter, reply_roomy}
@@ -54,9 +54,6 @@ found_less r D E s h le = record {
   grants = h.grants;
   apart = h.apart;
 }
-
-ok_rec : (u t : Took) → ◌≡◌ {A = Result Took ContainerFault} (Ok u) (Ok t) → u.rec ≡ t.rec
-ok_rec u t e = (let same : u ≡ t = cc in ap (λ (z : Took). z.rec) same)
 
 -- ---- a reply
 event_told : (s : GrantState) (t : Tells) → IsToldOf (event_of s t)
@@ -152,23 +149,6 @@ write_sound r inc act n w content t s h e = if_told (λ (z : Result Took Contain
     (λ a g. cc) e
 
 -- ---- an ask
-and_both : (a b : Bool) → (a && b) ≡ true → (a ≡ true) × (b ≡ true)
-and_both true b e = (refl, e)
-and_both false b e = absurd (cc)
-
-held_by : (act g : ℕ) (s : GrantState) → is_held_by act g s ≡ true → (holder : Claim) × (tools : Tools) × (s ≡ state.Held holder tools) × (holder.act ≡ act) × (holder.g ≡ g)
-held_by act g (state.Held holder tools) e = (let b = and_both (holder.act == act) (holder.g == g) e in (holder, tools, refl, eqb-true holder.act act b.0, eqb-true holder.g g b.1))
-held_by act g state.Free e = absurd (cc)
-held_by act g (state.Granting c) e = absurd (cc)
-held_by act g (state.Revoking c next) e = absurd (cc)
-
-linked_by : (inc act : ℕ) (link : Option Link) → is_link inc act link ≡ true → (l : Link) × (link ≡ Some l) × (l.inc ≡ inc) × (l.act ≡ act)
-linked_by inc act None e = absurd (cc)
-linked_by inc act (Some l) e = (let b = and_both (l.inc == inc) (l.act == act) e in (l, refl, eqb-true l.inc inc b.0, eqb-true l.act act b.1))
-
-asked_state : (s : GrantState) (holder : Claim) (tools : Tools) (n act g : ℕ) → s ≡ state.Held holder tools → holder.act ≡ act → holder.g ≡ g → kept s (table s (grant.Ask (record { object = n; act = act; g = g }))) ≡ state.Revoking holder None
-asked_state s holder tools n act g e a b = rw (e, eq-eqb act holder.act (sym a), eq-eqb g holder.g (sym b)) refl
-
 -- who has the frame pays as it is told to give it up
 ends_pays : (s t : GrantState) (holder : Claim) (tools : Tools) (n m : ℕ) → s ≡ state.Held holder tools → t ≡ state.Revoking holder None → holder.object ≡ n → grant_debt m t + cond (n == m) 1 0 ≤ grant_debt m s
 ends_pays s t holder tools n m e q named = rw (e, q) (subst (λ (i : ℕ). 0 + cond (i == m) 1 0 ≤ grant_debt m (state.Held holder tools)) named

@@ -1,7 +1,6 @@
 -- Objects that are asked by their numbers pay for it, and so does the frame's grant as it moves.
 use Rattle.std.proofs.Common.{◌≡◌, ◌≤◌, ◌+◌, ◌==◌, ℕ, Bool, true, false, List, [], ◌∷◌, length, Option, Some, None, refl, sym, ◌∙◌, ap, subst, arith, if◌then◌else◌, cond, eq-eqb}
 use Rattle.std.proofs.lemmas.Bool.{eqb-true, eqb-false}
-use Rattle.std.specs.Prelude.{IfSome}
 use Rattle.std.specs.List.{AllByRecursion}
 use Rattle.wire_msgs.specs.Found.{find, put, nth, set_nth}
 use Rattle.wire_msgs.specs.declared.operation.Operation.{Operation}
@@ -9,19 +8,18 @@ use Rattle.wire_msgs.specs.declared.operation.Operation.TheVariants.{UiActivate}
 use Rattle.grant_core.specs.declared.grant_states.Claim.{Claim}
 use Rattle.grant_core.specs.declared.grant_states.GrantState.{GrantState}
 use Rattle.grant_core.specs.Grants.{waiting}
-use Rattle.container_model.specs.declared.record.Link.{Link}
 use Rattle.container_model.specs.declared.record.Object.{Object}
 use Rattle.container_model.specs.declared.record.Frame.{Frame}
 use Rattle.container_model.specs.Record.{Record, asked_link, is_object, with_frame}
 use Rattle.container_model.specs.Grants.{grant_each, request, requested}
 use Rattle.container_model.specs.Room.{IfLinked, IsRoomy, debt, debt_in, grant_debt}
-use Rattle.container_laws.specs.Roles.{IsClaim}
-use Rattle.container_laws.specs.Steady.{EachPair, InOrder, Steady}
-use Rattle.container_laws.proofs.SteadyFinds.{here, number_apart}
-use Rattle.container_laws.proofs.SteadyLookups.{each_both, each_found, each_nth, each_put, each_set, each_weaker, nth-set_other, nth-set_same}
-use Rattle.container_laws.proofs.SteadyTells.{if_at}
+use Rattle.container_steady.specs.Roles.{IsClaim}
+use Rattle.container_steady.specs.Steady.{EachPair, InOrder, Steady}
+use Rattle.container_steady.proofs.SteadyFinds.{here, number_apart}
+use Rattle.container_steady.proofs.SteadyLookups.{each_both, each_found, each_put, each_set, each_weaker, nth-set_other, nth-set_same}
+use Rattle.container_steady.proofs.SteadyTells.{if_at}
 use Rattle.container_numbers.proofs.SoundGrants.{told}
-use Rattle.container_numbers.proofs.SoundRooms.{IsSaved, Owing, Within, asked_linked, debts, length-set_nth, owed, owes_less, put_apart, put_within, within_less}
+use Rattle.container_numbers.proofs.SoundRooms.{IsSaved, Owing, Within, asked_linked, debts, length-set_nth, put_apart, put_within, within_less}
 
 -- ---- what is found by a number has it
 pub found_number : (n : ℕ) (os : List Object) (o : Object) → find (is_object n) os ≡ Some o → o.number ≡ n

@@ -18,10 +18,10 @@ use Rattle.container_model.specs.Grants.{freed, freed_claims, freed_frame, is_ho
 use Rattle.container_model.specs.Messages.{reap_made, reaped, reaped_grants, reaped_object}
 use Rattle.container_model.specs.Room.{IsSound, debt_in, grant_debt}
 use Rattle.container_model.specs.Saves.{kept}
-use Rattle.container_laws.specs.Steady.{Steady}
+use Rattle.container_steady.specs.Steady.{Steady}
 use Rattle.container_numbers.specs.Sound.{SoundAfterReaps}
-use Rattle.container_laws.proofs.SteadyLookups.{each_both, each_map, pairs_map}
-use Rattle.container_laws.proofs.SteadyTells.{if_told}
+use Rattle.container_steady.proofs.SteadyLookups.{each_both, each_map, pairs_map}
+use Rattle.container_steady.proofs.SteadyTells.{if_told}
 use Rattle.container_numbers.proofs.SoundGrants.{Pays, pays_stays, pays_told, told, told-append, told_waits}
 use Rattle.container_numbers.proofs.SoundMoves.{FoundIn, all_found, granted_frames, granted_pays, waits_in}
 use Rattle.container_numbers.proofs.SoundRooms.{Differs, IsSaved, Owing, Within, debts, length-set_nth, owes_less, within_of}

@@ -1,5 +1,5 @@
 -- A record within its numbers, where each object owes so many calls as its number and its frame say.
-use Rattle.std.proofs.Common.{◌≡◌, ◌≤◌, ◌+◌, ◌==◌, ℕ, zero, suc, Bool, true, false, List, [], ◌∷◌, ◌++◌, length, map, Option, Some, None, All, refl, sym, ◌∙◌, ap, subst, arith, if◌then◌else◌, eq-eqb}
+use Rattle.std.proofs.Common.{◌≡◌, ◌≤◌, ◌+◌, ◌==◌, ℕ, zero, suc, Bool, true, false, List, [], ◌∷◌, length, Option, Some, None, All, refl, sym, ◌∙◌, ap, arith, if◌then◌else◌}
 use Rattle.std.proofs.lemmas.Bool.{eqb-true, eqb-false}
 use Rattle.std.proofs.lemmas.List.{length-append, length-set}
 use Rattle.std.proofs.lemmas.List.Elements.{All-cons, All-head, All-nil, All-tail}
@@ -11,8 +11,8 @@ use Rattle.container_model.specs.declared.record.Object.{Object}
 use Rattle.container_model.specs.declared.record.Frame.{Frame}
 use Rattle.container_model.specs.Record.{Record, ask, ask_at, ask_each, asked_link, is_object}
 use Rattle.container_model.specs.Room.{IfLinked, IsRoomy, IsSound, debt_in}
-use Rattle.container_laws.specs.Steady.{EachPair, InOrder, Steady}
-use Rattle.container_laws.proofs.SteadyLookups.{each_found, each_put, each_weaker}
+use Rattle.container_steady.specs.Steady.{EachPair, InOrder, Steady}
+use Rattle.container_steady.proofs.SteadyLookups.{each_found, each_put, each_weaker}
 
 -- ---- what each object owes
 abbrev pub Owing : ℕ → (ℕ → ℕ → ℕ) → Object → Type 0

@@ -1,7 +1,6 @@
 -- Saves that go on leave a record sound, and so does a commit that is done.
-use Rattle.std.proofs.Common.{◌≡◌, ◌≤◌, ◌+◌, ◌==◌, ℕ, zero, suc, Bool, true, false, List, [], ◌∷◌, length, map, Option, Some, None, Result, Ok, Err, refl, sym, ◌∙◌, ap, subst, arith, if◌then◌else◌, slice_get}
+use Rattle.std.proofs.Common.{◌≡◌, ◌≤◌, ◌+◌, ◌==◌, ℕ, zero, suc, Bool, true, false, List, [], ◌∷◌, length, map, Option, Some, None, Result, Ok, Err, refl, sym, ◌∙◌, ap, subst, arith, slice_get}
 use Rattle.std.proofs.lemmas.Bool.{eqb-true, eqb-false}
-use Rattle.std.specs.List.{AllByRecursion}
 use Rattle.wire_msgs.specs.Found.{nth, set_nth}
 use Rattle.wire_msgs.specs.declared.operation.Operation.{Operation}
 use Rattle.container_model.specs.declared.answer.Part.{Part}
@@ -16,11 +15,10 @@ use Rattle.container_model.specs.Record.{Record, Took, asked_link}
 use Rattle.container_model.specs.Room.{IfLinked, IsRoomy, IsSound, debt, debt_in, grant_debt}
 use Rattle.container_model.specs.Saves.{awaits, cleared, commit_at, commit_fitting, commit_made, committed_frame, completed, completion, image, is_committing, is_ready, is_ready_at, settle, settled_frame, settled_frames}
 use Rattle.container_model.proofs.Completing.{completed_in, completed_out}
-use Rattle.container_laws.specs.Steady.{Steady}
 use Rattle.container_numbers.specs.Sound.{SoundAfterCommits}
-use Rattle.container_laws.proofs.SteadyLookups.{each_map, each_nth, each_set, each_settled, each_weaker, nth-set_other, nth-set_same}
-use Rattle.container_laws.proofs.SteadyTells.{if_told}
-use Rattle.container_numbers.proofs.SoundRooms.{IsSaved, Owing, Within, all_of, asked_linked, debts, each_of, length-set_nth, owes_less, within_of}
+use Rattle.container_steady.proofs.SteadyLookups.{each_map, each_nth, each_set, each_settled, each_weaker, nth-set_other, nth-set_same}
+use Rattle.container_steady.proofs.SteadyTells.{if_told}
+use Rattle.container_numbers.proofs.SoundRooms.{IsSaved, Owing, Within, all_of, asked_linked, debts, each_of, length-set_nth, owes_less}
 
 -- ---- a frame that goes on to its commit has the same debt
 ready_debt : (phase : Phase) (waits : Bool) → is_ready_at phase waits ≡ true → debt Committing ≡ debt phase

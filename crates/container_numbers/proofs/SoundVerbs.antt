@@ -24,12 +24,12 @@ use Rattle.container_model.specs.Grants.{grant_of, moved, requested}
 use Rattle.container_model.specs.Record.{Record, Took, asked_link, counts_none, has_numbers, is_busy, is_doubtful, is_moving, is_object, is_saving, quiet_answer, with_frame, with_object}
 use Rattle.container_model.specs.Room.{IfLinked, IsRoomy, IsSound}
 use Rattle.container_model.specs.Verbs as verbs
-use Rattle.container_model.specs.Verbs.{before_taking, claim_of, claimed, gives_up, holder_has_numbers, holder_of, leaving_made, left, object_has_numbers, operation_of, revoked, revoked_at, stepped_link, steps_now, takes, taking_made}
-use Rattle.container_laws.specs.Steady.{Steady}
-use Rattle.container_laws.proofs.SteadyFinds.{find-put_other, find-put_same}
-use Rattle.container_laws.proofs.SteadyLookups.{each_found, each_nth}
-use Rattle.container_laws.proofs.SteadyTells.{if_told, or_false, unless_ok}
-use Rattle.container_laws.proofs.SteadyTests.{found_numbered, not_false}
+use Rattle.container_model.specs.Verbs.{before_taking, claim_of, claimed, gives_up, holder_has_numbers, holder_of, leaving_made, object_has_numbers, operation_of, revoked, revoked_at, stepped_link, steps_now, takes, taking_made}
+use Rattle.container_steady.specs.Steady.{Steady}
+use Rattle.container_steady.proofs.SteadyFinds.{find-put_other, find-put_same}
+use Rattle.container_steady.proofs.SteadyLookups.{each_found, each_nth}
+use Rattle.container_steady.proofs.SteadyTells.{if_told, or_false, unless_ok}
+use Rattle.container_steady.proofs.SteadyTests.{found_numbered, not_false}
 use Rattle.container_numbers.proofs.SoundAsking.{asked_checked, asks_debts, debts_few, one_asked}
 use Rattle.container_numbers.proofs.SoundMoves.{one_framed}
 use Rattle.container_numbers.proofs.SoundRooms.{IsSaved, Owing, Within, debts, put_within, sound_of, within_less, within_of}

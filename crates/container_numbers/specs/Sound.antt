@@ -7,7 +7,7 @@ use Rattle.container_model.specs.Commands.{on_command}
 use Rattle.container_model.specs.Messages.{on_message, on_reap}
 use Rattle.container_model.specs.Room.{IsSound}
 use Rattle.container_model.specs.Saves.{commit_done}
-use Rattle.container_laws.specs.Steady.{Steady}
+use Rattle.container_steady.specs.Steady.{Steady}
 
 abbrev pub SoundAfterCommands : Type 0
 SoundAfterCommands = (r : Record) (c : Command) (t : Took) → Steady r → IsSound r → on_command r c ≡ Ok t → IsSound t.rec

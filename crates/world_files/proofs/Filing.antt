@@ -6,7 +6,7 @@ use Rattle.file_model.specs.Denotes.{Denotes}
 use Rattle.container_model.specs.Saves.{document_tree, committed_frame, name_after}
 use Rattle.container_model.specs.Commands.{is_named, is_name, new_frame}
 use Rattle.container_model.specs.declared.answer.Part.{Part}
-use Rattle.container_laws.proofs.SteadyRecords.{or_false}
+use Rattle.container_steady.proofs.SteadyRecords.{or_false}
 use Rattle.container_model.specs.declared.record.Frame.{Frame}
 use Rattle.container_model.specs.declared.answer.Done.{Done}
 use Rattle.world_model.specs.declared.logs.Document.{Document}

@@ -6,9 +6,9 @@ use Rattle.wire_msgs.specs.Found.{nth}
 use Rattle.container_model.specs.declared.record.Object.{Object}
 use Rattle.container_model.specs.declared.record.Frame.{Frame}
 use Rattle.container_model.specs.Record.{Record}
-use Rattle.container_laws.specs.Steady.{EachPair, InOrder, SteadyLink, SteadyObject, Steady}
-use Rattle.container_laws.specs.Roles.{role_in}
-use Rattle.container_laws.proofs.SteadyRecords.{some_and}
+use Rattle.container_steady.specs.Steady.{EachPair, InOrder, SteadyLink, SteadyObject, Steady}
+use Rattle.container_steady.specs.Roles.{role_in}
+use Rattle.container_steady.proofs.SteadyRecords.{some_and}
 use Rattle.world_model.specs.Safe.{Among}
 use Rattle.world_files.specs.Files.{Id, id_of, Distinct, AreNumbered}
 use Rattle.world_facts.proofs.Lookups.{among_mapped}

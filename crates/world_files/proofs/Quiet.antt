@@ -21,8 +21,8 @@ use Rattle.container_model.specs.declared.record.Object.{Object}
 use Rattle.container_model.specs.declared.record.Frame.{Frame}
 use Rattle.container_model.specs.declared.fault.ContainerFault.{ContainerFault}
 use Rattle.container_model.specs.declared.fault.ContainerFault.TheVariants.{WrongLink, Stale, BadAnswer, NoSuch, Busy, InDoubt, Full, NumbersSpent, WrongState, UnknownClass}
-use Rattle.container_laws.proofs.EditsTaken.{edit_taken}
-use Rattle.container_laws.proofs.SteadyRecords.{unless_ok}
+use Rattle.container_steady.proofs.EditsTaken.{edit_taken}
+use Rattle.container_steady.proofs.SteadyRecords.{unless_ok}
 use Rattle.container_model.specs.Record.{Record, Took, MOST_SERVERS, MARGIN, quiet_answer, counts_none, acts, sends, has_numbers, with_frame, count_alive, is_doubtful, is_saving, is_busy, is_moving, is_object, is_linked, is_alive, asked_link, asked_object}
 use Rattle.container_model.specs.Saves.{settled_frames, kept}
 use Rattle.container_model.specs.Grants.{grant_of, moved, request}

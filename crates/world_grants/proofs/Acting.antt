@@ -23,7 +23,7 @@ use Rattle.server_model.specs.Server.{Activation}
 use Rattle.server_model.specs.declared.counted.Counted.{Counted}
 use Rattle.container_model.specs.declared.record.Link.{Link}
 use Rattle.container_model.specs.declared.answer.Done.{Done}
-use Rattle.container_laws.specs.Roles.{Getting}
+use Rattle.container_steady.specs.Roles.{Getting}
 use Rattle.world_model.specs.declared.life.Life.TheVariants.{Running as Runs}
 use Rattle.world_model.specs.declared.logs.ServerDone.{ServerDone}
 use Rattle.world_model.specs.Safe.{Among}

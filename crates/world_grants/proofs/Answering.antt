@@ -21,10 +21,10 @@ use Rattle.container_model.specs.Record.{Record, Took, is_object, is_linked, wit
 use Rattle.container_model.specs.Saves.{settle}
 use Rattle.container_model.specs.Grants.{moved, regrant, regranted, regranted_in, event_of, grant_of, passed_to}
 use Rattle.container_model.specs.Messages.{replied_object, replied_record, replied_grant}
-use Rattle.container_laws.specs.Roles.{Role, Other, Getting, Holding, Giving, Waiting, Plays, waits_as, role_in, queue_of}
-use Rattle.container_laws.specs.Steady.{SteadyLink, Steady}
-use Rattle.container_laws.proofs.SteadyFinds.{found_by_number}
-use Rattle.container_laws.proofs.SteadyRecords.{if_at}
+use Rattle.container_steady.specs.Roles.{Role, Other, Getting, Holding, Giving, Waiting, Plays, waits_as, role_in, queue_of}
+use Rattle.container_steady.specs.Steady.{SteadyLink, Steady}
+use Rattle.container_steady.proofs.SteadyFinds.{found_by_number}
+use Rattle.container_steady.proofs.SteadyRecords.{if_at}
 use Rattle.world_model.specs.Safe.{Among, link_at, links_of}
 use Rattle.world_facts.specs.Words.{Links}
 use Rattle.world_grants.specs.Grants.{Roles, RolesMove, IsReadyFor, NoClaim, NoTools, roles_of}

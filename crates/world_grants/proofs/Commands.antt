@@ -12,8 +12,8 @@ use Rattle.container_model.specs.declared.fault.ContainerFault.TheVariants.{NoSu
 use Rattle.container_model.specs.Record.{Record, Took, MOST_FRAMES, MOST_OBJECTS, MOST_SERVERS, MARGIN, is_object, is_alive, is_busy, is_moving, is_saving, is_doubtful, count_alive, count_objects, asked_link, asked_object, acts, counts_none}
 use Rattle.container_model.specs.Saves.{kept, cleared, completion, completed, counted_object, commit_made, committed_frame}
 use Rattle.container_model.specs.Commands.{is_named, is_size, new, new_made, is_empty_area, insert_at, insert_made, new_object, start, start_made, run_at, run_in, run_made, is_known_class, edit_at, edit_in, edit_unless, edit_fault, edit_made, any_busy, all_have_numbers, saving_frame, save_at, save_made, delete_at, delete_in, delete_made, kill}
-use Rattle.container_laws.specs.Steady.{Steady}
-use Rattle.container_laws.proofs.SteadyRecords.{unless_ok}
+use Rattle.container_steady.specs.Steady.{Steady}
+use Rattle.container_steady.proofs.SteadyRecords.{unless_ok}
 use Rattle.world_grants.specs.Grants.{NoClaim, NoTools}
 use Rattle.world_grants.proofs.States.{same}
 use Rattle.world_grants.proofs.Objects.{Keeps, all_kept, map_kept, with_found, Stay, kept_stay, more_stay, without_stay}

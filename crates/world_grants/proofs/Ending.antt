@@ -13,8 +13,8 @@ use Rattle.container_model.specs.Record.{Record, Took, asked_link, is_object, is
 use Rattle.container_model.specs.Saves.{settle, kept}
 use Rattle.container_model.specs.Grants.{requested, request, grant_each, is_hosted, is_hosted_object, freed_frame, freed_claims}
 use Rattle.container_model.specs.Messages.{reaped_object, reaped, reaped_grants, reap_made, on_reap}
-use Rattle.container_laws.specs.Steady.{Steady}
-use Rattle.container_laws.proofs.SteadyFinds.{find-put_same, find-put_other, find-map}
+use Rattle.container_steady.specs.Steady.{Steady}
+use Rattle.container_steady.proofs.SteadyFinds.{find-put_same, find-put_other, find-map}
 use Rattle.world_model.specs.Safe.{link_at, links_of}
 use Rattle.world_facts.proofs.Lookups.{find_passes}
 use Rattle.std.proofs.lemmas.Bool.{eqb-true}

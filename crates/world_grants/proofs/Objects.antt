@@ -9,8 +9,8 @@ use Rattle.grant_core.specs.declared.grant_states.Claim.{Claim}
 use Rattle.container_model.specs.declared.record.Object.{Object}
 use Rattle.container_model.specs.Record.{Record, is_object, without_first}
 use Rattle.container_model.specs.Grants.{requested, request, grant_each}
-use Rattle.container_laws.specs.Steady.{InOrder, EachPair}
-use Rattle.container_laws.proofs.SteadyFinds.{find-without_same, find-without_other}
+use Rattle.container_steady.specs.Steady.{InOrder, EachPair}
+use Rattle.container_steady.proofs.SteadyFinds.{find-without_same, find-without_other}
 use Rattle.world_facts.proofs.Lookups.{find_passes}
 
 pub record Keeps (o p : Object) : Type 0 where

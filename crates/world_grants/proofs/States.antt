@@ -12,7 +12,7 @@ use Rattle.grant_core.specs.Frames.{Ui, kept, after}
 use Rattle.container_model.specs.declared.record.Object.{Object}
 use Rattle.container_model.specs.Record.{is_object}
 use Rattle.container_model.specs.Grants.{is_hosted_object, lost_by, unwaited, freed}
-use Rattle.container_laws.specs.Roles.{Other, Getting, Holding, Giving, Waiting, role_in, waits_as}
+use Rattle.container_steady.specs.Roles.{Other, Getting, Holding, Giving, Waiting, role_in, waits_as}
 use Rattle.world_grants.specs.Grants.{Names, Moves, NoClaim, NoTools}
 
 -- it stays

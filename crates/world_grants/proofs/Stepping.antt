@@ -10,7 +10,7 @@ use Rattle.grant_core.specs.declared.grant_states.Tools.{Tools}
 use Rattle.server_model.specs.Server.{Activation}
 use Rattle.container_model.specs.declared.record.Link.{Link}
 use Rattle.container_model.specs.declared.answer.Done.{Done}
-use Rattle.container_laws.specs.Roles.{Holding}
+use Rattle.container_steady.specs.Roles.{Holding}
 use Rattle.world_model.specs.declared.logs.ServerDone.{ServerDone}
 use Rattle.world_model.specs.Safe.{Among}
 use Rattle.world_facts.specs.Words.{Links, Acts, Lives, IsHonest}

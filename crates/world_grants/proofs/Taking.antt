@@ -17,7 +17,7 @@ use Rattle.container_model.specs.declared.record.Frame.{Frame}
 use Rattle.container_model.specs.Saves.{commit_made}
 use Rattle.container_model.specs.Commands.{on_command, kind_of}
 use Rattle.container_model.specs.Messages.{is_open_to, written_object, write_made, write_link, write_found, on_message, on_ask}
-use Rattle.container_laws.specs.Steady.{Steady}
+use Rattle.container_steady.specs.Steady.{Steady}
 use Rattle.world_model.specs.Safe.{links_of}
 use Rattle.world_grants.specs.Grants.{RolesMove, NoClaim, NoTools, roles_of}
 use Rattle.world_grants.proofs.Objects.{Keeps, put_kept, kept_stay}

@@ -16,7 +16,7 @@ use Rattle.container_model.specs.Record.{Record, Took, is_object, is_linked, is_
 use Rattle.container_model.specs.Grants.{moved, grant_of}
 use Rattle.container_model.specs.Verbs.{gives_up, takes, left, claim_of, leaving_made, holder_of, revoked_at, claimed, revoked, taking_made, taking, holder_has_numbers, verb_steps, steps_of, verb_linked, wants_ui, verb_in, verb_at, close_steps_made, close_linked, close_in, close_at}
 use Rattle.container_model.specs.Messages.{is_held_by, relieved, ask_framed, ask_found, on_ask}
-use Rattle.container_laws.proofs.SteadyRecords.{unless_ok}
+use Rattle.container_steady.proofs.SteadyRecords.{unless_ok}
 use Rattle.world_grants.specs.Grants.{NoClaim, NoTools}
 use Rattle.world_grants.proofs.States.{asked}
 use Rattle.world_grants.proofs.Objects.{AreKept, all_kept, with_found, request_kept, request_frames, kept_stay}

@@ -19,7 +19,7 @@ use Rattle.container_model.specs.declared.record.Link.{Link}
 use Rattle.container_model.specs.declared.record.Object.{Object}
 use Rattle.container_model.specs.declared.record.Frame.{Frame}
 use Rattle.container_model.specs.Record.{Record, is_object}
-use Rattle.container_laws.specs.Roles.{Role, Other, Getting, Holding, Giving, Waiting, role_in}
+use Rattle.container_steady.specs.Roles.{Role, Other, Getting, Holding, Giving, Waiting, role_in}
 use Rattle.world_model.specs.Safe.{Among}
 use Rattle.world_facts.specs.Words.{Links, Acts, IsHonest, IsOpen}
 

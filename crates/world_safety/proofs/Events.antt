@@ -15,11 +15,11 @@ use Rattle.container_model.specs.declared.record.Phase.TheVariants.{Idle, Commit
 use Rattle.container_model.specs.declared.answer.Part.{Part}
 use Rattle.container_model.specs.declared.answer.Done.{Done}
 use Rattle.container_model.specs.declared.fault.ContainerFault.{ContainerFault}
-use Rattle.container_laws.specs.Steady.{Steady}
-use Rattle.container_laws.proofs.SteadyCommands.{on_command_keeps}
-use Rattle.container_laws.proofs.SteadyCommits.{committing_by, commit_done_keeps}
-use Rattle.container_laws.proofs.SteadyMessages.{on_message_keeps}
-use Rattle.container_laws.proofs.SteadyReaps.{on_reap_keeps}
+use Rattle.container_steps.specs.Steady.{Steady}
+use Rattle.container_steps.proofs.SteadyCommands.{on_command_keeps}
+use Rattle.container_steps.proofs.SteadyCommits.{committing_by, commit_done_keeps}
+use Rattle.container_steps.proofs.SteadyMessages.{on_message_keeps}
+use Rattle.container_steps.proofs.SteadyReaps.{on_reap_keeps}
 use Rattle.world_model.specs.declared.logs.Sent.{Sent}
 use Rattle.world_model.specs.declared.logs.Taken.{Taken}
 use Rattle.world_model.specs.declared.life.Life.{Life}

@@ -12,9 +12,9 @@ use Rattle.container_model.specs.declared.command.Command.TheVariants as command
 use Rattle.container_model.specs.declared.fault.ContainerFault.TheVariants.{Full, NumbersSpent}
 use Rattle.container_model.specs.declared.answer.Action.TheVariants.{End}
 use Rattle.container_model.specs.declared.answer.Done.{Done}
-use Rattle.container_laws.specs.Steady.{Steady}
-use Rattle.container_laws.proofs.SteadyRecords.{unless_ok}
-use Rattle.container_laws.proofs.SteadyCommands.{on_command_keeps}
+use Rattle.container_steps.specs.Steady.{Steady}
+use Rattle.container_steps.proofs.SteadyRecords.{unless_ok}
+use Rattle.container_steps.proofs.SteadyCommands.{on_command_keeps}
 use Rattle.world_model.specs.declared.life.Life.{Life}
 use Rattle.world_model.specs.declared.life.Life.TheVariants.{Running, Ended, Reaped}
 use Rattle.world_model.specs.World.{World, Instance, fresh, messages_of, of_container, started_by, end_of, ended_at, ended_by, joined}

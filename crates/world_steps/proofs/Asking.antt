@@ -14,12 +14,12 @@ use Rattle.container_model.specs.declared.fault.ContainerFault.TheVariants.{Busy
 use Rattle.container_model.specs.Record.{Record, Took, MOST_FRAMES, MOST_OBJECTS, is_object, is_busy, is_saving, is_moving, is_doubtful, count_objects, ask, ask_at, asked_link, asked_sent, asked_object, asked_all}
 use Rattle.container_model.specs.Saves.{settle_actions}
 use Rattle.container_model.specs.Commands.{new, new_made, insert, insert_at, insert_made, new_object, is_named, is_size, is_empty_area, any_busy, all_have_numbers, edit, edit_at, edit_in, edit_linked, save, save_at, save_made, saving}
-use Rattle.container_laws.specs.Steady.{WaitsBehind, Steady}
-use Rattle.container_laws.proofs.EditsTaken.{edited, edit_taken}
+use Rattle.container_steady.specs.Steady.{WaitsBehind, Steady}
+use Rattle.container_steady.proofs.EditsTaken.{edited, edit_taken}
 use Rattle.std.proofs.lemmas.Bool.{eqb-true, eqb-false}
-use Rattle.container_laws.proofs.SteadyRecords.{if_told, unless_ok}
-use Rattle.container_laws.proofs.SteadyTests.{found_numbered}
-use Rattle.container_laws.proofs.SteadyShapes.{asked_of, call_of}
+use Rattle.container_steady.proofs.SteadyRecords.{if_told, unless_ok}
+use Rattle.container_steady.proofs.SteadyTests.{found_numbered}
+use Rattle.container_steady.proofs.SteadyShapes.{asked_of, call_of}
 use Rattle.world_model.specs.World.{messages_of}
 use Rattle.world_model.specs.Safe.{Among, link_at, links_of}
 use Rattle.world_facts.specs.Words.{Links}

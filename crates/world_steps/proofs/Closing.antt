@@ -15,9 +15,9 @@ use Rattle.container_model.specs.declared.fault.ContainerFault.TheVariants.{Busy
 use Rattle.container_model.specs.Record.{Record, Took, acts, counts_none, has_numbers, is_object, is_alive, is_busy, is_saving, is_doubtful, without_first}
 use Rattle.container_model.specs.Commands.{delete, delete_at, delete_in, delete_made, kill}
 use Rattle.container_model.specs.Verbs.{close, close_at, close_in, close_linked, close_steps_made}
-use Rattle.container_laws.specs.Steady.{EachPair, InOrder, Steady}
-use Rattle.container_laws.proofs.SteadyRecords.{unless_ok}
-use Rattle.container_laws.proofs.SteadyTests.{found_numbered, none_of}
+use Rattle.container_steady.specs.Steady.{EachPair, InOrder, Steady}
+use Rattle.container_steady.proofs.SteadyRecords.{unless_ok}
+use Rattle.container_steady.proofs.SteadyTests.{found_numbered, none_of}
 use Rattle.world_model.specs.World.{messages_of}
 use Rattle.world_model.specs.Safe.{link_at, links_of}
 use Rattle.world_facts.specs.Shapes.{AsksAll, IsQuiet}

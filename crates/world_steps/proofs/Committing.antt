@@ -11,9 +11,9 @@ use Rattle.container_model.specs.declared.record.Phase.TheVariants.{Committing}
 use Rattle.container_model.specs.declared.answer.Done.{Done}
 use Rattle.container_model.specs.Record.{Record, is_object, asked_link, asked_sent, asked_all}
 use Rattle.container_model.specs.Saves.{cleared, kept, completed, completion, commit_made, done_entry, parts_in, part_of, is_some_name}
-use Rattle.container_laws.specs.Steady.{Steady}
-use Rattle.container_laws.proofs.SteadyCommits.{completed_if, commits_answered_contents}
-use Rattle.container_laws.proofs.SteadyShapes.{asked_of}
+use Rattle.container_steady.specs.Steady.{Steady}
+use Rattle.container_steady.proofs.SteadyContents.{completed_if, commits_answered_contents}
+use Rattle.container_steady.proofs.SteadyShapes.{asked_of}
 use Rattle.world_model.specs.World.{messages_of}
 use Rattle.world_model.specs.Safe.{Among, link_at, links_of}
 use Rattle.world_facts.specs.Shapes.{AskedAt, none, AsksAll, IsTold, CountsAll}

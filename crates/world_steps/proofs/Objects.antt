@@ -12,12 +12,12 @@ use Rattle.container_model.specs.declared.answer.Action.TheVariants.{Send, Start
 use Rattle.container_model.specs.declared.record.Frame.{Frame}
 use Rattle.container_model.specs.declared.record.Link.{Link}
 use Rattle.container_model.specs.declared.record.Object.{Object}
-use Rattle.container_laws.specs.Roles.{role_in}
-use Rattle.container_laws.specs.Steady.{EachPair, InOrder, SteadyLink, SteadyObject, Steady}
-use Rattle.container_laws.proofs.SteadyLookups.{each_found}
-use Rattle.container_laws.proofs.SteadyRecords.{if_at, some_and}
-use Rattle.container_laws.proofs.SteadyFinds.{found_by_number, put_by_number, find-put_same, find-put_other, find-map}
-use Rattle.container_laws.proofs.SteadyShapes as laws
+use Rattle.container_steady.specs.Roles.{role_in}
+use Rattle.container_steady.specs.Steady.{EachPair, InOrder, SteadyLink, SteadyObject, Steady}
+use Rattle.container_steady.proofs.SteadyLookups.{each_found}
+use Rattle.container_steady.proofs.SteadyRecords.{if_at, some_and}
+use Rattle.container_steady.proofs.SteadyFinds.{found_by_number, put_by_number, find-put_same, find-put_other, find-map}
+use Rattle.container_steady.proofs.SteadyShapes as laws
 use Rattle.world_model.specs.World.{Instance, messages_of, of_container, started_by, ended_by}
 use Rattle.world_model.specs.declared.logs.Sent.{Sent}
 use Rattle.world_model.specs.Safe.{Among, link_at, links_of, messages}

@@ -10,8 +10,8 @@ use Rattle.container_model.specs.Record.{Record, Took, is_object, is_alive}
 use Rattle.container_model.specs.Grants.{freed_frame, freed_claims}
 use Rattle.container_model.specs.Saves.{settle_actions, kept}
 use Rattle.container_model.specs.Messages.{reaped_object, reaped, reaped_grants, reap_made, on_reap}
-use Rattle.container_laws.specs.Steady.{Steady}
-use Rattle.container_laws.proofs.SteadyRecords.{if_told}
+use Rattle.container_steady.specs.Steady.{Steady}
+use Rattle.container_steady.proofs.SteadyRecords.{if_told}
 use Rattle.world_model.specs.declared.life.Life.TheVariants.{Running}
 use Rattle.world_model.specs.World.{messages_of}
 use Rattle.world_model.specs.Safe.{link_at, links_of}

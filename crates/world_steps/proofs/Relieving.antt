@@ -11,8 +11,8 @@ use Rattle.container_model.specs.declared.fault.ContainerFault.TheVariants.{Stal
 use Rattle.container_model.specs.Record.{Record, Took, acts, counts_none, sends, is_linked, is_alive, with_frame}
 use Rattle.container_model.specs.Grants.{moved}
 use Rattle.container_model.specs.Messages.{is_held_by, relieved, ask_framed, ask_found, on_message}
-use Rattle.container_laws.specs.Steady.{Steady}
-use Rattle.container_laws.proofs.SteadyRecords.{if_told}
+use Rattle.container_steady.specs.Steady.{Steady}
+use Rattle.container_steady.proofs.SteadyRecords.{if_told}
 use Rattle.world_model.specs.World.{messages_of}
 use Rattle.world_model.specs.Safe.{links_of}
 use Rattle.world_facts.specs.Shapes.{AsksAll, IsQuiet}

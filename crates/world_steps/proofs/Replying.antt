@@ -21,8 +21,8 @@ use Rattle.container_model.specs.Record.{Record, Took, is_linked, is_link, is_al
 use Rattle.container_model.specs.Saves.{settle_actions, kept_in}
 use Rattle.container_model.specs.Messages.{Replied, is_fit, replied, next_at, next_link, next_sent, replied_record, replied_grant, reply_made, reply_taken, reply_pending, reply_link, reply_found, on_message}
 use Rattle.container_model.specs.declared.answer.Done.{Done}
-use Rattle.container_laws.specs.Steady.{IsOpenWhileClosing, WaitsBehind, Steady}
-use Rattle.container_laws.proofs.SteadyCloses.{closes-are_open}
+use Rattle.container_steady.specs.Steady.{IsOpenWhileClosing, WaitsBehind, Steady}
+use Rattle.container_steady.proofs.SteadyCloses.{closes-are_open}
 use Rattle.world_model.specs.World.{messages_of}
 use Rattle.world_model.specs.Safe.{Among, links_of}
 use Rattle.world_model.specs.declared.logs.Sent.{Sent}

@@ -8,9 +8,9 @@ use Rattle.container_model.specs.declared.record.Frame.{Frame}
 use Rattle.container_model.specs.declared.fault.ContainerFault.TheVariants.{NoSuch, Busy, InDoubt as Doubtful, NumbersSpent, WrongState, UnknownClass}
 use Rattle.container_model.specs.Record.{Record, Took, MARGIN, is_object, is_alive, is_busy, is_saving, is_doubtful}
 use Rattle.container_model.specs.Commands.{is_known_class, run, run_at, run_in, run_made, first_operation, begun_link}
-use Rattle.container_laws.specs.Steady.{Steady}
-use Rattle.container_laws.proofs.SteadyRecords.{unless_ok}
-use Rattle.container_laws.proofs.SteadyTests.{not_false, none_of, found_numbered}
+use Rattle.container_steady.specs.Steady.{Steady}
+use Rattle.container_steady.proofs.SteadyRecords.{unless_ok}
+use Rattle.container_steady.proofs.SteadyTests.{not_false, none_of, found_numbered}
 use Rattle.world_model.specs.declared.life.Life.{Life}
 use Rattle.world_model.specs.World.{messages_of}
 use Rattle.world_model.specs.Safe.{links_of}

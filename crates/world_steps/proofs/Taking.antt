@@ -27,7 +27,7 @@ use Rattle.container_model.specs.declared.fault.ContainerFault.{ContainerFault}
 use Rattle.container_model.specs.declared.fault.ContainerFault.TheVariants.{Stale, WrongLink, BadAnswer}
 use Rattle.container_model.specs.Record.{Record, Took, is_linked, is_alive}
 use Rattle.container_model.specs.Messages.{Replied, replied, done, done_link, saved_link, granted_link, closed_with, next_s, awaits_save, is_open_to, written_object, write_made, write_link, write_found, on_message}
-use Rattle.container_laws.specs.Steady.{Steady}
+use Rattle.container_steady.specs.Steady.{Steady}
 use Rattle.world_model.specs.World.{messages_of}
 use Rattle.world_model.specs.Safe.{links_of}
 use Rattle.world_facts.specs.Shapes.{AskedAt, stays, AsksAll, IsQuiet}

@@ -17,10 +17,10 @@ use Rattle.container_model.specs.declared.record.Object.{Object}
 use Rattle.container_model.specs.declared.record.Frame.{Frame}
 use Rattle.container_model.specs.Record.{Record, is_object, ask, ask_at, ask_each, asked_link, asked_sent, with_frame}
 use Rattle.container_model.specs.Grants.{requested, request, grant_each, passed_to, moved, event_of, Regranted, regranted_by, regranted_in, regranted}
-use Rattle.container_laws.specs.Steady.{WaitsBehind, Steady}
-use Rattle.container_laws.proofs.SteadyRecords.{if_told}
-use Rattle.container_laws.proofs.SteadyFinds.{find-put_same, find-put_other}
-use Rattle.container_laws.proofs.SteadyTests.{found_numbered}
+use Rattle.container_steady.specs.Steady.{WaitsBehind, Steady}
+use Rattle.container_steady.proofs.SteadyRecords.{if_told}
+use Rattle.container_steady.proofs.SteadyFinds.{find-put_same, find-put_other}
+use Rattle.container_steady.proofs.SteadyTests.{found_numbered}
 use Rattle.world_model.specs.Safe.{Among, link_at, links_of}
 use Rattle.world_facts.specs.Words.{Links, Acts, Lives}
 use Rattle.world_facts.specs.Shapes.{AskedAt, none, stays, queues, sends as sent, AsksAll, IsQuiet, EndsSome}

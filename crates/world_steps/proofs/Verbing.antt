@@ -22,10 +22,10 @@ use Rattle.container_model.specs.declared.fault.ContainerFault.TheVariants.{Busy
 use Rattle.container_model.specs.Record.{Record, Took, acts, counts_none, quiet_answer, sends, with_frame, with_object, has_numbers, is_busy, is_doubtful, is_moving, is_object, is_saving}
 use Rattle.container_model.specs.Grants.{Requested, grant_of, moved, request}
 use Rattle.container_model.specs.Verbs.{operation_of, claim_of, takes, gives_up, stepped_link, leaving_made, holder_of, holder_has_numbers, revoked_at, claimed, steps_now, taking_made, taking, stepping, verb_steps, steps_of, verb_linked, wants_ui, verb_in, verb_at, verb}
-use Rattle.container_laws.specs.Roles.{Holding, Other, IsShown, role_in}
-use Rattle.container_laws.specs.Steady.{WaitsBehind, Steady}
-use Rattle.container_laws.proofs.SteadyRecords.{if_told, unless_ok}
-use Rattle.container_laws.proofs.SteadyTests.{found_numbered}
+use Rattle.container_steady.specs.Roles.{Holding, Other, IsShown, role_in}
+use Rattle.container_steady.specs.Steady.{WaitsBehind, Steady}
+use Rattle.container_steady.proofs.SteadyRecords.{if_told, unless_ok}
+use Rattle.container_steady.proofs.SteadyTests.{found_numbered}
 use Rattle.world_model.specs.World.{messages_of}
 use Rattle.world_model.specs.Safe.{link_at, links_of}
 use Rattle.world_facts.specs.Shapes.{IsQuiet}

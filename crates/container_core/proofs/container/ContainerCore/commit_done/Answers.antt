@@ -1,4 +1,4 @@
-use Rattle.container_laws.specs.Steady.{Steady}
+use Rattle.container_steps.specs.Steady.{Steady}
 use Rattle.container_model.specs.Saves.{commit_done}
 use Rattle.container_model.specs.Room.{IsSound}
 use Rattle.container_core.proofs.StepsKeep.{commit_keeps}

@@ -10,7 +10,7 @@ use Rattle.container_model.specs.declared.record.Object.{Object}
 use Rattle.wire_msgs.specs.declared.operation.Operation.TheVariants.{UiDeactivate}
 use Rattle.container_grants.specs.Granted.{actions_of, claims_if, installed_each, ready, told_frames, told_space_in}
 use Rattle.container_objects.specs.Told.{ToldObject}
-use Rattle.container_laws.specs.Steady.{Steady}
+use Rattle.container_steps.specs.Steady.{Steady}
 use Rattle.container_core.proofs.GrantsEach.{Agrees}
 use Rattle.container_core.proofs.GrantsWaiting.{reply_agrees, reply_differs}
 use Rattle.container_core.proofs.RepliesMade.{reply_fine, reply_is, reply_refused}

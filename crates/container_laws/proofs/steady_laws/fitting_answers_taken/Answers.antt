@@ -1,5 +1,0 @@
-use Rattle.container_laws.proofs.SteadyMessages.{fitting_answers_taken}
-use Rattle.container_laws.proofs.steady_laws.fitting_answers_taken.Goals as goal
-
-pub returns : goal.returns
-returns c = fitting_answers_taken

@@ -1,5 +1,0 @@
-use Rattle.container_laws.proofs.SteadyDocuments.{full-by_the_file_alone}
-use Rattle.container_laws.proofs.steady_laws.full_by_the_file_alone.Goals as goal
-
-pub returns : goal.returns
-returns c = full-by_the_file_alone

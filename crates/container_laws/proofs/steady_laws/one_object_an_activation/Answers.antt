@@ -1,5 +1,0 @@
-use Rattle.container_laws.proofs.SteadyFinds.{one_object_an_activation}
-use Rattle.container_laws.proofs.steady_laws.one_object_an_activation.Goals as goal
-
-pub returns : goal.returns
-returns c = one_object_an_activation

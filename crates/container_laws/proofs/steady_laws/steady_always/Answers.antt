@@ -1,5 +1,0 @@
-use Rattle.container_laws.proofs.SteadyRuns.{steady_always}
-use Rattle.container_laws.proofs.steady_laws.steady_always.Goals as goal
-
-pub returns : goal.returns
-returns c = steady_always

@@ -1,0 +1,240 @@
+-- Activations that are asked for operations, and those whose frame's save goes on.
+use Rattle.std.proofs.Common.{◌≡◌, ◌≤◌, inr, ℕ, Bool, true, List, [], ◌∷◌, ◌++◌, Option, Some, None, Result, Ok, Err, refl, sym, ap, ◌∙◌, subst}
+use Rattle.std.proofs.lemmas.List.{append_assoc}
+use Rattle.std.specs.Prelude.{IsOkAnd, is_some}
+use Rattle.std.specs.List.{AllByRecursion}
+use Rattle.wire_msgs.specs.Found.{nth}
+use Rattle.wire_msgs.specs.Operations.{op_of}
+use Rattle.wire_msgs.specs.declared.operation.Operation.{Operation}
+use Rattle.wire_msgs.specs.declared.operation.Operation.TheVariants.{InitNew, Load, InPlace, UiActivate, UiDeactivate, InPlaceDeactivate, OpenWindow, Edit, Save, SaveCompleted, Close}
+use Rattle.object_state.specs.Both as both
+use Rattle.object_state.specs.declared.both_states.States.{States}
+use Rattle.object_state.specs.declared.faults.StateFault.{StateFault}
+use Rattle.object_state.specs.declared.object_states.ObjectState.{ObjectState}
+use Rattle.object_state.specs.declared.object_states.ObjectState.TheVariants.{InPlaceActive, UiActive}
+use Rattle.storage_tree.specs.declared.stored.Stored.{Stored}
+use Rattle.grant_core.specs.declared.grant_states.Tools.{Tools}
+use Rattle.container_model.specs.declared.record.Link.{Link}
+use Rattle.container_model.specs.declared.record.Phase.{Phase}
+use Rattle.container_model.specs.declared.record.Phase.TheVariants.{Idle, Saving, Committing}
+use Rattle.container_model.specs.Record.{is_unreaped, ask_at, ask, ask_each}
+use Rattle.container_steady.specs.Roles.{Role, Getting, Holding, Giving, Waiting, IsShown, Plays}
+use Rattle.container_steady.specs.Steady.{queue_of, queue, stepped, ended, EndsFor, EndsWell, PastFirstCall, WaitsBehind, IsTimely, IsSavedIn, MayBeStored, SteadyLink}
+use Rattle.container_steady.proofs.SteadyLookups.{each_weaker, each_append}
+use Rattle.container_steady.proofs.SteadyQueues.{ended_join, edit_taken, ends_set, ends_well, plain_ended, save_begins, save_ends, past_if_part, past_if_saving, past_if_quiet, window_step}
+use Rattle.container_steady.proofs.SteadyRoles.{getting_last, giving_last, is_ui, plays_append, ui_active}
+
+-- in another record
+pub link_moved : (servers servers' : List Bool) (last_act last_act' : ℕ) (phase : Phase) (k : ℕ) (role : Role) (l : Link) → l.act ≤ last_act' → is_unreaped (nth servers' l.inc) ≡ true → SteadyLink servers last_act phase k role l → SteadyLink servers' last_act' phase k role l
+link_moved servers servers' last_act last_act' phase k role l a s h = record {
+  acts_drawn = a;
+  servers_told = s;
+  first_call = h.first_call;
+  waits_behind = h.waits_behind;
+  queue_runs = h.queue_runs;
+  save_in_queue = h.save_in_queue;
+  saved_known = h.saved_known;
+  saved_within = h.saved_within;
+  shown = h.shown;
+  plays = h.plays;
+}
+
+-- an activation with these operations behind its queue
+pub record AskedFor (l m : Link) (ops : List Operation) : Type 0 where
+  pub act : m.act ≡ l.act
+  pub inc : m.inc ≡ l.inc
+  pub states : m.states ≡ l.states
+  pub saved : m.saved ≡ l.saved
+  pub queued : queue m ≡ queue l ++ ops
+  pub behind : WaitsBehind m.pending m.waiting
+
+asked_at : (l : Link) (op : Operation) (p : Option Operation) → l.pending ≡ p → WaitsBehind p l.waiting → AskedFor l (ask_at l op p).link (op ∷ [])
+asked_at l op None e h =
+    let none : queue l ≡ [] = ap (λ (p : Option Operation). queue_of p l.waiting) e ∙ h in
+    record {
+      act = refl;
+      inc = refl;
+      states = refl;
+      saved = refl;
+      queued = ap (λ (xs : List Operation). op ∷ xs) h ∙ sym (ap (λ (xs : List Operation). xs ++ op ∷ []) none);
+      behind = tt;
+    }
+asked_at l op (Some before) e h = record {
+  act = refl;
+  inc = refl;
+  states = refl;
+  saved = refl;
+  queued = ap (λ (p : Option Operation). queue_of p (l.waiting ++ op ∷ [])) e ∙ sym (ap (λ (p : Option Operation). queue_of p l.waiting ++ op ∷ []) e);
+  behind = subst (λ (p : Option Operation). WaitsBehind p (l.waiting ++ op ∷ [])) (sym e) tt;
+}
+
+pub asked_once : (l : Link) (op : Operation) → WaitsBehind l.pending l.waiting → AskedFor l (ask l op).link (op ∷ [])
+asked_once l op h = asked_at l op l.pending refl h
+
+append_none : (xs : List Operation) → xs ≡ xs ++ []
+append_none [] = refl
+append_none (x ∷ xs) = ap (λ (ys : List Operation). x ∷ ys) (append_none xs)
+
+pub asked_each : (l : Link) (ops : List Operation) → WaitsBehind l.pending l.waiting → AskedFor l (ask_each l ops).link ops
+asked_each l [] h = record { act = refl; inc = refl; states = refl; saved = refl; queued = append_none (queue l); behind = h }
+asked_each l (op ∷ ops) h =
+    let a = asked_once l op h in
+    let b = asked_each (ask l op).link ops a.behind in
+    record {
+      act = b.act ∙ a.act;
+      inc = b.inc ∙ a.inc;
+      states = b.states ∙ a.states;
+      saved = b.saved ∙ a.saved;
+      queued = b.queued ∙ (ap (λ (xs : List Operation). xs ++ ops) a.queued ∙ append_assoc (queue l) (op ∷ []) ops);
+      behind = b.behind;
+    }
+
+pub asked_steady : (servers : List Bool) (last_act : ℕ) (phase : Phase) (k : ℕ) (role : Role) (l m : Link) (ops : List Operation) → AskedFor l m ops → l.act ≤ last_act → is_unreaped (nth servers l.inc) ≡ true → PastFirstCall l.states
+    → IsOkAnd (ended (ended (Ok l.states) (queue l)) ops) (EndsWell phase k role) → AllByRecursion (IsTimely phase l.saved) (queue l ++ ops) → IsSavedIn phase l.saved → MayBeStored l.saved → IsShown role l.states.object → Plays role (queue l ++ ops)
+    → SteadyLink servers last_act phase k role m
+asked_steady servers last_act phase k role l m ops x a u past r t v b s p = record {
+  acts_drawn = subst (λ (n : ℕ). n ≤ last_act) (sym x.act) a;
+  servers_told = ap (λ (n : ℕ). is_unreaped (nth servers n)) x.inc ∙ u;
+  first_call = inr (subst PastFirstCall (sym x.states) past);
+  waits_behind = x.behind;
+  queue_runs = subst (λ (z : States). IsOkAnd (ended (Ok z) (queue m)) (EndsWell phase k role)) (sym x.states)
+      (subst (λ (z : List Operation). IsOkAnd (ended (Ok l.states) z) (EndsWell phase k role)) (sym x.queued)
+      (subst (λ (z : Result States StateFault). IsOkAnd z (EndsWell phase k role)) (sym (ended_join (Ok l.states) (queue l) ops)) r));
+  save_in_queue = subst (λ (z : Option Stored). AllByRecursion (IsTimely phase z) (queue m)) (sym x.saved) (subst (λ (z : List Operation). AllByRecursion (IsTimely phase l.saved) z) (sym x.queued) t);
+  saved_known = subst (IsSavedIn phase) (sym x.saved) v;
+  saved_within = subst MayBeStored (sym x.saved) b;
+  shown = subst (λ (z : States). IsShown role z.object) (sym x.states) s;
+  plays = subst (Plays role) (sym x.queued) p;
+}
+
+-- the end of a queue
+pub end_of : (r : Result States StateFault) (P : States → Type 0) → IsOkAnd r P → (w : States) × (r ≡ Ok w) × P w
+end_of (Ok w) P h = (w, refl, h)
+end_of (Err refusal) P h = absurd h
+
+-- where nothing is pending, nothing is to be done
+pub quiet_queue : (p : Option Operation) (ws : List Operation) → p ≡ None → WaitsBehind p ws → queue_of p ws ≡ []
+quiet_queue None ws e h = h
+quiet_queue (Some op) ws e h = cc
+
+-- Operations are asked for where nothing is to be done: in a frame that is idle, or whose save begins.
+module _ (servers : List Bool) (last_act k : ℕ) (role : Role) (l : Link) (h : SteadyLink servers last_act Idle k role l) (quiet : l.pending ≡ None) where
+  pub none : queue l ≡ []
+  none = quiet_queue l.pending l.waiting quiet h.waits_behind
+
+  pub quiet_past : PastFirstCall l.states
+  quiet_past = past_if_quiet servers last_act Idle k role l h quiet
+
+  still : ended (Ok l.states) (queue l) ≡ Ok l.states
+  still = ap (λ (ops : List Operation). ended (Ok l.states) ops) none
+
+  pub quiet_ends : EndsWell Idle k role l.states
+  quiet_ends = subst (λ (o : Result States StateFault). IsOkAnd o (EndsWell Idle k role)) still h.queue_runs
+
+  pub quiet_plays : Plays role []
+  quiet_plays = subst (Plays role) none h.plays
+
+  pub quiet_asked : (phase : Phase) (j : ℕ) (other : Role) (ops : List Operation) → IsOkAnd (ended (Ok l.states) ops) (EndsWell phase j other) → AllByRecursion (IsTimely phase l.saved) ops → IsSavedIn phase l.saved → IsShown other l.states.object → Plays other ops
+      → SteadyLink servers last_act phase j other (ask_each l ops).link
+  quiet_asked phase j other ops runs timely known shown plays = asked_steady servers last_act phase j other l (ask_each l ops).link ops (asked_each l ops h.waits_behind) h.acts_drawn h.servers_told quiet_past
+      (subst (λ (o : Result States StateFault). IsOkAnd (ended o ops) (EndsWell phase j other)) (sym still) runs)
+      (subst (λ (z : List Operation). AllByRecursion (IsTimely phase l.saved) (z ++ ops)) (sym none) timely) known h.saved_within shown
+      (subst (λ (z : List Operation). Plays other (z ++ ops)) (sym none) plays)
+
+  pub edit_asked : (bytes : List ℕ) → SteadyLink servers last_act Idle k role (ask l (Edit bytes)).link
+  edit_asked bytes = quiet_asked Idle k role (Edit bytes ∷ [])
+      (subst (λ (o : Result States StateFault). IsOkAnd o (EndsWell Idle k role)) (sym (edit_taken l.states quiet_past.storage quiet_past.running)) quiet_ends)
+      (tt, tt) h.saved_known h.shown (plays_append role [] (Edit bytes) tt quiet_plays)
+
+  pub save_asked : (j : ℕ) → SteadyLink servers last_act Saving j role (ask l (Save j)).link
+  save_asked j = quiet_asked Saving j role (Save j ∷ []) (save_begins l.states j role quiet_ends.storage quiet_past.running quiet_ends.waits) ((refl, h.saved_known), tt) tt h.shown (plays_append role [] (Save j) tt quiet_plays)
+
+-- a frame goes on to its commit once each activation has answered
+committing_op : (content : Stored) (op : Operation) → IsTimely Saving (Some content) op → IsTimely Committing (Some content) op
+committing_op content (InitNew class) t = tt
+committing_op content (Load class c) t = tt
+committing_op content InPlace t = tt
+committing_op content (UiActivate g) t = tt
+committing_op content UiDeactivate t = tt
+committing_op content InPlaceDeactivate t = tt
+committing_op content OpenWindow t = tt
+committing_op content (Edit bytes) t = tt
+committing_op content (Save k) t = absurd (let e = t.1 in cc)
+committing_op content (SaveCompleted k storage) t = absurd (cc)
+committing_op content (Close option) t = absurd (cc)
+committing_op content _ t = absurd t
+
+committing_ops : (saved : Option Stored) (ops : List Operation) → is_some saved ≡ true → AllByRecursion (IsTimely Saving saved) ops → AllByRecursion (IsTimely Committing saved) ops
+committing_ops None ops e t = cc
+committing_ops (Some content) ops e t = each_weaker (IsTimely Saving (Some content)) (IsTimely Committing (Some content)) ops (committing_op content) t
+
+committing_end : (k : ℕ) (role : Role) (r : Result States StateFault) → IsOkAnd r (EndsWell Saving k role) → IsOkAnd r (EndsWell Committing k role)
+committing_end k role (Ok w) h = record { storage = h.storage; last_save = h.last_save; running = h.running; waits = h.waits }
+committing_end k role (Err refusal) h = h
+
+pub now_committing : (servers : List Bool) (last_act k : ℕ) (role : Role) (l : Link) → SteadyLink servers last_act Saving k role l → is_some l.saved ≡ true → SteadyLink servers last_act Committing k role l
+now_committing servers last_act k role l h e = record {
+  acts_drawn = h.acts_drawn;
+  servers_told = h.servers_told;
+  first_call = h.first_call;
+  waits_behind = h.waits_behind;
+  queue_runs = committing_end k role (ended (Ok l.states) (queue l)) h.queue_runs;
+  save_in_queue = committing_ops l.saved (queue l) e h.save_in_queue;
+  saved_known = e;
+  saved_within = h.saved_within;
+  shown = h.shown;
+  plays = h.plays;
+}
+
+-- a commit is done: the activation is told
+counted_op : (saved : Option Stored) (op : Operation) → IsTimely Committing saved op → IsTimely Idle None op
+counted_op saved (InitNew class) t = tt
+counted_op saved (Load class c) t = tt
+counted_op saved InPlace t = tt
+counted_op saved (UiActivate g) t = tt
+counted_op saved UiDeactivate t = tt
+counted_op saved InPlaceDeactivate t = tt
+counted_op saved OpenWindow t = tt
+counted_op saved (Edit bytes) t = tt
+counted_op saved (Save k) t = absurd (let e = t.0 in cc)
+counted_op saved (SaveCompleted k storage) t = refl
+counted_op saved (Close option) t = refl
+counted_op saved _ t = absurd t
+
+pub completion_asked : (servers : List Bool) (last_act k : ℕ) (role : Role) (storage : Bool) (l : Link) → SteadyLink servers last_act Committing k role l → SteadyLink servers last_act Idle k role (ask (record l { saved = None }) (SaveCompleted k storage)).link
+completion_asked servers last_act k role storage l h =
+    let e = end_of (ended (Ok l.states) (queue l)) (EndsWell Committing k role) h.queue_runs in
+    let x : Link = record l { saved = None } in
+    asked_steady servers last_act Idle k role x (ask x (SaveCompleted k storage)).link (SaveCompleted k storage ∷ []) (asked_once x (SaveCompleted k storage) h.waits_behind) h.acts_drawn h.servers_told (past_if_saving servers last_act Committing k role l h (λ q. cc))
+    (subst (λ (o : Result States StateFault). IsOkAnd (stepped o (SaveCompleted k storage)) (EndsWell Idle k role)) (sym e.1) (save_ends e.0 k k role storage e.2.storage e.2.last_save e.2.running e.2.waits))
+    (each_append (IsTimely Idle None) (queue l) (SaveCompleted k storage) (each_weaker (IsTimely Committing l.saved) (IsTimely Idle None) (queue l) (counted_op l.saved) h.save_in_queue) refl)
+    refl tt h.shown (plays_append role (queue l) (SaveCompleted k storage) tt h.plays)
+
+-- whoever waited for the frame is told of its grant, and whoever has it, to give it up
+waits_in_place : (g : ℕ) (s : ObjectState) → EndsFor (Waiting g) s → s ≡ InPlaceActive
+waits_in_place g InPlaceActive h = refl
+waits_in_place g _ h = absurd h
+
+pub grant_asked : (servers : List Bool) (last_act : ℕ) (phase : Phase) (k g : ℕ) (l : Link) → SteadyLink servers last_act phase k (Waiting g) l → SteadyLink servers last_act phase k (Getting g) (ask l (UiActivate g)).link
+grant_asked servers last_act phase k g l h =
+    let e = end_of (ended (Ok l.states) (queue l)) (EndsWell phase k (Waiting g)) h.queue_runs in
+    let at : e.0.object ≡ InPlaceActive = waits_in_place g e.0.object e.2.waits in
+    let v : States = record { persist = e.0.persist; object = UiActive } in
+    let step : both.step e.0 (op_of (UiActivate g)) ≡ Ok v = window_step (UiActivate g) e.0 UiActive tt (ends_set phase k (Waiting g) e.0 e.2) (rw at refl) in
+    let ends : EndsWell phase k (Getting g) v = ends_well phase k (Waiting g) (Getting g) e.0 v e.2 refl tt tt in
+    asked_steady servers last_act phase k (Getting g) l (ask l (UiActivate g)).link (UiActivate g ∷ []) (asked_once l (UiActivate g) h.waits_behind) h.acts_drawn h.servers_told (past_if_part servers last_act phase k (Waiting g) l h (λ q. cc))
+    (subst (λ (o : Result States StateFault). IsOkAnd (stepped o (UiActivate g)) (EndsWell phase k (Getting g))) (sym e.1) (subst (λ (o : Result States StateFault). IsOkAnd o (EndsWell phase k (Getting g))) (sym step) ends))
+    (each_append (IsTimely phase l.saved) (queue l) (UiActivate g) h.save_in_queue tt)
+    h.saved_known h.saved_within h.shown (getting_last g (queue l) h.plays)
+
+pub end_asked : (servers : List Bool) (last_act : ℕ) (phase : Phase) (k g : ℕ) (tools : Tools) (l : Link) → SteadyLink servers last_act phase k (Holding g tools) l → SteadyLink servers last_act phase k (Giving g) (ask l UiDeactivate).link
+end_asked servers last_act phase k g tools l h =
+    let e = plain_ended (EndsWell phase k (Holding g tools)) (queue l) l.states h.plays h.queue_runs in
+    let at : e.0.object ≡ UiActive = ui_active e.0.object (e.3 ∙ ap is_ui h.shown) in
+    let v : States = record { persist = e.0.persist; object = InPlaceActive } in
+    let step : both.step e.0 (op_of UiDeactivate) ≡ Ok v = window_step UiDeactivate e.0 InPlaceActive tt (ends_set phase k (Holding g tools) e.0 e.2) (rw at refl) in
+    let ends : EndsWell phase k (Giving g) v = ends_well phase k (Holding g tools) (Giving g) e.0 v e.2 refl tt tt in
+    asked_steady servers last_act phase k (Giving g) l (ask l UiDeactivate).link (UiDeactivate ∷ []) (asked_once l UiDeactivate h.waits_behind) h.acts_drawn h.servers_told (past_if_part servers last_act phase k (Holding g tools) l h (λ q. cc))
+    (subst (λ (o : Result States StateFault). IsOkAnd (stepped o UiDeactivate) (EndsWell phase k (Giving g))) (sym e.1) (subst (λ (o : Result States StateFault). IsOkAnd o (EndsWell phase k (Giving g))) (sym step) ends))
+    (each_append (IsTimely phase l.saved) (queue l) UiDeactivate h.save_in_queue tt)
+    h.saved_known h.saved_within h.shown (giving_last (queue l) h.plays)

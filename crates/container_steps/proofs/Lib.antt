@@ -1,0 +1,15 @@
+pub mod SteadyAnswers
+pub mod SteadyAsks
+pub mod SteadyCommands
+pub mod SteadyCommits
+pub mod SteadyFates
+pub mod SteadyMessages
+pub mod SteadyReaps
+pub mod SteadyReplies
+pub mod SteadyRuns
+pub mod SteadySteps
+pub mod SteadyTaking
+pub mod SteadyVerbs
+pub use Rattle.container_steady.proofs.SteadyFinds
+pub use Rattle.container_steady.proofs.SteadyLookups
+pub use Rattle.container_steady.proofs.SteadyRecords

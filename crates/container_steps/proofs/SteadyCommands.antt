@@ -1,0 +1,358 @@
+-- Commands keep a record steady.
+use Rattle.std.proofs.Common.{◌≡◌, ◌≤◌, ◌<◌, inl, inr, ℕ, zero, suc, ◌+◌, Bool, true, false, not, List, [], ◌∷◌, ◌++◌, length, Option, Some, None, Result, Ok, Err, refl, sym, ap, ◌∙◌, arith, subst, ◌==◌}
+use Rattle.std.proofs.lemmas.Bool.{eqb-true, eqb-false, leb-false, ne_eqb}
+use Rattle.std.specs.Prelude.{IfSome, IsOkAnd, is_some, nat_lt, nat_le, ◌||◌, slice_get}
+use Rattle.wire_msgs.specs.Found.{find, put, nth}
+use Rattle.wire_msgs.specs.declared.operation.Operation.{Operation}
+use Rattle.wire_msgs.specs.declared.operation.Operation.TheVariants.{InitNew, Load, Save}
+use Rattle.grant_core.specs.declared.grant_states.GrantState.{GrantState}
+use Rattle.grant_core.specs.declared.grant_states.GrantState.TheVariants.{Free, Granting, Held, Revoking}
+use Rattle.grant_core.specs.declared.grant_states.Claim.{Claim}
+use Rattle.object_state.specs.Both as both
+use Rattle.storage_tree.specs.declared.streams.NamedStream.{NamedStream}
+use Rattle.embed_core.specs.Kinds.{Kind, Note, Table, Drawing}
+use Rattle.object_parts.specs.Limits.{is_within}
+use Rattle.object_parts.specs.declared.area.Area.{Area}
+use Rattle.ole_parts.specs.CompObjs.{PAST_USER_TYPE}
+use Rattle.container_model.specs.declared.record.Link.{Link}
+use Rattle.container_model.specs.declared.record.Object.{Object}
+use Rattle.container_model.specs.declared.record.Frame.{Frame}
+use Rattle.container_model.specs.declared.record.Phase.{Phase}
+use Rattle.container_model.specs.declared.record.Phase.TheVariants.{Idle, Saving}
+use Rattle.container_model.specs.declared.command.Command.TheVariants as command
+use Rattle.container_model.specs.declared.answer.Action.TheVariants.{End}
+use Rattle.container_model.specs.declared.fault.ContainerFault.{ContainerFault}
+use Rattle.container_model.specs.declared.fault.ContainerFault.TheVariants.{NoSuch, Busy, InDoubt as Doubtful, Full, NumbersSpent, WrongState, UnknownClass}
+use Rattle.container_model.specs.Record.{Record, Took, MOST_FRAMES, MOST_OBJECTS, MOST_SERVERS, MARGIN, is_object, is_alive, is_asked, is_busy, is_claim, is_moving, is_saving, is_doubtful, count_alive, count_objects, is_unreaped, acts, counts_none, without_first, asked_link, asked_object}
+use Rattle.grant_core.specs.Grants.{waiting}
+use Rattle.container_model.specs.Commands
+use Rattle.container_steady.specs.Roles.{IsClaim, IsPlain, Other, Role, SteadyGrant, role_in}
+use Rattle.container_steady.specs.Steady.{SteadyLink, SteadyObject, SteadyFrame, InOrder, Steady, IsBeginning, IsTimely, EndsWell, ended}
+use Rattle.container_steps.specs.Steps.{SteadyAfterCommands}
+use Rattle.container_steady.proofs.SteadyLookups.{each_found, each_weaker, each_both, each_put, each_map, each_append, each_set, each_nth, pairs_put, pairs_map, pairs_append, nth_append, none_busy}
+use Rattle.container_steady.proofs.SteadyCounts.{count_put, count_map, count_more, count_without, each_without, pairs_without}
+use Rattle.container_steady.proofs.SteadyLinks.{link_moved, save_asked}
+use Rattle.container_steady.proofs.SteadyRecords.{if_told, unless_ok, or_false, some_and, and_some, if_weaker, Held as HeldIn, Apart, apart_none, IsOut, TookPlace, order_both, settle_steady}
+use Rattle.container_steady.proofs.SteadyTests.{idle_of, not_false, none_of, found_numbered, asked_follows, link_asked}
+use Rattle.container_steady.proofs.SteadyMoves.{set_object, unset_object}
+use Rattle.container_steady.proofs.SteadyClaims.{KeepsLink, LinkStays, append_back, claim_kept, grant_kept, keeps_append, keeps_map, keeps_put, keeps_refl, keeps_without, set_back}
+use Rattle.container_steps.proofs.SteadyAsks.{edit_at_keeps}
+use Rattle.container_steps.proofs.SteadyVerbs.{close_keeps, verb_keeps}
+
+-- a new frame
+framed : (r : Record) (frame : Frame) (o : Object) → SteadyObject r o → SteadyObject (record r { frames = r.frames ++ frame ∷ [] }) o
+framed r frame o h = record { drawn = h.drawn; within = h.within; user_type = h.user_type; linked = nth_append (HeldIn r o.number o.link) r.frames frame o.frame h.linked }
+
+-- no frame that is free is claimed
+free_grant : (r : Record) (f : ℕ) (s : GrantState) → s ≡ Free → SteadyGrant r f s
+free_grant r f s e = subst (SteadyGrant r f) (sym e) (record { apart = tt; holder = tt; next = tt })
+
+-- where the objects stay
+same_grants : (r u : Record) (f : ℕ) (s : GrantState) → u.objects ≡ r.objects → r.last_g ≤ u.last_g → SteadyGrant r f s → SteadyGrant u f s
+same_grants r u f s e le h = grant_kept r u f s (λ c names k. claim_kept r u f c (subst (λ (os : List Object). KeepsLink r.objects os c.object) (sym e) (keeps_refl r.objects c.object)) le k) h
+
+frame_steady : (r : Record) (frame : Frame) → Steady r → SteadyFrame frame → frame.ui.state ≡ Free → Steady (record r { frames = r.frames ++ frame ∷ [] })
+frame_steady r frame h f free = record {
+  frames = each_append SteadyFrame r.frames frame h.frames f;
+  objects = each_weaker (SteadyObject r) (SteadyObject (record r { frames = r.frames ++ frame ∷ [] })) r.objects (framed r frame) h.objects;
+  order = h.order;
+  count = h.count;
+  grants = λ i x e. elim (append_back r.frames frame x i e) [
+    | inl old ↦ same_grants r (record r { frames = r.frames ++ frame ∷ [] }) i x.ui.state refl (omega arith) (h.grants i x old)
+    | inr new ↦ free_grant (record r { frames = r.frames ++ frame ∷ [] }) i x.ui.state (ap (λ (y : Frame). y.ui.state) (sym new) ∙ free)
+  ];
+}
+
+new_keeps : (r : Record) (name : List ℕ) (w h : ℕ) (t : Took) → Steady r → Commands.new r name w h ≡ Ok t → Steady t.rec
+new_keeps r name w h t s e =
+    let a = unless_ok (Commands.is_named name r.frames) Busy _ t e in
+    let b = unless_ok (not (Commands.is_size w h)) WrongState _ t a.1 in
+    let c = unless_ok (nat_le MOST_FRAMES (length r.frames)) Full _ t b.1 in
+    let d = unless_ok (nat_le r.numbers (length r.frames)) NumbersSpent _ t c.1 in
+    let made = d.1 in
+    let at : Commands.new_made r name w h ≡ t = cc in
+    subst (λ (z : Took). Steady z.rec) at (frame_steady r (Commands.new_frame name w h) s (record { asked = refl; phase = tt }) refl)
+
+-- a new object
+drawn_more : (r : Record) (o a : Object) → SteadyObject r o → SteadyObject (record r { objects = r.objects ++ a ∷ []; last_object = r.last_object + 1 }) o
+drawn_more r o a h = record { drawn = (let d = h.drawn in omega arith); within = h.within; user_type = h.user_type; linked = h.linked }
+
+object_steady : (r : Record) (a : Object) (frame : Frame) → Steady r → a.number ≡ r.last_object + 1 → a.link ≡ None → nth r.frames a.frame ≡ Some frame
+    → is_within a.work ≡ true → nat_lt (length a.user_type) PAST_USER_TYPE ≡ true → count_objects a.frame r.objects < MOST_OBJECTS → Steady (record r { objects = r.objects ++ a ∷ []; last_object = r.last_object + 1 })
+object_steady r a frame s n l f w u room =
+    let after : Record = record r { objects = r.objects ++ a ∷ []; last_object = r.last_object + 1 } in
+    record {
+      frames = s.frames;
+      objects = each_append (SteadyObject after) r.objects a (each_weaker (SteadyObject r) (SteadyObject after) r.objects (λ o h. drawn_more r o a h) s.objects)
+          (record { drawn = omega arith; within = w; user_type = u; linked = and_some (HeldIn r a.number a.link) (nth r.frames a.frame) frame f (subst (λ (z : Option Link). HeldIn r a.number z frame) (sym l) tt) });
+      order = pairs_append InOrder r.objects a s.order (each_weaker (SteadyObject r) (λ (o : Object). InOrder o a) r.objects
+          (λ o h. record { rising = (let d = h.drawn in omega arith); apart = subst (λ (z : Option Link). Apart o.link z) (sym l) (apart_none o.link) }) s.objects);
+      count = λ g. count_more MOST_OBJECTS g a r.objects (s.count g) room;
+      grants = λ f x e. grant_kept r after f x.ui.state (λ c names k. claim_kept r after f c (keeps_append r.objects c.object a) (omega arith) k) (s.grants f x e);
+    }
+
+user_type_fits : (kind : Kind) → nat_lt (length (Commands.user_type kind)) PAST_USER_TYPE ≡ true
+user_type_fits Note = refl
+user_type_fits Table = refl
+user_type_fits Drawing = refl
+
+insert_at_keeps : (r : Record) (f : ℕ) (kind : Kind) (area : Area) (found : Option Frame) (t : Took) → nth r.frames f ≡ found → Steady r → Commands.insert_at r f kind area found ≡ Ok t → Steady t.rec
+insert_at_keeps r f kind area None t g s e = cc
+insert_at_keeps r f kind area (Some frame) t g s e =
+    let a = unless_ok (is_doubtful frame.phase) Doubtful _ t e in
+    let b = unless_ok (is_saving frame.phase) Busy _ t a.1 in
+    let c = unless_ok (Commands.is_empty_area area) WrongState _ t b.1 in
+    let d = unless_ok (nat_le MOST_OBJECTS (count_objects f r.objects)) Full _ t c.1 in
+    let n = unless_ok (nat_le r.numbers r.last_object) NumbersSpent _ t d.1 in
+    let made = n.1 in
+    let at : Commands.insert_made r f kind area ≡ t = cc in
+    subst (λ (z : Took). Steady z.rec) at (object_steady r (Commands.new_object (r.last_object + 1) f kind area) frame s refl refl g refl (user_type_fits kind) (leb-false MOST_OBJECTS (count_objects f r.objects) d.0))
+
+-- a new server
+get_unreaped : (servers : List Bool) (i : ℕ) → is_unreaped (slice_get servers i) ≡ true → is_unreaped (slice_get (servers ++ false ∷ []) i) ≡ true
+get_unreaped [] i e = absurd (cc)
+get_unreaped (b ∷ bs) zero e = e
+get_unreaped (b ∷ bs) (suc i) e = get_unreaped bs i e
+
+still_unreaped : (servers : List Bool) (inc : ℕ) → is_unreaped (nth servers inc) ≡ true → is_unreaped (nth (servers ++ false ∷ []) inc) ≡ true
+still_unreaped servers zero e = absurd (cc)
+still_unreaped servers (suc i) e = get_unreaped servers i e
+
+started_link : (r : Record) (n : ℕ) (link : Option Link) (frame : Frame) → HeldIn r n link frame → HeldIn (record r { servers = r.servers ++ false ∷ [] }) n link frame
+started_link r n link frame h = if_weaker (SteadyLink r.servers r.last_act frame.phase frame.k (role_in frame.ui.state n)) (SteadyLink (r.servers ++ false ∷ []) r.last_act frame.phase frame.k (role_in frame.ui.state n)) link
+    (λ l k. link_moved r.servers (r.servers ++ false ∷ []) r.last_act r.last_act frame.phase frame.k (role_in frame.ui.state n) l k.acts_drawn (still_unreaped r.servers l.inc k.servers_told) k) h
+
+-- objects whose links were moved
+pub moved_object : (r u : Record) (o : Object) → u.frames ≡ r.frames → r.last_object ≤ u.last_object → ((frame : Frame) → HeldIn r o.number o.link frame → HeldIn u o.number o.link frame) → SteadyObject r o → SteadyObject u o
+moved_object r u o ef le k h =
+    let s = some_and (HeldIn r o.number o.link) (nth r.frames o.frame) h.linked in
+    record {
+      drawn = (let d = h.drawn in omega arith);
+      within = h.within;
+      user_type = h.user_type;
+      linked = and_some (HeldIn u o.number o.link) (nth u.frames o.frame) s.0 (ap (λ (fs : List Frame). nth fs o.frame) ef ∙ s.1) (k s.0 s.2);
+    }
+
+start_steady : (r : Record) → Steady r → Steady (record r { servers = r.servers ++ false ∷ [] })
+start_steady r s =
+    let after : Record = record r { servers = r.servers ++ false ∷ [] } in
+    record {
+      frames = s.frames;
+      objects = each_weaker (SteadyObject r) (SteadyObject after) r.objects (λ o h. moved_object r after o refl (omega arith) (started_link r o.number o.link) h) s.objects;
+      order = s.order;
+      count = s.count;
+      grants = λ f x e. same_grants r after f x.ui.state refl (omega arith) (s.grants f x e);
+    }
+
+start_keeps : (r : Record) (t : Took) → Steady r → Commands.start r ≡ Ok t → Steady t.rec
+start_keeps r t s e =
+    let a = unless_ok (nat_le MOST_SERVERS (count_alive r.servers)) Full _ t e in
+    let b = unless_ok (nat_le r.numbers (length r.servers)) NumbersSpent _ t a.1 in
+    let made = b.1 in
+    let at : Commands.start_made r ≡ t = cc in
+    subst (λ (z : Took). Steady z.rec) at (start_steady r s)
+
+-- a passive object has no part in its frame's grant
+unclaimed : (r : Record) (f : ℕ) (c : Claim) (x : Object) → IsClaim r f c → find (is_object x.number) r.objects ≡ Some x → x.link ≡ None → c.object ≡ x.number → ⊥
+unclaimed r f c x h found none e =
+    let same = sym (ap (λ (n : ℕ). find (is_object n) r.objects) e) ∙ h.found in
+    let both = sym found ∙ same in
+    let is : x ≡ h.object = cc in
+    let linked : None ≡ Some h.link = sym none ∙ (ap (λ (z : Object). z.link) is ∙ h.linked) in
+    cc
+
+out_of : (r : Record) (f : ℕ) (s : GrantState) (x : Object) → SteadyGrant r f s → find (is_object x.number) r.objects ≡ Some x → x.link ≡ None → role_in s x.number ≡ Other
+out_of r f Free x h found none = refl
+out_of r f (Granting c) x h found none = rw (ne_eqb c.object x.number (unclaimed r f c x h.holder found none)) refl
+out_of r f (Held c tools) x h found none = rw (ne_eqb c.object x.number (unclaimed r f c x h.holder found none)) refl
+out_of r f (Revoking c None) x h found none = rw (ne_eqb c.object x.number (unclaimed r f c x h.holder found none)) refl
+out_of r f (Revoking c (Some d)) x h found none = rw (ne_eqb c.object x.number (unclaimed r f c x h.holder found none), ne_eqb d.object x.number (unclaimed r f d x h.next found none)) refl
+
+pub passive_out : (r : Record) (x : Object) → Steady r → find (is_object x.number) r.objects ≡ Some x → x.link ≡ None → IsOut r x
+passive_out r x s found none frame at = out_of r x.frame frame.ui.state x (s.grants x.frame frame at) found none
+
+-- a passive object begins
+begun_by : (servers : List Bool) (last_act k inc act : ℕ) (op : Operation) → act ≤ last_act → is_unreaped (nth servers inc) ≡ true → IsBeginning op → IsOkAnd (ended (Ok both.loaded) (op ∷ [])) (EndsWell Idle k Other) → IsTimely Idle None op → IsPlain op → SteadyLink servers last_act Idle k Other (Commands.begun_link inc act op)
+begun_by servers last_act k inc act op a s b runs timely plain = record {
+  acts_drawn = a;
+  servers_told = s;
+  first_call = inl (record { states = refl; last = refl; alone = refl; pending = b });
+  waits_behind = tt;
+  queue_runs = runs;
+  save_in_queue = (timely, tt);
+  saved_known = refl;
+  saved_within = tt;
+  shown = λ e. cc;
+  plays = (plain, tt);
+}
+
+begun_steady : (servers : List Bool) (last_act k inc act : ℕ) (op : Operation) → act ≤ last_act → is_unreaped (nth servers inc) ≡ true → IsBeginning op → SteadyLink servers last_act Idle k Other (Commands.begun_link inc act op)
+begun_steady servers last_act k inc act (InitNew class) a s b = begun_by servers last_act k inc act (InitNew class) a s b (record { storage = refl; last_save = tt; running = tt; waits = tt }) tt tt
+begun_steady servers last_act k inc act (Load class content) a s b = begun_by servers last_act k inc act (Load class content) a s b (record { storage = refl; last_save = tt; running = tt; waits = tt }) tt tt
+begun_steady servers last_act k inc act _ a s b = absurd b
+
+pub first_begins : (o : Object) (streams : List NamedStream) → IsBeginning (Commands.first_operation o streams)
+first_begins o [] = tt
+first_begins o (s ∷ ss) = tt
+
+old_act : (r : Record) (o : Object) → SteadyObject r o → IfSome o.link (λ (l : Link). l.act ≤ r.last_act)
+old_act r o h =
+    let s = some_and (HeldIn r o.number o.link) (nth r.frames o.frame) h.linked in
+    if_weaker (SteadyLink r.servers r.last_act s.0.phase s.0.k (role_in s.0.ui.state o.number)) (λ (l : Link). l.act ≤ r.last_act) o.link (λ l k. k.acts_drawn) s.2
+
+module _ (r : Record) (o : Object) (inc : ℕ) (op : Operation) (frame : Frame) (s : Steady r) (found : find (is_object o.number) r.objects ≡ Some o) (alive : is_alive r inc ≡ true) (begins : IsBeginning op) (at : nth r.frames o.frame ≡ Some frame) (idle : frame.phase ≡ Idle) (passive : o.link ≡ None) where
+  abbrev begun : Object
+  begun = record o { link = Some (Commands.begun_link inc (r.last_act + 1) op) }
+
+  abbrev after : Record
+  after = record r { objects = put (is_object o.number) begun r.objects; last_act = r.last_act + 1 }
+
+  raised : (x : Object) → SteadyObject r x → SteadyObject after x
+  raised x h = moved_object r after x refl (omega arith)
+      (λ f held. if_weaker (SteadyLink r.servers r.last_act f.phase f.k (role_in f.ui.state x.number)) (SteadyLink r.servers (r.last_act + 1) f.phase f.k (role_in f.ui.state x.number)) x.link
+      (λ l k. link_moved r.servers r.servers r.last_act (r.last_act + 1) f.phase f.k (role_in f.ui.state x.number) l (let a = k.acts_drawn in omega arith) k.servers_told k) held) h
+
+  here : SteadyObject after begun
+  here =
+      let was = each_found (SteadyObject r) (is_object o.number) r.objects o s.objects found in
+      record {
+        drawn = was.drawn;
+        within = was.within;
+        user_type = was.user_type;
+        linked = and_some (HeldIn after begun.number begun.link) (nth r.frames o.frame) frame at
+            (subst (λ (p : Phase). SteadyLink r.servers (r.last_act + 1) p frame.k (role_in frame.ui.state o.number) (Commands.begun_link inc (r.last_act + 1) op)) (sym idle)
+            (subst (λ (role : Role). SteadyLink r.servers (r.last_act + 1) Idle frame.k role (Commands.begun_link inc (r.last_act + 1) op)) (sym (passive_out r o s found passive frame at))
+            (begun_steady r.servers (r.last_act + 1) frame.k inc (r.last_act + 1) op (omega arith) alive begins)));
+      }
+
+  pub run_steady : Steady after
+  run_steady = record {
+    frames = s.frames;
+    objects = each_put (SteadyObject after) (is_object o.number) begun r.objects (each_weaker (SteadyObject r) (SteadyObject after) r.objects raised s.objects) here;
+    order = pairs_put InOrder (SteadyObject r) (is_object o.number) begun o r.objects
+        (λ y p k. record { rising = k.rising; apart = if_weaker (λ (l : Link). l.act ≤ r.last_act) (λ (l : Link). l.act ≡ r.last_act + 1 → ⊥) y.link (λ l a e. absurd (omega arith)) (old_act r y p) })
+        (λ y p k. record { rising = k.rising; apart = if_weaker (λ (l : Link). l.act ≤ r.last_act) (λ (l : Link). r.last_act + 1 ≡ l.act → ⊥) y.link (λ l a e. absurd (omega arith)) (old_act r y p) })
+        s.order s.objects found;
+    count = λ f. subst (λ (n : ℕ). n ≤ MOST_OBJECTS) (sym (count_put f (is_object o.number) begun o r.objects found refl)) (s.count f);
+    grants = λ f x e. grant_kept r after f x.ui.state (λ c names k. claim_kept r after f c (keeps_put r.objects o.number c.object o begun found refl refl (λ l q. (let was : None ≡ Some l = sym passive ∙ q in cc))) (omega arith) k) (s.grants f x e);
+  }
+
+run_in_keeps : (r : Record) (o : Object) (inc : ℕ) (f : Option Frame) (t : Took) → Steady r → find (is_object o.number) r.objects ≡ Some o → nth r.frames o.frame ≡ f → Commands.run_in r o inc f ≡ Ok t → Steady t.rec
+run_in_keeps r o inc None t s found at e = cc
+run_in_keeps r o inc (Some frame) t s found at e =
+    let a = unless_ok (not (is_alive r inc)) NoSuch _ t e in
+    let b = unless_ok (is_doubtful frame.phase) Doubtful _ t a.1 in
+    let c = unless_ok (is_saving frame.phase || is_busy frame.ui.state o) Busy _ t b.1 in
+    let d = unless_ok (is_some o.link) WrongState _ t c.1 in
+    let k = unless_ok (not (Commands.is_known_class o.class)) UnknownClass _ t d.1 in
+    let n = unless_ok (nat_lt r.numbers MARGIN || nat_le r.numbers r.last_act) NumbersSpent _ t k.1 in
+    let quiet = or_false (is_saving frame.phase) (is_busy frame.ui.state o) c.0 in
+    let made = n.1 in
+    let same : Commands.run_made r o inc ≡ t = cc in
+    subst (λ (z : Took). Steady z.rec) same (run_steady r o inc (Commands.first_operation o o.work.streams) frame s found (not_false (is_alive r inc) a.0) (first_begins o o.work.streams) at (idle_of frame.phase b.0 quiet.0) (none_of o.link d.0))
+
+run_at_keeps : (r : Record) (n inc : ℕ) (o : Option Object) (t : Took) → Steady r → find (is_object n) r.objects ≡ o → Commands.run_at r inc o ≡ Ok t → Steady t.rec
+run_at_keeps r n inc None t s found e = cc
+run_at_keeps r n inc (Some o) t s found e = run_in_keeps r o inc (nth r.frames o.frame) t s (found_numbered n r.objects o found) refl e
+
+-- a save begins
+asked_object_frame : (f : ℕ) (op : Operation) (o : Object) → (asked_object f op o).frame ≡ o.frame
+asked_object_frame f op o = if_told (λ (z : Object). z.frame ≡ o.frame) (o.frame == f) (record o { link = asked_link op o.link }) o (λ e. refl) (λ e. refl)
+
+pub asked_took : (f : ℕ) (op : Operation) (o : Object) → TookPlace (asked_object f op o) o
+asked_took f op o = if_told (λ (z : Object). TookPlace z o) (o.frame == f) (record o { link = asked_link op o.link }) o
+    (λ e. record { number = refl; frame = refl; link = asked_follows op o.link })
+    (λ e. record { number = refl; frame = refl; link = λ l g. (l, g, refl) })
+
+pub asked_stays : (f : ℕ) (op : Operation) (o : Object) → LinkStays o.link (asked_object f op o).link
+asked_stays f op o = if_told (λ (z : Object). LinkStays o.link z.link) (o.frame == f) (record o { link = asked_link op o.link }) o (λ e. link_asked op o.link) (λ e l g. (l, g, refl))
+
+save_held : (servers : List Bool) (last_act k j : ℕ) (role : Role) (phase : Phase) (link : Option Link) → phase ≡ Idle → is_asked link ≡ false → IfSome link (SteadyLink servers last_act phase k role) → IfSome (asked_link (Save j) link) (SteadyLink servers last_act Saving j role)
+save_held servers last_act k j role phase None p q h = tt
+save_held servers last_act k j role phase (Some l) p q h = save_asked servers last_act k role l (subst (λ (z : Phase). SteadyLink servers last_act z k role l) p h) (none_of l.pending q) j
+
+module _ (r : Record) (f : ℕ) (frame : Frame) (s : Steady r) (at : nth r.frames f ≡ Some frame) (idle : frame.phase ≡ Idle) (state : GrantState) (quiet : Commands.any_busy f state r.objects ≡ false) where
+  abbrev saving_now : Record
+  saving_now = Commands.saving r f frame
+
+  saved_object : (o : Object) → SteadyObject r o → (o.frame ≡ f → is_busy state o ≡ false) → SteadyObject saving_now (asked_object f (Save (frame.k + 1)) o)
+  saved_object o h q = if_told (SteadyObject saving_now) (o.frame == f) (record o { link = asked_link (Save (frame.k + 1)) o.link }) o
+      (λ e. let here = eqb-true o.frame f e in
+      let still = or_false (is_asked o.link) (is_claim o.number (waiting state)) (q here) in
+      set_object r saving_now f frame (Commands.saving_frame frame) o (record o { link = asked_link (Save (frame.k + 1)) o.link }) at refl here refl refl refl h.within refl h
+      (save_held r.servers r.last_act frame.k (frame.k + 1) (role_in frame.ui.state o.number) frame.phase o.link idle still.0))
+      (λ e. unset_object r saving_now f (Commands.saving_frame frame) o refl (eqb-false o.frame f e) refl refl refl h)
+
+  grants_stay : (i : ℕ) (x : GrantState) → SteadyGrant r i x → SteadyGrant saving_now i x
+  grants_stay i x h = grant_kept r saving_now i x (λ c names k. claim_kept r saving_now i c
+      (keeps_map r.objects c.object (asked_object f (Save (frame.k + 1))) (λ y. (asked_took f (Save (frame.k + 1)) y).number) (λ y. (asked_took f (Save (frame.k + 1)) y).frame) (λ y found. asked_stays f (Save (frame.k + 1)) y)) (omega arith) k) h
+
+  pub saving_steady : Steady saving_now
+  saving_steady = record {
+    frames = each_set SteadyFrame r.frames f (Commands.saving_frame frame) s.frames (record { asked = (each_nth SteadyFrame r.frames f frame s.frames at).asked; phase = tt });
+    objects = each_map (λ o. SteadyObject r o × (o.frame ≡ f → is_busy state o ≡ false)) (SteadyObject saving_now) (asked_object f (Save (frame.k + 1))) r.objects (λ o k. saved_object o k.0 k.1)
+        (each_both (SteadyObject r) (λ (o : Object). o.frame ≡ f → is_busy state o ≡ false) r.objects s.objects (none_busy f state r.objects quiet));
+    order = pairs_map InOrder (asked_object f (Save (frame.k + 1))) r.objects (order_both (asked_object f (Save (frame.k + 1))) (asked_took f (Save (frame.k + 1)))) s.order;
+    count = λ g. subst (λ (n : ℕ). n ≤ MOST_OBJECTS) (sym (count_map g (asked_object f (Save (frame.k + 1))) r.objects (λ o. (asked_took f (Save (frame.k + 1)) o).frame))) (s.count g);
+    grants = λ i x e. elim (set_back r.frames f i frame (Commands.saving_frame frame) x at e) [
+      | inl same ↦ subst (λ (y : Frame). SteadyGrant saving_now i y.ui.state) same.1 (subst (λ (n : ℕ). SteadyGrant saving_now n frame.ui.state) same.0 (grants_stay f frame.ui.state (s.grants f frame at)))
+      | inr other ↦ grants_stay i x.ui.state (s.grants i x other)
+    ];
+  }
+
+save_at_keeps : (r : Record) (f : ℕ) (found : Option Frame) (t : Took) → Steady r → nth r.frames f ≡ found → Commands.save_at r f found ≡ Ok t → Steady t.rec
+save_at_keeps r f None t s at e = cc
+save_at_keeps r f (Some frame) t s at e =
+    let a = unless_ok (is_doubtful frame.phase) Doubtful _ t e in
+    let b = unless_ok (is_saving frame.phase || is_moving frame.ui.state || Commands.any_busy f frame.ui.state r.objects) Busy _ t a.1 in
+    let c = unless_ok (nat_le r.numbers frame.k || not (Commands.all_have_numbers f r.numbers r.objects)) NumbersSpent _ t b.1 in
+    let quiet = or_false (is_saving frame.phase || is_moving frame.ui.state) (Commands.any_busy f frame.ui.state r.objects) b.0 in
+    let still = or_false (is_saving frame.phase) (is_moving frame.ui.state) quiet.0 in
+    let made = c.1 in
+    let same : Commands.save_made r f frame ≡ t = cc in
+    subst (λ (z : Took). Steady z.rec) same (settle_steady (Commands.saving r f frame) (saving_steady r f frame s at (idle_of frame.phase a.0 still.0) frame.ui.state quiet.1))
+
+-- a passive object goes
+deleted_steady : (r : Record) (o : Object) → Steady r → find (is_object o.number) r.objects ≡ Some o → o.link ≡ None → Steady (record r { objects = without_first (is_object o.number) r.objects })
+deleted_steady r o s found passive =
+    let after : Record = record r { objects = without_first (is_object o.number) r.objects } in
+    record {
+      frames = s.frames;
+      objects = each_weaker (SteadyObject r) (SteadyObject after) after.objects (λ x h. moved_object r after x refl (omega arith) (λ frame held. held) h) (each_without (SteadyObject r) (is_object o.number) r.objects s.objects);
+      order = pairs_without InOrder (is_object o.number) r.objects s.order;
+      count = λ f. (let fewer : count_objects f after.objects ≤ count_objects f r.objects = count_without f (is_object o.number) r.objects in let most : count_objects f r.objects ≤ MOST_OBJECTS = s.count f in omega (arith, fewer, most));
+      grants = λ f x e. grant_kept r after f x.ui.state (λ c names k. claim_kept r after f c (keeps_without r.objects o.number c.object (λ q. unclaimed r f c o k found passive (sym q))) (omega arith) k) (s.grants f x e);
+    }
+
+delete_in_keeps : (r : Record) (o : Object) (f : Option Frame) (t : Took) → Steady r → find (is_object o.number) r.objects ≡ Some o → Commands.delete_in r o f ≡ Ok t → Steady t.rec
+delete_in_keeps r o None t s found e = cc
+delete_in_keeps r o (Some frame) t s found e =
+    let a = unless_ok (is_doubtful frame.phase) Doubtful _ t e in
+    let b = unless_ok (is_saving frame.phase || is_busy frame.ui.state o) Busy _ t a.1 in
+    let c = unless_ok (is_some o.link) WrongState _ t b.1 in
+    let made = c.1 in
+    let same : Commands.delete_made r o ≡ t = cc in
+    subst (λ (z : Took). Steady z.rec) same (deleted_steady r o s found (none_of o.link c.0))
+
+delete_at_keeps : (r : Record) (n : ℕ) (o : Option Object) (t : Took) → Steady r → find (is_object n) r.objects ≡ o → Commands.delete_at r o ≡ Ok t → Steady t.rec
+delete_at_keeps r n None t s found e = cc
+delete_at_keeps r n (Some o) t s found e = delete_in_keeps r o (nth r.frames o.frame) t s (found_numbered n r.objects o found) e
+
+-- a server is to be ended
+kill_keeps : (r : Record) (inc : ℕ) (t : Took) → Steady r → Commands.kill r inc ≡ Ok t → Steady t.rec
+kill_keeps r inc t s e = if_told (λ (z : Result Took ContainerFault). z ≡ Ok t → Steady t.rec) (is_alive r inc) (Ok (counts_none r (acts (End inc ∷ [])))) (Err NoSuch)
+    (λ a g. let same : counts_none r (acts (End inc ∷ [])) ≡ t = cc in subst (λ (z : Took). Steady z.rec) same s)
+    (λ a g. cc) e
+
+-- each command keeps a record steady
+pub on_command_keeps : SteadyAfterCommands
+on_command_keeps r (command.New name w h) t s e = new_keeps r name w h t s e
+on_command_keeps r (command.Insert f kind area) t s e = insert_at_keeps r f (Commands.kind_of kind) area (nth r.frames f) t refl s e
+on_command_keeps r command.Start t s e = start_keeps r t s e
+on_command_keeps r (command.Run o inc) t s e = run_at_keeps r o inc (find (is_object o) r.objects) t s refl e
+on_command_keeps r (command.Edit o bytes) t s e = edit_at_keeps r o bytes (find (is_object o) r.objects) t s refl e
+on_command_keeps r (command.Save f) t s e = save_at_keeps r f (nth r.frames f) t s refl e
+on_command_keeps r (command.Delete o) t s e = delete_at_keeps r o (find (is_object o) r.objects) t s refl e
+on_command_keeps r (command.Kill inc) t s e = kill_keeps r inc t s e
+on_command_keeps r (command.Close o option) t s e = close_keeps r o option t s e
+on_command_keeps r (command.Verb o number) t s e = verb_keeps r o number t s e

@@ -1,0 +1,23 @@
+-- A record is steady whatever was done from the start on.
+use Rattle.std.proofs.Common.{◌≡◌, List, [], ◌∷◌, Ok, subst}
+use Rattle.container_model.specs.Record.{Record, Took, empty}
+use Rattle.container_steady.specs.Steady.{Steady}
+use Rattle.container_steps.specs.Steps.{Input, on_input, Leads, SteadyAlways}
+use Rattle.container_steady.proofs.SteadyRecords.{empty_steady}
+use Rattle.container_steps.proofs.SteadyCommands.{on_command_keeps}
+use Rattle.container_steps.proofs.SteadyMessages.{on_message_keeps}
+use Rattle.container_steps.proofs.SteadyReaps.{on_reap_keeps}
+use Rattle.container_steps.proofs.SteadyCommits.{commit_done_keeps}
+
+on_input_keeps : (r : Record) (x : Input) (t : Took) → Steady r → on_input r x ≡ Ok t → Steady t.rec
+on_input_keeps r (Input.Ordered c) t s e = on_command_keeps r c t s e
+on_input_keeps r (Input.Told link m) t s e = on_message_keeps r link m t s e
+on_input_keeps r (Input.Reaped inc) t s e = on_reap_keeps r inc t s e
+on_input_keeps r (Input.Committed f) t s e = commit_done_keeps r f t s e
+
+runs_keep : (r : Record) (xs : List Input) (u : Record) → Steady r → Leads r xs u → Steady u
+runs_keep r [] u s e = subst Steady e s
+runs_keep r (x ∷ xs) u s e = runs_keep e.0.rec xs u (on_input_keeps r x e.0 s e.1) e.2
+
+pub steady_always : SteadyAlways
+steady_always numbers xs u e = runs_keep (empty numbers) xs u (empty_steady numbers) e

@@ -1,0 +1,236 @@
+-- Verbs and closes keep a record steady.
+use Rattle.std.proofs.Common.{◌≡◌, ℕ, Bool, true, false, not, List, [], ◌∷◌, map, Option, Some, None, Result, Ok, refl, sym, ap, ◌∙◌, arith, subst, if◌then◌else◌, eq-eqb}
+use Rattle.std.specs.Prelude.{IsOkAnd, ◌||◌, ◌&&◌, ℤ, nat_le}
+use Rattle.std.specs.List.{AllByRecursion}
+use Rattle.wire_msgs.specs.Found.{find, nth, put}
+use Rattle.object_state.specs.Laws.{goal_of}
+use Rattle.object_state.specs.Verbs.{activates_ui, close_steps, steps, verb_of}
+use Rattle.object_state.specs.declared.both_states.States.{States}
+use Rattle.object_state.specs.declared.faults.StateFault.{StateFault}
+use Rattle.object_state.specs.declared.operations.CloseOption.{CloseOption}
+use Rattle.object_state.specs.declared.object_states.ObjectState.{ObjectState}
+use Rattle.object_state.specs.declared.object_states.ObjectState.TheVariants.{Passive, UiActive}
+use Rattle.object_state.specs.declared.persist_states.PersistState.{PersistState}
+use Rattle.object_state.specs.declared.persist_states.PersistState.TheVariants.{Normal}
+use Rattle.object_state.specs.declared.verbs.Verb.{Verb}
+use Rattle.object_state.specs.declared.verbs.Verb.TheVariants.{Primary, Show, Hide, InPlaceActivate}
+use Rattle.object_state.specs.declared.verbs.Verb.TheVariants as verb
+use Rattle.object_state.specs.declared.verbs.Step.{Step}
+use Rattle.object_state.specs.declared.verbs.Step.TheVariants as step
+use Rattle.grant_core.specs.Frames.{after, kept}
+use Rattle.grant_core.specs.Grants.{Ask, table, waiting}
+use Rattle.grant_core.specs.declared.grant_states.Claim.{Claim}
+use Rattle.grant_core.specs.declared.grant_states.Tools.{Tools}
+use Rattle.grant_core.specs.declared.grant_states.GrantState.{GrantState}
+use Rattle.grant_core.specs.declared.grant_states.GrantState.TheVariants as state
+use Rattle.container_model.specs.declared.record.Link.{Link}
+use Rattle.container_model.specs.declared.record.Object.{Object}
+use Rattle.container_model.specs.declared.record.Frame.{Frame}
+use Rattle.container_model.specs.declared.record.Phase.{Phase}
+use Rattle.container_model.specs.declared.record.Phase.TheVariants.{Idle}
+use Rattle.container_model.specs.declared.fault.ContainerFault.{ContainerFault}
+use Rattle.container_model.specs.declared.fault.ContainerFault.TheVariants.{Busy, InDoubt as Doubtful, NumbersSpent}
+use Rattle.container_model.specs.Grants.{grant_of, moved}
+use Rattle.container_model.specs.Record.{Record, Took, counts_none, has_numbers, is_asked, is_busy, is_claim, is_doubtful, is_moving, is_object, is_saving, quiet_answer, with_frame, with_object}
+use Rattle.container_model.specs.Verbs as verbs
+use Rattle.container_model.specs.Verbs.{claim_of, gives_up, leaving_made, operation_of, stepped_link, takes, taking_made}
+use Rattle.container_steady.specs.Roles.{IsClaim, IsPlain, IsShown, Other, Giving, Role, SteadyGrant, role_in}
+use Rattle.container_steady.specs.Steady.{ended, EndsAs, EndsWell, SteadyLink, Steady}
+use Rattle.container_steps.proofs.SteadyAsks.{held_idle, free, linked_keeps, was}
+use Rattle.container_steady.proofs.SteadyLinks.{asked_each, quiet_asked, quiet_ends, quiet_plays}
+use Rattle.container_steady.proofs.SteadyMoves.{But, SteadyBut, all_steady, gives_it, has_it, move_but, moved_to, parts_ended, put_but, set_object}
+use Rattle.container_steady.proofs.SteadyRecords.{if_told, unless_ok, or_false}
+use Rattle.container_steady.proofs.SteadyRoles.{AtHeld, AtRest, holds, rests, at_rest, is_ui}
+use Rattle.container_steps.proofs.SteadySteps.{LeavesFrom, TakesFrom, hidden, placed, leaves_nothing, leaves_frame, leaves_plain, closing_from, close_runs, leaving_from, steps_timely, taking_from, verb_runs}
+use Rattle.container_steps.proofs.SteadyTaking.{still_at, taking_keeps}
+use Rattle.container_steady.proofs.SteadyTests.{idle_of, found_numbered}
+
+-- where an object's own claim is, its activation has it
+pub claim_act : (r : Record) (f : ℕ) (c : Claim) (x : Object) (l : Link) → IsClaim r f c → c.object ≡ x.number → find (is_object x.number) r.objects ≡ Some x → x.link ≡ Some l → l.act ≡ c.act
+claim_act r f c x l h e found is =
+    let both = sym (ap (λ (n : ℕ). find (is_object n) r.objects) e ∙ found) ∙ h.found in
+    let same : x ≡ h.object = cc in
+    let links : Some l ≡ Some h.link = sym is ∙ (ap (λ (z : Object). z.link) same ∙ h.linked) in
+    let link : l ≡ h.link = cc in
+    ap (λ (z : Link). z.act) link ∙ h.act
+
+own_ask : (s : GrantState) (holder : Claim) (tools : Tools) (n act : ℕ) → s ≡ state.Held holder tools → act ≡ holder.act → kept s (table s (Ask (record { object = n; act = act; g = grant_of s }))) ≡ state.Revoking holder None
+own_ask s holder tools n act e a = rw (e, eq-eqb act holder.act a, eq-eqb holder.g holder.g refl) refl
+
+-- who gives a frame up, and nobody waits
+pub ended_grant : (r : Record) (f : ℕ) (s t : GrantState) (holder : Claim) (tools : Tools) → s ≡ state.Held holder tools → t ≡ state.Revoking holder None → SteadyGrant r f s → SteadyGrant r f t
+ended_grant r f s t holder tools e q h =
+    let was : SteadyGrant r f (state.Held holder tools) = subst (SteadyGrant r f) e h in
+    subst (SteadyGrant r f) (sym q) (record { apart = tt; holder = was.holder; next = tt })
+
+pub ended_parts : (s t : GrantState) (holder : Claim) (tools : Tools) (n : ℕ) → s ≡ state.Held holder tools → t ≡ state.Revoking holder None → holder.object ≡ n → (o : Object) → But (n ∷ []) (λ (x : Object). role_in t x.number ≡ role_in s x.number) o
+ended_parts s t holder tools n e q named o = rw (e, q) (subst (λ (m : ℕ). But (m ∷ []) (λ (x : Object). role_in (state.Revoking holder None) x.number ≡ role_in (state.Held holder tools) x.number) o) named (parts_ended holder tools o))
+
+module _ (r : Record) (o : Object) (frame : Frame) (l : Link) (s : Steady r) (found : find (is_object o.number) r.objects ≡ Some o) (at : nth r.frames o.frame ≡ Some frame) (idle : frame.phase ≡ Idle) (quiet : is_asked o.link ≡ false) (is : o.link ≡ Some l) (unclaimed : is_claim o.number (waiting frame.ui.state) ≡ false) where
+  abbrev part : Role
+  part = role_in frame.ui.state o.number
+
+  held : SteadyLink r.servers r.last_act Idle frame.k part l
+  held = held_idle r o frame l s found at idle quiet is
+
+  still : l.pending ≡ None
+  still = free r o frame l s found at idle quiet is
+
+  ends : EndsWell Idle frame.k part l.states
+  ends = quiet_ends r.servers r.last_act frame.k part l held still
+
+  rest : AtRest frame.ui.state o.number
+  rest = at_rest frame.ui.state o.number unclaimed (quiet_plays r.servers r.last_act frame.k part l held still)
+
+  -- the frame is given up
+  giving_steady : (ts : List Step) (w : States) (h : AtHeld frame.ui.state o.number) → ended (Ok l.states) (map (operation_of 0) (step.UiDeactivate ∷ ts)) ≡ Ok w → EndsWell Idle frame.k Other w → l.states.object ≡ UiActive → AllByRecursion IsPlain (map (operation_of 0) ts)
+      → Steady (leaving_made r frame o l (step.UiDeactivate ∷ ts)).rec
+  giving_steady ts w h runs end shown plain =
+      let ops = map (operation_of 0) (step.UiDeactivate ∷ ts) in
+      let claims : SteadyGrant r o.frame (state.Held h.holder h.tools) = subst (SteadyGrant r o.frame) h.is (s.grants o.frame frame at) in
+      let act = claim_act r o.frame h.holder o l claims.holder h.named found is in
+      let ui = after frame.ui (Ask (claim_of o l (grant_of frame.ui.state))) in
+      let to : ui.state ≡ state.Revoking h.holder None = own_ask frame.ui.state h.holder h.tools o.number l.act h.is act in
+      let u = moved_to r o.frame frame ui r.last_g in
+      let but : SteadyBut (o.number ∷ []) u = move_but r o.frame frame ui r.last_g (o.number ∷ []) s at (omega arith)
+      (ended_grant r o.frame frame.ui.state ui.state h.holder h.tools h.is to (s.grants o.frame frame at)) (ended_parts frame.ui.state ui.state h.holder h.tools o.number h.is to h.named) in
+      let m = (stepped_link 0 l (step.UiDeactivate ∷ ts)).link in
+      let asked = asked_each l ops held.waits_behind in
+      let role : role_in ui.state o.number ≡ Giving h.holder.g = ap (λ (z : GrantState). role_in z o.number) to ∙ gives_it h.holder None o.number h.named in
+      let link : SteadyLink r.servers r.last_act Idle frame.k (Giving h.holder.g) m = quiet_asked r.servers r.last_act frame.k part l held still Idle frame.k (Giving h.holder.g) ops
+      (subst (λ (z : Result States StateFault). IsOkAnd z (EndsWell Idle frame.k (Giving h.holder.g))) (sym runs) (record { storage = end.storage; last_save = end.last_save; running = end.running; waits = tt }))
+      (steps_timely 0 l.saved (step.UiDeactivate ∷ ts)) held.saved_known shown plain in
+      let x : Object = record o { link = Some m } in
+      all_steady (record u { objects = put (is_object o.number) x u.objects })
+      (put_but u [] o x but found
+      (record { number = refl; frame = refl; link = λ n e. (let same : m ≡ n = cc in (l, is, sym (ap (λ (z : Link). z.act) same) ∙ asked.act)) })
+      (λ n e. (let both = sym is ∙ e in let same : l ≡ n = cc in (m, refl, asked.act ∙ ap (λ (z : Link). z.act) same)))
+      (set_object r u o.frame frame (record frame { ui = ui }) o x at refl refl refl refl refl (was r o frame l s found at idle quiet is).within refl (was r o frame l s found at idle quiet is)
+      (λ q. subst (λ (p : Phase). SteadyLink r.servers r.last_act p frame.k (role_in ui.state o.number) m) (sym idle) (subst (λ (z : Role). SteadyLink r.servers r.last_act Idle frame.k z m) (sym role) link))))
+
+  -- other steps leave it to whoever has it
+  plain_steady : (ts : List Step) (w : States) → ended (Ok l.states) (map (operation_of 0) ts) ≡ Ok w → EndsWell Idle frame.k Other w → gives_up ts ≡ false → part ≡ Other → AllByRecursion IsPlain (map (operation_of 0) ts) → Steady (leaving_made r frame o l ts).rec
+  plain_steady ts w runs end keeps other plain =
+      let ops = map (operation_of 0) ts in
+      let m = (stepped_link 0 l ts).link in
+      let link : SteadyLink r.servers r.last_act Idle frame.k Other m = quiet_asked r.servers r.last_act frame.k part l held still Idle frame.k Other ops
+      (subst (λ (z : Result States StateFault). IsOkAnd z (EndsWell Idle frame.k Other)) (sym runs) end)
+      (steps_timely 0 l.saved ts) held.saved_known (subst (λ (z : Role). IsShown z l.states.object) other held.shown) plain in
+      let here : Steady (with_object r (record o { link = Some m })) = linked_keeps r o frame l s found at idle quiet is m (asked_each l ops held.waits_behind).act (subst (λ (z : Role). SteadyLink r.servers r.last_act Idle frame.k z m) (sym other) link) in
+      subst (λ (b : Bool). Steady (with_object (if b then with_frame r o.frame (moved frame (Ask (claim_of o l (grant_of frame.ui.state)))) else r) (record o { link = Some m }))) (sym keeps) here
+
+  shown_other : part ≡ Other → l.states.object ≡ UiActive → ⊥
+  shown_other e = subst (λ (z : Role). IsShown z l.states.object) e held.shown
+
+  shown_holds : AtHeld frame.ui.state o.number → l.states.object ≡ UiActive
+  shown_holds h = subst (λ (z : Role). IsShown z l.states.object) (ap (λ (z : GrantState). role_in z o.number) h.is ∙ has_it h.holder h.tools o.number h.named) held.shown
+
+  nothing_steady : Steady (leaving_made r frame o l []).rec
+  nothing_steady = linked_keeps r o frame l s found at idle quiet is l refl held
+
+  leaving_at : (v : ObjectState) (ts : List Step) (w : States) → l.states.object ≡ v → LeavesFrom v ts → ended (Ok l.states) (map (operation_of 0) ts) ≡ Ok w → EndsWell Idle frame.k Other w → Steady (leaving_made r frame o l ts).rec
+  leaving_at v ts w e leaves_nothing runs end = nothing_steady
+  leaving_at v ts w e (leaves_frame plain) runs end = elim rest [
+    | holds h ↦ giving_steady _ w h runs end e plain
+    | rests other ↦ absurd (shown_other other e)
+  ]
+  leaving_at v ts w e (leaves_plain unshown keeps each) runs end = elim rest [
+    | holds h ↦ absurd (let no : true ≡ false = sym (ap is_ui (sym e ∙ shown_holds h)) ∙ unshown in cc)
+    | rests other ↦ plain_steady ts w runs end keeps other each
+  ]
+
+  -- the states are those of the tables' rows
+  rows : l.states ≡ record { persist = record { state = Normal; last_save = l.states.persist.last_save }; object = l.states.object }
+  rows = ap (λ (p : PersistState). record { persist = record { state = p; last_save = l.states.persist.last_save }; object = l.states.object }) ends.storage
+
+  pub closing_keeps : (option : CloseOption) (ts : List Step) → close_steps option l.states.object ≡ Some ts → Steady (leaving_made r frame o l ts).rec
+  closing_keeps option ts e = leaving_at l.states.object ts (record { persist = record { state = Normal; last_save = l.states.persist.last_save }; object = Passive }) refl (closing_from option l.states.object ts e)
+      (ap (λ (v : States). ended (Ok v) (map (operation_of 0) ts)) rows ∙ close_runs option 0 l.states.object ts l.states.persist.last_save e)
+      (record { storage = refl; last_save = tt; running = tt; waits = tt })
+
+  goal_running : (v : Verb) → EndsAs Idle (goal_of v)
+  goal_running Primary = tt
+  goal_running Show = tt
+  goal_running verb.Open = tt
+  goal_running Hide = tt
+  goal_running verb.UiActivate = tt
+  goal_running InPlaceActivate = tt
+
+  pub leaving_keeps : (v : Verb) (ts : List Step) → steps v l.states.object ≡ Some ts → takes ts ≡ false → Steady (leaving_made r frame o l ts).rec
+  leaving_keeps v ts e n = leaving_at l.states.object ts (record { persist = record { state = Normal; last_save = l.states.persist.last_save }; object = goal_of v }) refl (leaving_from v l.states.object ts e n)
+      (ap (λ (v : States). ended (Ok v) (map (operation_of 0) ts)) rows ∙ verb_runs v 0 l.states.object ts l.states.persist.last_save e)
+      (record { storage = refl; last_save = tt; running = goal_running v; waits = tt })
+
+  -- what a verb or a close makes
+  takes_ui : (v : Verb) (a : ObjectState) (ts : List Step) → TakesFrom v a ts → activates_ui v ≡ true
+  takes_ui v a ts (hidden e) = e
+  takes_ui v a ts (placed e) = e
+
+  stepping_keeps : (v : Verb) (ts : List Step) (t : Took) → (activates_ui v && is_moving frame.ui.state) ≡ false → steps v l.states.object ≡ Some ts → verbs.stepping r frame o l ts ≡ Ok t → Steady t.rec
+  stepping_keeps v ts t moves e g = if_told (λ (z : Result Took ContainerFault). z ≡ Ok t → Steady t.rec) (takes ts) (verbs.taking r frame o l ts) (Ok (leaving_made r frame o l ts))
+      (λ b q.
+      let made = (unless_ok (nat_le r.numbers r.last_g || not (verbs.holder_has_numbers r (verbs.holder_of frame.ui.state))) NumbersSpent _ t q).1 in
+      let same : taking_made r frame o l ts ≡ t = cc in
+      let from = taking_from v l.states.object ts e b in
+      let rest : is_moving frame.ui.state ≡ false = subst (λ (z : Bool). (z && is_moving frame.ui.state) ≡ false) (takes_ui v l.states.object ts from) moves in
+      subst (λ (z : Took). Steady z.rec) same (taking_keeps r o frame l s found at idle quiet is unclaimed v l.states.object ts refl from (still_at frame.ui.state rest)))
+      (λ b q. let same : leaving_made r frame o l ts ≡ t = cc in subst (λ (z : Took). Steady z.rec) same (leaving_keeps v ts e b)) g
+
+  verb_steps_keep : (v : Verb) (row : Option (List Step)) (t : Took) → (activates_ui v && is_moving frame.ui.state) ≡ false → steps v l.states.object ≡ row → verbs.verb_steps r frame o l row ≡ Ok t → Steady t.rec
+  verb_steps_keep v None t moves e g = cc
+  verb_steps_keep v (Some []) t moves e g = (let same : counts_none r quiet_answer ≡ t = cc in subst (λ (z : Took). Steady z.rec) same s)
+  verb_steps_keep v (Some (x ∷ xs)) t moves e g = stepping_keeps v (x ∷ xs) t moves e (unless_ok (not (has_numbers r.numbers l)) NumbersSpent _ t g).1
+
+  close_steps_keep : (option : CloseOption) (row : Option (List Step)) (t : Took) → close_steps option l.states.object ≡ row → verbs.close_steps_made r frame o l row ≡ Ok t → Steady t.rec
+  close_steps_keep option None t e g = cc
+  close_steps_keep option (Some ts) t e g = (let same : leaving_made r frame o l ts ≡ t = cc in subst (λ (z : Took). Steady z.rec) same (closing_keeps option ts e))
+
+  pub verb_linked_keeps : (v : Option Verb) (t : Took) → (verbs.wants_ui v && is_moving frame.ui.state) ≡ false → verbs.verb_linked r frame o v (Some l) ≡ Ok t → Steady t.rec
+  verb_linked_keeps None t moves g = cc
+  verb_linked_keeps (Some v) t moves g = verb_steps_keep v (steps v l.states.object) t moves refl g
+
+  pub close_linked_keeps : (option : CloseOption) (t : Took) → verbs.close_linked r frame o option (Some l) ≡ Ok t → Steady t.rec
+  close_linked_keeps option t g = close_steps_keep option (close_steps option l.states.object) t refl (unless_ok (not (has_numbers r.numbers l)) NumbersSpent _ t g).1
+
+verb_link_keeps : (r : Record) (o : Object) (frame : Frame) (v : Option Verb) (link : Option Link) (t : Took) → Steady r → find (is_object o.number) r.objects ≡ Some o → nth r.frames o.frame ≡ Some frame → frame.phase ≡ Idle → is_asked o.link ≡ false → is_claim o.number (waiting frame.ui.state) ≡ false
+    → (verbs.wants_ui v && is_moving frame.ui.state) ≡ false → o.link ≡ link → verbs.verb_linked r frame o v link ≡ Ok t → Steady t.rec
+verb_link_keeps r o frame v None t s found at idle quiet unclaimed moves is e = cc
+verb_link_keeps r o frame v (Some l) t s found at idle quiet unclaimed moves is e = verb_linked_keeps r o frame l s found at idle quiet is unclaimed v t moves e
+
+verb_in_keeps : (r : Record) (o : Object) (v : Option Verb) (f : Option Frame) (t : Took) → Steady r → find (is_object o.number) r.objects ≡ Some o → nth r.frames o.frame ≡ f → verbs.verb_in r o v f ≡ Ok t → Steady t.rec
+verb_in_keeps r o v None t s found at e = cc
+verb_in_keeps r o v (Some frame) t s found at e =
+    let a = unless_ok (is_doubtful frame.phase) Doubtful _ t e in
+    let b = unless_ok (is_saving frame.phase || is_busy frame.ui.state o || (verbs.wants_ui v && is_moving frame.ui.state)) Busy _ t a.1 in
+    let c = or_false (is_saving frame.phase || is_busy frame.ui.state o) (verbs.wants_ui v && is_moving frame.ui.state) b.0 in
+    let quiet = or_false (is_saving frame.phase) (is_busy frame.ui.state o) c.0 in
+    let still = or_false (is_asked o.link) (is_claim o.number (waiting frame.ui.state)) quiet.1 in
+    verb_link_keeps r o frame v o.link t s found at (idle_of frame.phase a.0 quiet.0) still.0 still.1 c.1 refl b.1
+
+verb_at_keeps : (r : Record) (n : ℕ) (v : Option Verb) (o : Option Object) (t : Took) → Steady r → find (is_object n) r.objects ≡ o → verbs.verb_at r v o ≡ Ok t → Steady t.rec
+verb_at_keeps r n v None t s found e = cc
+verb_at_keeps r n v (Some o) t s found e = verb_in_keeps r o v (nth r.frames o.frame) t s (found_numbered n r.objects o found) refl e
+
+pub verb_keeps : (r : Record) (n : ℕ) (number : ℤ) (t : Took) → Steady r → verbs.verb r n number ≡ Ok t → Steady t.rec
+verb_keeps r n number t s e = verb_at_keeps r n (verb_of number) (find (is_object n) r.objects) t s refl e
+
+close_link_keeps : (r : Record) (o : Object) (frame : Frame) (option : CloseOption) (link : Option Link) (t : Took) → Steady r → find (is_object o.number) r.objects ≡ Some o → nth r.frames o.frame ≡ Some frame → frame.phase ≡ Idle → is_asked o.link ≡ false → is_claim o.number (waiting frame.ui.state) ≡ false
+    → o.link ≡ link → verbs.close_linked r frame o option link ≡ Ok t → Steady t.rec
+close_link_keeps r o frame option None t s found at idle quiet unclaimed is e = cc
+close_link_keeps r o frame option (Some l) t s found at idle quiet unclaimed is e = close_linked_keeps r o frame l s found at idle quiet is unclaimed option t e
+
+close_in_keeps : (r : Record) (o : Object) (option : CloseOption) (f : Option Frame) (t : Took) → Steady r → find (is_object o.number) r.objects ≡ Some o → nth r.frames o.frame ≡ f → verbs.close_in r o option f ≡ Ok t → Steady t.rec
+close_in_keeps r o option None t s found at e = cc
+close_in_keeps r o option (Some frame) t s found at e =
+    let a = unless_ok (is_doubtful frame.phase) Doubtful _ t e in
+    let b = unless_ok (is_saving frame.phase || is_busy frame.ui.state o) Busy _ t a.1 in
+    let quiet = or_false (is_saving frame.phase) (is_busy frame.ui.state o) b.0 in
+    let still = or_false (is_asked o.link) (is_claim o.number (waiting frame.ui.state)) quiet.1 in
+    close_link_keeps r o frame option o.link t s found at (idle_of frame.phase a.0 quiet.0) still.0 still.1 refl b.1
+
+close_at_keeps : (r : Record) (n : ℕ) (option : CloseOption) (o : Option Object) (t : Took) → Steady r → find (is_object n) r.objects ≡ o → verbs.close_at r option o ≡ Ok t → Steady t.rec
+close_at_keeps r n option None t s found e = cc
+close_at_keeps r n option (Some o) t s found e = close_in_keeps r o option (nth r.frames o.frame) t s (found_numbered n r.objects o found) refl e
+
+pub close_keeps : (r : Record) (n : ℕ) (option : CloseOption) (t : Took) → Steady r → verbs.close r n option ≡ Ok t → Steady t.rec
+close_keeps r n option t s e = close_at_keeps r n option (find (is_object n) r.objects) t s refl e

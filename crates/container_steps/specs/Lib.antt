@@ -1,0 +1,3 @@
+pub mod Steps
+pub use Rattle.container_steady.specs.Roles
+pub use Rattle.container_steady.specs.Steady
