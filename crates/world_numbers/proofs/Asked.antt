@@ -1,9 +1,8 @@
 -- In a steady record within its numbers, what is pending of a link is within them, as a call.
-use Rattle.std.proofs.Common.{◌≡◌, ◌≤◌, ◌+◌, ◌==◌, ℕ, Bool, true, false, List, [], ◌∷◌, length, Option, Some, None, Result, Ok, Err, refl, sym, ap, ◌∙◌, arith, subst, if◌then◌else◌}
-use Rattle.std.specs.Prelude.{IfSome, IsOkAnd}
+use Rattle.std.proofs.Common.{◌≡◌, ◌≤◌, ◌==◌, ℕ, Bool, true, false, List, [], ◌∷◌, length, Option, Some, None, Ok, Err, refl, sym, ap, ◌∙◌, arith, subst, if◌then◌else◌}
+use Rattle.std.specs.Prelude.{IsOkAnd}
 use Rattle.std.specs.List.{AllByRecursion}
-use Rattle.wire_msgs.specs.Found.{find, nth}
-use Rattle.wire_msgs.specs.Operations.{op_of}
+use Rattle.wire_msgs.specs.Found.{nth}
 use Rattle.wire_msgs.specs.declared.message.Message.TheVariants.{Call}
 use Rattle.wire_msgs.specs.declared.operation.Operation.{Operation}
 use Rattle.wire_msgs.specs.declared.operation.Operation.TheVariants.{InitNew, Load, InPlace, UiActivate, UiDeactivate, InPlaceDeactivate, OpenWindow, Edit, Save, SaveCompleted, SaveDropped, Close}
@@ -24,9 +23,7 @@ use Rattle.grant_core.specs.declared.grant_states.Claim.{Claim}
 use Rattle.grant_core.specs.declared.grant_states.GrantState.{GrantState}
 use Rattle.grant_core.specs.declared.grant_states.GrantState.TheVariants as state
 use Rattle.grant_core.specs.Grants.{who}
-use Rattle.container_model.specs.declared.record.Frame.{Frame}
 use Rattle.container_model.specs.declared.record.Link.{Link}
-use Rattle.container_model.specs.declared.record.Object.{Object}
 use Rattle.container_model.specs.declared.record.Phase.{Phase}
 use Rattle.container_model.specs.declared.record.Phase.TheVariants.{Saving}
 use Rattle.container_model.specs.Record.{Record, is_object, is_unreaped}
@@ -38,9 +35,9 @@ use Rattle.container_laws.proofs.SteadyQueues.{goes_on, joined_ok, taken}
 use Rattle.container_laws.proofs.SteadyRecords.{if_at}
 use Rattle.container_numbers.specs.Sound.{IsNumbered}
 use Rattle.container_numbers.proofs.SoundRooms.{IsSaved, each_of}
-use Rattle.world_model.specs.Safe.{CarriesWithin, IsWithin, links_of}
+use Rattle.world_model.specs.Safe.{CarriesWithin, IsWithin}
 use Rattle.world_facts.proofs.Lookups.{nth_bound}
-use Rattle.world_steps.proofs.Objects.{IsHeld, link_held}
+use Rattle.world_steps.proofs.Objects.{IsHeld}
 
 -- a save that is asked for has the number of its frame's last one: no other can be taken behind it
 refused : (v w : States) (o : Op) (h : (s : PersistState) → s ≡ NoScribble → (refusal : StateFault) × (persist.table o s ≡ Err refusal)) → v.persist.state ≡ NoScribble → both.step v o ≡ Ok w → ⊥

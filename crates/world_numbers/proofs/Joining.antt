@@ -1,6 +1,5 @@
 -- What an event makes of a world's numbers.
-use Rattle.std.proofs.Common.{◌≡◌, ◌≤◌, ◌+◌, ℕ, List, [], ◌∷◌, ◌++◌, length, map, Option, Some, None, Ok, Err, Result, refl, sym, ap, ◌∙◌, inl, inr, arith, subst}
-use Rattle.std.proofs.lemmas.List.{length-append}
+use Rattle.std.proofs.Common.{◌≡◌, ◌≤◌, ◌+◌, ℕ, List, [], ◌∷◌, ◌++◌, length, map, Option, Some, None, refl, sym, ap, ◌∙◌, inl, inr, arith, subst}
 use Rattle.std.specs.List.{AllByRecursion}
 use Rattle.wire_msgs.specs.Found.{nth, set_nth}
 use Rattle.wire_msgs.specs.declared.message.Message.{Message}
@@ -9,13 +8,12 @@ use Rattle.container_model.specs.declared.answer.Action.{Action}
 use Rattle.container_model.specs.declared.answer.Action.TheVariants.{Send, Start, End, Commit}
 use Rattle.container_laws.proofs.SteadyLookups.{each_nth, each_set}
 use Rattle.container_numbers.specs.Sound.{IsNumbered}
-use Rattle.world_model.specs.declared.life.Life.{Life}
 use Rattle.world_model.specs.declared.logs.Sent.{Sent}
 use Rattle.world_model.specs.World.{World, Instance, end_of, ended_at, ended_by, fresh, joined, messages_of, of_container, started_by}
 use Rattle.world_model.specs.Safe.{Among, IsWithin, WasSent, links_of, messages}
 use Rattle.world_facts.proofs.Lookups.{among_join}
 use Rattle.world_steps.proofs.Objects.{messages_of_log, messages_told}
-use Rattle.world_numbers.specs.Numbers.{ArePending, Follow, IsPending, IsServerWithin, Numbers, PendingWithin, RunsWithin}
+use Rattle.world_numbers.specs.Numbers.{ArePending, Follow, IsServerWithin, Numbers, RunsWithin}
 
 each_joined : {A : Type 0} (P : A → Type 0) (xs ys : List A) → AllByRecursion P xs → AllByRecursion P ys → AllByRecursion P (xs ++ ys)
 each_joined P [] ys h k = k

@@ -1,5 +1,5 @@
 -- Whatever a step sends is pending once it is taken.
-use Rattle.std.proofs.Common.{◌≡◌, ◌+◌, ℕ, List, [], ◌∷◌, ◌++◌, Option, Some, None, refl, sym, ◌∙◌, ap, inl, inr, subst}
+use Rattle.std.proofs.Common.{◌≡◌, ◌+◌, ℕ, List, [], ◌∷◌, Some, None, refl, sym, ◌∙◌, ap, inl, inr, subst}
 use Rattle.wire_msgs.specs.declared.message.Message.{Message}
 use Rattle.wire_msgs.specs.declared.message.Message.TheVariants.{Call}
 use Rattle.wire_msgs.specs.declared.operation.Operation.{Operation}
@@ -7,7 +7,7 @@ use Rattle.container_model.specs.Commands.{begun_link}
 use Rattle.container_model.specs.declared.record.Link.{Link}
 use Rattle.world_model.specs.Safe.{Among}
 use Rattle.world_facts.specs.Words.{Links, Acts, Lives}
-use Rattle.world_facts.specs.Shapes.{IsSame, AskedAt, none, stays, queues, sends, AsksAll, IsQuiet, SendsNext, Begins}
+use Rattle.world_facts.specs.Shapes.{IsSame, AskedAt, none, stays, queues, sends, AsksAll, IsQuiet, Begins}
 use Rattle.world_facts.proofs.Lookups.{among_join}
 use Rattle.world_steps.specs.Steps.{IsAnswered, settled, goes_on, ended, AsksInTurn, asks_none, asks_first, IsReplied, IsReaped}
 use Rattle.world_numbers.specs.Numbers.{ArePending, IsPending}

@@ -2,7 +2,6 @@
 use Rattle.std.proofs.Common.{◌≡◌, ◌≤◌, ◌<◌, ◌+◌, ℕ, Bool, true, false, List, [], ◌∷◌, ◌++◌, length, Option, Some, None, Result, Ok, Err, refl, arith, subst, nat_eq, nat_le}
 use Rattle.std.proofs.lemmas.Bool.{eqb-true, leb-false}
 use Rattle.std.specs.Prelude.{cond}
-use Rattle.std.specs.List.{AllByRecursion}
 use Rattle.wire_msgs.specs.Found.{find, put}
 use Rattle.wire_msgs.specs.Operations.{op_of}
 use Rattle.wire_msgs.specs.declared.message.Message.TheVariants.{Call}
@@ -21,7 +20,7 @@ use Rattle.embed_core.specs.Objects as object
 use Rattle.embed_core.specs.declared.fault.EmbedFault.{EmbedFault}
 use Rattle.server_model.specs.Server.{Activation, Server, Acted, Served, counts, refuses, edits, closes, does, acted, next_call, known_call, begun_class, begun_content, begins, after_known, after_begun, is_class, offered, unknown_call, called, is_act, on_call}
 use Rattle.server_model.specs.declared.fault.ServerFault.{ServerFault}
-use Rattle.server_model.specs.declared.fault.ServerFault.TheVariants.{WrongIncarnation, Ignored, NumbersSpent, NeedObject, WrongClass}
+use Rattle.server_model.specs.declared.fault.ServerFault.TheVariants.{WrongIncarnation, Ignored, NumbersSpent, WrongClass}
 use Rattle.container_laws.proofs.SteadyLookups.{each_append, each_found, each_put}
 use Rattle.world_model.specs.Safe.{CarriesWithin}
 use Rattle.world_numbers.specs.Numbers.{IsActivationWithin, IsServerWithin}

@@ -38,13 +38,13 @@ use Rattle.world_model.specs.declared.life.Life.{Life}
 use Rattle.world_model.specs.declared.life.Life.TheVariants.{Running, Ended, Reaped}
 use Rattle.world_model.specs.declared.logs.Sent.{Sent}
 use Rattle.world_model.specs.declared.logs.Taken.{Taken}
-use Rattle.world_model.specs.World.{World, Instance, called, called_in, called_wanting, commanded, crash, crashed, deliver, delivered, done_imaged, done_in, done_taken, empty_world, ended, happened, is_of, joined, kept_commit, messages_of, owners_by, reap, served, spoken, spoken_by, scribble, ask, started_by, stocked, taken_at, took, view_in, with_taken}
+use Rattle.world_model.specs.World.{World, Instance, called, called_in, called_wanting, commanded, crash, crashed, deliver, delivered, done_imaged, done_in, done_taken, empty_world, ended, happened, is_of, joined, kept_commit, messages_of, reap, served, spoken, spoken_by, scribble, ask, started_by, stocked, taken_at, took, view_in, with_taken}
 use Rattle.world_model.specs.Safe.{Among, IsWithin, WasSent, acts_of, links_of, messages}
 use Rattle.world_facts.specs.Words.{called as was_called, life_at, lives_of}
 use Rattle.world_facts.proofs.Lookups.{among_map, find_among}
 use Rattle.world_files.specs.Files.{Files, id_of}
 use Rattle.world_files.proofs.Kept.{commit_is_at}
-use Rattle.world_numbers.specs.Numbers.{ArePending, Follow, IsPending, Numbers, PendingWithin, RunsWithin}
+use Rattle.world_numbers.specs.Numbers.{ArePending, Follow, IsPending, Numbers, RunsWithin}
 use Rattle.world_numbers.proofs.Asked.{call_within, saved_within}
 use Rattle.world_numbers.proofs.Joining.{IsTaken, fresh_within, hosted_within, joined_follows, sent_one, set_within}
 use Rattle.world_numbers.proofs.Pending.{begins_pending, none_pending, reaped_pending, replied_pending, turned_pending}
