@@ -49,8 +49,9 @@ IfLinked P (Some l) = P l
 abbrev pub HasRoom : ℕ → List Frame → Object → Type 0
 HasRoom numbers frames o = IfLinked (IsRoomy numbers (debt_in o.number (nth frames o.frame))) o.link
 
-pub record IsSound (r : Record) : Type 0 where
-  pub limit : r.numbers ≤ 1000000
+-- A record whose greatest number is one of these, and whose numbers are at most that one, with room for each activation.
+pub record HasNumbers (Greatest : ℕ → Type 0) (r : Record) : Type 0 where
+  pub limit : Greatest r.numbers
   pub room : All (HasRoom r.numbers r.frames) r.objects
   pub saves : All (λ (f : Frame). f.k ≤ r.numbers) r.frames
   pub frames : length r.frames ≤ r.numbers
@@ -58,3 +59,7 @@ pub record IsSound (r : Record) : Type 0 where
   pub objects : r.last_object ≤ r.numbers
   pub acts : r.last_act ≤ r.numbers
   pub grants : r.last_g ≤ r.numbers
+
+-- the numbers of a container that runs
+abbrev pub IsSound : Record → Type 0
+IsSound r = HasNumbers (λ numbers. numbers ≤ 1000000) r

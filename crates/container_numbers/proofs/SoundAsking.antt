@@ -44,8 +44,8 @@ link_checked numbers before more op None has few h = tt
 link_checked numbers before more op (Some l) has few h = asked_checked numbers before more l (op ∷ []) has (omega arith) h
 
 -- an object that is asked once after a check
-pub one_asked : (r : Record) (D : ℕ → ℕ → ℕ) (o : Object) (op : Operation) → Within D r → find (is_object o.number) r.objects ≡ Some o → link_has_numbers r.numbers o.link ≡ true → D o.number o.frame ≤ 3
-    → Within D (with_object r (record o { link = asked_link op o.link }))
+pub one_asked : {Greatest : ℕ → Type 0} (r : Record) (D : ℕ → ℕ → ℕ) (o : Object) (op : Operation) → Within Greatest D r → find (is_object o.number) r.objects ≡ Some o → link_has_numbers r.numbers o.link ≡ true → D o.number o.frame ≤ 3
+    → Within Greatest D (with_object r (record o { link = asked_link op o.link }))
 one_asked r D o op h found has few =
     put_within r D D (record o { link = asked_link op o.link }) o h found (λ m f ne. omega arith)
     (link_checked r.numbers (D o.number o.frame) (D o.number o.frame) op o.link has few (each_found (Owing r.numbers D) (is_object o.number) r.objects o h.room found)) refl

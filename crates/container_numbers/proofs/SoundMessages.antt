@@ -4,6 +4,7 @@ use Rattle.std.proofs.lemmas.Bool.{eqb-true}
 use Rattle.wire_msgs.specs.Found.{find, nth, set_nth}
 use Rattle.wire_msgs.specs.declared.operation.Operation.TheVariants.{UiDeactivate}
 use Rattle.wire_msgs.specs.declared.answer.Answer.{Answer}
+use Rattle.wire_msgs.specs.declared.message.Message.{Message}
 use Rattle.wire_msgs.specs.declared.message.Message.TheVariants.{Call, Reply, Write, Ask}
 use Rattle.object_parts.specs.Limits.{is_within}
 use Rattle.storage_tree.specs.declared.stored.Stored.{Stored}
@@ -22,13 +23,13 @@ use Rattle.container_model.specs.declared.record.Frame.{Frame}
 use Rattle.container_model.specs.declared.fault.ContainerFault.{ContainerFault}
 use Rattle.container_model.specs.declared.fault.ContainerFault.TheVariants.{WrongLink, Stale, BadAnswer}
 use Rattle.container_model.specs.Grants.{event_of, grant_each, moved, passed_to, regranted, regranted_in, request}
-use Rattle.container_model.specs.Record.{Record, Took, is_alive, is_linked, is_object, with_frame}
-use Rattle.container_model.specs.Room.{IfLinked, IsRoomy, IsSound, grant_debt}
+use Rattle.container_model.specs.Record.{Record, Took, is_alive, is_linked, is_object, with_frame, is_link}
+use Rattle.container_model.specs.Room.{IfLinked, IsRoomy, IsSound, grant_debt, HasNumbers}
 use Rattle.container_model.specs.Saves.{settle}
-use Rattle.container_model.specs.Messages.{Replied, ask_found, ask_framed, is_held_by, is_open_to, on_ask, on_reply, on_write, relieved, replied_grant, replied_object, replied_record, reply_found, reply_link, reply_taken, write_found, write_link, write_made, written_object}
+use Rattle.container_model.specs.Messages.{Replied, ask_found, ask_framed, is_held_by, is_open_to, on_ask, on_reply, on_write, relieved, replied_grant, replied_object, replied_record, reply_found, reply_link, reply_taken, write_found, write_link, write_made, written_object, on_message}
 use Rattle.container_steady.specs.Roles.{IsClaim, SteadyGrant}
 use Rattle.container_steady.specs.Steady.{Steady}
-use Rattle.container_numbers.specs.Sound.{SoundAfterMessages}
+use Rattle.container_numbers.specs.Sound.{SoundAfterMessages, NumbersAfterMessages}
 use Rattle.container_steady.proofs.SteadyFinds.{acts_differ, found_by_number}
 use Rattle.container_steady.proofs.SteadyLookups.{each_both, each_found, each_nth, each_weaker}
 use Rattle.container_steady.proofs.SteadyHolders.{asked_state, held_by, linked_by}
@@ -41,7 +42,7 @@ use Rattle.container_numbers.proofs.SoundRooms.{IsSaved, Owing, Within, debts, o
 use Rattle.container_numbers.proofs.SoundSaves.{settled_sound}
 
 -- ---- whoever is there owes less
-found_less : (r : Record) (D E : ℕ → ℕ → ℕ) → Steady r → Within D r → ((x : Object) → FoundIn r.objects x → E x.number x.frame ≤ D x.number x.frame) → Within E r
+found_less : {Greatest : ℕ → Type 0} (r : Record) (D E : ℕ → ℕ → ℕ) → Steady r → Within Greatest D r → ((x : Object) → FoundIn r.objects x → E x.number x.frame ≤ D x.number x.frame) → Within Greatest E r
 found_less r D E s h le = record {
   limit = h.limit;
   room = each_weaker (λ x. Owing r.numbers D x × FoundIn r.objects x) (Owing r.numbers E) r.objects (λ x k. owes_less r.numbers D E x (le x k.1) k.0)
@@ -60,15 +61,15 @@ event_told : (s : GrantState) (t : Tells) → IsToldOf (event_of s t)
 event_told s (Gets g tools) = tt
 event_told s GivesUp = tt
 
-module _ (r : Record) (inc act n : ℕ) (answer : Answer) (o : Object) (re : Replied) (s : Steady r) (h : IsSound r) (found : find (is_linked inc act) r.objects ≡ Some o) (is : reply_link n answer o.link ≡ Ok re) where
+module _ {Greatest : ℕ → Type 0} (r : Record) (inc act n : ℕ) (answer : Answer) (o : Object) (re : Replied) (s : Steady r) (h : HasNumbers Greatest r) (found : find (is_linked inc act) r.objects ≡ Some o) (is : reply_link n answer o.link ≡ Ok re) where
   -- whatever it owes, it owes on
-  replied_within : (D : ℕ → ℕ → ℕ) → Within D r → Within D (replied_record r inc act o re)
+  replied_within : (D : ℕ → ℕ → ℕ) → Within Greatest D r → Within Greatest D (replied_record r inc act o re)
   replied_within D w =
       let old : Owing r.numbers D o = each_found (Owing r.numbers D) (is_linked inc act) r.objects o w.room found in
       put_any r D (is_linked inc act) (replied_object o re) o w found refl
       (subst (λ (z : Result Replied ContainerFault). IsRoomyAfter r.numbers (D o.number o.frame) z) is (reply_roomy r.numbers (D o.number o.frame) n answer o.link old))
 
-  unmoved : IsSound (settle (replied_record r inc act o re))
+  unmoved : HasNumbers Greatest (settle (replied_record r inc act o re))
   unmoved = settled_sound (replied_record r inc act o re) (replied_within (debts r.frames) (within_of r s h))
 
   module _ (frame : Frame) (e : Event) (at : nth r.frames o.frame ≡ Some frame) (tells : IsToldOf e) where
@@ -91,60 +92,60 @@ module _ (r : Record) (inc act n : ℕ) (answer : Answer) (o : Object) (re : Rep
     abbrev u : Record
     u = with_frame (replied_record r inc act o re) o.frame (moved frame e)
 
-    framed : Within D u
+    framed : Within Greatest D u
     framed =
         let w = within_of r s h in
         let k : frame.k ≤ r.numbers = each_nth (IsSaved r.numbers) r.frames o.frame frame w.saves at in
         one_framed (replied_record r inc act o re) D o.frame (moved frame e) (replied_within D (found_less r (debts r.frames) D s w pays)) k
 
-    regrants : IsSound (settle (grant_each u cs).rec)
-    regrants = settled_sound (grant_each u cs).rec (subst (λ (fs : List Frame). Within (debts fs) (grant_each u cs).rec) (sym (granted_frames cs u)) (granted_pays cs u (debts frames) framed))
+    regrants : HasNumbers Greatest (settle (grant_each u cs).rec)
+    regrants = settled_sound (grant_each u cs).rec (subst (λ (fs : List Frame). Within Greatest (debts fs) (grant_each u cs).rec) (sym (granted_frames cs u)) (granted_pays cs u (debts frames) framed))
 
-  moved_in : (t : Tells) (f : Option Frame) → nth r.frames o.frame ≡ f → IsSound (settle (regranted_in (replied_record r inc act o re) o.frame t f).rec)
+  moved_in : (t : Tells) (f : Option Frame) → nth r.frames o.frame ≡ f → HasNumbers Greatest (settle (regranted_in (replied_record r inc act o re) o.frame t f).rec)
   moved_in t None at = unmoved
   moved_in t (Some frame) at = regrants frame (event_of frame.ui.state t) at (event_told frame.ui.state t)
 
-  moved_by : (t : Option Tells) → IsSound (settle (regranted (replied_record r inc act o re) o.frame t).rec)
+  moved_by : (t : Option Tells) → HasNumbers Greatest (settle (regranted (replied_record r inc act o re) o.frame t).rec)
   moved_by None = unmoved
   moved_by (Some t) = moved_in t (nth r.frames o.frame) refl
 
-taken_sound : (r : Record) (inc act n : ℕ) (answer : Answer) (o : Object) (res : Result Replied ContainerFault) (t : Took) → Steady r → IsSound r → find (is_linked inc act) r.objects ≡ Some o → reply_link n answer o.link ≡ res → reply_taken r inc act o res ≡ Ok t → IsSound t.rec
+taken_sound : {Greatest : ℕ → Type 0} (r : Record) (inc act n : ℕ) (answer : Answer) (o : Object) (res : Result Replied ContainerFault) (t : Took) → Steady r → HasNumbers Greatest r → find (is_linked inc act) r.objects ≡ Some o → reply_link n answer o.link ≡ res → reply_taken r inc act o res ≡ Ok t → HasNumbers Greatest t.rec
 taken_sound r inc act n answer o (Err fault) t s h found g e = cc
-taken_sound r inc act n answer o (Ok re) t s h found g e =
+taken_sound {Greatest} r inc act n answer o (Ok re) t s h found g e =
     let same : settle (replied_grant r inc act o re).rec ≡ t.rec = ok_rec _ t e in
-    subst IsSound same (moved_by r inc act n answer o re s h found g re.grant)
+    subst (HasNumbers Greatest) same (moved_by r inc act n answer o re s h found g re.grant)
 
-found_sound : (r : Record) (inc act n : ℕ) (answer : Answer) (o : Option Object) (t : Took) → Steady r → IsSound r → find (is_linked inc act) r.objects ≡ o → reply_found r inc act n answer o ≡ Ok t → IsSound t.rec
+found_sound : {Greatest : ℕ → Type 0} (r : Record) (inc act n : ℕ) (answer : Answer) (o : Option Object) (t : Took) → Steady r → HasNumbers Greatest r → find (is_linked inc act) r.objects ≡ o → reply_found r inc act n answer o ≡ Ok t → HasNumbers Greatest t.rec
 found_sound r inc act n answer None t s h found e = cc
 found_sound r inc act n answer (Some o) t s h found e = taken_sound r inc act n answer o (reply_link n answer o.link) t s h found refl e
 
-reply_sound : (r : Record) (inc act n : ℕ) (answer : Answer) (t : Took) → Steady r → IsSound r → on_reply r inc act n answer ≡ Ok t → IsSound t.rec
-reply_sound r inc act n answer t s h e = if_told (λ (z : Result Took ContainerFault). z ≡ Ok t → IsSound t.rec) (is_alive r inc) (reply_found r inc act n answer (find (is_linked inc act) r.objects)) (Err Stale)
+reply_sound : {Greatest : ℕ → Type 0} (r : Record) (inc act n : ℕ) (answer : Answer) (t : Took) → Steady r → HasNumbers Greatest r → on_reply r inc act n answer ≡ Ok t → HasNumbers Greatest t.rec
+reply_sound {Greatest} r inc act n answer t s h e = if_told (λ (z : Result Took ContainerFault). z ≡ Ok t → HasNumbers Greatest t.rec) (is_alive r inc) (reply_found r inc act n answer (find (is_linked inc act) r.objects)) (Err Stale)
     (λ a g. found_sound r inc act n answer (find (is_linked inc act) r.objects) t s h refl g)
     (λ a g. cc) e
 
 -- ---- a write
-written_sound : (r : Record) (inc act w : ℕ) (content : Stored) (o : Object) (l : Link) → Steady r → IsSound r → find (is_linked inc act) r.objects ≡ Some o → o.link ≡ Some l → IsSound (write_made r inc act o l w content).rec
+written_sound : {Greatest : ℕ → Type 0} (r : Record) (inc act w : ℕ) (content : Stored) (o : Object) (l : Link) → Steady r → HasNumbers Greatest r → find (is_linked inc act) r.objects ≡ Some o → o.link ≡ Some l → HasNumbers Greatest (write_made r inc act o l w content).rec
 written_sound r inc act w content o l s h found is =
     let all = within_of r s h in
     let old : IsRoomy r.numbers (debts r.frames o.number o.frame) l = subst (IfLinked (IsRoomy r.numbers (debts r.frames o.number o.frame))) is (each_found (Owing r.numbers (debts r.frames)) (is_linked inc act) r.objects o all.room found) in
     sound_of (write_made r inc act o l w content).rec (put_any r (debts r.frames) (is_linked inc act) (written_object o l w content) o all found refl (record { calls = old.calls; grants = old.grants }))
 
-write_linked_sound : (r : Record) (inc act n w : ℕ) (content : Stored) (o : Object) (link : Option Link) (t : Took) → Steady r → IsSound r → find (is_linked inc act) r.objects ≡ Some o → o.link ≡ link → write_link r inc act n w content o link ≡ Ok t → IsSound t.rec
+write_linked_sound : {Greatest : ℕ → Type 0} (r : Record) (inc act n w : ℕ) (content : Stored) (o : Object) (link : Option Link) (t : Took) → Steady r → HasNumbers Greatest r → find (is_linked inc act) r.objects ≡ Some o → o.link ≡ link → write_link r inc act n w content o link ≡ Ok t → HasNumbers Greatest t.rec
 write_linked_sound r inc act n w content o None t s h found is e = cc
-write_linked_sound r inc act n w content o (Some l) t s h found is e =
-    if_told (λ (z : Result Took ContainerFault). z ≡ Ok t → IsSound t.rec) (is_open_to l n w) (if is_within content then Ok (write_made r inc act o l w content) else Err BadAnswer) (Err Stale)
-    (λ a g. if_told (λ (z : Result Took ContainerFault). z ≡ Ok t → IsSound t.rec) (is_within content) (Ok (write_made r inc act o l w content)) (Err BadAnswer)
-    (λ b q. subst IsSound (ok_rec (write_made r inc act o l w content) t q) (written_sound r inc act w content o l s h found is))
+write_linked_sound {Greatest} r inc act n w content o (Some l) t s h found is e =
+    if_told (λ (z : Result Took ContainerFault). z ≡ Ok t → HasNumbers Greatest t.rec) (is_open_to l n w) (if is_within content then Ok (write_made r inc act o l w content) else Err BadAnswer) (Err Stale)
+    (λ a g. if_told (λ (z : Result Took ContainerFault). z ≡ Ok t → HasNumbers Greatest t.rec) (is_within content) (Ok (write_made r inc act o l w content)) (Err BadAnswer)
+    (λ b q. subst (HasNumbers Greatest) (ok_rec (write_made r inc act o l w content) t q) (written_sound r inc act w content o l s h found is))
     (λ b q. cc) g)
     (λ a g. cc) e
 
-write_found_sound : (r : Record) (inc act n w : ℕ) (content : Stored) (o : Option Object) (t : Took) → Steady r → IsSound r → find (is_linked inc act) r.objects ≡ o → write_found r inc act n w content o ≡ Ok t → IsSound t.rec
+write_found_sound : {Greatest : ℕ → Type 0} (r : Record) (inc act n w : ℕ) (content : Stored) (o : Option Object) (t : Took) → Steady r → HasNumbers Greatest r → find (is_linked inc act) r.objects ≡ o → write_found r inc act n w content o ≡ Ok t → HasNumbers Greatest t.rec
 write_found_sound r inc act n w content None t s h found e = cc
 write_found_sound r inc act n w content (Some o) t s h found e = write_linked_sound r inc act n w content o o.link t s h found refl e
 
-write_sound : (r : Record) (inc act n w : ℕ) (content : Stored) (t : Took) → Steady r → IsSound r → on_write r inc act n w content ≡ Ok t → IsSound t.rec
-write_sound r inc act n w content t s h e = if_told (λ (z : Result Took ContainerFault). z ≡ Ok t → IsSound t.rec) (is_alive r inc) (write_found r inc act n w content (find (is_linked inc act) r.objects)) (Err Stale)
+write_sound : {Greatest : ℕ → Type 0} (r : Record) (inc act n w : ℕ) (content : Stored) (t : Took) → Steady r → HasNumbers Greatest r → on_write r inc act n w content ≡ Ok t → HasNumbers Greatest t.rec
+write_sound {Greatest} r inc act n w content t s h e = if_told (λ (z : Result Took ContainerFault). z ≡ Ok t → HasNumbers Greatest t.rec) (is_alive r inc) (write_found r inc act n w content (find (is_linked inc act) r.objects)) (Err Stale)
     (λ a g. write_found_sound r inc act n w content (find (is_linked inc act) r.objects) t s h refl g)
     (λ a g. cc) e
 
@@ -166,8 +167,8 @@ asks_alone os o x there here ne = elim (o.number == x.number) as (λ b. (o.numbe
   | false ↦ (λ t. refl)
 ] refl
 
-ask_held : (r : Record) (inc act g : ℕ) (o : Object) (frame : Frame) → Steady r → IsSound r → find (is_linked inc act) r.objects ≡ Some o → nth r.frames o.frame ≡ Some frame → is_held_by act g frame.ui.state ≡ true → IsSound (relieved r o act g frame).rec
-ask_held r inc act g o frame s h found at e =
+ask_held : {Greatest : ℕ → Type 0} (r : Record) (inc act g : ℕ) (o : Object) (frame : Frame) → Steady r → HasNumbers Greatest r → find (is_linked inc act) r.objects ≡ Some o → nth r.frames o.frame ≡ Some frame → is_held_by act g frame.ui.state ≡ true → HasNumbers Greatest (relieved r o act g frame).rec
+ask_held {Greatest} r inc act g o frame s h found at e =
     let held = held_by act g frame.ui.state e in
     let holder = held.0 in
     let tools = held.1 in
@@ -185,33 +186,39 @@ ask_held r inc act g o frame s h found at e =
     let less = found_less r (debts r.frames) (λ m f. debts frames m f + cond (o.number == m) 1 0) s w
     (λ x here. move_owed r.frames o.frame frame next x.number x.frame (cond (o.number == x.number) 1 0) at refl
     (ends_pays frame.ui.state next.ui.state holder tools o.number x.number held.2 to named) (asks_alone r.objects o x there here)) in
-    let asked : Within (debts frames) (request u o.number UiDeactivate).rec = request_pays u (debts frames) o.number UiDeactivate (one_framed r (λ m f. debts frames m f + cond (o.number == m) 1 0) o.frame next less k) in
-    sound_of (request u o.number UiDeactivate).rec (subst (λ (fs : List Frame). Within (debts fs) (request u o.number UiDeactivate).rec) (sym (requested_frames u UiDeactivate (find (is_object o.number) u.objects))) asked)
+    let asked : Within Greatest (debts frames) (request u o.number UiDeactivate).rec = request_pays u (debts frames) o.number UiDeactivate (one_framed r (λ m f. debts frames m f + cond (o.number == m) 1 0) o.frame next less k) in
+    sound_of (request u o.number UiDeactivate).rec (subst (λ (fs : List Frame). Within Greatest (debts fs) (request u o.number UiDeactivate).rec) (sym (requested_frames u UiDeactivate (find (is_object o.number) u.objects))) asked)
 
-ask_framed_sound : (r : Record) (inc act g : ℕ) (o : Object) (f : Option Frame) (t : Took) → Steady r → IsSound r → find (is_linked inc act) r.objects ≡ Some o → nth r.frames o.frame ≡ f → ask_framed r o act g f ≡ Ok t → IsSound t.rec
+ask_framed_sound : {Greatest : ℕ → Type 0} (r : Record) (inc act g : ℕ) (o : Object) (f : Option Frame) (t : Took) → Steady r → HasNumbers Greatest r → find (is_linked inc act) r.objects ≡ Some o → nth r.frames o.frame ≡ f → ask_framed r o act g f ≡ Ok t → HasNumbers Greatest t.rec
 ask_framed_sound r inc act g o None t s h found at e = cc
-ask_framed_sound r inc act g o (Some frame) t s h found at e = if_told (λ (z : Result Took ContainerFault). z ≡ Ok t → IsSound t.rec) (is_held_by act g frame.ui.state) _ (Err Stale)
-    (λ a q. let same = ok_rec _ t q in subst IsSound same (ask_held r inc act g o frame s h found at a))
+ask_framed_sound {Greatest} r inc act g o (Some frame) t s h found at e = if_told (λ (z : Result Took ContainerFault). z ≡ Ok t → HasNumbers Greatest t.rec) (is_held_by act g frame.ui.state) _ (Err Stale)
+    (λ a q. let same = ok_rec _ t q in subst (HasNumbers Greatest) same (ask_held r inc act g o frame s h found at a))
     (λ a q. cc) e
 
-ask_found_sound : (r : Record) (inc act g : ℕ) (o : Option Object) (t : Took) → Steady r → IsSound r → find (is_linked inc act) r.objects ≡ o → ask_found r act g o ≡ Ok t → IsSound t.rec
+ask_found_sound : {Greatest : ℕ → Type 0} (r : Record) (inc act g : ℕ) (o : Option Object) (t : Took) → Steady r → HasNumbers Greatest r → find (is_linked inc act) r.objects ≡ o → ask_found r act g o ≡ Ok t → HasNumbers Greatest t.rec
 ask_found_sound r inc act g None t s h found e = cc
 ask_found_sound r inc act g (Some o) t s h found e = ask_framed_sound r inc act g o (nth r.frames o.frame) t s h found refl e
 
-ask_sound : (r : Record) (inc act g : ℕ) (t : Took) → Steady r → IsSound r → on_ask r inc act g ≡ Ok t → IsSound t.rec
-ask_sound r inc act g t s h e = if_told (λ (z : Result Took ContainerFault). z ≡ Ok t → IsSound t.rec) (is_alive r inc) (ask_found r act g (find (is_linked inc act) r.objects)) (Err Stale)
+ask_sound : {Greatest : ℕ → Type 0} (r : Record) (inc act g : ℕ) (t : Took) → Steady r → HasNumbers Greatest r → on_ask r inc act g ≡ Ok t → HasNumbers Greatest t.rec
+ask_sound {Greatest} r inc act g t s h e = if_told (λ (z : Result Took ContainerFault). z ≡ Ok t → HasNumbers Greatest t.rec) (is_alive r inc) (ask_found r act g (find (is_linked inc act) r.objects)) (Err Stale)
     (λ a q. ask_found_sound r inc act g (find (is_linked inc act) r.objects) t s h refl q)
     (λ a q. cc) e
 
 -- each message leaves a record sound
-pub sound_messages : SoundAfterMessages
-sound_messages r link (Call inc act n op) t s h e = cc
-sound_messages r link (Reply inc act n answer) t s h e = if_told (λ (z : Result Took ContainerFault). z ≡ Ok t → IsSound t.rec) (inc == link) (on_reply r inc act n answer) (Err WrongLink)
+messages_keep : {Greatest : ℕ → Type 0} (r : Record) (link : ℕ) (m : Message) (t : Took) → Steady r → HasNumbers Greatest r → on_message r link m ≡ Ok t → HasNumbers Greatest t.rec
+messages_keep r link (Call inc act n op) t s h e = cc
+messages_keep {Greatest} r link (Reply inc act n answer) t s h e = if_told (λ (z : Result Took ContainerFault). z ≡ Ok t → HasNumbers Greatest t.rec) (inc == link) (on_reply r inc act n answer) (Err WrongLink)
     (λ a g. reply_sound r inc act n answer t s h g)
     (λ a g. cc) e
-sound_messages r link (Write inc act n w content) t s h e = if_told (λ (z : Result Took ContainerFault). z ≡ Ok t → IsSound t.rec) (inc == link) (on_write r inc act n w content) (Err WrongLink)
+messages_keep {Greatest} r link (Write inc act n w content) t s h e = if_told (λ (z : Result Took ContainerFault). z ≡ Ok t → HasNumbers Greatest t.rec) (inc == link) (on_write r inc act n w content) (Err WrongLink)
     (λ a g. write_sound r inc act n w content t s h g)
     (λ a g. cc) e
-sound_messages r link (Ask inc act g) t s h e = if_told (λ (z : Result Took ContainerFault). z ≡ Ok t → IsSound t.rec) (inc == link) (on_ask r inc act g) (Err WrongLink)
+messages_keep {Greatest} r link (Ask inc act g) t s h e = if_told (λ (z : Result Took ContainerFault). z ≡ Ok t → HasNumbers Greatest t.rec) (inc == link) (on_ask r inc act g) (Err WrongLink)
     (λ a q. ask_sound r inc act g t s h q)
     (λ a q. cc) e
+
+pub sound_messages : SoundAfterMessages
+sound_messages r link m t s h e = messages_keep r link m t s h e
+
+pub numbers_messages : NumbersAfterMessages
+numbers_messages limit r link m t s h e = messages_keep r link m t s h e

@@ -33,7 +33,7 @@ pub found_own : (n : ℕ) (os : List Object) (o : Object) → find (is_object n)
 found_own n os o e = ap (λ (m : ℕ). find (is_object m) os) (found_number n os o e) ∙ e
 
 -- ---- an object that is asked pays one
-requested_pays : (r : Record) (D : ℕ → ℕ → ℕ) (n : ℕ) (op : Operation) (found : Option Object) → find (is_object n) r.objects ≡ found → Within (λ m f. D m f + cond (n == m) 1 0) r → Within D (requested r op found).rec
+requested_pays : {Greatest : ℕ → Type 0} (r : Record) (D : ℕ → ℕ → ℕ) (n : ℕ) (op : Operation) (found : Option Object) → find (is_object n) r.objects ≡ found → Within Greatest (λ m f. D m f + cond (n == m) 1 0) r → Within Greatest D (requested r op found).rec
 requested_pays r D n op None e h = within_less r (λ m f. D m f + cond (n == m) 1 0) D (λ m f. omega arith) h
 requested_pays r D n op (Some o) e h =
     let E : ℕ → ℕ → ℕ = λ m f. D m f + cond (n == m) 1 0 in
@@ -42,18 +42,18 @@ requested_pays r D n op (Some o) e h =
     put_within r E D (record o { link = asked_link op o.link }) o h (found_own n r.objects o e) (λ m f ne. omega arith)
     (asked_linked r.numbers (D o.number o.frame) op o.link (subst (λ (x : ℕ). IfLinked (IsRoomy r.numbers x) o.link) one old)) refl
 
-pub request_pays : (r : Record) (D : ℕ → ℕ → ℕ) (n : ℕ) (op : Operation) → Within (λ m f. D m f + cond (n == m) 1 0) r → Within D (request r n op).rec
+pub request_pays : {Greatest : ℕ → Type 0} (r : Record) (D : ℕ → ℕ → ℕ) (n : ℕ) (op : Operation) → Within Greatest (λ m f. D m f + cond (n == m) 1 0) r → Within Greatest D (request r n op).rec
 request_pays r D n op h = requested_pays r D n op (find (is_object n) r.objects) refl h
 
 pub requested_frames : (r : Record) (op : Operation) (found : Option Object) → (requested r op found).rec.frames ≡ r.frames
 requested_frames r op None = refl
 requested_frames r op (Some o) = refl
 
-pub granted_pays : (cs : List Claim) (r : Record) (D : ℕ → ℕ → ℕ) → Within (λ m f. D m f + told cs m) r → Within D (grant_each r cs).rec
+pub granted_pays : {Greatest : ℕ → Type 0} (cs : List Claim) (r : Record) (D : ℕ → ℕ → ℕ) → Within Greatest (λ m f. D m f + told cs m) r → Within Greatest D (grant_each r cs).rec
 granted_pays [] r D h = within_less r (λ m f. D m f + 0) D (λ m f. omega arith) h
-granted_pays (c ∷ cs) r D h =
+granted_pays {Greatest} (c ∷ cs) r D h =
     let E : ℕ → ℕ → ℕ = λ m f. D m f + told cs m in
-    let all : Within (λ m f. E m f + cond (c.object == m) 1 0) r = within_less r (λ m f. D m f + (cond (c.object == m) 1 0 + told cs m)) (λ m f. (D m f + told cs m) + cond (c.object == m) 1 0) (λ m f. omega arith) h in
+    let all : Within Greatest (λ m f. E m f + cond (c.object == m) 1 0) r = within_less r (λ m f. D m f + (cond (c.object == m) 1 0 + told cs m)) (λ m f. (D m f + told cs m) + cond (c.object == m) 1 0) (λ m f. omega arith) h in
     granted_pays cs (request r c.object (UiActivate c.g)).rec D (request_pays r E c.object (UiActivate c.g) all)
 
 pub granted_frames : (cs : List Claim) (r : Record) → (grant_each r cs).rec.frames ≡ r.frames
@@ -61,7 +61,7 @@ granted_frames [] r = refl
 granted_frames (c ∷ cs) r = granted_frames cs (request r c.object (UiActivate c.g)).rec ∙ requested_frames r (UiActivate c.g) (find (is_object c.object) r.objects)
 
 -- ---- one object takes another's place
-pub put_any : (r : Record) (D : ℕ → ℕ → ℕ) (test : Object → Bool) (a x : Object) → Within D r → find test r.objects ≡ Some x → a.number ≡ x.number → Owing r.numbers D a → Within D (record r { objects = put test a r.objects })
+pub put_any : {Greatest : ℕ → Type 0} (r : Record) (D : ℕ → ℕ → ℕ) (test : Object → Bool) (a x : Object) → Within Greatest D r → find test r.objects ≡ Some x → a.number ≡ x.number → Owing r.numbers D a → Within Greatest D (record r { objects = put test a r.objects })
 put_any r D test a x h found same new = record {
   limit = h.limit;
   room = each_put (Owing r.numbers D) test a r.objects h.room new;
@@ -75,7 +75,7 @@ put_any r D test a x h found same new = record {
 }
 
 -- ---- the frames change
-pub framed : (r : Record) (D : ℕ → ℕ → ℕ) (frames : List Frame) → Within D r → AllByRecursion (IsSaved r.numbers) frames → length frames ≤ r.numbers → Within D (record r { frames = frames })
+pub framed : {Greatest : ℕ → Type 0} (r : Record) (D : ℕ → ℕ → ℕ) (frames : List Frame) → Within Greatest D r → AllByRecursion (IsSaved r.numbers) frames → length frames ≤ r.numbers → Within Greatest D (record r { frames = frames })
 framed r D frames h saves few = record {
   limit = h.limit;
   room = h.room;
@@ -88,8 +88,8 @@ framed r D frames h saves few = record {
   apart = h.apart;
 }
 
-pub one_framed : (r : Record) (D : ℕ → ℕ → ℕ) (f : ℕ) (next : Frame) → Within D r → next.k ≤ r.numbers → Within D (with_frame r f next)
-one_framed r D f next h k =
+pub one_framed : {Greatest : ℕ → Type 0} (r : Record) (D : ℕ → ℕ → ℕ) (f : ℕ) (next : Frame) → Within Greatest D r → next.k ≤ r.numbers → Within Greatest D (with_frame r f next)
+one_framed {Greatest} r D f next h k =
     framed r D (set_nth r.frames f next) h (each_set (IsSaved r.numbers) r.frames f next h.saves k) (let e = length-set_nth r.frames f next in let few = h.frames in omega arith)
 
 -- what an object of a frame owes, and what it is told

@@ -15,11 +15,11 @@ use Rattle.container_model.specs.declared.record.Object.{Object}
 use Rattle.container_model.specs.declared.record.Frame.{Frame}
 use Rattle.container_model.specs.Record.{Record, Took, is_alive, is_object}
 use Rattle.container_model.specs.Grants.{freed, freed_claims, freed_frame, is_hosted_object, lost_by, passed_to, unwaited}
-use Rattle.container_model.specs.Messages.{reap_made, reaped, reaped_grants, reaped_object}
-use Rattle.container_model.specs.Room.{IsSound, debt_in, grant_debt}
+use Rattle.container_model.specs.Messages.{on_reap, reap_made, reaped, reaped_grants, reaped_object}
+use Rattle.container_model.specs.Room.{HasNumbers, debt_in, grant_debt}
 use Rattle.container_model.specs.Saves.{kept}
 use Rattle.container_steady.specs.Steady.{Steady}
-use Rattle.container_numbers.specs.Sound.{SoundAfterReaps}
+use Rattle.container_numbers.specs.Sound.{SoundAfterReaps, NumbersAfterReaps}
 use Rattle.container_steady.proofs.SteadyLookups.{each_both, each_map, pairs_map}
 use Rattle.container_steady.proofs.SteadyTells.{if_told}
 use Rattle.container_numbers.proofs.SoundGrants.{Pays, pays_stays, pays_told, told, told-append, told_waits}
@@ -120,7 +120,7 @@ module _ (r : Record) (inc : ℕ) (s : Steady r) where
   gone_room : (o : Object) → Owing r.numbers (debts r.frames) o × FoundIn r.objects o → Owing r.numbers Owed (reaped_object inc o o.link)
   gone_room o h = reaped_room inc r.numbers Owed o o.link (owes_less r.numbers (debts r.frames) Owed o (pays_in o o.frame h.1 refl) h.0)
 
-  gone_within : Within (debts r.frames) r → Within Owed gone
+  gone_within : {Greatest : ℕ → Type 0} → Within Greatest (debts r.frames) r → Within Greatest Owed gone
   gone_within h = record {
     limit = h.limit;
     room = each_map (λ (o : Object). Owing r.numbers (debts r.frames) o × FoundIn r.objects o) (Owing r.numbers Owed) (λ o. reaped_object inc o o.link) r.objects gone_room
@@ -134,11 +134,17 @@ module _ (r : Record) (inc : ℕ) (s : Steady r) where
     apart = pairs_map Differs (λ o. reaped_object inc o o.link) r.objects (λ x y ne q. ne (sym (reaped_number inc x x.link) ∙ (q ∙ reaped_number inc y y.link))) h.apart;
   }
 
-  reap_sound : IsSound r → IsSound (reap_made r inc).rec
-  reap_sound h = settled_sound (reaped_grants r inc).rec
-      (subst (λ (frames : List Frame). Within (debts frames) (reaped_grants r inc).rec) (sym (granted_frames claims gone)) (granted_pays claims gone (debts freed_frames) (gone_within (within_of r s h))))
+  reap_sound : {Greatest : ℕ → Type 0} → HasNumbers Greatest r → HasNumbers Greatest (reap_made r inc).rec
+  reap_sound {Greatest} h = settled_sound (reaped_grants r inc).rec
+      (subst (λ (frames : List Frame). Within Greatest (debts frames) (reaped_grants r inc).rec) (sym (granted_frames claims gone)) (granted_pays claims gone (debts freed_frames) (gone_within (within_of r s h))))
+
+reaps_keep : {Greatest : ℕ → Type 0} (r : Record) (inc : ℕ) (t : Took) → Steady r → HasNumbers Greatest r → on_reap r inc ≡ Ok t → HasNumbers Greatest t.rec
+reaps_keep {Greatest} r inc t s h e = if_told (λ (z : Result Took ContainerFault). z ≡ Ok t → HasNumbers Greatest t.rec) (is_alive r inc) (Ok (reap_made r inc)) (Err NoSuch)
+    (λ a g. let same : reap_made r inc ≡ t = cc in subst (λ (z : Took). HasNumbers Greatest z.rec) same (reap_sound r inc s h))
+    (λ a g. cc) e
 
 pub sound_reaps : SoundAfterReaps
-sound_reaps r inc t s h e = if_told (λ (z : Result Took ContainerFault). z ≡ Ok t → IsSound t.rec) (is_alive r inc) (Ok (reap_made r inc)) (Err NoSuch)
-    (λ a g. let same : reap_made r inc ≡ t = cc in subst (λ (z : Took). IsSound z.rec) same (reap_sound r inc s h))
-    (λ a g. cc) e
+sound_reaps r inc t s h e = reaps_keep r inc t s h e
+
+pub numbers_reaps : NumbersAfterReaps
+numbers_reaps limit r inc t s h e = reaps_keep r inc t s h e

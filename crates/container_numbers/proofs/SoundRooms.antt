@@ -10,7 +10,7 @@ use Rattle.container_model.specs.declared.record.Link.{Link}
 use Rattle.container_model.specs.declared.record.Object.{Object}
 use Rattle.container_model.specs.declared.record.Frame.{Frame}
 use Rattle.container_model.specs.Record.{Record, ask, ask_at, ask_each, asked_link, is_object}
-use Rattle.container_model.specs.Room.{IfLinked, IsRoomy, IsSound, debt_in}
+use Rattle.container_model.specs.Room.{IfLinked, IsRoomy, IsSound, debt_in, HasNumbers}
 use Rattle.container_steady.specs.Steady.{EachPair, InOrder, Steady}
 use Rattle.container_steady.proofs.SteadyLookups.{each_found, each_put, each_weaker}
 
@@ -28,8 +28,8 @@ Differs x y = x.number ≡ y.number → ⊥
 abbrev pub IsSaved : ℕ → Frame → Type 0
 IsSaved numbers frame = frame.k ≤ numbers
 
-pub record Within (D : ℕ → ℕ → ℕ) (r : Record) : Type 0 where
-  pub limit : r.numbers ≤ 1000000
+pub record Within (Greatest : ℕ → Type 0) (D : ℕ → ℕ → ℕ) (r : Record) : Type 0 where
+  pub limit : Greatest r.numbers
   pub room : AllByRecursion (Owing r.numbers D) r.objects
   pub saves : AllByRecursion (IsSaved r.numbers) r.frames
   pub frames : length r.frames ≤ r.numbers
@@ -51,7 +51,7 @@ differ : (os : List Object) → EachPair InOrder os → EachPair Differs os
 differ [] h = tt
 differ (o ∷ os) h = (each_weaker (InOrder o) (Differs o) os (λ y k e. (let up = k.rising in absurd (omega arith))) h.0, differ os h.1)
 
-pub within_of : (r : Record) → Steady r → IsSound r → Within (debts r.frames) r
+pub within_of : {Greatest : ℕ → Type 0} (r : Record) → Steady r → HasNumbers Greatest r → Within Greatest (debts r.frames) r
 within_of r s h = record {
   limit = h.limit;
   room = each_of (Owing r.numbers (debts r.frames)) r.objects h.room;
@@ -64,7 +64,7 @@ within_of r s h = record {
   apart = differ r.objects s.order;
 }
 
-pub sound_of : (r : Record) → Within (debts r.frames) r → IsSound r
+pub sound_of : {Greatest : ℕ → Type 0} (r : Record) → Within Greatest (debts r.frames) r → HasNumbers Greatest r
 sound_of r h = record {
   limit = h.limit;
   room = all_of (Owing r.numbers (debts r.frames)) r.objects h.room;
@@ -85,10 +85,10 @@ pub owes_less : (numbers : ℕ) (D E : ℕ → ℕ → ℕ) (o : Object) → E o
 owes_less numbers D E o le h = less_linked numbers (D o.number o.frame) (E o.number o.frame) o.link le h
 
 -- the same record, its objects owing other numbers
-pub owed : (r : Record) (D E : ℕ → ℕ → ℕ) → Within D r → AllByRecursion (Owing r.numbers E) r.objects → Within E r
+pub owed : {Greatest : ℕ → Type 0} (r : Record) (D E : ℕ → ℕ → ℕ) → Within Greatest D r → AllByRecursion (Owing r.numbers E) r.objects → Within Greatest E r
 owed r D E h room = record { limit = h.limit; room = room; saves = h.saves; frames = h.frames; servers = h.servers; objects = h.objects; acts = h.acts; grants = h.grants; apart = h.apart }
 
-pub within_less : (r : Record) (D E : ℕ → ℕ → ℕ) → ((n f : ℕ) → E n f ≤ D n f) → Within D r → Within E r
+pub within_less : {Greatest : ℕ → Type 0} (r : Record) (D E : ℕ → ℕ → ℕ) → ((n f : ℕ) → E n f ≤ D n f) → Within Greatest D r → Within Greatest E r
 within_less r D E le h = owed r D E h (each_weaker (Owing r.numbers D) (Owing r.numbers E) r.objects (λ o k. owes_less r.numbers D E o (le o.number o.frame) k) h.room)
 
 -- ---- one object takes the place of that of its number
@@ -126,8 +126,8 @@ put_absent test a (y ∷ ys) e = elim (test y) as (λ b. (if b then Some y else 
   | false ↦ (λ g. ap (λ zs. y ∷ zs) (put_absent test a ys g))
 ] e
 
-pub put_within : (r : Record) (D E : ℕ → ℕ → ℕ) (a x : Object) → Within D r → find (is_object a.number) r.objects ≡ Some x → ((m f : ℕ) → (m ≡ a.number → ⊥) → E m f ≤ D m f) → Owing r.numbers E a
-    → x.number ≡ a.number → Within E (record r { objects = put (is_object a.number) a r.objects })
+pub put_within : {Greatest : ℕ → Type 0} (r : Record) (D E : ℕ → ℕ → ℕ) (a x : Object) → Within Greatest D r → find (is_object a.number) r.objects ≡ Some x → ((m f : ℕ) → (m ≡ a.number → ⊥) → E m f ≤ D m f) → Owing r.numbers E a
+    → x.number ≡ a.number → Within Greatest E (record r { objects = put (is_object a.number) a r.objects })
 put_within r D E a x h found le new same = record {
   limit = h.limit;
   room = put_room r.numbers D E a.number a r.objects h.apart h.room le new;

@@ -12,13 +12,14 @@ use Rattle.container_model.specs.declared.record.Frame.{Frame}
 use Rattle.container_model.specs.declared.record.Phase.{Phase}
 use Rattle.container_model.specs.declared.record.Phase.TheVariants.{Idle, Saving, HandingOff, Committing, InDoubt}
 use Rattle.container_model.specs.Record.{Record, Took, asked_link}
-use Rattle.container_model.specs.Room.{IfLinked, IsRoomy, IsSound, debt, debt_in, grant_debt}
+use Rattle.container_model.specs.Room.{HasNumbers, IfLinked, IsRoomy, debt, debt_in, grant_debt}
 use Rattle.container_model.specs.Saves.{awaits, cleared, commit_at, commit_fitting, commit_made, committed_frame, completed, completion, image, is_committing, is_ready, is_ready_at, settle, settled_frame, settled_frames}
 use Rattle.container_model.proofs.Completing.{completed_in, completed_out}
-use Rattle.container_numbers.specs.Sound.{SoundAfterCommits}
+use Rattle.container_numbers.specs.Sound.{SoundAfterCommits, NumbersAfterCommits}
 use Rattle.container_steady.proofs.SteadyLookups.{each_map, each_nth, each_set, each_settled, each_weaker, nth-set_other, nth-set_same}
 use Rattle.container_steady.proofs.SteadyTells.{if_told}
-use Rattle.container_numbers.proofs.SoundRooms.{IsSaved, Owing, Within, all_of, asked_linked, debts, each_of, length-set_nth, owes_less}
+use Rattle.container_numbers.proofs.SoundRooms.{IsSaved, Owing, Within, all_of, asked_linked, debts, each_of, length-set_nth, owes_less, within_of}
+use Rattle.container_steady.specs.Steady.{Steady}
 
 -- ---- a frame that goes on to its commit has the same debt
 ready_debt : (phase : Phase) (waits : Bool) → is_ready_at phase waits ≡ true → debt Committing ≡ debt phase
@@ -50,7 +51,7 @@ settled_length f os (frame ∷ frames) = ap suc (settled_length (f + 1) os frame
 settled_k : (numbers f : ℕ) (os : List Object) (frame : Frame) → frame.k ≤ numbers → (settled_frame f os frame).k ≤ numbers
 settled_k numbers f os frame h = if_told (λ (x : Frame). x.k ≤ numbers) (is_ready f os frame) (record frame { phase = Committing }) frame (λ t. h) (λ t. h)
 
-pub settled_sound : (r : Record) → Within (debts r.frames) r → IsSound (settle r)
+pub settled_sound : {Greatest : ℕ → Type 0} (r : Record) → Within Greatest (debts r.frames) r → HasNumbers Greatest (settle r)
 settled_sound r h = record {
   limit = h.limit;
   room = all_of (Owing r.numbers (debts (settled_frames 1 r.objects r.frames))) r.objects
@@ -94,7 +95,7 @@ module _ (r : Record) (f : ℕ) (frame : Frame) (at : nth r.frames f ≡ Some fr
         (subst (λ (m : ℕ). IfLinked (IsRoomy r.numbers m) o.link) (ap (debt_in o.number) (sym (nth-set_other r.frames f o.frame (committed_frame frame) (λ q. eqb-false o.frame f t (sym q))))) h))
   ] refl
 
-  pub commit_sound : IsSound r → IsSound (commit_made r f frame).rec
+  pub commit_sound : {Greatest : ℕ → Type 0} → HasNumbers Greatest r → HasNumbers Greatest (commit_made r f frame).rec
   commit_sound h = record {
     limit = h.limit;
     room = all_of (Owing r.numbers (debts after)) (map (completed f frame) r.objects)
@@ -107,15 +108,18 @@ module _ (r : Record) (f : ℕ) (frame : Frame) (at : nth r.frames f ≡ Some fr
     grants = h.grants;
   }
 
-fitting_keeps : (r : Record) (f : ℕ) (frame : Frame) (parts : Result (List Part) ContainerFault) (t : Took) → nth r.frames f ≡ Some frame → frame.phase ≡ Committing → IsSound r → commit_fitting r f frame parts ≡ Ok t → IsSound t.rec
+fitting_keeps : {Greatest : ℕ → Type 0} (r : Record) (f : ℕ) (frame : Frame) (parts : Result (List Part) ContainerFault) (t : Took) → nth r.frames f ≡ Some frame → frame.phase ≡ Committing → HasNumbers Greatest r → commit_fitting r f frame parts ≡ Ok t → HasNumbers Greatest t.rec
 fitting_keeps r f frame (Err fault) t at p h e = cc
-fitting_keeps r f frame (Ok parts) t at p h e = (let same : commit_made r f frame ≡ t = cc in subst (λ (z : Took). IsSound z.rec) same (commit_sound r f frame at p h))
+fitting_keeps {Greatest} r f frame (Ok parts) t at p h e = (let same : commit_made r f frame ≡ t = cc in subst (λ (z : Took). HasNumbers Greatest z.rec) same (commit_sound r f frame at p h))
 
-commit_keeps : (r : Record) (f : ℕ) (found : Option Frame) (t : Took) → nth r.frames f ≡ found → IsSound r → commit_at r f found ≡ Ok t → IsSound t.rec
+commit_keeps : {Greatest : ℕ → Type 0} (r : Record) (f : ℕ) (found : Option Frame) (t : Took) → nth r.frames f ≡ found → HasNumbers Greatest r → commit_at r f found ≡ Ok t → HasNumbers Greatest t.rec
 commit_keeps r f None t at h e = cc
-commit_keeps r f (Some frame) t at h e = if_told (λ (z : Result Took ContainerFault). z ≡ Ok t → IsSound t.rec) (is_committing frame.phase) (commit_fitting r f frame (image r f)) (Err WrongState)
+commit_keeps {Greatest} r f (Some frame) t at h e = if_told (λ (z : Result Took ContainerFault). z ≡ Ok t → HasNumbers Greatest t.rec) (is_committing frame.phase) (commit_fitting r f frame (image r f)) (Err WrongState)
     (λ c g. fitting_keeps r f frame (image r f) t at (committing_from frame.phase c) h g)
     (λ c g. cc) e
 
 pub sound_commits : SoundAfterCommits
 sound_commits r f t s h e = commit_keeps r f (nth r.frames f) t refl h e
+
+pub numbers_commits : NumbersAfterCommits
+numbers_commits limit r f t s h e = commit_keeps r f (nth r.frames f) t refl h e

@@ -22,7 +22,7 @@ use Rattle.container_model.specs.declared.fault.ContainerFault.{ContainerFault}
 use Rattle.container_model.specs.declared.fault.ContainerFault.TheVariants.{Busy, InDoubt as Doubtful, NumbersSpent}
 use Rattle.container_model.specs.Grants.{grant_of, moved, requested}
 use Rattle.container_model.specs.Record.{Record, Took, asked_link, counts_none, has_numbers, is_busy, is_doubtful, is_moving, is_object, is_saving, quiet_answer, with_frame, with_object}
-use Rattle.container_model.specs.Room.{IfLinked, IsRoomy, IsSound}
+use Rattle.container_model.specs.Room.{HasNumbers, IfLinked, IsRoomy}
 use Rattle.container_model.specs.Verbs as verbs
 use Rattle.container_model.specs.Verbs.{before_taking, claim_of, claimed, gives_up, holder_has_numbers, holder_of, leaving_made, object_has_numbers, operation_of, revoked, revoked_at, stepped_link, steps_now, takes, taking_made}
 use Rattle.container_steady.specs.Steady.{Steady}
@@ -83,7 +83,7 @@ fewer_now (Held c tools) ts = fewer_before ts
 fewer_now (Revoking c next) ts = fewer_before ts
 
 -- ---- an object that takes its steps
-module _ (r : Record) (o : Object) (frame : Frame) (l : Link) (h : Within (debts r.frames) r) (found : find (is_object o.number) r.objects ≡ Some o) (at : nth r.frames o.frame ≡ Some frame) (is : o.link ≡ Some l) (has : has_numbers r.numbers l ≡ true) where
+module _ {Greatest : ℕ → Type 0} (r : Record) (o : Object) (frame : Frame) (l : Link) (h : Within Greatest (debts r.frames) r) (found : find (is_object o.number) r.objects ≡ Some o) (at : nth r.frames o.frame ≡ Some frame) (is : o.link ≡ Some l) (has : has_numbers r.numbers l ≡ true) where
   old : IsRoomy r.numbers (debts r.frames o.number o.frame) l
   old = subst (IfLinked (IsRoomy r.numbers (debts r.frames o.number o.frame))) is (each_found (Owing r.numbers (debts r.frames)) (is_object o.number) r.objects o h.room found)
 
@@ -96,14 +96,14 @@ module _ (r : Record) (o : Object) (frame : Frame) (l : Link) (h : Within (debts
   saved : frame.k ≤ r.numbers
   saved = each_nth (IsSaved r.numbers) r.frames o.frame frame h.saves at
 
-  asks : (g : ℕ) → Within (debts r.frames) (with_frame r o.frame (moved frame (Ask (claim_of o l g))))
+  asks : (g : ℕ) → Within Greatest (debts r.frames) (with_frame r o.frame (moved frame (Ask (claim_of o l g))))
   asks g = one_framed r (debts r.frames) o.frame (moved frame (Ask (claim_of o l g))) h saved
 
-  leaving_sound : (ts : List Step) → length ts ≤ 3 → IsSound (leaving_made r frame o l ts).rec
+  leaving_sound : (ts : List Step) → length ts ≤ 3 → HasNumbers Greatest (leaving_made r frame o l ts).rec
   leaving_sound ts few =
       let x : Object = record o { link = Some (stepped_link 0 l ts).link } in
       let next = moved frame (Ask (claim_of o l (grant_of frame.ui.state))) in
-      if_told (λ (u : Record). IsSound (with_object u x)) (gives_up ts) (with_frame r o.frame next) r
+      if_told (λ (u : Record). HasNumbers Greatest (with_object u x)) (gives_up ts) (with_frame r o.frame next) r
       (λ t. sound_of (with_object (with_frame r o.frame next) x)
       (put_within (with_frame r o.frame next) (debts r.frames) (debts (set_nth r.frames o.frame next)) x o (asks (grant_of frame.ui.state)) found
       (λ m f ne. asks_debts r.frames o.frame frame (claim_of o l (grant_of frame.ui.state)) at m f (λ q. ne (sym q)))
@@ -130,14 +130,14 @@ module _ (r : Record) (o : Object) (frame : Frame) (l : Link) (h : Within (debts
   but_others : (m f : ℕ) → (m ≡ o.number → ⊥) → debts after m f ≤ but m f
   but_others m f ne = if_told (λ (x : ℕ). debts after m f ≤ x) (o.number == m) 0 (debts after m f) (λ t. absurd (ne (sym (eqb-true o.number m t)))) (λ t. omega arith)
 
-  claimed_within : r.last_g < r.numbers → Within but (claimed r frame o l)
+  claimed_within : r.last_g < r.numbers → Within Greatest but (claimed r frame o l)
   claimed_within lt =
-      let w : Within but (with_frame r o.frame next) = within_less (with_frame r o.frame next) (debts r.frames) but but_less (asks (r.last_g + 1)) in
+      let w : Within Greatest but (with_frame r o.frame next) = within_less (with_frame r o.frame next) (debts r.frames) but but_less (asks (r.last_g + 1)) in
       record { limit = w.limit; room = w.room; saves = w.saves; frames = w.frames; servers = w.servers; objects = w.objects; acts = w.acts; grants = (omega arith); apart = w.apart }
 
   -- what the holder leaves to whoever is put then
   pub record Left (u : Record) : Type 0 where
-    pub within : Within but u
+    pub within : Within Greatest but u
     pub frames : u.frames ≡ after
     pub numbers : u.numbers ≡ r.numbers
     pub x : Object
@@ -160,76 +160,76 @@ module _ (r : Record) (o : Object) (frame : Frame) (l : Link) (h : Within (debts
   revoked_left None lt c = record { within = claimed_within lt; frames = refl; numbers = refl; x = o; number = refl; here = found }
   revoked_left (Some n) lt c = requested_left n (find (is_object n) r.objects) lt refl c
 
-  put_left : (u : Record) (m : Link) → Left u → IsRoomy r.numbers (debts after o.number o.frame) m → IsSound (with_object u (record o { link = Some m }))
+  put_left : (u : Record) (m : Link) → Left u → IsRoomy r.numbers (debts after o.number o.frame) m → HasNumbers Greatest (with_object u (record o { link = Some m }))
   put_left u m k room =
       let a : Object = record o { link = Some m } in
       let owing : Owing u.numbers (debts after) a = subst (λ (z : ℕ). IsRoomy z (debts after o.number o.frame) m) (sym k.numbers) room in
-      let w : Within (debts after) (with_object u a) = put_within u but (debts after) a k.x k.within k.here but_others owing k.number in
-      sound_of (with_object u a) (subst (λ (fs : List Frame). Within (debts fs) (with_object u a)) (sym k.frames) w)
+      let w : Within Greatest (debts after) (with_object u a) = put_within u but (debts after) a k.x k.within k.here but_others owing k.number in
+      sound_of (with_object u a) (subst (λ (fs : List Frame). Within Greatest (debts fs) (with_object u a)) (sym k.frames) w)
 
-  taking_sound : (ts : List Step) → length ts ≤ 3 → r.last_g < r.numbers → holder_has_numbers r (holder_of frame.ui.state) ≡ true → IsSound (taking_made r frame o l ts).rec
+  taking_sound : (ts : List Step) → length ts ≤ 3 → r.last_g < r.numbers → holder_has_numbers r (holder_of frame.ui.state) ≡ true → HasNumbers Greatest (taking_made r frame o l ts).rec
   taking_sound ts few lt c =
       let fewer = fewer_now frame.ui.state ts in
       put_left (revoked r frame o l).rec (stepped_link (r.last_g + 1) l (steps_now frame.ui.state ts)).link (revoked_left (holder_of frame.ui.state) lt c) (stepped after (r.last_g + 1) (steps_now frame.ui.state ts) (omega arith))
 
-  stepping_sound : (ts : List Step) (t : Took) → length ts ≤ 3 → verbs.stepping r frame o l ts ≡ Ok t → IsSound t.rec
-  stepping_sound ts t few g = if_told (λ (z : Result Took ContainerFault). z ≡ Ok t → IsSound t.rec) (takes ts) (verbs.taking r frame o l ts) (Ok (leaving_made r frame o l ts))
+  stepping_sound : (ts : List Step) (t : Took) → length ts ≤ 3 → verbs.stepping r frame o l ts ≡ Ok t → HasNumbers Greatest t.rec
+  stepping_sound ts t few g = if_told (λ (z : Result Took ContainerFault). z ≡ Ok t → HasNumbers Greatest t.rec) (takes ts) (verbs.taking r frame o l ts) (Ok (leaving_made r frame o l ts))
       (λ b q.
       let tests = unless_ok (nat_le r.numbers r.last_g || not (holder_has_numbers r (holder_of frame.ui.state))) NumbersSpent _ t q in
       let made = tests.1 in
       let both = or_false (nat_le r.numbers r.last_g) (not (holder_has_numbers r (holder_of frame.ui.state))) tests.0 in
       let same : taking_made r frame o l ts ≡ t = cc in
-      subst (λ (z : Took). IsSound z.rec) same (taking_sound ts few (leb-false r.numbers r.last_g both.0) (not_false (holder_has_numbers r (holder_of frame.ui.state)) both.1)))
-      (λ b q. let same : leaving_made r frame o l ts ≡ t = cc in subst (λ (z : Took). IsSound z.rec) same (leaving_sound ts few)) g
+      subst (λ (z : Took). HasNumbers Greatest z.rec) same (taking_sound ts few (leb-false r.numbers r.last_g both.0) (not_false (holder_has_numbers r (holder_of frame.ui.state)) both.1)))
+      (λ b q. let same : leaving_made r frame o l ts ≡ t = cc in subst (λ (z : Took). HasNumbers Greatest z.rec) same (leaving_sound ts few)) g
 
-  pub closing_sound : (row : Option (List Step)) (t : Took) → IsFew row → verbs.close_steps_made r frame o l row ≡ Ok t → IsSound t.rec
+  pub closing_sound : (row : Option (List Step)) (t : Took) → IsFew row → verbs.close_steps_made r frame o l row ≡ Ok t → HasNumbers Greatest t.rec
   closing_sound None t few g = cc
-  closing_sound (Some ts) t few g = (let same : leaving_made r frame o l ts ≡ t = cc in subst (λ (z : Took). IsSound z.rec) same (leaving_sound ts few))
+  closing_sound (Some ts) t few g = (let same : leaving_made r frame o l ts ≡ t = cc in subst (λ (z : Took). HasNumbers Greatest z.rec) same (leaving_sound ts few))
 
 -- ---- what a verb asks for
-verb_stepped : (r : Record) (o : Object) (frame : Frame) (l : Link) (row : Option (List Step)) (t : Took) → Steady r → IsSound r → find (is_object o.number) r.objects ≡ Some o → nth r.frames o.frame ≡ Some frame → o.link ≡ Some l → IsFew row → verbs.verb_steps r frame o l row ≡ Ok t → IsSound t.rec
+verb_stepped : {Greatest : ℕ → Type 0} (r : Record) (o : Object) (frame : Frame) (l : Link) (row : Option (List Step)) (t : Took) → Steady r → HasNumbers Greatest r → find (is_object o.number) r.objects ≡ Some o → nth r.frames o.frame ≡ Some frame → o.link ≡ Some l → IsFew row → verbs.verb_steps r frame o l row ≡ Ok t → HasNumbers Greatest t.rec
 verb_stepped r o frame l None t s h found at is few g = cc
-verb_stepped r o frame l (Some []) t s h found at is few g = (let same : counts_none r quiet_answer ≡ t = cc in subst (λ (z : Took). IsSound z.rec) same h)
+verb_stepped {Greatest} r o frame l (Some []) t s h found at is few g = (let same : counts_none r quiet_answer ≡ t = cc in subst (λ (z : Took). HasNumbers Greatest z.rec) same h)
 verb_stepped r o frame l (Some (x ∷ xs)) t s h found at is few g =
     let a = unless_ok (not (has_numbers r.numbers l)) NumbersSpent _ t g in
     stepping_sound r o frame l (within_of r s h) found at is (not_false (has_numbers r.numbers l) a.0) (x ∷ xs) t few a.1
 
-verb_numbered : (r : Record) (o : Object) (frame : Frame) (v : Option Verb) (link : Option Link) (t : Took) → Steady r → IsSound r → find (is_object o.number) r.objects ≡ Some o → nth r.frames o.frame ≡ Some frame → o.link ≡ link → verbs.verb_linked r frame o v link ≡ Ok t → IsSound t.rec
+verb_numbered : {Greatest : ℕ → Type 0} (r : Record) (o : Object) (frame : Frame) (v : Option Verb) (link : Option Link) (t : Took) → Steady r → HasNumbers Greatest r → find (is_object o.number) r.objects ≡ Some o → nth r.frames o.frame ≡ Some frame → o.link ≡ link → verbs.verb_linked r frame o v link ≡ Ok t → HasNumbers Greatest t.rec
 verb_numbered r o frame v None t s h found at is e = cc
 verb_numbered r o frame None (Some l) t s h found at is e = cc
 verb_numbered r o frame (Some v) (Some l) t s h found at is e = verb_stepped r o frame l (steps v l.states.object) t s h found at is (few_steps v l.states.object) e
 
-verb_in_sound : (r : Record) (o : Object) (v : Option Verb) (f : Option Frame) (t : Took) → Steady r → IsSound r → find (is_object o.number) r.objects ≡ Some o → nth r.frames o.frame ≡ f → verbs.verb_in r o v f ≡ Ok t → IsSound t.rec
+verb_in_sound : {Greatest : ℕ → Type 0} (r : Record) (o : Object) (v : Option Verb) (f : Option Frame) (t : Took) → Steady r → HasNumbers Greatest r → find (is_object o.number) r.objects ≡ Some o → nth r.frames o.frame ≡ f → verbs.verb_in r o v f ≡ Ok t → HasNumbers Greatest t.rec
 verb_in_sound r o v None t s h found at e = cc
 verb_in_sound r o v (Some frame) t s h found at e =
     let a = unless_ok (is_doubtful frame.phase) Doubtful _ t e in
     let b = unless_ok (is_saving frame.phase || is_busy frame.ui.state o || (verbs.wants_ui v && is_moving frame.ui.state)) Busy _ t a.1 in
     verb_numbered r o frame v o.link t s h found at refl b.1
 
-verb_at_sound : (r : Record) (n : ℕ) (v : Option Verb) (o : Option Object) (t : Took) → Steady r → IsSound r → find (is_object n) r.objects ≡ o → verbs.verb_at r v o ≡ Ok t → IsSound t.rec
+verb_at_sound : {Greatest : ℕ → Type 0} (r : Record) (n : ℕ) (v : Option Verb) (o : Option Object) (t : Took) → Steady r → HasNumbers Greatest r → find (is_object n) r.objects ≡ o → verbs.verb_at r v o ≡ Ok t → HasNumbers Greatest t.rec
 verb_at_sound r n v None t s h found e = cc
 verb_at_sound r n v (Some o) t s h found e = verb_in_sound r o v (nth r.frames o.frame) t s h (found_numbered n r.objects o found) refl e
 
-pub verb_sound : (r : Record) (n : ℕ) (number : ℤ) (t : Took) → Steady r → IsSound r → verbs.verb r n number ≡ Ok t → IsSound t.rec
+pub verb_sound : {Greatest : ℕ → Type 0} (r : Record) (n : ℕ) (number : ℤ) (t : Took) → Steady r → HasNumbers Greatest r → verbs.verb r n number ≡ Ok t → HasNumbers Greatest t.rec
 verb_sound r n number t s h e = verb_at_sound r n (verb_of number) (find (is_object n) r.objects) t s h refl e
 
 -- ---- what a close asks for
-close_numbered : (r : Record) (o : Object) (frame : Frame) (option : CloseOption) (link : Option Link) (t : Took) → Steady r → IsSound r → find (is_object o.number) r.objects ≡ Some o → nth r.frames o.frame ≡ Some frame → o.link ≡ link → verbs.close_linked r frame o option link ≡ Ok t → IsSound t.rec
+close_numbered : {Greatest : ℕ → Type 0} (r : Record) (o : Object) (frame : Frame) (option : CloseOption) (link : Option Link) (t : Took) → Steady r → HasNumbers Greatest r → find (is_object o.number) r.objects ≡ Some o → nth r.frames o.frame ≡ Some frame → o.link ≡ link → verbs.close_linked r frame o option link ≡ Ok t → HasNumbers Greatest t.rec
 close_numbered r o frame option None t s h found at is e = cc
 close_numbered r o frame option (Some l) t s h found at is e =
     let a = unless_ok (not (has_numbers r.numbers l)) NumbersSpent _ t e in
     closing_sound r o frame l (within_of r s h) found at is (not_false (has_numbers r.numbers l) a.0) (close_steps option l.states.object) t (few_closes option l.states.object) a.1
 
-close_in_sound : (r : Record) (o : Object) (option : CloseOption) (f : Option Frame) (t : Took) → Steady r → IsSound r → find (is_object o.number) r.objects ≡ Some o → nth r.frames o.frame ≡ f → verbs.close_in r o option f ≡ Ok t → IsSound t.rec
+close_in_sound : {Greatest : ℕ → Type 0} (r : Record) (o : Object) (option : CloseOption) (f : Option Frame) (t : Took) → Steady r → HasNumbers Greatest r → find (is_object o.number) r.objects ≡ Some o → nth r.frames o.frame ≡ f → verbs.close_in r o option f ≡ Ok t → HasNumbers Greatest t.rec
 close_in_sound r o option None t s h found at e = cc
 close_in_sound r o option (Some frame) t s h found at e =
     let a = unless_ok (is_doubtful frame.phase) Doubtful _ t e in
     let b = unless_ok (is_saving frame.phase || is_busy frame.ui.state o) Busy _ t a.1 in
     close_numbered r o frame option o.link t s h found at refl b.1
 
-close_at_sound : (r : Record) (n : ℕ) (option : CloseOption) (o : Option Object) (t : Took) → Steady r → IsSound r → find (is_object n) r.objects ≡ o → verbs.close_at r option o ≡ Ok t → IsSound t.rec
+close_at_sound : {Greatest : ℕ → Type 0} (r : Record) (n : ℕ) (option : CloseOption) (o : Option Object) (t : Took) → Steady r → HasNumbers Greatest r → find (is_object n) r.objects ≡ o → verbs.close_at r option o ≡ Ok t → HasNumbers Greatest t.rec
 close_at_sound r n option None t s h found e = cc
 close_at_sound r n option (Some o) t s h found e = close_in_sound r o option (nth r.frames o.frame) t s h (found_numbered n r.objects o found) refl e
 
-pub close_sound : (r : Record) (n : ℕ) (option : CloseOption) (t : Took) → Steady r → IsSound r → verbs.close r n option ≡ Ok t → IsSound t.rec
+pub close_sound : {Greatest : ℕ → Type 0} (r : Record) (n : ℕ) (option : CloseOption) (t : Took) → Steady r → HasNumbers Greatest r → verbs.close r n option ≡ Ok t → HasNumbers Greatest t.rec
 close_sound r n option t s h e = close_at_sound r n option (find (is_object n) r.objects) t s h refl e

@@ -1,11 +1,11 @@
 -- What holds of every world, whatever happened in it.
-use Rattle.std.specs.Prelude.{◌≡◌, ◌≢◌, ◌⊎◌, ◌==◌, ℕ, true, false, List, [], ◌∷◌, map, Option, Some, None, Ok, if◌then◌else◌, ⊤}
+use Rattle.std.specs.Prelude.{◌≡◌, ◌≢◌, ◌⊎◌, ◌≤◌, ◌==◌, ℕ, true, false, List, [], ◌∷◌, map, Option, Some, None, Ok, if◌then◌else◌, ⊤}
 use Rattle.std.specs.List.{flat_map}
 use Rattle.wire_msgs.specs.Found.{find, nth}
 use Rattle.wire_msgs.specs.declared.message.Message.{Message}
 use Rattle.wire_msgs.specs.declared.message.Message.TheVariants.{Call, Reply, Write, Ask}
 use Rattle.wire_msgs.specs.declared.operation.Operation.{Operation}
-use Rattle.wire_msgs.specs.declared.operation.Operation.TheVariants.{UiActivate, Close}
+use Rattle.wire_msgs.specs.declared.operation.Operation.TheVariants.{UiActivate, Save, SaveCompleted, SaveDropped, Close}
 use Rattle.wire_msgs.specs.declared.answer.Answer.{Answer}
 use Rattle.wire_msgs.specs.declared.answer.Answer.TheVariants.{Content}
 use Rattle.wire_msgs.specs.declared.answer.Answer.TheVariants as answer
@@ -58,6 +58,22 @@ messages xs = map (λ (x : Sent). x.message) xs
 
 abbrev pub WasSent : World → Message → Type 0
 WasSent w m = Among (messages w.sent) m
+
+-- the number that an operation carries, of a grant or of a save, is at most the limit
+abbrev pub CarriesWithin : ℕ → Operation → Type 0
+CarriesWithin limit (UiActivate g) = g ≤ limit
+CarriesWithin limit (Save k) = k ≤ limit
+CarriesWithin limit (SaveCompleted k storage) = k ≤ limit
+CarriesWithin limit (SaveDropped k) = k ≤ limit
+CarriesWithin limit op = ⊤
+
+-- Every number of a message is at most the limit: those of the server, of the activation, of the call and of what it asks,
+-- of the storage grant and of the write, of the grant. What answers and contents say isn't numbered.
+abbrev pub IsWithin : ℕ → Message → Type 0
+IsWithin limit (Call inc act n op) = (inc ≤ limit) × (act ≤ limit) × (n ≤ limit) × CarriesWithin limit op
+IsWithin limit (Reply inc act n answer) = (inc ≤ limit) × (act ≤ limit) × (n ≤ limit)
+IsWithin limit (Write inc act s number content) = (inc ≤ limit) × (act ≤ limit) × (s ≤ limit) × (number ≤ limit)
+IsWithin limit (Ask inc act g) = (inc ≤ limit) × (act ≤ limit) × (g ≤ limit)
 
 -- no save of an object is counted twice, by the container or by servers
 abbrev pub IsAnother : Done → Done → Type 0
@@ -177,6 +193,8 @@ pub record Safe (w : World) : Type 0 where
   pub container_once : CountedOnce w.container_done
   pub server_once : ServedOnce w.server_done
   pub agreed : (e : ServerDone) → Among w.server_done e → Among w.container_done (record { object = e.object; k = e.k; content = e.content })
+  -- every number of a message is at most the limit of the world's numbers
+  pub numbered : (m : Message) → WasSent w m → IsWithin w.rec.numbers m
   -- the container counts by commits alone
   pub commits : (commits : List Commit) × IsCounted w commits
   -- the file of each frame with a counted commit

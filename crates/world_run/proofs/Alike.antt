@@ -1,5 +1,6 @@
 -- Servers seen in two ways are alike but for what the objects in their boxes are said to contain.
 use Rattle.std.proofs.Common.{◌≡◌, ℕ, zero, suc, true, false, List, [], ◌∷◌, length, map, Option, Some, None, option_map, refl, ap, nat_eq, slice_get, if◌then◌else◌}
+use Rattle.std.specs.List.{AllByRecursion}
 use Rattle.wire_msgs.specs.Found.{find}
 use Rattle.embed_core.specs.Content.{Content}
 use Rattle.server_model.specs.Server.{is_act}
@@ -10,6 +11,7 @@ use Rattle.world_run.specs.declared.instance.Instance as held
 use Rattle.world_run.specs.View.{seen_instance}
 use Rattle.world_model.specs.Safe.{act_at, acts_of}
 use Rattle.world_facts.specs.Words.{life_at, lives_of}
+use Rattle.world_numbers.specs.Numbers.{IsActivationWithin, RunsWithin}
 use Rattle.world_safety.proofs.Alike.{Alike}
 
 -- the same servers, whatever their objects are said to contain
@@ -55,3 +57,12 @@ module _ {X : Type 0} {V : X → Type 0} (c d : Seat X V → Content) where
   pub many_alike : (xs : List (held.Instance X V)) → length (map (seen_instance d) xs) ≡ length (map (seen_instance c) xs)
   many_alike [] = refl
   many_alike (x ∷ xs) = ap suc (many_alike xs)
+
+  -- their numbers
+  activations_alike : (limit : ℕ) (xs : List (code.Activation X V)) → AllByRecursion (IsActivationWithin limit) (map (seen_activation c) xs) → AllByRecursion (IsActivationWithin limit) (map (seen_activation d) xs)
+  activations_alike limit [] h = tt
+  activations_alike limit (x ∷ xs) h = (record { act = h.0.act; last = h.0.last; s = h.0.s; granted = h.0.granted }, activations_alike limit xs h.1)
+
+  pub servers_alike : (limit : ℕ) (xs : List (held.Instance X V)) → AllByRecursion (RunsWithin limit) (map (seen_instance c) xs) → AllByRecursion (RunsWithin limit) (map (seen_instance d) xs)
+  servers_alike limit [] h = tt
+  servers_alike limit (x ∷ xs) h = (record { inc = h.0.inc; numbers = h.0.numbers; acts = activations_alike limit x.core.acts.items h.0.acts }, servers_alike limit xs h.1)

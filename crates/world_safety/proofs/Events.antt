@@ -40,6 +40,8 @@ use Rattle.world_steps.proofs.Instances.{nth_same}
 use Rattle.world_steps.proofs.Asking.{new_asks, insert_asks, edit_asks, save_asks}
 use Rattle.world_grants.proofs.Ending.{reap_moves}
 use Rattle.world_grants.proofs.Taking.{command_moves, committed_moves, message_moves}
+use Rattle.world_numbers.specs.Numbers.{ArePending}
+use Rattle.world_numbers.proofs.Pending.{asks_pending}
 use Rattle.world_steps.specs.Steps.{IsTurned}
 use Rattle.world_steps.proofs.Closing.{delete_asks, close_asks}
 use Rattle.world_steps.proofs.Verbing.{verb_asks}
@@ -81,7 +83,7 @@ agrees_commanded w c (Err fault) h e = h
 agrees_commanded w c (Ok t) h e = agrees_command w c t h e
 
 -- deliveries
-among_place : (sent : List Sent) (p : ℕ) (x : Sent) → nth sent p ≡ Some x → Among (messages sent) x.message
+pub among_place : (sent : List Sent) (p : ℕ) (x : Sent) → nth sent p ≡ Some x → Among (messages sent) x.message
 among_place sent zero x e = cc
 among_place sent (suc i) x e = at sent i e
   where
@@ -168,6 +170,11 @@ module _ (w : World) (k : Files w) (h : AgreesIn w) (f : ℕ) (frame : Frame) (a
       let b = k.counted_bounded.below (id_of z.0) d frame (among_map id_of w.rec.objects z.0 z.1) p (eo ∙ z.3) (ap (nth w.rec.frames) z.2 ∙ at) in
       let lt : d.k < frame.k = b.under (λ n. (let y : Committing ≡ Idle = sym committing ∙ n in cc)) in
       absurd (omega arith)
+
+  -- what is told of the commit is pending then
+  pub commit_pending : ArePending (links_of made.rec.objects) (messages_of made.answer.actions)
+  commit_pending = asks_pending (IsTold (links_of w.rec.objects) frame.k fresh) (links_of w.rec.objects) (links_of made.rec.objects) (messages_of made.answer.actions)
+      (commit_counts w.rec f frame h.steady at committing w.container_done apart).tells
 
   pub commit_agrees : Steady (commit_made w.rec f frame).rec
       → Agrees (commit_made w.rec f frame).rec (ended_by (commit_made w.rec f frame).answer.actions w.instances ++ started_by (commit_made w.rec f frame).rec.numbers (commit_made w.rec f frame).answer.actions)

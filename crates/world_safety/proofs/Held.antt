@@ -17,6 +17,7 @@ use Rattle.world_safety.specs.Holding.{AgreesIn, Holds}
 use Rattle.world_safety.proofs.Events.{agrees_happened}
 use Rattle.world_safety.proofs.Granting.{granted_happened}
 use Rattle.world_safety.proofs.Holders.{holder, one_holder}
+use Rattle.world_safety.proofs.Numbering.{empty_numbers, numbers_happened}
 use Rattle.world_safety.proofs.Once.{once_answered}
 
 has_saved : (a : Option Activation) (c : Stored) → HasSaved c a → (b : Activation) × (a ≡ Some b) × (b.saved ≡ Some c)
@@ -37,6 +38,7 @@ safe_held w h = (let f = h.agrees.facts in record {
   container_once = h.files.counted_bounded.counted_once;
   server_once = f.counts.server_once;
   agreed = λ e g. f.counts.server_counted e g tt;
+  numbered = h.numbers.sent;
   commits = commits_kept w h.files;
   files = files_kept w h.files;
 })
@@ -94,10 +96,13 @@ empty_agrees numbers stock = record {
 }
 
 pub empty_held : (numbers : ℕ) (stock : List Kind) → Holds (empty_world numbers stock)
-empty_held numbers stock = record { agrees = empty_agrees numbers stock; files = empty_files numbers stock; taken_held = λ t h. absurd h }
+empty_held numbers stock = record { agrees = empty_agrees numbers stock; files = empty_files numbers stock; numbers = empty_numbers numbers stock; taken_held = λ t h. absurd h }
 
 held_happened : (w : World) (bytes : List ℕ) (e : Event) (v : World) → Holds w → IsImage w bytes e → happened w bytes e ≡ Ok v → Holds v
-held_happened w bytes e v h im ok = record { agrees = agrees_happened w bytes e v h.files h.agrees ok; files = files_happened w bytes e v h.agrees.steady h.files im ok; taken_held = granted_happened w bytes e v h.agrees h.taken_held ok }
+held_happened w bytes e v h im ok =
+    let agrees = agrees_happened w bytes e v h.files h.agrees ok in
+    let files = files_happened w bytes e v h.agrees.steady h.files im ok in
+    record { agrees = agrees; files = files; numbers = numbers_happened w bytes e v h.agrees h.files h.numbers agrees files ok; taken_held = granted_happened w bytes e v h.agrees h.taken_held ok }
 
 pub held_run : (w : World) (es : List Event) (after : World) → Holds w → Run w es after → Holds after
 held_run w [] after h r = subst Holds (sym r) h

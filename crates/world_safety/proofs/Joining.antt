@@ -34,7 +34,7 @@ use Rattle.world_grants.proofs.Answering.{ready_for}
 use Rattle.world_grants.proofs.Stepping as starting
 use Rattle.world_grants.proofs.Stepping.{followed}
 use Rattle.world_grants.proofs.Taking.{MovesBy, command_moves}
-use Rattle.world_steps.specs.Steps.{IsPlain, IsTurned, IsReplied, IsReaped}
+use Rattle.world_steps.specs.Steps.{IsBegun, IsPlain, IsTurned, IsReplied, IsReaped}
 use Rattle.world_steps.proofs.Keeping.{AreKept, longer, messages_longer, turned_kept, replied_kept, reaped_kept}
 use Rattle.world_steps.proofs.Instances.{nth_same, nth_other}
 use Rattle.world_steps.proofs.Objects.{messages_of_log, messages_told}
@@ -135,10 +135,20 @@ owner_new owners last o e = (let z : suc (length owners) ≡ last + 1 = omega ar
     at [] = refl
     at (x ∷ xs) = at xs
 
+host : (w : World) (inc : ℕ) → AgreesIn w → is_alive w.rec inc ≡ true → (life : Life) × (lives_of w.instances inc ≡ Some life)
+host w inc h a = at (nth w.rec.servers inc) refl a
+  where
+    at : (s : Option Bool) → nth w.rec.servers inc ≡ s → is_unreaped s ≡ true → (life : Life) × (lives_of w.instances inc ≡ Some life)
+    at None f g = cc
+    at (Some b) f g = (let p = nth_aligned w.rec.servers w.instances inc b h.servers f in (p.0.life, ap life_at p.1))
+
+pub run_begun : (w : World) (o inc : ℕ) (t : Took) → AgreesIn w → on_command w.rec (command.Run o inc) ≡ Ok t → IsBegun w.rec (lives_of w.instances) (w.owners ++ o ∷ []) o t
+run_begun w o inc t h e = run_begins w.rec (lives_of w.instances) (w.owners ++ o ∷ []) o inc t h.steady e (owner_new w.owners w.rec.last_act o h.facts.drawn.many) (host w inc h)
+
 pub run_joined : (w : World) (o inc : ℕ) (t : Took) → AgreesIn w → on_command w.rec (command.Run o inc) ≡ Ok t → AgreesIn (record (joined w t) { owners = w.owners ++ o ∷ [] })
 run_joined w o inc t h e =
     let r = w.rec in
-    let b = run_begins r (lives_of w.instances) (w.owners ++ o ∷ []) o inc t h.steady e (owner_new w.owners r.last_act o h.facts.drawn.many) host in
+    let b = run_begun w o inc t h e in
     let many : length (w.owners ++ o ∷ []) ≡ r.last_act + 1 = length_more w.owners o ∙ (ap suc h.facts.drawn.many ∙ (let y : suc r.last_act ≡ r.last_act + 1 = omega arith in y)) in
     let f = begun (links_of r.objects) (links_of t.rec.objects) (acts_of w.instances) (lives_of w.instances) (messages w.sent) (messages_of t.answer.actions) w.owners (o ∷ []) r.last_act w.container_done w.server_done o b.begins many h.facts in
     let more = messages_of t.answer.actions in
@@ -150,13 +160,6 @@ run_joined w o inc t h e =
     (grows_calls w.sent more calls) h.views)
     (starting.begun (links_of r.objects) (links_of t.rec.objects) (acts_of w.instances) (lives_of w.instances) (messages w.sent) more w.owners (o ∷ []) r.last_act o w.container_done w.server_done (roles_of r) (roles_of t.rec)
     h.facts h.grants (ready_for r h.steady).linked (command_moves r (command.Run o inc) t h.steady e) calls b.begins)
-  where
-    host : is_alive w.rec inc ≡ true → (life : Life) × (lives_of w.instances inc ≡ Some life)
-    host a = at (nth w.rec.servers inc) refl a
-      where
-        at : (s : Option Bool) → nth w.rec.servers inc ≡ s → is_unreaped s ≡ true → (life : Life) × (lives_of w.instances inc ≡ Some life)
-        at None f g = cc
-        at (Some b) f g = (let p = nth_aligned w.rec.servers w.instances inc b h.servers f in (p.0.life, ap life_at p.1))
 
 -- the server of an activation is there
 pub hosted : (is : List Instance) (inc act : ℕ) (a : Activation) → acts_of is inc act ≡ Some a → (life : Life) × (lives_of is inc ≡ Some life)

@@ -8,4 +8,5 @@ pub mod Granting
 pub mod Once
 pub mod Alike
 pub mod Holders
+pub mod Numbering
 pub mod Held

@@ -13,6 +13,7 @@ use Rattle.world_facts.specs.Facts.{Facts}
 use Rattle.world_facts.specs.Views.{Views}
 use Rattle.world_files.specs.Files.{Files}
 use Rattle.world_grants.specs.Grants.{Grants, roles_of}
+use Rattle.world_numbers.specs.Numbers.{Numbers}
 
 -- The container's record, the servers, the messages and the logs agree: the record is steady by itself, the servers are
 -- those that it started, and the facts hold of what is looked up, of what senders saw, and of who has frames.
@@ -29,5 +30,6 @@ AgreesIn w = Agrees w.rec w.instances w.sent w.owners w.container_done w.server_
 pub record Holds (w : World) : Type 0 where
   pub agrees : AgreesIn w
   pub files : Files w
+  pub numbers : Numbers w.rec.numbers w
   -- the contents that were taken
   pub taken_held : (t : Taken) → Among w.taken t → IsGranted w t

@@ -1,0 +1,166 @@
+-- In a steady record within its numbers, what is pending of a link is within them, as a call.
+use Rattle.std.proofs.Common.{◌≡◌, ◌≤◌, ◌==◌, ℕ, Bool, true, false, List, [], ◌∷◌, length, Option, Some, None, Ok, Err, refl, sym, ap, ◌∙◌, arith, subst, if◌then◌else◌}
+use Rattle.std.specs.Prelude.{IsOkAnd}
+use Rattle.std.specs.List.{AllByRecursion}
+use Rattle.wire_msgs.specs.Found.{nth}
+use Rattle.wire_msgs.specs.declared.message.Message.TheVariants.{Call}
+use Rattle.wire_msgs.specs.declared.operation.Operation.{Operation}
+use Rattle.wire_msgs.specs.declared.operation.Operation.TheVariants.{InitNew, Load, InPlace, UiActivate, UiDeactivate, InPlaceDeactivate, OpenWindow, Edit, Save, SaveCompleted, SaveDropped, Close}
+use Rattle.object_state.specs.Both as both
+use Rattle.object_state.specs.Persists as persist
+use Rattle.object_state.specs.Objects as object
+use Rattle.object_state.specs.declared.both_states.States.{States}
+use Rattle.object_state.specs.declared.faults.StateFault.{StateFault}
+use Rattle.object_state.specs.declared.faults.StateFault.TheVariants as fault
+use Rattle.object_state.specs.declared.object_states.ObjectState.{ObjectState}
+use Rattle.object_state.specs.declared.operations.Op.{Op}
+use Rattle.object_state.specs.declared.operations.Op.TheVariants as op
+use Rattle.object_state.specs.declared.persist_states.Persist.{Persist}
+use Rattle.object_state.specs.declared.persist_states.PersistState.{PersistState}
+use Rattle.object_state.specs.declared.persist_states.PersistState.TheVariants.{Normal, NoScribble}
+use Rattle.storage_tree.specs.declared.stored.Stored.{Stored}
+use Rattle.grant_core.specs.declared.grant_states.Claim.{Claim}
+use Rattle.grant_core.specs.declared.grant_states.GrantState.{GrantState}
+use Rattle.grant_core.specs.declared.grant_states.GrantState.TheVariants as state
+use Rattle.grant_core.specs.Grants.{who}
+use Rattle.container_model.specs.declared.record.Link.{Link}
+use Rattle.container_model.specs.declared.record.Phase.{Phase}
+use Rattle.container_model.specs.declared.record.Phase.TheVariants.{Saving}
+use Rattle.container_model.specs.Record.{Record, is_object, is_unreaped}
+use Rattle.container_model.specs.Room.{HasRoom, IfLinked, IsRoomy, debt_in}
+use Rattle.container_steady.specs.Roles.{Role, Other, Getting, Holding, Giving, Waiting, IsClaim, Plays, queue_of, role_in, waits_as}
+use Rattle.container_steady.specs.Steady.{ended, EndsWell, IsTimely, SteadyLink, Steady}
+use Rattle.container_steady.proofs.SteadyLookups.{each_found, each_nth}
+use Rattle.container_steady.proofs.SteadyQueues.{goes_on, joined_ok, taken}
+use Rattle.container_steady.proofs.SteadyRecords.{if_at}
+use Rattle.container_numbers.specs.Sound.{IsNumbered}
+use Rattle.container_numbers.proofs.SoundRooms.{IsSaved, each_of}
+use Rattle.world_model.specs.Safe.{CarriesWithin, IsWithin}
+use Rattle.world_facts.proofs.Lookups.{nth_bound}
+use Rattle.world_steps.proofs.Objects.{IsHeld}
+
+-- a save that is asked for has the number of its frame's last one: no other can be taken behind it
+refused : (v w : States) (o : Op) (h : (s : PersistState) → s ≡ NoScribble → (refusal : StateFault) × (persist.table o s ≡ Err refusal)) → v.persist.state ≡ NoScribble → both.step v o ≡ Ok w → ⊥
+refused v w o h s e = (let r = h v.persist.state s in let g : both.joined (persist.numbered v.persist o (persist.table o v.persist.state)) (object.table o v.object) ≡ Ok w = e in let g' = rw r.1 at g in cc)
+
+abbrev SavesAs : ℕ → Persist → Type 0
+SavesAs j p = p ≡ record { state = NoScribble; last_save = Some j }
+
+scribbles : (j : ℕ) (p : Persist) → SavesAs j p → p.state ≡ NoScribble
+scribbles j p e = ap (λ (x : Persist). x.state) e
+
+module _ (k j : ℕ) (role : Role) (saved : Option Stored) where
+  abbrev Ends : States → Type 0
+  Ends = EndsWell Saving k role
+
+  last_one : (ops : List Operation) (v : States) → SavesAs j v.persist → IsOkAnd (ended (Ok v) ops) Ends → AllByRecursion (IsTimely Saving saved) ops → j ≡ k
+  last_one [] v s h t = (let last = h.last_save in let now : Some j ≡ Some k = sym (ap (λ (x : Persist). x.last_save) s) ∙ last in cc)
+  last_one (InitNew class ∷ ops) v s h t = (let r = taken Ends v (InitNew class) ops h in absurd (refused v r.0 op.InitNew (λ z e. (fault.AlreadyInitialized, rw e refl)) (scribbles j v.persist s) r.1))
+  last_one (Load class c ∷ ops) v s h t = (let r = taken Ends v (Load class c) ops h in absurd (refused v r.0 op.Load (λ z e. (fault.AlreadyInitialized, rw e refl)) (scribbles j v.persist s) r.1))
+  last_one (Save n ∷ ops) v s h t = (let r = taken Ends v (Save n) ops h in absurd (refused v r.0 (op.Save n) (λ z e. (fault.Scribble, rw e refl)) (scribbles j v.persist s) r.1))
+  last_one (SaveCompleted n storage ∷ ops) v s h t = absurd (let e = t.0 in cc)
+  last_one (Close option ∷ ops) v s h t = absurd (let e = t.0 in cc)
+  last_one (InPlace ∷ ops) v s h t = (let g = goes_on InPlace tt Ends v ops (rw s tt) h in last_one ops g.0 (g.1 ∙ s) g.2 t.1)
+  last_one (UiActivate n ∷ ops) v s h t = (let g = goes_on (UiActivate n) tt Ends v ops (rw s tt) h in last_one ops g.0 (g.1 ∙ s) g.2 t.1)
+  last_one (UiDeactivate ∷ ops) v s h t = (let g = goes_on UiDeactivate tt Ends v ops (rw s tt) h in last_one ops g.0 (g.1 ∙ s) g.2 t.1)
+  last_one (InPlaceDeactivate ∷ ops) v s h t = (let g = goes_on InPlaceDeactivate tt Ends v ops (rw s tt) h in last_one ops g.0 (g.1 ∙ s) g.2 t.1)
+  last_one (OpenWindow ∷ ops) v s h t = (let g = goes_on OpenWindow tt Ends v ops (rw s tt) h in last_one ops g.0 (g.1 ∙ s) g.2 t.1)
+  last_one (Edit bytes ∷ ops) v s h t = (let g = goes_on (Edit bytes) tt Ends v ops (rw s tt) h in last_one ops g.0 (g.1 ∙ s) g.2 t.1)
+  last_one (_ ∷ ops) v s h t = absurd t.0
+
+saves_at : (s : PersistState) (last : Option ℕ) (o : ObjectState) (k : ℕ) (w : States) → both.step (record { persist = record { state = s; last_save = last }; object = o }) (op.Save k) ≡ Ok w → SavesAs k w.persist
+saves_at Normal last o k w e = (let j = joined_ok (persist.step (record { state = Normal; last_save = last }) (op.Save k)) (object.step o (op.Save k)) w e in
+    let j0 = j.0 in
+    let at : record { state = NoScribble; last_save = Some k } ≡ w.persist = cc in
+    sym at)
+saves_at _ last o k w e = cc
+
+-- whoever is asked to take its frame is to get it
+grant_named : (grant : GrantState) (n g : ℕ) (ops : List Operation) → Plays (role_in grant n) (UiActivate g ∷ ops) → (claim : Claim) × (who grant ≡ Some claim) × (g ≡ claim.g)
+grant_named state.Free n g ops h = absurd h.0
+grant_named (state.Granting claim) n g ops h = at (claim.object == n) h
+  where
+    at : (b : Bool) → Plays (if b then Getting claim.g else Other) (UiActivate g ∷ ops) → (c : Claim) × (◌≡◌ {A = Option Claim} (Some claim) (Some c)) × (g ≡ c.g)
+    at true k = (claim, refl, k.0)
+    at false k = absurd k.0
+grant_named (state.Held holder tools) n g ops h = absurd (at (holder.object == n) h)
+  where
+    at : (b : Bool) → Plays (if b then Holding holder.g tools else Other) (UiActivate g ∷ ops) → ⊥
+    at true k = k.0
+    at false k = k.0
+grant_named (state.Revoking holder next) n g ops h = absurd (at (holder.object == n) h)
+  where
+    waits : (x : Option Claim) → Plays (waits_as n x) (UiActivate g ∷ ops) → ⊥
+    waits None k = k.0
+    waits (Some x) k = waits_at (x.object == n) k
+      where
+        waits_at : (b : Bool) → Plays (if b then Waiting x.g else Other) (UiActivate g ∷ ops) → ⊥
+        waits_at true q = q.0
+        waits_at false q = q.0
+
+    at : (b : Bool) → Plays (if b then Giving holder.g else waits_as n next) (UiActivate g ∷ ops) → ⊥
+    at true k = k.0
+    at false k = waits next k
+
+unreaped_there : (servers : List Bool) (inc : ℕ) (s : Option Bool) → nth servers inc ≡ s → is_unreaped s ≡ true → inc ≤ length servers
+unreaped_there servers inc None f e = cc
+unreaped_there servers inc (Some b) f e = nth_bound servers inc b f
+
+module _ (limit : ℕ) (r : Record) (steady : Steady r) (numbers : IsNumbered limit r) (n : ℕ) (l : Link) (asked : Operation) (held : IsHeld r n l) (pending : l.pending ≡ Some asked) where
+  link : SteadyLink r.servers r.last_act held.frame.phase held.frame.k (role_in held.frame.ui.state held.object.number) l
+  link = held.steady
+
+  same : r.numbers ≡ limit
+  same = numbers.limit
+
+  inc_within : l.inc ≤ limit
+  inc_within = (let there = unreaped_there r.servers l.inc (nth r.servers l.inc) refl link.servers_told in let most = numbers.servers in let e = same in omega arith)
+
+  act_within : l.act ≤ limit
+  act_within = (let there = link.acts_drawn in let most = numbers.acts in let e = same in omega arith)
+
+  roomy : IsRoomy r.numbers (debt_in held.object.number (nth r.frames held.object.frame)) l
+  roomy = subst (IfLinked (IsRoomy r.numbers (debt_in held.object.number (nth r.frames held.object.frame)))) held.linked
+      (each_found (HasRoom r.numbers r.frames) (is_object n) r.objects held.object (each_of (HasRoom r.numbers r.frames) r.objects numbers.room) held.found)
+
+  last_within : l.last ≤ limit
+  last_within = (let calls = roomy.calls in let e = same in omega arith)
+
+  pub saved_within : held.frame.k ≤ limit
+  saved_within = (let k = each_nth (IsSaved r.numbers) r.frames held.object.frame held.frame (each_of (IsSaved r.numbers) r.frames numbers.saves) held.framed in let e = same in omega arith)
+
+  grant_within : (g : ℕ) → asked ≡ UiActivate g → g ≤ limit
+  grant_within g is =
+      let grant = held.frame.ui.state in
+      let plays : Plays (role_in grant held.object.number) (UiActivate g ∷ l.waiting) = subst (λ (p : Option Operation). Plays (role_in grant held.object.number) (queue_of p l.waiting)) (pending ∙ ap Some is) link.plays in
+      let named = grant_named grant held.object.number g l.waiting plays in
+      let drawn = (if_at (IsClaim r held.object.frame) (who grant) named.0 named.1 (steady.grants held.object.frame held.frame held.framed).holder).drawn in
+      let own : g ≡ named.0.g = named.2 in
+      let most = numbers.grants in
+      let e = same in
+      omega arith
+
+  queue_timely : AllByRecursion (IsTimely held.frame.phase l.saved) (asked ∷ l.waiting)
+  queue_timely = subst (λ (p : Option Operation). AllByRecursion (IsTimely held.frame.phase l.saved) (queue_of p l.waiting)) pending link.save_in_queue
+
+  save_is : (k : ℕ) → asked ≡ Save k → k ≡ held.frame.k
+  save_is k is =
+      let role = role_in held.frame.ui.state held.object.number in
+      let timely : AllByRecursion (IsTimely held.frame.phase l.saved) (Save k ∷ l.waiting) = subst (λ (o : Operation). AllByRecursion (IsTimely held.frame.phase l.saved) (o ∷ l.waiting)) is queue_timely in
+      let saving : held.frame.phase ≡ Saving = timely.0.0 in
+      let runs : IsOkAnd (ended (Ok l.states) (Save k ∷ l.waiting)) (EndsWell Saving held.frame.k role) =
+      subst (λ (p : Phase). IsOkAnd (ended (Ok l.states) (Save k ∷ l.waiting)) (EndsWell p held.frame.k role)) saving
+      (subst (λ (p : Option Operation). IsOkAnd (ended (Ok l.states) (queue_of p l.waiting)) (EndsWell held.frame.phase held.frame.k role)) (pending ∙ ap Some is) link.queue_runs) in
+      let t = taken (EndsWell Saving held.frame.k role) l.states (Save k) l.waiting runs in
+      last_one held.frame.k k role l.saved l.waiting t.0 (saves_at l.states.persist.state l.states.persist.last_save l.states.object k t.0 t.1) t.2
+      (subst (λ (p : Phase). AllByRecursion (IsTimely p l.saved) l.waiting) saving timely.1)
+
+  carries : (op : Operation) → asked ≡ op → ((k : ℕ) (storage : Bool) → op ≡ SaveCompleted k storage → k ≤ limit) → CarriesWithin limit op
+  carries (UiActivate g) is completed = grant_within g is
+  carries (Save k) is completed = (let own = save_is k is in let most = saved_within in omega arith)
+  carries (SaveCompleted k storage) is completed = completed k storage refl
+  carries (SaveDropped k) is completed = absurd (subst (λ (o : Operation). AllByRecursion (IsTimely held.frame.phase l.saved) (o ∷ l.waiting)) is queue_timely).0
+  carries _ is completed = tt
+
+  pub call_within : ((k : ℕ) (storage : Bool) → asked ≡ SaveCompleted k storage → k ≤ limit) → IsWithin limit (Call l.inc l.act l.last asked)
+  call_within completed = (inc_within, act_within, last_within, carries asked refl completed)

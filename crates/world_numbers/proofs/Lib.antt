@@ -1,0 +1,5 @@
+pub mod Serving
+pub mod Speaking
+pub mod Pending
+pub mod Asked
+pub mod Joining

@@ -1,0 +1,309 @@
+-- Each event leaves the numbers of a world within its limit.
+use Rattle.std.proofs.Common.{◌≡◌, ◌≤◌, ◌+◌, ℕ, List, [], ◌∷◌, ◌++◌, length, Option, Some, None, Result, Ok, Err, refl, sym, ap, ◌∙◌, arith, subst}
+use Rattle.std.proofs.lemmas.List.{length-append}
+use Rattle.std.specs.List.{AllByRecursion}
+use Rattle.std.specs.Prelude.{false, nat_le}
+use Rattle.wire_msgs.specs.Found.{find, nth, set_nth}
+use Rattle.wire_msgs.specs.declared.message.Message.{Message}
+use Rattle.wire_msgs.specs.declared.message.Message.TheVariants.{Call, Reply, Write, Ask}
+use Rattle.wire_msgs.specs.declared.operation.Operation.{Operation}
+use Rattle.wire_msgs.specs.declared.operation.Operation.TheVariants.{SaveCompleted}
+use Rattle.embed_core.specs.Kinds.{Kind}
+use Rattle.server_model.specs.Server.{Served, Told, on_call, wanted}
+use Rattle.server_model.specs.Server as server
+use Rattle.server_model.specs.declared.fault.ServerFault.{ServerFault}
+use Rattle.container_model.specs.Record.{Took, MOST_SERVERS, count_alive, is_object}
+use Rattle.container_model.specs.Room.{HasRoom}
+use Rattle.container_model.specs.Saves.{image, commit_at, commit_done, commit_made}
+use Rattle.container_model.specs.Messages.{on_message, on_reap}
+use Rattle.container_model.specs.Commands.{kind_of, on_command, start, start_made}
+use Rattle.container_model.specs.declared.command.Command.{Command}
+use Rattle.container_model.specs.declared.command.Command.TheVariants as command
+use Rattle.container_model.specs.declared.record.Frame.{Frame}
+use Rattle.container_model.specs.declared.answer.Part.{Part}
+use Rattle.container_model.specs.declared.fault.ContainerFault.{ContainerFault}
+use Rattle.container_model.specs.declared.fault.ContainerFault.TheVariants.{Full, NumbersSpent}
+use Rattle.container_steps.proofs.SteadyCommits.{committing_by}
+use Rattle.container_steady.proofs.SteadyRecords.{unless_ok}
+use Rattle.container_numbers.specs.Sound.{IsNumbered}
+use Rattle.container_numbers.proofs.SoundCommands.{numbers_commands}
+use Rattle.container_numbers.proofs.SoundMessages.{numbers_messages}
+use Rattle.container_numbers.proofs.SoundReaps.{numbers_reaps}
+use Rattle.container_numbers.proofs.SoundRooms.{IsSaved, all_of}
+use Rattle.container_numbers.proofs.SoundSaves.{numbers_commits}
+use Rattle.world_model.specs.declared.event.Event.{Event}
+use Rattle.world_model.specs.declared.event.Event.TheVariants as event
+use Rattle.world_model.specs.declared.event.Stop.{Stop}
+use Rattle.world_model.specs.declared.life.Life.{Life}
+use Rattle.world_model.specs.declared.life.Life.TheVariants.{Running, Ended, Reaped}
+use Rattle.world_model.specs.declared.logs.Sent.{Sent}
+use Rattle.world_model.specs.declared.logs.Taken.{Taken}
+use Rattle.world_model.specs.World.{World, Instance, called, called_in, called_wanting, commanded, crash, crashed, deliver, delivered, done_imaged, done_in, done_taken, empty_world, ended, happened, is_of, joined, kept_commit, messages_of, reap, served, spoken, spoken_by, scribble, ask, started_by, stocked, taken_at, took, view_in, with_taken}
+use Rattle.world_model.specs.Safe.{Among, IsWithin, WasSent, acts_of, links_of, messages}
+use Rattle.world_facts.specs.Words.{called as was_called, life_at, lives_of}
+use Rattle.world_facts.proofs.Lookups.{among_map, find_among}
+use Rattle.world_files.specs.Files.{Files, id_of}
+use Rattle.world_files.proofs.Kept.{commit_is_at}
+use Rattle.world_numbers.specs.Numbers.{ArePending, Follow, IsPending, Numbers, RunsWithin}
+use Rattle.world_numbers.proofs.Asked.{call_within, saved_within}
+use Rattle.world_numbers.proofs.Joining.{IsTaken, fresh_within, hosted_within, joined_follows, sent_one, set_within}
+use Rattle.world_numbers.proofs.Pending.{begins_pending, none_pending, reaped_pending, replied_pending, turned_pending}
+use Rattle.world_numbers.proofs.Serving.{served_within}
+use Rattle.world_numbers.proofs.Speaking.{SpeaksWithin, asks_within, writes_within}
+use Rattle.world_steps.specs.Steps.{IsTurned}
+use Rattle.world_steps.proofs.Asking.{new_asks, insert_asks, edit_asks, save_asks}
+use Rattle.world_steps.proofs.Closing.{delete_asks, close_asks, kill_ends}
+use Rattle.world_steps.proofs.Committing.{commit_plain}
+use Rattle.world_steps.proofs.Instances.{nth_same}
+use Rattle.world_steps.proofs.Objects.{IsHeld, found_number, link_held}
+use Rattle.world_steps.proofs.Reaping.{reap_ends}
+use Rattle.world_steps.proofs.Relieving.{ask_asks}
+use Rattle.world_steps.proofs.Replying.{reply_answers}
+use Rattle.world_steps.proofs.Taking.{write_asks}
+use Rattle.world_steps.proofs.Verbing.{verb_asks}
+use Rattle.world_safety.specs.Holding.{AgreesIn}
+use Rattle.world_safety.proofs.Events.{among_place, commit_pending}
+use Rattle.world_safety.proofs.Joining.{asks_turned, run_begun}
+
+ok_is : (x y : World) → ◌≡◌ {A = Result World Stop} (Ok x) (Ok y) → x ≡ y
+ok_is x y e = cc
+
+-- ---- the container's steps
+plain_taken : (limit : ℕ) (t : Took) → IsNumbered limit t.rec → ArePending (links_of t.rec.objects) (messages_of t.answer.actions) → ((numbers : ℕ) → started_by numbers t.answer.actions ≡ []) → IsTaken limit t
+plain_taken limit t r p none = record { recorded = r; pending = p; starts = subst (AllByRecursion (RunsWithin limit)) (sym (none t.rec.numbers)) tt }
+
+module _ (limit : ℕ) (w : World) (h : AgreesIn w) (k : Numbers limit w) where
+  turned_taken : (t : Took) → IsNumbered limit t.rec → IsTurned w.rec t → IsTaken limit t
+  turned_taken t r m = plain_taken limit t r (turned_pending (links_of w.rec.objects) (links_of t.rec.objects) (messages_of t.answer.actions) m.0) m.1.starts
+
+  start_taken : (t : Took) → IsNumbered limit t.rec → start w.rec ≡ Ok t → IsTaken limit t
+  start_taken t r e =
+      let a = unless_ok (nat_le MOST_SERVERS (count_alive w.rec.servers)) Full _ t e in
+      let b : Ok (start_made w.rec) ≡ Ok t = (unless_ok (nat_le w.rec.numbers (length w.rec.servers)) NumbersSpent _ t a.1).1 in
+      let is : start_made w.rec ≡ t = cc in
+      let new : IsNumbered limit (start_made w.rec).rec = subst (λ (v : Took). IsNumbered limit v.rec) (sym is) r in
+      let many = length-append w.rec.servers (false ∷ []) in
+      let le : length w.rec.servers + 1 ≤ length (start_made w.rec).rec.servers = omega arith in
+      subst (IsTaken limit) is (record { recorded = new; pending = none_pending (links_of w.rec.objects) [] refl; starts = (fresh_within limit (start_made w.rec).rec (length w.rec.servers + 1) new le, tt) })
+
+  numbered : (c : Command) (t : Took) → on_command w.rec c ≡ Ok t → IsNumbered limit t.rec
+  numbered c t e = numbers_commands limit w.rec c t h.steady k.recorded e
+
+  command_taken : (c : Command) (t : Took) → on_command w.rec c ≡ Ok t → IsTaken limit t
+  command_taken (command.New name x y) t e = turned_taken t (numbered (command.New name x y) t e) (asks_turned w.rec t (new_asks w.rec name x y t e))
+  command_taken (command.Insert f kind area) t e = turned_taken t (numbered (command.Insert f kind area) t e) (asks_turned w.rec t (insert_asks w.rec f (kind_of kind) area t e))
+  command_taken command.Start t e = start_taken t (numbered command.Start t e) e
+  command_taken (command.Run o inc) t e = (let b = run_begun w o inc t h e in
+      plain_taken limit t (numbered (command.Run o inc) t e) (begins_pending (links_of w.rec.objects) (links_of t.rec.objects) (lives_of w.instances) (w.owners ++ o ∷ []) w.rec.last_act o (messages_of t.answer.actions) b.begins) b.starts)
+  command_taken (command.Edit o bytes) t e = turned_taken t (numbered (command.Edit o bytes) t e) (asks_turned w.rec t (edit_asks w.rec o bytes t h.steady e))
+  command_taken (command.Save f) t e = turned_taken t (numbered (command.Save f) t e) (asks_turned w.rec t (save_asks w.rec f t h.steady e))
+  command_taken (command.Delete o) t e = turned_taken t (numbered (command.Delete o) t e) (asks_turned w.rec t (delete_asks w.rec o t h.steady e))
+  command_taken (command.Kill inc) t e = subst (IsTaken limit) (kill_ends w.rec inc t e) (record { recorded = k.recorded; pending = none_pending (links_of w.rec.objects) [] refl; starts = tt })
+  command_taken (command.Close o option) t e = turned_taken t (numbered (command.Close o option) t e) (close_asks w.rec o option t h.steady e)
+  command_taken (command.Verb o number) t e = turned_taken t (numbered (command.Verb o number) t e) (verb_asks w.rec o number t h.steady e)
+
+  message_numbered : (inc : ℕ) (m : Message) (t : Took) → on_message w.rec inc m ≡ Ok t → IsNumbered limit t.rec
+  message_numbered inc m t e = numbers_messages limit w.rec inc m t h.steady k.recorded e
+
+  reply_taken : (inc act n : ℕ) (answer : _) (t : Took) → WasSent w (Reply inc act n answer) → on_message w.rec inc (Reply inc act n answer) ≡ Ok t → IsTaken limit t
+  reply_taken inc act n answer t g e =
+      let acts = acts_of w.instances in
+      let lives = lives_of w.instances in
+      let m = reply_answers w.rec acts lives (messages w.sent) w.owners w.rec.last_act w.container_done w.server_done inc act n answer h.steady h.facts tt g t e in
+      plain_taken limit t (message_numbered inc (Reply inc act n answer) t e) (replied_pending (links_of w.rec.objects) (links_of t.rec.objects) acts lives (messages_of t.answer.actions) m.0) m.1.starts
+
+  write_taken : (inc act s n : ℕ) (content : _) (t : Took) → on_message w.rec inc (Write inc act s n content) ≡ Ok t → IsTaken limit t
+  write_taken inc act s n content t e = turned_taken t (message_numbered inc (Write inc act s n content) t e) (asks_turned w.rec t (write_asks w.rec inc act s n content t h.steady e))
+
+  ask_taken : (inc act g : ℕ) (t : Took) → on_message w.rec inc (Ask inc act g) ≡ Ok t → IsTaken limit t
+  ask_taken inc act g t e = turned_taken t (message_numbered inc (Ask inc act g) t e) (asks_turned w.rec t (ask_asks w.rec inc act g t h.steady e))
+
+  reap_taken : (is : List Instance) (inc : ℕ) (t : Took) → (lives_of is inc ≡ Some Running → ⊥) → on_reap w.rec inc ≡ Ok t → IsTaken limit t
+  reap_taken is inc t over e =
+      let m = reap_ends w.rec (acts_of is) (lives_of is) inc h.steady over t e in
+      plain_taken limit t (numbers_reaps limit w.rec inc t h.steady k.recorded e) (reaped_pending (links_of w.rec.objects) (links_of t.rec.objects) (acts_of is) (lives_of is) (messages_of t.answer.actions) m.0) m.1.starts
+
+  commit_taken : (f : ℕ) (frame : Frame) (t : Took) → Files w → nth w.rec.frames f ≡ Some frame → commit_done w.rec f ≡ Ok t → IsTaken limit t
+  commit_taken f frame t files at e =
+      let c = commit_is_at w.rec f frame t (ap (commit_at w.rec f) (sym at) ∙ e) in
+      let committing = committing_by frame.phase c.0 in
+      let new : IsNumbered limit (commit_made w.rec f frame).rec = subst (λ (v : Took). IsNumbered limit v.rec) (sym c.1) (numbers_commits limit w.rec f t h.steady k.recorded e) in
+      subst (IsTaken limit) c.1 (plain_taken limit (commit_made w.rec f frame) new (commit_pending w files h f frame at committing) (commit_plain w.rec f frame h.steady at committing).starts)
+
+-- ---- what the world is then
+stays : (limit : ℕ) (w v : World) → v.rec ≡ w.rec → v.sent ≡ w.sent → v.instances ≡ w.instances → Numbers limit w → Numbers limit v
+stays limit w v r s i k = record {
+  recorded = subst (IsNumbered limit) (sym r) k.recorded;
+  sent = λ m g. k.sent m (subst (λ xs. Among (messages xs) m) s g);
+  servers = subst (AllByRecursion (RunsWithin limit)) (sym i) k.servers;
+}
+
+took_follows : (limit : ℕ) (w : World) (told : Result Took ContainerFault) → Numbers limit w → ((t : Took) → told ≡ Ok t → IsTaken limit t) → Follow limit (took w told)
+took_follows limit w (Err fault) k g within = stays limit w _ refl refl refl k
+took_follows limit w (Ok t) k g within = joined_follows limit w t k (g t refl) within
+
+module _ (limit : ℕ) (w : World) (h : AgreesIn w) (k : Numbers limit w) where
+  commanded_follows : (c : Command) (told : Result Took ContainerFault) → on_command w.rec c ≡ told → Follow limit (commanded w c told)
+  commanded_follows c (Err fault) e within = stays limit w _ refl refl refl k
+  commanded_follows c (Ok t) e within = stays limit (joined w t) _ refl refl refl (joined_follows limit w t k (command_taken limit w h k c t e) within)
+
+  -- a call
+  module _ (inc act n : ℕ) (op : Operation) (call : IsWithin limit (Call inc act n op)) where
+    served_follows : (i : Instance) (stock : List Kind) (box : Option Kind) (told : Result Served ServerFault) → nth w.instances inc ≡ Some i → on_call i.core (Call inc act n op) box ≡ told → Follow limit (served w inc act n i stock told)
+    served_follows i stock box (Err fault) at e within = stays limit w _ refl refl refl k
+    served_follows i stock box (Ok v) at e within = record {
+      recorded = k.recorded;
+      sent = sent_one limit w (record { message = Reply inc act n v.answer; view = view_in i.core act }) k.sent (call.0, call.1, call.2);
+      servers = set_within limit w.instances inc (record i { core = v.server }) k.servers
+          (served_within limit i.core act n op box (hosted_within limit w.instances inc i k.servers at) call.1 call.2 call.3 v inc e);
+    }
+
+    stocked_follows : (i : Instance) (class : List ℕ) (kind : Option Kind) (v : World) → nth w.instances inc ≡ Some i → stocked w inc act n op i class kind ≡ Ok v → Follow limit v
+    stocked_follows i class None v at e = cc
+    stocked_follows i class (Some kind) v at e = subst (Follow limit) (ok_is _ v e) (served_follows i _ (Some kind) (on_call i.core (Call inc act n op) (Some kind)) at refl)
+
+    wanting_follows : (i : Instance) (class : Option (List ℕ)) (v : World) → nth w.instances inc ≡ Some i → called_wanting w inc act n op i class ≡ Ok v → Follow limit v
+    wanting_follows i None v at e = subst (Follow limit) (ok_is _ v e) (served_follows i w.stock None (on_call i.core (Call inc act n op) None) at refl)
+    wanting_follows i (Some class) v at e = stocked_follows i class (find (is_of class) w.stock) v at e
+
+    called_in_follows : (i : Instance) (life : Life) (v : World) → nth w.instances inc ≡ Some i → called_in w inc act n op i life ≡ Ok v → Follow limit v
+    called_in_follows i Running v at e = wanting_follows i (wanted i.core (Call inc act n op)) v at e
+    called_in_follows i Ended v at e = subst (Follow limit) (ok_is _ v e) (λ within. stays limit w _ refl refl refl k)
+    called_in_follows i Reaped v at e = subst (Follow limit) (ok_is _ v e) (λ within. stays limit w _ refl refl refl k)
+
+    called_follows : (i : Option Instance) (v : World) → nth w.instances inc ≡ i → called w inc act n op i ≡ Ok v → Follow limit v
+    called_follows None v at e = subst (Follow limit) (ok_is _ v e) (λ within. stays limit w _ refl refl refl k)
+    called_follows (Some i) v at e = called_in_follows i i.life v at e
+
+  -- deliveries
+  delivered_follows : (m : Message) (v : World) → WasSent w m → delivered w m ≡ Ok v → Follow limit v
+  delivered_follows (Call inc act n op) v g e = called_follows inc act n op (k.sent (Call inc act n op) g) (nth w.instances inc) v refl e
+  delivered_follows (Reply inc act n answer) v g e = subst (Follow limit) (ok_is _ v e) (took_follows limit w (on_message w.rec inc (Reply inc act n answer)) k (λ t q. reply_taken limit w h k inc act n answer t g q))
+  delivered_follows (Write inc act s n content) v g e = subst (Follow limit) (ok_is _ v e) (took_follows limit w (on_message w.rec inc (Write inc act s n content)) k (λ t q. write_taken limit w h k inc act s n content t q))
+  delivered_follows (Ask inc act j) v g e = subst (Follow limit) (ok_is _ v e) (took_follows limit w (on_message w.rec inc (Ask inc act j)) k (λ t q. ask_taken limit w h k inc act j t q))
+
+  logged_follows : (more : List Taken) (told : Result World Stop) (v : World) → ((u : World) → told ≡ Ok u → Follow limit u) → with_taken w more told ≡ Ok v → Follow limit v
+  logged_follows more (Err stop) v g e = cc
+  logged_follows more (Ok u) v g e = subst (Follow limit) (ok_is _ v e) (λ within. stays limit u _ refl refl refl (g u refl within))
+
+  deliver_follows : (p : ℕ) (sent : Option Sent) (v : World) → nth w.sent p ≡ sent → deliver w p sent ≡ Ok v → Follow limit v
+  deliver_follows p None v at e = cc
+  deliver_follows p (Some x) v at e = logged_follows (taken_at w.rec p x.message) (delivered w x.message) v (λ u g. delivered_follows x.message u (among_place w.sent p x at) g) e
+
+  -- crashes, and ends that are told
+  lives_within : (inc : ℕ) (i : Instance) (life : Life) → nth w.instances inc ≡ Some i → Numbers limit (record w { instances = set_nth w.instances inc (record i { life = life }) })
+  lives_within inc i life at = record { recorded = k.recorded; sent = k.sent; servers = set_within limit w.instances inc (record i { life = life }) k.servers (hosted_within limit w.instances inc i k.servers at) }
+
+  crashed_follows : (inc : ℕ) (i : Instance) (life : Life) (v : World) → nth w.instances inc ≡ Some i → crashed w inc i life ≡ Ok v → Follow limit v
+  crashed_follows inc i Running v at e = subst (Follow limit) (ok_is _ v e) (λ within. stays limit _ _ refl refl refl (lives_within inc i Ended at))
+  crashed_follows inc i Ended v at e = cc
+  crashed_follows inc i Reaped v at e = cc
+
+  crash_follows : (inc : ℕ) (i : Option Instance) (v : World) → nth w.instances inc ≡ i → crash w inc i ≡ Ok v → Follow limit v
+  crash_follows inc None v at e = cc
+  crash_follows inc (Some i) v at e = crashed_follows inc i i.life v at e
+
+  ended_follows : (inc : ℕ) (i : Instance) (life : Life) (v : World) → nth w.instances inc ≡ Some i → ended w inc i life ≡ Ok v → Follow limit v
+  ended_follows inc i Running v at e = cc
+  ended_follows inc i Ended v at e =
+      let j : Instance = record i { life = Reaped } in
+      let is = set_nth w.instances inc j in
+      subst (Follow limit) (ok_is _ v e) (took_follows limit (record w { instances = is }) (on_reap w.rec inc) (lives_within inc i Reaped at)
+      (λ t q. reap_taken limit w h k is inc t (λ z. (let y : Some Reaped ≡ Some Running = sym (ap life_at (nth_same w.instances inc i j at)) ∙ z in cc)) q))
+  ended_follows inc i Reaped v at e = cc
+
+  reap_follows : (inc : ℕ) (i : Option Instance) (v : World) → nth w.instances inc ≡ i → reap w inc i ≡ Ok v → Follow limit v
+  reap_follows inc None v at e = cc
+  reap_follows inc (Some i) v at e = ended_follows inc i i.life v at e
+
+  -- what a server says of its own accord
+  spoken_by_follows : (inc act : ℕ) (i : Instance) (told : Result Told ServerFault) → ((t : Told) → told ≡ Ok t → SpeaksWithin limit t) → Follow limit (spoken_by w inc act i told)
+  spoken_by_follows inc act i (Err fault) g within = stays limit w _ refl refl refl k
+  spoken_by_follows inc act i (Ok t) g within = (let s = g t refl in record {
+    recorded = k.recorded;
+    sent = sent_one limit w (record { message = t.message; view = view_in i.core act }) k.sent s.message;
+    servers = set_within limit w.instances inc (record i { core = t.server }) k.servers s.server;
+  })
+
+  spoken_follows : (inc act : ℕ) (i : Instance) (life : Life) (told : Result Told ServerFault) (v : World) → ((t : Told) → told ≡ Ok t → SpeaksWithin limit t) → spoken w inc act i life told ≡ Ok v → Follow limit v
+  spoken_follows inc act i Running told v g e = subst (Follow limit) (ok_is _ v e) (spoken_by_follows inc act i told g)
+  spoken_follows inc act i Ended told v g e = cc
+  spoken_follows inc act i Reaped told v g e = cc
+
+  scribble_follows : (inc act : ℕ) (i : Option Instance) (v : World) → nth w.instances inc ≡ i → scribble w inc act i ≡ Ok v → Follow limit v
+  scribble_follows inc act None v at e = cc
+  scribble_follows inc act (Some i) v at e = spoken_follows inc act i i.life (server.scribble i.core act) v (λ t q. writes_within limit i.core act (hosted_within limit w.instances inc i k.servers at) t q) e
+
+  ask_follows : (inc act : ℕ) (i : Option Instance) (v : World) → nth w.instances inc ≡ i → ask w inc act i ≡ Ok v → Follow limit v
+  ask_follows inc act None v at e = cc
+  ask_follows inc act (Some i) v at e = spoken_follows inc act i i.life (server.ask_deactivate i.core act) v (λ t q. asks_within limit i.core act (hosted_within limit w.instances inc i k.servers at) t q) e
+
+  -- commits
+  module _ (files : Files w) (f : ℕ) (bytes : List ℕ) where
+    committed_follows : (frame : Frame) (parts : List Part) (told : Result Took ContainerFault) (v : World) → nth w.rec.frames f ≡ Some frame → commit_done w.rec f ≡ told → done_taken w f bytes frame parts told ≡ Ok v → Follow limit v
+    committed_follows frame parts (Err fault) v at c e = cc
+    committed_follows frame parts (Ok t) v at c e =
+        let u : World = kept_commit w f frame parts t.counted bytes in
+        subst (Follow limit) (ok_is _ v e) (joined_follows limit u t (stays limit w u refl refl refl k) (commit_taken limit w h k f frame t files at c))
+
+    imaged_follows : (frame : Frame) (told : Result (List Part) ContainerFault) (v : World) → nth w.rec.frames f ≡ Some frame → done_imaged w f bytes frame told ≡ Ok v → Follow limit v
+    imaged_follows frame (Err fault) v at e = cc
+    imaged_follows frame (Ok parts) v at e = committed_follows frame parts (commit_done w.rec f) v at refl e
+
+    done_follows : (frame : Option Frame) (v : World) → nth w.rec.frames f ≡ frame → done_in w f bytes frame ≡ Ok v → Follow limit v
+    done_follows None v at e = cc
+    done_follows (Some frame) v at e = imaged_follows frame (image w.rec f) v at e
+
+  follows : (bytes : List ℕ) (e : Event) (v : World) → Files w → happened w bytes e ≡ Ok v → Follow limit v
+  follows bytes (event.Command c) v files e = subst (Follow limit) (ok_is _ v e) (commanded_follows c (on_command w.rec c) refl)
+  follows bytes (event.Deliver p) v files e = deliver_follows p (nth w.sent p) v refl e
+  follows bytes (event.Crash inc) v files e = crash_follows inc (nth w.instances inc) v refl e
+  follows bytes (event.Reap inc) v files e = reap_follows inc (nth w.instances inc) v refl e
+  follows bytes (event.Scribble inc act) v files e = scribble_follows inc act (nth w.instances inc) v refl e
+  follows bytes (event.Ask inc act) v files e = ask_follows inc act (nth w.instances inc) v refl e
+  follows bytes (event.Done f) v files e = done_follows files f bytes (nth w.rec.frames f) v refl e
+
+-- ---- what is sent of pending calls
+module _ (limit : ℕ) (w : World) (h : AgreesIn w) (files : Files w) (numbers : IsNumbered limit w.rec) (m : Message) (p : IsPending (links_of w.rec.objects) m) (sent : WasSent w m) where
+  held : IsHeld w.rec p.object p.link
+  held = link_held w.rec p.object p.link h.steady p.linked
+
+  -- the end of a save is told of a save that was counted, which is at most the last one of its frame
+  completed : (n : ℕ) (storage : _) → p.operation ≡ SaveCompleted n storage → n ≤ limit
+  completed n storage is =
+      let l = p.link in
+      let call : WasSent w (Call l.inc l.act l.last (SaveCompleted n storage)) = subst (WasSent w) (p.call ∙ ap (λ op. Call l.inc l.act l.last op) is) sent in
+      let c = h.facts.counts.completed_counted l.inc l.act l.last n storage (was_called call) in
+      let named : Some c.0.object ≡ Some p.object = sym c.2 ∙ h.facts.drawn.calls_named p.object l p.linked in
+      let own : c.0.object ≡ p.object = cc in
+      let number = found_number w.rec.objects p.object held.object held.found in
+      let among = among_map id_of w.rec.objects held.object (find_among (is_object p.object) w.rec.objects held.object held.found) in
+      let below = (files.counted_bounded.below (id_of held.object) c.0 held.frame among c.1 (own ∙ sym number) held.framed).last in
+      let most = saved_within limit w.rec h.steady numbers p.object l p.operation held p.pending in
+      let same : c.0.k ≡ n = c.3 in
+      omega arith
+
+  pending_within : IsWithin limit m
+  pending_within = subst (IsWithin limit) (sym p.call) (call_within limit w.rec h.steady numbers p.object p.link p.operation held p.pending completed)
+
+pub numbers_happened : (w : World) (bytes : List ℕ) (e : Event) (v : World) → AgreesIn w → Files w → Numbers w.rec.numbers w → AgreesIn v → Files v → happened w bytes e ≡ Ok v → Numbers v.rec.numbers v
+numbers_happened w bytes e v h files k after after_files ok =
+    let n : Numbers w.rec.numbers v = follows w.rec.numbers w h k bytes e v files ok (λ m numbers p g. pending_within w.rec.numbers v after after_files numbers m p g) in
+    subst (λ limit. Numbers limit v) (sym n.recorded.limit) n
+
+-- the world in which nothing has happened
+pub empty_numbers : (numbers : ℕ) (stock : List Kind) → Numbers numbers (empty_world numbers stock)
+empty_numbers numbers stock = record {
+  recorded = record {
+    limit = refl;
+    room = all_of (HasRoom numbers []) [] tt;
+    saves = all_of (IsSaved numbers) [] tt;
+    frames = omega arith;
+    servers = omega arith;
+    objects = omega arith;
+    acts = omega arith;
+    grants = omega arith;
+  };
+  sent = λ m g. absurd g;
+  servers = tt;
+}
