@@ -3,3 +3,5 @@
 
 pub mod fault;
 pub mod simulation;
+
+pub use world_run::{container, stock};

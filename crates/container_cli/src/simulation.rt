@@ -10,7 +10,7 @@ ghost use Rattle.world_run.specs.View.{seen_stocked};
 ghost use Rattle.world_model.specs.World.{MOST_EVENTS};
 
 use crate::fault::SimulateFault;
-use container_core::container::Limits;
+use world_run::container::Limits;
 use embed_core::embedded::Embedded;
 use event_texts::answers::{push_answer, push_stop};
 use event_texts::events::Events;

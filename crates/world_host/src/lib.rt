@@ -5,3 +5,5 @@ mod commits;
 pub mod host;
 mod replying;
 mod taking;
+
+pub use container_core::{container, lookups};

@@ -10,8 +10,8 @@ use Rattle.server_core.specs.declared.server.Activation as code
 use Rattle.world_run.specs.declared.instance.Instance as held
 use Rattle.world_run.specs.View.{seen_instance}
 use Rattle.world_model.specs.Safe.{act_at, acts_of}
-use Rattle.world_facts.specs.Words.{life_at, lives_of}
-use Rattle.world_numbers.specs.Numbers.{IsActivationWithin, RunsWithin}
+use Rattle.world_safety.specs.Words.{life_at, lives_of}
+use Rattle.world_safety.specs.Numbers.{IsActivationWithin, RunsWithin}
 use Rattle.world_safety.proofs.Alike.{Alike}
 
 -- the same servers, whatever their objects are said to contain

@@ -12,7 +12,7 @@ ghost use Rattle.world_model.specs.declared.event.Event.TheVariants as event;
 use crate::instance::Stocked;
 use crate::plan::Plan;
 use crate::state::State;
-use container_core::lookups::place;
+use world_host::lookups::place;
 use embed_core::embedded::Embedded;
 use server_core::refusal::Refusal;
 use server_model::fault::ServerFault;

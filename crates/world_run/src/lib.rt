@@ -11,3 +11,5 @@ mod speaking;
 mod state;
 pub mod stock;
 pub mod world;
+
+pub use world_host::container;

@@ -12,9 +12,9 @@ ghost use Rattle.world_model.specs.declared.event.Event.TheVariants as event;
 
 use crate::instance::{Instance, end_of};
 use crate::stock::Stock;
-use container_core::container::Limits;
+use world_host::container::Limits;
 use container_model::command::Command;
-use container_core::lookups::place;
+use world_host::lookups::place;
 use embed_core::embedded::Embedded;
 use server_core::server::ServerCore;
 use std::alloc::Global;

@@ -7,7 +7,7 @@ ghost use Rattle.world_run.specs.View.{seen};
 
 use crate::state::State;
 use crate::stock::Stock;
-use container_core::container::Limits;
+use world_host::container::Limits;
 use embed_core::embedded::Embedded;
 use std::alloc::Global;
 use world_model::event::{Event, Stop};

@@ -24,7 +24,7 @@ use Rattle.container_model.specs.declared.answer.Part.{Part}
 use Rattle.container_model.specs.declared.fault.ContainerFault.{ContainerFault}
 use Rattle.container_model.specs.declared.fault.ContainerFault.TheVariants.{Full, NumbersSpent}
 use Rattle.container_steps.proofs.SteadyCommits.{committing_by}
-use Rattle.container_steady.proofs.SteadyRecords.{unless_ok}
+use Rattle.container_steps.proofs.SteadyRecords.{unless_ok}
 use Rattle.container_numbers.specs.Sound.{IsNumbered}
 use Rattle.container_numbers.proofs.SoundCommands.{numbers_commands}
 use Rattle.container_numbers.proofs.SoundMessages.{numbers_messages}

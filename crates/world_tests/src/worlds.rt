@@ -5,7 +5,7 @@ use crate::events::{events, starts};
 use crate::reports::{report, unwritten};
 use crate::shown::{answer, container_done, counted, file, server_done, sizes, taken};
 use crate::words::{halves, number};
-use container_core::container::Limits;
+use world_run::container::Limits;
 use embed_core::embedded::Embedded;
 use embed_core::tally::Tally;
 use embed_note::note::Note;
