@@ -17,7 +17,7 @@ use crate::streams::{is_short, mini_count, sector_count};
 use cfb_chain::fat::END_OF_CHAIN;
 use cfb_directory::entries::{EntryKind, NO_STREAM};
 use cfb_directory::links::{Links, balanced};
-use cfb_directory::name::Name;
+use cfb_names::name::Name;
 use cfb_directory::write::{EntryFields, write_entry, write_free_entry};
 use file_model::limit::MANY;
 use std::alloc::{AllocError, Global};

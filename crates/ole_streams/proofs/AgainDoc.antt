@@ -7,8 +7,8 @@ use Rattle.std.specs.Ordering.{is_eq, is_lt, match_ordering}
 use Rattle.std.specs.declared.cmp.Ordering.TheVariants.{Less, Equal, Greater}
 use Rattle.std.proofs.lemmas.Nat.{from_le_bytes-to_le_bytes_2, from_le_bytes-to_le_bytes_4}
 use Rattle.std.proofs.lemmas.Bool.Decides.{nat_tests}
-use Rattle.cfb_directory.specs.Names.{key, key_cmp, key_eq, name_cmp}
-use Rattle.cfb_directory.proofs.Keys.{keys_agree}
+use Rattle.cfb_names.specs.Names.{key, key_cmp, key_eq, name_cmp}
+use Rattle.cfb_names.proofs.Keys.{keys_agree}
 use Rattle.object_parts.specs.Limits.{OLE, COMP_OBJ, OLE_PRES, has_ole_name, is_ole_name, is_within, total, MOST_STREAMS, MOST_BYTES}
 use Rattle.object_parts.specs.declared.area.Area.{Area}
 use Rattle.storage_tree.specs.Tree.{Children, tree, none, stream, storage}

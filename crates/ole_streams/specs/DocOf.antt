@@ -1,6 +1,6 @@
 -- What document a tree holds.
 use Rattle.std.specs.Prelude.{ℕ, ◌+◌, ◌&&◌, ◌≡◌, ◌∷◌, ◌++◌, List, [], Bool, cond, length, nat_lt, nat_le, Option, Some, None, Result, Ok, Err}
-use Rattle.cfb_directory.specs.Names.{key}
+use Rattle.cfb_names.specs.Names.{key}
 use Rattle.object_parts.specs.Limits.{OLE, COMP_OBJ, OLE_PRES, is_within}
 use Rattle.object_parts.specs.declared.area.Area.{Area}
 use Rattle.storage_tree.specs.Tree.{Tree, Children, tree, none, stream, storage}

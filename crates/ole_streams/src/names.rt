@@ -3,7 +3,7 @@
 ghost use Rattle.std.specs.Prelude.{◌≡◌, ◌<◌, ◌^◌};
 ghost use Rattle.ole_streams.specs.DocTree.{LAYOUT, ROOT_CLASS, decimal, object_name};
 
-use cfb_directory::name::Name;
+use cfb_names::name::Name;
 use storage_tree::class_id::ClassId;
 
 /// The class id of a document's root.
