@@ -9,9 +9,9 @@ ghost use Rattle.std.specs.List.{All};
 ghost use Rattle.std.specs.Prelude.{◌≡◌, ◌<◌, ◌≤◌, ◌*◌, ◌/◌, ◌∷◌, ◌++◌, [], false, replicate, length, vec_capacity, vec_len, IfErr, IfOk, OnErr, OnOk};
 
 use crate::bytes::{ENTRY_LEN, entry_bytes};
+use cfb_chain::bytes::{read_u16, read_u32};
 use cfb_names::fault::DirFault;
 use cfb_names::name::{LONGEST, Name};
-use cfb_chain::bytes::{read_u16, read_u32};
 use std::alloc::Global;
 use std::marker::Model;
 
