@@ -19,14 +19,14 @@ use Rattle.storage_tree.proofs.Entries.{find-child, key_eq-flip, place-child, re
 use Rattle.storage_tree.proofs.Lawful.{find-place, find-place-other}
 use Rattle.storage_tree.proofs.Wholes.{tied}
 use Rattle.ole_parts.specs.CompObjs.{comp_obj_bytes, user_type_read}
-use Rattle.ole_streams.specs.DocOf.{as_picture, as_storage, as_stream, behind_comp_obj, behind_picture, is_object, object_of, object_pushed, object_read, objects_behind, pushed, streams_behind}
-use Rattle.ole_streams.specs.DocTree.{LAYOUT, object_name, object_tree, placed, with_objects, with_picture, with_streams}
+use Rattle.document_model.specs.DocOf.{as_picture, as_storage, as_stream, behind_comp_obj, behind_picture, is_object, object_of, object_pushed, object_read, objects_behind, pushed, streams_behind}
+use Rattle.document_model.specs.DocTree.{LAYOUT, object_name, object_tree, placed, with_objects, with_picture, with_streams}
 use Rattle.ole_parts.specs.Fields.{map_ok, on_ok}
 use Rattle.ole_streams.specs.Docs.{AreHeld, IsArea, IsHeld}
 use Rattle.ole_streams.specs.Laws.{DocumentIsReadAgain}
-use Rattle.ole_streams.specs.Layouts.{area_at, area_bytes, areas_read, layout_bytes, layout_read}
+use Rattle.document_model.specs.Layouts.{area_at, area_bytes, areas_read, layout_bytes, layout_read}
 use Rattle.ole_parts.specs.OleStreams.{ole_bytes, ole_read}
-use Rattle.ole_streams.specs.declared.doc.DocObject.{DocObject}
+use Rattle.document_model.specs.declared.object.DocObject.{DocObject}
 use Rattle.ole_parts.specs.declared.fault.OleFault.TheVariants.{NotADocument, TooManyObjects}
 use Rattle.ole_parts.proofs.Again.{and_left, and_right, user_type_again}
 use Rattle.ole_parts.proofs.Tests.{cond_false, cond_true, not_lt}

@@ -8,10 +8,10 @@ use Rattle.storage_tree.specs.Tree.{Children}
 use Rattle.storage_tree.specs.Change.{Seen, bytes, inner, child, without}
 use Rattle.storage_tree.specs.View.{children, shown}
 use Rattle.storage_tree.specs.declared.storage.Node.{Node}
-use Rattle.ole_streams.specs.DocOf.{object_pushed, objects_behind}
-use Rattle.ole_streams.specs.DocTree.{object_name}
+use Rattle.document_model.specs.DocOf.{object_pushed, objects_behind}
+use Rattle.document_model.specs.DocTree.{object_name}
 use Rattle.ole_parts.specs.Fields.{on_ok}
-use Rattle.ole_streams.specs.declared.doc.DocObject.{DocObject}
+use Rattle.document_model.specs.declared.object.DocObject.{DocObject}
 use Rattle.ole_parts.specs.declared.fault.OleFault.{OleFault}
 use Rattle.ole_parts.specs.declared.fault.OleFault.TheVariants.{NotADocument}
 

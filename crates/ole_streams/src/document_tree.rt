@@ -2,8 +2,8 @@
 
 ghost use Rattle.std.specs.Prelude.{[], ◌≡◌, ◌≤◌, ◌<◌, ℕ, IfOk, OnOk, length, true};
 ghost use Rattle.cfb_names.specs.Names.{IsName};
-ghost use Rattle.ole_streams.specs.DocOf.{is_object};
-ghost use Rattle.ole_streams.specs.DocTree.{doc_tree, object_children, object_tree, placed, with_objects, with_ole_streams, with_streams};
+ghost use Rattle.document_model.specs.DocOf.{is_object};
+ghost use Rattle.document_model.specs.DocTree.{doc_tree, object_children, object_tree, placed, with_objects, with_ole_streams, with_streams};
 ghost use Rattle.ole_parts.specs.CompObjs.{PAST_USER_TYPE};
 ghost use Rattle.ole_streams.specs.Docs.{AreHeld};
 ghost use Rattle.ole_streams.specs.declared.doc.TheConstants.{MOST_OBJECTS};
