@@ -8,10 +8,11 @@ ghost use Rattle.std.specs.Int.{to_le_bytes, w32};
 ghost use Rattle.std.specs.List.{flat_map};
 ghost use Rattle.std.specs.Prelude.{◌*◌, ◌+◌, ◌++◌, ◌-◌, ◌<◌, ◌≡◌, ◌≤◌, ◌↔◌, IfErr, IfOk, IsOk, List, length, replicate, slice_index, take, ℕ};
 
-use crate::bytes::{read_u16, read_u32, write_u16, write_u32};
+use crate::bytes::{write_u16, write_u32};
 use crate::fat::END_OF_CHAIN;
 use crate::fault::ChainFault;
 use byteorder::{ByteOrder, LittleEndian};
+use cfb_bytes::numbers::{read_u16, read_u32};
 use std::marker::Model;
 
 /// How many FAT sectors the header can name.

@@ -15,7 +15,7 @@ use Rattle.std.specs.List.Sorted.{IsPermutation}
 use Rattle.std.specs.Ordering.{is_lt, ordering_reverse, ordering_then}
 use Rattle.std.specs.declared.cmp.Ordering.{Ordering}
 use Rattle.std.specs.declared.cmp.Ordering.TheVariants.{Less, Equal, Greater}
-use Rattle.cfb_chain.specs.Chain.{AreDistinct}
+use Rattle.cfb_bytes.specs.Marks.{AreDistinct}
 use Rattle.cfb_directory.specs.Building.{AllAdjacentApart, HasEqualNeighbours, KeepsOthers, keyed_from, keyed_names, places}
 use Rattle.cfb_names.specs.Names.{key, key_cmp, name_cmp}
 use Rattle.cfb_directory.specs.SearchTree.{IsTree, nobody, somebody, MayRefuseBuild}

@@ -1,9 +1,8 @@
 -- Entries of the directory, 128 bytes each (MS-CFB 2.6).
 use Rattle.std.specs.Prelude.{◌≡◌, ◌≢◌, ◌<◌, ◌≤◌, ◌+◌, ◌-◌, ◌*◌, ◌/◌, ◌⊎◌, ℕ, zero, suc, Bool, true, false, List, [], ◌∷◌, ◌++◌, length, map, take, drop, slice_index, slice_index_or}
 use Rattle.std.specs.List.{All, Contains, range_with_len}
-use Rattle.cfb_chain.specs.Bytes.{u16_at, u32_at, block}
-use Rattle.cfb_chain.specs.Chain.{AreDistinct}
-use Rattle.cfb_chain.specs.Fat.{set_all}
+use Rattle.cfb_bytes.specs.Bytes.{u16_at, u32_at, block}
+use Rattle.cfb_bytes.specs.Marks.{AreDistinct, set_all}
 use Rattle.cfb_names.specs.Names.{is_forbidden}
 pub use Rattle.cfb_names.specs.Names.{root_name}
 use Rattle.cfb_names.specs.declared.fault.DirFault.{DirFault}

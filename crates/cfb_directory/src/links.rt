@@ -1,6 +1,6 @@
 //! Trees of siblings (MS-CFB 2.6.4).
 
-ghost use Rattle.cfb_chain.specs.Chain.{AreDistinct};
+ghost use Rattle.cfb_bytes.specs.Marks.{AreDistinct};
 ghost use Rattle.cfb_directory.specs.Building.{AllAdjacentApart, HasEqualNeighbours, KeepsOthers, keyed_names, places};
 ghost use Rattle.cfb_directory.specs.SearchTree.{AreKept, IsBuilt, IsSearchTree, IsTree, MayRefuseBuild};
 ghost use Rattle.cfb_names.specs.declared.fault.DirFault.TheVariants.{NoMemory};
