@@ -1,7 +1,7 @@
 -- Sectors of a file, which is the list of its bytes (MS-CFB 1.3.4, 2.1).
 use Rattle.std.specs.Prelude.{ℕ, ◌+◌, ◌*◌, List}
 use Rattle.std.specs.List.{flat_map}
-pub use Rattle.cfb_bytes.specs.Bytes.{u16_at, u32_at, block}
+unfoldable pub use Rattle.cfb_bytes.specs.Bytes.{u16_at, u32_at, block}
 
 -- sector n of a file, behind the header of 512 bytes
 abbrev pub sector : List ℕ → ℕ → List ℕ
