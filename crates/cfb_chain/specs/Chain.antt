@@ -1,6 +1,7 @@
 -- Chains of sectors, each naming the next (MS-CFB 2.1, 2.3, 2.4).
-use Rattle.std.specs.Prelude.{◌≡◌, ◌≢◌, ◌<◌, ◌≤◌, ◌*◌, ℕ, zero, suc, List, [], ◌∷◌, length}
-use Rattle.std.specs.List.{All, AllPairs}
+use Rattle.std.specs.Prelude.{◌≡◌, ◌<◌, ◌≤◌, ◌*◌, ℕ, zero, suc, List, [], ◌∷◌, length}
+use Rattle.std.specs.List.{All}
+pub use Rattle.cfb_bytes.specs.Marks.{AreDistinct}
 
 -- the value that ends a chain
 abbrev pub END_OF_CHAIN : ℕ
@@ -41,7 +42,3 @@ pub record IsChain (s : Store) (start : ℕ) (bytes : ℕ) (ns : List ℕ) : Typ
 abbrev pub IsChainOf : Store → ℕ → ℕ → List ℕ → Type 0
 IsChainOf s start zero ns = ns ≡ []
 IsChainOf s start (suc n) ns = IsChain s start (suc n) ns
-
--- no number stands twice
-abbrev pub AreDistinct : List ℕ → Type 0
-AreDistinct ns = AllPairs (λ m n. m ≢ n) ns

@@ -1,8 +1,9 @@
 -- The table of sectors, and what is used of it (MS-CFB 2.3, 2.4).
-use Rattle.std.specs.Prelude.{◌≡◌, ◌≢◌, ◌≤◌, ◌<◌, ◌+◌, ◌-◌, ◌*◌, ◌/◌, ℕ, zero, suc, Bool, true, false, cond, nat_lt, take, ◌⊎◌, List, [], ◌∷◌, ◌++◌, length, min, replicate, slice_index, slice_index_or, slice_set}
+use Rattle.std.specs.Prelude.{◌≡◌, ◌≢◌, ◌≤◌, ◌<◌, ◌+◌, ◌-◌, ◌*◌, ◌/◌, ℕ, zero, suc, Bool, true, false, cond, nat_lt, take, ◌⊎◌, List, [], ◌∷◌, ◌++◌, length, min, replicate, slice_index, slice_index_or}
 use Rattle.std.specs.List.{All, Contains}
 use Rattle.cfb_chain.specs.Bytes.{u32_at, block, sector, joined}
 use Rattle.cfb_chain.specs.Chain.{Store, Leads, IsPresent, IsChain, IsChainOf, AreDistinct, END_OF_CHAIN}
+pub use Rattle.cfb_bytes.specs.Marks.{set_all}
 use Rattle.cfb_chain.specs.Header.{HeaderValue}
 use Rattle.cfb_chain.specs.declared.fault.ChainFault.{ChainFault}
 use Rattle.cfb_chain.specs.declared.fault.ChainFault.TheVariants.{OutOfFile, Cycle, CrossLinked, ShortChain, NoMemory}
@@ -56,10 +57,6 @@ pub record AreFree (f : FatValue) (ns : List ℕ) : Type 0 where
   pub once : AreDistinct ns
 
 -- with sectors marked
-abbrev pub set_all : List Bool → List ℕ → List Bool
-set_all used [] = used
-set_all used (n ∷ ns) = set_all (slice_set used n true) ns
-
 abbrev pub marked : FatValue → List ℕ → FatValue
 marked f ns = record { bytes = f.bytes; start = f.start; width = f.width; table = f.table; used = set_all f.used ns }
 

@@ -8,14 +8,18 @@ ghost use Rattle.std.specs.Int.{to_le_bytes, w32};
 ghost use Rattle.std.specs.List.{flat_map};
 ghost use Rattle.std.specs.Prelude.{◌*◌, ◌+◌, ◌++◌, ◌-◌, ◌<◌, ◌≡◌, ◌≤◌, ◌↔◌, IfErr, IfOk, IsOk, List, length, replicate, slice_index, take, ℕ};
 
-use crate::bytes::{read_u16, read_u32, write_u16, write_u32};
+use crate::bytes::{write_u16, write_u32};
 use crate::fat::END_OF_CHAIN;
 use crate::fault::ChainFault;
 use byteorder::{ByteOrder, LittleEndian};
+use cfb_bytes::numbers::{read_u16, read_u32};
 use std::marker::Model;
 
 /// How many FAT sectors the header can name.
 pub const LISTED: usize = 109;
+
+/// The length from which a stream lies in sectors, and not in mini sectors.
+const CUTOFF: u32 = 4096;
 
 const SIGNATURE: [u8; 8] = [0xd0, 0xcf, 0x11, 0xe0, 0xa1, 0xb1, 0x1a, 0xe1];
 
@@ -116,7 +120,7 @@ impl Header {
         if read_u16(bytes, 32) != 6 {
             return Err(ChainFault::Unsupported(32));
         }
-        if read_u32(bytes, 56) != 4096 {
+        if read_u32(bytes, 56) != CUTOFF {
             return Err(ChainFault::Unsupported(56));
         }
         let fat_count = read_u32(bytes, 44);
@@ -146,7 +150,7 @@ impl Header {
         write_u16(&mut bytes, 32, 6);
         write_u32(&mut bytes, 44, self.fat_count);
         write_u32(&mut bytes, 48, self.first_directory);
-        write_u32(&mut bytes, 56, 4096);
+        write_u32(&mut bytes, 56, CUTOFF);
         write_u32(&mut bytes, 60, self.first_mini_fat);
         write_u32(&mut bytes, 64, self.mini_fat_count);
         write_u32(&mut bytes, 68, END_OF_CHAIN);

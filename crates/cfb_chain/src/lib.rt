@@ -1,7 +1,7 @@
 //! Sectors and chains of a compound file (MS-CFB).
 #![tactic(auto)]
 
-pub mod bytes;
+mod bytes;
 pub mod fat;
 pub mod fault;
 pub mod header;

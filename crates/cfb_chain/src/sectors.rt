@@ -3,7 +3,7 @@
 ghost use Rattle.cfb_chain.specs.Bytes.{block, joined, u32_at};
 ghost use Rattle.std.specs.Prelude.{◌*◌, ◌+◌, ◌++◌, ◌<◌, ◌≡◌, ◌≤◌, IfOk, IfSome, OnOk, length, slice_index, true, ◌^◌, ℕ};
 
-use crate::bytes::read_u32;
+use cfb_bytes::numbers::read_u32;
 use std::alloc::{AllocError, Global};
 
 /// The size of a sector.

@@ -15,12 +15,12 @@ use Rattle.std.specs.List.Sorted.{IsPermutation}
 use Rattle.std.specs.Ordering.{is_lt, ordering_reverse, ordering_then}
 use Rattle.std.specs.declared.cmp.Ordering.{Ordering}
 use Rattle.std.specs.declared.cmp.Ordering.TheVariants.{Less, Equal, Greater}
-use Rattle.cfb_chain.specs.Chain.{AreDistinct}
+use Rattle.cfb_bytes.specs.Marks.{AreDistinct}
 use Rattle.cfb_directory.specs.Building.{AllAdjacentApart, HasEqualNeighbours, KeepsOthers, keyed_from, keyed_names, places}
-use Rattle.cfb_directory.specs.Names.{key, key_cmp, name_cmp}
+use Rattle.cfb_names.specs.Names.{key, key_cmp, name_cmp}
 use Rattle.cfb_directory.specs.SearchTree.{IsTree, nobody, somebody, MayRefuseBuild}
-use Rattle.cfb_directory.specs.declared.fault.DirFault.TheVariants.{DuplicateName}
-use Rattle.cfb_directory.proofs.Keys.{keys_agree, slice_cmp-same}
+use Rattle.cfb_names.specs.declared.fault.DirFault.TheVariants.{DuplicateName}
+use Rattle.cfb_names.proofs.Keys.{keys_agree, slice_cmp-same}
 use Rattle.cfb_directory.proofs.Marked.{distinct_apart, distinct_behind}
 
 -- names with their keys and places

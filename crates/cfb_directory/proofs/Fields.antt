@@ -7,7 +7,7 @@ use Rattle.std.proofs.lemmas.List.FromFn.{get_or-map-range_with_len, length-map-
 use Rattle.std.proofs.lemmas.Nat.{from_le_bytes-to_le_bytes_2, from_le_bytes-to_le_bytes_4}
 use Rattle.std.specs.List.{flat_map, range_with_len, All}
 use Rattle.std.specs.Int.{w16, w32, to_le_bytes, from_le_bytes}
-use Rattle.cfb_chain.specs.Bytes.{block, u32_at, u16_at}
+use Rattle.cfb_bytes.specs.Bytes.{block, u32_at, u16_at}
 use Rattle.cfb_directory.specs.Entries.{IsNamed, entry_at, child, class_of, first_of, kind, kind_number, left, name_length, name_of, right, size_of, state_of}
 use Rattle.cfb_directory.specs.Written.{entry_bytes, free_entry_bytes, name_bytes}
 use Rattle.cfb_directory.specs.declared.write.EntryFields.{EntryFields}

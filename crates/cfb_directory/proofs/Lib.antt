@@ -1,5 +1,4 @@
 pub mod Fields
-pub mod Keys
 pub mod Linked
 pub mod Marks
 pub mod Walk

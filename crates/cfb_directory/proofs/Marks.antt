@@ -7,7 +7,7 @@ use Rattle.std.proofs.lemmas.List.{get_or-append-add, get_or_default}
 use Rattle.std.proofs.Math.ListN.{length-set, get_or-append}
 use Rattle.std.specs.List.{All, Contains}
 use Rattle.cfb_directory.specs.Entries.{EntriesValue, IsFree, AreFree, marked}
-use Rattle.cfb_chain.specs.Fat.{set_all}
+use Rattle.cfb_bytes.specs.Marks.{set_all}
 use Rattle.cfb_directory.specs.Walk.{clear_all, unmarked}
 
 -- one mark

@@ -6,12 +6,12 @@ use Rattle.std.proofs.lemmas.Grind.{same_number_lists}
 use Rattle.std.proofs.lemmas.List.FromFn.{get_or-map-range_with_len, length-map-range_with_len}
 use Rattle.std.proofs.lemmas.List.{get_or-take, length-take-le}
 use Rattle.std.specs.List.{Contains, list_any, range_with_len}
-use Rattle.cfb_chain.specs.Bytes.{u16_at}
-use Rattle.cfb_directory.specs.Names.{IsName, is_forbidden, name_read}
+use Rattle.cfb_bytes.specs.Bytes.{u16_at}
+use Rattle.cfb_names.specs.Names.{IsName, is_forbidden, name_read}
 use Rattle.cfb_directory.specs.Entries.{IsNameOf, IsNamed, root_name, MayRefuseEntry, entry_at, name_length, name_of}
 use Rattle.cfb_directory.specs.Walk.{MayRefuseName}
-use Rattle.cfb_directory.specs.declared.fault.DirFault.{DirFault}
-use Rattle.cfb_directory.specs.declared.fault.DirFault.TheVariants.{NameEmpty, NameTooLong, NameNotAscii, NameForbidden, DuplicateName, BadEntry, TreeCycle, TooNested, NoMemory}
+use Rattle.cfb_names.specs.declared.fault.DirFault.{DirFault}
+use Rattle.cfb_names.specs.declared.fault.DirFault.TheVariants.{NameEmpty, NameTooLong, NameNotAscii, NameForbidden, DuplicateName, BadEntry, TreeCycle, TooNested, NoMemory}
 
 -- what holds of either choice holds of the one that a test takes
 choose : {X : Type 0} (Q : X → Type 0) (b : Bool) (x y : X) → (b ≡ true → Q x) → (b ≡ false → Q y) → Q (cond b x y)

@@ -4,7 +4,7 @@ use Rattle.std.proofs.lemmas.Bool.{cases_lt}
 use Rattle.std.proofs.lemmas.Bool.Decides.{eqb_tells}
 use Rattle.std.proofs.lemmas.List.Elements.{Contains-append_cases, Contains-append_left, Contains-append_right}
 use Rattle.std.specs.List.{Contains}
-use Rattle.cfb_chain.specs.Chain.{AreDistinct}
+use Rattle.cfb_bytes.specs.Marks.{AreDistinct}
 use Rattle.cfb_directory.specs.Entries.{NO_STREAM, AreLinked, nobody, around, entry_at, left, right}
 use Rattle.cfb_directory.specs.SearchTree.{AreKept, IsSearchTree, empty, node, middle, link_to}
 use Rattle.cfb_directory.proofs.Marked.{distinct_join}

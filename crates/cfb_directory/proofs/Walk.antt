@@ -2,8 +2,8 @@
 use Rattle.std.proofs.Common.{◌≡◌, ◌≢◌, ℕ, true, List, [], ◌∷◌, ◌++◌, length, get_or, sym, ◌∙◌, ap, subst, arith}
 use Rattle.cfb_directory.specs.Entries.{EntriesValue, IsFree, AreFree, MayRefuseLinked, NO_STREAM, Reaches, marked}
 use Rattle.cfb_directory.specs.Walk.{IsTaken}
-use Rattle.cfb_directory.specs.declared.fault.DirFault.{DirFault}
-use Rattle.cfb_directory.specs.declared.fault.DirFault.TheVariants.{NameEmpty, NameTooLong, NameNotAscii, NameForbidden, DuplicateName, BadEntry, TreeCycle, TooNested, NoMemory}
+use Rattle.cfb_names.specs.declared.fault.DirFault.{DirFault}
+use Rattle.cfb_names.specs.declared.fault.DirFault.TheVariants.{NameEmpty, NameTooLong, NameNotAscii, NameForbidden, DuplicateName, BadEntry, TreeCycle, TooNested, NoMemory}
 use Rattle.cfb_directory.proofs.Linked.{Completes, Completes-next}
 use Rattle.cfb_directory.proofs.Marks.{AreFree-next}
 

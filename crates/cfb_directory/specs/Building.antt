@@ -1,7 +1,7 @@
 -- Steps of building a tree of siblings.
 use Rattle.std.specs.Prelude.{◌≡◌, ◌≢◌, ◌<◌, ◌+◌, ℕ, List, [], ◌∷◌, length, map, slice_index, slice_index_or}
 use Rattle.std.specs.List.{All}
-use Rattle.cfb_directory.specs.Names.{key}
+use Rattle.cfb_names.specs.Names.{key}
 
 -- the keys of names, each with its place
 abbrev pub keyed_from : ℕ → List (List ℕ) → List (List ℕ × ℕ)

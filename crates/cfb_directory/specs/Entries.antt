@@ -1,12 +1,12 @@
 -- Entries of the directory, 128 bytes each (MS-CFB 2.6).
 use Rattle.std.specs.Prelude.{◌≡◌, ◌≢◌, ◌<◌, ◌≤◌, ◌+◌, ◌-◌, ◌*◌, ◌/◌, ◌⊎◌, ℕ, zero, suc, Bool, true, false, List, [], ◌∷◌, ◌++◌, length, map, take, drop, slice_index, slice_index_or}
 use Rattle.std.specs.List.{All, Contains, range_with_len}
-use Rattle.cfb_chain.specs.Bytes.{u16_at, u32_at, block}
-use Rattle.cfb_chain.specs.Chain.{AreDistinct}
-use Rattle.cfb_chain.specs.Fat.{set_all}
-use Rattle.cfb_directory.specs.Names.{is_forbidden}
-use Rattle.cfb_directory.specs.declared.fault.DirFault.{DirFault}
-use Rattle.cfb_directory.specs.declared.fault.DirFault.TheVariants.{NameEmpty, NameTooLong, NameNotAscii, NameForbidden, BadEntry, TreeCycle, NoMemory}
+use Rattle.cfb_bytes.specs.Bytes.{u16_at, u32_at, block}
+use Rattle.cfb_bytes.specs.Marks.{AreDistinct, set_all}
+use Rattle.cfb_names.specs.Names.{is_forbidden}
+pub use Rattle.cfb_names.specs.Names.{root_name}
+use Rattle.cfb_names.specs.declared.fault.DirFault.{DirFault}
+use Rattle.cfb_names.specs.declared.fault.DirFault.TheVariants.{NameEmpty, NameTooLong, NameNotAscii, NameForbidden, BadEntry, TreeCycle, NoMemory}
 use Rattle.cfb_directory.specs.declared.entries.Entry.{Entry}
 use Rattle.cfb_directory.specs.declared.entries.EntryKind.{EntryKind}
 use Rattle.cfb_directory.specs.declared.entries.EntryKind.TheVariants.{Storage, Stream, Root}
@@ -84,9 +84,6 @@ abbrev pub kind_number : EntryKind → ℕ
 kind_number Storage = 1
 kind_number Stream = 2
 kind_number Root = 5
-
-abbrev pub root_name : List ℕ
-root_name = 82 ∷ 111 ∷ 111 ∷ 116 ∷ 32 ∷ 69 ∷ 110 ∷ 116 ∷ 114 ∷ 121 ∷ []
 
 -- the name of an entry; the root's is not looked at
 abbrev pub IsNameOf : ℕ → List ℕ → List ℕ → Type 0

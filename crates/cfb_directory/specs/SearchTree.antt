@@ -3,9 +3,9 @@ use Rattle.std.specs.Prelude.{◌≡◌, ◌<◌, ◌+◌, ◌-◌, ◌/◌, ℕ
 use Rattle.std.specs.List.{AllPairs, range_with_len}
 use Rattle.std.specs.List.Sorted.{IsPermutation}
 use Rattle.std.specs.declared.cmp.Ordering.TheVariants.{Less, Equal}
-use Rattle.cfb_directory.specs.Names.{name_cmp}
-use Rattle.cfb_directory.specs.declared.fault.DirFault.{DirFault}
-use Rattle.cfb_directory.specs.declared.fault.DirFault.TheVariants.{DuplicateName, NoMemory}
+use Rattle.cfb_names.specs.Names.{name_cmp}
+use Rattle.cfb_names.specs.declared.fault.DirFault.{DirFault}
+use Rattle.cfb_names.specs.declared.fault.DirFault.TheVariants.{DuplicateName, NoMemory}
 use Rattle.cfb_directory.specs.declared.links.Links.{Links}
 use Rattle.cfb_directory.specs.Entries.{NO_STREAM}
 

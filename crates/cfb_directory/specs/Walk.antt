@@ -2,9 +2,9 @@
 use Rattle.std.specs.List.{Contains}
 use Rattle.std.specs.Prelude.{◌≡◌, ◌≢◌, ◌<◌, ◌≤◌, ◌*◌, ℕ, Bool, true, false, List, [], ◌∷◌, length, slice_index_or, slice_set}
 use Rattle.cfb_directory.specs.Entries.{EntriesValue, name_length, name_of}
-use Rattle.cfb_directory.specs.Names.{is_forbidden}
-use Rattle.cfb_directory.specs.declared.fault.DirFault.{DirFault}
-use Rattle.cfb_directory.specs.declared.fault.DirFault.TheVariants.{NameEmpty, NameTooLong, NameNotAscii, NameForbidden, BadEntry, TreeCycle}
+use Rattle.cfb_names.specs.Names.{is_forbidden}
+use Rattle.cfb_names.specs.declared.fault.DirFault.{DirFault}
+use Rattle.cfb_names.specs.declared.fault.DirFault.TheVariants.{NameEmpty, NameTooLong, NameNotAscii, NameForbidden, BadEntry, TreeCycle}
 
 -- an entry isn't in the directory, or has no mark that is off
 abbrev pub IsTaken : EntriesValue → ℕ → DirFault → Type 0

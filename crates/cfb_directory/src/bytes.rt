@@ -17,7 +17,7 @@ fn padded(part: &[u8]) -> [u8; 128]
 }
 
 /// The bytes of an entry of a directory, with zeros past its end.
-#[tactic(auto, unfolding(cfb_chain::specs::Bytes::block))]
+#[tactic(auto, unfolding(cfb_bytes::specs::Bytes::block))]
 pub(crate) fn entry_bytes(directory: &[u8], id: u32) -> [u8; 128]
     requires { 128 * id < length directory.now }
     ensures { result ≡ entry_at directory.now id }

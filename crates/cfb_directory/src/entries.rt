@@ -1,17 +1,17 @@
 //! Entries of the directory (MS-CFB 2.6).
 
 ghost use Rattle.cfb_directory.specs.Entries.{AreFree, AreLinked, IsEntry, IsFree, IsKindOf, IsNamed, MayRefuseChildren, MayRefuseEntry, MayRefuseLinked, MayRefuseLoad, child, class_of, entry_at, kind_number, left, marked, right};
-ghost use Rattle.cfb_chain.specs.Fat.{set_all};
-ghost use Rattle.cfb_directory.specs.Names.{IsName};
+ghost use Rattle.cfb_bytes.specs.Marks.{set_all};
+ghost use Rattle.cfb_names.specs.Names.{IsName};
 ghost use Rattle.cfb_directory.specs.Walk.{IsTaken, MayRefuseName, unmarked};
-ghost use Rattle.cfb_directory.specs.declared.fault.DirFault.TheVariants.{BadEntry};
+ghost use Rattle.cfb_names.specs.declared.fault.DirFault.TheVariants.{BadEntry};
 ghost use Rattle.std.specs.List.{All};
 ghost use Rattle.std.specs.Prelude.{◌≡◌, ◌<◌, ◌≤◌, ◌*◌, ◌/◌, ◌∷◌, ◌++◌, [], false, replicate, length, vec_capacity, vec_len, IfErr, IfOk, OnErr, OnOk};
 
 use crate::bytes::{ENTRY_LEN, entry_bytes};
-use crate::fault::DirFault;
-use crate::name::{LONGEST, Name};
-use cfb_chain::bytes::{read_u16, read_u32};
+use cfb_bytes::numbers::{read_u16, read_u32};
+use cfb_names::fault::DirFault;
+use cfb_names::name::{LONGEST, Name};
 use std::alloc::Global;
 use std::marker::Model;
 

@@ -1,15 +1,15 @@
 //! Trees of siblings (MS-CFB 2.6.4).
 
-ghost use Rattle.cfb_chain.specs.Chain.{AreDistinct};
+ghost use Rattle.cfb_bytes.specs.Marks.{AreDistinct};
 ghost use Rattle.cfb_directory.specs.Building.{AllAdjacentApart, HasEqualNeighbours, KeepsOthers, keyed_names, places};
 ghost use Rattle.cfb_directory.specs.SearchTree.{AreKept, IsBuilt, IsSearchTree, IsTree, MayRefuseBuild};
-ghost use Rattle.cfb_directory.specs.declared.fault.DirFault.TheVariants.{NoMemory};
+ghost use Rattle.cfb_names.specs.declared.fault.DirFault.TheVariants.{NoMemory};
 ghost use Rattle.std.specs.List.{All};
 ghost use Rattle.std.specs.Prelude.{◌≡◌, ◌<◌, ◌≤◌, IfErr, IfOk, false, length, true};
 
 use crate::entries::NO_STREAM;
-use crate::fault::DirFault;
-use crate::name::Name;
+use cfb_names::fault::DirFault;
+use cfb_names::name::Name;
 use std::alloc::{AllocError, Global};
 
 /// The links of siblings: which one is on top, and the left and the right one of each. 0xFFFFFFFF stands for nobody.

@@ -1,7 +1,7 @@
 //! Streams that are written, and files that are written anew.
 
 use crate::ends::{Failing, Full};
-use cfb_directory::name::Name;
+use cfb_names::name::Name;
 use file_commands::cleaning::clean_file;
 use file_commands::commands::make_file;
 use file_commands::getting::get_file;

@@ -3,7 +3,7 @@ use Rattle.std.proofs.Common.{◌≡◌, ◌≤◌, ◌+◌, ◌∙◌, ℕ, tru
 use Rattle.std.specs.Ordering.{is_eq, match_ordering}
 use Rattle.std.specs.declared.cmp.Ordering.TheVariants.{Less, Equal, Greater}
 use Rattle.std.proofs.lemmas.Bool.{leb-true}
-use Rattle.cfb_directory.specs.Names.{key, key_cmp}
+use Rattle.cfb_names.specs.Names.{key, key_cmp}
 use Rattle.storage_tree.specs.Tree.{Tree, Children, tree, none, stream, storage}
 use Rattle.storage_tree.specs.Change.{Seen, bytes, inner, child, find, place}
 use Rattle.storage_tree.specs.Streams.{AreInOrder}
@@ -13,10 +13,10 @@ use Rattle.object_parts.specs.Limits.{OLE, COMP_OBJ, OLE_PRES}
 use Rattle.ole_parts.specs.CompObjs.{comp_obj_bytes}
 use Rattle.ole_parts.specs.OleStreams.{ole_bytes}
 use Rattle.ole_parts.proofs.Again.{and_left, and_right}
-use Rattle.ole_streams.specs.DocOf.{is_object}
-use Rattle.ole_streams.specs.DocTree.{LAYOUT, object_name, object_tree, placed, with_objects, with_picture, with_streams, doc_tree}
-use Rattle.ole_streams.specs.Layouts.{MOST_OBJECTS, layout_bytes}
-use Rattle.ole_streams.specs.declared.doc.DocObject.{DocObject}
+use Rattle.document_model.specs.DocOf.{is_object}
+use Rattle.document_model.specs.DocTree.{LAYOUT, object_name, object_tree, placed, with_objects, with_picture, with_streams, doc_tree}
+use Rattle.document_model.specs.Layouts.{MOST_OBJECTS, layout_bytes}
+use Rattle.document_model.specs.declared.object.DocObject.{DocObject}
 use Rattle.ole_streams.proofs.AgainDoc.{not_found, own-names, no_ole, no_comp_obj, no_picture, names-apart, layout-apart, not_among, listed, listed-is}
 use Rattle.file_model.specs.Need.{entries, entries_of, over_streams, over_streams_of}
 use Rattle.container_model.specs.Saves.{are_objects, is_document}

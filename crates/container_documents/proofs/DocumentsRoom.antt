@@ -12,7 +12,7 @@ use Rattle.file_model.proofs.Refused.{allowed_room, bounded, refused_room}
 use Rattle.object_parts.specs.declared.area.Area.{Area}
 use Rattle.ole_parts.specs.CompObjs.{CLASS_BYTES, comp_obj_bytes}
 use Rattle.ole_parts.specs.Fields.{string_bytes}
-use Rattle.ole_streams.specs.Layouts.{area_bytes, layout_bytes}
+use Rattle.document_model.specs.Layouts.{area_bytes, layout_bytes}
 use Rattle.container_documents.specs.Sums.{comp_obj_size}
 
 abbrev is_fine : Result (Unit {0}) WriteFault → Bool

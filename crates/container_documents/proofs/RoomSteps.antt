@@ -1,7 +1,7 @@
 -- What is reckoned of a document, one object after another, each count up to the bound.
 use Rattle.std.proofs.Common.{◌≡◌, ◌<◌, ◌+◌, ◌==◌, ◌∙◌, ℕ, true, false, List, [], ◌∷◌, length, min, drop, get_or, refl, sym, ap, arith, if◌then◌else◌}
 use Rattle.std.proofs.lemmas.List.{drop_more}
-use Rattle.ole_streams.specs.declared.doc.DocObject.{DocObject}
+use Rattle.document_model.specs.declared.object.DocObject.{DocObject}
 use Rattle.container_model.specs.declared.record.Object.{Object}
 use Rattle.container_model.specs.Saves.{document, held_part, part_of, parts_in}
 use Rattle.container_documents.specs.Sums.{object_sum, objects_sum, picture_sum, picture_of}

@@ -7,8 +7,8 @@ use Rattle.file_model.specs.Limits.{CUTOFF}
 use Rattle.file_model.specs.Need.{pieces}
 use Rattle.ole_parts.specs.CompObjs.{CLASS_BYTES, comp_obj_bytes}
 use Rattle.ole_parts.specs.OleStreams.{ole_bytes}
-use Rattle.ole_streams.specs.Layouts.{layout_bytes}
-use Rattle.ole_streams.specs.declared.doc.DocObject.{DocObject}
+use Rattle.document_model.specs.Layouts.{layout_bytes}
+use Rattle.document_model.specs.declared.object.DocObject.{DocObject}
 
 -- a sum over the streams of an object, of a document, where each stream is reckoned by its bytes and each storage alike
 abbrev pub streams_sum : (List ℕ → ℕ) → List NamedStream → ℕ

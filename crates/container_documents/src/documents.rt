@@ -2,7 +2,7 @@
 
 ghost use Rattle.std.specs.Prelude.{◌≡◌, IfOk, is_ok, length};
 ghost use Rattle.container_model.specs.Saves.{are_objects, document, document_tree, fitting, held_part, part_of, parts_in};
-ghost use Rattle.ole_streams.specs.DocOf.{DocOf, is_object};
+ghost use Rattle.document_model.specs.DocOf.{DocOf, is_object};
 ghost use Rattle.file_model.specs.Denotes.{Denotes};
 
 use crate::room::has_room;

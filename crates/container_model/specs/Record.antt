@@ -8,7 +8,7 @@ use Rattle.grant_core.specs.declared.grant_states.GrantState.{GrantState}
 use Rattle.grant_core.specs.declared.grant_states.GrantState.TheVariants.{Granting, Revoking}
 use Rattle.grant_core.specs.declared.grant_states.Claim.{Claim}
 use Rattle.grant_core.specs.Grants.{waiting}
-pub use Rattle.ole_streams.specs.Layouts.{MOST_OBJECTS}
+pub use Rattle.document_model.specs.Layouts.{MOST_OBJECTS}
 use Rattle.container_model.specs.declared.record.Link.{Link}
 use Rattle.container_model.specs.declared.record.Object.{Object}
 use Rattle.container_model.specs.declared.record.Frame.{Frame}

@@ -5,10 +5,10 @@ use Rattle.wire_msgs.specs.declared.operation.Operation.{Operation}
 use Rattle.wire_msgs.specs.declared.operation.Operation.TheVariants.{SaveCompleted}
 use Rattle.storage_tree.specs.declared.stored.Stored.{Stored}
 use Rattle.storage_tree.specs.Tree as tree
-use Rattle.ole_streams.specs.declared.doc.DocObject.{DocObject}
-use Rattle.ole_streams.specs.DocOf.{is_object}
-use Rattle.ole_streams.specs.DocTree.{doc_tree}
-use Rattle.ole_streams.specs.Layouts.{MOST_OBJECTS}
+use Rattle.document_model.specs.declared.object.DocObject.{DocObject}
+use Rattle.document_model.specs.DocOf.{is_object}
+use Rattle.document_model.specs.DocTree.{doc_tree}
+use Rattle.document_model.specs.Layouts.{MOST_OBJECTS}
 use Rattle.file_model.specs.Refusals.{writable}
 use Rattle.file_model.specs.declared.fault.WriteFault.{WriteFault}
 use Rattle.container_model.specs.declared.record.Link.{Link}

@@ -1,7 +1,7 @@
 //! What a container shows: an object, who has a frame, a save, a document and its file, as rows spell them.
 
 use crate::answers::fault_text;
-use cfb_directory::name::Name;
+use cfb_names::name::Name;
 use container_core::container::ContainerCore;
 use container_model::answer::Part;
 use container_model::fault::ContainerFault;

@@ -1,7 +1,7 @@
 //! Replies of a server, and its end, as rows spell them.
 
 use crate::words::{halves, number};
-use cfb_directory::name::Name;
+use cfb_names::name::Name;
 use container_core::container::ContainerCore;
 use container_model::answer::Answer;
 use container_model::fault::ContainerFault;

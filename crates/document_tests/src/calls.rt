@@ -1,6 +1,6 @@
 //! What tests call. These functions have no contracts, so that the tests stay quick to prove.
 
-use cfb_directory::name::Name;
+use cfb_names::name::Name;
 use object_parts::area::Area;
 use object_parts::limits::{comp_obj, ole};
 use ole_streams::comp_obj::CompObj;

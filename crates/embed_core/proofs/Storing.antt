@@ -6,7 +6,7 @@ use Rattle.std.specs.List.{join_with_byte, list_all, flat_map}
 use Rattle.std.proofs.lemmas.Bool.{ne_eqb}
 use Rattle.std.proofs.lemmas.List.Folds.{list_all-append}
 use Rattle.std.proofs.lemmas.List.Splits.{join_with_byte-slice_split}
-use Rattle.cfb_directory.specs.Names.{key, key_eq}
+use Rattle.cfb_names.specs.Names.{key, key_eq}
 use Rattle.embed_core.specs.Content.{Cell, Shape, box, line, Direction, across, down, Content, note, table, drawing, is_content, is_cell, is_cell_text, is_entry, is_rising, is_shape, cell_place, cell_bytes, direction_byte, entry_bytes, shape_bytes, shape_line, spaced, stream_name, stream_bytes, stored, CELL_SIZE, DRAWING_SIZE}
 use Rattle.object_state.specs.Printable.{is_printable}
 use Rattle.embed_core.specs.Edits.{IsSmallShape}

@@ -6,7 +6,7 @@ ghost use Rattle.std.specs.Option.{option_map};
 ghost use Rattle.std.specs.Prelude.{[], ◌∷◌, ◌≡◌, IfErr, IfOk};
 
 use crate::fault::EmbedFault;
-use cfb_directory::name::Name;
+use cfb_names::name::Name;
 use std::alloc::Global;
 use storage_tree::bytes::Bytes;
 use storage_tree::streams::{NamedStream, Streams};

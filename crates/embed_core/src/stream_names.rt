@@ -4,7 +4,7 @@ ghost use Rattle.embed_core.specs.Content.{stream_name};
 ghost use Rattle.embed_core.specs.Kinds.{Drawing, Note, Table, empty};
 ghost use Rattle.std.specs.Prelude.{◌≡◌};
 
-use cfb_directory::name::Name;
+use cfb_names::name::Name;
 
 /// The stream of a note, `Text`.
 pub fn note() -> Name

@@ -1,7 +1,7 @@
 -- Steps of building a tree from a description.
 use Rattle.std.proofs.Common.{◌≡◌, ◌≤◌, ◌<◌, ◌+◌, ℕ, Bool, true, false, cond, List, [], ◌∷◌, Option, Some, None, Result, Ok, Err, length, refl, sym, ap, subst, ◌∙◌, arith}
 use Rattle.std.specs.Prelude.{is_ok, nat_le, IsOk, IsTrue}
-use Rattle.cfb_directory.specs.Names.{key}
+use Rattle.cfb_names.specs.Names.{key}
 use Rattle.storage_tree.specs.Tree.{Tree, Children, tree}
 use Rattle.storage_tree.specs.Change.{Seen, bytes, inner, find, place, look, map_ok, on_ok, found, change, edited, Outcome}
 use Rattle.storage_tree.specs.Kept.{Kept, kept, put, made, tree_of}

@@ -1,7 +1,7 @@
 -- Streams that are asked for.
 use Rattle.std.proofs.Common.{◌≡◌, ℕ, List, Option, Some, None, Result, is_some, true, refl, rules}
 use Rattle.std.specs.Prelude.{IsSome}
-use Rattle.cfb_directory.specs.declared.fault.DirFault.{DirFault}
+use Rattle.cfb_names.specs.declared.fault.DirFault.{DirFault}
 use Rattle.file_commands.specs.Commands.{stream_of}
 
 -- a stream of a path and of bytes that are spelled

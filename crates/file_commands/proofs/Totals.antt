@@ -3,7 +3,7 @@ use Rattle.std.proofs.Common.{◌≡◌, ◌≤◌, ◌+◌, ℕ, Bool, true, fa
 use Rattle.std.specs.Prelude.{is_ok}
 use Rattle.std.specs.Ordering.{match_ordering, is_eq}
 use Rattle.std.specs.declared.cmp.Ordering.TheVariants.{Less, Equal, Greater}
-use Rattle.cfb_directory.specs.Names.{key, key_cmp}
+use Rattle.cfb_names.specs.Names.{key, key_cmp}
 use Rattle.storage_tree.specs.Tree.{Children, tree, none, stream, storage}
 use Rattle.storage_tree.specs.Change.{Seen, bytes, inner, child, find, place, look, map_ok, on_ok, found, change, edited, putting, making}
 use Rattle.storage_tree.specs.declared.storage.Edit.{Edit}

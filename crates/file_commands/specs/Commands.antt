@@ -7,7 +7,7 @@ use Rattle.texts.specs.Words.{byte_read, content_read}
 use Rattle.texts.specs.Paths.{path_read}
 use Rattle.file_commands.specs.declared.command.Command.{Command}
 use Rattle.file_commands.specs.declared.command.Command.TheVariants.{Storage, Stream, Fill}
-use Rattle.cfb_directory.specs.declared.fault.DirFault.{DirFault}
+use Rattle.cfb_names.specs.declared.fault.DirFault.{DirFault}
 use Rattle.texts.specs.Lines.{text_read}
 use Rattle.texts.specs.declared.lines.SyntaxFault.{SyntaxFault}
 

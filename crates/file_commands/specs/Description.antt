@@ -1,6 +1,6 @@
 -- The tree that a description describes.
 use Rattle.std.specs.Prelude.{◌≡◌, ◌++◌, ◌⊎◌, ℕ, List, [], ◌∷◌, Result, Ok, Err, IsOk, cond, is_ok, replicate}
-use Rattle.cfb_directory.specs.declared.fault.DirFault.{DirFault}
+use Rattle.cfb_names.specs.declared.fault.DirFault.{DirFault}
 use Rattle.storage_tree.specs.Tree.{tree, none}
 use Rattle.storage_tree.specs.Change.{inner, look}
 use Rattle.storage_tree.specs.Kept.{Kept, put, made}

@@ -1,6 +1,6 @@
 -- The faults of lines, and their names.
 use Rattle.std.specs.Prelude.{ℕ, List, codes}
-use Rattle.cfb_directory.specs.Faults.{name_of_fault}
+use Rattle.cfb_names.specs.Faults.{name_of_fault}
 use Rattle.storage_tree.specs.FaultNames.{fault_name}
 use Rattle.storage_tree.specs.declared.fault.TreeFault.{TreeFault}
 use Rattle.storage_tree.specs.declared.fault.TreeFault.TheVariants as tree

@@ -7,7 +7,7 @@ ghost use Rattle.storage_tree.specs.Change.{inner, look};
 ghost use Rattle.storage_tree.specs.Kept.{Kept, kept, made, put};
 
 use crate::fault::LineFault;
-use cfb_directory::name::Name;
+use cfb_names::name::Name;
 use file_model::limit::MOST_BYTES;
 use std::alloc::{AllocError, Global};
 use storage_tree::bytes::Bytes;

@@ -1,6 +1,6 @@
 //! Why a description or a file is refused.
 
-use cfb_directory::fault::DirFault;
+use cfb_names::fault::DirFault;
 use file_model::fault::WriteFault;
 use storage_tree::fault::TreeFault;
 use stream_io::fault::ReadFault;

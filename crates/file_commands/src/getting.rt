@@ -4,7 +4,7 @@ ghost use Rattle.file_commands.specs.Getting.{Gets, MayRefuseGet};
 ghost use Rattle.std.specs.Prelude.{◌≡◌, ◌≢◌, IfErr, IfSome, OnOk};
 
 use crate::fault::GetFault;
-use cfb_directory::name::Name;
+use cfb_names::name::Name;
 use std::alloc::Global;
 use std::io::{Read, Write};
 use stream_io::fault::StreamFault;

@@ -6,7 +6,7 @@ ghost use Rattle.std.specs.Fmt.{decimal};
 ghost use Rattle.std.specs.Prelude.{◌≡◌, ◌<◌, ◌++◌, ◌∷◌, [], IfOk, OnOk};
 ghost use Rattle.file_outline.specs.View.{outline_view, part_view};
 
-use cfb_directory::name::Name;
+use cfb_names::name::Name;
 use file_outline::outline::{Outline, Part};
 use std::alloc::{AllocError, Global};
 use storage_tree::class_id::ClassId;

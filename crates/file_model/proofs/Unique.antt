@@ -6,7 +6,7 @@ use Rattle.cfb_chain.specs.Bytes.{joined, sector}
 use Rattle.cfb_chain.specs.Chain.{Store, IsPresent, IsChain, IsChainOf, Leads, END_OF_CHAIN}
 use Rattle.cfb_chain.specs.Header.{first_directory, first_mini_fat, mini_fat_count}
 use Rattle.cfb_chain.specs.Fat.{sectors_of}
-use Rattle.cfb_directory.specs.Names.{key, key_cmp}
+use Rattle.cfb_names.specs.Names.{key, key_cmp}
 use Rattle.cfb_directory.specs.Entries.{AreLinked, nobody, around, entry_at, left, right, first_of, size_of, child, name_of}
 use Rattle.storage_tree.specs.Tree.{Tree, Children, tree, none, stream, storage}
 use Rattle.file_model.specs.Denotes.{Layout, IsLaidOut, directory_of, root_of, sectors, Denotes, Holds, HoldsEach, HoldsBytes, AreChildren, Used, entry, store_for}

@@ -6,7 +6,7 @@ use Rattle.cfb_chain.specs.Bytes.{sector, joined}
 use Rattle.cfb_chain.specs.Chain.{Store, IsChain, IsChainOf, AreDistinct}
 use Rattle.cfb_chain.specs.Header.{IsHeader, listed, first_directory, first_mini_fat, mini_fat_count}
 use Rattle.cfb_chain.specs.Fat.{IsFat, sectors_of, mini_sectors_of}
-use Rattle.cfb_directory.specs.Names.{key, key_cmp}
+use Rattle.cfb_names.specs.Names.{key, key_cmp}
 use Rattle.cfb_directory.specs.Entries.{entry_at, kind, child, class_of, state_of, first_of, size_of, name_of, IsNamed, AreLinked}
 use Rattle.storage_tree.specs.Tree.{Tree, Children, tree, none, stream, storage}
 use Rattle.storage_tree.specs.Whole.{IsTree}

@@ -4,7 +4,7 @@ use Rattle.std.proofs.lemmas.List.Elements.{All-head, All-tail}
 use Rattle.std.specs.List.{All}
 use Rattle.std.specs.Ordering.{match_ordering}
 use Rattle.std.specs.declared.cmp.Ordering.TheVariants.{Greater}
-use Rattle.cfb_directory.specs.Names.{key_cmp}
+use Rattle.cfb_names.specs.Names.{key_cmp}
 use Rattle.storage_tree.specs.Change.{Seen, bytes, inner, child, place}
 use Rattle.storage_tree.specs.Tree.{Children, none, stream, storage, keys}
 

@@ -1,6 +1,6 @@
 -- The part of a name, and the stream at a path, found among the parts of an outline.
 use Rattle.std.proofs.Common.{◌≡◌, ◌∙◌, ◌∷◌, ℕ, true, false, cond, List, Some, None, Err, ap, refl, sym}
-use Rattle.cfb_directory.specs.Names.{key, key_eq}
+use Rattle.cfb_names.specs.Names.{key, key_eq}
 use Rattle.storage_tree.specs.Change.{Seen, bytes, inner, child, find, found, look, on_ok}
 use Rattle.storage_tree.specs.Tree.{Children, Tree, tree}
 use Rattle.storage_tree.specs.declared.fault.TreeFault.TheVariants.{NotFound}

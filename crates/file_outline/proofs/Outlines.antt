@@ -1,7 +1,7 @@
 -- What an outline shows, part by part.
 use Rattle.std.proofs.Common.{◌≡◌, ◌∙◌, ℕ, List, [], ◌∷◌, ◌++◌, ap, refl, sym}
 use Rattle.std.specs.Global.{Vec}
-use Rattle.cfb_directory.specs.Names.{key}
+use Rattle.cfb_names.specs.Names.{key}
 use Rattle.storage_tree.specs.Tree.{Tree, Children, tree, none}
 use Rattle.storage_tree.specs.Change.{Seen, bytes, inner, child}
 use Rattle.file_model.specs.Outline as model

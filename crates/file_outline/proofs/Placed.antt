@@ -5,7 +5,7 @@ use Rattle.std.proofs.lemmas.List.Elements.{All-cons, All-nil}
 use Rattle.std.specs.List.{All}
 use Rattle.std.specs.Ordering.{ordering_reverse}
 use Rattle.std.specs.declared.cmp.Ordering.TheVariants.{Less, Greater}
-use Rattle.cfb_directory.specs.Names.{key_cmp}
+use Rattle.cfb_names.specs.Names.{key_cmp}
 use Rattle.storage_tree.specs.Tree.{Tree, Children, none, stream, storage, keys}
 use Rattle.storage_tree.specs.Change.{Seen, bytes, inner, child, place}
 use Rattle.storage_tree.specs.Whole.{AreAbove, AreTrees, IsTree, IsWhole}

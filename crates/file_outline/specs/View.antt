@@ -1,7 +1,7 @@
 -- What an outline of a file stands for, and the tree that it shows once its streams are read.
 use Rattle.std.specs.Prelude.{ℕ, List, [], ◌∷◌, map, if◌then◌else◌, nat_lt}
 use Rattle.cfb_chain.specs.Fat.{FatValue, held}
-use Rattle.cfb_directory.specs.Names.{key}
+use Rattle.cfb_names.specs.Names.{key}
 use Rattle.storage_tree.specs.Tree.{Tree, Children, tree, none}
 use Rattle.storage_tree.specs.Change.{Seen, bytes, inner, child}
 use Rattle.file_model.specs.Limits.{CUTOFF}

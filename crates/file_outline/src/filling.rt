@@ -1,6 +1,6 @@
 //! The tree that an outline of a file shows, with the bytes of its streams.
 
-ghost use Rattle.cfb_directory.specs.Names.{key};
+ghost use Rattle.cfb_names.specs.Names.{key};
 ghost use Rattle.file_outline.specs.View.{contents, shown, shown_part};
 ghost use Rattle.std.specs.Prelude.{◌≡◌, IfOk, OnOk, ℕ};
 ghost use Rattle.storage_tree.specs.Change.{place};
@@ -9,7 +9,7 @@ ghost use Rattle.storage_tree.specs.Whole.{IsTree, IsWhole};
 
 use crate::outline::{Outline, Part, Place, is_short};
 use cfb_chain::fat::Fat;
-use cfb_directory::name::Name;
+use cfb_names::name::Name;
 use std::alloc::{AllocError, Global};
 use std::collections::BTreeMap;
 use storage_tree::bytes::Bytes;

@@ -1,6 +1,6 @@
 //! Where the stream at a path lies.
 
-ghost use Rattle.cfb_directory.specs.Names.{key};
+ghost use Rattle.cfb_names.specs.Names.{key};
 ghost use Rattle.file_outline.specs.Streams.{stream_at, stream_bytes};
 ghost use Rattle.file_outline.specs.View.{shown, shown_part, shown_parts};
 ghost use Rattle.file_outline.specs.declared.outline.Place as place;
@@ -8,7 +8,7 @@ ghost use Rattle.std.specs.Prelude.{◌≡◌, IfNone, IfSome, List, None, Some,
 ghost use Rattle.storage_tree.specs.Change.{find, look, map_ok, on_ok};
 
 use crate::outline::{Outline, Part, Place};
-use cfb_directory::name::Name;
+use cfb_names::name::Name;
 use storage_tree::fault::TreeFault;
 
 /// The part of a name.

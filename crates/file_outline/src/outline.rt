@@ -3,7 +3,7 @@
 ghost use Rattle.std.specs.Prelude.{◌≡◌, nat_lt};
 ghost use Rattle.file_model.specs.Limits.{CUTOFF};
 
-use cfb_directory::name::Name;
+use cfb_names::name::Name;
 use file_model::limit::CUTOFF;
 use storage_tree::class_id::ClassId;
 

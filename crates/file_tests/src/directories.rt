@@ -1,10 +1,10 @@
 //! Names, entries and siblings, with values from the format.
 
 use cfb_directory::entries::{Entries, EntryKind, NO_STREAM};
-use cfb_directory::fault::DirFault;
 use cfb_directory::links::{Links, balanced, build};
-use cfb_directory::name::{LONGEST, Name, keys_agree};
 use cfb_directory::write::{EntryFields, write_entry, write_free_entry};
+use cfb_names::fault::DirFault;
+use cfb_names::name::{LONGEST, Name, keys_agree};
 use std::alloc::{AllocError, Global};
 use std::cmp::Ordering;
 use std::test::Fail;

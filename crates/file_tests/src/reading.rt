@@ -3,7 +3,7 @@
 use crate::made::{
     END, FAT, FREE, changed, header, number_or_end, push_entry, push_equal, push_table,
 };
-use cfb_directory::name::Name;
+use cfb_names::name::Name;
 use file_outline::outline::{Outline, Part};
 use std::alloc::Global;
 use std::test::Fail;

@@ -1,6 +1,6 @@
 //! Lists of streams, their bytes and their classes.
 
-use cfb_directory::name::Name;
+use cfb_names::name::Name;
 use std::alloc::Global;
 use std::test::Fail;
 use storage_tree::bytes::Bytes;

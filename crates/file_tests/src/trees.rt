@@ -1,6 +1,6 @@
 //! Trees, as texts of calls with their answers.
 
-use cfb_directory::name::Name;
+use cfb_names::name::Name;
 use std::alloc::Global;
 use std::str::SplitWhitespace;
 use std::test::Fail;

@@ -1,7 +1,7 @@
 //! Writing small files.
 
 use crate::made::stand_at;
-use cfb_directory::name::Name;
+use cfb_names::name::Name;
 use std::alloc::Global;
 use std::test::Fail;
 use storage_tree::bytes::Bytes;

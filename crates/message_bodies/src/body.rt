@@ -9,7 +9,7 @@ ghost use Rattle.object_parts.specs.Limits.{MOST_BYTES};
 ghost use Rattle.message_model.specs.Reading.{answer, blob, byte, bytes, flag_of, more, may_follow, name, number, operation, option_of, pictured, read_body, stored, text, tools, whole, width_in, widths_in};
 ghost use Rattle.std.specs.Prelude.{[], ◌∷◌, ◌++◌, ◌≡◌, ◌≤◌, ◌<◌, ◌-◌, ◌^◌, ℕ, List, None, IfOk, true, length, take, drop};
 
-use cfb_directory::name::Name;
+use cfb_names::name::Name;
 use message_model::codes::{
     AnswerCode, Kind, OperationCode, answer_code_of, operation_code_of, refusal_of,
 };

@@ -1,6 +1,6 @@
 //! Frames as bytes.
 
-ghost use Rattle.cfb_directory.specs.Names.{IsName};
+ghost use Rattle.cfb_names.specs.Names.{IsName};
 ghost use Rattle.message_bytes.specs.Encoding.{Adds, AreNamed, Encodes};
 ghost use Rattle.message_model.specs.Frames.{MOST_BODY, MOST_EDIT, answer_fits, fits, operation_fits};
 ghost use Rattle.message_model.specs.Spelling.{answer, blob, body, four_bytes, kind, operation, option_number, stored, streams, text, two_bytes, widths};

@@ -2,8 +2,8 @@
 use Rattle.std.proofs.Common.{◌≡◌, ◌⊎◌, ℕ, zero, suc, ◌-◌, ◌+◌, ◌<◌, ◌≤◌, Bool, true, false, cond, ◌&&◌, List, [], ◌∷◌, ◌++◌, length, take, drop, Some, None, Result, Ok, Err, refl, sym, ap, subst, ◌∙◌, append_assoc, arith, inl, inr, nat_le}
 use Rattle.std.proofs.lemmas.Bool.{cases_lt}
 use Rattle.std.proofs.lemmas.List.{append-nil, length-drop}
-use Rattle.cfb_directory.specs.Names.{name_read}
-use Rattle.cfb_directory.specs.declared.fault.DirFault.{DirFault}
+use Rattle.cfb_names.specs.Names.{name_read}
+use Rattle.cfb_names.specs.declared.fault.DirFault.{DirFault}
 use Rattle.storage_tree.specs.declared.streams.NamedStream.{NamedStream}
 use Rattle.message_model.specs.Reading.{Reader, bad, blob, bytes, may_follow, more, name, name_of, named, whole}
 use Rattle.message_drafts.specs.declared.draft.Opening.{Opening}

@@ -2,8 +2,8 @@
 use Rattle.std.proofs.Common.{◌≡◌, ℕ, zero, suc, ◌-◌, ◌+◌, ◌<◌, ◌≤◌, Bool, true, false, cond, ◌&&◌, List, [], ◌∷◌, ◌++◌, length, take, drop, Some, None, Result, Ok, Err, refl, sym, ap, subst, ◌∙◌, append_assoc, arith, rules, nat_le, nat_lt}
 use Rattle.std.proofs.lemmas.Bool.{ltb-false, le-ltb}
 use Rattle.std.proofs.lemmas.List.{append-nil, take_at, drop_at, length-append, length-take, length-drop}
-use Rattle.cfb_directory.specs.Names.{name_read}
-use Rattle.cfb_directory.specs.declared.fault.DirFault.{DirFault}
+use Rattle.cfb_names.specs.Names.{name_read}
+use Rattle.cfb_names.specs.declared.fault.DirFault.{DirFault}
 use Rattle.message_model.specs.Frames.{number_in}
 use Rattle.message_drafts.specs.Drafts.{IsStreamField}
 use Rattle.message_model.specs.Reading.{Reader, bad, bytes, blob, sized, name, name_of, named}

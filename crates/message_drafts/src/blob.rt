@@ -4,7 +4,7 @@ ghost use Rattle.message_drafts.specs.Drafts.{longer};
 ghost use Rattle.storage_tree.specs.declared.streams.NamedStream.{NamedStream};
 ghost use Rattle.std.specs.Prelude.{[], ◌++◌, ◌≡◌, ◌≤◌, IfOk, OnErr, OnOk, length, take};
 
-use cfb_directory::name::Name;
+use cfb_names::name::Name;
 use std::alloc::{AllocError, Global};
 use std::marker::Model;
 use storage_tree::bytes::Bytes;

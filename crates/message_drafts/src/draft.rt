@@ -8,7 +8,7 @@ ghost use Rattle.std.specs.Prelude.{[], ◌∷◌, ◌≡◌, ◌≤◌, ◌<◌
 
 use crate::blob::{Blob, Growing};
 use crate::fields::{hold, need, stream_field};
-use cfb_directory::name::Name;
+use cfb_names::name::Name;
 use message_bodies::body::number_in;
 use object_parts::limits::is_ole_name;
 use std::alloc::{AllocError, Global};

@@ -3,7 +3,7 @@
 ghost use Rattle.message_drafts.specs.Drafts.{IsField, IsLong, IsStreamField, need};
 ghost use Rattle.std.specs.Prelude.{◌++◌, ◌≡◌, ◌≤◌, ◌<◌, ◌+◌, length, take};
 
-use cfb_directory::name::Name;
+use cfb_names::name::Name;
 use message_bodies::body::number_in;
 
 /// How many bytes a field has, of which these came: a stream's name and length, or where none is to come, the picture's length.

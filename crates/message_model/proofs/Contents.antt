@@ -5,7 +5,7 @@ use Rattle.std.specs.List.{list_any, AllByRecursion}
 use Rattle.std.specs.Ordering.{is_lt}
 use Rattle.std.proofs.lemmas.Bool.{ltb-false, le-ltb, ne_eqb}
 use Rattle.std.proofs.lemmas.List.{append-nil}
-use Rattle.cfb_directory.specs.Names.{IsName, name_read, is_forbidden}
+use Rattle.cfb_names.specs.Names.{IsName, name_read, is_forbidden}
 use Rattle.object_parts.specs.Limits.{is_within, is_ole_name, has_ole_name, total}
 use Rattle.storage_tree.specs.Streams.{AreInOrder, is_next}
 use Rattle.storage_tree.specs.declared.streams.NamedStream.{NamedStream}

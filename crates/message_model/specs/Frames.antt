@@ -2,7 +2,7 @@
 use Rattle.std.specs.Prelude.{◌≡◌, ◌<◌, ◌^◌, ℕ, Bool, true, cond, ◌&&◌, List, [], ◌∷◌, ◌++◌, length, Option, Some, None, is_some, nat_lt, nat_le, nat_eq, IsTrue}
 use Rattle.std.specs.Int.{w32, from_le_bytes}
 use Rattle.std.specs.List.{AllByRecursion}
-use Rattle.cfb_directory.specs.Names.{IsName}
+use Rattle.cfb_names.specs.Names.{IsName}
 use Rattle.object_parts.specs.Limits.{is_within}
 use Rattle.object_state.specs.MenuTexts.{is_menu_text}
 use Rattle.storage_tree.specs.Streams.{AreInOrder}

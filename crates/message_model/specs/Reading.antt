@@ -1,8 +1,8 @@
 -- Reading a body from left to right, all of it.
 use Rattle.std.specs.Prelude.{ℕ, zero, suc, ◌-◌, Bool, true, false, cond, ◌&&◌, not, List, [], ◌∷◌, ◌++◌, length, take, drop, Option, Some, None, Result, Ok, Err, nat_lt, nat_le}
 use Rattle.std.specs.Int.{w16, from_le_bytes}
-use Rattle.cfb_directory.specs.declared.fault.DirFault.{DirFault}
-use Rattle.cfb_directory.specs.Names.{name_read}
+use Rattle.cfb_names.specs.declared.fault.DirFault.{DirFault}
+use Rattle.cfb_names.specs.Names.{name_read}
 use Rattle.object_parts.specs.Limits.{MOST_BYTES, MOST_STREAMS, is_ole_name}
 use Rattle.object_state.specs.MenuTexts.{is_menu_text}
 use Rattle.object_state.specs.declared.operations.CloseOption.{CloseOption}

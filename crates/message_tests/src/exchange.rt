@@ -1,7 +1,7 @@
 //! The worked exchange of docs/protocol.md, byte for byte.
 
 use crate::frames::first_bad_cut;
-use cfb_directory::name::Name;
+use cfb_names::name::Name;
 use message_bytes::encode::encode;
 use message_bytes::frame::Frame;
 use object_state::{CloseOption, Menus};

@@ -1,6 +1,6 @@
 ghost use Rattle.std.specs.Prelude.{◌≤◌, length};
 
-use cfb_directory::name::Name;
+use cfb_names::name::Name;
 use message_bodies::body::{BodyFault, number_in, read_body};
 use message_bytes::codes::Kind;
 use message_bytes::decoder::Decoder;

@@ -4,7 +4,7 @@ ghost use Rattle.std.specs.Prelude.{◌<◌};
 
 use crate::frames::first_bad_cut;
 use crate::pieces::{comes_in_pieces, shown};
-use cfb_directory::name::Name;
+use cfb_names::name::Name;
 use message_bytes::decoder::Decoder;
 use message_bytes::encode::encode;
 use message_bytes::fault::WireFault;

@@ -1,4 +1,4 @@
-use cfb_directory::name::Name;
+use cfb_names::name::Name;
 use object_state::{CloseOption, Menus, Op, StateFault};
 use std::alloc::Global;
 use std::test::Fail;

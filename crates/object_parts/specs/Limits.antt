@@ -1,7 +1,7 @@
 -- How much may be stored of an object.
 use Rattle.std.specs.Prelude.{ℕ, Bool, false, ◌+◌, ◌&&◌, ◌||◌, not, List, [], ◌∷◌, length, nat_le}
 use Rattle.std.specs.Ordering.{is_eq}
-use Rattle.cfb_directory.specs.Names.{name_cmp}
+use Rattle.cfb_names.specs.Names.{name_cmp}
 use Rattle.storage_tree.specs.declared.streams.NamedStream.{NamedStream}
 use Rattle.storage_tree.specs.declared.stored.Stored.{Stored}
 

@@ -3,7 +3,7 @@
 ghost use Rattle.std.specs.Prelude.{◌≡◌, ◌+◌, nat_le};
 ghost use Rattle.object_parts.specs.Limits.{COMP_OBJ, OLE, OLE_PRES, has_ole_name, is_ole_name, is_within, total};
 
-use cfb_directory::name::Name;
+use cfb_names::name::Name;
 use storage_tree::stored::Stored;
 use storage_tree::streams::NamedStream;
 

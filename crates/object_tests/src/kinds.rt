@@ -1,7 +1,7 @@
 //! What the kinds are.
 
 use crate::objects::{drawing, note, table};
-use cfb_directory::name::Name;
+use cfb_names::name::Name;
 use embed_core::embedded::Embedded;
 use embed_core::fault::EmbedFault;
 use embed_core::tally::Tally;

@@ -2,7 +2,7 @@
 //! it looks like), and the answer, each behind ` => `. Tables are texts, and the functions have no contracts: so the tests are quick to prove.
 
 use crate::texts::{halves, spelled};
-use cfb_directory::name::Name;
+use cfb_names::name::Name;
 use embed_core::embedded::Embedded;
 use embed_core::fault::EmbedFault;
 use embed_core::{Bytes, Streams};

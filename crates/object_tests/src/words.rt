@@ -1,6 +1,6 @@
 //! Words, numbers and streams, as the kinds read and write them.
 
-use cfb_directory::name::Name;
+use cfb_names::name::Name;
 use embed_core::words::{Pieces, cut, number};
 use embed_core::{Streams, picture, sole_stream, stream_names};
 use std::alloc::{AllocError, Global};

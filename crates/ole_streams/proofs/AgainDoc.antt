@@ -7,8 +7,8 @@ use Rattle.std.specs.Ordering.{is_eq, is_lt, match_ordering}
 use Rattle.std.specs.declared.cmp.Ordering.TheVariants.{Less, Equal, Greater}
 use Rattle.std.proofs.lemmas.Nat.{from_le_bytes-to_le_bytes_2, from_le_bytes-to_le_bytes_4}
 use Rattle.std.proofs.lemmas.Bool.Decides.{nat_tests}
-use Rattle.cfb_directory.specs.Names.{key, key_cmp, key_eq, name_cmp}
-use Rattle.cfb_directory.proofs.Keys.{keys_agree}
+use Rattle.cfb_names.specs.Names.{key, key_cmp, key_eq, name_cmp}
+use Rattle.cfb_names.proofs.Keys.{keys_agree}
 use Rattle.object_parts.specs.Limits.{OLE, COMP_OBJ, OLE_PRES, has_ole_name, is_ole_name, is_within, total, MOST_STREAMS, MOST_BYTES}
 use Rattle.object_parts.specs.declared.area.Area.{Area}
 use Rattle.storage_tree.specs.Tree.{Children, tree, none, stream, storage}
@@ -19,14 +19,14 @@ use Rattle.storage_tree.proofs.Entries.{find-child, key_eq-flip, place-child, re
 use Rattle.storage_tree.proofs.Lawful.{find-place, find-place-other}
 use Rattle.storage_tree.proofs.Wholes.{tied}
 use Rattle.ole_parts.specs.CompObjs.{comp_obj_bytes, user_type_read}
-use Rattle.ole_streams.specs.DocOf.{as_picture, as_storage, as_stream, behind_comp_obj, behind_picture, is_object, object_of, object_pushed, object_read, objects_behind, pushed, streams_behind}
-use Rattle.ole_streams.specs.DocTree.{LAYOUT, object_name, object_tree, placed, with_objects, with_picture, with_streams}
+use Rattle.document_model.specs.DocOf.{as_picture, as_storage, as_stream, behind_comp_obj, behind_picture, is_object, object_of, object_pushed, object_read, objects_behind, pushed, streams_behind}
+use Rattle.document_model.specs.DocTree.{LAYOUT, object_name, object_tree, placed, with_objects, with_picture, with_streams}
 use Rattle.ole_parts.specs.Fields.{map_ok, on_ok}
 use Rattle.ole_streams.specs.Docs.{AreHeld, IsArea, IsHeld}
 use Rattle.ole_streams.specs.Laws.{DocumentIsReadAgain}
-use Rattle.ole_streams.specs.Layouts.{area_at, area_bytes, areas_read, layout_bytes, layout_read}
+use Rattle.document_model.specs.Layouts.{area_at, area_bytes, areas_read, layout_bytes, layout_read}
 use Rattle.ole_parts.specs.OleStreams.{ole_bytes, ole_read}
-use Rattle.ole_streams.specs.declared.doc.DocObject.{DocObject}
+use Rattle.document_model.specs.declared.object.DocObject.{DocObject}
 use Rattle.ole_parts.specs.declared.fault.OleFault.TheVariants.{NotADocument, TooManyObjects}
 use Rattle.ole_parts.proofs.Again.{and_left, and_right, user_type_again}
 use Rattle.ole_parts.proofs.Tests.{cond_false, cond_true, not_lt}

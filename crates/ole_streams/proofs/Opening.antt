@@ -2,16 +2,16 @@
 use Rattle.std.proofs.Common.{◌≡◌, ◌<◌, ◌+◌, ◌∷◌, ◌∙◌, ℕ, List, [], Result, Err, false, length, drop, get_or, refl, ap, sym, rules, add-one}
 use Rattle.std.specs.Bool.{IsTrue}
 use Rattle.std.proofs.Math.Seq.{drop-cons}
-use Rattle.cfb_directory.specs.Names.{key}
+use Rattle.cfb_names.specs.Names.{key}
 use Rattle.object_parts.specs.declared.area.Area.{Area}
 use Rattle.storage_tree.specs.Tree.{Children}
 use Rattle.storage_tree.specs.Change.{Seen, bytes, inner, child, without}
 use Rattle.storage_tree.specs.View.{children, shown}
 use Rattle.storage_tree.specs.declared.storage.Node.{Node}
-use Rattle.ole_streams.specs.DocOf.{object_pushed, objects_behind}
-use Rattle.ole_streams.specs.DocTree.{object_name}
+use Rattle.document_model.specs.DocOf.{object_pushed, objects_behind}
+use Rattle.document_model.specs.DocTree.{object_name}
 use Rattle.ole_parts.specs.Fields.{on_ok}
-use Rattle.ole_streams.specs.declared.doc.DocObject.{DocObject}
+use Rattle.document_model.specs.declared.object.DocObject.{DocObject}
 use Rattle.ole_parts.specs.declared.fault.OleFault.{OleFault}
 use Rattle.ole_parts.specs.declared.fault.OleFault.TheVariants.{NotADocument}
 

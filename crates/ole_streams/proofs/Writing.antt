@@ -4,12 +4,12 @@ use Rattle.storage_tree.specs.Tree.{Children}
 use Rattle.storage_tree.specs.Change.{bytes, inner}
 use Rattle.storage_tree.specs.declared.streams.NamedStream.{NamedStream}
 use Rattle.object_parts.specs.declared.area.Area.{Area}
-use Rattle.ole_streams.specs.DocOf.{is_object}
-use Rattle.ole_streams.specs.DocTree.{object_name, object_tree, placed, with_objects, with_streams}
+use Rattle.document_model.specs.DocOf.{is_object}
+use Rattle.document_model.specs.DocTree.{object_name, object_tree, placed, with_objects, with_streams}
 use Rattle.ole_streams.specs.Docs.{AreHeld, IsHeld}
 use Rattle.ole_parts.specs.Fields.{map_ok}
-use Rattle.ole_streams.specs.Layouts.{area_at, areas_read}
-use Rattle.ole_streams.specs.declared.doc.DocObject.{DocObject}
+use Rattle.document_model.specs.Layouts.{area_at, areas_read}
+use Rattle.document_model.specs.declared.object.DocObject.{DocObject}
 use Rattle.ole_parts.specs.declared.fault.OleFault.{OleFault}
 use Rattle.ole_parts.specs.declared.fault.OleFault.TheVariants.{NotADocument}
 use Rattle.ole_parts.proofs.Tests.{cond_false, cond_true, not_lt, is_lt}

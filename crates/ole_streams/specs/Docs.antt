@@ -3,9 +3,9 @@ use Rattle.std.specs.Prelude.{◌≡◌, ◌<◌, ◌≤◌, ◌^◌, List, [], 
 use Rattle.object_parts.specs.declared.area.Area.{Area}
 use Rattle.storage_tree.specs.Streams.{AreInOrder}
 use Rattle.ole_parts.specs.CompObjs.{CLASS_BYTES}
-use Rattle.ole_streams.specs.DocOf.{is_object}
-use Rattle.ole_streams.specs.Layouts.{MOST_OBJECTS}
-use Rattle.ole_streams.specs.declared.doc.DocObject.{DocObject}
+use Rattle.document_model.specs.DocOf.{is_object}
+use Rattle.document_model.specs.Layouts.{MOST_OBJECTS}
+use Rattle.document_model.specs.declared.object.DocObject.{DocObject}
 use Rattle.ole_parts.specs.declared.fault.OleFault.{OleFault}
 use Rattle.ole_parts.specs.declared.fault.OleFault.TheVariants.{NoMemory}
 

@@ -1,10 +1,10 @@
 -- Laws of documents and their trees.
 use Rattle.std.specs.Prelude.{◌≡◌, List}
 use Rattle.storage_tree.specs.Tree.{Tree}
-use Rattle.ole_streams.specs.DocOf.{DocOf}
-use Rattle.ole_streams.specs.DocTree.{doc_tree}
+use Rattle.document_model.specs.DocOf.{DocOf}
+use Rattle.document_model.specs.DocTree.{doc_tree}
 use Rattle.ole_streams.specs.Docs.{IsDoc}
-use Rattle.ole_streams.specs.declared.doc.DocObject.{DocObject}
+use Rattle.document_model.specs.declared.object.DocObject.{DocObject}
 
 -- the tree of a document holds it
 abbrev pub DocumentIsReadAgain : Type 0

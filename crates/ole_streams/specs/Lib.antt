@@ -1,8 +1,8 @@
-pub mod Layouts
-pub mod DocTree
-pub mod DocOf
 pub mod Docs
 pub mod Laws
+pub use Rattle.document_model.specs.Layouts
+pub use Rattle.document_model.specs.DocTree
+pub use Rattle.document_model.specs.DocOf
 pub use Rattle.ole_parts.specs.FaultNames
 pub use Rattle.ole_parts.specs.Fields
 pub use Rattle.ole_parts.specs.OleStreams

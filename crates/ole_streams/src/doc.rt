@@ -1,71 +1,19 @@
 //! Documents of embedded objects.
 
 ghost use Rattle.std.specs.Prelude.{[], ◌≡◌, ◌<◌, ◌^◌, ◌↔◌, IfOk, IsTrue, length};
-ghost use Rattle.ole_streams.specs.DocOf.{is_object, pushed};
+ghost use Rattle.document_model.specs.DocOf.{pushed};
 ghost use Rattle.ole_parts.specs.CompObjs.{CLASS_BYTES};
 ghost use Rattle.ole_streams.specs.Docs.{IsArea, Pushes};
 ghost use Rattle.storage_tree.specs.Streams.{AreInOrder};
 
+pub use document_model::object::DocObject;
 use object_parts::area::Area;
-use object_parts::limits::is_within;
 use ole_parts::fault::OleFault;
 use std::alloc::{AllocError, Global};
 use std::marker::Model;
-use storage_tree::bytes::Bytes;
-use storage_tree::class_id::ClassId;
-use storage_tree::stored::Stored;
 
 /// How many objects a document may have.
 pub const MOST_OBJECTS: usize = 64;
-
-/// The first length that a user type can't have, so that its size with the closing zero fits four bytes.
-const PAST_USER_TYPE: usize = 0xffff_ffff;
-
-/// An object of a document.
-#[derive(Drop)]
-pub struct DocObject {
-    /// Its class id.
-    pub class: ClassId,
-    /// The name of its kind, as users see it.
-    pub user_type: Bytes,
-    /// Where it stands in its frame.
-    pub area: Area,
-    /// What is stored of it.
-    pub stored: Stored,
-}
-
-impl DocObject {
-    /// An equal value.
-    pub fn copy(&self, alloc: Global) -> Result<DocObject, AllocError>
-        ensures { IfOk result (λ o. o ≡ self.now) }
-    {
-        Ok(DocObject {
-            class: self.class,
-            user_type: self.user_type.copy(alloc)?,
-            area: self.area,
-            stored: self.stored.copy(alloc)?,
-        })
-    }
-
-    /// Whether a document may hold it: its content is within the limits of what may be stored, and its user type has
-    /// fewer than 4,294,967,295 bytes.
-    pub fn is_within(&self) -> bool
-        ensures { result ≡ is_object self.now }
-    {
-        is_within(&self.stored) && self.user_type.len() < PAST_USER_TYPE
-    }
-
-    /// What the types of its values promise: how many bytes, which numbers, in which order.
-    fn promises(&self)
-        ensures class { length self.now.class ≡ CLASS_BYTES }
-        ensures area { IsArea self.now.area }
-        ensures in_order { AreInOrder self.now.stored.streams }
-    {
-        class_is_whole(self.class.as_bytes());
-        area_fits(self.area);
-        let _ = self.stored.streams.as_slice();
-    }
-}
 
 /// A class id has 16 bytes.
 fn class_is_whole(bytes: &[u8; 16])
@@ -89,6 +37,17 @@ fn area_fits(area: Area)
     fits(area.h);
 }
 
+/// What the types of an object's values promise: how many bytes, which numbers, in which order.
+fn promises(object: &DocObject)
+    ensures class { length object.now.class ≡ CLASS_BYTES }
+    ensures area { IsArea object.now.area }
+    ensures in_order { AreInOrder object.now.stored.streams }
+{
+    class_is_whole(object.class.as_bytes());
+    area_fits(object.area);
+    let _ = object.stored.streams.as_slice();
+}
+
 /// A document: at most 64 objects, each within its limits.
 #[derive(Drop)]
 pub struct Doc {
@@ -97,7 +56,7 @@ pub struct Doc {
 
 impl Model for Doc {
     ghost use Rattle.std.specs.Prelude.{List};
-    ghost use Rattle.ole_streams.specs.declared.doc.DocObject.{DocObject};
+    ghost use Rattle.document_model.specs.declared.object.DocObject.{DocObject};
     ghost use Rattle.ole_streams.specs.Docs.{IsDoc};
 
     ghost Value = { List DocObject };
@@ -132,7 +91,7 @@ impl Doc {
         if !object.is_within() {
             return Err(OleFault::NotADocument);
         }
-        object.promises();
+        promises(&object);
         self.objects.push(object)?;
         Ok(())
     }

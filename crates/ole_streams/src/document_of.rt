@@ -2,13 +2,13 @@
 
 ghost use Rattle.std.specs.Prelude.{[], ◌≡◌, ◌≢◌, ◌<◌, ◌≤◌, Err, IfOk, length};
 ghost use Rattle.std.specs.Option.{option_map};
-ghost use Rattle.cfb_directory.specs.Names.{key};
+ghost use Rattle.cfb_names.specs.Names.{key};
 ghost use Rattle.object_parts.specs.Limits.{COMP_OBJ, OLE, OLE_PRES};
 ghost use Rattle.ole_parts.specs.CompObjs.{user_type_read};
-ghost use Rattle.ole_streams.specs.DocOf.{as_picture, as_storage, as_stream, behind_comp_obj, behind_picture, doc_read, object_of, object_pushed, object_read, objects_behind, streams_behind};
-ghost use Rattle.ole_streams.specs.DocTree.{LAYOUT, object_name};
+ghost use Rattle.document_model.specs.DocOf.{as_picture, as_storage, as_stream, behind_comp_obj, behind_picture, doc_read, object_of, object_pushed, object_read, objects_behind, streams_behind};
+ghost use Rattle.document_model.specs.DocTree.{LAYOUT, object_name};
 ghost use Rattle.ole_parts.specs.Fields.{map_ok, on_ok};
-ghost use Rattle.ole_streams.specs.Layouts.{layout_read};
+ghost use Rattle.document_model.specs.Layouts.{layout_read};
 ghost use Rattle.ole_parts.specs.OleStreams.{ole_read};
 ghost use Rattle.ole_parts.specs.declared.fault.OleFault.TheVariants.{NoMemory};
 ghost use Rattle.ole_streams.specs.declared.doc.TheConstants.{MOST_OBJECTS};
@@ -19,7 +19,7 @@ ghost use Rattle.storage_tree.specs.View.{children, shown, view};
 use crate::doc::{Doc, DocObject};
 use crate::layout::read_layout;
 use crate::names;
-use cfb_directory::name::Name;
+use cfb_names::name::Name;
 use object_parts::area::Area;
 use object_parts::limits::{comp_obj, ole, ole_pres};
 use ole_parts::comp_obj::CompObj;

@@ -1,9 +1,9 @@
 //! The tree of a document.
 
 ghost use Rattle.std.specs.Prelude.{[], ◌≡◌, ◌≤◌, ◌<◌, ℕ, IfOk, OnOk, length, true};
-ghost use Rattle.cfb_directory.specs.Names.{IsName};
-ghost use Rattle.ole_streams.specs.DocOf.{is_object};
-ghost use Rattle.ole_streams.specs.DocTree.{doc_tree, object_children, object_tree, placed, with_objects, with_ole_streams, with_streams};
+ghost use Rattle.cfb_names.specs.Names.{IsName};
+ghost use Rattle.document_model.specs.DocOf.{is_object};
+ghost use Rattle.document_model.specs.DocTree.{doc_tree, object_children, object_tree, placed, with_objects, with_ole_streams, with_streams};
 ghost use Rattle.ole_parts.specs.CompObjs.{PAST_USER_TYPE};
 ghost use Rattle.ole_streams.specs.Docs.{AreHeld};
 ghost use Rattle.ole_streams.specs.declared.doc.TheConstants.{MOST_OBJECTS};
@@ -16,7 +16,7 @@ ghost use Rattle.storage_tree.specs.Whole.{AreTrees, IsTree, IsWhole};
 use crate::doc::{Doc, DocObject};
 use crate::layout::write_layout;
 use crate::names;
-use cfb_directory::name::Name;
+use cfb_names::name::Name;
 use object_parts::limits::{comp_obj, ole, ole_pres};
 use ole_parts::comp_obj::write_stream;
 use ole_parts::ole_stream::OleStream;

@@ -4,7 +4,7 @@ ghost use Rattle.std.specs.Prelude.{◌≡◌, ◌≢◌, ◌<◌, ◌≤◌, �
 ghost use Rattle.std.specs.Int.{to_le_bytes, w16};
 ghost use Rattle.std.specs.List.{flat_map};
 ghost use Rattle.ole_parts.specs.Fields.{map_ok};
-ghost use Rattle.ole_streams.specs.Layouts.{area_at, area_bytes, areas_behind, areas_read, layout_bytes, layout_read};
+ghost use Rattle.document_model.specs.Layouts.{area_at, area_bytes, areas_behind, areas_read, layout_bytes, layout_read};
 ghost use Rattle.ole_parts.specs.declared.fault.OleFault.TheVariants.{NoMemory};
 
 use crate::doc::{DocObject, MOST_OBJECTS};

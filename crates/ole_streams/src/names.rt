@@ -1,9 +1,9 @@
 //! The names of a document's own streams and storages.
 
 ghost use Rattle.std.specs.Prelude.{◌≡◌, ◌<◌, ◌^◌};
-ghost use Rattle.ole_streams.specs.DocTree.{LAYOUT, ROOT_CLASS, decimal, object_name};
+ghost use Rattle.document_model.specs.DocTree.{LAYOUT, ROOT_CLASS, decimal, object_name};
 
-use cfb_directory::name::Name;
+use cfb_names::name::Name;
 use storage_tree::class_id::ClassId;
 
 /// The class id of a document's root.

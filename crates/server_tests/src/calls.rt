@@ -1,7 +1,7 @@
 //! Calls, as rows spell them.
 
 use crate::words::{halves, number};
-use cfb_directory::name::Name;
+use cfb_names::name::Name;
 use embed_core::{Bytes, Stored, Streams, classes};
 use object_state::CloseOption;
 use std::alloc::Global;

@@ -20,7 +20,7 @@ use Rattle.std.specs.Ordering.{is_eq, match_ordering, ordering_reverse}
 use Rattle.std.specs.declared.cmp.Ordering.TheVariants.{Less, Equal, Greater}
 use Rattle.storage_tree.specs.Tree.{Tree, Children, none, tree}
 use Rattle.storage_tree.specs.Change.{child, Seen, bytes, inner, find, place, without, map_ok, on_ok, found, change, putting, put_seen, making, removing, look, Outcome}
-use Rattle.cfb_directory.specs.Names.{key, key_cmp, key_eq}
+use Rattle.cfb_names.specs.Names.{key, key_cmp, key_eq}
 use Rattle.storage_tree.specs.View.{node_step, storage_step, seen, view, shown, children}
 use Rattle.storage_tree.specs.declared.storage.Node.{Node, fold-roll-Node}
 use Rattle.storage_tree.specs.declared.storage.Node.TheOpen.{Node-F}

@@ -1,6 +1,6 @@
 use Rattle.std.proofs.Common.{◌≡◌, ℕ, zero, suc, nat_le, length, List, [], ◌∷◌, refl, sym, ◌∙◌, ap, subst, true, false, cond, Option, Some, None, Ok, Err, inl, inr, rules}
 use Rattle.std.specs.Ordering.{is_eq}
-use Rattle.cfb_directory.specs.Names.{key, key_eq}
+use Rattle.cfb_names.specs.Names.{key, key_eq}
 use Rattle.storage_tree.specs.Tree.{Children, none, stream, storage, tree}
 use Rattle.storage_tree.specs.Change.{child, Seen, bytes, inner, find, place, without, on_ok, found, change, edited, removing, moving, renaming, look}
 use Rattle.storage_tree.specs.Whole.{AreAbove, AreTrees}

@@ -6,7 +6,7 @@ use Rattle.storage_tree.specs.declared.fault.TreeFault.{TreeFault}
 use Rattle.storage_tree.specs.declared.fault.TreeFault.TheVariants.{NotFound, Exists, WrongKind, TooDeep}
 use Rattle.storage_tree.specs.declared.storage.Edit.{Edit}
 use Rattle.storage_tree.specs.declared.storage.Edit.TheVariants.{Put, Make, Remove, Rename}
-use Rattle.cfb_directory.specs.Names.{key, key_cmp, key_eq}
+use Rattle.cfb_names.specs.Names.{key, key_cmp, key_eq}
 use Rattle.storage_tree.specs.Tree.{Children, none, stream, storage, tree}
 use Rattle.storage_tree.specs.Change.{child, Seen, bytes, inner, find, place, without, map_ok, on_ok, found, change, edited, putting, making, removing, moving, renaming, look}
 use Rattle.storage_tree.specs.Laws.{Apart, beside, target, Stays, PutIsThere, MadeIsThere, RenamedIsThere}

@@ -6,7 +6,7 @@ use Rattle.std.specs.Ordering.{is_lt}
 use Rattle.std.specs.Char.{to_ascii_uppercase}
 use Rattle.std.specs.declared.cmp.Ordering.{Ordering}
 use Rattle.std.specs.declared.cmp.Ordering.TheVariants.{Less, Equal, Greater}
-use Rattle.cfb_directory.specs.Names.{name_cmp}
+use Rattle.cfb_names.specs.Names.{name_cmp}
 use Rattle.storage_tree.specs.Streams.{AreAfter, AreInOrder, is_next}
 use Rattle.storage_tree.specs.declared.streams.NamedStream.{NamedStream}
 

@@ -5,7 +5,7 @@ use Rattle.std.specs.Cmp.Lexicographic.{nat_list_cmp_total}
 use Rattle.std.specs.FinMap.{slice_cmp-IsAntisymmetric, nat_cmp-IsAntisymmetric}
 use Rattle.std.specs.Ordering.{is_eq, match_ordering, ordering_reverse}
 use Rattle.std.specs.declared.cmp.Ordering.TheVariants.{Less, Equal, Greater}
-use Rattle.cfb_directory.specs.Names.{key, key_cmp, key_eq}
+use Rattle.cfb_names.specs.Names.{key, key_cmp, key_eq}
 use Rattle.storage_tree.specs.Tree.{Tree, Children, none, stream, storage, tree}
 use Rattle.storage_tree.specs.Change.{Outcome, child, Seen, bytes, inner, find, place, without, change, edited, putting, making, removing, moving, renaming}
 use Rattle.storage_tree.specs.declared.fault.TreeFault.{TreeFault}
@@ -13,7 +13,7 @@ use Rattle.storage_tree.specs.declared.fault.TreeFault.TheVariants.{NotFound, Ex
 use Rattle.storage_tree.specs.declared.storage.Edit.{Edit}
 use Rattle.storage_tree.specs.declared.storage.Edit.TheVariants.{Put, Make, Remove, Rename}
 use Rattle.std.specs.Result.{OnOk}
-use Rattle.cfb_directory.specs.Names.{IsName}
+use Rattle.cfb_names.specs.Names.{IsName}
 use Rattle.storage_tree.specs.Laws.{IsNewName, LeavesNames, FitsIn, ChangeKeeps}
 use Rattle.storage_tree.proofs.Lawful.{err_ok, ok_is, from_map, from_found}
 use Rattle.storage_tree.specs.Whole.{AllWhole, IsTree, AreAbove, AreTrees, IsNamed, IsWhole}

@@ -1,7 +1,7 @@
 -- What stands at a path of a tree, and the changes of a tree.
 use Rattle.std.specs.Prelude.{ℕ, ◌≡◌, List, [], ◌∷◌, Option, Some, None, Result, Ok, Err, IsOk, Bool, cond}
 use Rattle.std.specs.Ordering.{match_ordering}
-use Rattle.cfb_directory.specs.Names.{key, key_cmp, key_eq}
+use Rattle.cfb_names.specs.Names.{key, key_cmp, key_eq}
 use Rattle.storage_tree.specs.Tree.{Tree, Children, tree, none, stream, storage}
 use Rattle.storage_tree.specs.declared.fault.TreeFault.{TreeFault}
 use Rattle.storage_tree.specs.declared.fault.TreeFault.TheVariants.{NotFound, Exists, WrongKind, TooDeep, NoMemory}

@@ -1,6 +1,6 @@
 -- What the changes of a tree do to its paths, and what a transaction gives back.
 use Rattle.std.specs.Prelude.{ℕ, ◌≡◌, ◌≤◌, ◌+◌, ◌++◌, length, List, [], ◌∷◌, Ok, Err, true, false, Bool, ◌⊎◌}
-use Rattle.cfb_directory.specs.Names.{IsName, key, key_eq}
+use Rattle.cfb_names.specs.Names.{IsName, key, key_eq}
 use Rattle.storage_tree.specs.Tree.{tree, none}
 use Rattle.storage_tree.specs.Change.{Seen, bytes, inner, change, look}
 use Rattle.storage_tree.specs.Whole.{IsWhole}

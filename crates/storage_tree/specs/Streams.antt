@@ -2,7 +2,7 @@
 use Rattle.std.specs.Prelude.{ℕ, ◌≡◌, List, [], ◌∷◌, ◌++◌, Bool, true, cond, Option, Some, None, Result, Ok, Err, IsOk}
 use Rattle.std.specs.Ordering.{is_eq, is_lt}
 use Rattle.std.specs.declared.cmp.Ordering.TheVariants.{Less}
-use Rattle.cfb_directory.specs.Names.{name_cmp}
+use Rattle.cfb_names.specs.Names.{name_cmp}
 use Rattle.storage_tree.specs.declared.streams.NamedStream.{NamedStream}
 use Rattle.storage_tree.specs.declared.fault.StreamsFault.{StreamsFault}
 use Rattle.storage_tree.specs.declared.fault.StreamsFault.TheVariants.{OutOfOrder, NoMemory}

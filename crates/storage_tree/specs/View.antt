@@ -2,7 +2,7 @@
 use Rattle.std.specs.Prelude.{ℕ, List, [], ◌∷◌, map, Option, Some, None}
 use Rattle.std.specs.BTreeMap.{is_at}
 use Rattle.std.specs.Map.{lookup, set_value, remove_entry}
-use Rattle.cfb_directory.specs.Names.{key_cmp}
+use Rattle.cfb_names.specs.Names.{key_cmp}
 use Rattle.storage_tree.specs.Tree.{Tree, Children, tree, none}
 use Rattle.storage_tree.specs.Change.{Seen, bytes, inner, child}
 use Rattle.storage_tree.specs.declared.storage.Node.{Node, fold-Node}

@@ -1,7 +1,7 @@
 -- Trees that are whole.
 use Rattle.std.specs.Prelude.{ℕ, zero, suc, ◌≡◌, List, [], ◌∷◌}
 use Rattle.std.specs.declared.cmp.Ordering.TheVariants.{Less}
-use Rattle.cfb_directory.specs.Names.{IsName, key, key_cmp}
+use Rattle.cfb_names.specs.Names.{IsName, key, key_cmp}
 use Rattle.storage_tree.specs.Tree.{Tree, Children, tree, none, stream, storage}
 use Rattle.storage_tree.specs.Change.{Seen, bytes, inner}
 

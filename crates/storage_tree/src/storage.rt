@@ -2,7 +2,7 @@
 
 ghost use Rattle.std.specs.Prelude.{◌≡◌, ◌≢◌, [], ◌∷◌, Err, IfOk, OnOk};
 ghost use Rattle.storage_tree.specs.declared.fault.TreeFault.TheVariants.{NoMemory};
-ghost use Rattle.cfb_directory.specs.Names.{IsName, key};
+ghost use Rattle.cfb_names.specs.Names.{IsName, key};
 ghost use Rattle.storage_tree.specs.Laws.{IsNewName, LeavesNames};
 ghost use Rattle.storage_tree.specs.Tree.{child_names, none, tree};
 ghost use Rattle.storage_tree.specs.Change.{Changes, Outcome, inner, look, map_ok, put_seen};
@@ -11,7 +11,7 @@ ghost use Rattle.storage_tree.specs.View.{found_seen, moved, seen, view};
 use crate::bytes::Bytes;
 use crate::class_id::ClassId;
 use crate::fault::TreeFault;
-use cfb_directory::name::Name;
+use cfb_names::name::Name;
 use std::alloc::{AllocError, Global};
 use std::collections::BTreeMap;
 

@@ -5,7 +5,7 @@ ghost use Rattle.storage_tree.specs.Streams.{AreInOrder, Pushes, bytes_of, is_ne
 
 use crate::bytes::Bytes;
 use crate::fault::StreamsFault;
-use cfb_directory::name::Name;
+use cfb_names::name::Name;
 use std::alloc::{AllocError, Global};
 use std::marker::Model;
 

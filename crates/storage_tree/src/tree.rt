@@ -15,7 +15,7 @@ use crate::bytes::Bytes;
 use crate::class_id::ClassId;
 use crate::fault::TreeFault;
 use crate::storage::{Edit, Found, Storage};
-use cfb_directory::name::Name;
+use cfb_names::name::Name;
 use std::alloc::Global;
 
 /// How many storages may stand inside one another below the root.

@@ -7,7 +7,7 @@ use Rattle.std.specs.List.{All}
 use Rattle.std.specs.List.Sorted.{IsStrictlySortedBy}
 use Rattle.std.specs.Ordering.{ordering_reverse}
 use Rattle.std.specs.declared.cmp.Ordering.TheVariants.{Less}
-use Rattle.cfb_directory.specs.Names.{key, key_cmp}
+use Rattle.cfb_names.specs.Names.{key, key_cmp}
 use Rattle.storage_tree.specs.Change.{Seen, bytes, inner, child}
 use Rattle.storage_tree.specs.Tree.{Children, none, stream, storage, keys}
 use Rattle.stream_io.specs.Reads.{AreRead, IsChildPut, IsChildRead, directory_in, key_at}

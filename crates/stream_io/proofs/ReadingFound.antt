@@ -7,7 +7,7 @@ use Rattle.std.specs.List.{All, Contains}
 use Rattle.std.specs.List.Sorted.{IsStrictlySortedBy}
 use Rattle.cfb_chain.specs.Chain.{AreDistinct}
 use Rattle.cfb_chain.proofs.Marks.{distinct_apart, distinct_left, distinct_right, distinct_tail, marked_only}
-use Rattle.cfb_directory.specs.Names.{IsName, key, key_cmp}
+use Rattle.cfb_names.specs.Names.{IsName, key, key_cmp}
 use Rattle.cfb_directory.specs.Entries.{AreLinked, IsFree, around, child, class_of, entry_at, kind, left, name_of, nobody, right, size_of, state_of}
 use Rattle.storage_tree.specs.Tree.{Tree, Children, tree, none, stream, storage}
 use Rattle.storage_tree.specs.Whole.{AreTrees, IsTree}

@@ -7,7 +7,7 @@ use Rattle.std.specs.List.{Contains}
 use Rattle.std.specs.List.Sorted.{IsStrictlySortedBy}
 use Rattle.cfb_chain.specs.Chain.{AreDistinct}
 use Rattle.cfb_chain.proofs.Marks.{distinct_append, distinct_tail}
-use Rattle.cfb_directory.specs.Names.{key, key_cmp}
+use Rattle.cfb_names.specs.Names.{key, key_cmp}
 use Rattle.cfb_directory.specs.Entries.{AreLinked, IsFree, child, class_of, entry_at, kind, name_of, size_of, state_of}
 use Rattle.cfb_directory.proofs.Marks.{set_all-there, set_all-stays}
 use Rattle.storage_tree.specs.Tree.{Tree, Children, tree, none, stream, storage}

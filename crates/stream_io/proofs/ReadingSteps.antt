@@ -4,9 +4,9 @@ use Rattle.std.specs.List.{Contains}
 use Rattle.std.specs.List.Sorted.{IsStrictlySortedBy}
 use Rattle.std.proofs.lemmas.List.Elements.{Contains-get_or}
 use Rattle.std.proofs.lemmas.Bool.{cases_lt}
-use Rattle.cfb_directory.specs.Names.{key_cmp}
+use Rattle.cfb_names.specs.Names.{key_cmp}
 use Rattle.cfb_directory.specs.Entries.{MayRefuseEntry, child, class_of, entry_at, kind, state_of}
-use Rattle.cfb_directory.specs.declared.fault.DirFault.{DirFault}
+use Rattle.cfb_names.specs.declared.fault.DirFault.{DirFault}
 use Rattle.file_model.proofs.Unique.{linked_unique}
 use Rattle.storage_tree.specs.Change.{Seen, bytes, child as with_child, inner}
 use Rattle.storage_tree.specs.Tree.{Tree, Children, none, tree}

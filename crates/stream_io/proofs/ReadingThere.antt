@@ -12,8 +12,8 @@ use Rattle.cfb_chain.proofs.Chains.{chain_below, chain_of_same, chain_same, same
 use Rattle.cfb_chain.proofs.Marks.{distinct_left, distinct_tail, free_when, marks_load}
 use Rattle.cfb_directory.specs.Entries.{EntriesValue, MayRefuseEntry, MayRefuseLoad, entry_at, first_of, kind, size_of}
 use Rattle.cfb_chain.specs.Fat.{set_all}
-use Rattle.cfb_directory.specs.declared.fault.DirFault.{DirFault}
-use Rattle.cfb_directory.specs.declared.fault.DirFault.TheVariants.{NameEmpty, NameTooLong, NameNotAscii, NameForbidden, DuplicateName, BadEntry, TreeCycle, TooNested, NoMemory}
+use Rattle.cfb_names.specs.declared.fault.DirFault.{DirFault}
+use Rattle.cfb_names.specs.declared.fault.DirFault.TheVariants.{NameEmpty, NameTooLong, NameNotAscii, NameForbidden, DuplicateName, BadEntry, TreeCycle, TooNested, NoMemory}
 use Rattle.cfb_directory.proofs.Marks.{set_all-there}
 use Rattle.storage_tree.specs.Tree.{Tree}
 use Rattle.storage_tree.specs.Whole.{IsTree}

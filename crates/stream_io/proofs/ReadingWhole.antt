@@ -4,7 +4,7 @@ use Rattle.std.specs.List.{AllByRecursion, Contains}
 use Rattle.std.specs.List.Sorted.{IsStrictlySortedBy}
 use Rattle.std.specs.declared.cmp.Ordering.TheVariants.{Less}
 use Rattle.std.proofs.lemmas.Map.Keys.{sorted_head, sorted_tail}
-use Rattle.cfb_directory.specs.Names.{IsName, key, key_cmp}
+use Rattle.cfb_names.specs.Names.{IsName, key, key_cmp}
 use Rattle.cfb_directory.specs.Entries.{entry_at, kind}
 use Rattle.storage_tree.specs.Tree.{Tree, Children, tree, none, stream, storage, keys}
 use Rattle.storage_tree.specs.Whole.{AreAbove, AreTrees, IsTree}

@@ -9,11 +9,11 @@ use Rattle.cfb_chain.specs.Fat.{FatValue, IsFat, IsFound, marked as sectors_mark
 use Rattle.cfb_chain.specs.Header.{first_directory, header_read, listed}
 use Rattle.cfb_chain.specs.declared.fault.ChainFault.{ChainFault}
 use Rattle.cfb_chain.specs.declared.fault.ChainFault.TheVariants as chain
-use Rattle.cfb_directory.specs.Faults.{name_of_fault}
-use Rattle.cfb_directory.specs.Names.{IsName, is_forbidden, key, key_cmp}
+use Rattle.cfb_names.specs.Faults.{name_of_fault}
+use Rattle.cfb_names.specs.Names.{IsName, is_forbidden, key, key_cmp}
 use Rattle.cfb_directory.specs.Entries.{AreFree, AreLinked, EntriesValue, IsNamed, MayRefuseEntry, NO_STREAM, Reaches, child, class_of, entry_at, first_of, kind, marked, name_length, name_of, size_of, state_of}
-use Rattle.cfb_directory.specs.declared.fault.DirFault.{DirFault}
-use Rattle.cfb_directory.specs.declared.fault.DirFault.TheVariants as directory
+use Rattle.cfb_names.specs.declared.fault.DirFault.{DirFault}
+use Rattle.cfb_names.specs.declared.fault.DirFault.TheVariants as directory
 use Rattle.storage_tree.specs.Change.{Seen, bytes, inner, place}
 use Rattle.storage_tree.specs.Tree.{Tree, Children, tree, none, stream, storage}
 use Rattle.file_model.specs.Limits.{CUTOFF}

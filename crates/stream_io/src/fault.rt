@@ -1,7 +1,7 @@
 //! Why a file isn't read.
 
 use cfb_chain::fault::ChainFault;
-use cfb_directory::fault::DirFault;
+use cfb_names::fault::DirFault;
 use std::alloc::{AllocError, AllocFailed};
 use storage_tree::fault::TreeFault;
 use thiserror::Error;

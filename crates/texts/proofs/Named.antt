@@ -1,8 +1,8 @@
 -- The names of a path, one after another.
 use Rattle.std.proofs.Common.{◌≡◌, ◌<◌, ◌+◌, ◌++◌, ℕ, List, [], ◌∷◌, Result, Ok, Err, length, get_or, drop, refl, sym, ap, ◌∙◌, append_assoc}
 use Rattle.std.proofs.lemmas.List.{drop_more}
-use Rattle.cfb_directory.specs.Names.{name_read}
-use Rattle.cfb_directory.specs.declared.fault.DirFault.{DirFault}
+use Rattle.cfb_names.specs.Names.{name_read}
+use Rattle.cfb_names.specs.declared.fault.DirFault.{DirFault}
 use Rattle.texts.specs.Paths.{named, named_onto}
 
 -- names before those that are read behind them

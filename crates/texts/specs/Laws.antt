@@ -2,7 +2,7 @@
 use Rattle.std.specs.Prelude.{◌≡◌, ◌≢◌, ◌<◌, ◌^◌, ℕ, List, [], Some, Ok}
 use Rattle.std.specs.List.{AllByRecursion}
 use Rattle.std.specs.Fmt.{decimal}
-use Rattle.cfb_directory.specs.Names.{IsName}
+use Rattle.cfb_names.specs.Names.{IsName}
 use Rattle.embed_core.specs.Words.{number_read}
 use Rattle.texts.specs.Paths.{path_text, path_read}
 

@@ -2,8 +2,8 @@
 use Rattle.std.specs.Prelude.{◌||◌, ℕ, Option, Some, None, List, [], ◌∷◌, Result, Ok, Err, nat_eq, if◌then◌else◌, map}
 use Rattle.std.specs.List.{join_with_byte}
 use Rattle.std.specs.Option.{option_map}
-use Rattle.cfb_directory.specs.Names.{name_read as taken_name}
-use Rattle.cfb_directory.specs.declared.fault.DirFault.{DirFault}
+use Rattle.cfb_names.specs.Names.{name_read as taken_name}
+use Rattle.cfb_names.specs.declared.fault.DirFault.{DirFault}
 use Rattle.embed_core.specs.Words.{pieces}
 use Rattle.texts.specs.Words.{is_hidden, lower_digit, pair_value, onto}
 pub use Rattle.text_model.specs.Spelled.{byte_text, name_text}

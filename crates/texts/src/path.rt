@@ -6,8 +6,8 @@ ghost use Rattle.texts.specs.Paths.{name_read, named, names_read, path_read, spe
 ghost use Rattle.texts.specs.Words.{onto};
 
 use crate::words::{is_hidden, lower_digit};
-use cfb_directory::fault::DirFault;
-use cfb_directory::name::Name;
+use cfb_names::fault::DirFault;
+use cfb_names::name::Name;
 use embed_core::words::Pieces;
 use std::alloc::{AllocError, Global};
 use std::marker::Model;
@@ -21,7 +21,7 @@ pub struct Path {
 }
 
 impl Model for Path {
-    ghost use Rattle.cfb_directory.specs.declared.fault.DirFault.{DirFault};
+    ghost use Rattle.cfb_names.specs.declared.fault.DirFault.{DirFault};
     ghost use Rattle.std.specs.Prelude.{List, Result, ℕ};
     ghost use Rattle.texts.specs.Paths.{path_of};
 

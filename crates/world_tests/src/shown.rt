@@ -1,6 +1,6 @@
 //! What a world shows, as rows spell it.
 
-use cfb_directory::name::Name;
+use cfb_names::name::Name;
 use container_model::answer::Done;
 use ole_streams::doc::{Doc, DocObject};
 use ole_streams::document_of::document_of;

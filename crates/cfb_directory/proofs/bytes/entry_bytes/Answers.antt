@@ -1,7 +1,7 @@
 use Rattle.std.proofs.Common.{◌≡◌, ◌-◌, ◌*◌, ◌++◌, ℕ, List, inl, inr, length, take, drop, min, replicate, sym, ◌∙◌, ap, arith, length-drop}
 use Rattle.std.proofs.lemmas.Bool.{cases_lt}
 use Rattle.std.proofs.lemmas.List.{take_all, length-take}
-use Rattle.cfb_chain.specs.Bytes.{block}
+use Rattle.cfb_bytes.specs.Bytes.{block}
 use Rattle.cfb_directory.proofs.bytes.entry_bytes.Goals as goal
 
 -- the zeros behind a part stand for the bytes past the end

@@ -1,7 +1,7 @@
 use Rattle.std.proofs.Common.{◌≡◌, ◌<◌, ◌≤◌, ◌-◌, ◌*◌, ◌/◌, ◌%◌, take, ◌∙◌, ap, sym, subst, IfOk, arith}
-use Rattle.cfb_chain.specs.Bytes.{u16_at}
+use Rattle.cfb_bytes.specs.Bytes.{u16_at}
 use Rattle.cfb_directory.specs.Entries.{name_length}
-use Rattle.cfb_directory.specs.Names.{IsName, name_read}
+use Rattle.cfb_names.specs.Names.{IsName, name_read}
 use Rattle.cfb_directory.proofs.Reading.{name_read-valid, named, unnamed, unit_contained}
 use Rattle.cfb_directory.proofs.entries.read_name.Goals as goal
 

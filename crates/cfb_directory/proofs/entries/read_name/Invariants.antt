@@ -1,5 +1,5 @@
 use Rattle.std.proofs.Common.{◌≡◌, ◌<◌, ◌*◌, ℕ, get_or, length}
-use Rattle.cfb_chain.specs.Bytes.{u16_at}
+use Rattle.cfb_bytes.specs.Bytes.{u16_at}
 use Rattle.cfb_directory.proofs.entries.read_name.Given as goal
 
 abbrev pub invariant-loop-k : goal.invariant-loop-k

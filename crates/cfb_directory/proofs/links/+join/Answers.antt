@@ -1,7 +1,7 @@
 use Rattle.std.proofs.Common.{◌≡◌, ◌≢◌, true, false, ◌+◌, ◌-◌, ◌<◌, ◌/◌, ℕ, suc, List, [], ◌∷◌, ◌++◌, length, take, drop, get_or, set, ◌∙◌, ap, sym, subst, arith, add-one, drop-cons, length-drop, eqb}
 use Rattle.std.proofs.lemmas.Bool.{eq-eqb, eqb-true}
 use Rattle.std.proofs.lemmas.List.{length-take-le, nil_from_length, take-append-drop, take_all}
-use Rattle.cfb_chain.specs.Chain.{AreDistinct}
+use Rattle.cfb_bytes.specs.Marks.{AreDistinct}
 use Rattle.cfb_directory.specs.SearchTree.{IsTree, nobody}
 use Rattle.cfb_directory.proofs.Built.{tree_around}
 use Rattle.cfb_directory.proofs.links.+join.Goals as goal

@@ -1,11 +1,11 @@
 use Rattle.std.proofs.Common.{◌≡◌, ◌<◌, ℕ, List, [], ◌++◌, length, take, drop, get_or, ◌∙◌, ap, sym, subst, arith}
 use Rattle.std.specs.List.{All, AllPairs, range_with_len}
 use Rattle.std.specs.declared.cmp.Ordering.TheVariants.{Less}
-use Rattle.cfb_directory.specs.Names.{name_cmp}
+use Rattle.cfb_names.specs.Names.{name_cmp}
 use Rattle.std.specs.List.Sorted.{IsPermutation}
 use Rattle.std.proofs.lemmas.List.{take-append-le, take_all}
 use Rattle.cfb_directory.specs.SearchTree.{IsTree}
-use Rattle.cfb_chain.specs.Chain.{AreDistinct}
+use Rattle.cfb_bytes.specs.Marks.{AreDistinct}
 use Rattle.cfb_directory.specs.Building.{AllAdjacentApart, HasEqualNeighbours, keyed_names, places}
 use Rattle.cfb_directory.proofs.Built.{equal_refused, order_inside, order_once, order_permuted, order_sorted}
 use Rattle.cfb_directory.proofs.links.build.Goals as goal

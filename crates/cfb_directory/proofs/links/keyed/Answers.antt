@@ -1,7 +1,7 @@
 use Rattle.std.proofs.Common.{◌≡◌, ◌+◌, ℕ, List, [], ◌∷◌, ◌++◌, length, take, get_or, ◌∙◌, ap, sym, arith}
 use Rattle.std.proofs.lemmas.List.{get_or_default, take_more, length-take-le}
 use Rattle.cfb_directory.specs.Building.{keyed_names}
-use Rattle.cfb_directory.specs.Names.{key}
+use Rattle.cfb_names.specs.Names.{key}
 use Rattle.cfb_directory.proofs.Built.{keyed_from-push}
 use Rattle.cfb_directory.proofs.links.keyed.Goals as goal
 

@@ -2,10 +2,10 @@ use Rattle.std.proofs.Common.{◌≡◌, ◌+◌, ◌*◌, ◌∙◌, ◌==◌, 
 use Rattle.std.proofs.lemmas.Bool.{eqb-true}
 use Rattle.std.proofs.lemmas.List.{drop_all, length-map}
 use Rattle.ole_parts.proofs.Again.{and_right}
-use Rattle.ole_streams.specs.DocOf.{is_object}
-use Rattle.ole_streams.specs.DocTree.{doc_tree}
-use Rattle.ole_streams.specs.Layouts.{layout_bytes}
-use Rattle.ole_streams.specs.declared.doc.DocObject.{DocObject}
+use Rattle.document_model.specs.DocOf.{is_object}
+use Rattle.document_model.specs.DocTree.{doc_tree}
+use Rattle.document_model.specs.Layouts.{layout_bytes}
+use Rattle.document_model.specs.declared.object.DocObject.{DocObject}
 use Rattle.container_model.specs.Saves.{are_objects, document, document_tree, held_part, part_of, parts_in}
 use Rattle.file_model.specs.Limits.{MANY}
 use Rattle.file_model.specs.Need.{long_pieces, short_pieces}

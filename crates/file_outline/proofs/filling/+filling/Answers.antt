@@ -1,6 +1,6 @@
 use Rattle.std.proofs.Common.{◌≡◌, ◌+◌, ◌∙◌, ◌∷◌, [], ℕ, List, ap, drop, get_or, rules, subst, sym}
 use Rattle.std.proofs.lemmas.List.{drop_all, drop_more}
-use Rattle.cfb_directory.specs.Names.{key}
+use Rattle.cfb_names.specs.Names.{key}
 use Rattle.storage_tree.proofs.Entries.{seen-storage, view-roll}
 use Rattle.storage_tree.specs.Change.{Seen, child, inner, place}
 use Rattle.storage_tree.specs.Tree.{Children, Tree, tree}

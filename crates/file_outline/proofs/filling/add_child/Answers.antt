@@ -1,5 +1,5 @@
 use Rattle.std.proofs.Common.{refl, sym}
-use Rattle.cfb_directory.specs.Names.{key}
+use Rattle.cfb_names.specs.Names.{key}
 use Rattle.storage_tree.specs.View.{seen}
 use Rattle.storage_tree.proofs.Entries.{placed}
 use Rattle.file_outline.proofs.filling.add_child.Goals as goal

@@ -1,6 +1,6 @@
 use Rattle.std.proofs.Common.{◌≡◌, ◌∙◌, ◌+◌, ◌∷◌, ℕ, List, true, false, ap, drop, get_or, is_eq, rules, sym}
 use Rattle.std.proofs.lemmas.List.{drop_more}
-use Rattle.cfb_directory.specs.Names.{key, key_eq}
+use Rattle.cfb_names.specs.Names.{key, key_eq}
 use Rattle.storage_tree.specs.Change.{find}
 use Rattle.file_outline.specs.View.{shown_part, shown_parts}
 use Rattle.file_outline.proofs.Found.{found-behind, found-here}

@@ -1,5 +1,5 @@
 use Rattle.std.proofs.Common.{◌≡◌, ◌++◌, length, sym, subst, List, ℕ, Some, None, Ok, Err, rules, arith}
-use Rattle.cfb_directory.specs.Names.{name_read}
+use Rattle.cfb_names.specs.Names.{name_read}
 use Rattle.message_model.specs.Frames.{number_in}
 use Rattle.message_drafts.specs.Drafts.{IsStreamField}
 use Rattle.message_drafts.proofs.Plans.{stream_field, stream_unnamed}

@@ -1,7 +1,7 @@
 use Rattle.std.proofs.Common.{◌+◌, ap, sym, ◌∙◌, Err}
 use Rattle.std.proofs.lemmas.List.{drop_all}
 use Rattle.storage_tree.specs.View.{children}
-use Rattle.ole_streams.specs.DocOf.{objects_behind}
+use Rattle.document_model.specs.DocOf.{objects_behind}
 use Rattle.ole_streams.proofs.Opening.{err_same, not_true, objects_behind-left, refused}
 use Rattle.ole_streams.proofs.document_of.objects_of.Goals as goal
 

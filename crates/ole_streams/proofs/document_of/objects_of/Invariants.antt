@@ -1,6 +1,6 @@
 use Rattle.std.proofs.Common.{◌≡◌, [], ◌+◌, drop}
 use Rattle.storage_tree.specs.View.{children}
-use Rattle.ole_streams.specs.DocOf.{objects_behind}
+use Rattle.document_model.specs.DocOf.{objects_behind}
 use Rattle.ole_streams.proofs.document_of.objects_of.Given as goal
 
 abbrev pub invariant-loop-index : goal.invariant-loop-index

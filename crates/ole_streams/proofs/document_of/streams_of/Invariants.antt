@@ -1,6 +1,6 @@
 use Rattle.std.proofs.Common.{◌≡◌, []}
 use Rattle.storage_tree.specs.View.{children}
-use Rattle.ole_streams.specs.DocOf.{streams_behind}
+use Rattle.document_model.specs.DocOf.{streams_behind}
 use Rattle.ole_streams.proofs.document_of.streams_of.Given as goal
 
 abbrev pub invariant-loop-name : goal.invariant-loop-name

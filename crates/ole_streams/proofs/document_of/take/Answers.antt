@@ -1,6 +1,6 @@
 use Rattle.std.proofs.Common.{ap, sym, ◌∙◌}
 use Rattle.std.specs.Option.{option_map}
-use Rattle.cfb_directory.specs.Names.{key}
+use Rattle.cfb_names.specs.Names.{key}
 use Rattle.storage_tree.specs.View.{children, shown}
 use Rattle.storage_tree.proofs.Entries.{find-entries, without-entries}
 use Rattle.ole_streams.proofs.document_of.take.Goals as goal

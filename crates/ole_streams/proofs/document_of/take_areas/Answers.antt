@@ -1,6 +1,6 @@
 use Rattle.std.proofs.Common.{◌≡◌, ap, ◌∙◌}
 use Rattle.ole_parts.specs.Fields.{on_ok}
-use Rattle.ole_streams.specs.Layouts.{layout_read}
+use Rattle.document_model.specs.Layouts.{layout_read}
 use Rattle.ole_streams.proofs.document_of.take_areas.Goals as goal
 
 pub returns-in-Ok-clause-value : goal.returns-in-Ok-clause-value

@@ -1,5 +1,5 @@
 use Rattle.std.proofs.Common.{refl, sym, subst}
-use Rattle.cfb_directory.specs.Names.{key}
+use Rattle.cfb_names.specs.Names.{key}
 use Rattle.storage_tree.specs.Tree.{Children}
 use Rattle.storage_tree.specs.View.{children, seen}
 use Rattle.storage_tree.specs.Whole.{AreTrees}

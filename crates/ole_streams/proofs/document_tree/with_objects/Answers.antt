@@ -5,7 +5,7 @@ use Rattle.storage_tree.specs.declared.storage.Node.TheVariants.{Storage}
 use Rattle.storage_tree.specs.Change.{Seen}
 use Rattle.storage_tree.specs.Whole.{IsWhole}
 use Rattle.storage_tree.proofs.Entries.{seen-storage}
-use Rattle.ole_streams.specs.DocTree.{placed, object_name, with_objects}
+use Rattle.document_model.specs.DocTree.{placed, object_name, with_objects}
 use Rattle.ole_streams.proofs.Writing.{AreHeld-front, AreHeld-last, with_objects-last}
 use Rattle.ole_streams.proofs.document_tree.with_objects.Goals as goal
 

@@ -1,5 +1,5 @@
 use Rattle.std.proofs.Common.{◌≡◌, ◌≤◌, length}
-use Rattle.ole_streams.specs.DocTree.{with_objects}
+use Rattle.document_model.specs.DocTree.{with_objects}
 use Rattle.ole_streams.specs.Docs.{AreHeld}
 use Rattle.storage_tree.specs.Tree.{none}
 use Rattle.storage_tree.specs.View.{children}

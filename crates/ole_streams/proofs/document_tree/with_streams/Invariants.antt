@@ -1,5 +1,5 @@
 use Rattle.std.proofs.Common.{ℕ, ◌≡◌, length}
-use Rattle.ole_streams.specs.DocTree.{with_streams}
+use Rattle.document_model.specs.DocTree.{with_streams}
 use Rattle.storage_tree.specs.Tree.{none}
 use Rattle.storage_tree.specs.View.{children}
 use Rattle.storage_tree.specs.Whole.{AreTrees}

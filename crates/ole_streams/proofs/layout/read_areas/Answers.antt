@@ -1,6 +1,6 @@
 use Rattle.std.proofs.Common.{ap, sym, ◌∙◌, ◌+◌, ◌-◌, ◌++◌, ◌∷◌, [], take, length-append, arith}
 use Rattle.ole_parts.specs.Fields.{map_ok}
-use Rattle.ole_streams.specs.Layouts.{area_at, areas_read}
+use Rattle.document_model.specs.Layouts.{area_at, areas_read}
 use Rattle.ole_streams.proofs.Writing.{areas_read-more, areas_read-short}
 use Rattle.ole_streams.proofs.layout.read_areas.Goals as goal
 

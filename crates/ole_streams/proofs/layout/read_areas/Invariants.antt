@@ -1,6 +1,6 @@
 use Rattle.std.proofs.Common.{◌≡◌, ◌++◌, ◌-◌, length}
 use Rattle.ole_parts.specs.Fields.{map_ok}
-use Rattle.ole_streams.specs.Layouts.{areas_read}
+use Rattle.document_model.specs.Layouts.{areas_read}
 use Rattle.ole_streams.proofs.layout.read_areas.Given as goal
 
 abbrev pub invariant-loop-index : goal.invariant-loop-index

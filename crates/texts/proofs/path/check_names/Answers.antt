@@ -1,5 +1,5 @@
 use Rattle.std.proofs.Common.{◌++◌, [], ◌∷◌, ap, sym, ◌∙◌}
-use Rattle.cfb_directory.specs.Names.{name_read}
+use Rattle.cfb_names.specs.Names.{name_read}
 use Rattle.texts.specs.Paths.{named}
 use Rattle.texts.proofs.Named.{named-turn}
 use Rattle.texts.proofs.path.check_names.Goals as goal

@@ -1,7 +1,7 @@
 use Rattle.std.proofs.Common.{sym, ap, ◌∙◌}
 use Rattle.std.specs.Map.{lookup}
 use Rattle.std.specs.BTreeMap.{is_at}
-use Rattle.cfb_directory.specs.Names.{key_cmp}
+use Rattle.cfb_names.specs.Names.{key_cmp}
 use Rattle.storage_tree.specs.View.{moved_from, with_node}
 use Rattle.storage_tree.proofs.storage.Storage.move_child.Goals as goal
 

@@ -2,7 +2,7 @@ use Rattle.std.proofs.Common.{rules, ◌≡◌, ℕ, sym, refl, ap, ◌∙◌, B
 use Rattle.std.specs.Result.{is_ok, OnOk, OnErr}
 use Rattle.std.specs.declared.cmp.Ordering.{Ordering}
 use Rattle.storage_tree.specs.declared.storage.Node.TheVariants.{Stream}
-use Rattle.cfb_directory.specs.Names.{key, key_cmp, key_eq}
+use Rattle.cfb_names.specs.Names.{key, key_cmp, key_eq}
 use Rattle.storage_tree.proofs.Entries.{none_from, view-out, view-roll}
 use Rattle.storage_tree.proofs.Renames.{respelled, rename-none, rename-exists, rename-can, rename-moved, some_of}
 use Rattle.storage_tree.proofs.storage.Storage.rename_child.Goals as goal

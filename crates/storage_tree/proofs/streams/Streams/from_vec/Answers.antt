@@ -1,6 +1,6 @@
 use Rattle.std.proofs.Common.{◌≡◌, ◌≤◌, ◌<◌, true, false, length, sym, ap, ◌∙◌, arith, rules}
 use Rattle.std.specs.Ordering.{is_lt}
-use Rattle.cfb_directory.specs.Names.{name_cmp}
+use Rattle.cfb_names.specs.Names.{name_cmp}
 use Rattle.storage_tree.proofs.Ordered.{order-more, order-less}
 use Rattle.storage_tree.proofs.streams.Streams.from_vec.Goals as goal
 

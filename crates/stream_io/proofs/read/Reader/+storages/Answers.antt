@@ -2,7 +2,7 @@ use Rattle.std.proofs.Common.{◌≡◌, ◌+◌, ◌-◌, List, ℕ, ap, drop, 
 use Rattle.std.specs.Result.{IsErrAnd}
 use Rattle.cfb_chain.proofs.Results.{refused_with}
 use Rattle.cfb_directory.specs.Entries.{entry_at, kind}
-use Rattle.cfb_directory.specs.Names.{key}
+use Rattle.cfb_names.specs.Names.{key}
 use Rattle.file_model.specs.Outline.{outline, outline_of, part_of}
 use Rattle.storage_tree.specs.Change.{child}
 use Rattle.storage_tree.specs.Tree.{Tree, Children, none, tree}

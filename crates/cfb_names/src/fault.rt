@@ -1,6 +1,6 @@
 //! Why a directory or a name is refused.
 
-ghost use Rattle.cfb_directory.specs.Faults.{name_of_fault};
+ghost use Rattle.cfb_names.specs.Faults.{name_of_fault};
 ghost use Rattle.std.specs.Prelude.{◌≡◌};
 
 use std::alloc::{AllocError, AllocFailed};
@@ -59,7 +59,7 @@ impl DirFault {
 
 impl From<AllocError> for DirFault {
     ghost use Rattle.std.specs.Prelude.{◌≡◌};
-    ghost use Rattle.cfb_directory.specs.declared.fault.DirFault.TheVariants.{NoMemory};
+    ghost use Rattle.cfb_names.specs.declared.fault.DirFault.TheVariants.{NoMemory};
 
     ghost from_gives = { λ _ e. e ≡ NoMemory };
 
@@ -70,7 +70,7 @@ impl From<AllocError> for DirFault {
 
 impl<T: Drop> From<AllocFailed<T>> for DirFault {
     ghost use Rattle.std.specs.Prelude.{◌≡◌};
-    ghost use Rattle.cfb_directory.specs.declared.fault.DirFault.TheVariants.{NoMemory};
+    ghost use Rattle.cfb_names.specs.declared.fault.DirFault.TheVariants.{NoMemory};
 
     ghost from_gives = { λ _ e. e ≡ NoMemory };
 

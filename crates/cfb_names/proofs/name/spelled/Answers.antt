@@ -1,6 +1,6 @@
 use Rattle.std.proofs.Common.{◌≡◌, ◌+◌, ◌-◌, ℕ, ◌∷◌, ◌++◌, length, drop, replicate, ap, arith}
 use Rattle.std.proofs.lemmas.List.{drop-replicate}
-use Rattle.cfb_directory.proofs.name.spelled.Goals as goal
+use Rattle.cfb_names.proofs.name.spelled.Goals as goal
 
 pub returns : goal.returns
 returns c =

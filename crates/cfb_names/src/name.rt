@@ -1,8 +1,7 @@
 //! Names of directory entries (MS-CFB 2.6.1, 2.6.4).
 
-ghost use Rattle.cfb_directory.specs.Names.{is_forbidden, key, name_cmp, name_read, IsName, KeysAgree};
-ghost use Rattle.cfb_directory.specs.Entries.{root_name};
-ghost use Rattle.cfb_directory.specs.View.{units_of};
+ghost use Rattle.cfb_names.specs.Names.{is_forbidden, key, name_cmp, name_read, root_name, IsName, KeysAgree};
+ghost use Rattle.cfb_names.specs.View.{units_of};
 ghost use Rattle.std.specs.Char.{to_ascii_uppercase};
 ghost use Rattle.std.specs.List.{list_any};
 ghost use Rattle.std.specs.Prelude.{◌≡◌, ◌≤◌, length, map, nat_le};
@@ -23,8 +22,8 @@ pub struct Name {
 
 impl Model for Name {
     ghost use Rattle.std.specs.Prelude.{List, ℕ, ◌≡◌};
-    ghost use Rattle.cfb_directory.specs.Names.{IsName};
-    ghost use Rattle.cfb_directory.specs.View.{name_held, IsHeld};
+    ghost use Rattle.cfb_names.specs.Names.{IsName};
+    ghost use Rattle.cfb_names.specs.View.{name_held, IsHeld};
 
     ghost Value = { List ℕ };
 

@@ -1,12 +1,12 @@
 -- Names of directory entries and their order (MS-CFB 2.6.1, 2.6.4).
-use Rattle.std.specs.Prelude.{◌≡◌, ◌≤◌, ◌<◌, ◌-◌, ◌||◌, ℕ, Bool, false, List, ◌∷◌, ◌++◌, length, map, replicate, nat_lt, nat_le, nat_eq, cond, Result, Ok, Err}
+use Rattle.std.specs.Prelude.{◌≡◌, ◌≤◌, ◌<◌, ◌-◌, ◌||◌, ℕ, Bool, false, List, [], ◌∷◌, ◌++◌, length, map, replicate, nat_lt, nat_le, nat_eq, cond, Result, Ok, Err}
 use Rattle.std.specs.List.{list_any}
 use Rattle.std.specs.Char.{to_ascii_uppercase}
 use Rattle.std.specs.Ordering.{nat_cmp, is_eq}
 use Rattle.std.specs.Cmp.Lexicographic.{slice_cmp}
 use Rattle.std.specs.declared.cmp.Ordering.{Ordering}
-use Rattle.cfb_directory.specs.declared.fault.DirFault.{DirFault}
-use Rattle.cfb_directory.specs.declared.fault.DirFault.TheVariants.{NameEmpty, NameTooLong, NameNotAscii, NameForbidden}
+use Rattle.cfb_names.specs.declared.fault.DirFault.{DirFault}
+use Rattle.cfb_names.specs.declared.fault.DirFault.TheVariants.{NameEmpty, NameTooLong, NameNotAscii, NameForbidden}
 
 -- zero, or one of / \ : !
 abbrev pub is_forbidden : ℕ → Bool
@@ -18,6 +18,10 @@ pub record IsName (name : List ℕ) : Type 0 where
   pub short : length name ≤ 31
   pub ascii : list_any (nat_le 128) name ≡ false
   pub allowed : list_any is_forbidden name ≡ false
+
+-- "Root Entry", the name of the root (MS-CFB 2.6.2)
+abbrev pub root_name : List ℕ
+root_name = 82 ∷ 111 ∷ 111 ∷ 116 ∷ 32 ∷ 69 ∷ 110 ∷ 116 ∷ 114 ∷ 121 ∷ []
 
 -- what bytes are refused for as a name, in the order of the checks
 abbrev pub name_read : List ℕ → Result (List ℕ) DirFault

@@ -1,14 +1,14 @@
 -- The tree of a document.
 use Rattle.std.specs.Prelude.{ℕ, ◌+◌, ◌/◌, ◌%◌, ◌∷◌, List, [], cond, map, nat_lt}
-use Rattle.cfb_directory.specs.Names.{key}
+use Rattle.cfb_names.specs.Names.{key}
 use Rattle.object_parts.specs.Limits.{OLE, COMP_OBJ, OLE_PRES}
 use Rattle.storage_tree.specs.Tree.{Tree, Children, tree, none}
 use Rattle.storage_tree.specs.Change.{Seen, bytes, inner, place}
 use Rattle.storage_tree.specs.declared.streams.NamedStream.{NamedStream}
 use Rattle.ole_parts.specs.CompObjs.{comp_obj_bytes}
-use Rattle.ole_streams.specs.Layouts.{layout_bytes}
+use Rattle.document_model.specs.Layouts.{layout_bytes}
 use Rattle.ole_parts.specs.OleStreams.{ole_bytes}
-use Rattle.ole_streams.specs.declared.doc.DocObject.{DocObject}
+use Rattle.document_model.specs.declared.object.DocObject.{DocObject}
 
 -- 6f1d2a00-3c4b-4e5f-8a9b-0c1d2e3f4051
 abbrev pub ROOT_CLASS : List ℕ

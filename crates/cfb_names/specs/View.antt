@@ -1,6 +1,6 @@
 -- How a name lies in its 32 bytes.
 use Rattle.std.specs.Prelude.{◌≡◌, ◌-◌, ℕ, List, ◌∷◌, ◌++◌, length, drop, take, replicate, slice_index}
-use Rattle.cfb_directory.specs.Names.{IsName}
+use Rattle.cfb_names.specs.Names.{IsName}
 
 abbrev pub name_held : List ℕ → List ℕ
 name_held units = take (slice_index units 0) (drop 1 units)

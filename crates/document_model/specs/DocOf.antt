@@ -1,6 +1,6 @@
 -- What document a tree holds.
 use Rattle.std.specs.Prelude.{ℕ, ◌+◌, ◌&&◌, ◌≡◌, ◌∷◌, ◌++◌, List, [], Bool, cond, length, nat_lt, nat_le, Option, Some, None, Result, Ok, Err}
-use Rattle.cfb_directory.specs.Names.{key}
+use Rattle.cfb_names.specs.Names.{key}
 use Rattle.object_parts.specs.Limits.{OLE, COMP_OBJ, OLE_PRES, is_within}
 use Rattle.object_parts.specs.declared.area.Area.{Area}
 use Rattle.storage_tree.specs.Tree.{Tree, Children, tree, none, stream, storage}
@@ -8,11 +8,11 @@ use Rattle.storage_tree.specs.Change.{Seen, bytes, inner, find, without}
 use Rattle.storage_tree.specs.Streams.{is_next}
 use Rattle.storage_tree.specs.declared.streams.NamedStream.{NamedStream}
 use Rattle.ole_parts.specs.CompObjs.{PAST_USER_TYPE, user_type_read}
-use Rattle.ole_streams.specs.DocTree.{LAYOUT, object_name}
+use Rattle.document_model.specs.DocTree.{LAYOUT, object_name}
 use Rattle.ole_parts.specs.Fields.{on_ok}
-use Rattle.ole_streams.specs.Layouts.{MOST_OBJECTS, layout_read}
+use Rattle.document_model.specs.Layouts.{MOST_OBJECTS, layout_read}
 use Rattle.ole_parts.specs.OleStreams.{ole_read}
-use Rattle.ole_streams.specs.declared.doc.DocObject.{DocObject}
+use Rattle.document_model.specs.declared.object.DocObject.{DocObject}
 use Rattle.ole_parts.specs.declared.fault.OleFault.{OleFault}
 use Rattle.ole_parts.specs.declared.fault.OleFault.TheVariants.{NotADocument, TooManyObjects}
 

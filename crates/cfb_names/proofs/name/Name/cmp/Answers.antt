@@ -1,7 +1,7 @@
 use Rattle.std.proofs.Common.{◌≡◌, ◌∙◌, ap}
-use Rattle.cfb_directory.specs.Names.{key, key_cmp}
-use Rattle.cfb_directory.proofs.Keys.{key-held, keys_agree}
-use Rattle.cfb_directory.proofs.name.Name.cmp.Goals as goal
+use Rattle.cfb_names.specs.Names.{key, key_cmp}
+use Rattle.cfb_names.proofs.Keys.{key-held, keys_agree}
+use Rattle.cfb_names.proofs.name.Name.cmp.Goals as goal
 
 pub returns : goal.returns
 returns c =

@@ -8,8 +8,8 @@ use Rattle.std.specs.Ordering.{ordering_then}
 use Rattle.std.specs.Cmp.Lexicographic.{slice_cmp}
 use Rattle.std.specs.declared.cmp.Ordering.{Ordering}
 use Rattle.std.specs.declared.cmp.Ordering.TheVariants.{Less, Equal, Greater}
-use Rattle.cfb_directory.specs.Names.{IsName, key, key_cmp, name_cmp}
-use Rattle.cfb_directory.specs.View.{units_of, name_held, IsHeld}
+use Rattle.cfb_names.specs.Names.{IsName, key, key_cmp, name_cmp}
+use Rattle.cfb_names.specs.View.{units_of, name_held, IsHeld}
 
 -- the name in the bytes that spell it
 pub held-units : (name : List ℕ) → name_held (units_of name) ≡ name

@@ -1,0 +1,4 @@
+//! Numbers in the bytes of a compound file.
+#![tactic(auto)]
+
+pub mod numbers;

@@ -1,5 +1,0 @@
-use Rattle.cfb_directory.proofs.Keys.{keys_agree}
-use Rattle.cfb_directory.proofs.name.keys_agree.Goals as goal
-
-pub returns : goal.returns
-returns c = λ a b ha hb. keys_agree a b

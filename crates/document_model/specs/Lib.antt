@@ -1,0 +1,3 @@
+pub mod Layouts
+pub mod DocTree
+pub mod DocOf
