@@ -7,8 +7,8 @@ ghost use Rattle.world_model.specs.World.{counted_document, frame_file};
 
 use crate::world::World;
 use container_core::container::ContainerCore;
-use container_model::answer::Done;
 use container_core::lookups::place;
+use container_model::answer::Done;
 use embed_core::embedded::Embedded;
 use world_model::logs::{Document, EventAnswer, Sent, ServerDone, Taken};
 
