@@ -7,9 +7,9 @@ ghost use Rattle.container_model.specs.Room.{IsSound};
 ghost use Rattle.wire_msgs.specs.Found.{find, IsPlace};
 
 use crate::state::State;
+use container_grants::grants::{ask_number, is_held_by};
 use container_model::answer::Answer;
 use container_model::fault::ContainerFault;
-use container_grants::grants::{ask_number, is_held_by};
 use container_objects::lookups::{place, place_linked};
 use std::alloc::Global;
 use wire_msgs::operation::Operation;

@@ -9,12 +9,12 @@ ghost use Rattle.container_model.specs.Room.{IsSound};
 ghost use Rattle.wire_msgs.specs.Found.{find, IsPlace};
 
 use crate::state::State;
+use container_grants::grants::{prepare_waiting, take_grants, tell_frame};
 use container_links::replies::gives_up;
 use container_links::resending::pending_calls;
 use container_links::settling::settle_into;
 use container_model::answer::Answer;
 use container_model::fault::ContainerFault;
-use container_grants::grants::{prepare_waiting, take_grants, tell_frame};
 use container_objects::lookups::place_linked;
 use container_objects::replies::{Told, answered, told_object};
 use container_objects::writes::write_one;

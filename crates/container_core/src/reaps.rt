@@ -7,10 +7,10 @@ ghost use Rattle.container_model.specs.Messages.{on_reap};
 ghost use Rattle.container_model.specs.Room.{IsSound};
 
 use crate::state::State;
+use container_grants::grants::{free_frames, prepare_freed, take_grants};
 use container_links::settling::settle_into;
 use container_model::answer::Answer;
 use container_model::fault::ContainerFault;
-use container_grants::grants::{free_frames, prepare_freed, take_grants};
 use container_objects::reaps::reap_all;
 use std::alloc::Global;
 use wire_msgs::items::Items;
