@@ -1,16 +1,16 @@
 //! Events that are refused, and those that aren't read or answered.
 
 use crate::ends::{Failing, Full};
+use container_cli::container::Limits;
 use container_cli::fault::SimulateFault;
 use container_cli::simulation::simulate;
-use container_cli::container::Limits;
+use container_cli::stock::Stock;
 use embed_core::tally::Tally;
 use embed_note::note::Note;
 use std::alloc::{AllocError, Global};
 use std::io::{Read, Write};
 use std::test::Fail;
 use world_model::event::Stop;
-use container_cli::stock::Stock;
 
 /// Runs events where two notes are in stock.
 fn run<R: Read, W: Write>(

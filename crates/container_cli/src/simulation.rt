@@ -10,7 +10,6 @@ ghost use Rattle.world_run.specs.View.{seen_stocked};
 ghost use Rattle.world_model.specs.World.{MOST_EVENTS};
 
 use crate::fault::SimulateFault;
-use world_run::container::Limits;
 use embed_core::embedded::Embedded;
 use event_texts::answers::{push_answer, push_stop};
 use event_texts::events::Events;
@@ -20,6 +19,7 @@ use texts::input::read_all;
 use texts::lines::parse_lines;
 use texts::output::write_all;
 use world_model::event::{Event, Stop};
+use world_run::container::Limits;
 use world_run::stock::Stock;
 use world_run::world::World;
 

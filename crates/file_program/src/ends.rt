@@ -1,10 +1,10 @@
 //! How a run of the program ends.
 
 use clap::Error;
+use std::io;
 use std::io::ErrorKind;
 use std::process::ExitCode;
 use std::rt::Runtime;
-use std::io;
 use texts::report::{Report, STANDARD};
 
 /// The status where the command line is refused.

@@ -84,4 +84,3 @@ pub fn clean<R: Runtime + AllocGlobal>(rt: &R, path: &str, out: &str) -> ExitCod
         }
     }
 }
-

@@ -12,13 +12,13 @@ ghost use Rattle.world_model.specs.declared.event.Event.TheVariants as event;
 use crate::instance::Stocked;
 use crate::plan::Plan;
 use crate::state::State;
-use world_host::lookups::place;
 use embed_core::embedded::Embedded;
 use server_core::refusal::Refusal;
 use server_model::fault::ServerFault;
 use std::alloc::Global;
 use wire_msgs::message::Message;
 use wire_msgs::operation::Operation;
+use world_host::lookups::place;
 use world_model::event::Stop;
 use world_model::life::Life;
 

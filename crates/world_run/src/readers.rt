@@ -6,10 +6,10 @@ ghost use Rattle.world_run.specs.Shown.{shown};
 ghost use Rattle.world_model.specs.World.{counted_document, frame_file};
 
 use crate::world::World;
-use world_host::container::ContainerCore;
 use container_model::answer::Done;
-use world_host::lookups::place;
 use embed_core::embedded::Embedded;
+use world_host::container::ContainerCore;
+use world_host::lookups::place;
 use world_model::logs::{Document, EventAnswer, Sent, ServerDone, Taken};
 
 impl World {

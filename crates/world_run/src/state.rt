@@ -12,14 +12,14 @@ ghost use Rattle.world_model.specs.declared.event.Event.TheVariants as event;
 
 use crate::instance::{Instance, end_of};
 use crate::stock::Stock;
-use world_host::container::Limits;
 use container_model::command::Command;
-use world_host::lookups::place;
 use embed_core::embedded::Embedded;
 use server_core::server::ServerCore;
 use std::alloc::Global;
 use wire_msgs::message::Message;
+use world_host::container::Limits;
 use world_host::host::{Host, Servers, add};
+use world_host::lookups::place;
 use world_model::event::{Event, Stop};
 use world_model::life::Life;
 use world_model::logs::View;

@@ -7,9 +7,9 @@ ghost use Rattle.world_run.specs.View.{seen};
 
 use crate::state::State;
 use crate::stock::Stock;
-use world_host::container::Limits;
 use embed_core::embedded::Embedded;
 use std::alloc::Global;
+use world_host::container::Limits;
 use world_model::event::{Event, Stop};
 
 /// A container, its servers, the messages between them, and the files.

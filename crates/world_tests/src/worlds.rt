@@ -5,7 +5,6 @@ use crate::events::{events, starts};
 use crate::reports::{report, unwritten};
 use crate::shown::{answer, container_done, counted, file, server_done, sizes, taken};
 use crate::words::{halves, number};
-use world_run::container::Limits;
 use embed_core::embedded::Embedded;
 use embed_core::tally::Tally;
 use embed_note::note::Note;
@@ -13,6 +12,7 @@ use std::alloc::{AllocError, Global};
 use std::process::Abort;
 use std::test::Fail;
 use world_model::event::{Event, Stop};
+use world_run::container::Limits;
 use world_run::stock::Stock;
 use world_run::world::World;
 
