@@ -1,8 +1,5 @@
-//! The program's commands over readers and writers: those over compound files, and the simulation of a world.
+//! The simulation of a world, over a reader and a writer.
 #![tactic(auto)]
 
 pub mod fault;
 pub mod simulation;
-
-pub use file_commands::{cleaning, commands, getting};
-pub use texts::{path, report};
