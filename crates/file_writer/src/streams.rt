@@ -1,6 +1,6 @@
 //! The streams of a tree, as they are written (MS-CFB 2.4, 2.5).
 
-ghost use Rattle.std.specs.Prelude.{◌≡◌, ◌++◌, ◌<◌, OnOk, length, min, nat_lt, replicate};
+ghost use Rattle.std.specs.Prelude.{◌≡◌, ◌++◌, ◌*◌, ◌-◌, ◌<◌, OnOk, length, min, nat_lt, replicate};
 ghost use Rattle.storage_tree.specs.View.{seen, view};
 ghost use Rattle.file_model.specs.Directory.{long_streams, short_streams};
 ghost use Rattle.file_model.specs.Image.{padded, pieces_of, whole_pieces};
@@ -44,12 +44,28 @@ fn push_zeros(out: &mut Vec<u8>, count: usize) -> Result<(), AllocError>
     Ok(())
 }
 
+/// How many zeros stand behind so many bytes up to whole mini sectors.
+fn mini_zeros(len: usize) -> usize
+    ensures few { result < 512 }
+    ensures zeros { result ≡ 64 * pieces 64 len - len }
+{
+    (64 - len % 64) % 64
+}
+
+/// How many stand behind them up to whole sectors.
+fn sector_zeros(len: usize) -> usize
+    ensures few { result < 512 }
+    ensures zeros { result ≡ 512 * pieces 512 len - len }
+{
+    (512 - len % 512) % 512
+}
+
 /// Adds the bytes of a stream, with zeros up to whole mini sectors.
 fn push_minis(out: &mut Vec<u8>, bytes: &Bytes) -> Result<(), AllocError>
     ensures { OnOk result (out.new.items ≡ out.old.items ++ padded 64 bytes.now) }
 {
     out.extend_from_slice(bytes.as_slice())?;
-    push_zeros(out, (64 - bytes.len() % 64) % 64)?;
+    push_zeros(out, mini_zeros(bytes.len()))?;
     Ok(())
 }
 
@@ -58,7 +74,7 @@ fn push_sectors(out: &mut Vec<u8>, bytes: &Bytes) -> Result<(), AllocError>
     ensures { OnOk result (out.new.items ≡ out.old.items ++ padded 512 bytes.now) }
 {
     out.extend_from_slice(bytes.as_slice())?;
-    push_zeros(out, (512 - bytes.len() % 512) % 512)?;
+    push_zeros(out, sector_zeros(bytes.len()))?;
     Ok(())
 }
 
@@ -185,7 +201,7 @@ pub(crate) fn push_mini_stream(out: &mut Vec<u8>, root: &Storage) -> Result<(), 
     let before = out.len();
     push_short(out, root)?;
     let len = out.len() - before;
-    push_zeros(out, (512 - len % 512) % 512)?;
+    push_zeros(out, sector_zeros(len))?;
     Ok(())
 }
 
