@@ -12,18 +12,16 @@ fn operation_name(operation: &Operation) -> &'static str {
         Operation::InitNew(_) => "InitNew",
         Operation::InPlace => "InPlace",
         Operation::UiActivate(1) => "UiActivate 1",
-        Operation::UiActivate(2) => "UiActivate 2",
         Operation::UiDeactivate => "UiDeactivate",
         Operation::InPlaceDeactivate => "InPlaceDeactivate",
-        Operation::OpenWindow => "OpenWindow",
         Operation::Edit(_) => "Edit",
-        Operation::Save(1) => "Save 1",
+        Operation::Save(2) => "Save 2",
         Operation::SaveCompleted {
-            save: 1,
+            save: 2,
             storage: false,
-        } => "SaveCompleted 1",
+        } => "SaveCompleted 2",
         Operation::Close(CloseOption::SaveIfDirty) => "Close save",
-        Operation::Close(CloseOption::NoSave) => "Close drop",
+        Operation::Close(CloseOption::NoSave) => "Close nosave",
         _ => "another",
     }
 }
@@ -45,12 +43,9 @@ fn message_text(alloc: Global, message: &Message) -> Result<String, AllocError> 
 }
 
 /// Calls that are sent once more.
-pub(crate) fn resent(
-    alloc: Global,
-    calls: Result<Vec<Message>, AllocError>,
-) -> Result<String, AllocError> {
+pub(crate) fn resent(alloc: Global, calls: &[Message]) -> Result<String, AllocError> {
     let mut text = String::new(alloc);
-    for call in calls?.as_slice() {
+    for call in calls {
         let call = message_text(alloc, call)?;
         text.push_str(&call)?;
     }
@@ -66,33 +61,29 @@ fn action_text(alloc: Global, action: &Action) -> Result<String, AllocError> {
     }
 }
 
-fn push_made(alloc: Global, text: &mut String, made: &str, n: u32) -> Result<(), AllocError> {
-    let n = format!(in alloc; " {made} {n}")?;
-    text.push_str(&n)?;
+fn push_made(alloc: Global, text: &mut String, made: &str, n: Option<u32>) -> Result<(), AllocError> {
+    if let Some(n) = n {
+        let n = format!(in alloc; " {made} {n}")?;
+        text.push_str(&n)?;
+    }
+    Ok(())
+}
+
+fn push_told(text: &mut String, told: &str, is_told: bool) -> Result<(), AllocError> {
+    if is_told {
+        text.push_str(told)?;
+    }
     Ok(())
 }
 
 /// What was made, and then what is to be done.
 fn answer_text(alloc: Global, answer: &Answer) -> Result<String, AllocError> {
     let mut text = String::new(alloc);
-    if let Some(frame) = answer.frame {
-        push_made(alloc, &mut text, "frame", frame)?;
-    }
-    for object in answer.objects.as_slice() {
-        push_made(alloc, &mut text, "object", *object)?;
-    }
-    if let Some(server) = answer.server {
-        push_made(alloc, &mut text, "server", server)?;
-    }
-    if let Some(refusal) = answer.refused {
-        push_made(alloc, &mut text, "refused", u32::from(refusal.code()))?;
-    }
-    if answer.taken {
-        text.push_str(" taken")?;
-    }
-    if answer.no_tools {
-        text.push_str(" notools")?;
-    }
+    push_made(alloc, &mut text, "frame", answer.frame)?;
+    push_made(alloc, &mut text, "object", answer.objects.as_slice().first().copied())?;
+    push_made(alloc, &mut text, "server", answer.server)?;
+    push_told(&mut text, " taken", answer.taken)?;
+    push_told(&mut text, " notools", answer.no_tools)?;
     for action in answer.actions.as_slice() {
         let action = action_text(alloc, action)?;
         text.push_str(&action)?;
@@ -117,19 +108,21 @@ pub(crate) fn answered(
     }
 }
 
+fn committed_text(alloc: Global, committed: &Committed) -> Result<String, AllocError> {
+    let mut text = answer_text(alloc, &committed.answer)?;
+    for done in committed.counted.as_slice() {
+        push_made(alloc, &mut text, "counted", Some(done.object))?;
+    }
+    Ok(text)
+}
+
 /// What a commit that is done led to, and the objects that were counted.
 pub(crate) fn committed(
     alloc: Global,
     outcome: Result<Committed, ContainerFault>,
 ) -> Result<String, AllocError> {
     match outcome {
-        Ok(committed) => {
-            let mut text = answer_text(alloc, &committed.answer)?;
-            for done in committed.counted.as_slice() {
-                push_made(alloc, &mut text, "counted", done.object)?;
-            }
-            Ok(text)
-        }
+        Ok(committed) => committed_text(alloc, &committed),
         Err(fault) => fault_text(alloc, fault),
     }
 }
