@@ -85,7 +85,9 @@ fn ends(alloc: Global, command: &str, end: &str, file: &[u8]) -> Result<String, 
     let mut rest = input(command, file);
     match number(end.as_bytes()) {
         Some(room) => {
-            let mut writer = Full { room: room as usize };
+            let mut writer = Full {
+                room: room as usize,
+            };
             told(alloc, command, &mut rest, &mut writer)
         }
         None => unread(alloc, command, rest),

@@ -2,7 +2,6 @@
 
 use container_model::answer::{Action, Answer, Committed};
 use container_model::fault::ContainerFault;
-use object_state::CloseOption;
 use std::alloc::{AllocError, Global};
 use wire_msgs::message::Message;
 use wire_msgs::operation::Operation;
@@ -10,18 +9,12 @@ use wire_msgs::operation::Operation;
 fn operation_name(operation: &Operation) -> &'static str {
     match operation {
         Operation::InitNew(_) => "InitNew",
-        Operation::InPlace => "InPlace",
-        Operation::UiActivate(1) => "UiActivate 1",
-        Operation::UiDeactivate => "UiDeactivate",
-        Operation::InPlaceDeactivate => "InPlaceDeactivate",
         Operation::Edit(_) => "Edit",
-        Operation::Save(2) => "Save 2",
-        Operation::SaveCompleted {
-            save: 2,
-            storage: false,
-        } => "SaveCompleted 2",
-        Operation::Close(CloseOption::SaveIfDirty) => "Close save",
-        Operation::Close(CloseOption::NoSave) => "Close nosave",
+        Operation::Save(_) => "Save",
+        Operation::SaveCompleted { .. } => "SaveCompleted",
+        Operation::InPlace => "InPlace",
+        Operation::UiActivate(_) => "UiActivate",
+        Operation::Close(_) => "Close",
         _ => "another",
     }
 }
@@ -61,17 +54,15 @@ fn action_text(alloc: Global, action: &Action) -> Result<String, AllocError> {
     }
 }
 
-fn push_made(alloc: Global, text: &mut String, made: &str, n: Option<u32>) -> Result<(), AllocError> {
+fn push_made(
+    alloc: Global,
+    text: &mut String,
+    made: &str,
+    n: Option<u32>,
+) -> Result<(), AllocError> {
     if let Some(n) = n {
-        let n = format!(in alloc; " {made} {n}")?;
-        text.push_str(&n)?;
-    }
-    Ok(())
-}
-
-fn push_told(text: &mut String, told: &str, is_told: bool) -> Result<(), AllocError> {
-    if is_told {
-        text.push_str(told)?;
+        text.push_str(made)?;
+        text.push_str(&n.to_string(alloc)?)?;
     }
     Ok(())
 }
@@ -79,11 +70,17 @@ fn push_told(text: &mut String, told: &str, is_told: bool) -> Result<(), AllocEr
 /// What was made, and then what is to be done.
 fn answer_text(alloc: Global, answer: &Answer) -> Result<String, AllocError> {
     let mut text = String::new(alloc);
-    push_made(alloc, &mut text, "frame", answer.frame)?;
-    push_made(alloc, &mut text, "object", answer.objects.as_slice().first().copied())?;
-    push_made(alloc, &mut text, "server", answer.server)?;
-    push_told(&mut text, " taken", answer.taken)?;
-    push_told(&mut text, " notools", answer.no_tools)?;
+    push_made(alloc, &mut text, " frame ", answer.frame)?;
+    push_made(
+        alloc,
+        &mut text,
+        " object ",
+        answer.objects.as_slice().first().copied(),
+    )?;
+    push_made(alloc, &mut text, " server ", answer.server)?;
+    if answer.taken {
+        text.push_str(" taken")?;
+    }
     for action in answer.actions.as_slice() {
         let action = action_text(alloc, action)?;
         text.push_str(&action)?;
@@ -111,7 +108,7 @@ pub(crate) fn answered(
 fn committed_text(alloc: Global, committed: &Committed) -> Result<String, AllocError> {
     let mut text = answer_text(alloc, &committed.answer)?;
     for done in committed.counted.as_slice() {
-        push_made(alloc, &mut text, "counted", Some(done.object))?;
+        push_made(alloc, &mut text, " counted ", Some(done.object))?;
     }
     Ok(text)
 }

@@ -21,7 +21,7 @@ screen => NoSuch
 new a.ole 12 4 => frame 1
 save 1 => commit 1
 document => 0
-file => 0 0 aa missing true
+file => 0 true
 done 1 =>
 insert 1 note 1 1 5 2 => object 1
 screen => a note
@@ -35,40 +35,30 @@ states => Idle, Free, active, empty
 edit 1 x => call 2 Edit
 pending => call 2 Edit
 reply 2 done =>
-save 1 => call 3 Save 2
+write 2 small => Stale
+write 1 large => BadAnswer
+save 1 => call 3 Save
 states => Saving, Free, active, empty
 astray reply 3 small => WrongLink
 reply 3 done => BadAnswer
 reply 3 small => commit 1
 states => Committing, Free, active, empty
 document => 1
-file => 1 1 aa of 5 6 true
-done 1 => call 4 SaveCompleted 2 counted 1
+file => 1 true
+done 1 => call 4 SaveCompleted counted 1
 states => Idle, Free, active
 document => WrongState
 reply 4 done =>
-write 3 small => Stale
-write 2 large => BadAnswer
 write 2 small => taken
 verb 1 -4 => call 5 InPlace
-reply 5 done => call 6 UiActivate 1
+reply 5 done => call 6 UiActivate
 states => Idle, Granting, active
 reply 6 done => BadAnswer
-reply 6 tools => notools
-states => Idle, Held, active
-asks 2 => Stale
-close 1 save => call 7 UiDeactivate
-states => Idle, Revoking, active
-reply 7 done => call 8 InPlaceDeactivate
-reply 8 done => call 9 Close save
-reply 9 done => BadAnswer
-reply 9 large => BadAnswer
-reply 9 small => taken
-states => Idle, Free, passive
-pending =>
 kill 1 => end 1
 reap 1 =>
 reap 1 => NoSuch
+pending =>
+states => Idle, Free, passive
 numbers => 1 of 1
 sizes => 1 1 100
 anew =>
@@ -77,7 +67,18 @@ insert 1 note 1 1 5 2 => object 1
 start => server 1 start 1
 run 1 1 => call 1 InitNew
 reply 1 done =>
-close 1 nosave => call 2 Close nosave
+close 1 save => call 2 Close
+reply 2 done => BadAnswer
+reply 2 large => BadAnswer
+reply 2 small => taken
+states => Idle, Free, passive
+anew =>
+new a.ole 12 4 => frame 1
+insert 1 note 1 1 5 2 => object 1
+start => server 1 start 1
+run 1 1 => call 1 InitNew
+reply 1 done =>
+close 1 nosave => call 2 Close
 reply 2 small => BadAnswer
 reply 2 done =>
 states => Idle, Free, passive, empty";
@@ -96,7 +97,7 @@ fn shown(alloc: Global, core: &ContainerCore, row: &str) -> Result<String, Fail>
         [b's', b'i', ..] => Ok(sizes(alloc, core)?),
         [b's', b'c', ..] => Ok(screen(alloc, core, 1)?),
         [b's', ..] => Ok(states(alloc, core)?),
-        _ => file(alloc, core),
+        _ => Ok(file(alloc, core)?),
     }
 }
 
@@ -107,13 +108,11 @@ fn heard(alloc: Global, core: &mut ContainerCore, row: &str) -> Result<String, F
             *core = container(alloc);
             Ok(String::new(alloc))
         }
-        [b'a', b's', b't', ..] => {
+        [b'a', ..] => {
             let (_, row) = halves(row, " ");
             Ok(answered(alloc, messaged(alloc, core, 2, row)?)?)
         }
-        [b'r', ..] | [b'w', ..] | [b'a', ..] => {
-            Ok(answered(alloc, messaged(alloc, core, 1, row)?)?)
-        }
+        [b'r', ..] | [b'w', ..] => { Ok(answered(alloc, messaged(alloc, core, 1, row)?)?) }
         _ => shown(alloc, core, row),
     }
 }

@@ -7,7 +7,6 @@ use container_model::answer::Answer;
 use container_model::fault::ContainerFault;
 use embed_core::words::number;
 use object_parts::limits::MOST_BYTES;
-use object_state::Menus;
 use std::alloc::Global;
 use std::test::Fail;
 use storage_tree::bytes::Bytes;
@@ -52,25 +51,15 @@ fn content(alloc: Global, word: &str) -> Result<Stored, Fail> {
     }
 }
 
-/// What an object wants of its frame: a border as wide as the frame.
-fn tools() -> Result<Said, Fail> {
-    let menus = Menus::new(b"Edit", b"Note", b"Help").ok_or("three texts")?;
-    Ok(Said::Tools {
-        menus,
-        border: [80, 1, 0, 0],
-    })
-}
-
 fn said(alloc: Global, word: &str) -> Result<Said, Fail> {
     match word.as_bytes() {
         [b'd', ..] => Ok(Said::Done),
-        [b't', ..] => tools(),
         _ => Ok(Said::Content(content(alloc, word)?)),
     }
 }
 
-/// `reply N WORD` to call N: `done`, `tools`, or a content that is `small` or `large`; `write S WORD` of a content under grant
-/// S, with S as its number; `asks G` of an activation that would be relieved of its frame. All are of activation 1 of server 1.
+/// `reply N WORD` to call N: `done`, or a content that is `small` or `large`; `write S WORD` of a content under grant S, with S
+/// as its number. They are of activation 1 of server 1.
 fn message(alloc: Global, verb: &str, n: u32, word: &str) -> Result<Message, Fail> {
     let (inc, act) = (1, 1);
     match verb.as_bytes() {
@@ -80,14 +69,13 @@ fn message(alloc: Global, verb: &str, n: u32, word: &str) -> Result<Message, Fai
             n,
             answer: said(alloc, word)?,
         }),
-        [b'w', ..] => Ok(Message::Write {
+        _ => Ok(Message::Write {
             inc,
             act,
             s: n,
             w: n,
             content: content(alloc, word)?,
         }),
-        _ => Ok(Message::Ask { inc, act, g: n }),
     }
 }
 

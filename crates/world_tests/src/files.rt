@@ -23,7 +23,8 @@ fn text_of(object: &DocObject, name: &Name) -> &'static str {
 fn text_of_one(doc: &Doc, name: &Name) -> &'static str {
     match doc.as_slice() {
         [object] => text_of(object, name),
-        _ => "not one object",
+        [] => "no object",
+        _ => "many objects",
     }
 }
 

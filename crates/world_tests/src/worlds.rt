@@ -37,13 +37,17 @@ deliver 8";
 const REPORT: &str =
     "frame 1 a Free k 1 stored\nobject 1 frame 1 Note Running Normal act 1 s 2 Text=6161\ndone container 1 1\ndone server 1 1\n";
 
-/// What the note writes, and its content when it is closed; then a command that is refused, and a call that is dropped.
+/// What the note writes, and its content when it is closed; a frame without objects that is saved; then a command that is
+/// refused, and a call that is dropped.
 const CLOSED: &str = "scribble 1 1
 deliver 9
 close 1 save
 deliver 10
 deliver 11
+new b 40 10
 save 2
+done 2
+save 3
 deliver 1";
 
 fn boxed(alloc: Global, tally: &Tally) -> Result<Box<dyn Embedded>, AllocError> {
@@ -127,7 +131,12 @@ fn worlds_show_what_happened(rt: HostRuntime) -> Result<(), Fail> {
     let alloc = rt.alloc();
     let mut world = world(alloc)?;
     drop(run_all(alloc, &mut world, SAVED)?);
-    expect(&rt, alloc, &world, "events 15 sent 8 frames 1, container 1 1, server 1 1 1, counted 1 1")?;
+    expect(
+        &rt,
+        alloc,
+        &world,
+        "events 15 sent 8 frames 1, container 1 1, server 1 1 1, counted 1 1",
+    )?;
     expect_file(&rt, alloc, &world, 1, "aa")?;
     expect_file(&rt, alloc, &world, 2, "none")?;
     drop(run_all(alloc, &mut world, CLOSED)?);
@@ -135,11 +144,12 @@ fn worlds_show_what_happened(rt: HostRuntime) -> Result<(), Fail> {
         &rt,
         alloc,
         &world,
-        "events 22 sent 11 frames 1, container 1 1, server 1 1 1, taken 9 1 1 1 2, taken 11 1 1 1 2, counted 1 1",
+        "events 25 sent 11 frames 2, container 1 1, server 1 1 1, taken 9 1 1 1 2, taken 11 1 1 1 2, counted 1 1",
     )?;
+    expect_file(&rt, alloc, &world, 2, "no object")?;
     expect_answer(&rt, &world, 1, "took")?;
-    expect_answer(&rt, &world, 21, "refused")?;
-    expect_answer(&rt, &world, 22, "dropped")
+    expect_answer(&rt, &world, 24, "refused")?;
+    expect_answer(&rt, &world, 25, "dropped")
 }
 
 /// Runs events one after the other, and each again where memory ran out: whether all were taken.
