@@ -13,6 +13,7 @@ use std::alloc::{AllocError, Global};
 use std::io::{Read, Write};
 use texts::path::Path;
 use texts::report::Report;
+use world_model::event::Stop;
 use world_run::stock::Stock;
 
 fn printed(alloc: Global, report: Report<'_>) -> Result<String, AllocError> {
@@ -113,26 +114,23 @@ pub(crate) fn clean<R: Read, W: Write>(
     }
 }
 
-/// Events of a container without objects in stock.
 fn simulated<R: Read, W: Write>(
     alloc: Global,
     reader: &mut R,
     writer: &mut W,
-) -> Result<(), SimulateFault> {
-    let limits = Limits { numbers: 1000 };
-    match simulate(alloc, reader, writer, limits, Stock::new(alloc)) {
-        Ok(_) => Ok(()),
-        Err(fault) => Err(fault),
-    }
+    stock: Stock,
+) -> Result<Option<Stop>, SimulateFault> {
+    simulate(alloc, reader, writer, Limits { numbers: 1000 }, stock)
 }
 
+/// Events of a container without objects in stock.
 pub(crate) fn run<R: Read, W: Write>(
     alloc: Global,
     reader: &mut R,
     writer: &mut W,
 ) -> Result<String, AllocError> {
-    match simulated(alloc, reader, writer) {
-        Ok(()) => String::from_str(alloc, "run"),
+    match simulated(alloc, reader, writer, Stock::new(alloc)) {
+        Ok(_) => String::from_str(alloc, "run"),
         Err(fault) => printed(alloc, fault.report("e")),
     }
 }
