@@ -1,11 +1,10 @@
-//! Tests of the commands over readers and writers: tables of texts, and readers and writers that fail.
+//! Tests of the commands over readers and writers that fail, which the built program can't show. All else of them is shown by
+//! the cases of `tests/cli`.
 #![tactic(auto)]
 
 #[cfg(test)]
+mod commands;
+#[cfg(test)]
 mod ends;
 #[cfg(test)]
-mod files;
-#[cfg(test)]
-mod simulations;
-#[cfg(test)]
-mod trees;
+mod refusals;

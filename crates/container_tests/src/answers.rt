@@ -2,7 +2,6 @@
 
 use container_model::answer::{Action, Answer, Committed};
 use container_model::fault::ContainerFault;
-use object_state::CloseOption;
 use std::alloc::{AllocError, Global};
 use wire_msgs::message::Message;
 use wire_msgs::operation::Operation;
@@ -10,20 +9,12 @@ use wire_msgs::operation::Operation;
 fn operation_name(operation: &Operation) -> &'static str {
     match operation {
         Operation::InitNew(_) => "InitNew",
-        Operation::InPlace => "InPlace",
-        Operation::UiActivate(1) => "UiActivate 1",
-        Operation::UiActivate(2) => "UiActivate 2",
-        Operation::UiDeactivate => "UiDeactivate",
-        Operation::InPlaceDeactivate => "InPlaceDeactivate",
-        Operation::OpenWindow => "OpenWindow",
         Operation::Edit(_) => "Edit",
-        Operation::Save(1) => "Save 1",
-        Operation::SaveCompleted {
-            save: 1,
-            storage: false,
-        } => "SaveCompleted 1",
-        Operation::Close(CloseOption::SaveIfDirty) => "Close save",
-        Operation::Close(CloseOption::NoSave) => "Close drop",
+        Operation::Save(_) => "Save",
+        Operation::SaveCompleted { .. } => "SaveCompleted",
+        Operation::InPlace => "InPlace",
+        Operation::UiActivate(_) => "UiActivate",
+        Operation::Close(_) => "Close",
         _ => "another",
     }
 }
@@ -45,12 +36,9 @@ fn message_text(alloc: Global, message: &Message) -> Result<String, AllocError> 
 }
 
 /// Calls that are sent once more.
-pub(crate) fn resent(
-    alloc: Global,
-    calls: Result<Vec<Message>, AllocError>,
-) -> Result<String, AllocError> {
+pub(crate) fn resent(alloc: Global, calls: &[Message]) -> Result<String, AllocError> {
     let mut text = String::new(alloc);
-    for call in calls?.as_slice() {
+    for call in calls {
         let call = message_text(alloc, call)?;
         text.push_str(&call)?;
     }
@@ -66,32 +54,32 @@ fn action_text(alloc: Global, action: &Action) -> Result<String, AllocError> {
     }
 }
 
-fn push_made(alloc: Global, text: &mut String, made: &str, n: u32) -> Result<(), AllocError> {
-    let n = format!(in alloc; " {made} {n}")?;
-    text.push_str(&n)?;
+fn push_made(
+    alloc: Global,
+    text: &mut String,
+    made: &str,
+    n: Option<u32>,
+) -> Result<(), AllocError> {
+    if let Some(n) = n {
+        text.push_str(made)?;
+        text.push_str(&n.to_string(alloc)?)?;
+    }
     Ok(())
 }
 
 /// What was made, and then what is to be done.
 fn answer_text(alloc: Global, answer: &Answer) -> Result<String, AllocError> {
     let mut text = String::new(alloc);
-    if let Some(frame) = answer.frame {
-        push_made(alloc, &mut text, "frame", frame)?;
-    }
-    for object in answer.objects.as_slice() {
-        push_made(alloc, &mut text, "object", *object)?;
-    }
-    if let Some(server) = answer.server {
-        push_made(alloc, &mut text, "server", server)?;
-    }
-    if let Some(refusal) = answer.refused {
-        push_made(alloc, &mut text, "refused", u32::from(refusal.code()))?;
-    }
+    push_made(alloc, &mut text, " frame ", answer.frame)?;
+    push_made(
+        alloc,
+        &mut text,
+        " object ",
+        answer.objects.as_slice().first().copied(),
+    )?;
+    push_made(alloc, &mut text, " server ", answer.server)?;
     if answer.taken {
         text.push_str(" taken")?;
-    }
-    if answer.no_tools {
-        text.push_str(" notools")?;
     }
     for action in answer.actions.as_slice() {
         let action = action_text(alloc, action)?;
@@ -117,19 +105,21 @@ pub(crate) fn answered(
     }
 }
 
+fn committed_text(alloc: Global, committed: &Committed) -> Result<String, AllocError> {
+    let mut text = answer_text(alloc, &committed.answer)?;
+    for done in committed.counted.as_slice() {
+        push_made(alloc, &mut text, " counted ", Some(done.object))?;
+    }
+    Ok(text)
+}
+
 /// What a commit that is done led to, and the objects that were counted.
 pub(crate) fn committed(
     alloc: Global,
     outcome: Result<Committed, ContainerFault>,
 ) -> Result<String, AllocError> {
     match outcome {
-        Ok(committed) => {
-            let mut text = answer_text(alloc, &committed.answer)?;
-            for done in committed.counted.as_slice() {
-                push_made(alloc, &mut text, "counted", done.object)?;
-            }
-            Ok(text)
-        }
+        Ok(committed) => committed_text(alloc, &committed),
         Err(fault) => fault_text(alloc, fault),
     }
 }

@@ -1,238 +1,126 @@
-//! Containers: what they are told, and what they answer. Tables are texts, a line each: what is told, and the answer
-//! behind ` =>`; and the functions have no contracts: so the tests are quick to prove.
+//! Containers: what they are told, and what they answer. The table is a text, a line each: what is told or looked at, and the
+//! answer behind ` =>`; and the functions have no contracts: so the test is quick to prove.
 
-use crate::answers::{answered, committed, resent};
-use crate::commands::commanded;
-use crate::files::{document, file, frame_numbers, grant, object, object_numbers, phase, sizes};
-use crate::messages::{asked, reaped, replied, written};
+use crate::answers::answered;
+use crate::events::{event, happened};
+use crate::files::{document, file};
+use crate::messages::messaged;
+use crate::shown::{numbers, pending, screen, sizes, states};
 use crate::words::halves;
 use container_core::container::{ContainerCore, Limits};
-use container_model::answer::Committed;
-use container_model::fault::ContainerFault;
-use std::alloc::{AllocError, Global};
+use std::alloc::Global;
 use std::process::Abort;
 use std::test::Fail;
 
-/// An object that runs.
-const RUN: &str = "new a.ole => frame 1
-insert note 10 => object 1
-start => server 1 start 1
-run => call 1 InitNew
-edit => Busy
-done 1 1 =>";
-
-const REFUSED: &str = "new a.ole => Busy
-save 2 => NoSuch
-insert table 0 => WrongState
-delete 1 => WrongState
-delete 2 => NoSuch
-kill 2 => NoSuch
-edit => call 2 Edit
-bad_edit 1 2 => refused 1
-object => active, empty
-document => WrongState";
-
-const SAVED: &str = "edit => call 2 Edit
-done 1 2 =>
-save 1 => call 3 Save 1
-save 1 => Busy
-phase => Saving
-done 1 2 => Stale
-done 2 3 => WrongLink
-done 1 3 => BadAnswer
-content 1 3 => commit 1
-phase => Committing
-object => active, empty
-document => 1
-file => 1 1 aa of 5 6 true
-committed => call 4 SaveCompleted 1 counted 1
-object => active
-document => WrongState";
-
-const REAPED: &str = "save 1 => call 2 Save 1
-reap => commit 1
-object => passive, empty
-reap => NoSuch";
-
-const ANSWERED: &str = "save 1 => call 2 Save 1
-content 1 2 => commit 1
-reap =>
-object => passive";
-
-/// An object that is closed, with its content and without.
-const CLOSED: &str = "close save => call 2 Close save
-close drop => Busy
-done 1 2 => BadAnswer
-large_content 1 2 => BadAnswer
-content 1 2 => taken
-content 1 2 => Stale
-object => passive
-close save => NotRunning
-delete 1 =>
-object => none
-insert note 10 => object 2";
-
-const DROPPED: &str = "close drop => call 2 Close drop
-content 1 2 => BadAnswer
-done 1 2 =>
-object => passive, empty";
-
-/// Writes under a storage grant, and while a save is asked.
-const WRITTEN: &str = "write 2 1 => Stale
-xwrite 1 1 => BadAnswer
-write 1 1 => taken
-write 1 1 => Stale
-object => active
-save 1 => call 2 Save 1
-write 1 2 => Stale
-content 1 2 => commit 1
-write 1 2 => Stale
-committed => call 3 SaveCompleted 1 counted 1
-done 1 3 =>
-write 1 2 => Stale
-write 2 2 => taken";
-
-/// A server that is killed, and calls that are sent once more.
-const KILLED: &str = "twice =>
-edit => call 2 Edit
-twice => call 2 Edit
-kill 1 => end 1
-write 1 1 => taken
-reap =>
-write 1 2 => Stale
-kill 1 => NoSuch
-object => passive
-twice =>
-delete 1 =>";
-
-/// Verbs, by their numbers without the minus sign: an object takes its frame, offers it back, takes it again and gives it up.
-const VERBS: &str = "grant => Free
-verb 1 3 =>
-verb 1 9 => WrongState
-verb 2 4 => NoSuch
-verb 1 4 => call 2 InPlace
-verb 1 4 => Busy
-save 1 => Busy
-grant => Granting
-done 1 2 => call 3 UiActivate 1
-done 1 3 => BadAnswer
-tools 1 3 =>
-grant => Held
-verb 1 4 =>
-ask 2 => Stale
-ask 1 => call 4 UiDeactivate
-ask 1 => Stale
-grant => Revoking
-done 1 4 =>
-grant => Free
-verb 1 1 => call 5 UiActivate 2
-tools_wide 1 5 => notools
-grant => Held
-verb 1 2 => call 6 UiDeactivate
-done 1 6 => call 7 InPlaceDeactivate
-grant => Free
-done 1 7 => call 8 OpenWindow
-done 1 8 =>
-verb 1 0 => WrongState
-close drop => call 9 InPlaceDeactivate
-done 1 9 => call 10 Close drop
-done 1 10 =>
-verb 1 4 => NotRunning";
-
-/// The end of a server whose object has a frame.
-const HELD: &str = "verb 1 0 => call 2 InPlace
-done 1 2 => call 3 UiActivate 1
-tools 1 3 =>
-kill 1 => end 1
-grant => Held
-reap =>
-grant => Free
-tools 1 3 => Stale
-ask 1 => Stale
-verb 1 4 => NotRunning
-made => 1 of 1";
-
-/// As many frames and servers as there may be.
-const FULL: &str = "new b => frame 2
-new c => frame 3
-new d => frame 4
-new e => frame 5
-new f => frame 6
-new g => frame 7
-new h => frame 8
-new i => Full
-start => server 2 start 2
-start => server 3 start 3
-start => server 4 start 4
-start => server 5 start 5
-start => server 6 start 6
-start => server 7 start 7
-start => server 8 start 8
-start => Full
-insert table 1 => object 2
-sizes => 8 2 100";
-
-/// A frame whose object doesn't run.
-const ALONE: &str = "document => NoSuch
+/// `anew` is a new container. Messages come on the link of server 1, those behind `astray` on that of server 2.
+const ROWS: &str = "document => NoSuch
 file => NoSuch
-committed => NoSuch
-new a.ole => frame 1
-insert note 10 => object 1
-edit => NotRunning
+done 1 => NoSuch
+states => none, none, none
+screen => NoSuch
+new a.ole 12 4 => frame 1
 save 1 => commit 1
-phase => Committing
-sizes => 1 1 100";
+document => 0
+file => 0 true
+done 1 =>
+insert 1 note 1 1 5 2 => object 1
+screen => a note
+start => server 1 start 1
+run 1 1 => call 1 InitNew
+pending => call 1 InitNew
+reply 1 done =>
+pending =>
+document => WrongState
+states => Idle, Free, active, empty
+edit 1 x => call 2 Edit
+pending => call 2 Edit
+reply 2 done =>
+write 2 small => Stale
+write 1 large => BadAnswer
+save 1 => call 3 Save
+states => Saving, Free, active, empty
+astray reply 3 small => WrongLink
+reply 3 done => BadAnswer
+reply 3 small => commit 1
+states => Committing, Free, active, empty
+document => 1
+file => 1 true
+done 1 => call 4 SaveCompleted counted 1
+states => Idle, Free, active
+document => WrongState
+reply 4 done =>
+write 2 small => taken
+verb 1 -4 => call 5 InPlace
+reply 5 done => call 6 UiActivate
+states => Idle, Granting, active
+reply 6 done => BadAnswer
+kill 1 => end 1
+reap 1 =>
+reap 1 => NoSuch
+pending =>
+states => Idle, Free, passive
+numbers => 1 of 1
+sizes => 1 1 100
+anew =>
+new a.ole 12 4 => frame 1
+insert 1 note 1 1 5 2 => object 1
+start => server 1 start 1
+run 1 1 => call 1 InitNew
+reply 1 done =>
+close 1 save => call 2 Close
+reply 2 done => BadAnswer
+reply 2 large => BadAnswer
+reply 2 small => taken
+states => Idle, Free, passive
+anew =>
+new a.ole 12 4 => frame 1
+insert 1 note 1 1 5 2 => object 1
+start => server 1 start 1
+run 1 1 => call 1 InitNew
+reply 1 done =>
+close 1 nosave => call 2 Close
+reply 2 small => BadAnswer
+reply 2 done =>
+states => Idle, Free, passive, empty";
 
-/// A frame without objects.
-const EMPTY: &str = "new a => frame 1
-save 1 => commit 1
-file => 0 0 aa missing true";
-
-fn commit(alloc: Global, core: &mut ContainerCore) -> Result<Committed, ContainerFault> {
-    core.commit_done(alloc, 1)
+/// A container that gives numbers up to 100.
+fn container(alloc: Global) -> ContainerCore {
+    ContainerCore::new(alloc, Limits { numbers: 100 })
 }
 
-/// The numbers of frames, and those of objects.
-fn numbers(alloc: Global, core: &ContainerCore) -> Result<String, AllocError> {
-    let mut text = frame_numbers(alloc, core)?;
-    text.push_str(" of")?;
-    let objects = object_numbers(alloc, core)?;
-    text.push_str(&objects)?;
-    Ok(text)
-}
-
-fn shown(alloc: Global, core: &ContainerCore, verb: &str) -> Result<String, Fail> {
-    match verb.as_bytes() {
-        [b'o', ..] => Ok(String::from_str(alloc, object(core))?),
-        [b'p', ..] => Ok(String::from_str(alloc, phase(core))?),
-        [b'g', ..] => Ok(String::from_str(alloc, grant(core))?),
-        [b'm', ..] => Ok(numbers(alloc, core)?),
-        [b's', ..] => Ok(sizes(alloc, core)?),
-        [b'f', ..] => file(alloc, core),
-        _ => Ok(document(alloc, core)?),
+/// What a container shows.
+fn shown(alloc: Global, core: &ContainerCore, row: &str) -> Result<String, Fail> {
+    match row.as_bytes() {
+        [b'p', ..] => Ok(pending(alloc, core)?),
+        [b'd', ..] => Ok(document(alloc, core)?),
+        [b'n', ..] => Ok(numbers(alloc, core)?),
+        [b's', b'i', ..] => Ok(sizes(alloc, core)?),
+        [b's', b'c', ..] => Ok(screen(alloc, core, 1)?),
+        [b's', ..] => Ok(states(alloc, core)?),
+        _ => Ok(file(alloc, core)?),
     }
 }
 
-/// What a container makes of what isn't a command.
-fn heard(alloc: Global, core: &mut ContainerCore, verb: &str, rest: &str) -> Result<String, Fail> {
-    match verb.as_bytes() {
-        [b'r', ..] => Ok(answered(alloc, reaped(alloc, core))?),
-        [b'c', b'o', b'm', ..] => Ok(committed(alloc, commit(alloc, core))?),
-        [b't', b'w', ..] => Ok(resent(alloc, core.resend(alloc))?),
-        [b'a', ..] => Ok(answered(alloc, asked(alloc, core, rest))?),
-        [b'w', ..] | [b'x', ..] => Ok(answered(alloc, written(alloc, core, verb, rest)?)?),
-        [b'b', ..] | [b'c', ..] | [b'l', ..] | [b't', ..] | [b'd', b'o', b'n', ..] => {
-            Ok(answered(alloc, replied(alloc, core, verb, rest)?)?)
+/// What a container answers to a row that spells no event, or what it shows.
+fn heard(alloc: Global, core: &mut ContainerCore, row: &str) -> Result<String, Fail> {
+    match row.as_bytes() {
+        [b'a', b'n', ..] => {
+            *core = container(alloc);
+            Ok(String::new(alloc))
         }
-        _ => shown(alloc, core, verb),
+        [b'a', ..] => {
+            let (_, row) = halves(row, " ");
+            Ok(answered(alloc, messaged(alloc, core, 2, row)?)?)
+        }
+        [b'r', ..] | [b'w', ..] => { Ok(answered(alloc, messaged(alloc, core, 1, row)?)?) }
+        _ => shown(alloc, core, row),
     }
 }
 
 fn told(alloc: Global, core: &mut ContainerCore, row: &str) -> Result<String, Fail> {
-    let (verb, rest) = halves(row, " ");
-    match commanded(alloc, core, verb, rest)? {
-        Some(answer) => Ok(answered(alloc, answer)?),
-        None => heard(alloc, core, verb, rest),
+    match event(alloc, row)? {
+        Some(event) => Ok(happened(alloc, core, event)?),
+        None => heard(alloc, core, row),
     }
 }
 
@@ -243,30 +131,11 @@ fn expect(rt: &impl Abort, alloc: Global, core: &mut ContainerCore, row: &str) -
     Ok(())
 }
 
-/// A container that gives numbers up to 100.
-fn container(alloc: Global) -> ContainerCore {
-    ContainerCore::new(alloc, Limits { numbers: 100 })
-}
-
-/// A new container is told these rows, and then those.
-fn assert_told(rt: &impl Abort, alloc: Global, before: &str, rows: &str) -> Result<(), Fail> {
-    let mut core = container(alloc);
-    for row in before.split('\n') {
-        expect(rt, alloc, &mut core, row)?;
-    }
-    for row in rows.split('\n') {
-        expect(rt, alloc, &mut core, row)?;
-    }
-    Ok(())
-}
-
 #[test]
 fn containers_answer_what_they_are_told(rt: HostRuntime) -> Result<(), Fail> {
-    for rows in [
-        REFUSED, SAVED, REAPED, ANSWERED, CLOSED, DROPPED, WRITTEN, KILLED, VERBS, HELD, FULL,
-    ] {
-        assert_told(&rt, rt.alloc(), RUN, rows)?;
+    let mut core = container(rt.alloc());
+    for row in ROWS.split('\n') {
+        expect(&rt, rt.alloc(), &mut core, row)?;
     }
-    assert_told(&rt, rt.alloc(), ALONE, "phase => Committing")?;
-    assert_told(&rt, rt.alloc(), EMPTY, "document => 0")
+    Ok(())
 }

@@ -1,17 +1,17 @@
-//! Tests of containers by their public calls.
+//! Tests of containers by their public calls: what no run of the built program shows.
 #![tactic(auto)]
 
 #[cfg(test)]
 mod answers;
 #[cfg(test)]
-mod commands;
-#[cfg(test)]
 mod containers;
+#[cfg(test)]
+mod events;
 #[cfg(test)]
 mod files;
 #[cfg(test)]
 mod messages;
 #[cfg(test)]
-mod screens;
+mod shown;
 #[cfg(test)]
 mod words;

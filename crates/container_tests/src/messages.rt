@@ -1,12 +1,12 @@
-//! Replies of a server, and its end, as rows spell them.
+//! Messages of a server, as rows spell them: also such as no server of the program sends.
 
-use crate::words::{halves, number};
+use crate::words::halves;
 use cfb_names::name::Name;
 use container_core::container::ContainerCore;
 use container_model::answer::Answer;
 use container_model::fault::ContainerFault;
+use embed_core::words::number;
 use object_parts::limits::MOST_BYTES;
-use object_state::Menus;
 use std::alloc::Global;
 use std::test::Fail;
 use storage_tree::bytes::Bytes;
@@ -14,7 +14,6 @@ use storage_tree::stored::Stored;
 use storage_tree::streams::NamedStream;
 use wire_msgs::answer::Answer as Said;
 use wire_msgs::message::Message;
-use wire_msgs::refusal::Refusal;
 
 fn bytes(alloc: Global, bytes: &[u8]) -> Result<Bytes, Fail> {
     Ok(Bytes::from_slice(alloc, bytes)?)
@@ -28,7 +27,7 @@ fn stream(alloc: Global, name: &[u8], content: &[u8]) -> Result<NamedStream, Fai
 }
 
 /// A content of two streams and a picture.
-fn content(alloc: Global) -> Result<Stored, Fail> {
+fn small(alloc: Global) -> Result<Stored, Fail> {
     let mut content = Stored::new(alloc);
     content.streams.push(stream(alloc, b"B", &[4])?)?;
     content.streams.push(stream(alloc, b"AA", &[5, 6])?)?;
@@ -45,42 +44,39 @@ fn large(alloc: Global) -> Result<Stored, Fail> {
     Ok(content)
 }
 
-/// What an object wants of its frame: a border as wide as is told.
-fn tools(left: u16) -> Result<Said, Fail> {
-    let menus = Menus::new(b"Edit", b"Note", b"Help").ok_or("three texts")?;
-    Ok(Said::Tools {
-        menus,
-        border: [left, 1, 0, 0],
-    })
-}
-
-fn said(alloc: Global, verb: &str) -> Result<Said, Fail> {
-    match verb.as_bytes() {
-        [b't', b'o', b'o', b'l', b's'] => tools(2),
-        [b't', ..] => tools(80),
-        [b'c', ..] => Ok(Said::Content(content(alloc)?)),
-        [b'l', ..] => Ok(Said::Content(large(alloc)?)),
-        [b'b', ..] => Ok(Said::Refused(Refusal::BadEdit)),
-        _ => Ok(Said::Done),
+fn content(alloc: Global, word: &str) -> Result<Stored, Fail> {
+    match word.as_bytes() {
+        [b'l', ..] => large(alloc),
+        _ => small(alloc),
     }
 }
 
-/// A reply of activation 1 of server 1 on the link of a server: `done LINK N`, `content LINK N`,
-/// `large_content LINK N`, `bad_edit LINK N`, `tools LINK N`, or `tools_wide LINK N` with a border as wide as the frame.
-pub(crate) fn replied(
-    alloc: Global,
-    core: &mut ContainerCore,
-    verb: &str,
-    rest: &str,
-) -> Result<Result<Answer, ContainerFault>, Fail> {
-    let (link, n) = halves(rest, " ");
-    let message = Message::Reply {
-        inc: 1,
-        act: 1,
-        n: number(n),
-        answer: said(alloc, verb)?,
-    };
-    Ok(core.on_message(alloc, number(link), message))
+fn said(alloc: Global, word: &str) -> Result<Said, Fail> {
+    match word.as_bytes() {
+        [b'd', ..] => Ok(Said::Done),
+        _ => Ok(Said::Content(content(alloc, word)?)),
+    }
+}
+
+/// `reply N WORD` to call N: `done`, or a content that is `small` or `large`; `write S WORD` of a content under grant S, with S
+/// as its number. They are of activation 1 of server 1.
+fn message(alloc: Global, verb: &str, n: u32, word: &str) -> Result<Message, Fail> {
+    let (inc, act) = (1, 1);
+    match verb.as_bytes() {
+        [b'r', ..] => Ok(Message::Reply {
+            inc,
+            act,
+            n,
+            answer: said(alloc, word)?,
+        }),
+        _ => Ok(Message::Write {
+            inc,
+            act,
+            s: n,
+            w: n,
+            content: content(alloc, word)?,
+        }),
+    }
 }
 
 fn told(
@@ -92,43 +88,16 @@ fn told(
     core.on_message(alloc, link, message)
 }
 
-/// A write of activation 1 of server 1 on its link, or one of a content that is too large: `write S W` or `xwrite S W`.
-pub(crate) fn written(
+/// What a container answers to a message on the link of a server.
+pub(crate) fn messaged(
     alloc: Global,
     core: &mut ContainerCore,
-    verb: &str,
-    rest: &str,
+    link: u32,
+    row: &str,
 ) -> Result<Result<Answer, ContainerFault>, Fail> {
-    let (s, w) = halves(rest, " ");
-    let content = match verb.as_bytes() {
-        [b'w', ..] => content(alloc)?,
-        _ => large(alloc)?,
-    };
-    let message = Message::Write {
-        inc: 1,
-        act: 1,
-        s: number(s),
-        w: number(w),
-        content,
-    };
-    Ok(told(alloc, core, 1, message))
-}
-
-/// Activation 1 of server 1 asks to be relieved of its frame, under this grant.
-pub(crate) fn asked(
-    alloc: Global,
-    core: &mut ContainerCore,
-    rest: &str,
-) -> Result<Answer, ContainerFault> {
-    let message = Message::Ask {
-        inc: 1,
-        act: 1,
-        g: number(rest),
-    };
-    told(alloc, core, 1, message)
-}
-
-/// The end of server 1.
-pub(crate) fn reaped(alloc: Global, core: &mut ContainerCore) -> Result<Answer, ContainerFault> {
-    core.on_reap(alloc, 1)
+    let (verb, rest) = halves(row, " ");
+    let (n, word) = halves(rest, " ");
+    let n = number(n.as_bytes()).ok_or("a number")?;
+    let message = message(alloc, verb, n, word)?;
+    Ok(told(alloc, core, link, message))
 }

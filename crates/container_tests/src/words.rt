@@ -7,14 +7,3 @@ pub(crate) fn halves<'a>(text: &'a str, mark: &str) -> (&'a str, &'a str) {
         None => (text, ""),
     }
 }
-
-/// A number in decimal digits.
-pub(crate) fn number(text: &str) -> u32 {
-    let mut number: u32 = 0;
-    for digit in text.as_bytes() {
-        number = number
-            .saturating_mul(10)
-            .saturating_add(u32::from(digit.saturating_sub(b'0')));
-    }
-    number
-}

@@ -1,13 +1,11 @@
-//! Tests of worlds by their public calls.
+//! Tests of worlds by their public calls: what no run of the built program shows.
 #![tactic(auto)]
 
 #[cfg(test)]
-mod events;
+mod files;
 #[cfg(test)]
 mod reports;
 #[cfg(test)]
 mod shown;
-#[cfg(test)]
-mod words;
 #[cfg(test)]
 mod worlds;

@@ -26,10 +26,7 @@ fn write<W: Write>(alloc: Global, world: &World, writer: &mut W) -> Result<(), R
 
 /// A report that is written, tried twice.
 fn told(alloc: Global, world: &World, text: &mut Vec<u8>) -> bool {
-    if write(alloc, world, text).is_ok() {
-        return true;
-    }
-    write(alloc, world, text).is_ok()
+    write(alloc, world, text).is_ok() || write(alloc, world, text).is_ok()
 }
 
 /// A world's report, or nothing.
@@ -41,11 +38,10 @@ pub(crate) fn report(alloc: Global, world: &World) -> Vec<u8> {
     text
 }
 
-/// What comes of a report where writes fail.
-pub(crate) fn unwritten(alloc: Global, world: &World) -> &'static str {
+/// Whether a report is refused because writes fail.
+pub(crate) fn is_unwritten(alloc: Global, world: &World) -> bool {
     match write(alloc, world, &mut Closed) {
-        Ok(()) => "written",
-        Err(ReportFault::Unwritable) => "Unwritable",
-        Err(ReportFault::NoMemory) => "NoMemory",
+        Err(ReportFault::Unwritable) => true,
+        _ => false,
     }
 }

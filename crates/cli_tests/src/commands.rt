@@ -1,0 +1,136 @@
+//! The commands, and what is told of each: what it gave, or what is printed where it is refused. The functions that only call
+//! a command leave its contract behind, so that those above are quick to prove.
+
+use cfb_names::name::Name;
+use container_cli::fault::SimulateFault;
+use container_cli::simulation::simulate;
+use container_cli::container::Limits;
+use file_commands::cleaning::clean_file;
+use file_commands::commands::{list_file, make_file};
+use file_commands::fault::{CleanFault, GetFault, ListFault, MakeFault};
+use file_commands::getting::get_file;
+use std::alloc::{AllocError, Global};
+use std::io::{Read, Write};
+use texts::path::Path;
+use texts::report::Report;
+use world_model::event::Stop;
+use container_cli::stock::Stock;
+
+fn printed(alloc: Global, report: Report<'_>) -> Result<String, AllocError> {
+    report.to_string(alloc)
+}
+
+fn made<R: Read, W: Write>(
+    alloc: Global,
+    reader: &mut R,
+    writer: &mut W,
+) -> Result<usize, MakeFault> {
+    make_file(alloc, reader, writer)
+}
+
+pub(crate) fn make<R: Read, W: Write>(
+    alloc: Global,
+    reader: &mut R,
+    writer: &mut W,
+) -> Result<String, AllocError> {
+    match made(alloc, reader, writer) {
+        Ok(count) => count.to_string(alloc),
+        Err(fault) => printed(alloc, fault.report("a.ole")),
+    }
+}
+
+fn listed<R: Read, W: Write>(
+    alloc: Global,
+    reader: &mut R,
+    writer: &mut W,
+) -> Result<(), ListFault> {
+    list_file(alloc, reader, writer)
+}
+
+pub(crate) fn list<R: Read, W: Write>(
+    alloc: Global,
+    reader: &mut R,
+    writer: &mut W,
+) -> Result<String, AllocError> {
+    match listed(alloc, reader, writer) {
+        Ok(()) => String::from_str(alloc, "listed"),
+        Err(fault) => printed(alloc, fault.report("a.ole")),
+    }
+}
+
+fn got<R: Read, W: Write>(
+    alloc: Global,
+    reader: &mut R,
+    path: &[Name],
+    writer: &mut W,
+) -> Result<(), GetFault> {
+    get_file(alloc, reader, path, writer)
+}
+
+fn get_at<R: Read, W: Write>(
+    alloc: Global,
+    reader: &mut R,
+    path: &[Name],
+    writer: &mut W,
+) -> Result<String, AllocError> {
+    match got(alloc, reader, path, writer) {
+        Ok(()) => String::from_str(alloc, "written"),
+        Err(fault) => printed(alloc, fault.report("a.ole")),
+    }
+}
+
+/// The stream at a path that a word spells; a word that spells none is the root's.
+pub(crate) fn get<R: Read, W: Write>(
+    alloc: Global,
+    reader: &mut R,
+    word: &str,
+    writer: &mut W,
+) -> Result<String, AllocError> {
+    match Path::parse(alloc, word.as_bytes())? {
+        Some(path) => match path.names() {
+            Ok(names) => get_at(alloc, reader, names, writer),
+            Err(fault) => String::from_str(alloc, fault.name()),
+        },
+        None => get_at(alloc, reader, &[], writer),
+    }
+}
+
+fn cleaned<R: Read, W: Write>(
+    alloc: Global,
+    reader: &mut R,
+    writer: &mut W,
+) -> Result<usize, CleanFault> {
+    clean_file(alloc, reader, writer)
+}
+
+pub(crate) fn clean<R: Read, W: Write>(
+    alloc: Global,
+    reader: &mut R,
+    writer: &mut W,
+) -> Result<String, AllocError> {
+    match cleaned(alloc, reader, writer) {
+        Ok(count) => count.to_string(alloc),
+        Err(fault) => printed(alloc, fault.report("a.ole", "b.ole")),
+    }
+}
+
+fn simulated<R: Read, W: Write>(
+    alloc: Global,
+    reader: &mut R,
+    writer: &mut W,
+    stock: Stock,
+) -> Result<Option<Stop>, SimulateFault> {
+    simulate(alloc, reader, writer, Limits { numbers: 1000 }, stock)
+}
+
+/// Events of a container without objects in stock.
+pub(crate) fn run<R: Read, W: Write>(
+    alloc: Global,
+    reader: &mut R,
+    writer: &mut W,
+) -> Result<String, AllocError> {
+    match simulated(alloc, reader, writer, Stock::new(alloc)) {
+        Ok(_) => String::from_str(alloc, "run"),
+        Err(fault) => printed(alloc, fault.report("e")),
+    }
+}
