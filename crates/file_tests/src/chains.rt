@@ -1,212 +1,208 @@
 //! Headers and chains of small files.
 
-use crate::made::{END, FAT, FREE, changed, header, push_equal, push_table};
+use crate::texts::{number, numbers, spelled, word};
 use cfb_chain::fat::Fat;
 use cfb_chain::fault::ChainFault;
 use cfb_chain::header::Header;
 use std::alloc::Global;
+use std::process::Abort;
 use std::test::Fail;
 
-/// The number of a sector.
-fn to(n: u8) -> [u8; 4] {
-    [n, 0, 0, 0]
-}
+/// A header: the FAT in sector 0, the directory at sector 1, a mini FAT of one sector at sector 5.
+const HEADER: &str =
+    "d0cf11e0a1b11ae1,16*00,3e000300feff09000600,10*00,01000000,01000000,4*00,00100000,05000000,01000000,feffffff,8*00,432*ff";
 
-/// A file of nine sectors, whose FAT begins with these entries. Each byte of sector n after the FAT is n, but for sector 5,
-/// whose bytes are 255, and the last, of which 12 bytes are there.
-fn sample_file(alloc: Global, entries: &[[u8; 4]]) -> Result<Vec<u8>, Fail> {
-    let mut file = header(alloc, 5, 1)?;
-    push_table(&mut file, entries)?;
-    for n in 1..8u8 {
-        let byte = if n == 5 { 255 } else { n };
-        push_equal(&mut file, byte, 512)?;
-    }
-    push_equal(&mut file, 8, 12)?;
+/// Behind the FAT each byte of sector n is n, but for sector 5, which is a mini FAT of two linked sectors, and sector 8, of
+/// which 12 bytes are there.
+const SECTORS: &str = "512*01,512*02,512*03,512*04,01000000feffffff,504*ff,512*06,512*07,12*08";
+
+/// The FATs of two files.
+const LINKED: &str =
+    "fdffffff,08000000,feffffff,04000000,03000000,feffffff,c8000000,02000000,feffffff,476*ff";
+
+const MINI: &str = "fdffffff,feffffff,03000000,3*feffffff,488*ff";
+
+/// Four words a call: the call, a sector or some, how many bytes or which bytes are wanted, and what is told.
+const LINKED_CALLS: &str = "chain 3 . Cycle
+chain 6 . OutOfFile
+chain 0 . CrossLinked
+bytes 1 1025 ShortChain
+join 1 512*01,12*08,500*00 1,8
+bytes 7 513 512*07,02
+bytes 2 1 CrossLinked
+bytes 2 0 0*00
+run 6,7 . 512*06,512*07
+run 1,8 . none
+free . . -";
+
+const MINI_CALLS: &str = "free . . 6";
+
+/// What the mini stream tells, and the file then.
+const STREAM_CALLS: &str = "bytes 0 100 100*02
+chain 1 . CrossLinked
+chain 10 . OutOfFile";
+
+const LATER_CALLS: &str = "chain 5 . CrossLinked
+chain 3 . CrossLinked";
+
+/// A place in the header, a byte put there and the fault, with the field's offset where it names one.
+const FAULTS: &str = "7 e2 BadSignature 0
+26 04 Unsupported 26
+29 fe Unsupported 28
+30 0c Unsupported 30
+33 06 Unsupported 32
+58 01 Unsupported 56
+44 6e TooBig 0
+72 01 TooBig 0";
+
+fn file_of(alloc: Global, fat: &str) -> Result<Vec<u8>, Fail> {
+    let mut file = spelled(alloc, HEADER)?;
+    file.extend_from_slice(&spelled(alloc, fat)?)?;
+    file.extend_from_slice(&spelled(alloc, SECTORS)?)?;
     Ok(file)
 }
 
-/// What a result is told as.
-fn told<T: Drop>(answer: Result<T, ChainFault>) -> Option<ChainFault> {
+/// Checks that a table tells what each call wants.
+fn play(rt: &impl Abort, alloc: Global, fat: &mut Fat, calls: &str) -> Result<(), Fail> {
+    for row in calls.split('\n') {
+        let mut words = row.split_whitespace();
+        let call = word(&mut words);
+        let sector = word(&mut words);
+        let with = word(&mut words);
+        let told = carry_out(alloc, fat, call, sector, with, word(&mut words))?;
+        assert!(rt; told, "{row}");
+    }
+    Ok(())
+}
+
+fn carry_out(
+    alloc: Global,
+    fat: &mut Fat,
+    call: &str,
+    sector: &str,
+    with: &str,
+    want: &str,
+) -> Result<bool, Fail> {
+    match call {
+        "chain" => Ok(is_refused(fat.chain(alloc, number(sector)), want)),
+        "bytes" => tells(alloc, bytes(alloc, fat, number(sector), number(with)), want),
+        "join" => {
+            let sectors = numbers(alloc, want)?;
+            joins(alloc, fat, number(sector), &sectors, &spelled(alloc, with)?)
+        }
+        "run" => run_is(alloc, fat, &numbers(alloc, sector)?, want),
+        _ => Ok(free(fat) == number(want)),
+    }
+}
+
+fn free(fat: &Fat) -> u32 {
+    fat.free_sector().unwrap_or(u32::MAX)
+}
+
+fn is_refused<T: Drop>(answer: Result<T, ChainFault>, want: &str) -> bool {
     match answer {
-        Ok(_) => None,
-        Err(fault) => Some(fault),
+        Ok(_) => false,
+        Err(fault) => fault.name() == want,
     }
 }
 
-fn header_fault(bytes: &[u8]) -> Option<ChainFault> {
-    told(Header::read(bytes))
-}
-
-fn load_fault(alloc: Global, fat: &[u32], file: &[u8]) -> Option<ChainFault> {
-    match Header::new(fat, 1, 5, 1) {
-        Ok(header) => told(Fat::load(alloc, &header, file)),
-        Err(fault) => Some(fault),
-    }
-}
-
-fn chain(alloc: Global, fat: &mut Fat, start: u32) -> Result<Vec<u32>, ChainFault> {
-    fat.chain(alloc, start)
-}
-
-/// The first bytes of a chain that is marked.
+/// The first bytes of a chain, which is marked.
 fn bytes(alloc: Global, fat: &mut Fat, start: u32, len: u32) -> Result<Vec<u8>, ChainFault> {
     fat.mark_chain(start, len)?;
     let bytes = fat.held(alloc, start, len)?;
     Ok(bytes)
 }
 
-/// How many bytes there are of sectors that stand one after another, and the last of them.
-fn run(fat: &Fat, sectors: &[u32]) -> Option<(usize, Option<u8>)> {
-    let run = fat.run(sectors)?;
-    Some((run.len(), run.last().copied()))
-}
-
-/// The chain from a sector on, and its bytes.
-fn joined(alloc: Global, fat: &mut Fat, start: u32) -> Result<(Vec<u32>, Vec<u8>), ChainFault> {
-    let chain = fat.chain(alloc, start)?;
-    let bytes = fat.join(alloc, &chain)?;
-    Ok((chain, bytes))
-}
-
-fn free(fat: &Fat) -> Option<u32> {
-    fat.free_sector()
-}
-
-/// Checks the bytes at some places.
-fn hold(bytes: &[u8], want: &[(usize, Option<u8>)]) -> bool {
-    want.iter()
-        .all(|(at, byte)| bytes.get(*at).copied() == *byte)
-}
-
-#[test]
-fn headers_are_read_written_and_refused(rt: HostRuntime) -> Result<(), Fail> {
-    let bytes = header(rt.alloc(), 5, 1)?;
-    let read = Header::read(&bytes)?;
-    assert_eq!(rt; read.fat(), [0].as_slice());
-    assert_eq!(rt;
-        (
-            read.first_directory(),
-            read.first_mini_fat(),
-            read.mini_fat_count()
-        ),
-        (1, 5, 1)
-    );
-    let made = Header::new(&[0], 1, 5, 1)?;
-    assert_eq!(rt; made.write().as_slice(), bytes.as_slice());
-    let faults = [
-        (7, 0xe2, ChainFault::BadSignature),
-        (26, 4, ChainFault::Unsupported(26)),
-        (29, 0xfe, ChainFault::Unsupported(28)),
-        (30, 12, ChainFault::Unsupported(30)),
-        (33, 6, ChainFault::Unsupported(32)),
-        (58, 1, ChainFault::Unsupported(56)),
-        (44, 110, ChainFault::TooBig),
-        (72, 1, ChainFault::TooBig),
-    ];
-    for (at, byte, fault) in faults {
-        let changed = changed(header(rt.alloc(), 5, 1)?, at, &[byte]);
-        assert_eq!(rt; header_fault(&changed), Some(fault), "at {at}");
+fn tells(alloc: Global, told: Result<Vec<u8>, ChainFault>, want: &str) -> Result<bool, Fail> {
+    match told {
+        Ok(bytes) => Ok(bytes == spelled(alloc, want)?),
+        Err(fault) => Ok(fault.name() == want),
     }
-    assert_eq!(rt; header_fault(&[0xd0; 511]), Some(ChainFault::Truncated));
-    Ok(())
 }
 
-#[test]
-fn tables_are_refused(rt: HostRuntime) -> Result<(), Fail> {
-    let file = sample_file(rt.alloc(), &[])?;
-    assert_eq!(rt; load_fault(rt.alloc(), &[0], &file), None);
-    assert_eq!(rt;
-        load_fault(rt.alloc(), &[9], &file),
-        Some(ChainFault::OutOfFile)
-    );
-    assert_eq!(rt;
-        load_fault(rt.alloc(), &[1, 1], &file),
-        Some(ChainFault::CrossLinked)
-    );
-    Ok(())
+/// Whether the chain from a sector on is of these sectors, and has these bytes.
+fn joins(
+    alloc: Global,
+    fat: &mut Fat,
+    start: u32,
+    sectors: &[u32],
+    bytes: &[u8],
+) -> Result<bool, Fail> {
+    let chain = fat.chain(alloc, start)?;
+    let joined = fat.join(alloc, &chain)?;
+    Ok(chain.as_slice() == sectors && joined.as_slice() == bytes)
+}
+
+fn run_is(alloc: Global, fat: &Fat, sectors: &[u32], want: &str) -> Result<bool, Fail> {
+    match fat.run(sectors) {
+        Some(bytes) => Ok(spelled(alloc, want)?.as_slice() == bytes),
+        None => Ok(want == "none"),
+    }
 }
 
 #[test]
 fn chains_are_followed(rt: HostRuntime) -> Result<(), Fail> {
-    let alloc = rt.alloc();
-    let entries = [FAT, to(8), END, to(4), to(3), END, to(200), to(2), END];
-    let file = sample_file(alloc, &entries)?;
-    let mut fat = Fat::load(alloc, &Header::read(&file)?, &file)?;
-    let faults = [
-        (3, None, ChainFault::Cycle),
-        (6, None, ChainFault::OutOfFile),
-        (0, None, ChainFault::CrossLinked),
-        (1, Some(1025), ChainFault::ShortChain),
-    ];
-    for (start, len, fault) in faults {
-        let refused = match len {
-            None => told(chain(alloc, &mut fat, start)),
-            Some(len) => told(bytes(alloc, &mut fat, start, len)),
-        };
-        assert_eq!(rt; refused, Some(fault), "from {start}");
-    }
-    let (list, two) = joined(alloc, &mut fat, 1)?;
-    assert_eq!(rt; list.as_slice(), [1, 8].as_slice());
-    let want = [
-        (511, Some(1)),
-        (512, Some(8)),
-        (523, Some(8)),
-        (524, Some(0)),
-        (1023, Some(0)),
-        (1024, None),
-    ];
-    assert!(rt; hold(&two, &want));
-    let part = bytes(alloc, &mut fat, 7, 513)?;
-    assert!(rt;
-        hold(
-            &part,
-            &[(510, Some(7)), (511, Some(7)), (512, Some(2)), (513, None)]
-        )
-    );
-    assert_eq!(rt;
-        told(bytes(alloc, &mut fat, 2, 1)),
-        Some(ChainFault::CrossLinked)
-    );
-    assert_eq!(rt; bytes(alloc, &mut fat, 2, 0)?.len(), 0);
-    assert_eq!(rt; run(&fat, &[6, 7]), Some((1024, Some(7))));
-    assert_eq!(rt; run(&fat, &[1, 8]), None);
-    assert_eq!(rt; free(&fat), None);
-    Ok(())
-}
-
-#[test]
-fn a_free_sector_is_found(rt: HostRuntime) -> Result<(), Fail> {
-    let file = sample_file(rt.alloc(), &[FAT, END, FREE])?;
-    let fat = Fat::load(rt.alloc(), &Header::read(&file)?, &file)?;
-    assert_eq!(rt; free(&fat), Some(2));
-    Ok(())
+    let file = file_of(rt.alloc(), LINKED)?;
+    let mut fat = Fat::load(rt.alloc(), &Header::read(&file)?, &file)?;
+    play(&rt, rt.alloc(), &mut fat, LINKED_CALLS)
 }
 
 #[test]
 fn a_mini_stream_is_read(rt: HostRuntime) -> Result<(), Fail> {
-    let alloc = rt.alloc();
-    let file = sample_file(alloc, &[FAT, END, to(3), END, END, END])?;
-    let file = changed(file, 3072, &[1, 0, 0, 0, 0xfe, 0xff, 0xff, 0xff]);
+    let file = file_of(rt.alloc(), MINI)?;
     let header = Header::read(&file)?;
-    let mut fat = Fat::load(alloc, &header, &file)?;
-    let mut mini = fat.mini(alloc, &header, 2, 640)?;
-    let read = bytes(alloc, &mut mini, 0, 100)?;
-    assert!(rt; hold(&read, &[(0, Some(2)), (99, Some(2)), (100, None)]));
-    assert_eq!(rt;
-        told(chain(alloc, &mut mini, 1)),
-        Some(ChainFault::CrossLinked)
+    let mut fat = Fat::load(rt.alloc(), &header, &file)?;
+    play(&rt, rt.alloc(), &mut fat, MINI_CALLS)?;
+    let mut mini = fat.mini(rt.alloc(), &header, 2, 640)?;
+    play(&rt, rt.alloc(), &mut mini, STREAM_CALLS)?;
+    play(&rt, rt.alloc(), &mut fat, LATER_CALLS)
+}
+
+/// Whether a header with a byte changed is refused so.
+fn refuses(alloc: Global, row: &str) -> Result<bool, Fail> {
+    let mut words = row.split_whitespace();
+    let mut bytes = spelled(alloc, HEADER)?;
+    put(
+        &mut bytes,
+        number(word(&mut words)),
+        &spelled(alloc, word(&mut words))?,
     );
-    assert_eq!(rt;
-        told(chain(alloc, &mut mini, 10)),
-        Some(ChainFault::OutOfFile)
-    );
-    assert_eq!(rt;
-        told(chain(alloc, &mut fat, 5)),
-        Some(ChainFault::CrossLinked)
-    );
-    assert_eq!(rt;
-        told(chain(alloc, &mut fat, 3)),
-        Some(ChainFault::CrossLinked)
-    );
+    let fault = word(&mut words);
+    Ok(header_is_refused(&bytes, fault, number(word(&mut words))))
+}
+
+fn put(bytes: &mut [u8], at: u32, changed: &[u8]) {
+    if let (Some(place), Some(byte)) = (bytes.get_mut(at as usize), changed.first()) {
+        *place = *byte;
+    }
+}
+
+fn header_is_refused(bytes: &[u8], name: &str, field: u32) -> bool {
+    match Header::read(bytes) {
+        Ok(_) => false,
+        Err(ChainFault::Unsupported(at)) => u32::from(at) == field,
+        Err(fault) => fault.name() == name,
+    }
+}
+
+fn is_sample(header: &Header) -> bool {
+    header.fat().len() == 1
+        && header.fat().first().copied() == Some(0)
+        && header.first_directory() == 1
+        && header.first_mini_fat() == 5
+        && header.mini_fat_count() == 1
+}
+
+#[test]
+fn headers_are_read_written_and_refused(rt: HostRuntime) -> Result<(), Fail> {
+    let bytes = spelled(rt.alloc(), HEADER)?;
+    assert!(rt; is_sample(&Header::read(&bytes)?));
+    let made = Header::new(&[0], 1, 5, 1)?;
+    assert!(rt; made.write().as_slice() == bytes.as_slice());
+    for row in FAULTS.split('\n') {
+        assert!(rt; refuses(rt.alloc(), row)?, "{row}");
+    }
+    let short = spelled(rt.alloc(), "511*d0")?;
+    assert!(rt; header_is_refused(&short, "Truncated", 0));
     Ok(())
 }

@@ -1,5 +1,6 @@
 //! Names, entries and siblings, with values from the format.
 
+use crate::texts::{are_all, number, numbers, spelled, word};
 use cfb_directory::entries::{Entries, EntryKind, NO_STREAM};
 use cfb_directory::links::{Links, balanced, build};
 use cfb_directory::write::{EntryFields, write_entry, write_free_entry};
@@ -7,66 +8,70 @@ use cfb_names::fault::DirFault;
 use cfb_names::name::{LONGEST, Name, keys_agree};
 use std::alloc::{AllocError, Global};
 use std::cmp::Ordering;
+use std::str::SplitWhitespace;
 use std::test::Fail;
 
-/// What bytes are refused for as a name.
-fn refused(bytes: &[u8]) -> Option<DirFault> {
+/// Names, and what they are refused for behind a `|`.
+const NAMES: &str = "\x01CompObj|
+xxxxxxxxxxxxxxxxxxxxxxxxxxxxxxx|
+xxxxxxxxxxxxxxxxxxxxxxxxxxxxxxxx|NameTooLong
+|NameEmpty
+\x7f|
+na\u{ef}ve|NameNotAscii
+a/|NameForbidden
+a\\|NameForbidden
+a:|NameForbidden
+a!|NameForbidden
+a\0|NameForbidden";
+
+/// Two names, and how they stand to one another.
+const ORDERS: &str = "b aa less
+b B equal
+b A greater
+b _ less";
+
+/// An entry and a free one: names are of two bytes a character.
+const WRITTEN: &str =
+    "41006200,60*00,06000501,ffffffff,55000000,02000000,16*07,04030201,16*00,05000000,00100000,4*00,68*00,12*ff,48*00";
+
+/// Whether bytes are a name, and copied as such, or refused so.
+fn name_is(bytes: &[u8], fault: &str) -> bool {
     match Name::new(bytes) {
-        Ok(_) => None,
-        Err(fault) => Some(fault),
+        Ok(name) => fault.is_empty()
+            && name.len() == bytes.len()
+            && name.copy().as_bytes() == bytes,
+        Err(refused) => refused.name() == fault,
     }
 }
 
-/// How two names stand to one another.
-fn order(one: &[u8], other: &[u8]) -> Result<Ordering, DirFault> {
-    Ok(Name::new(one)?.cmp(&Name::new(other)?))
-}
-
-/// How the keys of two names stand to one another.
-fn key_order(one: &[u8], other: &[u8]) -> Result<Ordering, DirFault> {
-    Ok(Name::new(one)?.key().cmp(&Name::new(other)?.key()))
-}
-
-#[test]
-fn names_are_read_and_refused(rt: HostRuntime) -> Result<(), Fail> {
-    let name = Name::new(b"\x01CompObj")?;
-    assert_eq!(rt; name.as_bytes(), b"\x01CompObj".as_slice());
-    assert_eq!(rt; name.copy().as_bytes(), b"\x01CompObj".as_slice());
-    assert_eq!(rt; name.len(), 8);
-    assert_eq!(rt; Name::root().as_bytes(), b"Root Entry".as_slice());
-    let names = [
-        (b"xxxxxxxxxxxxxxxxxxxxxxxxxxxxxxx".as_slice(), None),
-        (
-            b"xxxxxxxxxxxxxxxxxxxxxxxxxxxxxxxx".as_slice(),
-            Some(DirFault::NameTooLong),
-        ),
-        (b"".as_slice(), Some(DirFault::NameEmpty)),
-        (b"\x7f".as_slice(), None),
-        (b"na\x80ve".as_slice(), Some(DirFault::NameNotAscii)),
-        (b"a/".as_slice(), Some(DirFault::NameForbidden)),
-        (b"a\\".as_slice(), Some(DirFault::NameForbidden)),
-        (b"a:".as_slice(), Some(DirFault::NameForbidden)),
-        (b"a!".as_slice(), Some(DirFault::NameForbidden)),
-        (b"a\0".as_slice(), Some(DirFault::NameForbidden)),
-    ];
-    for (k, (bytes, fault)) in names.iter().enumerate() {
-        assert_eq!(rt; refused(bytes), *fault, "name {k}");
+fn ordering_text(order: Ordering) -> &'static str {
+    match order {
+        Ordering::Less => "less",
+        Ordering::Equal => "equal",
+        Ordering::Greater => "greater",
     }
-    Ok(())
+}
+
+/// Whether two names stand so to one another, and their keys as well.
+fn order_is(row: &str) -> Result<bool, DirFault> {
+    let mut words = row.split_whitespace();
+    let one = Name::new(word(&mut words).as_bytes())?;
+    let other = Name::new(word(&mut words).as_bytes())?;
+    let told = ordering_text(one.cmp(&other));
+    let keys = ordering_text(one.key().cmp(&other.key()));
+    Ok(told == keys && told == word(&mut words))
 }
 
 #[test]
-fn names_are_ordered_by_length_and_upper_case(rt: HostRuntime) -> Result<(), Fail> {
+fn names_are_read_refused_and_ordered(rt: HostRuntime) -> Result<(), Fail> {
+    for row in NAMES.split('\n') {
+        let (name, fault) = row.split_once("|").unwrap_or((row, ""));
+        assert!(rt; name_is(name.as_bytes(), fault), "{row}");
+    }
+    assert!(rt; Name::root().as_bytes() == b"Root Entry".as_slice());
     keys_agree();
-    let orders = [
-        (b"aa".as_slice(), Ordering::Less),
-        (b"B".as_slice(), Ordering::Equal),
-        (b"A".as_slice(), Ordering::Greater),
-        (b"_".as_slice(), Ordering::Less),
-    ];
-    for (k, (other, order_is)) in orders.iter().enumerate() {
-        assert_eq!(rt; order(b"b", other)?, *order_is, "name {k}");
-        assert_eq!(rt; key_order(b"b", other)?, *order_is, "key {k}");
+    for row in ORDERS.split('\n') {
+        assert!(rt; order_is(row)?, "{row}");
     }
     Ok(())
 }
@@ -85,11 +90,11 @@ fn fields(kind: EntryKind, left: u32, right: u32, child: u32) -> EntryFields {
     }
 }
 
-fn push(out: &mut Vec<u8>, name: &[u8], fields: &EntryFields) -> Result<(), AllocError> {
+fn push(out: &mut Vec<u8>, name: &str, fields: &EntryFields) -> Result<(), AllocError> {
     if name.len() > LONGEST {
         return Err(AllocError);
     }
-    write_entry(out, name, fields)
+    write_entry(out, name.as_bytes(), fields)
 }
 
 fn push_free(out: &mut Vec<u8>) -> Result<(), AllocError> {
@@ -101,153 +106,96 @@ fn entries_are_written(rt: HostRuntime) -> Result<(), Fail> {
     let mut bytes = Vec::new(rt.alloc());
     push(
         &mut bytes,
-        b"Ab",
+        "Ab",
         &fields(EntryKind::Root, NO_STREAM, 0x55, 2),
     )?;
     push_free(&mut bytes)?;
-    assert_eq!(rt; bytes.len(), 256);
-    let others = [
-        (0, b'A'),
-        (2, b'b'),
-        (64, 6),
-        (66, 5),
-        (67, 1),
-        (68, 0xff),
-        (71, 0xff),
-        (72, 0x55),
-        (76, 2),
-        (80, 7),
-        (95, 7),
-        (96, 4),
-        (97, 3),
-        (98, 2),
-        (99, 1),
-        (116, 5),
-        (121, 16),
-        (196, 0xff),
-        (207, 0xff),
-    ];
-    for (at, byte) in others {
-        assert_eq!(rt; bytes.get(at).copied(), Some(byte), "at {at}");
-    }
-    assert_eq!(rt; bytes.iter().filter(|b| **b != 0).count(), 45);
+    assert!(rt; bytes == spelled(rt.alloc(), WRITTEN)?);
     Ok(())
 }
 
 /// A root with the children `A`, `B` and `C`, and a free entry.
 fn directory(alloc: Global) -> Result<Vec<u8>, AllocError> {
     let mut out = Vec::new(alloc);
+    let leaf = fields(EntryKind::Stream, NO_STREAM, NO_STREAM, NO_STREAM);
     push(
         &mut out,
-        b"Root Entry",
+        "Root Entry",
         &fields(EntryKind::Root, NO_STREAM, NO_STREAM, 2),
     )?;
-    push(
-        &mut out,
-        b"A",
-        &fields(EntryKind::Stream, NO_STREAM, NO_STREAM, NO_STREAM),
-    )?;
-    push(&mut out, b"B", &fields(EntryKind::Storage, 1, 3, NO_STREAM))?;
-    push(
-        &mut out,
-        b"C",
-        &fields(EntryKind::Stream, NO_STREAM, NO_STREAM, NO_STREAM),
-    )?;
+    push(&mut out, "A", &leaf)?;
+    push(&mut out, "B", &fields(EntryKind::Storage, 1, 3, NO_STREAM))?;
+    push(&mut out, "C", &leaf)?;
     push_free(&mut out)?;
     Ok(out)
 }
 
-/// The name of an entry, its kind and numbers.
-fn entry_is(
-    entries: &Entries,
-    id: u32,
-    name: &[u8],
-    kind: EntryKind,
-    numbers: [u32; 4],
-) -> Result<bool, DirFault> {
-    let entry = entries.entry(id)?;
-    let told = [entry.state, entry.child, entry.first, entry.size];
-    Ok(
-        entry.name.as_bytes() == name
-            && entry.kind == kind
-            && entry.class == [7; 16]
-            && told == numbers,
-    )
-}
-
-fn entry_fault(entries: &Entries, id: u32) -> Option<DirFault> {
+/// Whether an entry has this name, kind and child, and all else as `fields` has it, or is refused so.
+fn entry_is(entries: &Entries, id: u32, name: &str, kind: EntryKind, child: u32) -> bool {
     match entries.entry(id) {
-        Ok(_) => None,
-        Err(fault) => Some(fault),
+        Ok(entry) => {
+            entry.name.as_bytes() == name.as_bytes()
+                && entry.kind == kind
+                && are_all(&entry.class, 7)
+                && entry.state == 0x0102_0304
+                && entry.child == child
+                && entry.first == 5
+                && entry.size == 4096
+        }
+        Err(fault) => fault.name() == name,
     }
 }
 
-fn children(alloc: Global, entries: &mut Entries, id: u32) -> Result<Vec<u32>, DirFault> {
-    entries.children(alloc, id)
+/// Whether a storage has these children, or is refused so.
+fn children_are(alloc: Global, entries: &mut Entries, id: u32, want: &[u32], fault: &str) -> bool {
+    match entries.children(alloc, id) {
+        Ok(children) => children.as_slice() == want,
+        Err(refused) => refused.name() == fault,
+    }
 }
 
 #[test]
 fn entries_are_read(rt: HostRuntime) -> Result<(), Fail> {
     let bytes = directory(rt.alloc())?;
     let mut entries = Entries::load(rt.alloc(), &bytes)?;
-    assert!(rt;
-        entry_is(
-            &entries,
-            2,
-            b"B",
-            EntryKind::Storage,
-            [0x0102_0304, NO_STREAM, 5, 4096]
-        )?
-    );
-    assert!(rt;
-        entry_is(
-            &entries,
-            0,
-            b"Root Entry",
-            EntryKind::Root,
-            [0x0102_0304, 2, 5, 4096]
-        )?
-    );
-    assert_eq!(rt; entry_fault(&entries, 4), Some(DirFault::BadEntry));
-    assert_eq!(rt; entry_fault(&entries, 5), Some(DirFault::BadEntry));
-    let found = children(rt.alloc(), &mut entries, 0)?;
-    assert_eq!(rt; found.as_slice(), [2, 1, 3].as_slice());
-    assert_eq!(rt; children(rt.alloc(), &mut entries, 2)?.len(), 0);
-    match children(rt.alloc(), &mut entries, 0) {
-        Ok(_) => assert!(rt; false, "the children are marked"),
-        Err(fault) => assert_eq!(rt; fault.name(), "TreeCycle"),
-    }
+    assert!(rt; entry_is(&entries, 0, "Root Entry", EntryKind::Root, 2));
+    assert!(rt; entry_is(&entries, 2, "B", EntryKind::Storage, NO_STREAM));
+    assert!(rt; entry_is(&entries, 4, "BadEntry", EntryKind::Root, 0));
+    assert!(rt; entry_is(&entries, 5, "BadEntry", EntryKind::Root, 0));
+    let below_root = numbers(rt.alloc(), "2,1,3")?;
+    assert!(rt; children_are(rt.alloc(), &mut entries, 0, &below_root, ""));
+    assert!(rt; children_are(rt.alloc(), &mut entries, 2, &[], ""));
+    // they are marked by now
+    assert!(rt; children_are(rt.alloc(), &mut entries, 0, &[], "TreeCycle"));
     Ok(())
 }
 
-fn linked(alloc: Global, count: u32) -> Result<Links, AllocError> {
-    balanced(alloc, count)
+/// So many siblings, which is on top, and the left and the right one of each; none is `-`.
+const BALANCED: &str = "0 -
+2 1 -,0 -,-
+5 2 -,0,1,-,3 -,-,4,-,-";
+
+/// The same of siblings with these names.
+const BUILT: &str = "aa,c,B,a 1 -,2,3,- -,0,-,-";
+
+fn links_are(alloc: Global, links: &Links, words: &mut SplitWhitespace<'_>) -> Result<bool, Fail> {
+    let top = number(word(words));
+    let left = numbers(alloc, word(words))?;
+    let right = numbers(alloc, word(words))?;
+    Ok(links.top == top && links.left == left && links.right == right)
 }
 
-#[test]
-fn siblings_are_balanced(rt: HostRuntime) -> Result<(), Fail> {
-    assert_eq!(rt; linked(rt.alloc(), 0)?.top, NO_STREAM);
-    let two = linked(rt.alloc(), 2)?;
-    assert_eq!(rt; two.top, 1);
-    assert_eq!(rt; two.left.as_slice(), [NO_STREAM, 0].as_slice());
-    let five = linked(rt.alloc(), 5)?;
-    assert_eq!(rt; five.top, 2);
-    assert_eq!(rt;
-        five.left.as_slice(),
-        [NO_STREAM, 0, 1, NO_STREAM, 3].as_slice()
-    );
-    assert_eq!(rt;
-        five.right.as_slice(),
-        [NO_STREAM, NO_STREAM, 4, NO_STREAM, NO_STREAM].as_slice()
-    );
-    Ok(())
+fn is_balanced(alloc: Global, row: &str) -> Result<bool, Fail> {
+    let mut words = row.split_whitespace();
+    let links = balanced(alloc, number(word(&mut words)))?;
+    links_are(alloc, &links, &mut words)
 }
 
 /// The links of siblings with these names.
-fn built(alloc: Global, names: &[&[u8]]) -> Result<Links, DirFault> {
+fn built(alloc: Global, names: &str) -> Result<Links, DirFault> {
     let mut list = Vec::new(alloc);
-    for name in names {
-        list.push(Name::new(name)?)?;
+    for name in names.split(',') {
+        list.push(Name::new(name.as_bytes())?)?;
     }
     if list.len() > 100 {
         return Err(DirFault::NameTooLong);
@@ -255,21 +203,25 @@ fn built(alloc: Global, names: &[&[u8]]) -> Result<Links, DirFault> {
     build(alloc, &list)
 }
 
-#[test]
-fn siblings_are_built(rt: HostRuntime) -> Result<(), Fail> {
-    let links = built(rt.alloc(), &[b"aa", b"c", b"B", b"a"])?;
-    assert_eq!(rt; links.top, 1);
-    assert_eq!(rt;
-        links.left.as_slice(),
-        [NO_STREAM, 2, 3, NO_STREAM].as_slice()
-    );
-    assert_eq!(rt;
-        links.right.as_slice(),
-        [NO_STREAM, 0, NO_STREAM, NO_STREAM].as_slice()
-    );
-    match built(rt.alloc(), &[b"x", b"y", b"X"]) {
-        Ok(_) => assert!(rt; false, "two names are equal"),
-        Err(fault) => assert_eq!(rt; fault, DirFault::DuplicateName),
+fn is_built(alloc: Global, row: &str) -> Result<bool, Fail> {
+    let mut words = row.split_whitespace();
+    let links = built(alloc, word(&mut words))?;
+    links_are(alloc, &links, &mut words)
+}
+
+fn is_twice_named(alloc: Global, names: &str) -> bool {
+    match built(alloc, names) {
+        Ok(_) => false,
+        Err(fault) => fault == DirFault::DuplicateName,
     }
+}
+
+#[test]
+fn siblings_are_linked(rt: HostRuntime) -> Result<(), Fail> {
+    for row in BALANCED.split('\n') {
+        assert!(rt; is_balanced(rt.alloc(), row)?, "{row}");
+    }
+    assert!(rt; is_built(rt.alloc(), BUILT)?);
+    assert!(rt; is_twice_named(rt.alloc(), "x,y,X"));
     Ok(())
 }

@@ -6,11 +6,11 @@ mod chains;
 #[cfg(test)]
 mod directories;
 #[cfg(test)]
-mod made;
-#[cfg(test)]
 mod reading;
 #[cfg(test)]
 mod streams;
+#[cfg(test)]
+mod texts;
 #[cfg(test)]
 mod trees;
 #[cfg(test)]

@@ -1,8 +1,8 @@
 //! Trees, as texts of calls with their answers.
 
+use crate::texts::{number, word};
 use cfb_names::name::Name;
 use std::alloc::Global;
-use std::str::SplitWhitespace;
 use std::test::Fail;
 use storage_tree::bytes::Bytes;
 use storage_tree::class_id::ClassId;
@@ -11,72 +11,73 @@ use storage_tree::storage::{Found, Storage};
 use storage_tree::tree::Tree;
 
 /// Four words a call: the call, a path, an argument and the answer. A point stands for nothing.
-const CALLS: &str = "
-    begin . . ok
-    put A 123 ok
-    begin . . ok
-    remove A . ok
-    get A . NotFound
-    revert . . ok
-    get A 123 ok
-    commit . . ok
-    commit . . NoTransaction
-    revert . . NoTransaction
-    get A 123 ok
-
-    new . 0 ok
-    put A 1 ok
-    rename A B ok
-    get B 1 ok
-    get A . NotFound
-    put C . ok
-    rename B c Exists
-    rename D E NotFound
-
-    new . 0 ok
-    put ab 1 ok
-    put AB 2 ok
-    names . ab ok
-    rename ab Ab ok
-    names . Ab ok
-    count . 1 ok
-    get aB 2 ok
-
-    new . 1 ok
-    make Obj1 2 ok
-    put Obj1/Text ab ok
-    get Obj1/Text ab ok
-    class OBJ1 2 ok
-    class . 1 ok
-    put . . WrongKind
-    make . 0 WrongKind
-    remove . . WrongKind
-    rename . E WrongKind
-    get Obj1/Text/X . WrongKind
-    put Obj1/Text/X . WrongKind
-    put Obj1 . WrongKind
-    put Obj2/Text . NotFound
-    remove Obj2 . NotFound
-    make obj1 0 Exists
-    remove Obj1 . ok
-    get Obj1/Text . NotFound
-
-    new . 3 ok
-    make D 4 ok
-    put D/A 1 ok
-    copy D/A 1 ok
-    begin . . ok
-    begin . . ok
-    begin . . ok
-    begin . . ok
-    begin . . ok
-    begin . . ok
-    begin . . ok
-    begin . . ok
-    begin . . TooDeep
-    commit . . ok
-    begin . . ok
-";
+const CALLS: &str = "begin . . ok
+put A 123 ok
+begin . . ok
+remove A . ok
+get A . NotFound
+revert . . ok
+get A 123 ok
+commit . . ok
+commit . . NoTransaction
+revert . . NoTransaction
+get A 123 ok
+new . 0 ok
+put A 1 ok
+rename A B ok
+get B 1 ok
+get A . NotFound
+put C . ok
+rename B c Exists
+rename D E NotFound
+new . 0 ok
+put ab 1 ok
+put AB 2 ok
+names . ab ok
+rename ab Ab ok
+names . Ab ok
+count . 1 ok
+get aB 2 ok
+new . 1 ok
+make Obj1 2 ok
+put Obj1/Text ab ok
+get Obj1/Text ab ok
+class OBJ1 2 ok
+class . 1 ok
+put . . WrongKind
+make . 0 WrongKind
+remove . . WrongKind
+rename . E WrongKind
+get Obj1/Text/X . WrongKind
+put Obj1/Text/X . WrongKind
+put Obj1 . WrongKind
+put Obj2/Text . NotFound
+remove Obj2 . NotFound
+make obj1 0 Exists
+remove Obj1 . ok
+get Obj1/Text . NotFound
+new . 3 ok
+make D 4 ok
+put D/A 1 ok
+copy D/A 1 ok
+begin . . ok
+begin . . ok
+begin . . ok
+begin . . ok
+begin . . ok
+begin . . ok
+begin . . ok
+begin . . ok
+begin . . TooDeep
+commit . . ok
+begin . . ok
+new . 0 ok
+many . 50000 ok
+count . 50000 ok
+get 49999 49999 ok
+begin . . ok
+revert . . ok
+get 7 7 ok";
 
 /// A path of names with slashes between, or the empty one.
 fn path(alloc: Global, text: &str) -> Result<Vec<Name>, Fail> {
@@ -96,12 +97,16 @@ fn content(alloc: Global, text: &str) -> Result<Bytes, Fail> {
     Ok(Bytes::from_slice(alloc, text.as_bytes())?)
 }
 
-fn number(text: &str) -> u8 {
-    text.parse::<u8>().unwrap_or(255)
+/// The class that is named by a letter.
+fn class(letter: u8) -> ClassId {
+    ClassId::from_bytes([letter; 16])
 }
 
-fn class(n: u8) -> ClassId {
-    ClassId::from_bytes([n; 16])
+fn letter(text: &str) -> u8 {
+    match text.as_bytes() {
+        [letter, ..] => *letter,
+        [] => 0,
+    }
 }
 
 fn told(answer: Result<(), TreeFault>) -> &'static str {
@@ -119,9 +124,9 @@ fn put(alloc: Global, tree: &mut Tree, at: &str, text: &str) -> Result<&'static 
     Ok(told(tree.put_stream(&path(alloc, at)?, content(alloc, text)?)))
 }
 
-/// The state bits of a storage are its class and 100.
-fn make(alloc: Global, tree: &mut Tree, at: &str, n: u8) -> Result<&'static str, Fail> {
-    Ok(told(tree.make_storage(&path(alloc, at)?, class(n), u32::from(n) + 100)))
+/// The state bits of a storage are the letter of its class.
+fn make(alloc: Global, tree: &mut Tree, at: &str, with: u8) -> Result<&'static str, Fail> {
+    Ok(told(tree.make_storage(&path(alloc, at)?, class(with), u32::from(with))))
 }
 
 fn remove(alloc: Global, tree: &mut Tree, at: &str) -> Result<&'static str, Fail> {
@@ -143,10 +148,10 @@ fn get(alloc: Global, root: &Storage, at: &str, text: &str) -> Result<&'static s
 }
 
 /// Whether the storage at a path has this class, and its state bits.
-fn is_storage(alloc: Global, tree: &Tree, at: &str, n: u8) -> Result<&'static str, Fail> {
+fn is_storage(alloc: Global, tree: &Tree, at: &str, with: u8) -> Result<&'static str, Fail> {
     match tree.get(&path(alloc, at)?) {
         Ok(Found::Storage(inner)) => Ok(whether(
-            inner.class == class(n) && inner.state == u32::from(n) + 100,
+            inner.class == class(with) && inner.state == u32::from(with),
         )),
         Ok(Found::Stream(_)) => Ok("otherwise"),
         Err(fault) => Ok(fault.name()),
@@ -173,8 +178,17 @@ fn copied(alloc: Global, tree: &mut Tree, at: &str, text: &str) -> Result<&'stat
 }
 
 /// A tree without children, of this class.
-fn fresh(alloc: Global, n: u8) -> Tree {
-    Tree::new(alloc, class(n), u32::from(n) + 100)
+fn fresh(alloc: Global, with: u8) -> Tree {
+    Tree::new(alloc, class(with), u32::from(with))
+}
+
+/// Puts so many streams, each named by its number, with that as its bytes.
+fn put_many(alloc: Global, tree: &mut Tree, count: u32) -> Result<&'static str, Fail> {
+    for number in 0..count {
+        let digits = format!(in alloc; "{number}")?;
+        let _ = put(alloc, tree, digits.as_str(), digits.as_str())?;
+    }
+    Ok("ok")
 }
 
 fn call(
@@ -186,74 +200,40 @@ fn call(
 ) -> Result<&'static str, Fail> {
     match call {
         "new" => {
-            *tree = fresh(alloc, number(with));
+            *tree = fresh(alloc, letter(with));
             Ok("ok")
         }
         "begin" => Ok(told(tree.begin())),
         "commit" => Ok(told(tree.commit())),
         "revert" => Ok(told(tree.revert())),
         "put" => put(alloc, tree, at, with),
-        "make" => make(alloc, tree, at, number(with)),
+        "make" => make(alloc, tree, at, letter(with)),
         "remove" => remove(alloc, tree, at),
         "rename" => rename(alloc, tree, at, with),
         "get" => get(alloc, tree.root(), at, with),
-        "class" => is_storage(alloc, tree, at, number(with)),
+        "class" => is_storage(alloc, tree, at, letter(with)),
         "names" => is_named(alloc, tree, with),
-        "count" => Ok(whether(tree.root().children.len() == usize::from(number(with)))),
+        "count" => Ok(whether(tree.root().children.len() == number(with) as usize)),
+        "many" => put_many(alloc, tree, number(with)),
         "copy" => copied(alloc, tree, at, with),
         _ => Ok("unknown"),
     }
 }
 
-fn word<'a>(words: &mut SplitWhitespace<'a>) -> &'a str {
-    words.next().unwrap_or("")
+/// Whether a call has its answer.
+fn answers(alloc: Global, tree: &mut Tree, row: &str) -> Result<bool, Fail> {
+    let mut words = row.split_whitespace();
+    let name = word(&mut words);
+    let at = word(&mut words);
+    let with = word(&mut words);
+    Ok(call(alloc, tree, name, at, with)? == word(&mut words))
 }
 
 #[test]
 fn calls_have_their_answers(rt: HostRuntime) -> Result<(), Fail> {
     let mut tree = fresh(rt.alloc(), 0);
-    let mut words = CALLS.split_whitespace();
-    for n in 1..1000u32 {
-        let name = word(&mut words);
-        if name.is_empty() {
-            return Ok(());
-        }
-        let at = word(&mut words);
-        let with = word(&mut words);
-        let answer = call(rt.alloc(), &mut tree, name, at, with)?;
-        assert_eq!(rt; answer, word(&mut words), "call {n}, {name} {at} {with}");
+    for row in CALLS.split('\n') {
+        assert!(rt; answers(rt.alloc(), &mut tree, row)?, "{row}");
     }
-    Err(Fail::from("too many calls"))
-}
-
-#[test]
-fn a_storage_nested_past_32_is_too_deep(rt: HostRuntime) -> Result<(), Fail> {
-    let mut tree = fresh(rt.alloc(), 0);
-    let mut at = String::from_str(rt.alloc(), "S")?;
-    for _ in 0..32 {
-        assert_eq!(rt; make(rt.alloc(), &mut tree, at.as_str(), 0)?, "ok");
-        at.push_str("/S")?;
-    }
-    assert_eq!(rt; make(rt.alloc(), &mut tree, at.as_str(), 0)?, "TooDeep");
-    assert_eq!(rt; put(rt.alloc(), &mut tree, at.as_str(), ".")?, "ok");
-    assert_eq!(rt; make(rt.alloc(), &mut tree, at.as_str(), 0)?, "Exists");
-    Ok(())
-}
-
-#[test]
-fn fifty_thousand_streams_are_fast(rt: HostRuntime) -> Result<(), Fail> {
-    let mut tree = fresh(rt.alloc(), 0);
-    for number in 0..50_000u32 {
-        let digits = format!(in rt.alloc(); "{number}")?;
-        assert_eq!(rt;
-            put(rt.alloc(), &mut tree, digits.as_str(), digits.as_str())?,
-            "ok"
-        );
-    }
-    assert_eq!(rt; tree.root().children.len(), 50_000);
-    assert_eq!(rt; get(rt.alloc(), tree.root(), "49999", "49999")?, "ok");
-    assert_eq!(rt; call(rt.alloc(), &mut tree, "begin", ".", ".")?, "ok");
-    assert_eq!(rt; call(rt.alloc(), &mut tree, "revert", ".", ".")?, "ok");
-    assert_eq!(rt; get(rt.alloc(), tree.root(), "7", "7")?, "ok");
     Ok(())
 }

@@ -1,65 +1,9 @@
 //! The table of a frame's grant, row by row, and what a frame shows.
 
-use crate::texts::halves;
+use crate::texts::word;
 use grant_core::{Claim, FrameUi, GrantFault, GrantState, MenuText, Menus, Tools, laws};
 use std::process::Abort;
-
-const A: Claim = Claim {
-    object: 1,
-    act: 11,
-    g: 21,
-};
-
-const B: Claim = Claim {
-    object: 2,
-    act: 12,
-    g: 22,
-};
-
-const C: Claim = Claim {
-    object: 3,
-    act: 13,
-    g: 23,
-};
-
-/// Another object's number beside the activation and grant of A.
-const A_AS_C: Claim = Claim {
-    object: C.object,
-    act: A.act,
-    g: A.g,
-};
-
-/// The activation of A alone.
-const ACT_OF_A: Claim = Claim {
-    object: C.object,
-    act: A.act,
-    g: C.g,
-};
-
-/// The object of A alone.
-const OBJECT_OF_A: Claim = Claim {
-    object: A.object,
-    act: C.act,
-    g: C.g,
-};
-
-#[derive(Clone, Copy)]
-enum Event {
-    Ask(Claim),
-    Granted(Claim),
-    Revoked(Claim),
-    Lost(Claim),
-}
-
-#[derive(Clone, Copy)]
-enum At {
-    Free,
-    Asked,
-    Held,
-    Revoking,
-    Waited,
-    Next,
-}
+use std::str::SplitWhitespace;
 
 /// Where a frame is, what happens, where it is then, and the answer. Asked: it is being granted to A, which Held has it;
 /// Revoking: A is to give it up; Waited: and B waits for it; Next: it is being granted to B.
@@ -100,6 +44,23 @@ Waited lost A Next Ok
 Waited lost B Revoking Ok
 Waited lost C Waited Ok";
 
+/// What a frame shows where it is: its menus, of which `-` is none, and its border.
+const SHOWN: &str = "Free File - Container - Window - 0 0 0 0
+Asked File - Container - Window - 0 0 0 0
+Held File Edit Container Note Window Help 0 1 0 0
+Waited File - Container - Window - 0 0 0 0";
+
+/// A frame's width and height, the border that its holder asks for, the answer, and the border then.
+const BORDERS: &str = "3 10 3 0 0 0 NoToolSpace 0 0 0 0
+4 10 3 0 0 0 Ok 3 0 0 0
+4 10 2 0 2 0 NoToolSpace 0 0 0 0
+40 1 0 1 0 0 NoToolSpace 0 0 0 0
+40 2 0 1 0 0 Ok 0 1 0 0
+40 2 0 1 0 1 NoToolSpace 0 0 0 0
+40 10 65535 0 65535 0 NoToolSpace 0 0 0 0";
+
+const DRAWING: &str = "File Edit Container Draw Window Help";
+
 /// What a note answers.
 fn note(rt: &impl Abort) -> Tools {
     Tools {
@@ -112,91 +73,70 @@ fn menus(rt: &impl Abort, object: &[u8]) -> Menus {
     Menus::new(b"Edit", object, b"Help").expect(rt, "three texts")
 }
 
+fn claim_of(object: u32, act: u32, g: u32) -> Claim {
+    Claim { object, act, g }
+}
+
+/// A claim, or one with some of A's numbers and the others of C's.
+fn claim(name: &str) -> Claim {
+    match name {
+        "A" => claim_of(1, 11, 21),
+        "B" => claim_of(2, 12, 22),
+        "A-as-C" => claim_of(3, 11, 21),
+        "act-of-A" => claim_of(3, 11, 23),
+        "object-of-A" => claim_of(1, 13, 23),
+        _ => claim_of(3, 13, 23),
+    }
+}
+
 /// What leads a free frame there.
-fn path_to(at: At) -> &'static [Event] {
-    match at {
-        At::Free => &[],
-        At::Asked => &[Event::Ask(A)],
-        At::Held => &[Event::Ask(A), Event::Granted(A)],
-        At::Revoking => &[Event::Ask(A), Event::Granted(A), Event::Ask(A)],
-        At::Waited => &[Event::Ask(A), Event::Granted(A), Event::Ask(B)],
-        At::Next => &[Event::Ask(B)],
+fn path_to(place: &str) -> &'static str {
+    match place {
+        "Free" => "",
+        "Asked" => "ask A",
+        "Held" => "ask A granted A",
+        "Revoking" => "ask A granted A ask A",
+        "Waited" => "ask A granted A ask B",
+        _ => "ask B",
     }
 }
 
-fn state_at(at: At, tools: &Tools) -> GrantState {
-    match at {
-        At::Free => GrantState::Free,
-        At::Asked => GrantState::Granting(A),
-        At::Held => GrantState::Held {
-            holder: A,
-            tools: *tools,
-        },
-        At::Revoking => GrantState::Revoking {
-            holder: A,
-            waiting: None,
-        },
-        At::Waited => GrantState::Revoking {
-            holder: A,
-            waiting: Some(B),
-        },
-        At::Next => GrantState::Granting(B),
+fn revoking(waiting: Option<Claim>) -> GrantState {
+    GrantState::Revoking {
+        holder: claim("A"),
+        waiting,
     }
 }
 
-fn apply(ui: &mut FrameUi, event: Event, tools: &Tools) -> Result<(), GrantFault> {
+fn held(tools: &Tools) -> GrantState {
+    GrantState::Held {
+        holder: claim("A"),
+        tools: *tools,
+    }
+}
+
+fn is_at(ui: &FrameUi, place: &str, tools: &Tools) -> bool {
+    let state = match place {
+        "Free" => GrantState::Free,
+        "Asked" => GrantState::Granting(claim("A")),
+        "Held" => held(tools),
+        "Revoking" => revoking(None),
+        "Waited" => revoking(Some(claim("B"))),
+        _ => GrantState::Granting(claim("B")),
+    };
+    ui.state() == state
+}
+
+fn apply(ui: &mut FrameUi, event: &str, name: &str, tools: &Tools) -> Result<(), GrantFault> {
+    let claim = claim(name);
     match event {
-        Event::Ask(claim) => ui.ask(claim.object, claim.act, claim.g),
-        Event::Granted(claim) => ui.granted(claim.g, tools.menus, tools.border),
-        Event::Revoked(claim) => ui.revoked(claim.g),
-        Event::Lost(claim) => {
+        "ask" => ui.ask(claim.object, claim.act, claim.g),
+        "granted" => ui.granted(claim.g, tools.menus, tools.border),
+        "revoked" => ui.revoked(claim.g),
+        _ => {
             ui.lost(claim.act);
             Ok(())
         }
-    }
-}
-
-fn state(ui: &FrameUi) -> GrantState {
-    ui.state()
-}
-
-/// The frame that events lead to, each of which is taken.
-fn frame_at(rt: &impl Abort, at: At, tools: &Tools) -> FrameUi {
-    let mut ui = FrameUi::new(40, 10);
-    for event in path_to(at) {
-        assert!(rt; apply(&mut ui, *event, tools).is_ok());
-    }
-    ui
-}
-
-fn place(name: &str) -> At {
-    match name.as_bytes() {
-        [b'F', ..] => At::Free,
-        [b'A', ..] => At::Asked,
-        [b'H', ..] => At::Held,
-        [b'R', ..] => At::Revoking,
-        [b'W', ..] => At::Waited,
-        _ => At::Next,
-    }
-}
-
-fn claimant(name: &str) -> Claim {
-    match name.as_bytes() {
-        [b'A'] => A,
-        [b'B'] => B,
-        [b'C'] => C,
-        [b'A', ..] => A_AS_C,
-        [b'a', ..] => ACT_OF_A,
-        _ => OBJECT_OF_A,
-    }
-}
-
-fn happening(name: &str, claim: Claim) -> Event {
-    match name.as_bytes() {
-        [b'a', ..] => Event::Ask(claim),
-        [b'g', ..] => Event::Granted(claim),
-        [b'r', ..] => Event::Revoked(claim),
-        _ => Event::Lost(claim),
     }
 }
 
@@ -207,112 +147,119 @@ fn told(answer: Result<(), GrantFault>) -> &'static str {
     }
 }
 
-fn expect_row(rt: &impl Abort, tools: &Tools, row: &str) {
-    let (from, rest) = halves(row, " ");
-    let (name, rest) = halves(rest, " ");
-    let (who, rest) = halves(rest, " ");
-    let (to, answer) = halves(rest, " ");
-    let mut ui = frame_at(rt, place(from), tools);
-    assert!(rt; state(&ui) == state_at(place(from), tools), "{row}");
-    let given = apply(&mut ui, happening(name, claimant(who)), tools);
-    assert!(rt; told(given) == answer, "{row}");
-    assert!(rt; state(&ui) == state_at(place(to), tools), "{row}");
+/// The frame that events lead to, each of which is taken.
+fn frame_at(rt: &impl Abort, place: &str, tools: &Tools) -> FrameUi {
+    let mut ui = FrameUi::new(40, 10);
+    let mut words = path_to(place).split_whitespace();
+    for _ in 0..3 {
+        let event = word(&mut words);
+        if !event.is_empty() {
+            assert!(rt; apply(&mut ui, event, word(&mut words), tools).is_ok());
+        }
+    }
+    ui
+}
+
+fn goes_by(rt: &impl Abort, tools: &Tools, row: &str) -> bool {
+    let mut words = row.split_whitespace();
+    let from = word(&mut words);
+    let mut ui = frame_at(rt, from, tools);
+    if !is_at(&ui, from, tools) {
+        return false;
+    }
+    let event = word(&mut words);
+    let answer = told(apply(&mut ui, event, word(&mut words), tools));
+    is_at(&ui, word(&mut words), tools) && answer == word(&mut words)
 }
 
 #[test]
 fn a_frame_goes_by_its_table(rt: HostRuntime) {
     let tools = note(&rt);
     for row in ROWS.split('\n') {
-        expect_row(&rt, &tools, row);
+        assert!(rt; goes_by(&rt, &tools, row), "{row}");
     }
 }
 
-/// The menus of a frame that an object with this menu has, or none.
-fn menu_with(object: Option<&str>) -> [Option<MenuText>; 6] {
-    match object {
-        Some(object) => [
-            MenuText::new(b"File"),
-            MenuText::new(b"Edit"),
-            MenuText::new(b"Container"),
-            MenuText::new(object.as_bytes()),
-            MenuText::new(b"Window"),
-            MenuText::new(b"Help"),
-        ],
-        None => [
-            MenuText::new(b"File"),
-            None,
-            MenuText::new(b"Container"),
-            None,
-            MenuText::new(b"Window"),
-            None,
-        ],
+fn text_is(text: &Option<MenuText>, want: &str) -> bool {
+    match text {
+        Some(text) => text.as_bytes() == want.as_bytes(),
+        None => want == "-",
     }
 }
 
-fn expect_shown(rt: &impl Abort, ui: &FrameUi, object: Option<&str>, border: [u16; 4]) {
-    assert_eq!(rt; ui.menu(), menu_with(object));
-    assert_eq!(rt; ui.border(), border);
+fn has_menu(ui: &FrameUi, words: &mut SplitWhitespace<'_>) -> bool {
+    for text in &ui.menu() {
+        if !text_is(text, word(words)) {
+            return false;
+        }
+    }
+    true
+}
+
+fn has_border(ui: &FrameUi, words: &mut SplitWhitespace<'_>) -> bool {
+    for side in &ui.border() {
+        if *side != number(word(words)) {
+            return false;
+        }
+    }
+    true
+}
+
+fn number(text: &str) -> u16 {
+    text.parse::<u16>().unwrap_or(0)
 }
 
 #[test]
 fn a_frame_shows_its_holders_menus(rt: HostRuntime) {
     let tools = note(&rt);
-    expect_shown(&rt, &frame_at(&rt, At::Free, &tools), None, [0; 4]);
-    expect_shown(&rt, &frame_at(&rt, At::Asked, &tools), None, [0; 4]);
-    expect_shown(
-        &rt,
-        &frame_at(&rt, At::Held, &tools),
-        Some("Note"),
-        [0, 1, 0, 0],
-    );
-    expect_shown(&rt, &frame_at(&rt, At::Waited, &tools), None, [0; 4]);
+    for row in SHOWN.split('\n') {
+        let mut words = row.split_whitespace();
+        let ui = frame_at(&rt, word(&mut words), &tools);
+        assert!(rt;
+            has_menu(&ui, &mut words) && has_border(&ui, &mut words),
+            "{row}"
+        );
+    }
 }
 
 #[test]
 fn a_frame_tells_its_size_and_who_waits(rt: HostRuntime) {
-    let tools = note(&rt);
-    let ui = frame_at(&rt, At::Waited, &tools);
+    let ui = frame_at(&rt, "Waited", &note(&rt));
     assert!(rt; ui.width() == 40 && ui.height() == 10);
-    let state = state(&ui);
-    assert!(rt; state.who() == Some(A));
-    assert!(rt; state.waiting() == Some(B));
+    let state = ui.state();
+    assert!(rt; state.who() == Some(claim("A")) && state.waiting() == Some(claim("B")));
 }
 
-fn expect_border(
-    rt: &impl Abort,
-    size: (u16, u16),
-    asked: [u16; 4],
-    answer: &str,
-    border: [u16; 4],
-) {
+fn border_in(words: &mut SplitWhitespace<'_>) -> [u16; 4] {
+    let mut border = [0; 4];
+    for side in &mut border {
+        *side = number(word(words));
+    }
+    border
+}
+
+fn leaves_room(rt: &impl Abort, row: &str) -> bool {
+    let mut words = row.split_whitespace();
+    let width = number(word(&mut words));
+    let mut ui = FrameUi::new(width, number(word(&mut words)));
     let tools = Tools {
         menus: menus(rt, b"Draw"),
-        border: asked,
+        border: border_in(&mut words),
     };
-    let mut ui = FrameUi::new(size.0, size.1);
-    assert!(rt; apply(&mut ui, Event::Ask(A), &tools).is_ok());
-    let given = apply(&mut ui, Event::Granted(A), &tools);
-    assert!(rt; told(given) == answer, "{asked:?}");
-    assert!(rt; state(&ui) == state_at(At::Held, &tools), "{asked:?}");
-    expect_shown(rt, &ui, Some("Draw"), border);
+    let asked = apply(&mut ui, "ask", "A", &tools).is_ok();
+    let answer = told(apply(&mut ui, "granted", "A", &tools));
+    asked
+        && answer == word(&mut words)
+        && is_at(&ui, "Held", &tools)
+        && has_border(&ui, &mut words)
+        && has_menu(&ui, &mut DRAWING.split_whitespace())
 }
 
 #[test]
 fn a_border_leaves_room(rt: HostRuntime) {
-    expect_border(&rt, (3, 10), [3, 0, 0, 0], "NoToolSpace", [0; 4]);
-    expect_border(&rt, (4, 10), [3, 0, 0, 0], "Ok", [3, 0, 0, 0]);
-    expect_border(&rt, (4, 10), [2, 0, 2, 0], "NoToolSpace", [0; 4]);
-    expect_border(&rt, (40, 1), [0, 1, 0, 0], "NoToolSpace", [0; 4]);
-    expect_border(&rt, (40, 2), [0, 1, 0, 0], "Ok", [0, 1, 0, 0]);
-    expect_border(&rt, (40, 2), [0, 1, 0, 1], "NoToolSpace", [0; 4]);
-    expect_border(&rt, (40, 10), [65535, 0, 65535, 0], "NoToolSpace", [0; 4]);
-}
-
-#[test]
-fn grant_faults_have_their_names(rt: HostRuntime) {
-    assert!(rt; told(Err(GrantFault::NoToolSpace)) == "NoToolSpace");
-    assert!(rt; told(Err(GrantFault::NotHolder)) == "NotHolder");
-    assert!(rt; told(Err(GrantFault::Busy)) == "Busy");
+    for row in BORDERS.split('\n') {
+        assert!(rt; leaves_room(&rt, row), "{row}");
+    }
 }
 
 #[test]

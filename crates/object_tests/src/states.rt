@@ -1,332 +1,275 @@
 //! The tables of the states, row by row.
 
+use crate::texts::{halves, word};
 use object_state::{
     CloseOption, Menus, ObjectState, Op, Persist, PersistState, StateFault, States, Step, Verb,
     are_printable, is_printable, laws,
 };
-use std::alloc::{AllocError, Global};
+use std::str::SplitWhitespace;
 use std::test::Fail;
 
-const COMPLETED: Op = Op::SaveCompleted {
-    save: 5,
-    storage: true,
-};
+const STORAGES: &str = "Unset Normal NoScribble HandsOff";
 
-const COMPLETED_WITHOUT: Op = Op::SaveCompleted {
-    save: 5,
-    storage: false,
-};
+const WINDOWS: &str = "Passive Loaded Running InPlaceActive UiActive Open";
 
-const ANOTHER_COMPLETED: Op = Op::SaveCompleted {
-    save: 4,
-    storage: true,
-};
+/// Each operation, what it makes of an object's storage in each state where the last save was number 5, and of a window in
+/// each. A refusal is `-` for WrongState, else the fault's name behind `!`.
+const OPERATIONS: &str =
+    "InitNew Normal !AlreadyInitialized !AlreadyInitialized !AlreadyInitialized - Running - - - -
+Load Normal !AlreadyInitialized !AlreadyInitialized !AlreadyInitialized - Running - - - -
+Save6 !NotInitialized NoScribble !Scribble !HandsOff - - Running InPlaceActive UiActive Open
+HandsOff !NotInitialized HandsOff HandsOff !HandsOff - - Running InPlaceActive UiActive Open
+Completed5 !NotInitialized - Normal Normal - - Running InPlaceActive UiActive Open
+CompletedWithout5 !NotInitialized - Normal !NeedsStorage - - Running InPlaceActive UiActive Open
+Dropped5 !NotInitialized - Normal Normal - - Running InPlaceActive UiActive Open
+Completed4 !NotInitialized - - - - - Running InPlaceActive UiActive Open
+Dropped4 !NotInitialized - - - - - Running InPlaceActive UiActive Open
+InPlace !NotInitialized Normal NoScribble HandsOff - - InPlaceActive - - -
+UiActivate !NotInitialized Normal NoScribble HandsOff - - - UiActive - -
+UiDeactivate !NotInitialized Normal NoScribble HandsOff - - - - InPlaceActive -
+InPlaceDeactivate !NotInitialized Normal NoScribble HandsOff - - - Running - Running
+OpenWindow !NotInitialized Normal NoScribble HandsOff - - Open - - -
+Edit !NotInitialized Normal NoScribble HandsOff - - Running InPlaceActive UiActive Open
+SaveIfDirty !NotInitialized Normal NoScribble HandsOff - - Passive - - -
+NoSave !NotInitialized Normal NoScribble HandsOff - - Passive - - -";
 
-/// Each operation, what it makes of an object's storage that is Unset, Normal, NoScribble or HandsOff where the last
-/// save was number 5, and of a window that is Passive, Loaded, Running, InPlaceActive, UiActive or Open. A refusal is `-`
-/// for WrongState, else the fault's name behind `!`.
-const OPERATIONS: [(Op, &str); 17] = [
-    (
-        Op::InitNew,
-        "Normal !AlreadyInitialized !AlreadyInitialized !AlreadyInitialized | - Running - - - - ",
-    ),
-    (
-        Op::Load,
-        "Normal !AlreadyInitialized !AlreadyInitialized !AlreadyInitialized | - Running - - - - ",
-    ),
-    (
-        Op::Save(6),
-        "!NotInitialized NoScribble !Scribble !HandsOff | - - Running InPlaceActive UiActive Open ",
-    ),
-    (
-        Op::HandsOff,
-        "!NotInitialized HandsOff HandsOff !HandsOff | - - Running InPlaceActive UiActive Open ",
-    ),
-    (
-        COMPLETED,
-        "!NotInitialized - Normal Normal | - - Running InPlaceActive UiActive Open ",
-    ),
-    (
-        COMPLETED_WITHOUT,
-        "!NotInitialized - Normal !NeedsStorage | - - Running InPlaceActive UiActive Open ",
-    ),
-    (
-        Op::SaveDropped(5),
-        "!NotInitialized - Normal Normal | - - Running InPlaceActive UiActive Open ",
-    ),
-    (
-        ANOTHER_COMPLETED,
-        "!NotInitialized - - - | - - Running InPlaceActive UiActive Open ",
-    ),
-    (
-        Op::SaveDropped(4),
-        "!NotInitialized - - - | - - Running InPlaceActive UiActive Open ",
-    ),
-    (
-        Op::InPlace,
-        "!NotInitialized Normal NoScribble HandsOff | - - InPlaceActive - - - ",
-    ),
-    (
-        Op::UiActivate(1),
-        "!NotInitialized Normal NoScribble HandsOff | - - - UiActive - - ",
-    ),
-    (
-        Op::UiDeactivate,
-        "!NotInitialized Normal NoScribble HandsOff | - - - - InPlaceActive - ",
-    ),
-    (
-        Op::InPlaceDeactivate,
-        "!NotInitialized Normal NoScribble HandsOff | - - - Running - Running ",
-    ),
-    (
-        Op::OpenWindow,
-        "!NotInitialized Normal NoScribble HandsOff | - - Open - - - ",
-    ),
-    (
-        Op::Edit,
-        "!NotInitialized Normal NoScribble HandsOff | - - Running InPlaceActive UiActive Open ",
-    ),
-    (
-        Op::Close(CloseOption::SaveIfDirty),
-        "!NotInitialized Normal NoScribble HandsOff | - - Passive - - - ",
-    ),
-    (
-        Op::Close(CloseOption::NoSave),
-        "!NotInitialized Normal NoScribble HandsOff | - - Passive - - - ",
-    ),
-];
+/// The operations from the first to the last of a save, and behind each the number of the last save, and whether the object
+/// may read and write.
+const SAVE: &str = "InitNew none true true
+Save5 5 true false
+HandsOff 5 false false
+Completed5 5 true true";
 
-fn push_fault(row: &mut String, fault: StateFault) -> Result<(), AllocError> {
-    if fault == StateFault::WrongState {
-        return row.push_str("- ");
-    }
-    row.push_str("!")?;
-    row.push_str(fault.name())?;
-    row.push_str(" ")
-}
+/// Each verb's number, what it leads to, and its steps from each state of a window.
+const VERBS: &str = "0 menus - ; - ; InPlace UiActivate ; UiActivate ; ; - ;
+-1 menus - ; - ; InPlace UiActivate ; UiActivate ; ; - ;
+-4 menus - ; - ; InPlace UiActivate ; UiActivate ; ; - ;
+-2 none - ; - ; OpenWindow ; InPlaceDeactivate OpenWindow ; UiDeactivate InPlaceDeactivate OpenWindow ; ;
+-3 none - ; - ; ; InPlaceDeactivate ; UiDeactivate InPlaceDeactivate ; InPlaceDeactivate ;
+-5 none - ; - ; InPlace ; ; UiDeactivate ; - ;";
 
-fn storage_name(state: PersistState) -> &'static str {
-    match state {
-        PersistState::Unset => "Unset ",
-        PersistState::Normal => "Normal ",
-        PersistState::NoScribble => "NoScribble ",
-        PersistState::HandsOff => "HandsOff ",
+const CLOSES: &str =
+    "SaveIfDirty - ; - ; SaveIfDirty ; InPlaceDeactivate SaveIfDirty ; UiDeactivate InPlaceDeactivate SaveIfDirty ; InPlaceDeactivate SaveIfDirty ;
+NoSave - ; - ; NoSave ; InPlaceDeactivate NoSave ; UiDeactivate InPlaceDeactivate NoSave ; InPlaceDeactivate NoSave ;";
+
+fn op(name: &str) -> Op {
+    match name {
+        "InitNew" => Op::InitNew,
+        "Load" => Op::Load,
+        "Save5" => Op::Save(5),
+        "Save6" => Op::Save(6),
+        "HandsOff" => Op::HandsOff,
+        "Completed5" => completed(5, true),
+        "CompletedWithout5" => completed(5, false),
+        "Completed4" => completed(4, true),
+        "Dropped5" => Op::SaveDropped(5),
+        "Dropped4" => Op::SaveDropped(4),
+        "InPlace" => Op::InPlace,
+        "UiActivate" => Op::UiActivate(9),
+        "UiDeactivate" => Op::UiDeactivate,
+        "InPlaceDeactivate" => Op::InPlaceDeactivate,
+        "OpenWindow" => Op::OpenWindow,
+        "SaveIfDirty" => Op::Close(CloseOption::SaveIfDirty),
+        "NoSave" => Op::Close(CloseOption::NoSave),
+        _ => Op::Edit,
     }
 }
 
-fn window_name(state: ObjectState) -> &'static str {
-    match state {
-        ObjectState::Passive => "Passive ",
-        ObjectState::Loaded => "Loaded ",
-        ObjectState::Running => "Running ",
-        ObjectState::InPlaceActive => "InPlaceActive ",
-        ObjectState::UiActive => "UiActive ",
-        ObjectState::Open => "Open ",
+fn completed(save: u32, storage: bool) -> Op {
+    Op::SaveCompleted { save, storage }
+}
+
+fn storage(name: &str) -> PersistState {
+    match name {
+        "Unset" => PersistState::Unset,
+        "Normal" => PersistState::Normal,
+        "NoScribble" => PersistState::NoScribble,
+        _ => PersistState::HandsOff,
     }
 }
 
-fn push_storage(
-    row: &mut String,
-    state: PersistState,
-    last_save: Option<u32>,
-    op: Op,
-) -> Result<(), AllocError> {
-    match (Persist { state, last_save }).step(op) {
-        Ok(after) => row.push_str(storage_name(after.state)),
-        Err(fault) => push_fault(row, fault),
+fn window(name: &str) -> ObjectState {
+    match name {
+        "Passive" => ObjectState::Passive,
+        "Loaded" => ObjectState::Loaded,
+        "Running" => ObjectState::Running,
+        "InPlaceActive" => ObjectState::InPlaceActive,
+        "UiActive" => ObjectState::UiActive,
+        _ => ObjectState::Open,
     }
 }
 
-fn push_window(row: &mut String, state: ObjectState, op: Op) -> Result<(), AllocError> {
-    match state.step(op) {
-        Ok(after) => row.push_str(window_name(after)),
-        Err(fault) => push_fault(row, fault),
+fn step_name(step: Step) -> &'static str {
+    match step {
+        Step::InPlace => "InPlace",
+        Step::UiActivate => "UiActivate",
+        Step::UiDeactivate => "UiDeactivate",
+        Step::InPlaceDeactivate => "InPlaceDeactivate",
+        Step::OpenWindow => "OpenWindow",
+        Step::Close(CloseOption::SaveIfDirty) => "SaveIfDirty",
+        Step::Close(CloseOption::NoSave) => "NoSave",
     }
 }
 
-fn row_of(alloc: Global, op: Op) -> Result<String, AllocError> {
-    let mut row = String::new(alloc);
-    for state in [
-        PersistState::Unset,
-        PersistState::Normal,
-        PersistState::NoScribble,
-        PersistState::HandsOff,
-    ] {
-        push_storage(&mut row, state, Some(5), op)?;
-    }
-    row.push_str("| ")?;
-    for state in WINDOWS {
-        push_window(&mut row, state, op)?;
-    }
-    Ok(row)
+fn is_refusal(want: &str) -> bool {
+    want == "-" || want.starts_with("!")
 }
 
-const WINDOWS: [ObjectState; 6] = [
-    ObjectState::Passive,
-    ObjectState::Loaded,
-    ObjectState::Running,
-    ObjectState::InPlaceActive,
-    ObjectState::UiActive,
-    ObjectState::Open,
-];
-
-#[test]
-fn states_go_by_their_tables(rt: HostRuntime) -> Result<(), Fail> {
-    for (op, want) in OPERATIONS {
-        let row = row_of(rt.alloc(), op)?;
-        assert!(rt; row.as_str() == want, "{op:?}: {row}");
+fn is_refused(fault: StateFault, want: &str) -> bool {
+    match want {
+        "-" => fault.name() == "WrongState",
+        _ => halves(want, "!").1 == fault.name(),
     }
-    Ok(())
+}
+
+/// Whether an operation makes this of a storage in this state.
+fn stores(state: &str, last_save: Option<u32>, operation: Op, want: &str) -> bool {
+    let persist = Persist {
+        state: storage(state),
+        last_save,
+    };
+    match persist.step(operation) {
+        Ok(after) => !is_refusal(want) && after.state == storage(want),
+        Err(fault) => is_refused(fault, want),
+    }
+}
+
+/// Whether an operation makes this of a window in this state.
+fn shows(state: &str, operation: Op, want: &str) -> bool {
+    match window(state).step(operation) {
+        Ok(after) => !is_refusal(want) && after == window(want),
+        Err(fault) => is_refused(fault, want),
+    }
+}
+
+fn goes_by(row: &str) -> bool {
+    let mut words = row.split_whitespace();
+    let operation = op(word(&mut words));
+    for state in STORAGES.split_whitespace() {
+        if !stores(state, Some(5), operation, word(&mut words)) {
+            return false;
+        }
+    }
+    for state in WINDOWS.split_whitespace() {
+        if !shows(state, operation, word(&mut words)) {
+            return false;
+        }
+    }
+    true
 }
 
 #[test]
-fn before_any_save_none_is_ended(rt: HostRuntime) -> Result<(), Fail> {
-    for op in [ANOTHER_COMPLETED, Op::SaveDropped(4)] {
-        let mut row = String::new(rt.alloc());
-        push_storage(&mut row, PersistState::HandsOff, None, op)?;
-        assert!(rt; row.as_str() == "- ", "{op:?}: {row}");
+fn states_go_by_their_tables(rt: HostRuntime) {
+    for row in OPERATIONS.split('\n') {
+        assert!(rt; goes_by(row), "{row}");
     }
-    Ok(())
+    // before any save none is ended
+    assert!(rt; stores("HandsOff", None, op("Completed4"), "-"));
+    assert!(rt; stores("HandsOff", None, op("Dropped4"), "-"));
 }
 
-/// The states from the first to the last operation of a save, each with the number of the last save, and whether the
-/// object may read and write.
+fn is_at(persist: Persist, words: &mut SplitWhitespace<'_>) -> bool {
+    persist.last_save == word(words).parse::<u32>().ok()
+        && persist.state.may_read() == (word(words) == "true")
+        && persist.state.may_write() == (word(words) == "true")
+}
+
 #[test]
 fn a_save_from_first_to_last(rt: HostRuntime) -> Result<(), Fail> {
     let mut persist = Persist::new();
-    assert!(rt; is_at(persist, None, false, false));
-    persist = persist.step(Op::InitNew)?;
-    assert!(rt; is_at(persist, None, true, true));
-    persist = persist.step(Op::Save(5))?;
-    assert!(rt; is_at(persist, Some(5), true, false));
-    persist = persist.step(Op::HandsOff)?;
-    assert!(rt; is_at(persist, Some(5), false, false));
-    persist = persist.step(COMPLETED)?;
-    assert!(rt; is_at(persist, Some(5), true, true));
+    assert!(rt; is_at(persist, &mut "none false false".split_whitespace()));
+    for row in SAVE.split('\n') {
+        let mut words = row.split_whitespace();
+        persist = persist.step(op(word(&mut words)))?;
+        assert!(rt; is_at(persist, &mut words), "{row}");
+    }
     Ok(())
 }
 
-fn is_at(persist: Persist, last_save: Option<u32>, reads: bool, writes: bool) -> bool {
-    persist.last_save == last_save
-        && persist.state.may_read() == reads
-        && persist.state.may_write() == writes
+fn refuses(states: States, operation: &str, want: &str) -> bool {
+    match states.step(op(operation)) {
+        Ok(_) => false,
+        Err(fault) => is_refused(fault, want),
+    }
 }
 
 #[test]
 fn both_tables_are_kept(rt: HostRuntime) -> Result<(), Fail> {
     let running = States::new().step(Op::Load)?;
-    assert!(rt; running.persist.state == PersistState::Normal);
-    assert!(rt; running.object == ObjectState::Running);
-    assert!(rt; running.step(Op::UiDeactivate) == Err(StateFault::WrongState));
-    assert!(rt; running.step(Op::InitNew) == Err(StateFault::AlreadyInitialized));
+    assert!(rt; running.persist.state == storage("Normal") && running.object == window("Running"));
+    assert!(rt; refuses(running, "UiDeactivate", "-"));
+    assert!(rt; refuses(running, "InitNew", "!AlreadyInitialized"));
     Ok(())
 }
 
-/// Of each verb's number whether it leads to menus and border space, and its steps from each state.
-const VERBS: [(i32, &str); 6] = [
-    (0, "ui | -; -; InPlace UiActivate ; UiActivate ; ; -; "),
-    (-1, "ui | -; -; InPlace UiActivate ; UiActivate ; ; -; "),
-    (-4, "ui | -; -; InPlace UiActivate ; UiActivate ; ; -; "),
-    (
-        -2,
-        "| -; -; OpenWindow ; InPlaceDeactivate OpenWindow ; UiDeactivate InPlaceDeactivate OpenWindow ; ; ",
-    ),
-    (
-        -3,
-        "| -; -; ; InPlaceDeactivate ; UiDeactivate InPlaceDeactivate ; InPlaceDeactivate ; ",
-    ),
-    (-5, "| -; -; InPlace ; ; UiDeactivate ; -; "),
-];
-
-fn step_name(step: Step) -> &'static str {
-    match step {
-        Step::InPlace => "InPlace ",
-        Step::UiActivate => "UiActivate ",
-        Step::UiDeactivate => "UiDeactivate ",
-        Step::InPlaceDeactivate => "InPlaceDeactivate ",
-        Step::OpenWindow => "OpenWindow ",
-        Step::Close(CloseOption::SaveIfDirty) => "SaveIfDirty ",
-        Step::Close(CloseOption::NoSave) => "NoSave ",
-    }
-}
-
-fn push_steps(row: &mut String, steps: Option<&[Step]>) -> Result<(), AllocError> {
-    match steps {
-        Some(steps) => {
-            for step in steps {
-                row.push_str(step_name(*step))?;
-            }
+/// Whether steps are these, up to the next `;`.
+fn are_steps(steps: Option<&[Step]>, words: &mut SplitWhitespace<'_>) -> bool {
+    let Some(steps) = steps else {
+        return word(words) == "-" && word(words) == ";";
+    };
+    for step in steps {
+        let name = word(words);
+        if step_name(*step) != name || step.op(9) != op(name) {
+            return false;
         }
-        None => row.push_str("-")?,
     }
-    row.push_str("; ")
+    word(words) == ";"
 }
 
-fn verb_row(alloc: Global, verb: Verb) -> Result<String, AllocError> {
-    let mut row = String::new(alloc);
-    if verb.activates_ui() {
-        row.push_str("ui ")?;
+fn verb_has_its_steps(row: &str) -> bool {
+    let mut words = row.split_whitespace();
+    let Some(verb) = verb(word(&mut words)) else {
+        return false;
+    };
+    if verb.activates_ui() != (word(&mut words) == "menus") {
+        return false;
     }
-    row.push_str("| ")?;
-    for state in WINDOWS {
-        push_steps(&mut row, verb.steps(state))?;
+    for state in WINDOWS.split_whitespace() {
+        if !are_steps(verb.steps(window(state)), &mut words) {
+            return false;
+        }
     }
-    Ok(row)
+    true
 }
 
-fn close_row(alloc: Global, option: CloseOption) -> Result<String, AllocError> {
-    let mut row = String::new(alloc);
-    for state in WINDOWS {
-        push_steps(&mut row, option.steps(state))?;
-    }
-    Ok(row)
+fn verb(number: &str) -> Option<Verb> {
+    Verb::new(number.parse::<i32>().ok()?)
 }
 
-#[test]
-fn verbs_have_their_steps(rt: HostRuntime) -> Result<(), Fail> {
-    for (number, want) in VERBS {
-        let verb = Verb::new(number).expect(&rt, "a verb");
-        let row = verb_row(rt.alloc(), verb)?;
-        assert!(rt; row.as_str() == want, "{number}: {row}");
+fn close_has_its_steps(option: CloseOption, row: &str) -> bool {
+    let mut words = row.split_whitespace();
+    if Op::Close(option) != op(word(&mut words)) {
+        return false;
     }
-    for number in [1, -6, i32::MAX, i32::MIN] {
-        assert!(rt; Verb::new(number).is_none(), "{number}");
+    for state in WINDOWS.split_whitespace() {
+        if !are_steps(option.steps(window(state)), &mut words) {
+            return false;
+        }
     }
-    Ok(())
-}
-
-#[test]
-fn closes_have_their_steps(rt: HostRuntime) -> Result<(), Fail> {
-    let saved = close_row(rt.alloc(), CloseOption::SaveIfDirty)?;
-    assert!(rt;
-        saved.as_str()
-            == "-; -; SaveIfDirty ; InPlaceDeactivate SaveIfDirty ; UiDeactivate InPlaceDeactivate SaveIfDirty ; InPlaceDeactivate SaveIfDirty ; "
-    );
-    let unsaved = close_row(rt.alloc(), CloseOption::NoSave)?;
-    assert!(rt;
-        unsaved.as_str()
-            == "-; -; NoSave ; InPlaceDeactivate NoSave ; UiDeactivate InPlaceDeactivate NoSave ; InPlaceDeactivate NoSave ; "
-    );
-    Ok(())
-}
-
-fn is_operation(step: Step, op: Op) -> bool {
-    step.op(9) == op
+    true
 }
 
 #[test]
-fn steps_are_operations(rt: HostRuntime) {
-    assert!(rt; is_operation(Step::InPlace, Op::InPlace));
-    assert!(rt; is_operation(Step::UiActivate, Op::UiActivate(9)));
-    assert!(rt; is_operation(Step::UiDeactivate, Op::UiDeactivate));
-    assert!(rt; is_operation(Step::InPlaceDeactivate, Op::InPlaceDeactivate));
-    assert!(rt; is_operation(Step::OpenWindow, Op::OpenWindow));
-    for option in [CloseOption::SaveIfDirty, CloseOption::NoSave] {
-        assert!(rt; is_operation(Step::Close(option), Op::Close(option)));
+fn verbs_and_closes_have_their_steps(rt: HostRuntime) {
+    for row in VERBS.split('\n') {
+        assert!(rt; verb_has_its_steps(row), "{row}");
     }
+    for number in "1 -6 2147483647 -2147483648".split_whitespace() {
+        assert!(rt; verb(number).is_none(), "{number}");
+    }
+    let (saving, dropping) = halves(CLOSES, "\n");
+    assert!(rt; close_has_its_steps(CloseOption::SaveIfDirty, saving));
+    assert!(rt; close_has_its_steps(CloseOption::NoSave, dropping));
 }
 
-fn are_menus(edit: &str, object: &str, help: &str) -> bool {
+/// Menus with `|` between their texts.
+const MENUS: &str = "Edit|Note|,sixteen letters.||~ ";
+
+const NO_MENUS: &str = "seventeen letters||,Edit|No\nte|Help,Edit|Note|\x7f";
+
+fn are_menus(row: &str) -> bool {
+    let (edit, rest) = halves(row, "|");
+    let (object, help) = halves(rest, "|");
     match Menus::new(edit.as_bytes(), object.as_bytes(), help.as_bytes()) {
         Some(menus) => {
             menus.edit.as_bytes() == edit.as_bytes()
@@ -339,26 +282,13 @@ fn are_menus(edit: &str, object: &str, help: &str) -> bool {
 
 #[test]
 fn menus_are_short_and_printable(rt: HostRuntime) {
-    assert!(rt; are_menus("Edit", "Note", ""));
-    assert!(rt; are_menus("sixteen letters.", "", "~ "));
-    assert!(rt; !are_menus("seventeen letters", "", ""));
-    assert!(rt; !are_menus("Edit", "No\nte", "Help"));
-    assert!(rt; !are_menus("Edit", "Note", "\x7f"));
+    for row in MENUS.split(',') {
+        assert!(rt; are_menus(row), "{row}");
+    }
+    for row in NO_MENUS.split(',') {
+        assert!(rt; !are_menus(row), "{row}");
+    }
     assert!(rt; is_printable(b'~') && are_printable(b" ~") && !are_printable(b" \x7f"));
-}
-
-fn is_named(fault: StateFault, name: &str) -> bool {
-    fault.name() == name
-}
-
-#[test]
-fn state_faults_have_their_names(rt: HostRuntime) {
-    assert!(rt; is_named(StateFault::AlreadyInitialized, "AlreadyInitialized"));
-    assert!(rt; is_named(StateFault::NotInitialized, "NotInitialized"));
-    assert!(rt; is_named(StateFault::Scribble, "Scribble"));
-    assert!(rt; is_named(StateFault::HandsOff, "HandsOff"));
-    assert!(rt; is_named(StateFault::NeedsStorage, "NeedsStorage"));
-    assert!(rt; is_named(StateFault::WrongState, "WrongState"));
 }
 
 #[test]

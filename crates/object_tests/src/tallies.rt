@@ -1,10 +1,10 @@
 //! Tallies: each object tells its own once, as it is dropped.
 
 use crate::objects::{drawing, note, table};
+use crate::texts::halves;
 use embed_core::embedded::Embedded;
 use embed_core::tally::Tally;
 use std::alloc::Global;
-use std::process::Abort;
 use std::test::Fail;
 
 /// Edits an object, and drops it where the edit is refused.
@@ -16,20 +16,21 @@ fn edited(alloc: Global, mut object: Box<dyn Embedded>, edit: &[u8]) -> Option<B
 }
 
 /// Of two objects the second is dropped as its edit is refused, and the first behind it.
-fn expect_counts(
-    rt: &impl Abort,
-    tally: &Tally,
-    objects: (Box<dyn Embedded>, Box<dyn Embedded>),
-    edits: (&[u8], &[u8]),
+fn are_counted(
     alloc: Global,
-) {
+    tally: &Tally,
+    first: Box<dyn Embedded>,
+    second: Box<dyn Embedded>,
+    edits: &str,
+) -> bool {
     let before = tally.count();
-    let first = edited(alloc, objects.0, edits.0);
-    assert!(rt; first.is_some() && is_past(tally, before, 0));
-    let second = edited(alloc, objects.1, edits.1);
-    assert!(rt; second.is_none() && is_past(tally, before, 1));
+    let (good, bad) = halves(edits, "|");
+    let first = edited(alloc, first, good.as_bytes());
+    let both = first.is_some() && is_past(tally, before, 0);
+    let second = edited(alloc, second, bad.as_bytes());
+    let one = second.is_none() && is_past(tally, before, 1);
     drop(first);
-    assert!(rt; is_past(tally, before, 2));
+    both && one && is_past(tally, before, 2)
 }
 
 fn is_past(tally: &Tally, before: u32, count: u32) -> bool {
@@ -40,12 +41,15 @@ fn is_past(tally: &Tally, before: u32, count: u32) -> bool {
 fn each_object_is_counted_once(rt: HostRuntime) -> Result<(), Fail> {
     let alloc = rt.alloc();
     let tally = Tally::new(alloc)?;
-    let notes = (note(alloc, &tally)?, note(alloc, &tally)?);
-    expect_counts(&rt, &tally, notes, (b"i 0 ab", b"d 0 2"), alloc);
-    let tables = (table(alloc, &tally)?, table(alloc, &tally)?);
-    expect_counts(&rt, &tally, tables, (b"s A1 x", b"c A1"), alloc);
-    let drawings = (drawing(alloc, &tally)?, drawing(alloc, &tally)?);
-    expect_counts(&rt, &tally, drawings, (b"b 0 0 3 2", b"r 1"), alloc);
+    let first = note(alloc, &tally)?;
+    let second = note(alloc, &tally)?;
+    assert!(rt; are_counted(alloc, &tally, first, second, "i 0 ab|d 0 2"));
+    let first = table(alloc, &tally)?;
+    let second = table(alloc, &tally)?;
+    assert!(rt; are_counted(alloc, &tally, first, second, "s A1 x|c A1"));
+    let first = drawing(alloc, &tally)?;
+    let second = drawing(alloc, &tally)?;
+    assert!(rt; are_counted(alloc, &tally, first, second, "b 0 0 3 2|r 1"));
     Ok(())
 }
 
@@ -53,10 +57,10 @@ fn each_object_is_counted_once(rt: HostRuntime) -> Result<(), Fail> {
 fn a_tally_is_shared(rt: HostRuntime) -> Result<(), Fail> {
     let tally = Tally::new(rt.alloc())?;
     let other = tally.share()?;
-    assert_eq!(rt; other.count(), 0);
+    assert!(rt; other.count() == 0);
     other.raise();
     tally.raise();
     drop(other);
-    assert_eq!(rt; tally.count(), 2);
+    assert!(rt; tally.count() == 2);
     Ok(())
 }

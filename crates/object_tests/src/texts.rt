@@ -1,6 +1,7 @@
 //! How tests spell bytes: `$` for a line feed, `c{60}` for sixty times `c`, `<ab>{60}` for sixty times `ab`.
 
 use std::alloc::{AllocError, Global};
+use std::str::SplitWhitespace;
 
 /// Bytes that are being spelled.
 #[derive(Drop)]
@@ -72,4 +73,9 @@ pub(crate) fn halves<'a>(text: &'a str, mark: &str) -> (&'a str, &'a str) {
         Some(halves) => halves,
         None => (text, ""),
     }
+}
+
+/// The next word of a row, and none at its end.
+pub(crate) fn word<'a>(words: &mut SplitWhitespace<'a>) -> &'a str {
+    words.next().unwrap_or("")
 }
