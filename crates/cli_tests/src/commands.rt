@@ -2,9 +2,10 @@
 //! a command leave its contract behind, so that those above are quick to prove.
 
 use cfb_names::name::Name;
+use container_cli::container::Limits;
 use container_cli::fault::SimulateFault;
 use container_cli::simulation::simulate;
-use container_cli::container::Limits;
+use container_cli::stock::Stock;
 use file_commands::cleaning::clean_file;
 use file_commands::commands::{list_file, make_file};
 use file_commands::fault::{CleanFault, GetFault, ListFault, MakeFault};
@@ -14,7 +15,6 @@ use std::io::{Read, Write};
 use texts::path::Path;
 use texts::report::Report;
 use world_model::event::Stop;
-use container_cli::stock::Stock;
 
 fn printed(alloc: Global, report: Report<'_>) -> Result<String, AllocError> {
     report.to_string(alloc)

@@ -4,7 +4,6 @@
 use crate::files::file;
 use crate::reports::{is_unwritten, report};
 use crate::shown::{answer, shown};
-use world_run::container::Limits;
 use embed_core::embedded::Embedded;
 use embed_core::tally::Tally;
 use embed_note::note::Note;
@@ -14,6 +13,7 @@ use std::process::Abort;
 use std::test::Fail;
 use texts::lines::Grammar;
 use world_model::event::{Event, Stop};
+use world_run::container::Limits;
 use world_run::stock::Stock;
 use world_run::world::World;
 
