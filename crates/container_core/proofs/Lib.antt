@@ -9,5 +9,6 @@ pub mod CommandsEdit
 pub mod CommandsSave
 pub mod StepsKeep
 pub mod VerbsPlaced
+pub mod Missing
 pub mod VerbsTaken
 pub mod VerbsApart

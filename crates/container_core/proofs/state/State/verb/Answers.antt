@@ -1,4 +1,4 @@
-use Rattle.std.proofs.Common.{◌≡◌, ◌∙◌, ℕ, IfSome, List, Ok, Option, Some, ap, slice_get, subst, sym}
+use Rattle.std.proofs.Common.{◌≡◌, ◌∙◌, ℕ, IfSome, List, Ok, Option, Some, ap, refl, slice_get, subst, sym}
 use Rattle.std.proofs.Math.Facts.{to_z-of_z}
 use Rattle.std.proofs.lemmas.Option.{same_Some}
 use Rattle.std.proofs.lemmas.Result.{IfErr-weaker, IfOk-weaker}
@@ -9,9 +9,16 @@ use Rattle.container_model.specs.declared.record.Frame.{Frame}
 use Rattle.container_model.specs.declared.record.Object.{Object}
 use Rattle.container_model.specs.Numbered.{IsNth}
 use Rattle.container_model.specs.Record.{Record, Refuses, counts_none, is_object}
-use Rattle.container_model.specs.Verbs.{verb, verb_in, verb_linked}
+use Rattle.container_model.specs.Verbs.{verb, verb_at, verb_in, verb_linked}
+use Rattle.container_core.proofs.Missing.{no_object, no_frame}
 use Rattle.container_core.proofs.VerbsPlaced.{at_both, frame_here, object_here, verb_is}
 use Rattle.container_core.proofs.state.State.verb.Goals as goal
+
+pub returns-in_default-clause-refused : goal.returns-in_default-clause-refused
+returns-in_default-clause-refused c = no_object _ c.args.self.now (verb_at c.args.self.now (verb_of c.args.number)) c.args.object _ c.self.view_is c.as_slice.ensures.value c.in_default.ensures.found
+
+pub returns-in_default-place-clause-refused : goal.returns-in_default-place-clause-refused
+returns-in_default-place-clause-refused c = no_frame _ c.args.self.now (verb_at c.args.self.now (verb_of c.args.number)) (λ o. verb_in c.args.self.now o (verb_of c.args.number)) (is_object c.args.object) c.in-Some.i _ _ c.index.result.now c.self.view_is c.as_slice.ensures.value c.as_slice-2.ensures.value (λ o. refl) c.in-Some.ensures.found c.index.ensures c.in_default-place.ensures
 
 pub returns-in-Err-clause-refused : goal.returns-in-Err-clause-refused
 returns-in-Err-clause-refused c =
