@@ -3,7 +3,7 @@ use Rattle.std.proofs.Common.{◌≡◌, ◌++◌, ℕ, zero, suc, List, [], ◌
 use Rattle.embed_core.specs.Kinds.{Kind}
 use Rattle.world_model.specs.Report.{report}
 use Rattle.world_model.specs.World.{World, Run, StopsAt, empty_world}
-use Rattle.world_run.proofs.Held.{empty_held, held_run, safe_held}
+use Rattle.world_run.proofs.Reached.{empty_held, held_run, safe_held}
 use Rattle.world_model.specs.declared.event.Event.{Event}
 use Rattle.world_model.specs.declared.event.Stop.{Stop}
 use Rattle.event_texts.specs.Answers.{answer_lines}

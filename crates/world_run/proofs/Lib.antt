@@ -9,4 +9,4 @@ pub mod Serving
 pub mod Delivering
 pub mod OwnAccord
 pub mod Runs
-pub use Rattle.world_safety.proofs.Held
+pub use Rattle.world_safety.proofs.Held as Reached
