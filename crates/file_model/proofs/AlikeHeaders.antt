@@ -2,7 +2,7 @@
 use Rattle.std.proofs.Common.{◌≡◌, ◌<◌, ◌≤◌, ◌+◌, ◌-◌, ◌*◌, ℕ, zero, suc, List, ◌∷◌, true, false, inl, inr, cond, not, nat_lt, nat_eq, Result, Ok, Err, length, take, drop, map, refl, sym, ◌∙◌, ap, arith}
 use Rattle.std.proofs.lemmas.Bool.{cases_lt, cond-true}
 use Rattle.std.proofs.lemmas.Bool.Decides.{nat_tests}
-use Rattle.std.proofs.lemmas.List.{drop-take, length-take-le, take-take, take_all}
+use Rattle.std.proofs.lemmas.List.{drop-take, length-take, length-take-le, take-take, take_all}
 use Rattle.std.specs.Int.{w16, w32, from_le_bytes}
 use Rattle.std.specs.Cmp.Lexicographic.{pointwise}
 use Rattle.std.specs.List.{range_with_len, starts_with}
@@ -38,13 +38,13 @@ numbers_alike f g at (suc n) each =
 fat_count_cut : (file : List ℕ) → fat_count (take 512 file) ≡ fat_count file
 fat_count_cut file = u32_cut file 44 (omega arith)
 
-listed_cut : (file : List ℕ) → fat_count file ≤ LISTED → listed (take 512 file) ≡ listed file
+pub listed_cut : (file : List ℕ) → fat_count file ≤ LISTED → listed (take 512 file) ≡ listed file
 listed_cut file few =
     ap (λ n. map (λ k. u32_at (take 512 file) (76 + 4 * k)) (range_with_len 0 n)) (fat_count_cut file)
     ∙ numbers_alike (λ k. u32_at (take 512 file) (76 + 4 * k)) (λ k. u32_at file (76 + 4 * k)) 0 (fat_count file)
     (λ k l. u32_cut file (76 + 4 * k) (omega arith))
 
-header_of_cut : (file : List ℕ) → fat_count file ≤ LISTED → header_of (take 512 file) ≡ header_of file
+pub header_of_cut : (file : List ℕ) → fat_count file ≤ LISTED → header_of (take 512 file) ≡ header_of file
 header_of_cut file few =
     let directory : first_directory (take 512 file) ≡ first_directory file = u32_cut file 48 (omega arith) in
     let mini_fat : first_mini_fat (take 512 file) ≡ first_mini_fat file = u32_cut file 60 (omega arith) in
@@ -129,9 +129,9 @@ module _ (a b : List ℕ) (front : take 512 a ≡ take 512 b) where
       let le : 8 ≤ 512 = omega arith in
       sym (take-take 8 512 b le) ∙ ap (take 8) (sym front) ∙ take-take 8 512 a le
 
-  pub is_header_alike : length a ≡ length b → IsHeader a → IsHeader b
-  is_header_alike len h = record {
-    whole = omega (arith, h.whole);
+  pub is_header_alike : 512 ≤ length b → IsHeader a → IsHeader b
+  is_header_alike long h = record {
+    whole = long;
     signed = signature_alike ∙ h.signed;
     major_version = u16_alike 26 (omega arith) ∙ h.major_version;
     byte_order = u16_alike 28 (omega arith) ∙ h.byte_order;
@@ -145,3 +145,9 @@ module _ (a b : List ℕ) (front : take 512 a ≡ take 512 b) where
   pub header_of_alike : fat_count a ≤ LISTED → header_of a ≡ header_of b
   header_of_alike few =
       sym (header_of_cut a few) ∙ ap header_of front ∙ header_of_cut b (omega (arith, u32_alike 44 (omega arith)))
+
+-- a file whose first 512 bytes have the fixed fields
+pub is_header_of_front : (file : List ℕ) → IsHeader (take 512 file) → IsHeader file
+is_header_of_front file h =
+    let le : 512 ≤ 512 = omega arith in
+    is_header_alike (take 512 file) file (take-take 512 512 file le) (omega (arith, h.whole, length-take 512 file)) h
