@@ -19,7 +19,7 @@ use std::marker::Model;
 pub const NO_STREAM: u32 = 0xffff_ffff;
 
 /// What an entry is.
-#[derive(Debug, Clone, Copy, PartialEq, Eq)]
+#[derive(Clone, Copy, PartialEq, Eq)]
 pub enum EntryKind {
     Storage,
     Stream,

@@ -9,7 +9,7 @@ use crate::entries::EntryKind;
 use std::alloc::AllocError;
 
 /// What an entry says besides its name. The size is in bytes; links to nobody are 0xFFFFFFFF.
-#[derive(Debug, Clone, Copy, PartialEq, Eq)]
+#[derive(Clone, Copy, PartialEq, Eq)]
 pub struct EntryFields {
     pub kind: EntryKind,
     pub left: u32,

@@ -1,7 +1,7 @@
 //! The two areas of a disk.
 
 /// One of a disk's two areas.
-#[derive(Clone, Copy, Debug, PartialEq, Eq)]
+#[derive(Clone, Copy, PartialEq, Eq)]
 pub enum Area {
     /// The document's bytes.
     Document,

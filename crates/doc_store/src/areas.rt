@@ -10,7 +10,7 @@ use crate::area::Area;
 use std::alloc::{AllocError, Global};
 
 /// A call that changes an area, or makes it last.
-#[derive(Debug, Drop)]
+#[derive(Drop)]
 pub enum Call {
     /// These bytes were written to an area, from this offset on.
     Write(Area, u64, Vec<u8>),
@@ -21,7 +21,7 @@ pub enum Call {
 }
 
 /// The bytes of both areas.
-#[derive(Debug, Drop)]
+#[derive(Drop)]
 pub struct Areas {
     /// The document area's.
     pub document: Vec<u8>,

@@ -12,7 +12,7 @@ use crate::failures::fail;
 use std::alloc::{AllocError, Global};
 
 /// Which calls of a disk fail.
-#[derive(Debug, Clone, Copy, PartialEq, Eq)]
+#[derive(Clone, Copy, PartialEq, Eq)]
 pub enum Faults {
     /// None.
     Never,

@@ -3,7 +3,7 @@
 use crate::fault::StoreFault;
 
 /// Why a disk couldn't be opened, and the disk.
-#[derive(Debug, Drop)]
+#[derive(Drop)]
 pub struct Refused<D> {
     /// Why.
     pub fault: StoreFault,

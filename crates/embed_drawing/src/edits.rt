@@ -12,7 +12,7 @@ use crate::shapes::{self, Figure};
 use embed_core::words::{cut, number};
 
 /// An edit of a drawing.
-#[derive(Debug, Clone, Copy)]
+#[derive(Clone, Copy)]
 pub enum DrawingEdit {
     /// A shape more.
     Add(Figure),

@@ -10,7 +10,7 @@ ghost use Rattle.std.specs.Prelude.{◌≡◌};
 use embed_core::words::{cut, number};
 
 /// An edit of a note.
-#[derive(Debug, Clone, Copy)]
+#[derive(Clone, Copy)]
 pub enum NoteEdit<'a> {
     /// A text at a place.
     Insert(u32, &'a [u8]),

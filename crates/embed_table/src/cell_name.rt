@@ -14,7 +14,7 @@ pub const COLUMNS: u16 = 26;
 pub const ROWS: u32 = 99;
 
 /// A cell as a name spells it: its column, from 0 for A, and its row. It may lie outside of a table.
-#[derive(Debug, Clone, Copy)]
+#[derive(Clone, Copy)]
 pub struct CellName {
     /// The column.
     pub column: u8,

@@ -11,7 +11,7 @@ use crate::cell_name::{self, CellName};
 use embed_core::words::cut;
 
 /// An edit of a table.
-#[derive(Debug, Clone, Copy)]
+#[derive(Clone, Copy)]
 pub enum TableEdit<'a> {
     /// A text in a cell.
     Set(CellName, &'a [u8]),

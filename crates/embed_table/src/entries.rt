@@ -18,7 +18,7 @@ use std::alloc::Global;
 use std::collections::BTreeMap;
 
 /// The first of the entries that a stream holds, and what is behind it.
-#[derive(Debug, Clone, Copy)]
+#[derive(Clone, Copy)]
 struct Front<'a> {
     /// The place of its cell.
     place: u16,

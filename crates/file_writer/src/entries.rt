@@ -125,7 +125,7 @@ impl Siblings {
 }
 
 /// Where the next entry, mini sector and sector stand.
-#[derive(Debug, Clone, Copy, PartialEq, Eq)]
+#[derive(Clone, Copy, PartialEq, Eq)]
 struct Cursor {
     id: u32,
     mini: u32,
@@ -298,7 +298,7 @@ fn push_child(
 
 /// What the counts of a tree say of its file: how many FAT sectors, entries below the root, mini sectors and sectors of
 /// long streams it has.
-#[derive(Debug, Clone, Copy, PartialEq, Eq)]
+#[derive(Clone, Copy, PartialEq, Eq)]
 pub(crate) struct Counts {
     pub(crate) fat: u32,
     pub(crate) entries: u32,

@@ -7,7 +7,7 @@ use crate::faults::GrantFault;
 use object_state::Menus;
 
 /// An object that holds the frame or asks for it: its number, its activation's, and that of the grant.
-#[derive(Clone, Copy, Debug, PartialEq, Eq)]
+#[derive(Clone, Copy, PartialEq, Eq)]
 pub struct Claim {
     /// The object.
     pub object: u32,
@@ -19,7 +19,7 @@ pub struct Claim {
 
 /// What a holder answers to its grant: the menus that it adds, and the widths of the border space that
 /// it asks for, in cells: left, top, right, bottom.
-#[derive(Clone, Copy, Debug, PartialEq, Eq)]
+#[derive(Clone, Copy, PartialEq, Eq)]
 pub struct Tools {
     /// The menus that it adds.
     pub menus: Menus,
@@ -28,7 +28,7 @@ pub struct Tools {
 }
 
 /// The state of a frame's grant.
-#[derive(Clone, Copy, Debug, PartialEq, Eq)]
+#[derive(Clone, Copy, PartialEq, Eq)]
 pub enum GrantState {
     /// No object has the frame or is to get it.
     Free,

@@ -27,7 +27,7 @@ use wire_msgs::message::Message;
 use wire_msgs::operation::Operation;
 
 /// Why a body makes no frame.
-#[derive(Debug, Drop)]
+#[derive(Drop)]
 pub enum BodyFault {
     /// It is none of its kind.
     Bad,

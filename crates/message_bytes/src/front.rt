@@ -17,7 +17,7 @@ pub const MOST_BODY: usize = 1_048_576;
 const HEAD_LEN: usize = 10;
 
 /// What the bytes before a body say.
-#[derive(Debug, Drop)]
+#[derive(Drop)]
 pub(crate) enum Head {
     /// They aren't all there.
     Short,

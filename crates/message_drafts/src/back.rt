@@ -10,7 +10,7 @@ use message_model::frame::Frame;
 use std::alloc::{AllocError, Global};
 
 /// How far a body was.
-#[derive(Debug, Clone, Copy)]
+#[derive(Clone, Copy)]
 pub(crate) struct Mark {
     plan: Plan,
     // How many streams there were, and how many bytes the last one and the picture had.

@@ -28,7 +28,7 @@ pub enum Opening {
 }
 
 /// What comes next.
-#[derive(Debug, Clone, Copy, PartialEq, Eq)]
+#[derive(Clone, Copy, PartialEq, Eq)]
 pub enum Phase {
     /// What the last stream lacks, then the fields of the next one, or the length of the picture.
     Fields,
@@ -39,7 +39,7 @@ pub enum Phase {
 }
 
 /// How far a body has come.
-#[derive(Debug, Clone, Copy)]
+#[derive(Clone, Copy)]
 pub struct Plan {
     pub(crate) phase: Phase,
     // How many streams are to come, and how many bytes they and the picture may have.

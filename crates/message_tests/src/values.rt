@@ -55,7 +55,7 @@ fn items_are_kept_in_turn(rt: HostRuntime) -> Result<(), Fail> {
 fn operations_have_their_rows(rt: HostRuntime) -> Result<(), Fail> {
     let class = ClassId::from_bytes([1; 16]);
     let load = Operation::Load(class, Stored::new(rt.alloc()));
-    assert_eq!(rt; load.op(), Op::Load);
+    assert!(rt; load.op() == Op::Load);
     let completed = Operation::SaveCompleted {
         save: 6,
         storage: false,
@@ -64,9 +64,9 @@ fn operations_have_their_rows(rt: HostRuntime) -> Result<(), Fail> {
         save: 6,
         storage: false,
     };
-    assert_eq!(rt; completed.op(), row);
+    assert!(rt; completed.op() == row);
     let close = Operation::Close(CloseOption::NoSave);
-    assert_eq!(rt; close.op(), Op::Close(CloseOption::NoSave));
+    assert!(rt; close.op() == Op::Close(CloseOption::NoSave));
     Ok(())
 }
 

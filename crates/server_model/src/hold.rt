@@ -1,7 +1,7 @@
 //! Who has a frame's menus and border.
 
 /// An activation that has a grant.
-#[derive(Debug, Clone, Copy, PartialEq, Eq)]
+#[derive(Clone, Copy, PartialEq, Eq)]
 pub struct Hold {
     /// The activation.
     pub act: u32,

@@ -25,7 +25,7 @@ pub enum Event {
 }
 
 /// Why a run stops before an event.
-#[derive(Debug, Clone, Copy, PartialEq, Eq)]
+#[derive(Clone, Copy, PartialEq, Eq)]
 pub enum Stop {
     /// The event can't happen in this world.
     NotEnabled,

@@ -25,7 +25,7 @@ use wire_msgs::items::Items;
 use world_model::logs::ServerDone;
 
 /// Why a report isn't written.
-#[derive(Debug, Clone, Copy, PartialEq, Eq)]
+#[derive(Clone, Copy, PartialEq, Eq)]
 pub enum ReportFault {
     /// No memory was left. Then nothing is written.
     NoMemory,

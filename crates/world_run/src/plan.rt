@@ -1,7 +1,7 @@
 //! What the delivery of a message comes to.
 
 /// What the delivery of a message comes to, before anything changes.
-#[derive(Debug, Clone, Copy, PartialEq, Eq)]
+#[derive(Clone, Copy, PartialEq, Eq)]
 pub(crate) enum Plan {
     /// Nothing: the server has ended.
     Quiet,
