@@ -15,3 +15,7 @@ pub mod Placed
 pub mod Contents
 pub mod Refused
 pub mod EmptyDocument
+pub mod AlikeHeaders
+pub mod AlikeStores
+pub mod AlikeTrees
+pub mod AlikeFiles

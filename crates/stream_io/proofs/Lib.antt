@@ -15,3 +15,4 @@ pub mod ReadingStreams
 pub mod ReadingFile
 pub mod ReadingThere
 pub mod ReadingTold
+pub mod ReadingAlike

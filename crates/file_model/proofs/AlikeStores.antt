@@ -1,0 +1,67 @@
+-- Stores with the same links, whatever their sectors hold.
+use Rattle.std.proofs.Common.{◌≡◌, ◌<◌, ◌≤◌, ◌+◌, ◌-◌, ◌*◌, ◌/◌, ℕ, zero, suc, List, [], ◌∷◌, ◌++◌, min, length, get_or, refl, sym, ap, subst}
+use Rattle.std.proofs.lemmas.List.Elements.{All-head, All-tail}
+use Rattle.std.specs.List.{All}
+use Rattle.cfb_chain.specs.Bytes.{joined, sector, u32_at}
+use Rattle.cfb_chain.specs.Chain.{END_OF_CHAIN, IsChain, IsChainOf, IsPresent, Leads, Store}
+use Rattle.cfb_chain.specs.Fat.{IsFat, mini_sectors_of, sectors_of}
+use Rattle.file_model.specs.Alike.{AgreeOn}
+
+pub record HaveSameLinks (s t : Store) : Type 0 where
+  pub count : s.count ≡ t.count
+  pub width : s.width ≡ t.width
+  pub next : s.next ≡ t.next
+
+pub links_back : (s t : Store) → HaveSameLinks s t → HaveSameLinks t s
+links_back s t h = record { count = sym h.count; width = sym h.width; next = sym h.next }
+
+-- ---- a chain of one is a chain of the other
+present_carried : (s t : Store) → HaveSameLinks s t → (ns : List ℕ) → All (IsPresent s) ns → All (IsPresent t) ns
+present_carried s t same ns h = λ k d l. ((h k d l).0, subst (λ (c : ℕ). get_or ns k d < c) same.count (h k d l).1)
+
+pub chain_carried : (s t : Store) → HaveSameLinks s t → (start bytes : ℕ) (ns : List ℕ) → IsChain s start bytes ns → IsChain t start bytes ns
+chain_carried s t same start bytes ns h = record {
+  linked = subst (λ (next : ℕ → ℕ). Leads next start ns END_OF_CHAIN) same.next h.linked;
+  present = present_carried s t same ns h.present;
+  enough = subst (λ (w : ℕ). bytes ≤ w * length ns) same.width h.enough;
+}
+
+pub chain_of_carried : (s t : Store) → HaveSameLinks s t → (start bytes : ℕ) (ns : List ℕ) → IsChainOf s start bytes ns → IsChainOf t start bytes ns
+chain_of_carried s t same start zero ns h = h
+chain_of_carried s t same start (suc n) ns h = chain_carried s t same start (suc n) ns h
+
+-- ---- files that agree on some sectors
+pub agree_back : (a b ns : List ℕ) → AgreeOn a b ns → AgreeOn b a ns
+agree_back a b ns h = λ k d l. sym (h k d l)
+
+pub joined_alike : (a b ns : List ℕ) → AgreeOn a b ns → joined (sector a) ns ≡ joined (sector b) ns
+joined_alike a b [] h = refl
+joined_alike a b (n ∷ ns) h =
+    let first : sector a n ≡ sector b n = All-head (λ n. sector a n ≡ sector b n) n ns h in
+    let rest : joined (sector a) ns ≡ joined (sector b) ns = joined_alike a b ns (All-tail (λ n. sector a n ≡ sector b n) n ns h) in
+    λ i. first i ++ rest i
+
+-- where they agree on the FAT, their sectors have the same links
+pub sectors_alike : (a b fat : List ℕ) → length a ≡ length b → AgreeOn a b fat → HaveSameLinks (sectors_of a fat) (sectors_of b fat)
+unfolding sectors_of
+sectors_alike a b fat len h = record {
+  count = ap (λ n. min (128 * length fat) ((n + 511) / 512 - 1)) len;
+  width = refl;
+  next = λ i n. u32_at (joined_alike a b fat h i) (4 * n);
+}
+
+-- where they agree on the mini FAT, so do their mini sectors
+pub minis_alike : (a b mini_fat mini_stream : List ℕ) (size : ℕ) → AgreeOn a b mini_fat
+    → HaveSameLinks (mini_sectors_of a mini_fat mini_stream size) (mini_sectors_of b mini_fat mini_stream size)
+unfolding mini_sectors_of
+minis_alike a b mini_fat mini_stream size h = record {
+  count = refl;
+  width = refl;
+  next = λ i n. u32_at (joined_alike a b mini_fat h i) (4 * n);
+}
+
+pub fat_alike : (a b fat : List ℕ) → length a ≡ length b → AgreeOn a b fat → IsFat a fat → IsFat b fat
+fat_alike a b fat len agree h = record {
+  present = present_carried (sectors_of a fat) (sectors_of b fat) (sectors_alike a b fat len agree) fat h.present;
+  once = h.once;
+}
