@@ -1,6 +1,6 @@
 -- The blocks of a file of which only some were read.
-use Rattle.std.proofs.Common.{◌≡◌, ◌≢◌, inl, inr, ◌<◌, ◌≤◌, ◌+◌, ◌-◌, ◌*◌, ℕ, zero, suc, List, [], ◌∷◌, ◌++◌, length, take, drop, replicate, get_or, set, min, refl, sym, ap, subst, ◌∙◌, arith, length-append, length-drop, length-set}
-use Rattle.std.proofs.lemmas.List.{append-nil, drop_all, drop-append-le, get_or-set_other, get_or-set_same, length-replicate, length-take, take-append-le, take_all}
+use Rattle.std.proofs.Common.{◌≡◌, ◌≢◌, inl, inr, ◌<◌, ◌≤◌, ◌+◌, ◌-◌, ◌*◌, ℕ, zero, suc, List, [], ◌∷◌, ◌++◌, length, take, drop, replicate, get_or, set, min, refl, sym, ap, subst, ◌∙◌, arith, append_assoc, length-append, length-drop, length-set}
+use Rattle.std.proofs.lemmas.List.{append-nil, drop_all, drop-append-le, get_or-set_other, get_or-set_same, length-replicate, length-take, take-append-le, take_all, take_at}
 use Rattle.std.proofs.lemmas.Bool.{cases_lt}
 use Rattle.std.proofs.Math.Seq.{drop-append_seam, drop-append-add}
 use Rattle.std.proofs.lemmas.List.Elements.{All-replicate, All-set}
@@ -48,7 +48,7 @@ drop_blocks pool (at ∷ places) (suc k) l =
     ap (λ n. drop n (first ++ rest)) e ∙ drop-append-add first rest (512 * k) ∙ drop_blocks pool places k (omega arith)
 
 -- what is cut off and left out, in either order
-drop_cut : (n len : ℕ) (xs : List ℕ) → drop n (take len xs) ≡ take (len - n) (drop n xs)
+pub drop_cut : (n len : ℕ) (xs : List ℕ) → drop n (take len xs) ≡ take (len - n) (drop n xs)
 drop_cut zero len xs = let e : len - 0 ≡ len = omega arith in rw e refl
 drop_cut (suc n) zero xs = let e : 0 - suc n ≡ 0 = omega arith in rw e refl
 drop_cut (suc n) (suc len) [] = sym (take_all (suc len - suc n) [] (omega arith))
@@ -168,22 +168,62 @@ module _ (len : ℕ) (pool places bytes : List ℕ) (n : ℕ) (h : IsPlaced len 
             ∙ sym (block_placed len pool places m l)
       ]
 
-module _ (len : ℕ) (pool places bytes new old : List ℕ) (n at : ℕ) (h : IsPlaced len pool places) (long : length bytes ≡ 512)
-    (made : new ≡ pool ++ bytes) (at_is : at ≡ length pool) (is : placed len pool places ≡ old) where
-  same : placed len new (set places n at) ≡ placed len (pool ++ bytes) (set places n (length pool))
+-- what the file has of the block, and zeros
+abbrev pub whole : List ℕ → List ℕ
+whole bytes = bytes ++ replicate (512 - length bytes) 0
+
+whole_length : (bytes : List ℕ) (m : ℕ) → length bytes ≡ min 512 m → length (whole bytes) ≡ 512
+whole_length bytes m e = length-append bytes (replicate (512 - length bytes) 0) ∙ omega (arith, length-replicate {A = ℕ} (512 - length bytes) 0, e)
+
+whole_cut : (bytes : List ℕ) (m : ℕ) → length bytes ≡ min 512 m → take m (whole bytes) ≡ bytes
+whole_cut bytes m e =
+    elim (cases_lt m 512) [
+      | inl less ↦ take_at bytes (replicate (512 - length bytes) 0) m (omega (arith, e, less))
+      | inr all ↦
+          let none : 512 - length bytes ≡ 0 = omega (arith, e, all) in
+          ap (λ z. take m (bytes ++ replicate z 0)) none ∙ ap (take m) (append-nil bytes) ∙ take_all m bytes (omega (arith, e))
+    ]
+
+module _ (len : ℕ) (pool places bytes new old : List ℕ) (n at : ℕ) (h : IsPlaced len pool places)
+    (made : new ≡ pool ++ whole bytes) (at_is : at ≡ length pool) (is : placed len pool places ≡ old) (fits : length bytes ≡ min 512 (length old - 512 * n)) where
+  same : placed len new (set places n at) ≡ placed len (pool ++ whole bytes) (set places n (length pool))
   same i = placed len (made i) (set places n (at_is i))
 
   old_len : length old ≡ len
   old_len = ap length (sym is) ∙ length_placed len pool places h
 
-  pub put_len : length (placed len new (set places n at)) ≡ length old
-  put_len = ap length same ∙ length_placed len (pool ++ bytes) (set places n (length pool)) (still_placed len pool places bytes n h long) ∙ sym old_len
+  long : length (whole bytes) ≡ 512
+  long = whole_length bytes (length old - 512 * n) fits
 
-  pub put_there : 512 * n < length old → block 512 (placed len new (set places n at)) (512 * n) ≡ block 512 (take (length old - 512 * n) bytes) 0
+  pub put_placed : IsPlaced len new (set places n at)
+  put_placed = subst (λ xs. IsPlaced len xs (set places n at)) (sym made)
+      (subst (λ k. IsPlaced len (pool ++ whole bytes) (set places n k)) (sym at_is) (still_placed len pool places (whole bytes) n h long))
+
+  pub put_len : length (placed len new (set places n at)) ≡ length old
+  put_len = length_placed len new (set places n at) put_placed ∙ sym old_len
+
+  pub put_there : 512 * n < length old → block 512 (placed len new (set places n at)) (512 * n) ≡ block 512 bytes 0
   put_there inside =
-      ap (λ xs. block 512 xs (512 * n)) same ∙ put_here len pool places bytes n h long (omega (arith, inside, old_len))
-      ∙ ap (λ l. block 512 (take (l - 512 * n) bytes) 0) (sym old_len)
+      ap (λ xs. block 512 xs (512 * n)) same ∙ put_here len pool places (whole bytes) n h long (omega (arith, inside, old_len))
+      ∙ ap (λ l. block 512 (take (l - 512 * n) (whole bytes)) 0) (sym old_len)
+      ∙ ap (λ xs. block 512 xs 0) (whole_cut bytes (length old - 512 * n) fits)
 
   pub put_elsewhere : (m : ℕ) → m ≢ n → block 512 (placed len new (set places n at)) (512 * m) ≡ block 512 old (512 * m)
   put_elsewhere m other =
-      ap (λ xs. block 512 xs (512 * m)) same ∙ put_apart len pool places bytes n h long m other ∙ ap (λ xs. block 512 xs (512 * m)) is
+      ap (λ xs. block 512 xs (512 * m)) same ∙ put_apart len pool places (whole bytes) n h long m other ∙ ap (λ xs. block 512 xs (512 * m)) is
+
+-- bytes, and then zeros up to a block
+pub filled_up : (n end at count : ℕ) (pool bytes mid new : List ℕ) → at ≡ length pool → end ≡ at + 512 → length bytes ≡ min 512 n → mid ≡ pool ++ bytes
+    → count ≡ length mid → new ≡ take end mid ++ replicate (end - count) 0 → new ≡ pool ++ whole bytes
+filled_up n end at count pool bytes mid new at_is end_is few mid_is count_is new_is =
+    let long : length mid ≡ length pool + length bytes = ap length mid_is ∙ length-append pool bytes in
+    let all : take end mid ≡ pool ++ bytes = take_all end mid (omega (arith, long, few)) ∙ mid_is in
+    let left : end - count ≡ 512 - length bytes = omega (arith, long) in
+    new_is ∙ (λ i. all i ++ replicate (left i) 0) ∙ append_assoc pool bytes (replicate (512 - length bytes) 0)
+
+-- the file has as many bytes, where only the pool grew
+pub pool_grown : (len : ℕ) (pool places bytes new : List ℕ) → IsPlaced len pool places → new ≡ pool ++ bytes → IsPlaced len new places
+pool_grown len pool places bytes new h e = record {
+  enough = h.enough;
+  inside = λ k d l. omega (arith, h.inside k d l, ap length e, length-append pool bytes);
+}

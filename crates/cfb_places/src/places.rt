@@ -1,7 +1,7 @@
 //! A file in memory of which only some blocks were read.
 
 ghost use Rattle.cfb_bytes.specs.Bytes.{block};
-ghost use Rattle.std.specs.Prelude.{◌*◌, ◌-◌, ◌<◌, ◌≡◌, ◌≢◌, ◌≤◌, ◌^◌, IfOk, OnOk, length, take, ℕ};
+ghost use Rattle.std.specs.Prelude.{◌*◌, ◌-◌, ◌<◌, ◌≡◌, ◌≢◌, ◌≤◌, ◌^◌, IfOk, OnOk, length, min, ℕ};
 
 use std::alloc::{AllocError, Global};
 use std::marker::Model;
@@ -58,18 +58,20 @@ impl Places {
         &self.pool[at..at + size]
     }
 
-    /// Puts the bytes of a block in their place.
+    /// Puts the bytes of a block, as many as the file has of it, in their place.
     pub fn put(&mut self, n: usize, bytes: &[u8]) -> Result<(), AllocError>
         requires inside { 512 * n < length self.old }
-        requires whole { length bytes.now ≡ 512 }
+        requires whole { length bytes.now ≡ min 512 (length self.old - 512 * n) }
         ensures len { length self.new ≡ length self.old }
-        ensures here { OnOk result (block 512 self.new (512 * n) ≡ block 512 (take (length self.old - 512 * n) bytes.now) 0) }
+        ensures here { OnOk result (block 512 self.new (512 * n) ≡ block 512 bytes.now 0) }
         ensures apart { OnOk result ((m : ℕ) → m ≢ n → block 512 self.new (512 * m) ≡ block 512 self.old (512 * m)) }
     {
         let Ok(at) = u32::try_from(self.pool.len()) else {
             return Err(AllocError);
         };
+        let end = self.pool.len() + BLOCK;
         self.pool.extend_from_slice(bytes)?;
+        self.pool.resize(end, 0)?;
         self.places[n] = at;
         Ok(())
     }
