@@ -11,7 +11,7 @@ use Rattle.std.specs.List.{All}
 use Rattle.cfb_chain.specs.Bytes.{joined}
 use Rattle.cfb_chain.specs.Chain.{AreDistinct, END_OF_CHAIN, IsChain, Leads}
 use Rattle.cfb_chain.specs.Fat.{FatValue, IsFound, IsFreeChain, followed, held, set_all, store_of}
-use Rattle.cfb_chain.proofs.Chains.{chain_one, chain_room}
+use Rattle.cfb_chain.proofs.Chains.{chain_one, chain_room, distinct_chain}
 use Rattle.cfb_chain.proofs.Blocks.{length_block, length_joined}
 use Rattle.cfb_chain.proofs.Marks.{set_all-append}
 
@@ -61,6 +61,13 @@ followed_leads table (suc fuel) start (n ∷ ns) few h below le =
 distinct_few : (count : ℕ) (ns : List ℕ) → All (λ n. n < count) ns → AreDistinct ns → length ns ≤ count
 distinct_few count ns below once =
     length-le_from_distinct_below ns count (IsDistinct-from_AllPairs Decides-eqb ns once) (λ q t. All-contains (λ n. n < count) ns q below (Contains-from_any eqb-true q ns t))
+
+-- following the table from a sector on gives the chain from it
+pub followed_chain : (table : List ℕ) (start : ℕ) (ns : List ℕ) → length table ≤ END_OF_CHAIN → Leads (λ n. get_or table n 0) start ns END_OF_CHAIN
+    → All (λ n. n < length table) ns → followed table (length table) start ≡ ns
+followed_chain table start ns few h below =
+    followed_leads table (length table) start ns few h below
+    (distinct_few (length table) ns below (distinct_chain (λ n. get_or table n 0) (length table) start ns few h below))
 
 -- what is held by a chain that is found
 pub held_found : (f : FatValue) (start len : ℕ) (ns : List ℕ) → length f.table ≤ 0xFFFFFFF9 → IsFound f start len ns

@@ -1,16 +1,19 @@
 //! The table of sectors and its chains (MS-CFB 2.3, 2.4).
 
-ghost use Rattle.cfb_chain.specs.Bytes.{joined};
+ghost use Rattle.cfb_chain.specs.Bytes.{block, joined};
 ghost use Rattle.cfb_chain.specs.Chain.{FREE_SECTOR, IsChain};
 ghost use Rattle.cfb_chain.specs.Fat.{AreFree, FatValue, IsFat, IsFound, IsFree, IsFreeChain, IsMiniFound, IsMiniTable, IsTableOf, MayRefuse, MayRefuseChain, MayRefuseFat, MayRefuseMini, followed, held, marked, sectors_in, store_of};
-ghost use Rattle.cfb_chain.specs.View.{bytes_of, start_of, width_of};
+ghost use Rattle.cfb_chain.specs.View.{bytes_of, image_bytes, start_of, width_of};
 ghost use Rattle.cfb_chain.specs.declared.fault.ChainFault.TheVariants.{CrossLinked, NoMemory, OutOfFile};
 ghost use Rattle.std.specs.List.{All, Contains};
 ghost use Rattle.std.specs.Prelude.{◌*◌, ◌+◌, ◌++◌, ◌<◌, ◌^◌, ◌≡◌, ◌≢◌, ◌≤◌, ◌⊎◌, IfErr, IfNone, IfOk, IfSome, List, OnErr, OnOk, length, slice_index, take, ℕ};
 
 use crate::fault::ChainFault;
 use crate::header::Header;
-use crate::sectors::{SECTOR, join_blocks, numbers, run_of};
+use crate::image::{Image, join_placed};
+use crate::sectors::{MINI_SECTOR, SECTOR, join_blocks, numbers, run_of};
+use crate::table::{count_entries, follow, table_in};
+use cfb_places::places::Places;
 use std::alloc::{AllocError, Global};
 use std::marker::Model;
 
@@ -33,36 +36,16 @@ pub struct Fat<'a> {
 #[derive(Drop)]
 enum Pieces<'a> {
     /// Behind the header of a file, 512 bytes each.
-    Sectors(&'a [u8]),
+    Sectors(Image<'a>),
     /// In a mini stream, 64 bytes each, whose sectors stand one after another.
     MiniRun(&'a [u8]),
     /// In a mini stream that was joined of its sectors.
     MiniSectors(Vec<u8>),
+    /// In a mini stream that isn't joined, of these sectors of a file of which some blocks were read.
+    MiniPlaced(&'a Places, Vec<u32>),
 }
 
 impl<'a> Pieces<'a> {
-    /// The bytes in which they lie.
-    fn bytes(&self) -> &[u8]
-        ensures { result.now ≡ bytes_of self.now }
-    {
-        match self {
-            Pieces::Sectors(file) => file,
-            Pieces::MiniRun(stream) => stream,
-            Pieces::MiniSectors(stream) => stream.as_slice(),
-        }
-    }
-
-    /// Where the first one stands.
-    fn start(&self) -> usize
-        ensures { result ≡ start_of self.now }
-    {
-        match self {
-            Pieces::Sectors(_) => SECTOR,
-            Pieces::MiniRun(_) => 0,
-            Pieces::MiniSectors(_) => 0,
-        }
-    }
-
     /// The size of each.
     fn width(&self) -> usize
         ensures value { result ≡ width_of self.now }
@@ -70,8 +53,36 @@ impl<'a> Pieces<'a> {
     {
         match self {
             Pieces::Sectors(_) => SECTOR,
-            Pieces::MiniRun(_) => 64,
-            Pieces::MiniSectors(_) => 64,
+            Pieces::MiniRun(_) => MINI_SECTOR,
+            Pieces::MiniSectors(_) => MINI_SECTOR,
+            Pieces::MiniPlaced(_, _) => MINI_SECTOR,
+        }
+    }
+
+    /// The bytes of some, one after another.
+    fn join(&self, alloc: Global, numbers: &[u32]) -> Result<Vec<u8>, AllocError>
+        ensures { IfOk result (λ v. v.items ≡ joined (λ n. block (width_of self.now) (bytes_of self.now) (start_of self.now + width_of self.now * n)) numbers.now) }
+    {
+        match self {
+            Pieces::Sectors(file) => file.join(alloc, numbers),
+            Pieces::MiniRun(stream) => join_blocks(alloc, MINI_SECTOR, stream, 0, numbers),
+            Pieces::MiniSectors(stream) => join_blocks(alloc, MINI_SECTOR, stream, 0, numbers),
+            Pieces::MiniPlaced(file, sectors) => {
+                let stream = join_placed(alloc, file, sectors)?;
+                join_blocks(alloc, MINI_SECTOR, &stream, 0, numbers)
+            }
+        }
+    }
+
+    /// The bytes of some, one after another, where they stand so in memory.
+    fn run(&self, numbers: &[u32]) -> Option<&'a [u8]>
+        ensures { IfSome result (λ bytes. bytes.now ≡ joined (λ n. block (width_of self.now) (bytes_of self.now) (start_of self.now + width_of self.now * n)) numbers.now) }
+    {
+        match self {
+            Pieces::Sectors(file) => file.run(numbers),
+            Pieces::MiniRun(stream) => run_of(MINI_SECTOR, stream, 0, numbers),
+            Pieces::MiniSectors(_) => None,
+            Pieces::MiniPlaced(_, _) => None,
         }
     }
 }
@@ -85,13 +96,6 @@ impl<'a> Model for Fat<'a> {
     ghost view = { λ f. record { bytes = bytes_of f.pieces; start = start_of f.pieces; width = width_of f.pieces; table = f.next.items; used = f.used.items } };
 
     ghost invariant = { λ f. IsSound f.next.items f.used.items };
-}
-
-/// How many sectors begin before the end of a file.
-fn count_sectors(file: &[u8]) -> usize
-    ensures { result ≡ sectors_in file.now }
-{
-    ((file.len() + 511) / SECTOR).saturating_sub(1)
 }
 
 /// Refuses a sector that isn't among the first `count`.
@@ -112,16 +116,15 @@ impl<'a> Fat<'a> {
     ///
     /// Refused: `OutOfFile` where a listed sector isn't in the file; then `NoMemory`; then `CrossLinked` where one is
     /// listed twice.
-    pub fn load(alloc: Global, header: &Header, file: &'a [u8]) -> Result<Fat<'a>, ChainFault>
-        ensures table { IfOk result (λ f. IsTableOf file.now header.now.fat f) }
-        ensures refused { IfErr result (MayRefuseFat file.now header.now.fat) }
-        ensures there { IsFat file.now header.now.fat → IfErr result (λ e. e ≡ NoMemory) }
+    pub fn load(alloc: Global, header: &Header, file: Image<'a>) -> Result<Fat<'a>, ChainFault>
+        ensures table { IfOk result (λ f. IsTableOf (image_bytes file.entry) header.now.fat f) }
+        ensures refused { IfErr result (MayRefuseFat (image_bytes file.entry) header.now.fat) }
+        ensures there { IsFat (image_bytes file.entry) header.now.fat → IfErr result (λ e. e ≡ NoMemory) }
     {
         let listed = header.fat();
-        let count = (128 * header.fat_count()).min(count_sectors(file));
+        let count = count_entries(header, &file);
         check_present(listed, count)?;
-        let bytes = join_blocks(alloc, SECTOR, file, SECTOR, listed)?;
-        let next = numbers(alloc, &bytes, count)?;
+        let next = table_in(alloc, &file, listed, count)?;
         let used = vec![in alloc; false; count]?;
         let mut fat = Fat {
             pieces: Pieces::Sectors(file),
@@ -155,24 +158,14 @@ impl<'a> Fat<'a> {
         requires { All (λ n. n < length self.now.table) sectors.now }
         ensures { IfOk result (λ v. v.items ≡ joined (store_of self.now).piece sectors.now) }
     {
-        join_blocks(
-            alloc,
-            self.pieces.width(),
-            self.pieces.bytes(),
-            self.pieces.start(),
-            sectors,
-        )
+        self.pieces.join(alloc, sectors)
     }
 
-    /// The bytes of the sectors, one after another, where they stand so in a file and needn't be joined.
+    /// The bytes of the sectors, one after another, where they stand so in memory and needn't be joined.
     pub fn run(&self, sectors: &[u32]) -> Option<&'a [u8]>
         ensures { IfSome result (λ bytes. bytes.now ≡ joined (store_of self.now).piece sectors.now) }
     {
-        match &self.pieces {
-            Pieces::Sectors(file) => run_of(SECTOR, file, SECTOR, sectors),
-            Pieces::MiniRun(stream) => run_of(64, stream, 0, sectors),
-            Pieces::MiniSectors(_) => None,
-        }
+        self.pieces.run(sectors)
     }
 
     /// Marks the sectors of the chain from a sector on, which is to have room for `len` bytes. Where `len` is 0 there is no
@@ -201,7 +194,7 @@ impl<'a> Fat<'a> {
     pub fn held(&self, alloc: Global, start: u32, len: u32) -> Result<Vec<u8>, AllocError>
         ensures { IfOk result (λ v. v.items ≡ held self.now start len) }
     {
-        let sectors = self.followed(alloc, start)?;
+        let sectors = follow(alloc, &self.next, start)?;
         let mut held = self.join(alloc, &sectors)?;
         held.truncate(len as usize);
         Ok(held)
@@ -279,13 +272,15 @@ impl<'a> Fat<'a> {
         ensures start { IfOk result (λ p. start_of p ≡ 0) }
         ensures width { IfOk result (λ p. width_of p ≡ 64) }
     {
-        match self.run(sectors) {
-            Some(stream) => Ok(Pieces::MiniRun(stream)),
-            None => {
-                let stream = self.join(alloc, sectors)?;
-                Ok(Pieces::MiniSectors(stream))
-            }
+        if let Some(stream) = self.run(sectors) {
+            return Ok(Pieces::MiniRun(stream));
         }
+        if let Pieces::Sectors(Image::Placed(file)) = &self.pieces {
+            let own = Vec::from_slice(alloc, sectors)?;
+            return Ok(Pieces::MiniPlaced(file, own));
+        }
+        let stream = self.join(alloc, sectors)?;
+        Ok(Pieces::MiniSectors(stream))
     }
 
     /// The least sector that is free: in the table, not marked, and with the value of a sector that isn't used.
@@ -386,20 +381,6 @@ impl<'a> Fat<'a> {
         let mut sectors = Vec::with_capacity(alloc, count)?;
         let mut at = start;
         while at != END_OF_CHAIN {
-            sectors.push(at)?;
-            at = self.next[at as usize];
-        }
-        Ok(sectors)
-    }
-
-    /// The sectors from one on, each followed by the one that its entry names, as far as entries go.
-    fn followed(&self, alloc: Global, start: u32) -> Result<Vec<u32>, AllocError>
-        ensures listed { IfOk result (λ v. v.items ≡ followed self.now.table (length self.now.table) start) }
-        ensures below { IfOk result (λ v. All (λ n. n < length self.now.table) v.items) }
-    {
-        let mut sectors = Vec::new(alloc);
-        let mut at = start;
-        while sectors.len() < self.next.len() && (at as usize) < self.next.len() {
             sectors.push(at)?;
             at = self.next[at as usize];
         }

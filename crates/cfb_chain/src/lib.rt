@@ -5,4 +5,6 @@ mod bytes;
 pub mod fat;
 pub mod fault;
 pub mod header;
+pub mod image;
 mod sectors;
+pub mod table;

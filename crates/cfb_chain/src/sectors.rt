@@ -9,6 +9,9 @@ use std::alloc::{AllocError, Global};
 /// The size of a sector.
 pub(crate) const SECTOR: usize = 512;
 
+/// The size of a mini sector.
+pub(crate) const MINI_SECTOR: usize = 64;
+
 /// Adds the bytes of a sector, zero bytes standing for those past the end.
 pub(crate) fn push_block(
     out: &mut Vec<u8>,

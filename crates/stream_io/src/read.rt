@@ -3,7 +3,8 @@
 ghost use Rattle.cfb_chain.specs.Bytes.{joined};
 ghost use Rattle.cfb_chain.specs.Chain.{AreDistinct};
 ghost use Rattle.cfb_chain.specs.Fat.{IsFound, store_of};
-ghost use Rattle.cfb_chain.specs.Header.{header_read};
+ghost use Rattle.cfb_chain.specs.Header.{IsHeader, header_read};
+ghost use Rattle.cfb_chain.specs.View.{image_bytes};
 ghost use Rattle.cfb_chain.specs.declared.fault.ChainFault.{ChainFault};
 ghost use Rattle.cfb_directory.specs.Entries.{IsEntry};
 ghost use Rattle.cfb_names.specs.Names.{key, key_cmp};
@@ -26,9 +27,11 @@ ghost use Rattle.stream_io.specs.declared.read.Reader as reader;
 use crate::fault::{ReadFault, StreamFault};
 use cfb_chain::fat::Fat;
 use cfb_chain::header::Header;
+use cfb_chain::image::Image;
 use cfb_directory::entries::{Entries, Entry, EntryKind};
 use cfb_names::fault::DirFault;
 use cfb_names::name::Name;
+use cfb_places::places::Places;
 use file_outline::filling::{bytes_at, storage_at};
 use file_outline::finding::place_at;
 use file_outline::outline::{Outline, Part, Place, is_short};
@@ -274,7 +277,34 @@ fn directory_of<'a>(
     }
 }
 
-/// The tables and the outline of a compound file (MS-CFB 2). Each chain of sectors is walked once, and no stream is read.
+/// The tables and the outline of a compound file whose header was read (MS-CFB 2). Each chain of sectors is walked once,
+/// and no stream is read.
+///
+/// Refused: as `read_file`, but for the header.
+fn walk<'a>(alloc: Global, header: &Header, file: Image<'a>) -> Result<Layout<'a>, ReadFault>
+    requires read { header_read (image_bytes file) ≡ Ok header.now }
+    requires whole { IsHeader (image_bytes file) }
+    ensures denotes { IfOk result (λ l. Denotes (image_bytes file.entry) (shown (contents l.fat l.mini) l.root)) }
+    ensures sized { IfOk result (λ l. outline_of (shown (contents l.fat l.mini) l.root) ≡ outline_view l.root) }
+    ensures reads { (t : tree.Tree) → Denotes (image_bytes file.entry) t → IfErr result (λ e. e ≡ NoMemory) }
+    ensures refused { IfErr result (MayRefuseFile (image_bytes file.entry)) }
+{
+    let mut fat = Fat::load(alloc, header, file)?;
+    let chain = fat.chain(alloc, header.first_directory())?;
+    let directory = directory_of(alloc, &fat, &chain)?;
+    let entries = Entries::load(alloc, directory.bytes())?;
+    let root = entries.entry(0)?;
+    let mini = fat.mini(alloc, header, root.first, root.size)?;
+    let mut reader = Reader { fat, mini, entries };
+    let outline = reader.storage_outline(alloc, 0, &root, DEEPEST)?;
+    Ok(Layout {
+        fat: reader.fat,
+        mini: reader.mini,
+        root: outline,
+    })
+}
+
+/// The tables and the outline of a compound file. Each chain of sectors is walked once, and no stream is read.
 ///
 /// Refused: as `read_file`.
 fn lay_out<'a>(alloc: Global, file: &'a [u8]) -> Result<Layout<'a>, ReadFault>
@@ -285,19 +315,8 @@ fn lay_out<'a>(alloc: Global, file: &'a [u8]) -> Result<Layout<'a>, ReadFault>
     ensures refused { IfErr result (MayRefuseFile file.now) }
 {
     let header = Header::read(file)?;
-    let mut fat = Fat::load(alloc, &header, file)?;
-    let chain = fat.chain(alloc, header.first_directory())?;
-    let directory = directory_of(alloc, &fat, &chain)?;
-    let entries = Entries::load(alloc, directory.bytes())?;
-    let root = entries.entry(0)?;
-    let mini = fat.mini(alloc, &header, root.first, root.size)?;
-    let mut reader = Reader { fat, mini, entries };
-    let outline = reader.storage_outline(alloc, 0, &root, DEEPEST)?;
-    Ok(Layout {
-        fat: reader.fat,
-        mini: reader.mini,
-        root: outline,
-    })
+    let layout = walk(alloc, &header, Image::Whole(file))?;
+    Ok(layout)
 }
 
 /// The tree that a compound file denotes (MS-CFB 2), outside transactions.
@@ -328,6 +347,20 @@ pub fn read_outline(alloc: Global, file: &[u8]) -> Result<Outline, ReadFault>
 {
     let layout = lay_out(alloc, file)?;
     Ok(layout.root)
+}
+
+/// The outline of a compound file whose header was read, and of which some blocks were.
+///
+/// Refused: as `read_file`, but for the header.
+pub fn read_placed(alloc: Global, header: &Header, file: &Places) -> Result<Outline, ReadFault>
+    requires read { header_read file.now ≡ Ok header.now }
+    requires whole { IsHeader file.now }
+    ensures outlined { IfOk result (λ o. (t : tree.Tree) × Denotes file.now t × (outline_view o ≡ outline_of t)) }
+    ensures reads { (t : tree.Tree) → Denotes file.now t → IfErr result (λ e. e ≡ NoMemory) }
+    ensures refused { IfErr result (MayRefuseFile file.now) }
+{
+    let walked = walk(alloc, header, Image::Placed(file))?;
+    Ok(walked.root)
 }
 
 /// The bytes of the stream at a path of the tree that a compound file denotes. Each chain of sectors is walked as for

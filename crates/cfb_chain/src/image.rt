@@ -1,0 +1,74 @@
+//! The bytes of a file, all or some of which are in memory.
+
+ghost use Rattle.cfb_bytes.specs.Bytes.{block};
+ghost use Rattle.cfb_chain.specs.Bytes.{joined, sector};
+ghost use Rattle.cfb_chain.specs.Fat.{sectors_in};
+ghost use Rattle.cfb_chain.specs.View.{image_bytes};
+ghost use Rattle.std.specs.Prelude.{◌≡◌, IfOk, IfSome, length};
+
+use crate::sectors::{SECTOR, join_blocks, push_block, run_of};
+use cfb_places::places::Places;
+use std::alloc::{AllocError, Global};
+
+/// The bytes of a file.
+#[derive(Clone, Copy)]
+pub enum Image<'a> {
+    /// All of them.
+    Whole(&'a [u8]),
+    /// Some of them, zero bytes standing for the others.
+    Placed(&'a Places),
+}
+
+/// The bytes of sectors of a file of which some blocks were read, one after another.
+pub(crate) fn join_placed(
+    alloc: Global,
+    file: &Places,
+    sectors: &[u32],
+) -> Result<Vec<u8>, AllocError>
+    ensures { IfOk result (λ v. v.items ≡ joined (sector file.now) sectors.now) }
+{
+    let mut out = Vec::with_capacity(alloc, SECTOR.saturating_mul(sectors.len()))?;
+    for n in sectors {
+        push_block(&mut out, SECTOR, file.part(*n as usize + 1), 0)?;
+    }
+    Ok(out)
+}
+
+impl<'a> Image<'a> {
+    /// How many bytes there are.
+    fn len(&self) -> usize
+        ensures { result ≡ length (image_bytes self.now) }
+    {
+        match self {
+            Image::Whole(file) => file.len(),
+            Image::Placed(file) => file.len(),
+        }
+    }
+
+    /// How many sectors begin before the end.
+    pub(crate) fn count_sectors(&self) -> usize
+        ensures { result ≡ sectors_in (image_bytes self.now) }
+    {
+        self.len().saturating_sub(1) / SECTOR
+    }
+
+    /// The bytes of sectors, one after another.
+    pub(crate) fn join(&self, alloc: Global, sectors: &[u32]) -> Result<Vec<u8>, AllocError>
+        ensures { IfOk result (λ v. v.items ≡ joined (sector (image_bytes self.now)) sectors.now) }
+    {
+        match self {
+            Image::Whole(file) => join_blocks(alloc, SECTOR, file, SECTOR, sectors),
+            Image::Placed(file) => join_placed(alloc, file, sectors),
+        }
+    }
+
+    /// The bytes of sectors, where all bytes are in memory and the sectors stand one after another.
+    pub(crate) fn run(&self, sectors: &[u32]) -> Option<&'a [u8]>
+        ensures { IfSome result (λ run. run.now ≡ joined (sector (image_bytes self.now)) sectors.now) }
+    {
+        match self {
+            Image::Whole(file) => run_of(SECTOR, file, SECTOR, sectors),
+            Image::Placed(_) => None,
+        }
+    }
+}

@@ -1,0 +1,58 @@
+//! The entries of the FAT, and the sectors that follow one another by them.
+
+ghost use Rattle.cfb_chain.specs.Bytes.{joined, sector, u32_at};
+ghost use Rattle.cfb_chain.specs.Fat.{followed, sectors_in};
+ghost use Rattle.cfb_chain.specs.View.{image_bytes};
+ghost use Rattle.std.specs.List.{All};
+ghost use Rattle.std.specs.Prelude.{◌*◌, ◌<◌, ◌≤◌, ◌^◌, ◌≡◌, IfOk, length, min, slice_index, ℕ};
+
+use crate::header::Header;
+use crate::image::Image;
+use crate::sectors::numbers;
+use std::alloc::{AllocError, Global};
+
+/// The first entries of a FAT that lies in these sectors, zero standing for those that it doesn't have.
+pub(crate) fn table_in(
+    alloc: Global,
+    file: &Image<'_>,
+    sectors: &[u32],
+    count: usize,
+) -> Result<Vec<u32>, AllocError>
+    requires fits { count < 2 ^ 60 }
+    ensures count { IfOk result (λ v. length v.items ≡ count) }
+    ensures each { IfOk result (λ v. (k : ℕ) → k < count → slice_index v.items k ≡ u32_at (joined (sector (image_bytes file.now)) sectors.now) (4 * k)) }
+{
+    let bytes = file.join(alloc, sectors)?;
+    let table = numbers(alloc, &bytes, count)?;
+    Ok(table)
+}
+
+/// How many sectors have an entry in the FAT and begin before the end of a file.
+pub(crate) fn count_entries(header: &Header, file: &Image<'_>) -> usize
+    ensures count { result ≡ min (128 * length header.now.fat) (sectors_in (image_bytes file.now)) }
+    ensures few { length header.now.fat ≤ 109 }
+{
+    (128 * header.fat_count()).min(file.count_sectors())
+}
+
+/// The entries of the FAT of a file, whether its sectors are there or not.
+pub fn entries(alloc: Global, header: &Header, file: &Image<'_>) -> Result<Vec<u32>, AllocError>
+    ensures count { IfOk result (λ v. length v.items ≡ min (128 * length header.now.fat) (sectors_in (image_bytes file.now))) }
+    ensures each { IfOk result (λ v. (k : ℕ) → k < length v.items → slice_index v.items k ≡ u32_at (joined (sector (image_bytes file.now)) header.now.fat) (4 * k)) }
+{
+    table_in(alloc, file, header.fat(), count_entries(header, file))
+}
+
+/// The sectors from one on, each followed by the one that its entry names, as far as entries go.
+pub fn follow(alloc: Global, table: &[u32], start: u32) -> Result<Vec<u32>, AllocError>
+    ensures listed { IfOk result (λ v. v.items ≡ followed table.now (length table.now) start) }
+    ensures below { IfOk result (λ v. All (λ n. n < length table.now) v.items) }
+{
+    let mut sectors = Vec::new(alloc);
+    let mut at = start;
+    while sectors.len() < table.len() && (at as usize) < table.len() {
+        sectors.push(at)?;
+        at = table[at as usize];
+    }
+    Ok(sectors)
+}

@@ -1,0 +1,229 @@
+-- The blocks of a file of which only some were read.
+use Rattle.std.proofs.Common.{◌≡◌, ◌≢◌, inl, inr, ◌<◌, ◌≤◌, ◌+◌, ◌-◌, ◌*◌, ℕ, zero, suc, List, [], ◌∷◌, ◌++◌, length, take, drop, replicate, get_or, set, min, refl, sym, ap, subst, ◌∙◌, arith, append_assoc, length-append, length-drop, length-set}
+use Rattle.std.proofs.lemmas.List.{append-nil, drop_all, drop-append-le, get_or-set_other, get_or-set_same, length-replicate, length-take, take-append-le, take_all, take_at}
+use Rattle.std.proofs.lemmas.Bool.{cases_lt}
+use Rattle.std.proofs.Math.Seq.{drop-append_seam, drop-append-add}
+use Rattle.std.proofs.lemmas.List.Elements.{All-replicate, All-set}
+use Rattle.std.specs.List.{All, flat_map}
+use Rattle.cfb_bytes.specs.Bytes.{block}
+use Rattle.cfb_places.specs.Places.{IsPlaced, placed}
+
+-- a block has its size
+pub length_block : (w : ℕ) (bytes : List ℕ) (at : ℕ) → length (block w bytes at) ≡ w
+unfolding block
+length_block w bytes at =
+    let rest : List ℕ = drop at bytes in
+    length-append (take w rest) (replicate (w - length rest) 0)
+    ∙ (λ i. length-take w rest i + length-replicate {A = ℕ} (w - length rest) 0 i)
+    ∙ omega arith
+
+pub length_blocks : (pool places : List ℕ) → length (flat_map (block 512 pool) places) ≡ 512 * length places
+length_blocks pool [] = omega arith
+length_blocks pool (at ∷ places) =
+    length-append (block 512 pool at) (flat_map (block 512 pool) places)
+    ∙ (λ i. length_block 512 pool at i + length_blocks pool places i) ∙ omega arith
+
+pub length_placed : (len : ℕ) (pool places : List ℕ) → IsPlaced len pool places → length (placed len pool places) ≡ len
+length_placed len pool places h =
+    length-take len (flat_map (block 512 pool) places) ∙ omega (arith, h.enough, length_blocks pool places)
+
+-- so many bytes, of which none was read
+pub new_placed : (len count : ℕ) (pool places : List ℕ) → pool ≡ replicate 512 0 → places ≡ replicate count 0 → len ≤ 512 * count → IsPlaced len pool places
+new_placed len count pool places p ps room = record {
+  enough = omega (arith, room, ap length ps, length-replicate {A = ℕ} count 0);
+  inside = subst (λ xs. All (λ at. at + 512 ≤ length pool) xs) (sym ps)
+      (All-replicate (λ at. at + 512 ≤ length pool) count 0 (omega (arith, ap length p, length-replicate {A = ℕ} 512 0)));
+}
+
+-- the bytes from block k on, and how many there are
+drop_blocks : (pool places : List ℕ) (k : ℕ) → k < length places
+    → drop (512 * k) (flat_map (block 512 pool) places) ≡ block 512 pool (get_or places k 0) ++ flat_map (block 512 pool) (drop (suc k) places)
+drop_blocks pool [] k l = absurd (omega arith)
+drop_blocks pool (at ∷ places) zero l = let e : 512 * 0 ≡ 0 = omega arith in ap (λ n. drop n (flat_map (block 512 pool) (at ∷ places))) e
+drop_blocks pool (at ∷ places) (suc k) l =
+    let first : List ℕ = block 512 pool at in
+    let rest : List ℕ = flat_map (block 512 pool) places in
+    let long : length first ≡ 512 = length_block 512 pool at in
+    let e : 512 * suc k ≡ length first + 512 * k = omega (arith, long) in
+    ap (λ n. drop n (first ++ rest)) e ∙ drop-append-add first rest (512 * k) ∙ drop_blocks pool places k (omega arith)
+
+-- what is cut off and left out, in either order
+pub drop_cut : (n len : ℕ) (xs : List ℕ) → drop n (take len xs) ≡ take (len - n) (drop n xs)
+drop_cut zero len xs = let e : len - 0 ≡ len = omega arith in rw e refl
+drop_cut (suc n) zero xs = let e : 0 - suc n ≡ 0 = omega arith in rw e refl
+drop_cut (suc n) (suc len) [] = sym (take_all (suc len - suc n) [] (omega arith))
+drop_cut (suc n) (suc len) (x ∷ xs) = let e : suc len - suc n ≡ len - n = omega arith in rw e (drop_cut n len xs)
+
+-- the first bytes of what begins with a block
+cut_front : (a rest : List ℕ) (m : ℕ) → take (length a) (take m (a ++ rest)) ≡ take m a
+cut_front [] rest m = sym (take_all m [] (omega arith))
+cut_front (x ∷ a) rest zero = refl
+cut_front (x ∷ a) rest (suc m) = ap (λ ys. x ∷ ys) (cut_front a rest m)
+
+cut_twice : (w m : ℕ) (xs : List ℕ) → take (min m w) xs ≡ take m (take w xs)
+cut_twice zero m xs = let e : min m 0 ≡ 0 = omega arith in rw e (sym (take_all m [] (omega arith)))
+cut_twice (suc w) zero xs = let e : min 0 (suc w) ≡ 0 = omega arith in ap (λ n. take n xs) e
+cut_twice (suc w) (suc m) [] = take_all (min (suc m) (suc w)) [] (omega arith)
+cut_twice (suc w) (suc m) (x ∷ xs) =
+    let e : min (suc m) (suc w) ≡ suc (min m w) = omega arith in
+    ap (λ n. take n (x ∷ xs)) e ∙ ap (λ ys. x ∷ ys) (cut_twice w m xs)
+
+-- a block of what was cut is the block that stands in the pool, as far as there are bytes
+pub block_placed : (len : ℕ) (pool places : List ℕ) (k : ℕ) → k < length places
+    → block 512 (placed len pool places) (512 * k) ≡ block 512 (take (len - 512 * k) (block 512 pool (get_or places k 0))) 0
+unfolding block
+block_placed len pool places k l =
+    let m : ℕ = len - 512 * k in
+    let a : List ℕ = block 512 pool (get_or places k 0) in
+    let rest : List ℕ = flat_map (block 512 pool) (drop (suc k) places) in
+    let long : length a ≡ 512 = length_block 512 pool (get_or places k 0) in
+    let here : drop (512 * k) (placed len pool places) ≡ take m (a ++ rest) =
+    drop_cut (512 * k) len (flat_map (block 512 pool) places) ∙ ap (take m) (drop_blocks pool places k l) in
+    let front : take 512 (take m (a ++ rest)) ≡ take 512 (take m a) =
+    ap (λ w. take w (take m (a ++ rest))) (sym long) ∙ cut_front a rest m ∙ sym (take_all 512 (take m a) (omega (arith, length-take m a, long))) in
+    let left : 512 - length (take m (a ++ rest)) ≡ 512 - length (take m a) =
+    omega (arith, length-take m (a ++ rest), length-take m a, length-append a rest, long) in
+    (λ i. take 512 (here i) ++ replicate (512 - length (here i)) 0) ∙ (λ i. front i ++ replicate (left i) 0)
+
+-- no byte stands past the end
+pub block_past : (bytes : List ℕ) (at : ℕ) → length bytes ≤ at → block 512 bytes at ≡ block 512 [] 0
+unfolding block
+block_past bytes at h = ap (λ xs. take 512 xs ++ replicate (512 - length xs) 0) (drop_all at bytes h)
+
+-- the first bytes of a whole block
+take_of_block : (pool : List ℕ) (at m : ℕ) → at + 512 ≤ length pool → take (min m 512) (drop at pool) ≡ take m (block 512 pool at)
+unfolding block
+take_of_block pool at m room =
+    let rest : List ℕ = drop at pool in
+    let long : 512 ≤ length rest = omega (arith, length-drop at pool) in
+    let none : 512 - length rest ≡ 0 = omega arith in
+    let whole : take 512 rest ++ replicate (512 - length rest) 0 ≡ take 512 rest = ap (λ n. take 512 rest ++ replicate n 0) none ∙ append-nil (take 512 rest) in
+    cut_twice 512 m rest ∙ ap (take m) (sym whole)
+
+-- ---- a block that is looked at
+pub part_past : (len : ℕ) (pool places bytes : List ℕ) (n : ℕ) → IsPlaced len pool places → placed len pool places ≡ bytes → length places ≤ n
+    → block 512 [] 0 ≡ block 512 bytes (512 * n)
+part_past len pool places bytes n h is past =
+    sym (block_past bytes (512 * n) (omega (arith, sym (ap length is) ∙ length_placed len pool places h, h.enough)))
+
+pub part_here : (len : ℕ) (pool places bytes : List ℕ) (n at size : ℕ) → IsPlaced len pool places → placed len pool places ≡ bytes → n < length places
+    → at ≡ get_or places n 0 → size ≡ min (len - 512 * n) 512
+    → block 512 (take (at + size - at) (drop at pool)) 0 ≡ block 512 bytes (512 * n)
+part_here len pool places bytes n at size h is l at_is size_is =
+    let room : at + 512 ≤ length pool = omega (arith, at_is, h.inside n 0 l) in
+    let m : ℕ = len - 512 * n in
+    let count : at + size - at ≡ min m 512 = omega (arith, size_is) in
+    ap (λ c. block 512 (take c (drop at pool)) 0) count
+    ∙ ap (λ xs. block 512 xs 0) (take_of_block pool at m room)
+    ∙ ap (λ a. block 512 (take m (block 512 pool a)) 0) at_is
+    ∙ sym (block_placed len pool places n l) ∙ ap (λ xs. block 512 xs (512 * n)) is
+
+-- ---- a block that is put
+module _ (len : ℕ) (pool places bytes : List ℕ) (n : ℕ) (h : IsPlaced len pool places) (long : length bytes ≡ 512) where
+  -- what was there is there
+  kept : (at : ℕ) → at + 512 ≤ length pool → block 512 (pool ++ bytes) at ≡ block 512 pool at
+  unfolding block
+  kept at room =
+      let rest : List ℕ = drop at pool in
+      let e : drop at (pool ++ bytes) ≡ rest ++ bytes = drop-append-le at pool bytes (omega arith) in
+      let l : 512 ≤ length rest = omega (arith, length-drop at pool) in
+      let none : 512 - length (rest ++ bytes) ≡ 512 - length rest = omega (arith, length-append rest bytes) in
+      (λ i. take 512 (e i) ++ replicate (512 - length (e i)) 0) ∙ (λ i. take-append-le 512 rest bytes l i ++ replicate (none i) 0)
+
+  -- what was put stands behind it
+  added : block 512 (pool ++ bytes) (length pool) ≡ bytes
+  unfolding block
+  added =
+      let e : drop (length pool) (pool ++ bytes) ≡ bytes = drop-append_seam pool bytes in
+      let none : 512 - length bytes ≡ 0 = omega (arith, long) in
+      (λ i. take 512 (e i) ++ replicate (512 - length (e i)) 0)
+      ∙ (λ i. take_all 512 bytes (omega (arith, long)) i ++ replicate (none i) 0) ∙ append-nil bytes
+
+  pub still_placed : IsPlaced len (pool ++ bytes) (set places n (length pool))
+  still_placed = record {
+    enough = omega (arith, h.enough, length-set places n (length pool));
+    inside = All-set (λ at. at + 512 ≤ length (pool ++ bytes)) places n (length pool) (omega (arith, length-append pool bytes, long))
+        (λ k d l. omega (arith, h.inside k d l, length-append pool bytes));
+  }
+
+  pub put_here : 512 * n < len → block 512 (placed len (pool ++ bytes) (set places n (length pool))) (512 * n) ≡ block 512 (take (len - 512 * n) bytes) 0
+  put_here inside =
+      let l : n < length places = omega (arith, h.enough, inside) in
+      let at : get_or (set places n (length pool)) n 0 ≡ length pool = get_or-set_same places n (length pool) 0 l in
+      block_placed len (pool ++ bytes) (set places n (length pool)) n (omega (arith, l, length-set places n (length pool)))
+      ∙ ap (λ a. block 512 (take (len - 512 * n) (block 512 (pool ++ bytes) a)) 0) at
+      ∙ ap (λ xs. block 512 (take (len - 512 * n) xs) 0) added
+
+  pub put_apart : (m : ℕ) → m ≢ n → block 512 (placed len (pool ++ bytes) (set places n (length pool))) (512 * m) ≡ block 512 (placed len pool places) (512 * m)
+  put_apart m other =
+      elim (cases_lt m (length places)) [
+        | inr past ↦
+            block_past (placed len (pool ++ bytes) (set places n (length pool))) (512 * m)
+            (omega (arith, length_placed len (pool ++ bytes) (set places n (length pool)) still_placed, h.enough, past))
+            ∙ sym (block_past (placed len pool places) (512 * m) (omega (arith, length_placed len pool places h, h.enough, past)))
+        | inl l ↦
+            block_placed len (pool ++ bytes) (set places n (length pool)) m (omega (arith, l, length-set places n (length pool)))
+            ∙ ap (λ a. block 512 (take (len - 512 * m) (block 512 (pool ++ bytes) a)) 0) (get_or-set_other places n m (length pool) 0 other)
+            ∙ ap (λ xs. block 512 (take (len - 512 * m) xs) 0) (kept (get_or places m 0) (h.inside m 0 l))
+            ∙ sym (block_placed len pool places m l)
+      ]
+
+-- what the file has of the block, and zeros
+abbrev pub whole : List ℕ → List ℕ
+whole bytes = bytes ++ replicate (512 - length bytes) 0
+
+whole_length : (bytes : List ℕ) (m : ℕ) → length bytes ≡ min 512 m → length (whole bytes) ≡ 512
+whole_length bytes m e = length-append bytes (replicate (512 - length bytes) 0) ∙ omega (arith, length-replicate {A = ℕ} (512 - length bytes) 0, e)
+
+whole_cut : (bytes : List ℕ) (m : ℕ) → length bytes ≡ min 512 m → take m (whole bytes) ≡ bytes
+whole_cut bytes m e =
+    elim (cases_lt m 512) [
+      | inl less ↦ take_at bytes (replicate (512 - length bytes) 0) m (omega (arith, e, less))
+      | inr all ↦
+          let none : 512 - length bytes ≡ 0 = omega (arith, e, all) in
+          ap (λ z. take m (bytes ++ replicate z 0)) none ∙ ap (take m) (append-nil bytes) ∙ take_all m bytes (omega (arith, e))
+    ]
+
+module _ (len : ℕ) (pool places bytes new old : List ℕ) (n at : ℕ) (h : IsPlaced len pool places)
+    (made : new ≡ pool ++ whole bytes) (at_is : at ≡ length pool) (is : placed len pool places ≡ old) (fits : length bytes ≡ min 512 (length old - 512 * n)) where
+  same : placed len new (set places n at) ≡ placed len (pool ++ whole bytes) (set places n (length pool))
+  same i = placed len (made i) (set places n (at_is i))
+
+  old_len : length old ≡ len
+  old_len = ap length (sym is) ∙ length_placed len pool places h
+
+  long : length (whole bytes) ≡ 512
+  long = whole_length bytes (length old - 512 * n) fits
+
+  pub put_placed : IsPlaced len new (set places n at)
+  put_placed = subst (λ xs. IsPlaced len xs (set places n at)) (sym made)
+      (subst (λ k. IsPlaced len (pool ++ whole bytes) (set places n k)) (sym at_is) (still_placed len pool places (whole bytes) n h long))
+
+  pub put_len : length (placed len new (set places n at)) ≡ length old
+  put_len = length_placed len new (set places n at) put_placed ∙ sym old_len
+
+  pub put_there : 512 * n < length old → block 512 (placed len new (set places n at)) (512 * n) ≡ block 512 bytes 0
+  put_there inside =
+      ap (λ xs. block 512 xs (512 * n)) same ∙ put_here len pool places (whole bytes) n h long (omega (arith, inside, old_len))
+      ∙ ap (λ l. block 512 (take (l - 512 * n) (whole bytes)) 0) (sym old_len)
+      ∙ ap (λ xs. block 512 xs 0) (whole_cut bytes (length old - 512 * n) fits)
+
+  pub put_elsewhere : (m : ℕ) → m ≢ n → block 512 (placed len new (set places n at)) (512 * m) ≡ block 512 old (512 * m)
+  put_elsewhere m other =
+      ap (λ xs. block 512 xs (512 * m)) same ∙ put_apart len pool places (whole bytes) n h long m other ∙ ap (λ xs. block 512 xs (512 * m)) is
+
+-- bytes, and then zeros up to a block
+pub filled_up : (n end at count : ℕ) (pool bytes mid new : List ℕ) → at ≡ length pool → end ≡ at + 512 → length bytes ≡ min 512 n → mid ≡ pool ++ bytes
+    → count ≡ length mid → new ≡ take end mid ++ replicate (end - count) 0 → new ≡ pool ++ whole bytes
+filled_up n end at count pool bytes mid new at_is end_is few mid_is count_is new_is =
+    let long : length mid ≡ length pool + length bytes = ap length mid_is ∙ length-append pool bytes in
+    let all : take end mid ≡ pool ++ bytes = take_all end mid (omega (arith, long, few)) ∙ mid_is in
+    let left : end - count ≡ 512 - length bytes = omega (arith, long) in
+    new_is ∙ (λ i. all i ++ replicate (left i) 0) ∙ append_assoc pool bytes (replicate (512 - length bytes) 0)
+
+-- the file has as many bytes, where only the pool grew
+pub pool_grown : (len : ℕ) (pool places bytes new : List ℕ) → IsPlaced len pool places → new ≡ pool ++ bytes → IsPlaced len new places
+pool_grown len pool places bytes new h e = record {
+  enough = h.enough;
+  inside = λ k d l. omega (arith, h.inside k d l, ap length e, length-append pool bytes);
+}

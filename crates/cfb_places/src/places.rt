@@ -1,0 +1,78 @@
+//! A file in memory of which only some blocks were read.
+
+ghost use Rattle.cfb_bytes.specs.Bytes.{block};
+ghost use Rattle.std.specs.Prelude.{◌*◌, ◌-◌, ◌<◌, ◌≡◌, ◌≢◌, ◌≤◌, ◌^◌, IfOk, OnOk, length, min, ℕ};
+
+use std::alloc::{AllocError, Global};
+use std::marker::Model;
+
+/// The size of a block.
+pub const BLOCK: usize = 512;
+
+/// A file of which only some blocks were read; zero bytes stand for the others, which take four bytes of memory each.
+#[derive(Drop)]
+pub struct Places {
+    len: usize,
+    pool: Vec<u8>,
+    places: Vec<u32>,
+}
+
+impl Model for Places {
+    ghost use Rattle.std.specs.Prelude.{List, ℕ};
+    ghost use Rattle.cfb_places.specs.Places.{IsPlaced, placed};
+
+    ghost Value = { List ℕ };
+
+    ghost view = { λ p. placed p.len p.pool.items p.places.items };
+
+    ghost invariant = { λ p. IsPlaced p.len p.pool.items p.places.items };
+}
+
+impl Places {
+    /// A file of so many bytes, of which none was read.
+    pub fn new(alloc: Global, len: usize) -> Result<Places, AllocError>
+        ensures { IfOk result (λ p. length p ≡ len) }
+    {
+        let pool = vec![in alloc; 0; BLOCK]?;
+        let places = vec![in alloc; 0; len / BLOCK + 1]?;
+        Ok(Places { len, pool, places })
+    }
+
+    /// How many bytes it has.
+    pub fn len(&self) -> usize
+        ensures { result ≡ length self.now }
+    {
+        self.len
+    }
+
+    /// What there is of a block; zero bytes stand for what is not.
+    pub fn part(&self, n: usize) -> &[u8]
+        requires { n ≤ 2 ^ 32 }
+        ensures { block 512 result.now 0 ≡ block 512 self.now (512 * n) }
+    {
+        if n >= self.places.len() {
+            return &[];
+        }
+        let at = self.places[n] as usize;
+        let size = self.len.saturating_sub(BLOCK * n).min(BLOCK);
+        &self.pool[at..at + size]
+    }
+
+    /// Puts the bytes of a block, as many as the file has of it, in their place.
+    pub fn put(&mut self, n: usize, bytes: &[u8]) -> Result<(), AllocError>
+        requires inside { 512 * n < length self.old }
+        requires whole { length bytes.now ≡ min 512 (length self.old - 512 * n) }
+        ensures len { length self.new ≡ length self.old }
+        ensures here { OnOk result (block 512 self.new (512 * n) ≡ block 512 bytes.now 0) }
+        ensures apart { OnOk result ((m : ℕ) → m ≢ n → block 512 self.new (512 * m) ≡ block 512 self.old (512 * m)) }
+    {
+        let Ok(at) = u32::try_from(self.pool.len()) else {
+            return Err(AllocError);
+        };
+        let end = self.pool.len() + BLOCK;
+        self.pool.extend_from_slice(bytes)?;
+        self.pool.resize(end, 0)?;
+        self.places[n] = at;
+        Ok(())
+    }
+}

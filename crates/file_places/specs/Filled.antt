@@ -1,0 +1,35 @@
+-- What was read of a file.
+use Rattle.std.specs.Prelude.{◌≡◌, ◌+◌, ◌<◌, ℕ, List, length, Err}
+use Rattle.cfb_chain.specs.Bytes.{sector}
+use Rattle.cfb_chain.specs.Header.{header_read}
+use Rattle.file_model.specs.Alike.{AgreeOn}
+use Rattle.file_places.specs.declared.fault.PlacesFault.{PlacesFault}
+use Rattle.file_places.specs.declared.fault.PlacesFault.TheVariants.{Unreadable, TooBig, NoMemory, Header}
+
+-- the most bytes that a file may have
+abbrev pub most : ℕ
+most = 134217728
+
+-- Sectors of a file were read: those that were there before are there, and these are.
+pub record IsRead (a old new ns : List ℕ) : Type 0 where
+  pub kept : (n : ℕ) → sector a n ≡ sector old n → sector a n ≡ sector new n
+  pub there : AgreeOn a new ns
+
+-- Likewise, so many sectors from one on.
+pub record IsRunRead (a old new : List ℕ) (first count : ℕ) : Type 0 where
+  pub kept : (n : ℕ) → sector a n ≡ sector old n → sector a n ≡ sector new n
+  pub there : (k : ℕ) → k < count → sector a (first + k) ≡ sector new (first + k)
+
+-- the faults that any read may meet
+abbrev pub IsOfReading : PlacesFault → Type 0
+IsOfReading Unreadable = Unit {0}
+IsOfReading TooBig = ⊥
+IsOfReading NoMemory = Unit {0}
+IsOfReading (Header fault) = ⊥
+
+-- when a file of known bytes may be refused
+abbrev pub MayRefusePlaces : List ℕ → PlacesFault → Type 0
+MayRefusePlaces a Unreadable = Unit {0}
+MayRefusePlaces a TooBig = most < length a
+MayRefusePlaces a NoMemory = Unit {0}
+MayRefusePlaces a (Header fault) = header_read a ≡ Err fault

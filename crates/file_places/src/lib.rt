@@ -1,0 +1,8 @@
+//! Reading only the blocks of a compound file that its listing needs.
+#![tactic(auto)]
+
+pub mod fault;
+mod putting;
+pub mod reading;
+mod sectors;
+pub mod source;

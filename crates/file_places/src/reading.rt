@@ -1,0 +1,69 @@
+//! The blocks of a compound file that its listing needs.
+
+ghost use Rattle.cfb_chain.specs.Header.{IsHeader, header_read};
+ghost use Rattle.file_model.specs.Alike.{Alike};
+ghost use Rattle.file_places.specs.Filled.{MayRefusePlaces, most};
+ghost use Rattle.std.specs.Prelude.{◌≡◌, ◌≤◌, IfErr, IfOk, IfSome, Ok, length};
+
+use crate::fault::PlacesFault;
+use crate::sectors::{read_bytes, read_chain, read_sectors};
+use crate::source::Source;
+use cfb_chain::header::Header;
+use cfb_chain::image::Image;
+use cfb_chain::table::entries;
+use cfb_places::places::{BLOCK, Places};
+use std::alloc::Global;
+
+/// The most bytes that a file may have.
+const MOST: u64 = 134_217_728;
+
+/// What was read of a compound file.
+#[derive(Drop)]
+pub struct Catalog {
+    /// What its header says.
+    pub header: Header,
+    /// Its bytes, zero bytes standing for those that weren't read.
+    pub file: Places,
+}
+
+/// How many bytes a file has, of which there may be `MOST`.
+fn read_len<S: Source>(source: &mut S) -> Result<usize, PlacesFault>
+    ensures counted { IfOk result (λ n. IfSome (S.bytes source.old) (λ a. length a ≡ n)) }
+    ensures refused { IfErr result (λ fault. IfSome (S.bytes source.old) (λ a. MayRefusePlaces a fault)) }
+    ensures kept { S.bytes source.new ≡ S.bytes source.old }
+{
+    match source.size() {
+        Ok(size) => {
+            if size > MOST {
+                return Err(PlacesFault::TooBig);
+            }
+            Ok(size as usize)
+        }
+        Err(_) => Err(PlacesFault::Unreadable),
+    }
+}
+
+/// Reads of a file the header, the FAT, the directory and the mini FAT: what its listing needs. Chains are followed as far
+/// as the FAT goes, and what is wrong with them is found as the listing is made.
+///
+/// Refused: `Unreadable` where a read fails, `TooBig` for more than `MOST` bytes, `NoMemory`, and the fault of a header.
+pub fn read_catalog<S: Source>(alloc: Global, source: &mut S) -> Result<Catalog, PlacesFault>
+    ensures header { IfOk result (λ c. header_read c.file ≡ Ok c.header) }
+    ensures whole { IfOk result (λ c. IsHeader c.file) }
+    ensures alike { IfOk result (λ c. IfSome (S.bytes source.old) (λ a. Alike a c.file)) }
+    ensures refused { IfErr result (λ fault. IfSome (S.bytes source.old) (λ a. MayRefusePlaces a fault)) }
+{
+    let len = read_len(source)?;
+    let front = read_bytes(alloc, source, 0, len.min(BLOCK))?;
+    let header = match Header::read(&front) {
+        Ok(header) => header,
+        Err(fault) => return Err(PlacesFault::Header(fault)),
+    };
+    let mut file = Places::new(alloc, len)?;
+    file.put(0, &front)?;
+    read_sectors(alloc, source, &mut file, header.fat())?;
+    let table = entries(alloc, &header, &Image::Placed(&file))?;
+    read_chain(alloc, source, &mut file, &table, header.first_directory())?;
+    read_chain(alloc, source, &mut file, &table, header.first_mini_fat())?;
+    Ok(Catalog { header, file })
+}

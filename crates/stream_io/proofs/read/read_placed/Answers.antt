@@ -1,0 +1,21 @@
+use Rattle.std.proofs.Common.{◌≡◌, rules, sym}
+use Rattle.std.specs.Result.{IsErrAnd}
+use Rattle.cfb_chain.proofs.Results.{refused_with}
+use Rattle.stream_io.specs.Reads.{MayRefuseFile}
+use Rattle.file_outline.specs.View.{contents, shown}
+use Rattle.stream_io.proofs.ReadingRefused.{same_memory}
+use Rattle.stream_io.proofs.read.read_placed.Goals as goal
+
+pub returns-clause-outlined : goal.returns-clause-outlined
+returns-clause-outlined c =
+    (shown (contents c.in_ok-walked.walked.fat c.in_ok-walked.walked.mini) c.in_ok-walked.walked.root, c.in_ok-walked.ensures.denotes, sym c.in_ok-walked.ensures.sized)
+
+pub returns-in_err-walked-clause-reads : goal.returns-in_err-walked-clause-reads
+returns-in_err-walked-clause-reads c = λ t d.
+    let again : IsErrAnd c.from_residual.result (λ x. x ≡ c.in_err-walked.field-0.0) = search rules in
+    same_memory c.from_residual.result c.in_err-walked.field-0.0 again (c.in_err-walked.ensures.reads t d)
+
+pub returns-in_err-walked-clause-refused : goal.returns-in_err-walked-clause-refused
+returns-in_err-walked-clause-refused c =
+    let again : IsErrAnd c.from_residual.result (λ x. x ≡ c.in_err-walked.field-0.0) = search rules in
+    refused_with c.from_residual.result c.in_err-walked.field-0.0 (MayRefuseFile c.args.file.now) again c.in_err-walked.ensures.refused

@@ -1,0 +1,188 @@
+use Rattle.std.proofs.Common.{◌≡◌, ◌/◌, List, [], ◌∷◌, ℕ, inl, true, false, length, replicate, get_or, sym, ◌∙◌, ap, subst, rules}
+use Rattle.std.specs.Result.{IsErrAnd}
+use Rattle.cfb_chain.proofs.Results.{refused_with}
+use Rattle.cfb_chain.specs.Chain.{IsChain}
+use Rattle.cfb_chain.specs.Fat.{AreFree, set_all, store_of}
+use Rattle.cfb_chain.specs.Header.{HeaderValue, IsHeader, header_of, listed}
+use Rattle.cfb_chain.specs.View.{image_bytes}
+use Rattle.cfb_directory.specs.Entries.{EntriesValue}
+use Rattle.storage_tree.specs.Tree.{Tree}
+use Rattle.file_model.specs.Outline.{outline_of}
+use Rattle.file_model.specs.Denotes.{Denotes, Layout}
+use Rattle.stream_io.specs.Reads.{IsStorageRead, MayRefuseFile, chain_fault, directory_fault}
+use Rattle.stream_io.specs.declared.read.Reader.{Reader}
+use Rattle.stream_io.proofs.ReadingFile.{IsOpened, IsReady, denoted, opened_at, read_header, ready}
+use Rattle.stream_io.proofs.ReadingOpened.{directory_is}
+use Rattle.stream_io.proofs.ReadingRefused.{chain_memory, directory_memory, file_chain, file_load, file_root, file_storage, of_minis, of_table, of_whole_chain, same_memory}
+use Rattle.stream_io.proofs.ReadingThere.{directory_there, load_not_refused, mini_there, root_marked, root_not_refused, storage_read}
+use Rattle.file_outline.specs.View.{contents, outline_view, shown}
+use Rattle.stream_io.specs.View.{directory_bytes}
+use Rattle.file_outline.specs.declared.outline.Place.{Place}
+use Rattle.stream_io.proofs.ReadingKept.{kept_storage}
+use Rattle.stream_io.proofs.read.walk.Goals as goal
+
+pub returns-in_err-chain-clause-reads : goal.returns-in_err-chain-clause-reads
+returns-in_err-chain-clause-reads c = λ t d.
+    let file : List ℕ = image_bytes c.args.file in
+    let h : HeaderValue = c.args.header.now in
+    let is : h ≡ header_of file = read_header file h d.header (sym c.requires.read) in
+    let there : (ns : List ℕ) × IsChain (store_of c.in_ok-fat.fat) h.first_directory 0 ns × AreFree c.in_ok-fat.fat ns =
+    directory_there file t d h c.in_ok-fat.fat is c.in_ok-fat.ensures.table in
+    chain_memory c.from_residual-in_err-chain.result c.in_err-chain.field-0.0 c.from_residual-in_err-chain.ensures.1
+    (c.in_err-chain.ensures.there there.0
+    (subst (λ (x : ℕ). IsChain (store_of c.in_ok-fat.fat) x 0 there.0) (sym c.first_directory.ensures) there.1) there.2)
+
+pub returns-in_err-entries-clause-reads : goal.returns-in_err-entries-clause-reads
+returns-in_err-entries-clause-reads c = λ t d.
+    let file : List ℕ = image_bytes c.args.file in
+    let h : HeaderValue = c.args.header.now in
+    let is : h ≡ header_of file = read_header file h d.header (sym c.requires.read) in
+    let o : IsOpened file c.chain.new.self c.in_ok-chain.chain.items c.bytes.result.now =
+    opened_at file h c.in_ok-fat.fat c.chain.new.self c.first_directory.result c.in_ok-chain.chain.items c.deref.result.now (directory_bytes c.in_ok-directory.directory)
+    c.bytes.result.now is c.in_ok-fat.ensures.table c.first_directory.ensures c.in_ok-chain.ensures.linked c.in_ok-chain.ensures.free c.in_ok-chain.ensures.marks
+    c.deref.ensures.value c.in_ok-directory.ensures.bytes c.bytes.ensures in
+    directory_memory c.from_residual-in_err-entries.result c.in_err-entries.field-0.0 c.from_residual-in_err-entries.ensures.1
+    (load_not_refused file t d c.chain.new.self c.in_ok-chain.chain.items c.bytes.result.now o c.in_err-entries.field-0.0 c.in_err-entries.ensures.refused)
+
+pub returns-in_err-root-clause-reads : goal.returns-in_err-root-clause-reads
+returns-in_err-root-clause-reads c = λ t d.
+    let file : List ℕ = image_bytes c.args.file in
+    let h : HeaderValue = c.args.header.now in
+    let e : EntriesValue = c.in_ok-entries.entries in
+    let is : h ≡ header_of file = read_header file h d.header (sym c.requires.read) in
+    let o : IsOpened file c.chain.new.self c.in_ok-chain.chain.items e.directory =
+    opened_at file h c.in_ok-fat.fat c.chain.new.self c.first_directory.result c.in_ok-chain.chain.items c.deref.result.now (directory_bytes c.in_ok-directory.directory)
+    e.directory is c.in_ok-fat.ensures.table c.first_directory.ensures c.in_ok-chain.ensures.linked c.in_ok-chain.ensures.free c.in_ok-chain.ensures.marks
+    c.deref.ensures.value c.in_ok-directory.ensures.bytes (ap (λ (x : EntriesValue). x.directory) c.in_ok-entries.ensures.loaded ∙ c.bytes.ensures) in
+    absurd (root_not_refused file t d c.chain.new.self c.in_ok-chain.chain.items e.directory o c.in_err-root.field-0.0 c.in_err-root.ensures.refused)
+
+pub returns-in_err-mini-clause-reads : goal.returns-in_err-mini-clause-reads
+returns-in_err-mini-clause-reads c = λ t d.
+    let file : List ℕ = image_bytes c.args.file in
+    let h : HeaderValue = c.args.header.now in
+    let e : EntriesValue = c.in_ok-entries.entries in
+    let is : h ≡ header_of file = read_header file h d.header (sym c.requires.read) in
+    let o : IsOpened file c.chain.new.self c.in_ok-chain.chain.items e.directory =
+    opened_at file h c.in_ok-fat.fat c.chain.new.self c.first_directory.result c.in_ok-chain.chain.items c.deref.result.now (directory_bytes c.in_ok-directory.directory)
+    e.directory is c.in_ok-fat.ensures.table c.first_directory.ensures c.in_ok-chain.ensures.linked c.in_ok-chain.ensures.free c.in_ok-chain.ensures.marks
+    c.deref.ensures.value c.in_ok-directory.ensures.bytes (ap (λ (x : EntriesValue). x.directory) c.in_ok-entries.ensures.loaded ∙ c.bytes.ensures) in
+    chain_memory c.from_residual-in_err-mini.result c.in_err-mini.field-0.0 c.from_residual-in_err-mini.ensures.1
+    (c.in_err-mini.ensures.there d.layout.mini_fat d.layout.mini_stream
+    (mini_there file t d c.chain.new.self c.in_ok-chain.chain.items e.directory o h c.in_ok-root.root.first c.in_ok-root.root.size is
+    c.in_ok-root.ensures.read.first c.in_ok-root.ensures.read.size))
+
+pub storage_outline-requires-clause-storage : goal.storage_outline-requires-clause-storage
+storage_outline-requires-clause-storage c = inl c.in_ok-root.ensures.read.allowed
+
+pub storage_outline-requires-clause-root_marked : goal.storage_outline-requires-clause-root_marked
+storage_outline-requires-clause-root_marked c =
+    root_marked c.in_ok-entries.entries (length c.bytes.result.now / 128) (ap (λ (x : EntriesValue). x.used) c.in_ok-entries.ensures.loaded)
+
+pub returns-in_err-outline-clause-reads : goal.returns-in_err-outline-clause-reads
+returns-in_err-outline-clause-reads c = λ t d.
+    let file : List ℕ = image_bytes c.args.file in
+    let h : HeaderValue = c.args.header.now in
+    let e : EntriesValue = c.in_ok-entries.entries in
+    let is_header : IsHeader file = c.requires.whole in
+    let is : h ≡ header_of file = read_header file h is_header (sym c.requires.read) in
+    let o : IsOpened file c.chain.new.self c.in_ok-chain.chain.items e.directory =
+    opened_at file h c.in_ok-fat.fat c.chain.new.self c.first_directory.result c.in_ok-chain.chain.items c.deref.result.now (directory_bytes c.in_ok-directory.directory)
+    e.directory is c.in_ok-fat.ensures.table c.first_directory.ensures c.in_ok-chain.ensures.linked c.in_ok-chain.ensures.free c.in_ok-chain.ensures.marks
+    c.deref.ensures.value c.in_ok-directory.ensures.bytes (ap (λ (x : EntriesValue). x.directory) c.in_ok-entries.ensures.loaded ∙ c.bytes.ensures) in
+    let mini_fat : List ℕ = c.in_ok-mini.ensures.found.0 in
+    let mini_stream : List ℕ = c.in_ok-mini.ensures.found.1 in
+    let l : Layout = record { fat = listed file; directory = c.in_ok-chain.chain.items; mini_fat = mini_fat; mini_stream = mini_stream } in
+    let r : IsReady file l c.mini.new.self c.in_ok-mini.mini e.directory =
+    ready file h c.chain.new.self c.mini.new.self c.in_ok-mini.mini c.in_ok-chain.chain.items e.directory c.in_ok-root.root.first c.in_ok-root.root.size
+    mini_fat mini_stream is o c.in_ok-root.ensures.read.first c.in_ok-root.ensures.read.size
+    c.in_ok-mini.ensures.found.2 c.in_ok-mini.ensures.found.3 c.in_ok-mini.ensures.found.4 in
+    let start : Reader = record { fat = c.mini.new.self; mini = c.in_ok-mini.mini; entries = e } in
+    let used : e.used ≡ set_all (replicate (length e.directory / 128) false) (0 ∷ []) =
+    ap (λ (x : EntriesValue). x.used) c.in_ok-entries.ensures.loaded
+    ∙ ap (λ (xs : List ℕ). set_all (replicate (length xs / 128) false) (0 ∷ [])) (sym (ap (λ (x : EntriesValue). x.directory) c.in_ok-entries.ensures.loaded)) in
+    let there : (new : Reader) × IsStorageRead 32 0 t start new = storage_read file l start r used t d in
+    let again : IsErrAnd c.from_residual-in_err-outline.result (λ x. x ≡ c.in_err-outline.field-0.0) = search rules in
+    same_memory c.from_residual-in_err-outline.result c.in_err-outline.field-0.0 again (c.in_err-outline.ensures.there t there.0 there.1)
+
+pub returns-clause-denotes : goal.returns-clause-denotes
+returns-clause-denotes c =
+    let file : List ℕ = image_bytes c.args.file in
+    let h : HeaderValue = c.args.header.now in
+    let e : EntriesValue = c.in_ok-entries.entries in
+    let is_header : IsHeader file = c.requires.whole in
+    let is : h ≡ header_of file = read_header file h is_header (sym c.requires.read) in
+    let o : IsOpened file c.chain.new.self c.in_ok-chain.chain.items e.directory =
+    opened_at file h c.in_ok-fat.fat c.chain.new.self c.first_directory.result c.in_ok-chain.chain.items c.deref.result.now (directory_bytes c.in_ok-directory.directory)
+    e.directory is c.in_ok-fat.ensures.table c.first_directory.ensures c.in_ok-chain.ensures.linked c.in_ok-chain.ensures.free c.in_ok-chain.ensures.marks
+    c.deref.ensures.value c.in_ok-directory.ensures.bytes (ap (λ (x : EntriesValue). x.directory) c.in_ok-entries.ensures.loaded ∙ c.bytes.ensures) in
+    let mini_fat : List ℕ = c.in_ok-mini.ensures.found.0 in
+    let mini_stream : List ℕ = c.in_ok-mini.ensures.found.1 in
+    let l : Layout = record { fat = listed file; directory = c.in_ok-chain.chain.items; mini_fat = mini_fat; mini_stream = mini_stream } in
+    let r : IsReady file l c.mini.new.self c.in_ok-mini.mini e.directory =
+    ready file h c.chain.new.self c.mini.new.self c.in_ok-mini.mini c.in_ok-chain.chain.items e.directory c.in_ok-root.root.first c.in_ok-root.root.size
+    mini_fat mini_stream is o c.in_ok-root.ensures.read.first c.in_ok-root.ensures.read.size
+    c.in_ok-mini.ensures.found.2 c.in_ok-mini.ensures.found.3 c.in_ok-mini.ensures.found.4 in
+    let start : Reader = record { fat = c.mini.new.self; mini = c.in_ok-mini.mini; entries = e } in
+    let marked : get_or e.used 0 true ≡ true = root_marked e (length c.bytes.result.now / 128) (ap (λ (x : EntriesValue). x.used) c.in_ok-entries.ensures.loaded) in
+    let before : Place → List ℕ = contents c.mini.new.self c.in_ok-mini.mini in
+    let t : Tree = shown before c.in_ok-outline.outline in
+    let kept : contents c.storage_outline.new.self.fat c.storage_outline.new.self.mini ≡ before =
+    (kept_storage 32 0 t start c.storage_outline.new.self c.in_ok-outline.ensures.read).content in
+    subst (λ (f : Place → List ℕ). Denotes file (shown f c.in_ok-outline.outline)) (sym kept)
+    (denoted file l start c.storage_outline.new.self t is_header r marked c.in_ok-root.ensures.read.allowed c.in_ok-outline.ensures.read)
+
+pub returns-clause-sized : goal.returns-clause-sized
+returns-clause-sized c =
+    let before : Place → List ℕ = contents c.mini.new.self c.in_ok-mini.mini in
+    let t : Tree = shown before c.in_ok-outline.outline in
+    let start : Reader = record { fat = c.mini.new.self; mini = c.in_ok-mini.mini; entries = c.in_ok-entries.entries } in
+    let kept : contents c.storage_outline.new.self.fat c.storage_outline.new.self.mini ≡ before =
+    (kept_storage 32 0 t start c.storage_outline.new.self c.in_ok-outline.ensures.read).content in
+    subst (λ (f : Place → List ℕ). outline_of (shown f c.in_ok-outline.outline) ≡ outline_view c.in_ok-outline.outline) (sym kept) c.in_ok-outline.ensures.sized
+
+pub returns-in_err-fat-clause-refused : goal.returns-in_err-fat-clause-refused
+returns-in_err-fat-clause-refused c =
+    refused_with c.from_residual.result (chain_fault c.in_err-fat.field-0.0) (MayRefuseFile (image_bytes c.args.file)) c.from_residual.ensures.1
+    (file_chain (image_bytes c.args.file) c.in_err-fat.field-0.0 (of_table (image_bytes c.args.file) c.args.header.now.fat c.in_err-fat.field-0.0 c.in_err-fat.ensures.refused))
+
+pub returns-in_err-chain-clause-refused : goal.returns-in_err-chain-clause-refused
+returns-in_err-chain-clause-refused c =
+    refused_with c.from_residual-in_err-chain.result (chain_fault c.in_err-chain.field-0.0) (MayRefuseFile (image_bytes c.args.file)) c.from_residual-in_err-chain.ensures.1
+    (file_chain (image_bytes c.args.file) c.in_err-chain.field-0.0 (of_whole_chain c.in_ok-fat.fat c.first_directory.result c.in_err-chain.field-0.0 c.in_err-chain.ensures.refused))
+
+pub returns-in_err-directory-clause-refused : goal.returns-in_err-directory-clause-refused
+returns-in_err-directory-clause-refused c =
+    let again : IsErrAnd c.from_residual-in_err-directory.result (λ x. x ≡ c.in_err-directory.field-0.0) = search rules in
+    refused_with c.from_residual-in_err-directory.result c.in_err-directory.field-0.0 (MayRefuseFile (image_bytes c.args.file)) again
+    (subst (MayRefuseFile (image_bytes c.args.file)) (sym c.in_err-directory.ensures.refused) tt)
+
+pub returns-in_err-entries-clause-refused : goal.returns-in_err-entries-clause-refused
+returns-in_err-entries-clause-refused c =
+    refused_with c.from_residual-in_err-entries.result (directory_fault c.in_err-entries.field-0.0) (MayRefuseFile (image_bytes c.args.file)) c.from_residual-in_err-entries.ensures.1
+    (file_load (image_bytes c.args.file) c.bytes.result.now c.in_err-entries.field-0.0 c.in_err-entries.ensures.refused)
+
+pub returns-in_err-root-clause-refused : goal.returns-in_err-root-clause-refused
+returns-in_err-root-clause-refused c =
+    refused_with c.from_residual-in_err-root.result (directory_fault c.in_err-root.field-0.0) (MayRefuseFile (image_bytes c.args.file)) c.from_residual-in_err-root.ensures.1
+    (file_root (image_bytes c.args.file) c.in_ok-entries.entries.directory c.in_err-root.field-0.0 c.in_err-root.ensures.refused)
+
+pub returns-in_err-mini-clause-refused : goal.returns-in_err-mini-clause-refused
+returns-in_err-mini-clause-refused c =
+    refused_with c.from_residual-in_err-mini.result (chain_fault c.in_err-mini.field-0.0) (MayRefuseFile (image_bytes c.args.file)) c.from_residual-in_err-mini.ensures.1
+    (file_chain (image_bytes c.args.file) c.in_err-mini.field-0.0
+    (of_minis c.chain.new.self c.args.header.now c.in_ok-root.root.first c.in_ok-root.root.size c.in_err-mini.field-0.0 c.in_err-mini.ensures.refused))
+
+pub returns-in_err-outline-clause-refused : goal.returns-in_err-outline-clause-refused
+returns-in_err-outline-clause-refused c =
+    let file : List ℕ = image_bytes c.args.file in
+    let h : HeaderValue = c.args.header.now in
+    let e : EntriesValue = c.in_ok-entries.entries in
+    let is_header : IsHeader file = c.requires.whole in
+    let is : h ≡ header_of file = read_header file h is_header (sym c.requires.read) in
+    let o : IsOpened file c.chain.new.self c.in_ok-chain.chain.items e.directory =
+    opened_at file h c.in_ok-fat.fat c.chain.new.self c.first_directory.result c.in_ok-chain.chain.items c.deref.result.now (directory_bytes c.in_ok-directory.directory)
+    e.directory is c.in_ok-fat.ensures.table c.first_directory.ensures c.in_ok-chain.ensures.linked c.in_ok-chain.ensures.free c.in_ok-chain.ensures.marks
+    c.deref.ensures.value c.in_ok-directory.ensures.bytes (ap (λ (x : EntriesValue). x.directory) c.in_ok-entries.ensures.loaded ∙ c.bytes.ensures) in
+    let again : IsErrAnd c.from_residual-in_err-outline.result (λ x. x ≡ c.in_err-outline.field-0.0) = search rules in
+    refused_with c.from_residual-in_err-outline.result c.in_err-outline.field-0.0 (MayRefuseFile file) again
+    (file_storage file e.directory c.in_err-outline.field-0.0 (directory_is file c.chain.new.self c.in_ok-chain.chain.items e.directory o) c.in_err-outline.ensures.refused)
