@@ -5,3 +5,4 @@ pub mod Room
 pub mod Built
 pub mod Streams
 pub mod ReadRefused
+pub mod Listed

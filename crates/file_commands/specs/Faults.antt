@@ -8,6 +8,12 @@ use Rattle.file_commands.specs.declared.fault.LineFault.{LineFault}
 use Rattle.file_commands.specs.declared.fault.LineFault.TheVariants.{Bad, Name, Tree, NoMemory}
 use Rattle.texts.specs.declared.lines.SyntaxFault.{SyntaxFault}
 use Rattle.texts.specs.declared.lines.SyntaxFault.TheVariants as syntax_fault
+use Rattle.texts.specs.declared.input.InputFault.TheVariants as input
+use Rattle.file_places.specs.declared.fault.PlacesFault.{PlacesFault}
+use Rattle.file_places.specs.declared.fault.PlacesFault.TheVariants as places
+use Rattle.stream_io.specs.Reads.{chain_fault}
+use Rattle.file_commands.specs.declared.fault.ListFault.{ListFault}
+use Rattle.file_commands.specs.declared.fault.ListFault.TheVariants as list
 
 abbrev pub of_tree_fault : TreeFault → LineFault
 of_tree_fault tree.NoMemory = NoMemory
@@ -22,3 +28,10 @@ line_fault_name Bad = codes "Bad"
 line_fault_name (Name fault) = name_of_fault fault
 line_fault_name (Tree fault) = fault_name fault
 line_fault_name NoMemory = codes "NoMemory"
+
+-- a fault of a file of which only some blocks are read
+abbrev pub of_places_fault : PlacesFault → ListFault
+of_places_fault places.Unreadable = list.Input input.Unreadable
+of_places_fault places.TooBig = list.Input input.TooBig
+of_places_fault places.NoMemory = list.Input input.NoMemory
+of_places_fault (places.Header fault) = list.Read (chain_fault fault)

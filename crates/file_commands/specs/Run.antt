@@ -40,6 +40,13 @@ pub record Lists (file : List ℕ) (old new : Option (List ℕ)) : Type 0 where
   pub denotes : ∥ Denotes file t ∥₁
   pub written : Appends old new (listing t)
 
+-- the faults of a listing once the file is read
+abbrev pub IsOfWriting : ListFault → Type 0
+IsOfWriting (list.Input fault) = ⊥
+IsOfWriting (list.Read fault) = ⊥
+IsOfWriting list.Unwritable = Unit {0}
+IsOfWriting list.NoMemory = Unit {0}
+
 -- when a file may be refused a listing; what stands behind its reading can fail only where it denotes a tree
 abbrev pub MayRefuseList : List ℕ → ListFault → Type 0
 MayRefuseList file (list.Input fault) = MayRefuseInput file fault

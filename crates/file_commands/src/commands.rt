@@ -1,7 +1,10 @@
 //! The commands of the program over readers and writers.
 
 ghost use Rattle.texts.specs.Input.{most};
-ghost use Rattle.file_commands.specs.Run.{IsMade, Lists, Makes, MayRefuseList, MayRefuseMake};
+ghost use Rattle.file_commands.specs.Listing.{listed};
+ghost use Rattle.file_commands.specs.Run.{IsMade, IsOfWriting, Lists, Makes, MayRefuseList, MayRefuseMake};
+ghost use Rattle.file_outline.specs.View.{outline_view};
+ghost use Rattle.std.specs.Io.KnownBytes.{Appends};
 ghost use Rattle.std.specs.Prelude.{◌≡◌, ◌≢◌, ◌≤◌, length, IfErr, IfOk, IfSome, OnOk};
 
 use crate::building::Described;
@@ -9,6 +12,7 @@ use crate::description::describe;
 use crate::fault::{ListFault, MakeFault};
 use crate::listing::list;
 use file_model::fault::WriteFault;
+use file_outline::outline::Outline;
 use std::alloc::Global;
 use std::io::{Read, Write};
 use stream_io::read::read_outline;
@@ -79,7 +83,22 @@ pub fn list_file<R: Read, W: Write>(
         Ok(outline) => outline,
         Err(fault) => return Err(ListFault::Read(fault)),
     };
-    let text = match list(alloc, &outline) {
+    write_listing(alloc, &outline, writer)
+}
+
+/// Writes the listing of an outline.
+///
+/// Refused: `NoMemory`, where nothing is written, and `Unwritable` where a write fails.
+pub(crate) fn write_listing<W: Write>(
+    alloc: Global,
+    outline: &Outline,
+    writer: &mut W,
+) -> Result<(), ListFault>
+    ensures written { OnOk result (Appends (W.contents writer.old) (W.contents writer.new) (listed (outline_view outline.now))) }
+    ensures refused { IfErr result IsOfWriting }
+    ensures unwritten { IfErr result (λ fault. fault ≢ ListFault.Unwritable → writer.new ≡ writer.old) }
+{
+    let text = match list(alloc, outline) {
         Ok(text) => text,
         Err(_) => return Err(ListFault::NoMemory),
     };

@@ -2,6 +2,7 @@
 
 use cfb_names::fault::DirFault;
 use file_model::fault::WriteFault;
+use file_places::fault::PlacesFault;
 use storage_tree::fault::TreeFault;
 use stream_io::fault::ReadFault;
 use texts::input::InputFault;
@@ -102,6 +103,22 @@ pub enum ListFault {
     /// No memory was left.
     #[error("no memory is left")]
     NoMemory,
+}
+
+impl From<PlacesFault> for ListFault {
+    ghost use Rattle.std.specs.Prelude.{◌≡◌};
+    ghost use Rattle.file_commands.specs.Faults.{of_places_fault};
+
+    ghost from_gives = { λ fault e. e ≡ of_places_fault fault };
+
+    fn from(fault: PlacesFault) -> Self {
+        match fault {
+            PlacesFault::Unreadable => ListFault::Input(InputFault::Unreadable),
+            PlacesFault::TooBig => ListFault::Input(InputFault::TooBig),
+            PlacesFault::NoMemory => ListFault::Input(InputFault::NoMemory),
+            PlacesFault::Header(fault) => ListFault::Read(ReadFault::from(fault)),
+        }
+    }
 }
 
 /// Why the bytes of a stream aren't written.

@@ -12,3 +12,4 @@ pub mod getting;
 pub mod laws;
 mod listing;
 pub mod report;
+pub mod seeking;

@@ -4,7 +4,11 @@ use crate::ends::{refuse, refuse_path};
 use crate::new_file::NewFile;
 use file_commands::cleaning::clean_file;
 use file_commands::commands::{list_file, make_file};
+use file_commands::fault::ListFault;
 use file_commands::getting::get_file;
+use file_commands::seeking::list_source;
+use file_places::source::Sought;
+use std::fs::OpenFile;
 use std::process::ExitCode;
 use std::rt::Runtime;
 use std::{fs, io};
@@ -41,12 +45,24 @@ fn keep<R: Runtime + AllocGlobal>(
 
 /// Lists a file on standard output.
 pub fn list<R: Runtime + AllocGlobal>(rt: &R, path: &str) -> ExitCode {
-    let Ok(mut source) = fs::open(rt, path) else {
+    let Ok(source) = fs::open(rt, path) else {
         return refuse(rt, &Report::File(path, "Unreadable"));
     };
-    match list_file(rt.alloc(), &mut source, &mut io::writer(rt)) {
+    match list_open(rt, source) {
         Ok(()) => ExitCode::SUCCESS,
         Err(fault) => refuse(rt, &fault.report(path)),
+    }
+}
+
+/// Lists an open file. Of one that tells how long it is, only what the listing needs is read.
+fn list_open<R: Runtime + AllocGlobal>(rt: &R, mut source: R::File) -> Result<(), ListFault> {
+    match source.metadata() {
+        Ok(about) if about.is_file() && about.len() > 0 => list_source(
+            rt.alloc(),
+            &mut Sought::new(source),
+            &mut io::writer(rt),
+        ),
+        _ => list_file(rt.alloc(), &mut source, &mut io::writer(rt)),
     }
 }
 

@@ -4,6 +4,7 @@ use crate::texts::{number, numbers, spelled, word};
 use cfb_chain::fat::Fat;
 use cfb_chain::fault::ChainFault;
 use cfb_chain::header::Header;
+use cfb_chain::image::Image;
 use std::alloc::Global;
 use std::process::Abort;
 use std::test::Fail;
@@ -143,7 +144,7 @@ fn run_is(alloc: Global, fat: &Fat, sectors: &[u32], want: &str) -> Result<bool,
 #[test]
 fn chains_are_followed(rt: HostRuntime) -> Result<(), Fail> {
     let file = file_of(rt.alloc(), LINKED)?;
-    let mut fat = Fat::load(rt.alloc(), &Header::read(&file)?, &file)?;
+    let mut fat = Fat::load(rt.alloc(), &Header::read(&file)?, Image::Whole(&file))?;
     play(&rt, rt.alloc(), &mut fat, LINKED_CALLS)
 }
 
@@ -151,7 +152,7 @@ fn chains_are_followed(rt: HostRuntime) -> Result<(), Fail> {
 fn a_mini_stream_is_read(rt: HostRuntime) -> Result<(), Fail> {
     let file = file_of(rt.alloc(), MINI)?;
     let header = Header::read(&file)?;
-    let mut fat = Fat::load(rt.alloc(), &header, &file)?;
+    let mut fat = Fat::load(rt.alloc(), &header, Image::Whole(&file))?;
     play(&rt, rt.alloc(), &mut fat, MINI_CALLS)?;
     let mut mini = fat.mini(rt.alloc(), &header, 2, 640)?;
     play(&rt, rt.alloc(), &mut mini, STREAM_CALLS)?;
