@@ -6,6 +6,8 @@ mod chains;
 #[cfg(test)]
 mod directories;
 #[cfg(test)]
+mod places;
+#[cfg(test)]
 mod reading;
 #[cfg(test)]
 mod streams;

@@ -12,7 +12,7 @@ use stream_io::read::{read_file, read_outline, read_stream};
 
 /// A header and a FAT, a root of class 7 with state bits 258 above the stream `A`, the mini FAT, and the mini stream with the
 /// bytes 1, 2, 3.
-const FILE: &str =
+pub(crate) const FILE: &str =
     "d0cf11e0a1b11ae1,16*00,3e000300feff09000600,10*00,01000000,01000000,4*00,00100000,02000000,01000000,feffffff,8*00,432*ff,fdffffff,3*feffffff,496*ff,5200,62*00,04000501,8*ff,01000000,16*07,02010000,16*00,03000000,40000000,4*00,4100,62*00,04000201,12*ff,40*00,03000000,4*00,256*00,feffffff,508*ff,010203,509*00";
 
 /// Whether a tree is as the file has it.
@@ -28,7 +28,7 @@ fn is_read(tree: &Tree, name: Name) -> bool {
 }
 
 /// How many bytes the first stream of an outline has.
-fn first_size(outline: &Outline) -> Option<u32> {
+pub(crate) fn first_size(outline: &Outline) -> Option<u32> {
     match &outline.parts.first()?.1 {
         Part::Stream(place) => Some(place.size),
         Part::Storage(_) => None,

@@ -1,0 +1,106 @@
+//! Reading only the places of a file that its listing needs.
+
+use crate::reading::{FILE, first_size};
+use crate::texts::{are_all, spelled};
+use file_places::fault::PlacesFault;
+use file_places::reading::{Catalog, read_catalog};
+use file_places::source::{Sought, Source};
+use std::alloc::Global;
+use std::io::{self, Cursor, ErrorKind};
+use std::test::Fail;
+use stream_io::read::read_placed;
+
+/// How many calls the file takes: one for its length, and one each for its header, the FAT, the directory and the mini FAT.
+const CALLS: usize = 5;
+
+/// Bytes of which no more is told after so many calls.
+#[derive(Drop)]
+struct Broken<'a> {
+    bytes: &'a [u8],
+    calls: usize,
+}
+
+impl<'a> Broken<'a> {
+    fn call(&mut self) -> io::Result<()> {
+        if self.calls == 0 {
+            return Err(io::Error::from(ErrorKind::Other));
+        }
+        self.calls -= 1;
+        Ok(())
+    }
+}
+
+impl<'a> Source for Broken<'a> {
+    fn size(&mut self) -> io::Result<u64> {
+        self.call()?;
+        self.bytes.size()
+    }
+
+    fn read_at(&mut self, at: u64, buf: &mut [u8]) -> io::Result<()> {
+        self.call()?;
+        self.bytes.read_at(at, buf)
+    }
+}
+
+fn cataloged<S: Source>(alloc: Global, source: &mut S) -> Result<Catalog, PlacesFault> {
+    read_catalog(alloc, source)
+}
+
+/// Whether the header, the FAT, the directory and the mini FAT are there, and the mini stream isn't.
+fn is_small(catalog: &Catalog) -> bool {
+    for n in 0..4 {
+        if are_all(catalog.file.part(n), 0) {
+            return false;
+        }
+    }
+    are_all(catalog.file.part(4), 0)
+}
+
+fn listed<S: Source>(alloc: Global, source: &mut S) -> Option<u32> {
+    let Ok(catalog) = read_catalog(alloc, source) else {
+        return None;
+    };
+    if !is_small(&catalog) {
+        return None;
+    }
+    let Ok(outline) = read_placed(alloc, &catalog.header, &catalog.file) else {
+        return None;
+    };
+    first_size(&outline)
+}
+
+fn is_unreadable(answer: Result<Catalog, PlacesFault>) -> bool {
+    match answer {
+        Err(fault) => fault == PlacesFault::Unreadable,
+        Ok(_) => false,
+    }
+}
+
+#[test]
+fn a_listing_reads_its_places(rt: HostRuntime) -> Result<(), Fail> {
+    let file = spelled(rt.alloc(), FILE)?;
+    assert!(rt; listed(rt.alloc(), &mut file.as_slice()) == Some(3));
+    assert!(rt; listed(rt.alloc(), &mut Sought::new(Cursor::new(file.as_slice()))) == Some(3));
+    Ok(())
+}
+
+#[test]
+fn a_read_that_fails_is_told(rt: HostRuntime) -> Result<(), Fail> {
+    let file = spelled(rt.alloc(), FILE)?;
+    for calls in 0..CALLS {
+        let mut source = Broken {
+            bytes: &file,
+            calls,
+        };
+        assert!(rt;
+            is_unreadable(cataloged(rt.alloc(), &mut source)),
+            "{calls}"
+        );
+    }
+    let mut source = Broken {
+        bytes: &file,
+        calls: CALLS,
+    };
+    assert!(rt; listed(rt.alloc(), &mut source) == Some(3));
+    Ok(())
+}
