@@ -69,6 +69,25 @@ followed_chain table start ns few h below =
     followed_leads table (length table) start ns few h below
     (distinct_few (length table) ns below (distinct_chain (λ n. get_or table n 0) (length table) start ns few h below))
 
+-- behind the last sector of a chain stands its end
+leads_last : (next : ℕ → ℕ) (start stop : ℕ) (ns : List ℕ) → Leads next start ns stop → 0 < length ns → next (get_or ns (length ns - 1) 0) ≡ stop
+leads_last next start stop [] h some = absurd (omega (arith, some))
+leads_last next start stop (n ∷ []) h some = h.1
+leads_last next start stop (n ∷ m ∷ ns) h some =
+    let place : suc (suc (length ns)) - 1 ≡ suc (suc (length ns) - 1) = omega arith in
+    ap (λ k. next (get_or (n ∷ m ∷ ns) k 0)) place ∙ leads_last next (next n) stop (m ∷ ns) h.1 (omega arith)
+
+-- no chain begins where what follows leads to no end
+pub no_chain : (table : List ℕ) (start at last : ℕ) (ns found empty : List ℕ) → found ≡ followed table (length table) start → at + 1 ≡ length found → last ≡ get_or found at 0
+    → (get_or table last 0 ≡ END_OF_CHAIN → ⊥) → length table ≤ END_OF_CHAIN → Leads (λ n. get_or table n 0) start ns END_OF_CHAIN
+    → All (λ n. n < length table) ns → empty ≡ ns
+no_chain table start at last ns found empty found_is at_is last_is other few h below =
+    let same : found ≡ ns = found_is ∙ followed_chain table start ns few h below in
+    let long : at + 1 ≡ length ns = at_is ∙ ap length same in
+    let here : at ≡ length ns - 1 = omega (arith, long) in
+    let is : last ≡ get_or ns (length ns - 1) 0 = last_is ∙ (λ i. get_or (same i) (here i) 0) in
+    absurd (other (ap (λ n. get_or table n 0) is ∙ leads_last (λ n. get_or table n 0) start END_OF_CHAIN ns h (omega (arith, long))))
+
 -- what is held by a chain that is found
 pub held_found : (f : FatValue) (start len : ℕ) (ns : List ℕ) → length f.table ≤ 0xFFFFFFF9 → IsFound f start len ns
     → held f start len ≡ take len (joined (store_of f).piece ns)

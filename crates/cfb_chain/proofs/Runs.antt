@@ -1,8 +1,8 @@
 -- Sectors that stand one after another.
-use Rattle.std.proofs.Common.{◌≡◌, ◌<◌, ◌≤◌, ◌+◌, ◌-◌, ◌*◌, ℕ, zero, suc, List, [], ◌∷◌, ◌++◌, length, take, drop, replicate, get_or, sym, ap, ◌∙◌, arith, length-drop}
+use Rattle.std.proofs.Common.{◌≡◌, ◌<◌, ◌≤◌, ◌+◌, ◌-◌, ◌*◌, ℕ, zero, suc, List, [], ◌∷◌, ◌++◌, length, take, drop, replicate, get_or, sym, ap, subst, ◌∙◌, arith, length-drop}
 use Rattle.std.proofs.lemmas.List.{append-nil, drop-drop, take_all}
 use Rattle.std.specs.List.{slice_range}
-use Rattle.cfb_chain.specs.Bytes.{block, joined}
+use Rattle.cfb_chain.specs.Bytes.{block, joined, sector}
 
 take_plus : (a b : ℕ) (xs : List ℕ) → take (a + b) xs ≡ take a xs ++ take b (drop a xs)
 take_plus zero b xs = let e : 0 + b ≡ b = omega arith in ap (λ n. take n xs) e
@@ -45,3 +45,36 @@ run_taken w start bytes first ns len rest run each inside rest_is room run_is le
     let cut : run ≡ take (len - 0) rest = run_is in
     let n : len - 0 ≡ w * length ns = omega (arith, len_is) in
     cut ∙ (λ i. take (n i) (whole i)) ∙ run_joined w start bytes first ns each (omega (arith, long, room, len_is, inside))
+
+-- the bytes whose blocks are those of sectors in turn
+placed_from : (file run : List ℕ) (first j : ℕ) (ns : List ℕ) → ((k : ℕ) → k < length ns → get_or ns k 0 ≡ first + (j + k))
+    → 512 * (j + length ns) ≤ length run
+    → ((k : ℕ) → k < length ns → block 512 run (512 * (j + k)) ≡ block 512 file (512 * (first + 1 + (j + k))))
+    → take (512 * length ns) (drop (512 * j) run) ≡ joined (sector file) ns
+placed_from file run first j [] each room same = let e : 512 * 0 ≡ 0 = omega arith in ap (λ n. take n (drop (512 * j) run)) e
+placed_from file run first j (n ∷ ns) each room same =
+    let here : n ≡ first + (j + 0) = each 0 (omega arith) in
+    let at : ℕ = 512 * j in
+    let rest : take (512 * length ns) (drop (512 * (j + 1)) run) ≡ joined (sector file) ns =
+    placed_from file run first (j + 1) ns
+    (λ k l. let e : j + suc k ≡ j + 1 + k = omega arith in each (suc k) (omega (arith, l)) ∙ ap (λ m. first + m) e)
+    (omega (arith, room))
+    (λ k l. let e : j + suc k ≡ j + 1 + k = omega arith in subst (λ m. block 512 run (512 * m) ≡ block 512 file (512 * (first + 1 + m))) e (same (suc k) (omega (arith, l)))) in
+    let one : sector file n ≡ take 512 (drop at run) =
+    ap (block 512 file) (omega (arith, here)) ∙ sym (same 0 (omega arith)) ∙ ap (block 512 run) (omega arith) ∙ whole_block 512 run at (omega (arith, room)) in
+    let len : 512 * length (n ∷ ns) ≡ 512 + 512 * length ns = omega arith in
+    let behind : at + 512 ≡ 512 * (j + 1) = omega arith in
+    ap (λ m. take m (drop at run)) len
+    ∙ take_plus 512 (512 * length ns) (drop at run)
+    ∙ ap (λ xs. take 512 (drop at run) ++ take (512 * length ns) xs) (drop-drop 512 at run ∙ ap (λ m. drop m run) behind)
+    ∙ (λ i. sym one i ++ rest i)
+
+pub placed_joined : (file run : List ℕ) (first count : ℕ) (ns : List ℕ) → ((k : ℕ) → k < length ns → get_or ns k 0 ≡ first + k)
+    → count ≡ length ns → length run ≡ 512 * count → ((k : ℕ) → k < count → block 512 run (512 * k) ≡ block 512 file (512 * (first + 1 + k)))
+    → run ≡ joined (sector file) ns
+placed_joined file run first count ns each count_is long same =
+    let all : 512 * length ns ≡ length run = omega (arith, long, count_is) in
+    sym (ap (λ m. take m run) all ∙ take_all (length run) run (omega arith))
+    ∙ placed_from file run first 0 ns
+    (λ k l. let e : 0 + k ≡ k = omega arith in each k l ∙ ap (λ m. first + m) (sym e)) (omega (arith, all))
+    (λ k l. let e : 0 + k ≡ k = omega arith in subst (λ m. block 512 run (512 * m) ≡ block 512 file (512 * (first + 1 + m))) (sym e) (same k (omega (arith, l, count_is))))

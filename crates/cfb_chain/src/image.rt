@@ -6,7 +6,7 @@ ghost use Rattle.cfb_chain.specs.Fat.{sectors_in};
 ghost use Rattle.cfb_chain.specs.View.{image_bytes};
 ghost use Rattle.std.specs.Prelude.{◌≡◌, IfOk, IfSome, length};
 
-use crate::sectors::{SECTOR, join_blocks, push_block, run_of};
+use crate::sectors::{SECTOR, are_consecutive, join_blocks, push_block, run_of};
 use cfb_places::places::Places;
 use std::alloc::{AllocError, Global};
 
@@ -32,6 +32,18 @@ pub(crate) fn join_placed(
         push_block(&mut out, SECTOR, file.part(*n as usize + 1), 0)?;
     }
     Ok(out)
+}
+
+/// The bytes of sectors of a file of which some blocks were read, where they stand one after another and were read so.
+fn run_placed<'a>(file: &'a Places, sectors: &[u32]) -> Option<&'a [u8]>
+    ensures { IfSome result (λ run. run.now ≡ joined (sector file.now) sectors.now) }
+{
+    let first = *sectors.first()?;
+    if !are_consecutive(first, sectors) {
+        return None;
+    }
+    let run = file.run(first as usize + 1, sectors.len())?;
+    Some(run)
 }
 
 impl<'a> Image<'a> {
@@ -62,13 +74,13 @@ impl<'a> Image<'a> {
         }
     }
 
-    /// The bytes of sectors, where all bytes are in memory and the sectors stand one after another.
+    /// The bytes of sectors, where they stand one after another in memory.
     pub(crate) fn run(&self, sectors: &[u32]) -> Option<&'a [u8]>
         ensures { IfSome result (λ run. run.now ≡ joined (sector (image_bytes self.now)) sectors.now) }
     {
         match self {
             Image::Whole(file) => run_of(SECTOR, file, SECTOR, sectors),
-            Image::Placed(_) => None,
+            Image::Placed(file) => run_placed(file, sectors),
         }
     }
 }

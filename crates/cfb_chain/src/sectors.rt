@@ -53,7 +53,7 @@ pub(crate) fn join_blocks(
 }
 
 /// Whether each number is one more than that before it, the first one being `first`.
-fn are_consecutive(first: u32, sectors: &[u32]) -> bool
+pub(crate) fn are_consecutive(first: u32, sectors: &[u32]) -> bool
     ensures { result ≡ true → (k : ℕ) → k < length sectors.now → slice_index sectors.now k ≡ first + k }
 {
     for k in 0..sectors.len() {

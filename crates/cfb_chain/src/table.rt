@@ -1,11 +1,13 @@
 //! The entries of the FAT, and the sectors that follow one another by them.
 
 ghost use Rattle.cfb_chain.specs.Bytes.{joined, sector, u32_at};
+ghost use Rattle.cfb_chain.specs.Chain.{END_OF_CHAIN, Leads};
 ghost use Rattle.cfb_chain.specs.Fat.{followed, sectors_in};
 ghost use Rattle.cfb_chain.specs.View.{image_bytes};
 ghost use Rattle.std.specs.List.{All};
-ghost use Rattle.std.specs.Prelude.{◌*◌, ◌<◌, ◌≤◌, ◌^◌, ◌≡◌, IfOk, length, min, slice_index, ℕ};
+ghost use Rattle.std.specs.Prelude.{◌*◌, ◌<◌, ◌≤◌, ◌^◌, ◌≡◌, IfOk, List, length, min, slice_index, ℕ};
 
+use crate::fat::END_OF_CHAIN;
 use crate::header::Header;
 use crate::image::Image;
 use crate::sectors::numbers;
@@ -44,7 +46,7 @@ pub fn entries(alloc: Global, header: &Header, file: &Image<'_>) -> Result<Vec<u
 }
 
 /// The sectors from one on, each followed by the one that its entry names, as far as entries go.
-pub fn follow(alloc: Global, table: &[u32], start: u32) -> Result<Vec<u32>, AllocError>
+pub(crate) fn follow(alloc: Global, table: &[u32], start: u32) -> Result<Vec<u32>, AllocError>
     ensures listed { IfOk result (λ v. v.items ≡ followed table.now (length table.now) start) }
     ensures below { IfOk result (λ v. All (λ n. n < length table.now) v.items) }
 {
@@ -53,6 +55,20 @@ pub fn follow(alloc: Global, table: &[u32], start: u32) -> Result<Vec<u32>, Allo
     while sectors.len() < table.len() && (at as usize) < table.len() {
         sectors.push(at)?;
         at = table[at as usize];
+    }
+    Ok(sectors)
+}
+
+/// The sectors of the chain that begins with one, and none where the entries lead to no end.
+pub fn chain_from(alloc: Global, table: &[u32], start: u32) -> Result<Vec<u32>, AllocError>
+    ensures { IfOk result (λ v. (ns : List ℕ) → length table.now ≤ END_OF_CHAIN → Leads (slice_index table.now) start ns END_OF_CHAIN → All (λ n. n < length table.now) ns → v.items ≡ ns) }
+{
+    let sectors = follow(alloc, table, start)?;
+    let Some(last) = sectors.last() else {
+        return Ok(sectors);
+    };
+    if table[*last as usize] != END_OF_CHAIN {
+        return Ok(Vec::new(alloc));
     }
     Ok(sectors)
 }

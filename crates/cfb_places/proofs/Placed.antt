@@ -1,10 +1,10 @@
 -- The blocks of a file of which only some were read.
-use Rattle.std.proofs.Common.{◌≡◌, ◌≢◌, inl, inr, ◌<◌, ◌≤◌, ◌+◌, ◌-◌, ◌*◌, ℕ, zero, suc, List, [], ◌∷◌, ◌++◌, length, take, drop, replicate, get_or, set, min, refl, sym, ap, subst, ◌∙◌, arith, append_assoc, length-append, length-drop, length-set}
-use Rattle.std.proofs.lemmas.List.{append-nil, drop_all, drop-append-le, get_or-set_other, get_or-set_same, length-replicate, length-take, take-append-le, take_all, take_at}
+use Rattle.std.proofs.Common.{◌≡◌, ◌≢◌, inl, inr, ◌<◌, ◌≤◌, ◌+◌, ◌-◌, ◌*◌, ◌/◌, ℕ, zero, suc, List, [], ◌∷◌, ◌++◌, length, take, drop, replicate, get_or, set, min, refl, sym, ap, subst, ◌∙◌, arith, append_assoc, drop-drop, length-append, length-drop, length-set}
+use Rattle.std.proofs.lemmas.List.{append-nil, drop_all, drop-append-le, get_or-set_other, get_or-set_same, length-replicate, length-take, take-append-le, take_all, take_at, take-take}
 use Rattle.std.proofs.lemmas.Bool.{cases_lt}
 use Rattle.std.proofs.Math.Seq.{drop-append_seam, drop-append-add}
 use Rattle.std.proofs.lemmas.List.Elements.{All-replicate, All-set}
-use Rattle.std.specs.List.{All, flat_map}
+use Rattle.std.specs.List.{All, flat_map, slice_range}
 use Rattle.cfb_bytes.specs.Bytes.{block}
 use Rattle.cfb_places.specs.Places.{IsPlaced, placed}
 
@@ -48,7 +48,7 @@ drop_blocks pool (at ∷ places) (suc k) l =
     ap (λ n. drop n (first ++ rest)) e ∙ drop-append-add first rest (512 * k) ∙ drop_blocks pool places k (omega arith)
 
 -- what is cut off and left out, in either order
-pub drop_cut : (n len : ℕ) (xs : List ℕ) → drop n (take len xs) ≡ take (len - n) (drop n xs)
+drop_cut : (n len : ℕ) (xs : List ℕ) → drop n (take len xs) ≡ take (len - n) (drop n xs)
 drop_cut zero len xs = let e : len - 0 ≡ len = omega arith in rw e refl
 drop_cut (suc n) zero xs = let e : 0 - suc n ≡ 0 = omega arith in rw e refl
 drop_cut (suc n) (suc len) [] = sym (take_all (suc len - suc n) [] (omega arith))
@@ -227,3 +227,62 @@ pool_grown len pool places bytes new h e = record {
   enough = h.enough;
   inside = λ k d l. omega (arith, h.inside k d l, ap length e, length-append pool bytes);
 }
+
+-- ---- blocks that stand in turn
+-- a block of a run that was read is the block of the file
+pub run_block : (a bytes : List ℕ) (start count size k : ℕ) → bytes ≡ take size (drop start a) → size ≡ min (512 * count) (length a - start) → start ≤ length a
+    → 512 * k < size → block 512 bytes (512 * k) ≡ block 512 a (start + 512 * k)
+unfolding block
+run_block a bytes start count size k is size_is inside l =
+    let zs : List ℕ = drop start a in
+    let ws : List ℕ = drop (start + 512 * k) a in
+    let n : ℕ = size - 512 * k in
+    let behind : drop (512 * k) zs ≡ ws = drop-drop (512 * k) start a ∙ ap (λ m. drop m a) (omega arith) in
+    let here : drop (512 * k) bytes ≡ take n ws = ap (drop (512 * k)) is ∙ drop_cut (512 * k) size zs ∙ ap (take n) behind in
+    let long : length ws ≡ length a - (start + 512 * k) = length-drop (start + 512 * k) a in
+    let same : take 512 (take n ws) ≡ take 512 ws =
+    elim (cases_lt n 512) [
+      | inl less ↦ ap (take 512) (take_all n ws (omega (arith, long, size_is, less, l)))
+      | inr all ↦ take-take 512 n ws all
+    ] in
+    let left : 512 - length (take n ws) ≡ 512 - length ws = omega (arith, length-take n ws, long, size_is, l) in
+    (λ i. take 512 (here i) ++ replicate (512 - length (here i)) 0) ∙ (λ i. same i ++ replicate (left i) 0)
+
+whole_front : (a : List ℕ) → length a ≡ 512 → block 512 a 0 ≡ a
+unfolding block
+whole_front a long =
+    let none : 512 - length a ≡ 0 = omega (arith, long) in
+    (λ i. take_all 512 a (omega (arith, long)) i ++ replicate (none i) 0) ∙ append-nil a
+
+-- a block of what is a block
+block_again : (pool : List ℕ) (at m : ℕ) → 512 ≤ m → block 512 (take m (block 512 pool at)) 0 ≡ block 512 pool at
+block_again pool at m all =
+    let a : List ℕ = block 512 pool at in
+    let long : length a ≡ 512 = length_block 512 pool at in
+    ap (λ xs. block 512 xs 0) (take_all m a (omega (arith, long, all))) ∙ whole_front a long
+
+module _ (len : ℕ) (pool places bytes mem table rest run : List ℕ) (first count at : ℕ) (mem_is : mem ≡ pool) (table_is : table ≡ places) (h : IsPlaced len pool places) (is : placed len pool places ≡ bytes)
+    (some : 0 < count) (inside : first + count ≤ len / 512) (turns : (k : ℕ) → k < count → get_or table (first + k) 0 ≡ at + 512 * k)
+    (rest_is : rest ≡ slice_range mem at (length mem)) (run_is : run ≡ slice_range rest 0 (512 * count)) where
+  in_turn : (k : ℕ) → k < count → get_or places (first + k) 0 ≡ at + 512 * k
+  in_turn k l = ap (λ xs. get_or xs (first + k) 0) (sym table_is) ∙ turns k l
+
+  in_pool : at + 512 * count ≤ length pool
+  in_pool =
+      let l : first + (count - 1) < length places = omega (arith, inside, some, h.enough) in
+      omega (arith, h.inside (first + (count - 1)) 0 l, in_turn (count - 1) (omega (arith, some)), some)
+
+  rest_whole : rest ≡ drop at pool
+  rest_whole = rest_is ∙ ap (λ xs. slice_range xs at (length xs)) mem_is ∙ take_all (length pool - at) (drop at pool) (omega (arith, length-drop at pool))
+
+  run_cut : run ≡ take (512 * count) (drop at pool)
+  run_cut = let none : 512 * count - 0 ≡ 512 * count = omega arith in run_is ∙ (λ i. take (none i) (rest_whole i))
+
+  pub run_each : (k : ℕ) → k < count → block 512 run (512 * k) ≡ block 512 bytes (512 * (first + k))
+  run_each k l =
+      let there : first + k < length places = omega (arith, inside, l, h.enough) in
+      run_block pool run at count (512 * count) k run_cut (omega (arith, in_pool)) (omega (arith, in_pool)) (omega (arith, l))
+      ∙ ap (block 512 pool) (sym (in_turn k l))
+      ∙ sym (block_again pool (get_or places (first + k) 0) (len - 512 * (first + k)) (omega (arith, inside, l)))
+      ∙ sym (block_placed len pool places (first + k) there)
+      ∙ ap (λ xs. block 512 xs (512 * (first + k))) is

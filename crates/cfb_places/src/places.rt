@@ -1,7 +1,7 @@
 //! A file in memory of which only some blocks were read.
 
 ghost use Rattle.cfb_bytes.specs.Bytes.{block};
-ghost use Rattle.std.specs.Prelude.{◌*◌, ◌-◌, ◌<◌, ◌≡◌, ◌≢◌, ◌≤◌, ◌^◌, IfOk, OnOk, length, min, ℕ};
+ghost use Rattle.std.specs.Prelude.{◌*◌, ◌+◌, ◌-◌, ◌<◌, ◌≡◌, ◌≢◌, ◌≤◌, ◌^◌, IfOk, IfSome, OnOk, length, min, slice_index, true, ℕ};
 
 use std::alloc::{AllocError, Global};
 use std::marker::Model;
@@ -26,6 +26,22 @@ impl Model for Places {
     ghost view = { λ p. placed p.len p.pool.items p.places.items };
 
     ghost invariant = { λ p. IsPlaced p.len p.pool.items p.places.items };
+}
+
+/// Whether so many places from one on are a block apart, the first of them being `at`.
+fn are_in_turn(places: &[u32], first: usize, count: usize, at: usize) -> bool
+    requires inside { first + count ≤ length places.now }
+    requires near { at < 2 ^ 32 }
+    ensures { result ≡ true → (k : ℕ) → k < count → slice_index places.now (first + k) ≡ at + 512 * k }
+{
+    let mut next = at;
+    for k in 0..count {
+        if places[first + k] as usize != next {
+            return false;
+        }
+        next += BLOCK;
+    }
+    true
 }
 
 impl Places {
@@ -56,6 +72,24 @@ impl Places {
         let at = self.places[n] as usize;
         let size = self.len.saturating_sub(BLOCK * n).min(BLOCK);
         &self.pool[at..at + size]
+    }
+
+    /// The bytes of so many blocks from one on, where they are whole and were put one after another.
+    pub fn run(&self, first: usize, count: usize) -> Option<&[u8]>
+        ensures whole { IfSome result (λ run. length run.now ≡ 512 * count) }
+        ensures each { IfSome result (λ run. (k : ℕ) → k < count → block 512 run.now (512 * k) ≡ block 512 self.now (512 * (first + k))) }
+    {
+        let end = first.checked_add(count)?;
+        if count == 0 || end > self.len / BLOCK {
+            return None;
+        }
+        let at = self.places[first] as usize;
+        if !are_in_turn(&self.places, first, count, at) {
+            return None;
+        }
+        let rest = self.pool.get(at..)?;
+        let run = rest.get(..BLOCK * count)?;
+        Some(run)
     }
 
     /// Puts the bytes of a block, as many as the file has of it, in their place.

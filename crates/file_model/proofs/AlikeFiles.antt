@@ -1,8 +1,6 @@
 -- What holds of files that a listing can't tell apart.
 use Rattle.std.proofs.Common.{◌≡◌, ◌*◌, ℕ, List, Bool, true, false, if◌then◌else◌, nat_lt, take, sym, ◌∙◌, ap, subst, arith}
-use Rattle.std.proofs.Math.Logic.{∥∥₁_elim, ∥∥₁_prop}
 use Rattle.std.proofs.lemmas.List.Elements.{All-take}
-use mathlib.Core.HLevel.{is_prop→PathP}
 use Rattle.cfb_chain.specs.Bytes.{sector}
 use Rattle.cfb_chain.specs.Chain.{IsChain, IsChainOf, Store}
 use Rattle.cfb_chain.specs.Fat.{mini_sectors_of, sectors_of}
@@ -12,12 +10,10 @@ use Rattle.storage_tree.specs.Tree.{Tree}
 use Rattle.file_model.specs.Alike.{AgreeOn, Alike}
 use Rattle.file_model.specs.Denotes.{Denotes, IsLaidOut, Layout, directory_of, minis, root_of, sectors, store_for}
 use Rattle.file_model.specs.Limits.{CUTOFF}
-use Rattle.file_model.specs.Outline.{Outline, outline_of}
+use Rattle.file_model.specs.Outline.{outline_of}
 use Rattle.file_model.proofs.AlikeHeaders.{header_of_alike, is_header_alike}
 use Rattle.file_model.proofs.AlikeStores.{HaveSameLinks, agree_back, chain_carried, chain_of_carried, fat_alike, joined_alike, links_back, minis_alike, sectors_alike}
 use Rattle.file_model.proofs.AlikeTrees.{IsRefilled, storage_refilled}
-use Rattle.file_model.proofs.TreeSets.{Outline-set, Tree-set}
-use Rattle.file_model.proofs.Unique.{one_tree}
 
 -- stores that one is chosen of
 chosen_alike : (c : Bool) (s t u v : Store) → HaveSameLinks s u → HaveSameLinks t v → HaveSameLinks (if c then s else t) (if c then u else v)
@@ -126,18 +122,3 @@ module _ (a b : List ℕ) (h : Alike a b) where
         is_tree = r.whole;
       } in
       (r.refilled, denoted, r.listed_so)
-
--- ---- where it is said only that a tree is denoted
--- a file denotes one tree, so that some tree with an outline is that one
-denoted_one : (file : List ℕ) (o : Outline) → IsProp ((t : Tree) × ∥ Denotes file t ∥₁ × (outline_of t ≡ o))
-denoted_one file o u v =
-    let same : u.0 ≡ v.0 = ∥∥₁_elim u.1 (Tree-set u.0 v.0) (λ d. ∥∥₁_elim v.1 (Tree-set u.0 v.0) (λ e. one_tree file u.0 v.0 d e)) in
-    λ i. (
-      same i,
-      is_prop→PathP (λ j. ∥ Denotes file (same j) ∥₁) (λ j. ∥∥₁_prop) u.1 v.1 i,
-      is_prop→PathP (λ j. outline_of (same j) ≡ o) (λ j. Outline-set (outline_of (same j)) o) u.2 v.2 i,
-    )
-
-pub alike_outlined : (a b : List ℕ) → Alike a b → (t : Tree) → ∥ Denotes a t ∥₁ → (t' : Tree) × ∥ Denotes b t' ∥₁ × (outline_of t' ≡ outline_of t)
-alike_outlined a b h t d =
-    ∥∥₁_elim d (denoted_one b (outline_of t)) (λ e. let r = alike_denotes a b h t e in (r.0, ∣ r.1 ∣₁, r.2))

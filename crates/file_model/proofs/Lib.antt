@@ -15,7 +15,6 @@ pub mod Placed
 pub mod Contents
 pub mod Refused
 pub mod EmptyDocument
-pub mod TreeSets
 pub mod AlikeHeaders
 pub mod AlikeStores
 pub mod AlikeTrees

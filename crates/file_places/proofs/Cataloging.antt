@@ -7,16 +7,15 @@ use Rattle.std.specs.List.{range_with_len}
 use Rattle.cfb_bytes.specs.Bytes.{block}
 use Rattle.cfb_chain.specs.Bytes.{joined, sector, u32_at}
 use Rattle.cfb_chain.specs.Chain.{IsChain, IsChainOf, Store}
-use Rattle.cfb_chain.specs.Fat.{AreSame, followed, sectors_in, sectors_of}
+use Rattle.cfb_chain.specs.Fat.{AreSame, sectors_in, sectors_of}
 use Rattle.cfb_chain.specs.Header.{HeaderValue, IsHeader, fat_count, first_directory, first_mini_fat, header_of, header_read, listed, mini_fat_count}
 use Rattle.cfb_chain.specs.declared.fault.ChainFault.{ChainFault}
 use Rattle.cfb_chain.proofs.Chains.{chain_any, chain_same}
-use Rattle.cfb_chain.proofs.Followed.{followed_chain}
 use Rattle.cfb_chain.proofs.Headers.{read_whole}
 use Rattle.file_model.specs.Alike.{AgreeOn, Alike}
 use Rattle.file_model.proofs.AlikeHeaders.{header_cut, u16_cut, u32_cut}
 use Rattle.file_model.proofs.AlikeStores.{joined_alike}
-use Rattle.file_places.specs.Filled.{IsRead}
+use Rattle.file_places.specs.Filled.{IsChainRead, IsRead}
 
 -- ---- the header
 -- the fixed fields stand in the first 512 bytes
@@ -74,8 +73,8 @@ module _ (a b0 b1 b2 b3 front table : List ℕ) (len : ℕ) (h : HeaderValue) (l
     (fat_read : IsRead a b0 b1 h.fat)
     (count : length table ≡ min (128 * length h.fat) (sectors_in b1))
     (each : (k : ℕ) → k < length table → get_or table k 0 ≡ u32_at (joined (sector b1) h.fat) (4 * k))
-    (directory_read : IsRead a b1 b2 (followed table (length table) h.first_directory))
-    (mini_fat_read : IsRead a b2 b3 (followed table (length table) h.first_mini_fat)) where
+    (directory_read : IsChainRead a b1 b2 table h.first_directory)
+    (mini_fat_read : IsChainRead a b2 b3 table h.first_mini_fat) where
   all_there : 512 ≤ len
   all_there = omega (arith, whole.whole, front_long)
 
@@ -117,27 +116,26 @@ module _ (a b0 b1 b2 b3 front table : List ℕ) (len : ℕ) (h : HeaderValue) (l
         ∙ sym (each n (subst (λ c. n < c) count_same l));
   }
 
-  chain_read : (start : ℕ) (ns : List ℕ) → IsChain (sectors_of a (listed a)) start 0 ns → followed table (length table) start ≡ ns
+  -- what was read of a chain's sectors
+  chain_read : (old new : List ℕ) (start : ℕ) (ns : List ℕ) → IsChainRead a old new table start → IsChain (sectors_of a (listed a)) start 0 ns → AgreeOn a new ns
   unfolding store
-  chain_read start ns c =
+  chain_read old new start ns r c =
       let d : IsChain store start 0 ns = chain_same (sectors_of a (listed a)) store same_store start 0 ns c in
-      followed_chain table start ns (omega (arith, count, few)) d.linked (λ k e l. (d.present k e l).1)
+      r.there ns (omega (arith, count, few)) d.linked (λ k e l. (d.present k e l).1)
 
   directory_there : (ns : List ℕ) → IsChain (sectors_of a (listed a)) (first_directory a) 0 ns → AgreeOn a b3 ns
   directory_there ns c =
       let start : h.first_directory ≡ first_directory a = ap (λ (v : HeaderValue). v.first_directory) says in
-      let is : followed table (length table) h.first_directory ≡ ns =
-      chain_read h.first_directory ns (subst (λ n. IsChain (sectors_of a (listed a)) n 0 ns) (sym start) c) in
-      subst (AgreeOn a b3) is (λ k d l. mini_fat_read.kept _ (directory_read.there k d l))
+      let there : AgreeOn a b2 ns =
+      chain_read b1 b2 h.first_directory ns directory_read (subst (λ n. IsChain (sectors_of a (listed a)) n 0 ns) (sym start) c) in
+      λ k d l. mini_fat_read.kept _ (there k d l)
 
   mini_fat_there : (bytes : ℕ) (ns : List ℕ) → IsChainOf (sectors_of a (listed a)) (first_mini_fat a) bytes ns → AgreeOn a b3 ns
   mini_fat_there zero ns c = subst (AgreeOn a b3) (sym c) (λ k d l. absurd (omega arith))
   mini_fat_there (suc n) ns c =
       let start : h.first_mini_fat ≡ first_mini_fat a = ap (λ (v : HeaderValue). v.first_mini_fat) says in
-      let is : followed table (length table) h.first_mini_fat ≡ ns =
-      chain_read h.first_mini_fat ns
-      (subst (λ m. IsChain (sectors_of a (listed a)) m 0 ns) (sym start) (chain_any (sectors_of a (listed a)) (first_mini_fat a) (suc n) ns c)) in
-      subst (AgreeOn a b3) is mini_fat_read.there
+      chain_read b2 b3 h.first_mini_fat ns mini_fat_read
+      (subst (λ m. IsChain (sectors_of a (listed a)) m 0 ns) (sym start) (chain_any (sectors_of a (listed a)) (first_mini_fat a) (suc n) ns c))
 
   pub cataloged : Alike a b3
   cataloged = record {

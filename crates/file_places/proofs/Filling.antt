@@ -3,9 +3,12 @@ use Rattle.std.proofs.Common.{◌≡◌, ◌≢◌, inl, inr, ◌<◌, ◌≤◌
 use Rattle.std.proofs.lemmas.Bool.{cases_lt, cases_eq}
 use Rattle.std.proofs.lemmas.List.{drop-drop, get_or_default, length-take, take_all, take_min, take-take}
 use Rattle.cfb_bytes.specs.Bytes.{block}
+use Rattle.std.specs.List.{All}
 use Rattle.cfb_chain.specs.Bytes.{sector}
-use Rattle.cfb_places.proofs.Placed.{block_past, drop_cut}
-use Rattle.file_places.specs.Filled.{IsRead, IsRunRead}
+use Rattle.cfb_chain.specs.Chain.{END_OF_CHAIN, Leads}
+use Rattle.cfb_places.proofs.Placed.{block_past, run_block}
+use Rattle.file_model.specs.Alike.{AgreeOn}
+use Rattle.file_places.specs.Filled.{IsChainRead, IsRead, IsRunRead}
 
 -- ---- blocks that are put
 -- the blocks before one, of those from `first` on, were put
@@ -58,25 +61,6 @@ put_more old now new bytes part first k at end h at_is some end_is part_is len h
 }
 
 -- ---- a run of sectors
--- a block of a run that was read is the block of the file
-run_block : (a bytes : List ℕ) (start count size k : ℕ) → bytes ≡ take size (drop start a) → size ≡ min (512 * count) (length a - start) → start ≤ length a
-    → 512 * k < size → block 512 bytes (512 * k) ≡ block 512 a (start + 512 * k)
-unfolding block
-run_block a bytes start count size k is size_is inside l =
-    let zs : List ℕ = drop start a in
-    let ws : List ℕ = drop (start + 512 * k) a in
-    let n : ℕ = size - 512 * k in
-    let behind : drop (512 * k) zs ≡ ws = drop-drop (512 * k) start a ∙ ap (λ m. drop m a) (omega arith) in
-    let here : drop (512 * k) bytes ≡ take n ws = ap (drop (512 * k)) is ∙ drop_cut (512 * k) size zs ∙ ap (take n) behind in
-    let long : length ws ≡ length a - (start + 512 * k) = length-drop (start + 512 * k) a in
-    let same : take 512 (take n ws) ≡ take 512 ws =
-    elim (cases_lt n 512) [
-      | inl less ↦ ap (take 512) (take_all n ws (omega (arith, long, size_is, less, l)))
-      | inr all ↦ take-take 512 n ws all
-    ] in
-    let left : 512 - length (take n ws) ≡ 512 - length ws = omega (arith, length-take n ws, long, size_is, l) in
-    (λ i. take 512 (here i) ++ replicate (512 - length (here i)) 0) ∙ (λ i. same i ++ replicate (left i) 0)
-
 -- nothing stands past the end
 pub run_past : (a old : List ℕ) (first count start : ℕ) → start ≡ 512 * (first + 1) → length old ≤ start → length a ≡ length old → IsRunRead a old old first count
 run_past a old first count start start_is past len = record {
@@ -153,6 +137,15 @@ pub all_read : (a old new sectors : List ℕ) (count : ℕ) → IsReadSoFar a ol
 all_read a old new sectors count h whole = record {
   kept = h.kept;
   there = λ k d l. subst (λ n. sector a n ≡ sector new n) (get_or_default sectors k 0 d l) (h.there k (omega (arith, l, whole)));
+}
+
+-- the sectors that were found are those of each chain that begins there
+pub chain_was_read : (a old new table found : List ℕ) (start : ℕ)
+    → ((ns : List ℕ) → length table ≤ END_OF_CHAIN → Leads (λ n. get_or table n 0) start ns END_OF_CHAIN → All (λ n. n < length table) ns → found ≡ ns)
+    → IsRead a old new found → IsChainRead a old new table start
+chain_was_read a old new table found start is r = record {
+  kept = r.kept;
+  there = λ ns few h below. subst (AgreeOn a new) (is ns few h below) r.there;
 }
 
 -- ---- where the bytes are known

@@ -1,6 +1,8 @@
 -- What was read of a file.
-use Rattle.std.specs.Prelude.{◌≡◌, ◌+◌, ◌<◌, ℕ, List, length, Err}
+use Rattle.std.specs.Prelude.{◌≡◌, ◌+◌, ◌<◌, ◌≤◌, ℕ, List, length, slice_index, Err}
+use Rattle.std.specs.List.{All}
 use Rattle.cfb_chain.specs.Bytes.{sector}
+use Rattle.cfb_chain.specs.Chain.{END_OF_CHAIN, Leads}
 use Rattle.cfb_chain.specs.Header.{header_read}
 use Rattle.file_model.specs.Alike.{AgreeOn}
 use Rattle.file_places.specs.declared.fault.PlacesFault.{PlacesFault}
@@ -14,6 +16,11 @@ most = 134217728
 pub record IsRead (a old new ns : List ℕ) : Type 0 where
   pub kept : (n : ℕ) → sector a n ≡ sector old n → sector a n ≡ sector new n
   pub there : AgreeOn a new ns
+
+-- The sectors of the chain that begins with one by a table were read, where there is such a chain.
+pub record IsChainRead (a old new table : List ℕ) (start : ℕ) : Type 0 where
+  pub kept : (n : ℕ) → sector a n ≡ sector old n → sector a n ≡ sector new n
+  pub there : (ns : List ℕ) → length table ≤ END_OF_CHAIN → Leads (slice_index table) start ns END_OF_CHAIN → All (λ n. n < length table) ns → AgreeOn a new ns
 
 -- Likewise, so many sectors from one on.
 pub record IsRunRead (a old new : List ℕ) (first count : ℕ) : Type 0 where

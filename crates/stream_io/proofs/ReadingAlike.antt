@@ -4,11 +4,8 @@ use Rattle.cfb_chain.specs.Chain.{IsChain}
 use Rattle.cfb_chain.specs.Fat.{IsFat, sectors_of}
 use Rattle.cfb_chain.specs.Header.{first_directory, listed}
 use Rattle.cfb_names.specs.declared.fault.DirFault.TheVariants as directory
-use Rattle.storage_tree.specs.Tree.{Tree}
 use Rattle.file_model.specs.Alike.{Alike}
-use Rattle.file_model.specs.Denotes.{Denotes}
-use Rattle.file_model.specs.Outline.{Outline, outline_of}
-use Rattle.file_model.proofs.AlikeFiles.{alike_back, alike_denotes, alike_outlined, directory_chain_back, listed_alike}
+use Rattle.file_model.proofs.AlikeFiles.{alike_back, alike_denotes, directory_chain_back, listed_alike}
 use Rattle.file_model.proofs.AlikeHeaders.{header_alike}
 use Rattle.file_model.proofs.AlikeStores.{fat_alike, joined_alike}
 use Rattle.stream_io.specs.Reads.{IsDirectory, MayRefuseFile, MayRefuseRead}
@@ -40,7 +37,3 @@ alike_read a b fault h r = record {
   reads = λ t d. let other = alike_denotes a b h t d in r.reads other.0 other.1;
   told = alike_refuses a b fault h r.told;
 }
-
--- the tree that it denotes has the outline of the other's
-pub alike_outline : (a b : List ℕ) (o : Outline) → Alike a b → (t : Tree) × ∥ Denotes b t ∥₁ × (o ≡ outline_of t) → (t : Tree) × ∥ Denotes a t ∥₁ × (o ≡ outline_of t)
-alike_outline a b o h r = let found = alike_outlined b a (alike_back a b h) r.0 r.1 in (found.0, found.1, r.2 ∙ sym found.2)

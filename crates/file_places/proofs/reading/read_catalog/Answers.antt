@@ -1,9 +1,8 @@
 use Rattle.std.proofs.Common.{◌≡◌, ◌∙◌, ℕ, List, Option, Err, ap, drop, length, min, refl, sym, subst, take}
 use Rattle.cfb_bytes.specs.Bytes.{block}
-use Rattle.cfb_chain.specs.Fat.{followed}
 use Rattle.cfb_chain.specs.Header.{HeaderValue, IsHeader, header_read}
 use Rattle.file_model.specs.Alike.{Alike}
-use Rattle.file_places.specs.Filled.{IsRead}
+use Rattle.file_places.specs.Filled.{IsChainRead, IsRead}
 use Rattle.file_places.proofs.Filling.{front_known, some_both, some_five, some_same}
 use Rattle.file_places.proofs.Cataloging.{cataloged, front_read, header_same, whole_same}
 use Rattle.file_places.proofs.reading.read_catalog.Goals as goal
@@ -52,8 +51,10 @@ returns-clause-alike g c =
     let b2 : List ℕ = c.read_chain.new.file in
     let b3 : List ℕ = c.read_chain-2.new.file in
     let ns : List ℕ = c.fat.result.now in
-    let ms : List ℕ = followed c.deref-3.result.now (length c.deref-3.result.now) c.first_directory.result in
-    let ks : List ℕ = followed c.deref-4.result.now (length c.deref-4.result.now) c.first_mini_fat.result in
+    let table_1 : List ℕ = c.deref-3.result.now in
+    let table_2 : List ℕ = c.deref-4.result.now in
+    let first_1 : ℕ = c.first_directory.result in
+    let first_2 : ℕ = c.first_mini_fat.result in
     let len_0 : length b0 ≡ len = c.in_ok-put.ensures.len ∙ c.in_ok-file.ensures in
     let len_1 : length b1 ≡ len = c.in_ok-read_sectors.ensures.len ∙ len_0 in
     let len_2 : length b2 ≡ len = c.in_ok-read_chain.ensures.len ∙ len_1 in
@@ -61,12 +62,8 @@ returns-clause-alike g c =
     let at_2 : g.S.Source.bytes c.read_bytes.new.source ≡ known = c.in_ok-front.ensures.kept ∙ at_1 in
     let at_3 : g.S.Source.bytes c.read_sectors.new.source ≡ known = c.in_ok-read_sectors.ensures.kept ∙ at_2 in
     let at_4 : g.S.Source.bytes c.read_chain.new.source ≡ known = c.in_ok-read_chain.ensures.kept ∙ at_3 in
-    let directory : ms ≡ followed table (length table) h.first_directory =
-    λ i. followed (c.deref-3.ensures.value i) (length (c.deref-3.ensures.value i)) (c.first_directory.ensures i) in
-    let mini_fat : ks ≡ followed table (length table) h.first_mini_fat =
-    λ i. followed (c.deref-4.ensures.value i) (length (c.deref-4.ensures.value i)) (c.first_mini_fat.ensures i) in
     some_five known (λ a. length a ≡ len) (λ a. front ≡ take (min len 512) (drop 0 a)) (λ a. length a ≡ length b0 → IsRead a b0 b1 ns)
-    (λ a. length a ≡ length b1 → IsRead a b1 b2 ms) (λ a. length a ≡ length b2 → IsRead a b2 b3 ks) (λ a. Alike a b3)
+    (λ a. length a ≡ length b1 → IsChainRead a b1 b2 table_1 first_1) (λ a. length a ≡ length b2 → IsChainRead a b2 b3 table_2 first_2) (λ a. Alike a b3)
     (λ a e is r s t.
     cataloged a b0 b1 b2 b3 front table len h e (c.in_ok-read_chain-2.ensures.len ∙ len_2) len_1
     (c.in_ok-front.ensures.len ∙ c.min.ensures) is
@@ -74,9 +71,10 @@ returns-clause-alike g c =
     (c.in_ok-read_chain-2.ensures.front ∙ c.in_ok-read_chain.ensures.front ∙ c.in_ok-read_sectors.ensures.front ∙ c.in_ok-put.ensures.here
     ∙ ap (λ xs. block 512 xs 0) c.deref-2.ensures.value)
     (subst (IsRead a b0 b1) c.fat.ensures (r (e ∙ sym len_0))) c.in_ok-table.ensures.count c.in_ok-table.ensures.each
-    (subst (IsRead a b1 b2) directory (s (e ∙ sym len_1))) (subst (IsRead a b2 b3) mini_fat (t (e ∙ sym len_2))))
+    (subst (λ xs. IsChainRead a b1 b2 xs h.first_directory) c.deref-3.ensures.value (subst (IsChainRead a b1 b2 table_1) c.first_directory.ensures (s (e ∙ sym len_1))))
+    (subst (λ xs. IsChainRead a b2 b3 xs h.first_mini_fat) c.deref-4.ensures.value (subst (IsChainRead a b2 b3 table_2) c.first_mini_fat.ensures (t (e ∙ sym len_2)))))
     c.in_ok-len.ensures.counted
     (front_known (g.S.Source.bytes c.read_len.new.source) known front c.min.result (min len 512) at_1 c.min.ensures c.in_ok-front.ensures.bytes)
     (some_same (g.S.Source.bytes c.read_bytes.new.source) known (λ a. length a ≡ length b0 → IsRead a b0 b1 ns) at_2 c.in_ok-read_sectors.ensures.read)
-    (some_same (g.S.Source.bytes c.read_sectors.new.source) known (λ a. length a ≡ length b1 → IsRead a b1 b2 ms) at_3 c.in_ok-read_chain.ensures.read)
-    (some_same (g.S.Source.bytes c.read_chain.new.source) known (λ a. length a ≡ length b2 → IsRead a b2 b3 ks) at_4 c.in_ok-read_chain-2.ensures.read)
+    (some_same (g.S.Source.bytes c.read_sectors.new.source) known (λ a. length a ≡ length b1 → IsChainRead a b1 b2 table_1 first_1) at_3 c.in_ok-read_chain.ensures.read)
+    (some_same (g.S.Source.bytes c.read_chain.new.source) known (λ a. length a ≡ length b2 → IsChainRead a b2 b3 table_2 first_2) at_4 c.in_ok-read_chain-2.ensures.read)
