@@ -2,10 +2,8 @@
 //! a command leave its contract behind, so that those above are quick to prove.
 
 use cfb_names::name::Name;
-use container_cli::container::Limits;
 use container_cli::fault::SimulateFault;
-use container_cli::simulation::simulate;
-use container_cli::stock::Stock;
+use container_cli::simulation::{read_events, write_told};
 use file_commands::cleaning::clean_file;
 use file_commands::commands::{list_file, make_file};
 use file_commands::fault::{CleanFault, GetFault, ListFault, MakeFault};
@@ -14,7 +12,6 @@ use std::alloc::{AllocError, Global};
 use std::io::{Read, Write};
 use texts::path::Path;
 use texts::report::Report;
-use world_model::event::Stop;
 
 fn printed(alloc: Global, report: Report<'_>) -> Result<String, AllocError> {
     report.to_string(alloc)
@@ -118,19 +115,21 @@ fn simulated<R: Read, W: Write>(
     alloc: Global,
     reader: &mut R,
     writer: &mut W,
-    stock: Stock,
-) -> Result<Option<Stop>, SimulateFault> {
-    simulate(alloc, reader, writer, Limits { numbers: 1000 }, stock)
+    told: &str,
+) -> Result<(), SimulateFault> {
+    drop(read_events(alloc, reader)?);
+    write_told(writer, told.as_bytes())
 }
 
-/// Events of a container without objects in stock.
-pub(crate) fn run<R: Read, W: Write>(
+/// The two ends of a simulation: its events are read, and in the place of what they lead to this text is written.
+pub(crate) fn simulate<R: Read, W: Write>(
     alloc: Global,
     reader: &mut R,
     writer: &mut W,
+    told: &str,
 ) -> Result<String, AllocError> {
-    match simulated(alloc, reader, writer, Stock::new(alloc)) {
-        Ok(_) => String::from_str(alloc, "run"),
+    match simulated(alloc, reader, writer, told) {
+        Ok(()) => String::from_str(alloc, "run"),
         Err(fault) => printed(alloc, fault.report("e")),
     }
 }

@@ -2,7 +2,7 @@
 //! `unread` where the input's end isn't read, and what is told; and the functions have no contracts: so the test is quick to
 //! prove.
 
-use crate::commands::{clean, get, list, make, run};
+use crate::commands::{clean, get, list, make, simulate};
 use crate::ends::{Failing, Full};
 use embed_core::words::number;
 use std::alloc::{AllocError, Global};
@@ -36,6 +36,9 @@ const DESCRIPTION: &str = "stream A 010203\n";
 
 const EVENTS: &str = "start\n";
 
+/// What these events lead to.
+const TOLD: &str = "1 server 1\n";
+
 /// What stands before a mark, and what behind it, which is nothing where there is no such mark.
 fn halves<'a>(text: &'a str, mark: &str) -> (&'a str, &'a str) {
     match text.split_once(mark) {
@@ -66,7 +69,7 @@ fn told<R: Read, W: Write>(
         [b'g', ..] => get(alloc, reader, "A", writer),
         [b'r', ..] => get(alloc, reader, "", writer),
         [b'c', ..] => clean(alloc, reader, writer),
-        _ => run(alloc, reader, writer),
+        _ => simulate(alloc, reader, writer, TOLD),
     }
 }
 

@@ -2,8 +2,8 @@
 use Rattle.std.proofs.Common.{◌≡◌, ◌++◌, ℕ, zero, suc, List, [], ◌∷◌, Option, Some, None, length, take, drop, slice_get, MatchOption, ap, ◌∙◌, subst, arith}
 use Rattle.embed_core.specs.Kinds.{Kind}
 use Rattle.world_model.specs.Report.{report}
+use Rattle.world_model.specs.Safe.{Safe}
 use Rattle.world_model.specs.World.{World, Run, StopsAt, empty_world}
-use Rattle.world_run.proofs.Reached.{empty_held, held_run, safe_held}
 use Rattle.world_model.specs.declared.event.Event.{Event}
 use Rattle.world_model.specs.declared.event.Stop.{Stop}
 use Rattle.event_texts.specs.Answers.{answer_lines}
@@ -32,17 +32,16 @@ ends w events taken None ended = ends-all w events taken ended
 ends w events taken (Some stop) ended = ends-before w events taken stop ended.0 ended.1 ended.2
 
 pub simulated : (numbers : ℕ) (stock : List Kind) (events : List Event) (taken : ℕ) (stop : Option Stop) (start w : World) (a b c d : List ℕ)
-    → start ≡ empty_world numbers stock → Run start (take taken events) w
+    → start ≡ empty_world numbers stock → Run start (take taken events) w → Safe w
     → Ended w events taken stop
     → a ≡ [] → b ≡ a ++ answer_lines 1 w.answers → c ≡ b ++ report w → d ≡ c ++ stop_text taken stop → IsSimulated numbers stock events stop d
-simulated numbers stock events taken stop start w a b c d new run ended empty answered reported told =
+simulated numbers stock events taken stop start w a b c d new run safe ended empty answered reported told =
     let P : World → Type 0 = λ s. Run s (take taken events) w in
-    let reached : Run (empty_world numbers stock) (take taken events) w = subst P new run in
     record {
       taken = taken;
       w = w;
-      runs = reached;
-      safe = safe_held w (held_run (empty_world numbers stock) (take taken events) w (empty_held numbers stock) reached);
+      runs = subst P new run;
+      safe = safe;
       ends = ends w events taken stop ended;
       told = told ∙ ap (λ t. t ++ stop_text taken stop) (reported ∙ ap (λ t. t ++ report w) (answered ∙ ap (λ t. t ++ answer_lines 1 w.answers) empty));
     }

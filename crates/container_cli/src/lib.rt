@@ -1,7 +1,6 @@
-//! The simulation of a world as a command over a reader and a writer.
+//! The simulation of a world as a command over a reader and a writer: how its events are read, and how what they lead to is
+//! written.
 #![tactic(auto)]
 
 pub mod fault;
 pub mod simulation;
-
-pub use world_run::{container, stock};

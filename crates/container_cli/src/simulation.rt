@@ -1,17 +1,13 @@
-//! Runs of events.
+//! The ends of a run of events: what is read before it, and what is written behind it. The world in which the events happen
+//! is the caller's.
 
-ghost use Rattle.event_texts.specs.Answers.{answer_lines};
-ghost use Rattle.texts.specs.Input.{most};
-ghost use Rattle.container_cli.specs.Simulation.{IsSimulated, MayRefuseSimulate, Simulates, stop_text};
-ghost use Rattle.std.specs.Prelude.{◌≡◌, ◌≢◌, ◌≤◌, ◌<◌, ◌++◌, IfErr, IfOk, IfSome, OnOk, length, map};
-ghost use Rattle.world_model.specs.Report.{report};
-ghost use Rattle.world_run.specs.Shown.{shown};
-ghost use Rattle.world_run.specs.View.{seen_stocked};
-ghost use Rattle.world_model.specs.World.{MOST_EVENTS};
+ghost use Rattle.event_texts.specs.Events.{events_read};
+ghost use Rattle.container_cli.specs.Simulation.{MayRefuseSimulate, stop_text};
+ghost use Rattle.std.specs.Io.KnownBytes.{Appends};
+ghost use Rattle.std.specs.Prelude.{◌≡◌, ◌<◌, ◌++◌, IfErr, IfOk, IfSome, Ok, OnOk};
 
 use crate::fault::SimulateFault;
-use embed_core::embedded::Embedded;
-use event_texts::answers::{push_answer, push_stop};
+use event_texts::answers::push_stop;
 use event_texts::events::Events;
 use std::alloc::{AllocError, Global};
 use std::io::{Read, Write};
@@ -19,66 +15,26 @@ use texts::input::read_all;
 use texts::lines::parse_lines;
 use texts::output::write_all;
 use world_model::event::{Event, Stop};
-use world_run::container::Limits;
-use world_run::stock::Stock;
-use world_run::world::World;
 
-/// Runs the events that a text spells in a new world, and writes what they are answered, each with its number from 1,
-/// then the world's report, and in the end the event before which the run stopped, if it did. Gives why it stopped.
+/// The events that a text spells.
 ///
-/// Refused: an input that isn't read or has more than 134,217,728 bytes; the first line that spells no event; no memory
-/// for what is printed. Nothing is written then. `Unwritable` where a write fails.
-pub fn simulate<R: Read, W: Write>(
-    alloc: Global,
-    reader: &mut R,
-    writer: &mut W,
-    limits: Limits,
-    stock: Stock,
-) -> Result<Option<Stop>, SimulateFault>
-    requires { limits.numbers ≤ 1000000 }
-    ensures simulated { IfOk result (λ stop. IfSome (R.remaining reader.old) (λ text. Simulates limits.numbers (map (seen_stocked (λ s. (⟦<dyn Embedded as Embedded>⟧ s.boxed.vtable).content s.boxed.value)) stock.boxes.items) text stop (W.contents writer.old) (W.contents writer.new))) }
+/// Refused: an input that isn't read or has more than 134,217,728 bytes; the first line that spells no event.
+pub fn read_events<R: Read>(alloc: Global, reader: &mut R) -> Result<Vec<Event>, SimulateFault>
+    ensures read { IfOk result (λ events. IfSome (R.remaining reader.old) (λ text. events_read text ≡ Ok events.items)) }
     ensures refused { IfErr result (λ fault. IfSome (R.remaining reader.old) (λ text. MayRefuseSimulate text fault)) }
-    ensures unwritten { IfErr result (λ fault. fault ≢ SimulateFault.Unwritable → writer.new ≡ writer.old) }
 {
     let text = match read_all(alloc, reader) {
         Ok(text) => text,
         Err(fault) => return Err(SimulateFault::Input(fault)),
     };
-    let events = match parse_lines::<Events>(alloc, &text) {
-        Ok(events) => events,
-        Err((line, fault)) => return Err(SimulateFault::Line(line, fault)),
-    };
-    let (out, stop) = match run(alloc, &events, limits, stock) {
-        Ok(told) => told,
-        Err(_) => return Err(SimulateFault::NoMemory),
-    };
-    match write_all(writer, &out) {
-        Ok(()) => Ok(stop),
-        Err(_) => Err(SimulateFault::Unwritable),
+    match parse_lines::<Events>(alloc, &text) {
+        Ok(events) => Ok(events),
+        Err((line, fault)) => Err(SimulateFault::Line(line, fault)),
     }
 }
 
-/// What is printed of a run of events in a new world, and why the run stopped, if it did.
-fn run(
-    alloc: Global,
-    events: &[Event],
-    limits: Limits,
-    stock: Stock,
-) -> Result<(Vec<u8>, Option<Stop>), AllocError>
-    requires { limits.numbers ≤ 1000000 }
-    ensures { IfOk result (λ told. IsSimulated limits.numbers (map (seen_stocked (λ s. (⟦<dyn Embedded as Embedded>⟧ s.boxed.vtable).content s.boxed.value)) stock.boxes.items) events.now told.1 told.0.items) }
-{
-    let mut world = World::new(alloc, limits, stock);
-    let (taken, stop) = world.run(alloc, events);
-    let mut out = Vec::new(alloc);
-    push_answers(alloc, &mut out, &world)?;
-    push_report(alloc, &mut out, &world)?;
-    push_end(alloc, &mut out, taken, stop)?;
-    Ok((out, stop))
-}
-
 /// Writes the event before which a run stopped, if it did.
-fn push_end(
+pub fn push_end(
     alloc: Global,
     out: &mut Vec<u8>,
     taken: usize,
@@ -93,25 +49,15 @@ fn push_end(
     }
 }
 
-/// Writes what a world's events were answered.
-fn push_answers(alloc: Global, out: &mut Vec<u8>, world: &World) -> Result<(), AllocError>
-    requires { length (shown (λ s. (⟦<dyn Embedded as Embedded>⟧ s.boxed.vtable).content s.boxed.value) world.now).answers ≤ MOST_EVENTS }
-    ensures { OnOk result (out.new.items ≡ out.old.items ++ answer_lines 1 (shown (λ s. (⟦<dyn Embedded as Embedded>⟧ s.boxed.vtable).content s.boxed.value) world.now).answers) }
+/// Writes what is printed of a run.
+///
+/// Refused: `Unwritable` where a write fails.
+pub fn write_told<W: Write>(writer: &mut W, out: &[u8]) -> Result<(), SimulateFault>
+    ensures written { OnOk result (Appends (W.contents writer.old) (W.contents writer.new) out.now) }
+    ensures refused { IfErr result (λ fault. fault ≡ SimulateFault.Unwritable) }
 {
-    let mut event: u32 = 1;
-    while let Some(answer) = world.answer(event) {
-        push_answer(alloc, out, event as usize, answer)?;
-        event += 1;
-    }
-    Ok(())
-}
-
-/// Writes a world's report.
-fn push_report(alloc: Global, out: &mut Vec<u8>, world: &World) -> Result<(), AllocError>
-    ensures { OnOk result (out.new.items ≡ out.old.items ++ report (shown (λ s. (⟦<dyn Embedded as Embedded>⟧ s.boxed.vtable).content s.boxed.value) world.now)) }
-{
-    match world.report(alloc, out) {
+    match write_all(writer, out) {
         Ok(()) => Ok(()),
-        Err(_) => Err(AllocError),
+        Err(_) => Err(SimulateFault::Unwritable),
     }
 }

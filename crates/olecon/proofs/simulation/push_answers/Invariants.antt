@@ -2,7 +2,7 @@ use Rattle.std.proofs.Common.{◌≡◌, ◌≤◌, ◌++◌, ◌-◌, ◌+◌, 
 use Rattle.embed_core.specs.Content.{note}
 use Rattle.world_run.specs.Shown.{shown}
 use Rattle.event_texts.specs.Answers.{answer_lines}
-use Rattle.container_cli.proofs.simulation.push_answers.Given as goal
+use Rattle.olecon.proofs.simulation.push_answers.Given as goal
 
 abbrev pub invariant-loop-answer : goal.invariant-loop-answer
 invariant-loop-answer g l =

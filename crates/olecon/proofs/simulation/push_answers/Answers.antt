@@ -1,7 +1,7 @@
 use Rattle.std.proofs.Common.{sym, ◌∙◌, ap, arith}
 use Rattle.std.specs.Option.{option_copied}
 use Rattle.container_cli.proofs.Lines.{turned, all_written}
-use Rattle.container_cli.proofs.simulation.push_answers.Goals as goal
+use Rattle.olecon.proofs.simulation.push_answers.Goals as goal
 
 pub loop-answer-preserved : goal.loop-answer-preserved
 loop-answer-preserved g c =
