@@ -7,7 +7,7 @@ use crate::fault::CleanFault;
 use std::alloc::Global;
 use std::io::{Read, Write};
 use stream_io::read::read_file;
-use stream_io::write::write_file;
+use file_writer::write::write_file;
 use texts::input::read_all;
 use texts::output::write_all;
 

@@ -16,7 +16,7 @@ use file_outline::outline::Outline;
 use std::alloc::Global;
 use std::io::{Read, Write};
 use stream_io::read::read_outline;
-use stream_io::write::write_file;
+use file_writer::write::write_file;
 use texts::input::read_all;
 use texts::output::write_all;
 

@@ -1,13 +1,13 @@
 //! The commands over the files of a system.
 
-use crate::ends::{refuse, refuse_path};
-use crate::new_file::NewFile;
 use file_commands::cleaning::clean_file;
 use file_commands::commands::{list_file, make_file};
 use file_commands::fault::ListFault;
 use file_commands::getting::get_file;
 use file_commands::seeking::list_source;
 use file_places::source::Sought;
+use program_ends::ends::{refuse, refuse_path};
+use program_ends::new_file::NewFile;
 use std::fs::OpenFile;
 use std::process::ExitCode;
 use std::rt::Runtime;

@@ -1,8 +1,8 @@
 //! What a command line over files asks for.
 
-use crate::command_lines::{CLEAN, FILE, GET, LIST, MAKE, OUT, PATH};
 use crate::running::{clean, get, list, make};
 use clap::ArgMatches;
+use program_ends::command_lines::{CLEAN, FILE, GET, LIST, MAKE, OUT, PATH};
 use std::process::ExitCode;
 use std::rt::Runtime;
 

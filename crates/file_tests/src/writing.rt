@@ -2,12 +2,12 @@
 
 use crate::texts::{number, word};
 use cfb_names::name::Name;
+use file_writer::write::{fits, write_file};
 use std::alloc::Global;
 use std::test::Fail;
 use storage_tree::bytes::Bytes;
 use storage_tree::class_id::ClassId;
 use storage_tree::tree::Tree;
-use stream_io::write::{fits, write_file};
 
 /// A stream is put with so many bytes, and the file has then this length, or none, and fits or why not.
 ///

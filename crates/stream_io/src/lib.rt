@@ -3,5 +3,3 @@
 
 pub mod fault;
 pub mod read;
-
-pub use file_writer::write;

@@ -1,0 +1,83 @@
+//! Runs of a store that tests make. These functions have no contracts, so that the tests stay quick to prove.
+
+use crate::store::images::{Pending, left};
+use doc_store::area::Area;
+use doc_store::fault::StoreFault;
+use doc_store::memory_disk::{Faults, MemoryDisk};
+use doc_store::store::Store;
+use std::alloc::{AllocError, Global};
+
+/// A disk in memory with these bytes.
+pub(crate) fn disk(
+    alloc: Global,
+    document: &[u8],
+    journal: &[u8],
+) -> Result<MemoryDisk, AllocError> {
+    MemoryDisk::new(alloc, document.to_vec(alloc)?, journal.to_vec(alloc)?)
+}
+
+/// The disk that a crash leaves after the first so many calls of another.
+pub(crate) fn crashed(
+    alloc: Global,
+    from: &MemoryDisk,
+    calls: usize,
+    document: Pending,
+    journal: Pending,
+) -> Result<MemoryDisk, AllocError> {
+    let document = left(alloc, from, calls, Area::Document, document)?;
+    let journal = left(alloc, from, calls, Area::Journal, journal)?;
+    MemoryDisk::new(alloc, document, journal)
+}
+
+/// Opens a disk, and gives the disk back whatever it answers.
+pub(crate) fn open_only(alloc: Global, disk: MemoryDisk) -> (Result<(), StoreFault>, MemoryDisk) {
+    match Store::open(alloc, disk) {
+        Ok(store) => (Ok(()), store.into_disk()),
+        Err(refused) => (Err(refused.fault), refused.disk),
+    }
+}
+
+/// Opens a disk, and reads its document.
+pub(crate) fn document(alloc: Global, disk: MemoryDisk) -> Result<Vec<u8>, StoreFault> {
+    match Store::open(alloc, disk) {
+        Ok(mut store) => store.current(),
+        Err(refused) => Err(refused.fault),
+    }
+}
+
+/// Opens a disk and commits a document. Gives the disk back, and whether the commit was made. A commit that failed has
+/// to be followed by `NeedsReopen`, else the answer is `None`.
+pub(crate) fn commit(alloc: Global, disk: MemoryDisk, bytes: &[u8]) -> (Option<bool>, MemoryDisk) {
+    let mut store = match Store::open(alloc, disk) {
+        Ok(store) => store,
+        Err(refused) => return (Some(false), refused.disk),
+    };
+    let told = match store.commit(bytes) {
+        Ok(()) => Some(true),
+        Err(StoreFault::Device) => {
+            let again = store.commit(bytes);
+            let read = store.current();
+            if again == Err(StoreFault::NeedsReopen) && read.is_err() && store.needs_reopen() {
+                Some(false)
+            } else {
+                None
+            }
+        }
+        Err(_) => None,
+    };
+    (told, store.into_disk())
+}
+
+/// The same with calls of the disk that fail. They are healed before the disk is given back.
+pub(crate) fn commit_failing(
+    alloc: Global,
+    disk: MemoryDisk,
+    bytes: &[u8],
+    faults: Faults,
+) -> (Option<bool>, MemoryDisk) {
+    let mut disk = disk;
+    disk.set_faults(faults);
+    let (told, mut disk) = commit(alloc, disk, bytes);
+    disk.set_faults(Faults::Never);
+    (told, disk)
+}

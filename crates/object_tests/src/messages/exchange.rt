@@ -1,0 +1,195 @@
+//! The worked exchange of docs/protocol.md, byte for byte.
+
+use crate::messages::frames::first_bad_cut;
+use cfb_names::name::Name;
+use message_bytes::encode::encode;
+use message_bytes::frame::Frame;
+use object_state::{CloseOption, Menus};
+use std::alloc::Global;
+use std::test::Fail;
+use storage_tree::bytes::Bytes;
+use storage_tree::class_id::ClassId;
+use storage_tree::stored::Stored;
+use storage_tree::streams::NamedStream;
+use wire_msgs::answer::Answer;
+use wire_msgs::message::Message;
+use wire_msgs::operation::Operation;
+use wire_msgs::refusal::Refusal;
+
+/// A call of the first activation of the first server.
+fn call(n: u32, operation: Operation) -> Frame {
+    Frame::Message(Message::Call {
+        inc: 1,
+        act: 1,
+        n,
+        operation,
+    })
+}
+
+/// Its reply.
+fn reply(n: u32, answer: Answer) -> Frame {
+    Frame::Message(Message::Reply {
+        inc: 1,
+        act: 1,
+        n,
+        answer,
+    })
+}
+
+/// A write of it.
+fn write(s: u32, w: u32, content: Stored) -> Frame {
+    Frame::Message(Message::Write {
+        inc: 1,
+        act: 1,
+        s,
+        w,
+        content,
+    })
+}
+
+/// Its wish to give its frame back.
+fn ask(g: u32) -> Frame {
+    Frame::Message(Message::Ask { inc: 1, act: 1, g })
+}
+
+/// These bytes.
+fn bytes(alloc: Global, items: &[u8]) -> Result<Bytes, Fail> {
+    Ok(Bytes::from_slice(alloc, items)?)
+}
+
+/// A note of `ab`.
+fn content(alloc: Global) -> Result<Stored, Fail> {
+    let mut stored = Stored::new(alloc);
+    let text = NamedStream {
+        name: Name::new(b"Text")?,
+        bytes: bytes(alloc, b"ab")?,
+    };
+    stored.streams.push(text)?;
+    Ok(stored)
+}
+
+/// The class of notes.
+const NOTE: [u8; 16] = [
+    0x01, 0x2a, 0x1d, 0x6f, 0x4b, 0x3c, 0x5f, 0x4e, 0x8a, 0x9b, 0x0c, 0x1d, 0x2e, 0x3f, 0x40, 0x51,
+];
+
+/// What the note wants of its frame.
+fn tools() -> Result<Frame, Fail> {
+    let menus = Menus::new(b"Edit", b"Note", b"Help").ok_or("three texts")?;
+    let border = [0, 1, 0, 0];
+    Ok(reply(4, Answer::Tools { menus, border }))
+}
+
+/// The bytes of the exchange in hexadecimal.
+const TEXTS: [&str; 24] = [
+    "4f4c434d01011d00000001000000010000000100000001012a1d6f4b3c5f4e8a9b0c1d2e3f4051",
+    "4f4c434d010500000000",
+    "4f4c434d01020d00000001000000010000000100000000",
+    "4f4c434d010500000000",
+    "4f4c434d0101170000000100000001000000020000000806000000692030206162",
+    "4f4c434d01020d00000001000000010000000200000000",
+    "4f4c434d0103200000000100000001000000010000000100000001045465787402000000616200000000",
+    "4f4c434d01010d00000001000000010000000300000003",
+    "4f4c434d01020d00000001000000010000000300000000",
+    "4f4c434d0101110000000100000001000000040000000401000000",
+    "4f4c434d010224000000010000000100000004000000030445646974044e6f74650448656c700000010000000000",
+    "4f4c434d01040c000000010000000100000001000000",
+    "4f4c434d01010d00000001000000010000000500000005",
+    "4f4c434d01020d00000001000000010000000500000000",
+    "4f4c434d0101110000000100000001000000060000000901000000",
+    "4f4c434d01021d0000000100000001000000060000000201045465787402000000616200000000",
+    "4f4c434d0101120000000100000001000000070000000b0100000000",
+    "4f4c434d01020d00000001000000010000000700000000",
+    "4f4c434d01011600000001000000010000000800000008050000006420392031",
+    "4f4c434d01020e0000000100000001000000080000000101",
+    "4f4c434d01010d00000001000000010000000900000006",
+    "4f4c434d01020d00000001000000010000000900000000",
+    "4f4c434d01010e00000001000000010000000a0000000d00",
+    "4f4c434d01021d00000001000000010000000a0000000201045465787402000000616200000000",
+];
+
+/// The frames of the first half.
+fn first_frame(alloc: Global, at: usize) -> Result<Frame, Fail> {
+    Ok(match at {
+        0 => call(1, Operation::InitNew(ClassId::from_bytes(NOTE))),
+        1 => Frame::Turn,
+        2 => reply(1, Answer::Done),
+        3 => Frame::Turn,
+        4 => call(2, Operation::Edit(bytes(alloc, b"i 0 ab")?)),
+        5 => reply(2, Answer::Done),
+        6 => write(1, 1, content(alloc)?),
+        7 => call(3, Operation::InPlace),
+        8 => reply(3, Answer::Done),
+        9 => call(4, Operation::UiActivate(1)),
+        10 => tools()?,
+        _ => ask(1),
+    })
+}
+
+/// The frames of the last half.
+fn last_frame(alloc: Global, at: usize) -> Result<Frame, Fail> {
+    Ok(match at {
+        12 => call(5, Operation::UiDeactivate),
+        13 => reply(5, Answer::Done),
+        14 => call(6, Operation::Save(1)),
+        15 => reply(6, Answer::Content(content(alloc)?)),
+        16 => call(
+            7,
+            Operation::SaveCompleted {
+                save: 1,
+                storage: false,
+            },
+        ),
+        17 => reply(7, Answer::Done),
+        18 => call(8, Operation::Edit(bytes(alloc, b"d 9 1")?)),
+        19 => reply(8, Answer::Refused(Refusal::BadEdit)),
+        20 => call(9, Operation::InPlaceDeactivate),
+        21 => reply(9, Answer::Done),
+        22 => call(10, Operation::Close(CloseOption::SaveIfDirty)),
+        _ => reply(10, Answer::Content(content(alloc)?)),
+    })
+}
+
+/// A digit of hexadecimal in lower case.
+fn digit(value: u8) -> u8 {
+    match value {
+        0..=9 => b'0' + value,
+        10..=15 => b'a' + (value - 10),
+        _ => b'?',
+    }
+}
+
+/// Bytes in hexadecimal.
+fn hexadecimal(alloc: Global, items: &[u8]) -> Result<Vec<u8>, Fail> {
+    let mut text = Vec::new(alloc);
+    for item in items {
+        text.push(digit(*item / 16))?;
+        text.push(digit(*item % 16))?;
+    }
+    Ok(text)
+}
+
+/// A frame of the exchange.
+fn frame_at(alloc: Global, at: usize) -> Result<Frame, Fail> {
+    if at < 12 {
+        first_frame(alloc, at)
+    } else {
+        last_frame(alloc, at)
+    }
+}
+
+/// Whether a frame is spelled so, and comes again wherever it is cut.
+fn is_spelled(alloc: Global, frame: &Frame, text: &str) -> Result<bool, Fail> {
+    let spelled = encode(alloc, frame)?;
+    let told = hexadecimal(alloc, &spelled)?;
+    Ok(told.as_slice() == text.as_bytes() && first_bad_cut(alloc, &spelled)?.is_none())
+}
+
+#[test]
+fn the_exchange_is_as_it_is_written(rt: HostRuntime) -> Result<(), Fail> {
+    for (at, text) in TEXTS.iter().enumerate() {
+        let frame = frame_at(rt.alloc(), at)?;
+        assert!(rt; is_spelled(rt.alloc(), &frame, text)?, "{text}");
+    }
+    Ok(())
+}

@@ -1,0 +1,7 @@
+//! The two ends of a command over files: the line that asks for it, and what it leaves, which is a status, a line on
+//! standard error or a new file.
+#![tactic(auto)]
+
+pub mod command_lines;
+pub mod ends;
+pub mod new_file;

@@ -1,0 +1,6 @@
+//! Tests of the commands over readers and writers that fail, which the built program can't show. All else of them is shown by
+//! the cases of `tests/cli`.
+
+mod ends;
+mod faults;
+mod refusals;
