@@ -4,10 +4,10 @@ ghost use Rattle.file_commands.specs.Cleaning.{Cleans, MayRefuseClean};
 ghost use Rattle.std.specs.Prelude.{◌≡◌, ◌≢◌, IfErr, IfOk, IfSome};
 
 use crate::fault::CleanFault;
+use file_writer::write::write_file;
 use std::alloc::Global;
 use std::io::{Read, Write};
 use stream_io::read::read_file;
-use file_writer::write::write_file;
 use texts::input::read_all;
 use texts::output::write_all;
 

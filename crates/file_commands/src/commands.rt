@@ -13,10 +13,10 @@ use crate::fault::{ListFault, MakeFault};
 use crate::listing::list;
 use file_model::fault::WriteFault;
 use file_outline::outline::Outline;
+use file_writer::write::write_file;
 use std::alloc::Global;
 use std::io::{Read, Write};
 use stream_io::read::read_outline;
-use file_writer::write::write_file;
 use texts::input::read_all;
 use texts::output::write_all;
 
