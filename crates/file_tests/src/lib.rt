@@ -1,4 +1,4 @@
-//! Tests of sectors, directories, trees, whole files, documents and the store by their public calls.
+//! Tests of sectors, directories, trees and whole files by their public calls.
 #![tactic(auto)]
 
 #[cfg(test)]
@@ -6,13 +6,9 @@ mod chains;
 #[cfg(test)]
 mod directories;
 #[cfg(test)]
-mod documents;
-#[cfg(test)]
 mod places;
 #[cfg(test)]
 mod reading;
-#[cfg(test)]
-mod store;
 #[cfg(test)]
 mod streams;
 #[cfg(test)]

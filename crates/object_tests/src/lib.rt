@@ -1,4 +1,4 @@
-//! Tests of embedded objects, their states, a frame's grant, messages and servers by their public calls.
+//! Tests of embedded objects, their states and a frame's grant by their public calls.
 #![tactic(auto)]
 
 #[cfg(test)]
@@ -8,13 +8,9 @@ mod grants;
 #[cfg(test)]
 mod kinds;
 #[cfg(test)]
-mod messages;
-#[cfg(test)]
 mod notes;
 #[cfg(test)]
 mod objects;
-#[cfg(test)]
-mod servers;
 #[cfg(test)]
 mod states;
 #[cfg(test)]

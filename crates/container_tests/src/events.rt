@@ -1,6 +1,6 @@
 //! What happens to a container, as the program reads it.
 
-use crate::containers::answers::{answered, committed};
+use crate::answers::{answered, committed};
 use container_core::container::ContainerCore;
 use container_model::answer::{Answer, Committed};
 use container_model::command::Command;

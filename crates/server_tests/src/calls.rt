@@ -1,6 +1,6 @@
 //! Calls, as rows spell them.
 
-use crate::servers::words::{halves, number};
+use crate::words::{halves, number};
 use cfb_names::name::Name;
 use embed_core::{Bytes, Stored, Streams, classes};
 use object_state::CloseOption;

@@ -1,9 +1,17 @@
 //! Tests of containers by their public calls: what no run of the built program shows.
+#![tactic(auto)]
 
+#[cfg(test)]
 mod answers;
-mod calls;
+#[cfg(test)]
+mod containers;
+#[cfg(test)]
 mod events;
+#[cfg(test)]
 mod files;
+#[cfg(test)]
 mod messages;
+#[cfg(test)]
 mod shown;
+#[cfg(test)]
 mod words;

@@ -1,6 +1,6 @@
 //! The worked exchange of docs/protocol.md, byte for byte.
 
-use crate::messages::frames::first_bad_cut;
+use crate::frames::first_bad_cut;
 use cfb_names::name::Name;
 use message_bytes::encode::encode;
 use message_bytes::frame::Frame;

@@ -1,6 +1,6 @@
 //! Documents and their trees.
 
-use crate::documents::calls::{
+use crate::calls::{
     bytes, doc_of, doc_told, layout, object, pushed, put, remove, tree_of, tree_with,
 };
 use file_writer::write::write_file;

@@ -2,8 +2,8 @@
 //! `unread` where the input's end isn't read, and what is told; and the functions have no contracts: so the test is quick to
 //! prove.
 
-use crate::commands::ends::{Failing, Full};
-use crate::commands::faults::{clean, get, list, make, simulate};
+use crate::commands::{clean, get, list, make, simulate};
+use crate::ends::{Failing, Full};
 use embed_core::words::number;
 use std::alloc::{AllocError, Global};
 use std::io::{Read, Write};

@@ -1,6 +1,6 @@
 //! The documents of a container and their files, as rows spell them.
 
-use crate::containers::answers::fault_text;
+use crate::answers::fault_text;
 use container_core::container::ContainerCore;
 use container_model::answer::Part;
 use container_model::fault::ContainerFault;

@@ -1,6 +1,6 @@
 //! Runs of a store that tests make. These functions have no contracts, so that the tests stay quick to prove.
 
-use crate::store::images::{Pending, left};
+use crate::images::{Pending, left};
 use doc_store::area::Area;
 use doc_store::fault::StoreFault;
 use doc_store::memory_disk::{Faults, MemoryDisk};

@@ -1,7 +1,13 @@
 //! Tests of messages, as values and as bytes.
+#![tactic(auto)]
 
+#[cfg(test)]
 mod exchange;
+#[cfg(test)]
 mod frames;
+#[cfg(test)]
 mod long_frames;
+#[cfg(test)]
 mod pieces;
+#[cfg(test)]
 mod values;

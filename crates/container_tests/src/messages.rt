@@ -1,6 +1,6 @@
 //! Messages of a server, as rows spell them: also such as no server of the program sends.
 
-use crate::containers::words::halves;
+use crate::words::halves;
 use cfb_names::name::Name;
 use container_core::container::ContainerCore;
 use container_model::answer::Answer;

@@ -1,8 +1,6 @@
 //! The OLE streams.
 
-use crate::documents::calls::{
-    comp_obj_written, cut, edited, ole_told, picture_told, user_type_told,
-};
+use crate::calls::{comp_obj_written, cut, edited, ole_told, picture_told, user_type_told};
 use ole_streams::ole_stream::OleStream;
 use ole_streams::presentation::{Presentation, lines};
 use std::test::Fail;

@@ -1,12 +1,10 @@
 //! Servers: the calls that they take, and what they make of them. The table is a text, a line each: what a server is told
 //! or asked, and the answer behind ` => `; and the functions have no contracts: so the test is quick to prove.
 
-use crate::servers::calls::call;
-use crate::servers::objects::handed;
-use crate::servers::replies::{
-    class_text, holds_text, last_text, message_text, outcome_text, view_text,
-};
-use crate::servers::words::{halves, number};
+use crate::calls::call;
+use crate::objects::handed;
+use crate::replies::{class_text, holds_text, last_text, message_text, outcome_text, view_text};
+use crate::words::{halves, number};
 use embed_core::embedded::Embedded;
 use embed_core::tally::Tally;
 use server_core::refusal::{Reaction, Refusal};

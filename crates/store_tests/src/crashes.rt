@@ -1,7 +1,7 @@
 //! Each crash point of a commit and of an open.
 
-use crate::store::images::PENDING;
-use crate::store::runs::{commit, crashed, disk, document, open_only};
+use crate::images::PENDING;
+use crate::runs::{commit, crashed, disk, document, open_only};
 use doc_store::memory_disk::MemoryDisk;
 use std::alloc::Global;
 use std::test::Fail;

@@ -1,5 +1,9 @@
 //! Tests of the OLE streams and of documents by their public calls.
+#![tactic(auto)]
 
+#[cfg(test)]
 mod calls;
+#[cfg(test)]
+mod documents;
+#[cfg(test)]
 mod streams;
-mod trees;

@@ -1,6 +1,6 @@
 //! What a container shows, as rows spell it.
 
-use crate::containers::answers::{fault_text, resent};
+use crate::answers::{fault_text, resent};
 use container_core::container::ContainerCore;
 use container_model::fault::ContainerFault;
 use container_model::record::{Object, Phase};

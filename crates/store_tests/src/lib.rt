@@ -1,7 +1,13 @@
 //! Tests of the store by its public calls, over disks in memory and over files.
+#![tactic(auto)]
 
+#[cfg(test)]
 mod crashes;
+#[cfg(test)]
 mod faults;
+#[cfg(test)]
 mod files;
+#[cfg(test)]
 mod images;
+#[cfg(test)]
 mod runs;

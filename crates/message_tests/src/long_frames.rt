@@ -2,8 +2,8 @@
 
 ghost use Rattle.std.specs.Prelude.{◌<◌};
 
-use crate::messages::frames::first_bad_cut;
-use crate::messages::pieces::{comes_in_pieces, shown};
+use crate::frames::first_bad_cut;
+use crate::pieces::{comes_in_pieces, shown};
 use cfb_names::name::Name;
 use message_bytes::decoder::Decoder;
 use message_bytes::encode::encode;

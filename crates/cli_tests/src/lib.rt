@@ -1,6 +1,10 @@
 //! Tests of the commands over readers and writers that fail, which the built program can't show. All else of them is shown by
 //! the cases of `tests/cli`.
+#![tactic(auto)]
 
+#[cfg(test)]
+mod commands;
+#[cfg(test)]
 mod ends;
-mod faults;
+#[cfg(test)]
 mod refusals;

@@ -1,12 +1,12 @@
 //! Containers: what they are told, and what they answer. The table is a text, a line each: what is told or looked at, and the
 //! answer behind ` =>`; and the functions have no contracts: so the test is quick to prove.
 
-use crate::containers::answers::answered;
-use crate::containers::events::{event, happened};
-use crate::containers::files::{document, file};
-use crate::containers::messages::messaged;
-use crate::containers::shown::{numbers, pending, screen, sizes, states};
-use crate::containers::words::halves;
+use crate::answers::answered;
+use crate::events::{event, happened};
+use crate::files::{document, file};
+use crate::messages::messaged;
+use crate::shown::{numbers, pending, screen, sizes, states};
+use crate::words::halves;
 use container_core::container::{ContainerCore, Limits};
 use std::alloc::Global;
 use std::process::Abort;
