@@ -23,69 +23,6 @@ pub(crate) fn bytes(alloc: Global, bytes: &[u8]) -> Result<Bytes, Fail> {
     Ok(Bytes::from_slice(alloc, bytes)?)
 }
 
-/// Bytes with those from a place on replaced.
-pub(crate) fn edited(alloc: Global, old: &[u8], at: usize, new: &[u8]) -> Result<Vec<u8>, Fail> {
-    let mut out = Vec::new(alloc);
-    for (index, byte) in old.iter().enumerate() {
-        if index < at {
-            out.push(*byte)?;
-        }
-    }
-    out.extend_from_slice(new)?;
-    for (index, byte) in old.iter().enumerate() {
-        if index >= at && index - at >= new.len() {
-            out.push(*byte)?;
-        }
-    }
-    Ok(out)
-}
-
-/// The first of these bytes.
-pub(crate) fn cut(alloc: Global, old: &[u8], len: usize) -> Result<Vec<u8>, Fail> {
-    let mut out = Vec::new(alloc);
-    for (index, byte) in old.iter().enumerate() {
-        if index < len {
-            out.push(*byte)?;
-        }
-    }
-    Ok(out)
-}
-
-/// Whether `\1Ole` is read, or why not.
-pub(crate) fn ole_told(bytes: &[u8]) -> &'static str {
-    match OleStream::read(bytes) {
-        Ok(_) => "read",
-        Err(fault) => fault.name(),
-    }
-}
-
-/// The user type of `\1CompObj`, or the name of the fault.
-pub(crate) fn user_type_told(alloc: Global, stream: &[u8]) -> Result<Bytes, Fail> {
-    match CompObj::read(alloc, stream) {
-        Ok(read) => Ok(read.user_type),
-        Err(fault) => bytes(alloc, fault.name().as_bytes()),
-    }
-}
-
-/// A `\1CompObj` as it is written.
-pub(crate) fn comp_obj_written(alloc: Global, user_type: &[u8]) -> Result<Bytes, Fail> {
-    let kind = CompObj {
-        user_type: bytes(alloc, user_type)?,
-    };
-    if kind.user_type.len() >= 0xffff_ffff {
-        return Err(Fail::from("too long"));
-    }
-    Ok(kind.write(alloc, ClassId::from_bytes([7; 16]))?)
-}
-
-/// A picture as it is read: whether it is text, and its bytes.
-pub(crate) fn picture_told(alloc: Global, stream: &[u8]) -> Result<(bool, Bytes), Fail> {
-    match Presentation::read(alloc, stream)? {
-        Presentation::Text(lines) => Ok((true, lines)),
-        Presentation::Other(bytes) => Ok((false, bytes)),
-    }
-}
-
 pub(crate) fn name(text: &[u8]) -> Result<Name, Fail> {
     match Name::new(text) {
         Ok(name) => Ok(name),

@@ -7,3 +7,5 @@ mod calls;
 mod documents;
 #[cfg(test)]
 mod streams;
+#[cfg(test)]
+mod texts;

@@ -1,116 +1,171 @@
 //! The OLE streams.
 
-use crate::calls::{comp_obj_written, cut, edited, ole_told, picture_told, user_type_told};
+use crate::calls::bytes;
+use crate::texts::{spelled, word};
+use ole_streams::comp_obj::CompObj;
 use ole_streams::ole_stream::OleStream;
 use ole_streams::presentation::{Presentation, lines};
+use std::alloc::Global;
 use std::test::Fail;
+use storage_tree::bytes::Bytes;
+use storage_tree::class_id::ClassId;
 
-#[test]
-fn ole_is_read_and_written(rt: HostRuntime) -> Result<(), Fail> {
-    let alloc = rt.alloc();
-    let stream = [1, 0, 0, 2, 0, 0, 0, 0, 0, 0, 0, 0, 0, 0, 0, 0, 0, 0, 0, 0];
-    assert_eq!(rt; OleStream.write(), stream);
-    assert_eq!(rt; ole_told(&stream), "read");
-    assert_eq!(rt; ole_told(&cut(alloc, &stream, 19)?), "Truncated");
-    assert_eq!(rt; ole_told(&edited(alloc, &stream, 4, &[1])?), "Linked");
-    assert_eq!(rt; ole_told(&edited(alloc, &stream, 4, &[0, 16])?), "read");
-    assert_eq!(rt;
-        ole_told(&edited(alloc, &stream, 3, &[3, 1])?),
-        "BadVersion"
-    );
-    assert_eq!(rt; ole_told(&edited(alloc, &stream, 8, &[3; 14])?), "read");
-    Ok(())
-}
+/// Three words a stream: which, what it is to hold (a user type, lines), and its bytes, or none.
+const WRITTEN: &str = "ole . 01000002,00000000,00000000,00000000,00000000
+kind 4e6f7465 0100feff,030a0000,ffffffff,07070707070707070707070707070707,05000000,4e6f746500,00000000,00000000
+picture 61620a 0c000000,4f6c65436f6e205465787400,04000000,01000000,ffffffff,02000000,00000000,02000000,01000000,03000000,61620a
+picture 61620a616263640a0a 0c000000,4f6c65436f6e205465787400,04000000,01000000,ffffffff,02000000,00000000,04000000,03000000,09000000,61620a616263640a0a
+picture 6162 .
+picture 090a .";
 
-/// A `\1CompObj` with this behind its header.
-const HEADER: [u8; 28] = [5; 28];
+/// Three words a stream: which, its bytes, and what is told of it: that it is read, its user type (a point where it is
+/// empty), whether it is text, or its fault.
+///
+/// Of `\1Ole`: whole; a byte short; linked; with other flags; of another version; with more behind it.
+const OLE_READ: &str = "ole 01000002,00000000,00000000,00000000,00000000 read
+ole 01000002,00000000,00000000,00000000,000000 Truncated
+ole 01000002,01000000,00000000,00000000,00000000 Linked
+ole 01000002,00100000,00000000,00000000,00000000 read
+ole 01000003,01000000,00000000,00000000,00000000 BadVersion
+ole 01000002,00000000,0303030303030303030303030303 read";
 
-#[test]
-fn comp_obj_is_read_and_written(rt: HostRuntime) -> Result<(), Fail> {
-    let alloc = rt.alloc();
-    let stream = comp_obj_written(alloc, b"Note")?;
-    assert_eq!(rt; stream.len(), 45);
-    assert_eq!(rt;
-        cut(alloc, stream.as_slice(), 12)?.as_slice(),
-        [1, 0, 0xfe, 0xff, 3, 10, 0, 0, 0xff, 0xff, 0xff, 0xff].as_slice()
-    );
-    let stream = stream.as_slice();
-    let cases: [(Vec<u8>, &[u8]); 8] = [
-        (cut(alloc, stream, 45)?, b"Note"),
-        (cut(alloc, stream, 41)?, b"Note"),
-        (cut(alloc, stream, 40)?, b"Truncated"),
-        (cut(alloc, stream, 36)?, b"BadString"),
-        (cut(alloc, stream, 31)?, b"Truncated"),
-        (cut(alloc, stream, 27)?, b"Truncated"),
-        (edited(alloc, stream, 28, &[0xff; 4])?, b"BadString"),
-        (edited(alloc, stream, 36, &[1])?, b"BadString"),
-    ];
-    for case in &cases {
-        assert_eq!(rt; user_type_told(alloc, &case.0)?.as_slice(), case.1);
-    }
-    Ok(())
-}
+/// Of `\1CompObj` as it is written: whole; cut before the second number, in the first, before the closing zero, in the
+/// string's size, in the header; with a size past the end; without the zero.
+const KIND_READ: &str =
+    "kind 0100feff,030a0000,ffffffff,07070707070707070707070707070707,05000000,4e6f746500,00000000,00000000 Note
+kind 0100feff,030a0000,ffffffff,07070707070707070707070707070707,05000000,4e6f746500,00000000 Note
+kind 0100feff,030a0000,ffffffff,07070707070707070707070707070707,05000000,4e6f746500,000000 Truncated
+kind 0100feff,030a0000,ffffffff,07070707070707070707070707070707,05000000,4e6f7465 BadString
+kind 0100feff,030a0000,ffffffff,07070707070707070707070707070707,050000 Truncated
+kind 0100feff,030a0000,ffffffff,070707070707070707070707070707 Truncated
+kind 0100feff,030a0000,ffffffff,07070707070707070707070707070707,ffffffff,4e6f746500,00000000,00000000 BadString
+kind 0100feff,030a0000,ffffffff,07070707070707070707070707070707,05000000,4e6f746501,00000000,00000000 BadString";
 
-#[test]
-fn comp_obj_of_others_is_read(rt: HostRuntime) -> Result<(), Fail> {
-    let alloc = rt.alloc();
-    let cases: [(&[u8], &[u8]); 8] = [
-        // A clipboard format by its number, and one by its name, with what Office writes behind them.
-        (
-            b"\x06\0\0\0Sheet\0\xff\xff\xff\xff\x03\0\0\0\0\0\0\0\xf4\x39\xb2\x71",
-            b"Sheet",
-        ),
-        (b"\x06\0\0\0Sheet\0\xfe\xff\xff\xff\x03\0\0\0", b"Sheet"),
-        (b"\x06\0\0\0Sheet\0\x06\0\0\0Biff8\0\x0e\0\0\0", b"Sheet"),
-        (b"\0\0\0\0\0\0\0\0", b""),
-        (b"\x01\0\0\0\0\0\0\0\0", b""),
-        (b"\0\0\0\0\xff\xff\xff\xff\x03\0\0", b"Truncated"),
-        (b"\0\0\0\0\x06\0\0\0Biff8!", b"BadString"),
-        (b"\0\0\0\0\x07\0\0\0Biff8\0", b"BadString"),
-    ];
-    for case in &cases {
-        let mut stream = Vec::from_slice(alloc, &HEADER)?;
-        stream.extend_from_slice(case.0)?;
-        assert_eq!(rt; user_type_told(alloc, &stream)?.as_slice(), case.1);
-    }
-    Ok(())
-}
+/// What others write behind the header, which is 28 bytes 5 here: a clipboard format by its number, and one by its name,
+/// with what Office writes behind them; empty user types; formats that are cut short or without their zero.
+const OTHERS_READ: &str = "other 06000000,536865657400,ffffffff,03000000,00000000,f439b271 Sheet
+other 06000000,536865657400,feffffff,03000000 Sheet
+other 06000000,536865657400,06000000,426966663800,0e000000 Sheet
+other 00000000,00000000 .
+other 01000000,00,00000000 .
+other 00000000,ffffffff,030000 Truncated
+other 00000000,06000000,426966663821 BadString
+other 00000000,07000000,426966663800 BadString";
 
-#[test]
-fn pictures_are_read_and_written(rt: HostRuntime) -> Result<(), Fail> {
-    let alloc = rt.alloc();
-    let picture = match Presentation::write(alloc, b"ab\n")? {
-        Some(picture) => picture,
-        None => return Err(Fail::from("refused")),
+/// Of a picture: as it is written; with other flags, reserved field, width and height, which are free; cut short; for a
+/// target device, of another aspect, index or format; of lines that aren't.
+const PICTURE_READ: &str =
+    "picture 0c000000,4f6c65436f6e205465787400,04000000,01000000,ffffffff,02000000,00000000,02000000,01000000,03000000,61620a text
+picture 0c000000,4f6c65436f6e205465787400,04000000,01000000,ffffffff,09090909,09090909,09090909,09090909,03000000,61620a text
+picture 0c000000,4f6c65436f6e205465787400,04000000,01000000,ffffffff,02000000,00000000,02000000,01000000,03000000,6162 other
+picture 0c000000,4f6c65436f6e205465787400,04000000,01000000,ffffffff,02000000,00000000,02000000,01000000,030000 other
+picture 0c000000,4f6c65436f6e205465787400,08000000,01000000,ffffffff,02000000,00000000,02000000,01000000,03000000,61620a other
+picture 0c000000,4f6c65436f6e205465787400,04000000,04000000,ffffffff,02000000,00000000,02000000,01000000,03000000,61620a other
+picture 0c000000,4f6c65436f6e205465787400,04000000,01000000,00ffffff,02000000,00000000,02000000,01000000,03000000,61620a other
+picture 0c000000,586c65436f6e205465787400,04000000,01000000,ffffffff,02000000,00000000,02000000,01000000,03000000,61620a other
+picture 0c000000,4f6c65436f6e205465787400,04000000,01000000,ffffffff,02000000,00000000,02000000,01000000,03000000,07620a other";
+
+fn kind_written(alloc: Global, user_type: &[u8]) -> Result<Bytes, Fail> {
+    let kind = CompObj {
+        user_type: bytes(alloc, user_type)?,
     };
-    assert_eq!(rt; picture.len(), 51);
-    assert_eq!(rt; lines(picture.as_slice()), Some(b"ab\n".as_slice()));
-    let wide = match Presentation::write(alloc, b"ab\nabcd\n\n")? {
-        Some(picture) => picture,
-        None => return Err(Fail::from("refused")),
-    };
-    assert_eq!(rt; wide.as_slice().get(36).copied(), Some(4));
-    assert_eq!(rt; wide.as_slice().get(40).copied(), Some(3));
-    assert!(rt; Presentation::write(alloc, b"ab")?.is_none());
-    assert!(rt; Presentation::write(alloc, b"\t\n")?.is_none());
-    let text = picture.as_slice();
-    let cases: [(Vec<u8>, bool); 9] = [
-        (cut(alloc, text, 51)?, true),
-        // Flags, the reserved field, width and height are free.
-        (edited(alloc, text, 28, &[9; 16])?, true),
-        (cut(alloc, text, 50)?, false),
-        (cut(alloc, text, 47)?, false),
-        // A target device, another aspect, another index, another format, lines that aren't.
-        (edited(alloc, text, 16, &[8])?, false),
-        (edited(alloc, text, 20, &[4])?, false),
-        (edited(alloc, text, 24, &[0])?, false),
-        (edited(alloc, text, 4, b"X")?, false),
-        (edited(alloc, text, 48, &[7])?, false),
-    ];
-    for case in &cases {
-        let told = picture_told(alloc, &case.0)?;
-        assert_eq!(rt; told.0, case.1);
-        assert_eq!(rt; told.1.len(), if case.1 { 3 } else { case.0.len() });
+    if kind.user_type.len() >= 0xffff_ffff {
+        return Err(Fail::from("too long"));
+    }
+    Ok(kind.write(alloc, ClassId::from_bytes([7; 16]))?)
+}
+
+fn picture_written(alloc: Global, lines: &[u8]) -> Result<Bytes, Fail> {
+    match Presentation::write(alloc, lines)? {
+        Some(picture) => Ok(picture),
+        None => Ok(Bytes::new(alloc)),
+    }
+}
+
+fn written(alloc: Global, stream: &str, with: &[u8]) -> Result<Bytes, Fail> {
+    match stream {
+        "ole" => bytes(alloc, &OleStream.write()),
+        "kind" => kind_written(alloc, with),
+        _ => picture_written(alloc, with),
+    }
+}
+
+/// Whether a stream is written as a row says.
+fn is_written(alloc: Global, row: &str) -> Result<bool, Fail> {
+    let mut words = row.split_whitespace();
+    let stream = word(&mut words);
+    let with = spelled(alloc, word(&mut words))?;
+    let made = written(alloc, stream, &with)?;
+    Ok(made.as_slice() == spelled(alloc, word(&mut words))?.as_slice())
+}
+
+fn ole_is(stream: &[u8], want: &str) -> bool {
+    match OleStream::read(stream) {
+        Ok(_) => want == "read",
+        Err(fault) => fault.name() == want,
+    }
+}
+
+/// Whether the user type is as wanted, or the fault.
+fn kind_is(alloc: Global, stream: &[u8], want: &str) -> bool {
+    match CompObj::read(alloc, stream) {
+        Ok(read) if want == "." => read.user_type.is_empty(),
+        Ok(read) => read.user_type.as_slice() == want.as_bytes(),
+        Err(fault) => fault.name() == want,
+    }
+}
+
+fn other_is(alloc: Global, behind: &[u8], want: &str) -> Result<bool, Fail> {
+    let mut stream = Vec::from_slice(alloc, &[5; 28])?;
+    stream.extend_from_slice(behind)?;
+    Ok(kind_is(alloc, &stream, want))
+}
+
+/// Whether a picture is the line `ab`, or kept as it is.
+fn picture_is(alloc: Global, stream: &[u8], want: &str) -> Result<bool, Fail> {
+    match Presentation::read(alloc, stream)? {
+        Presentation::Text(lines) => Ok(want == "text" && lines.as_slice() == b"ab\n".as_slice()),
+        Presentation::Other(bytes) => Ok(want == "other" && bytes.as_slice() == stream),
+    }
+}
+
+/// Whether what is told of a stream is what a row says.
+fn is_read(alloc: Global, row: &str) -> Result<bool, Fail> {
+    let mut words = row.split_whitespace();
+    let which = word(&mut words);
+    let stream = spelled(alloc, word(&mut words))?;
+    let want = word(&mut words);
+    match which {
+        "ole" => Ok(ole_is(&stream, want)),
+        "kind" => Ok(kind_is(alloc, &stream, want)),
+        "other" => other_is(alloc, &stream, want),
+        _ => picture_is(alloc, &stream, want),
+    }
+}
+
+/// Whether the lines of a picture are left where they stand.
+fn has_lines(stream: &[u8]) -> bool {
+    match lines(stream) {
+        Some(lines) => lines == b"ab\n".as_slice(),
+        None => false,
+    }
+}
+
+#[test]
+fn streams_are_written(rt: HostRuntime) -> Result<(), Fail> {
+    for row in WRITTEN.split('\n') {
+        assert!(rt; is_written(rt.alloc(), row)?, "{row}");
+    }
+    assert!(rt; has_lines(picture_written(rt.alloc(), b"ab\n")?.as_slice()));
+    Ok(())
+}
+
+#[test]
+fn streams_are_read(rt: HostRuntime) -> Result<(), Fail> {
+    for table in [OLE_READ, KIND_READ, OTHERS_READ, PICTURE_READ] {
+        for row in table.split('\n') {
+            assert!(rt; is_read(rt.alloc(), row)?, "{row}");
+        }
     }
     Ok(())
 }

@@ -6,6 +6,7 @@ use crate::reports::{is_unwritten, report};
 use crate::shown::{answer, shown};
 use embed_core::embedded::Embedded;
 use embed_core::tally::Tally;
+use embed_core::words;
 use embed_note::note::Note;
 use event_texts::events::Events;
 use std::alloc::{AllocError, Global};
@@ -50,6 +51,23 @@ done 2
 save 3
 deliver 1";
 
+/// What is looked at, and what it is: how many events, messages and frames there are, and the contents that were counted or
+/// taken; the text of the note in a frame's file; what an event was answered.
+const NEW_SHOWS: &str = "shown => events 0 sent 0 frames 0
+file 1 => none";
+
+const SAVED_SHOWS: &str =
+    "shown => events 15 sent 8 frames 1, container 1 1, server 1 1 1, counted 1 1
+file 1 => aa
+file 2 => none";
+
+const CLOSED_SHOWS: &str =
+    "shown => events 25 sent 11 frames 2, container 1 1, server 1 1 1, taken 9 1 1 1 2, taken 11 1 1 1 2, counted 1 1
+file 2 => no object
+answer 1 => took
+answer 24 => refused
+answer 25 => dropped";
+
 fn boxed(alloc: Global, tally: &Tally) -> Result<Box<dyn Embedded>, AllocError> {
     let boxed: Box<dyn Embedded> = Box::new(alloc, Note::new(alloc, tally.share()?))?;
     Ok(boxed)
@@ -92,64 +110,64 @@ fn run_all(alloc: Global, world: &mut World, lines: &str) -> Result<Option<Stop>
     Ok(run(alloc, world, &events(alloc, lines)?).1)
 }
 
-fn expect(rt: &impl Abort, alloc: Global, world: &World, want: &str) -> Result<(), Fail> {
-    let text = shown(alloc, world)?;
-    assert!(rt; text.as_str() == want, "{text}");
+fn number(text: &str) -> u32 {
+    words::number(text.as_bytes()).unwrap_or(0)
+}
+
+fn halves<'a>(text: &'a str, mark: &str) -> (&'a str, &'a str) {
+    match text.split_once(mark) {
+        Some(halves) => halves,
+        None => (text, ""),
+    }
+}
+
+/// `shown`, `file FRAME` or `answer EVENT`: what the world shows there.
+fn look(alloc: Global, world: &World, row: &str) -> Result<String, Fail> {
+    let (what, of) = halves(row, " ");
+    match what {
+        "file" => Ok(String::from_str(alloc, file(alloc, world, number(of))?)?),
+        "answer" => Ok(String::from_str(alloc, answer(world, number(of)))?),
+        _ => Ok(shown(alloc, world)?),
+    }
+}
+
+fn expect(rt: &impl Abort, alloc: Global, world: &World, rows: &str) -> Result<(), Fail> {
+    for row in rows.split('\n') {
+        let (row, want) = halves(row, " => ");
+        let text = look(alloc, world, row)?;
+        assert!(rt; text.as_str() == want, "{row}: {text}");
+    }
     Ok(())
 }
 
-fn expect_file(
+/// Runs events, and then looks at what the world shows.
+fn play(
     rt: &impl Abort,
     alloc: Global,
-    world: &World,
-    frame: u32,
-    want: &str,
+    world: &mut World,
+    lines: &str,
+    rows: &str,
 ) -> Result<(), Fail> {
-    let text = file(alloc, world, frame)?;
-    assert!(rt; text == want, "{frame}: {text}");
-    Ok(())
-}
-
-fn expect_answer(rt: &impl Abort, world: &World, event: u32, want: &str) -> Result<(), Fail> {
-    let text = answer(world, event);
-    assert!(rt; text == want, "{event}: {text}");
-    Ok(())
+    drop(run_all(alloc, world, lines)?);
+    expect(rt, alloc, world, rows)
 }
 
 #[test]
 fn a_new_world_is_empty(rt: HostRuntime) -> Result<(), Fail> {
-    let alloc = rt.alloc();
-    let world = world(alloc)?;
-    expect(&rt, alloc, &world, "events 0 sent 0 frames 0")?;
-    expect_file(&rt, alloc, &world, 1, "none")?;
-    assert!(rt; is_unwritten(alloc, &world));
-    Ok(())
+    let world = world(rt.alloc())?;
+    assert!(rt; is_unwritten(rt.alloc(), &world));
+    expect(&rt, rt.alloc(), &world, NEW_SHOWS)
+}
+
+fn play_both(rt: &impl Abort, alloc: Global, world: &mut World) -> Result<(), Fail> {
+    play(rt, alloc, world, SAVED, SAVED_SHOWS)?;
+    play(rt, alloc, world, CLOSED, CLOSED_SHOWS)
 }
 
 #[test]
 fn worlds_show_what_happened(rt: HostRuntime) -> Result<(), Fail> {
-    let alloc = rt.alloc();
-    let mut world = world(alloc)?;
-    drop(run_all(alloc, &mut world, SAVED)?);
-    expect(
-        &rt,
-        alloc,
-        &world,
-        "events 15 sent 8 frames 1, container 1 1, server 1 1 1, counted 1 1",
-    )?;
-    expect_file(&rt, alloc, &world, 1, "aa")?;
-    expect_file(&rt, alloc, &world, 2, "none")?;
-    drop(run_all(alloc, &mut world, CLOSED)?);
-    expect(
-        &rt,
-        alloc,
-        &world,
-        "events 25 sent 11 frames 2, container 1 1, server 1 1 1, taken 9 1 1 1 2, taken 11 1 1 1 2, counted 1 1",
-    )?;
-    expect_file(&rt, alloc, &world, 2, "no object")?;
-    expect_answer(&rt, &world, 1, "took")?;
-    expect_answer(&rt, &world, 24, "refused")?;
-    expect_answer(&rt, &world, 25, "dropped")
+    let mut world = world(rt.alloc())?;
+    play_both(&rt, rt.alloc(), &mut world)
 }
 
 /// Runs events one after the other, and each again where memory ran out: whether all were taken.
@@ -162,13 +180,15 @@ fn run_on(alloc: Global, world: &mut World, events: &[Event]) -> bool {
     true
 }
 
+fn ran_on(alloc: Global, world: &mut World, lines: &str) -> Result<bool, AllocError> {
+    Ok(run_on(alloc, world, &events(alloc, lines)?))
+}
+
 /// Where any one allocation is refused, the run goes on to the same report.
 #[test]
 fn a_run_goes_on_where_memory_ran_out(rt: HostRuntime) -> Result<(), Fail> {
-    let alloc = rt.alloc();
-    let events = events(alloc, SAVED)?;
-    let mut world = world(alloc)?;
-    assert!(rt; run_on(alloc, &mut world, &events));
-    assert!(rt; report(alloc, &world).as_slice() == REPORT.as_bytes());
+    let mut world = world(rt.alloc())?;
+    assert!(rt; ran_on(rt.alloc(), &mut world, SAVED)?);
+    assert!(rt; report(rt.alloc(), &world).as_slice() == REPORT.as_bytes());
     Ok(())
 }
