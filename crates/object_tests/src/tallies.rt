@@ -37,19 +37,32 @@ fn is_past(tally: &Tally, before: u32, count: u32) -> bool {
     tally.count().checked_sub(before) == Some(count)
 }
 
+/// A kind, an edit that it takes, and one that it doesn't.
+const KINDS: &str = "note i 0 ab|d 0 2
+table s A1 x|c A1
+drawing b 0 0 3 2|r 1";
+
+fn object(alloc: Global, tally: &Tally, kind: &str) -> Result<Box<dyn Embedded>, Fail> {
+    match kind {
+        "note" => note(alloc, tally),
+        "table" => table(alloc, tally),
+        _ => drawing(alloc, tally),
+    }
+}
+
+fn is_counted(alloc: Global, row: &str) -> Result<bool, Fail> {
+    let (kind, edits) = halves(row, " ");
+    let tally = Tally::new(alloc)?;
+    let first = object(alloc, &tally, kind)?;
+    let second = object(alloc, &tally, kind)?;
+    Ok(are_counted(alloc, &tally, first, second, edits))
+}
+
 #[test]
 fn each_object_is_counted_once(rt: HostRuntime) -> Result<(), Fail> {
-    let alloc = rt.alloc();
-    let tally = Tally::new(alloc)?;
-    let first = note(alloc, &tally)?;
-    let second = note(alloc, &tally)?;
-    assert!(rt; are_counted(alloc, &tally, first, second, "i 0 ab|d 0 2"));
-    let first = table(alloc, &tally)?;
-    let second = table(alloc, &tally)?;
-    assert!(rt; are_counted(alloc, &tally, first, second, "s A1 x|c A1"));
-    let first = drawing(alloc, &tally)?;
-    let second = drawing(alloc, &tally)?;
-    assert!(rt; are_counted(alloc, &tally, first, second, "b 0 0 3 2|r 1"));
+    for row in KINDS.split('\n') {
+        assert!(rt; is_counted(rt.alloc(), row)?, "{row}");
+    }
     Ok(())
 }
 
