@@ -6,14 +6,12 @@ use crate::calls::{
 use crate::texts::{spelled, word};
 use cfb_names::name::Name;
 use file_writer::write::write_file;
-use object_parts::area::Area;
 use object_parts::limits::{comp_obj, ole, ole_pres};
 use ole_streams::doc::{Doc, DocObject};
 use ole_streams::names;
 use std::alloc::Global;
 use std::test::Fail;
 use storage_tree::bytes::Bytes;
-use storage_tree::class_id::ClassId;
 use storage_tree::streams::Streams;
 use storage_tree::tree::Tree;
 use stream_io::read::read_file;
@@ -140,14 +138,21 @@ fn is_made(object: &DocObject, x: u16, picture: &[u8], stream: &[u8]) -> Result<
 }
 
 fn has_place(object: &DocObject, x: u16) -> bool {
-    object.area
-        == (Area {
-            x,
-            y: 2,
-            w: 300,
-            h: 4,
-        })
-        && object.class == ClassId::from_bytes([7; 16])
+    let area = &object.area;
+    area.x == x
+        && area.y == 2
+        && area.w == 300
+        && area.h == 4
+        && are_all(object.class.as_bytes(), 7)
+}
+
+fn are_all(bytes: &[u8], byte: u8) -> bool {
+    for item in bytes {
+        if *item != byte {
+            return false;
+        }
+    }
+    true
 }
 
 /// Whether a document has the two objects of `two`.
