@@ -10,4 +10,6 @@ mod long_frames;
 #[cfg(test)]
 mod pieces;
 #[cfg(test)]
+mod texts;
+#[cfg(test)]
 mod values;

@@ -3,7 +3,7 @@
 ghost use Rattle.std.specs.Prelude.{◌<◌};
 
 use crate::frames::first_bad_cut;
-use crate::pieces::{comes_in_pieces, shown};
+use crate::pieces::{bytes, comes_in_pieces, feed_all, next_is, shown};
 use cfb_names::name::Name;
 use message_bytes::decoder::Decoder;
 use message_bytes::encode::encode;
@@ -11,18 +11,12 @@ use message_bytes::fault::WireFault;
 use message_bytes::frame::Frame;
 use std::alloc::Global;
 use std::test::Fail;
-use storage_tree::bytes::Bytes;
 use storage_tree::class_id::ClassId;
 use storage_tree::stored::Stored;
 use storage_tree::streams::NamedStream;
 use wire_msgs::answer::Answer;
 use wire_msgs::message::Message;
 use wire_msgs::operation::Operation;
-
-/// So many bytes.
-fn bytes(alloc: Global, count: usize) -> Result<Bytes, Fail> {
-    Ok(Bytes::from_vec(alloc, vec![in alloc; 7; count]?)?)
-}
 
 /// A stream of no bytes, one of 50, and a picture of 30.
 fn content(alloc: Global) -> Result<Stored, Fail> {
@@ -72,61 +66,56 @@ fn long_frames_come_again_however_they_are_cut(rt: HostRuntime) -> Result<(), Fa
     for at in 0..4 {
         let spelled = encode(rt.alloc(), &frame_at(rt.alloc(), at)?)?;
         assert!(rt; 82 < spelled.len());
-        assert_eq!(rt; first_bad_cut(rt.alloc(), &spelled), Ok(None), "frame {at}");
-        assert_eq!(rt;
-            comes_in_pieces(rt.alloc(), &spelled, 1),
-            Ok(true),
+        assert!(rt;
+            first_bad_cut(rt.alloc(), &spelled)?.is_none(),
             "frame {at}"
         );
+        assert!(rt; comes_in_pieces(rt.alloc(), &spelled, 1)?, "frame {at}");
     }
     Ok(())
 }
 
-/// Feeds a piece, again where memory is refused.
-fn feed(decoder: &mut Decoder, piece: &[u8]) -> Result<(), WireFault> {
-    match decoder.feed(piece) {
-        Err(WireFault::NoMemory) => decoder.feed(piece),
-        fed => fed,
-    }
-}
-
-/// How many frames come of bytes in pieces of this length, where each is spelled so; none where one isn't.
-fn frames_of(
+/// How many frames come, where each is spelled so; none where one isn't.
+fn count(
     alloc: Global,
-    all: &[u8],
-    len: usize,
+    decoder: &mut Decoder,
+    most: usize,
     spelled: &[u8],
-) -> Result<Option<usize>, WireFault>
-    requires { 0 < len }
-{
-    let mut decoder = Decoder::new(alloc);
-    for piece in all.chunks(len) {
-        feed(&mut decoder, piece)?;
-    }
-    for count in 0..all.len() {
-        match decoder.next()? {
-            Some(frame) => {
-                if encode(alloc, &frame)?.as_slice() != spelled {
-                    return Ok(None);
-                }
-            }
+) -> Result<Option<usize>, WireFault> {
+    for count in 0..most {
+        match next_is(alloc, decoder, spelled)? {
+            Some(true) => {}
+            Some(false) => return Ok(None),
             None => return Ok(Some(count)),
         }
     }
     Ok(None)
 }
 
+/// Whether three frames come of bytes in pieces of this length, each spelled so.
+fn three_come(alloc: Global, all: &[u8], len: usize, spelled: &[u8]) -> Result<bool, WireFault>
+    requires { 0 < len }
+{
+    let mut decoder = Decoder::new(alloc);
+    feed_all(&mut decoder, all, len)?;
+    Ok(count(alloc, &mut decoder, all.len(), spelled)? == Some(3))
+}
+
+fn thrice(alloc: Global, spelled: &[u8]) -> Result<Vec<u8>, Fail> {
+    let mut all = Vec::new(alloc);
+    for _ in 0..3 {
+        all.extend_from_slice(spelled)?;
+    }
+    Ok(all)
+}
+
 #[test]
 fn long_frames_come_one_behind_the_other(rt: HostRuntime) -> Result<(), Fail> {
     let spelled = encode(rt.alloc(), &frame_at(rt.alloc(), 3)?)?;
-    let mut all = Vec::new(rt.alloc());
-    for _ in 0..3 {
-        all.extend_from_slice(&spelled)?;
-    }
+    let all = thrice(rt.alloc(), &spelled)?;
     for len in [1, 60, 127, 200, 378] {
-        assert_eq!(rt;
-            frames_of(rt.alloc(), &all, len, &spelled),
-            Ok(Some(3)),
+        assert!(rt;
+            three_come(rt.alloc(), &all, len, &spelled)?,
             "pieces of {len}"
         );
     }

@@ -1,5 +1,8 @@
+//! Frames in pieces. Tables are texts, a row a line: a text costs the same to prove however many rows it has.
+
 ghost use Rattle.std.specs.Prelude.{◌<◌};
 
+use crate::texts::{number, spelled, word};
 use message_bytes::decoder::Decoder;
 use message_bytes::encode::encode;
 use message_bytes::fault::WireFault;
@@ -8,42 +11,85 @@ use std::alloc::Global;
 use std::test::Fail;
 use storage_tree::bytes::Bytes;
 use storage_tree::stored::Stored;
+use storage_tree::streams::Streams;
 use wire_msgs::message::Message;
 use wire_msgs::operation::Operation;
 
-/// The frame of a call of UiDeactivate under 1, 2, 3.
-const DEACTIVATE: [u8; 23] = [
-    0x4f, 0x4c, 0x43, 0x4d, 1, 1, 13, 0, 0, 0, 1, 0, 0, 0, 2, 0, 0, 0, 3, 0, 0, 0, 5,
-];
+/// Bytes that are fed, how that is answered, and what comes then. A call of UiDeactivate under 1, 2, 3 comes with its last
+/// byte; behind it a frame of no kind is refused, and so is all from then on.
+const FED: &str = ". ok none
+4f ok none
+4c ok none
+43 ok none
+4d ok none
+01 ok none
+01 ok none
+0d ok none
+00 ok none
+00 ok none
+00 ok none
+01 ok none
+00 ok none
+00 ok none
+00 ok none
+02 ok none
+00 ok none
+00 ok none
+00 ok none
+03 ok none
+00 ok none
+00 ok none
+00 ok none
+05 ok UiDeactivate
+4f4c434d,01 ok none
+09 BadKind BadKind
+00 BadKind BadKind
+00 BadKind BadKind";
+
+fn is_deactivate(frame: &Frame) -> bool {
+    match frame {
+        Frame::Message(
+            Message::Call {
+                inc: 1,
+                act: 2,
+                n: 3,
+                operation: Operation::UiDeactivate,
+            },
+        ) => true,
+        _ => false,
+    }
+}
+
+fn fed(decoder: &mut Decoder, piece: &[u8]) -> &'static str {
+    match decoder.feed(piece) {
+        Ok(()) => "ok",
+        Err(fault) => fault.name(),
+    }
+}
+
+fn came(decoder: &mut Decoder) -> &'static str {
+    match decoder.next() {
+        Ok(None) => "none",
+        Ok(Some(frame)) if is_deactivate(&frame) => "UiDeactivate",
+        Ok(Some(_)) => "another",
+        Err(fault) => fault.name(),
+    }
+}
+
+/// Whether a decoder takes what a row feeds, and gives what it wants.
+fn takes(alloc: Global, decoder: &mut Decoder, row: &str) -> Result<bool, Fail> {
+    let mut words = row.split_whitespace();
+    let piece = spelled(alloc, word(&mut words))?;
+    let answer = fed(decoder, &piece);
+    Ok(answer == word(&mut words) && came(decoder) == word(&mut words))
+}
 
 #[test]
 fn a_call_comes_byte_by_byte(rt: HostRuntime) -> Result<(), Fail> {
     let mut decoder = Decoder::new(rt.alloc());
-    for byte in DEACTIVATE {
-        assert!(rt; matches!(decoder.next(), Ok(None)));
-        assert_eq!(rt; decoder.feed(&[byte]), Ok(()));
+    for row in FED.split('\n') {
+        assert!(rt; takes(rt.alloc(), &mut decoder, row)?, "{row}");
     }
-    let whole = match decoder.next() {
-        Ok(
-            Some(
-                Frame::Message(
-                    Message::Call {
-                        inc: 1,
-                        act: 2,
-                        n: 3,
-                        operation: Operation::UiDeactivate,
-                    },
-                ),
-            ),
-        ) => true,
-        _ => false,
-    };
-    assert!(rt; whole);
-    assert_eq!(rt; decoder.feed(&[0x4f, 0x4c, 0x43, 0x4d, 1]), Ok(()));
-    assert_eq!(rt; decoder.feed(&[9]), Err(WireFault::BadKind));
-    assert_eq!(rt; decoder.feed(&[0]), Err(WireFault::BadKind));
-    assert!(rt; matches!(decoder.next(), Err(WireFault::BadKind)));
-    assert!(rt; matches!(decoder.next(), Err(WireFault::BadKind)));
     Ok(())
 }
 
@@ -59,69 +105,98 @@ pub(crate) fn shown(alloc: Global, bytes: &[u8]) -> (usize, Option<WireFault>) {
     (bytes.len(), None)
 }
 
+/// Bytes, the one at which a fault is shown, and the fault: of the magic, the version, the kind, the length; a turn with a
+/// body, an ask with the number 0, a byte past the last field, a call without a body.
+const FAULTS: &str = "0001020304 3 BadMagic
+4f4c434d,02,01 4 BadVersion
+4f4c434d,01,00,01 5 BadKind
+4f4c434d,01,05,01001000,00 9 TooLong
+4f4c434d,01,05,02000000,010101 11 BadField
+4f4c434d,01,04,0c000000,01000000,00000000,03000000 21 BadField
+4f4c434d,01,04,0d000000,01000000,02000000,03000000,00 22 BadField
+4f4c434d,01,01,00000000 9 BadField";
+
+/// Whether bytes show the fault of a row where it says.
+fn is_shown(alloc: Global, row: &str) -> Result<bool, Fail> {
+    let mut words = row.split_whitespace();
+    let bytes = spelled(alloc, word(&mut words))?;
+    let (at, fault) = shown(alloc, &bytes);
+    Ok(at == number(word(&mut words)) && name(fault) == word(&mut words))
+}
+
+fn name(fault: Option<WireFault>) -> &'static str {
+    match fault {
+        Some(fault) => fault.name(),
+        None => "none",
+    }
+}
+
 #[test]
 fn faults_are_shown_by_their_bytes(rt: HostRuntime) -> Result<(), Fail> {
-    let rows: [(&[u8], usize, WireFault); 8] = [
-        (&[0, 1, 2, 3, 4], 3, WireFault::BadMagic),
-        (&[0x4f, 0x4c, 0x43, 0x4d, 2, 1], 4, WireFault::BadVersion),
-        (&[0x4f, 0x4c, 0x43, 0x4d, 1, 0, 1], 5, WireFault::BadKind),
-        (
-            &[0x4f, 0x4c, 0x43, 0x4d, 1, 5, 1, 0, 16, 0, 0],
-            9,
-            WireFault::TooLong,
-        ),
-        // A turn with a body.
-        (
-            &[0x4f, 0x4c, 0x43, 0x4d, 1, 5, 2, 0, 0, 0, 1, 1, 1],
-            11,
-            WireFault::BadField,
-        ),
-        // An ask with the number 0.
-        (
-            &[
-                0x4f, 0x4c, 0x43, 0x4d, 1, 4, 12, 0, 0, 0, 1, 0, 0, 0, 0, 0, 0, 0, 3, 0, 0, 0,
-            ],
-            21,
-            WireFault::BadField,
-        ),
-        // A byte past the last field.
-        (
-            &[
-                0x4f, 0x4c, 0x43, 0x4d, 1, 4, 13, 0, 0, 0, 1, 0, 0, 0, 2, 0, 0, 0, 3, 0, 0, 0, 0,
-            ],
-            22,
-            WireFault::BadField,
-        ),
-        // A call without a body.
-        (
-            &[0x4f, 0x4c, 0x43, 0x4d, 1, 1, 0, 0, 0, 0],
-            9,
-            WireFault::BadField,
-        ),
-    ];
-    for (bytes, at, fault) in rows {
-        assert_eq!(rt; shown(rt.alloc(), bytes), (at, Some(fault)));
+    for row in FAULTS.split('\n') {
+        assert!(rt; is_shown(rt.alloc(), row)?, "{row}");
     }
-    assert_eq!(rt; WireFault::BadField.name(), "BadField");
     Ok(())
 }
 
-/// The beginning of a write whose body has 1,048,576 bytes: its head, and ten bytes of its numbers.
-const LONG: [u8; 20] = [
-    0x4f, 0x4c, 0x43, 0x4d, 1, 3, 0, 0, 16, 0, 1, 0, 0, 0, 1, 0, 0, 0, 1, 0,
-];
+/// A call's head and its numbers, of which no more is there.
+fn is_begun(alloc: Global, bytes: &[u8]) -> bool {
+    let mut decoder = Decoder::new(alloc);
+    fed(&mut decoder, bytes) == "ok" && came(&mut decoder) == "none"
+}
 
-/// A write of so many bytes in its picture.
-fn write(alloc: Global, count: usize) -> Result<Frame, Fail> {
-    let mut content = Stored::new(alloc);
-    content.picture = Bytes::from_vec(alloc, vec![in alloc; 7; count]?)?;
-    Ok(Frame::Message(Message::Write {
+/// The beginning of a write whose body has 1,048,576 bytes: its head, and ten bytes of its numbers.
+const LONG: &str = "4f4c434d,01,03,00001000,01000000,01000000,0100";
+
+/// So many bytes.
+pub(crate) fn bytes(alloc: Global, count: usize) -> Result<Bytes, Fail> {
+    Ok(Bytes::from_vec(alloc, vec![in alloc; 7; count]?)?)
+}
+
+fn write_of(content: Stored) -> Frame {
+    Frame::Message(Message::Write {
         inc: 1,
         act: 1,
         s: 1,
         w: 1,
         content,
-    }))
+    })
+}
+
+/// A write of so many bytes in its picture.
+fn write(alloc: Global, count: usize) -> Result<Frame, Fail> {
+    let picture = bytes(alloc, count)?;
+    let streams = Streams::new(alloc);
+    Ok(write_of(Stored { streams, picture }))
+}
+
+/// Feeds bytes in pieces of this length, each again where memory is refused.
+pub(crate) fn feed_all(decoder: &mut Decoder, bytes: &[u8], len: usize) -> Result<(), WireFault>
+    requires { 0 < len }
+{
+    for piece in bytes.chunks(len) {
+        feed(decoder, piece)?;
+    }
+    Ok(())
+}
+
+fn feed(decoder: &mut Decoder, piece: &[u8]) -> Result<(), WireFault> {
+    match decoder.feed(piece) {
+        Err(WireFault::NoMemory) => decoder.feed(piece),
+        fed => fed,
+    }
+}
+
+/// Whether the next frame is spelled so, where one comes.
+pub(crate) fn next_is(
+    alloc: Global,
+    decoder: &mut Decoder,
+    spelled: &[u8],
+) -> Result<Option<bool>, WireFault> {
+    match decoder.next()? {
+        Some(frame) => Ok(Some(encode(alloc, &frame)?.as_slice() == spelled)),
+        None => Ok(None),
+    }
 }
 
 /// Whether a frame comes of bytes in pieces of this length, and is spelled as it came.
@@ -129,31 +204,26 @@ pub(crate) fn comes_in_pieces(alloc: Global, spelled: &[u8], len: usize) -> Resu
     requires { 0 < len }
 {
     let mut decoder = Decoder::new(alloc);
-    for piece in spelled.chunks(len) {
-        decoder.feed(piece)?;
-    }
-    match decoder.next()? {
-        Some(frame) => Ok(encode(alloc, &frame)?.as_slice() == spelled),
-        None => Ok(false),
+    feed_all(&mut decoder, spelled, len)?;
+    Ok(next_is(alloc, &mut decoder, spelled)? == Some(true))
+}
+
+/// Whether a write is too large to be spelled.
+fn is_too_large(alloc: Global, count: usize) -> Result<bool, Fail> {
+    match encode(alloc, &write(alloc, count)?) {
+        Err(fault) => Ok(fault == WireFault::BadField),
+        Ok(_) => Ok(false),
     }
 }
 
 #[test]
 fn a_large_write_comes_in_pieces(rt: HostRuntime) -> Result<(), Fail> {
-    let spelled = encode(rt.alloc(), &write(rt.alloc(), 262_144)?)?;
-    assert_eq!(rt; spelled.len(), 10 + 16 + 1 + 4 + 262_144);
-    assert_eq!(rt; comes_in_pieces(rt.alloc(), &spelled, 1), Ok(true));
-    assert_eq!(rt; comes_in_pieces(rt.alloc(), &spelled, 4096), Ok(true));
-    // Its head and its numbers.
-    let front = spelled.get(..26).ok_or("26 bytes")?;
-    let mut decoder = Decoder::new(rt.alloc());
-    assert_eq!(rt; decoder.feed(front), Ok(()));
-    assert!(rt; matches!(decoder.next(), Ok(None)));
-    // The head of a body of 1 MiB, and ten bytes of it.
-    let mut begun = Decoder::new(rt.alloc());
-    assert_eq!(rt; begun.feed(&LONG), Ok(()));
-    assert!(rt; matches!(begun.next(), Ok(None)));
-    let large = encode(rt.alloc(), &write(rt.alloc(), 262_145)?);
-    assert!(rt; matches!(large, Err(WireFault::BadField)));
+    let large = encode(rt.alloc(), &write(rt.alloc(), 262_144)?)?;
+    assert!(rt; large.len() == 10 + 16 + 1 + 4 + 262_144);
+    assert!(rt; comes_in_pieces(rt.alloc(), &large, 1)?);
+    assert!(rt; comes_in_pieces(rt.alloc(), &large, 4096)?);
+    assert!(rt; is_begun(rt.alloc(), large.get(..26).ok_or("26 bytes")?));
+    assert!(rt; is_begun(rt.alloc(), &spelled(rt.alloc(), LONG)?));
+    assert!(rt; is_too_large(rt.alloc(), 262_145)?);
     Ok(())
 }

@@ -34,20 +34,28 @@ fn refusals_stand_by_their_codes(rt: HostRuntime) {
     );
 }
 
-#[test]
-fn items_are_kept_in_turn(rt: HostRuntime) -> Result<(), Fail> {
-    let mut items = Items::new(rt.alloc());
-    assert!(rt; items.is_empty());
+fn two(alloc: Global) -> Result<Items<u32>, Fail> {
+    let mut items = Items::new(alloc);
     items.push(4)?;
     items.push(7)?;
-    assert_eq!(rt; items.len(), 2);
-    assert_eq!(rt; items.as_slice(), [4, 7].as_slice());
+    Ok(items)
+}
+
+fn with_nine(items: Items<u32>) -> Result<Items<u32>, Fail> {
     let mut vec = items.into_vec();
     vec.push(9)?;
-    let mut items = Items::from_vec(vec);
-    assert_eq!(rt; items.as_slice(), [4, 7, 9].as_slice());
-    assert_eq!(rt; items.take_first(), Some(4));
-    assert_eq!(rt; items.as_slice(), [7, 9].as_slice());
+    Ok(Items::from_vec(vec))
+}
+
+#[test]
+fn items_are_kept_in_turn(rt: HostRuntime) -> Result<(), Fail> {
+    assert!(rt; Items::<u32>::new(rt.alloc()).is_empty());
+    let items = two(rt.alloc())?;
+    assert!(rt; items.len() == 2 && items.as_slice() == [4, 7].as_slice());
+    let mut items = with_nine(items)?;
+    assert!(rt; items.as_slice() == [4, 7, 9].as_slice());
+    assert!(rt; items.take_first() == Some(4));
+    assert!(rt; items.as_slice() == [7, 9].as_slice());
     Ok(())
 }
 
