@@ -1,3 +1,4 @@
+pub mod Answering
 pub mod AskingAll
 pub mod AskingEach
 pub mod MessageReplies

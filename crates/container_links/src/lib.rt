@@ -8,4 +8,5 @@ pub mod replies;
 pub mod requests;
 pub mod resending;
 pub mod settling;
+mod turns;
 pub mod writes;

@@ -3,19 +3,23 @@
 ghost use Rattle.std.specs.Prelude.{◌≡◌, ◌+◌, ◌≤◌, IfErr, IfOk, IfSome, OnErr, Ok, Some, None, true, length, vec_len, vec_capacity};
 ghost use Rattle.object_state.specs.Both as both;
 ghost use Rattle.container_model.specs.Record.{Refuses, sends};
+ghost use Rattle.container_links.specs.Answered.{answered, is_pending};
 ghost use Rattle.container_links.specs.Relieving.{gives_up};
 ghost use Rattle.container_model.specs.Messages.{closed_with, done_link, granted_link, is_fit, lost, next_at, noted, reply_link, saved_link};
 ghost use Rattle.container_model.specs.Replies.{first_call, resumed};
 ghost use Rattle.container_model.specs.Room.{IfLinked, IsRoomy};
 ghost use Rattle.wire_msgs.specs.declared.operation.Operation.TheVariants.{UiDeactivate};
 
+use crate::turns::{
+    WhenContent, WhenDone, WhenRefused, grant_of, when_content, when_done, when_refused,
+};
 use container_model::answer::Action;
 use container_model::fault::ContainerFault;
 use container_model::grants::Tells;
 use container_model::record::Link;
 use grant_core::Tools;
 use object_parts::limits::is_within;
-use object_state::{CloseOption, Op, States};
+use object_state::{Op, States};
 use std::alloc::{AllocError, Global};
 use storage_tree::stored::Stored;
 use wire_msgs::answer::Answer;
@@ -261,6 +265,128 @@ fn is_fit(answer: &Answer) -> bool
     }
 }
 
+// Whether the call of this number is pending.
+fn is_pending(link: &Option<Link>, n: u32) -> bool
+    ensures { result ≡ is_pending n link.now }
+{
+    match link {
+        Some(l) => l.pending.is_some() && n == l.last,
+        None => false,
+    }
+}
+
+// The pending operation was done.
+fn done_told(alloc: Global, link: &mut Option<Link>, more: usize) -> Result<Replied, ContainerFault>
+    requires numbers { IfLinked (IsRoomy 1000000 0) link.old }
+    requires few { more ≤ 1000001 }
+    ensures taken { IfOk result (λ t. resumed (answered link.old Answer.Done) ≡ Ok (record { link = link.new; taken = t.taken; refused = t.refused; grant = t.grant; actions = t.actions.items })) }
+    ensures few { IfOk result (λ t. vec_len t.actions ≤ 1) }
+    ensures room { IfOk result (λ t. vec_len t.actions + more ≤ vec_capacity t.actions) }
+    ensures refused { IfErr result (Refuses (answered link.old Answer.Done)) }
+    ensures kept { OnErr result (link.new ≡ link.old) }
+{
+    let Some(l) = link else {
+        return Err(ContainerFault::Stale);
+    };
+    let Some(operation) = &l.pending else {
+        return Err(ContainerFault::Stale);
+    };
+    let op = operation.op();
+    let states = l.states;
+    match when_done(operation, l.s) {
+        WhenDone::Goes(s) => done(alloc, l, op, s, more),
+        WhenDone::GivesUp => granted(alloc, l, op, Tells::GivesUp, more),
+        WhenDone::Ends => closed(alloc, link, states, op, None, more),
+        WhenDone::Undone => Err(ContainerFault::BadAnswer),
+    }
+}
+
+// The pending operation was refused.
+fn refused_told(
+    alloc: Global,
+    link: &mut Option<Link>,
+    why: Refusal,
+    more: usize,
+) -> Result<Replied, ContainerFault>
+    requires numbers { IfLinked (IsRoomy 1000000 0) link.old }
+    requires few { more ≤ 1000001 }
+    ensures taken { IfOk result (λ t. resumed (answered link.old (Answer.Refused why)) ≡ Ok (record { link = link.new; taken = t.taken; refused = t.refused; grant = t.grant; actions = t.actions.items })) }
+    ensures few { IfOk result (λ t. vec_len t.actions ≤ 1) }
+    ensures room { IfOk result (λ t. vec_len t.actions + more ≤ vec_capacity t.actions) }
+    ensures refused { IfErr result (Refuses (answered link.old (Answer.Refused why))) }
+    ensures kept { OnErr result (link.new ≡ link.old) }
+{
+    let Some(l) = link else {
+        return Err(ContainerFault::Stale);
+    };
+    let Some(operation) = &l.pending else {
+        return Err(ContainerFault::Stale);
+    };
+    match when_refused(operation) {
+        WhenRefused::Lost => lost(alloc, link, why, more),
+        WhenRefused::Noted => noted(alloc, l, why, more),
+        WhenRefused::Unrefused => Err(ContainerFault::BadAnswer),
+    }
+}
+
+// The pending operation was answered by a content.
+fn content_told(
+    alloc: Global,
+    link: &mut Option<Link>,
+    content: Stored,
+    more: usize,
+) -> Result<Replied, ContainerFault>
+    requires numbers { IfLinked (IsRoomy 1000000 0) link.old }
+    requires few { more ≤ 1000001 }
+    ensures taken { IfOk result (λ t. resumed (answered link.old (Answer.Content content)) ≡ Ok (record { link = link.new; taken = t.taken; refused = t.refused; grant = t.grant; actions = t.actions.items })) }
+    ensures few { IfOk result (λ t. vec_len t.actions ≤ 1) }
+    ensures room { IfOk result (λ t. vec_len t.actions + more ≤ vec_capacity t.actions) }
+    ensures refused { IfErr result (Refuses (answered link.old (Answer.Content content))) }
+    ensures kept { OnErr result (link.new ≡ link.old) }
+{
+    let Some(l) = link else {
+        return Err(ContainerFault::Stale);
+    };
+    let Some(operation) = &l.pending else {
+        return Err(ContainerFault::Stale);
+    };
+    let op = operation.op();
+    let states = l.states;
+    match when_content(operation) {
+        WhenContent::Saved => saved(alloc, l, op, content, more),
+        WhenContent::Closed => closed(alloc, link, states, op, Some(content), more),
+        WhenContent::Unasked => Err(ContainerFault::BadAnswer),
+    }
+}
+
+// The pending operation was answered by what the object wants of its frame.
+fn tools_told(
+    alloc: Global,
+    link: &mut Option<Link>,
+    tools: Tools,
+    more: usize,
+) -> Result<Replied, ContainerFault>
+    requires numbers { IfLinked (IsRoomy 1000000 0) link.old }
+    requires few { more ≤ 1000001 }
+    ensures taken { IfOk result (λ t. resumed (answered link.old (Answer.Tools tools.menus tools.border)) ≡ Ok (record { link = link.new; taken = t.taken; refused = t.refused; grant = t.grant; actions = t.actions.items })) }
+    ensures few { IfOk result (λ t. vec_len t.actions ≤ 1) }
+    ensures room { IfOk result (λ t. vec_len t.actions + more ≤ vec_capacity t.actions) }
+    ensures refused { IfErr result (Refuses (answered link.old (Answer.Tools tools.menus tools.border))) }
+    ensures kept { OnErr result (link.new ≡ link.old) }
+{
+    let Some(l) = link else {
+        return Err(ContainerFault::Stale);
+    };
+    let Some(operation) = &l.pending else {
+        return Err(ContainerFault::Stale);
+    };
+    let op = operation.op();
+    match grant_of(operation) {
+        Some(g) => granted(alloc, l, op, Tells::Gets(g, tools), more),
+        None => Err(ContainerFault::BadAnswer),
+    }
+}
+
 /// The answer to the call of this number; then the first operation that waits is called. The actions have room for so
 /// many more.
 ///
@@ -281,52 +407,17 @@ pub fn told(
     ensures refused { IfErr result (Refuses (reply_link n answer link.old)) }
     ensures kept { OnErr result (link.new ≡ link.old) }
 {
-    let Some(l) = link else {
-        return Err(ContainerFault::Stale);
-    };
-    let Some(operation) = &l.pending else {
-        return Err(ContainerFault::Stale);
-    };
-    if n != l.last {
+    if !is_pending(link, n) {
         return Err(ContainerFault::Stale);
     }
     if !is_fit(&answer) {
         return Err(ContainerFault::BadAnswer);
     }
-    let op = operation.op();
-    let s = l.s;
-    let states = l.states;
-    match (operation, answer) {
-        (Operation::InitNew(_) | Operation::Load(_, _), Answer::Done) => done(
-            alloc, l, op, 1, more,
-        ),
-        (Operation::InitNew(_) | Operation::Load(_, _), Answer::Refused(why)) => lost(
-            alloc, link, why, more,
-        ),
-        (Operation::InPlace, Answer::Done) => done(alloc, l, op, s, more),
-        (Operation::InPlaceDeactivate, Answer::Done) => done(alloc, l, op, s, more),
-        (Operation::OpenWindow, Answer::Done) => done(alloc, l, op, s, more),
-        (Operation::UiActivate(g), Answer::Tools { menus, border }) => {
-            let told = Tells::Gets(*g, Tools { menus, border });
-            granted(alloc, l, op, told, more)
-        }
-        (Operation::UiDeactivate, Answer::Done) => granted(alloc, l, op, Tells::GivesUp, more),
-        (Operation::Edit(_), Answer::Done) => done(alloc, l, op, s, more),
-        (Operation::Edit(_), Answer::Refused(why)) => noted(alloc, l, why, more),
-        (Operation::Save(_), Answer::Content(content)) => saved(alloc, l, op, content, more),
-        (Operation::SaveCompleted { .. }, Answer::Done) => done(alloc, l, op, s + 1, more),
-        (Operation::Close(CloseOption::SaveIfDirty), Answer::Content(content)) => closed(
-            alloc,
-            link,
-            states,
-            op,
-            Some(content),
-            more,
-        ),
-        (Operation::Close(CloseOption::NoSave), Answer::Done) => closed(
-            alloc, link, states, op, None, more,
-        ),
-        _ => Err(ContainerFault::BadAnswer),
+    match answer {
+        Answer::Done => done_told(alloc, link, more),
+        Answer::Refused(why) => refused_told(alloc, link, why, more),
+        Answer::Content(content) => content_told(alloc, link, content, more),
+        Answer::Tools { menus, border } => tools_told(alloc, link, Tools { menus, border }, more),
     }
 }
 

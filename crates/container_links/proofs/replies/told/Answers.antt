@@ -1,52 +1,34 @@
-use Rattle.std.proofs.Common.{◌≡◌, ◌∙◌, rules, sym}
-use Rattle.storage_tree.specs.declared.class_id.ClassId.{ClassId}
-use Rattle.storage_tree.specs.declared.stored.Stored.{Stored}
-use Rattle.wire_msgs.specs.declared.operation.Operation.TheVariants as operation
-use Rattle.container_links.proofs.MessageReplies.{refused_init, refused_load, refused_edit, refused_getting, refused_giving, refused_in_place, refused_in_place_deactivate, refused_open_window, refused_completed, refused_save}
+use Rattle.std.proofs.Common.{◌∙◌, sym}
+use Rattle.wire_msgs.specs.declared.answer.Answer.TheVariants as told
+use Rattle.container_links.proofs.Answering.{reply_as, stale_reply, unfit_reply}
 use Rattle.container_links.proofs.replies.told.Goals as goal
-use Rattle.container_links.proofs.replies.told.Goals.{in-InitNew-1, in-Load-1}
 
-pub returns-in-Edit-Done-clause-refused : goal.returns-in-Edit-Done-clause-refused
-returns-in-Edit-Done-clause-refused c =
-    refused_edit c.done-in-Edit-Done.result _ _ _ _ _ _ c.in-Some.is c.in-Some-pending.is c.if-n-l.false (sym c.is_fit.ensures ∙ c.if-not-is_fit.false) c.op-op.ensures c.in-Edit-Done.is-1 _ c.in-Edit-Done.is-0 c.done-in-Edit-Done.ensures.refused
+pub returns-then-not-is_pending-clause-refused : goal.returns-then-not-is_pending-clause-refused
+returns-then-not-is_pending-clause-refused c = stale_reply c.args.n c.args.answer c.args.link.now (sym c.is_pending.ensures ∙ c.if-not-is_pending.true)
 
-pub returns-in-SaveCompleted-Done-clause-refused : goal.returns-in-SaveCompleted-Done-clause-refused
-returns-in-SaveCompleted-Done-clause-refused c =
-    refused_completed c.done-in-SaveCompleted-Done.result _ _ _ _ _ _ c.in-Some.is c.in-Some-pending.is c.if-n-l.false (sym c.is_fit.ensures ∙ c.if-not-is_fit.false) c.op-op.ensures c.in-SaveCompleted-Done.is-1 _ _ c.in-SaveCompleted-Done.is-0 c.done-in-SaveCompleted-Done.ensures.refused
+pub returns-then-not-is_fit-clause-refused : goal.returns-then-not-is_fit-clause-refused
+returns-then-not-is_fit-clause-refused c = unfit_reply c.args.n c.args.answer c.args.link.now (sym c.is_pending.ensures ∙ c.if-not-is_pending.false) (sym c.is_fit.ensures ∙ c.if-not-is_fit.true)
 
-pub returns-in-Save-Content-clause-refused : goal.returns-in-Save-Content-clause-refused
-returns-in-Save-Content-clause-refused c =
-    refused_save c.saved.result _ _ _ _ _ _ c.in-Some.is c.in-Some-pending.is c.if-n-l.false (sym c.is_fit.ensures ∙ c.if-not-is_fit.false) c.op-op.ensures _ c.in-Save-Content.is-1 _ c.in-Save-Content.is-0 c.saved.ensures.refused
+pub returns-in-Done-clause-taken : goal.returns-in-Done-clause-taken
+returns-in-Done-clause-taken c = rw (reply_as c.args.n c.args.answer (told.Done) c.args.link.now (sym c.is_pending.ensures ∙ c.if-not-is_pending.false) (sym c.is_fit.ensures ∙ c.if-not-is_fit.false) c.in-Done.is) c.done_told.ensures.taken
 
-pub returns-in-InitNew-Done-clause-refused : goal.returns-in-InitNew-Done-clause-refused
-returns-in-InitNew-Done-clause-refused c =
-    elim c.match-operation.branch [
-      | in-InitNew-1 w ↦
-          let f : (class : ClassId) × (c.in-Some-pending.operation ≡ operation.InitNew class) = search rules in
-          let h = rw w.l-is at c.done-in-InitNew-Done.ensures.refused in
-          refused_init c.done-in-InitNew-Done.result _ _ _ c.in-Some.l _ _ c.in-Some.is c.in-Some-pending.is c.if-n-l.false (sym c.is_fit.ensures ∙ c.if-not-is_fit.false) c.op-op.ensures c.in-InitNew-Done.is-1 f.0 f.1 h
-      | in-Load-1 w ↦
-          let f : (class : ClassId) × (content : Stored) × (c.in-Some-pending.operation ≡ operation.Load class content) = search rules in
-          let h = rw w.l-is at c.done-in-InitNew-Done.ensures.refused in
-          refused_load c.done-in-InitNew-Done.result _ _ _ c.in-Some.l _ _ c.in-Some.is c.in-Some-pending.is c.if-n-l.false (sym c.is_fit.ensures ∙ c.if-not-is_fit.false) c.op-op.ensures c.in-InitNew-Done.is-1 f.0 f.1 f.2 h
-    ]
+pub returns-in-Done-clause-refused : goal.returns-in-Done-clause-refused
+returns-in-Done-clause-refused c = rw (reply_as c.args.n c.args.answer (told.Done) c.args.link.now (sym c.is_pending.ensures ∙ c.if-not-is_pending.false) (sym c.is_fit.ensures ∙ c.if-not-is_fit.false) c.in-Done.is) c.done_told.ensures.refused
 
-pub returns-in-InPlace-Done-clause-refused : goal.returns-in-InPlace-Done-clause-refused
-returns-in-InPlace-Done-clause-refused c =
-    refused_in_place c.done.result _ _ _ _ _ _ c.in-Some.is c.in-Some-pending.is c.if-n-l.false (sym c.is_fit.ensures ∙ c.if-not-is_fit.false) c.op-op.ensures c.in-InPlace-Done.is-1 c.in-InPlace-Done.is-0 c.done.ensures.refused
+pub returns-in-Refused-clause-taken : goal.returns-in-Refused-clause-taken
+returns-in-Refused-clause-taken c = rw (reply_as c.args.n c.args.answer (told.Refused c.in-Refused.why) c.args.link.now (sym c.is_pending.ensures ∙ c.if-not-is_pending.false) (sym c.is_fit.ensures ∙ c.if-not-is_fit.false) c.in-Refused.is) c.refused_told.ensures.taken
 
-pub returns-in-InPlaceDeactivate-Done-clause-refused : goal.returns-in-InPlaceDeactivate-Done-clause-refused
-returns-in-InPlaceDeactivate-Done-clause-refused c =
-    refused_in_place_deactivate c.done-in-InPlaceDeactivate-Done.result _ _ _ _ _ _ c.in-Some.is c.in-Some-pending.is c.if-n-l.false (sym c.is_fit.ensures ∙ c.if-not-is_fit.false) c.op-op.ensures c.in-InPlaceDeactivate-Done.is-1 c.in-InPlaceDeactivate-Done.is-0 c.done-in-InPlaceDeactivate-Done.ensures.refused
+pub returns-in-Refused-clause-refused : goal.returns-in-Refused-clause-refused
+returns-in-Refused-clause-refused c = rw (reply_as c.args.n c.args.answer (told.Refused c.in-Refused.why) c.args.link.now (sym c.is_pending.ensures ∙ c.if-not-is_pending.false) (sym c.is_fit.ensures ∙ c.if-not-is_fit.false) c.in-Refused.is) c.refused_told.ensures.refused
 
-pub returns-in-OpenWindow-Done-clause-refused : goal.returns-in-OpenWindow-Done-clause-refused
-returns-in-OpenWindow-Done-clause-refused c =
-    refused_open_window c.done-in-OpenWindow-Done.result _ _ _ _ _ _ c.in-Some.is c.in-Some-pending.is c.if-n-l.false (sym c.is_fit.ensures ∙ c.if-not-is_fit.false) c.op-op.ensures c.in-OpenWindow-Done.is-1 c.in-OpenWindow-Done.is-0 c.done-in-OpenWindow-Done.ensures.refused
+pub returns-in-Content-clause-taken : goal.returns-in-Content-clause-taken
+returns-in-Content-clause-taken c = rw (reply_as c.args.n c.args.answer (told.Content c.in-Content.content) c.args.link.now (sym c.is_pending.ensures ∙ c.if-not-is_pending.false) (sym c.is_fit.ensures ∙ c.if-not-is_fit.false) c.in-Content.is) c.content_told.ensures.taken
 
-pub returns-in-UiDeactivate-Done-clause-refused : goal.returns-in-UiDeactivate-Done-clause-refused
-returns-in-UiDeactivate-Done-clause-refused c =
-    refused_giving c.granted-in-UiDeactivate-Done.result _ _ _ _ _ _ c.in-Some.is c.in-Some-pending.is c.if-n-l.false (sym c.is_fit.ensures ∙ c.if-not-is_fit.false) c.op-op.ensures c.in-UiDeactivate-Done.is-1 c.in-UiDeactivate-Done.is-0 c.granted-in-UiDeactivate-Done.ensures.refused
+pub returns-in-Content-clause-refused : goal.returns-in-Content-clause-refused
+returns-in-Content-clause-refused c = rw (reply_as c.args.n c.args.answer (told.Content c.in-Content.content) c.args.link.now (sym c.is_pending.ensures ∙ c.if-not-is_pending.false) (sym c.is_fit.ensures ∙ c.if-not-is_fit.false) c.in-Content.is) c.content_told.ensures.refused
 
-pub returns-in-UiActivate-Tools-clause-refused : goal.returns-in-UiActivate-Tools-clause-refused
-returns-in-UiActivate-Tools-clause-refused c =
-    refused_getting c.granted.result _ _ _ _ _ _ c.in-Some.is c.in-Some-pending.is c.if-n-l.false (sym c.is_fit.ensures ∙ c.if-not-is_fit.false) c.op-op.ensures _ _ _ c.in-UiActivate-Tools.is-1 c.in-UiActivate-Tools.is-0 c.granted.ensures.refused
+pub returns-in-Tools-clause-taken : goal.returns-in-Tools-clause-taken
+returns-in-Tools-clause-taken c = rw (reply_as c.args.n c.args.answer (told.Tools c.in-Tools.menus c.in-Tools.border) c.args.link.now (sym c.is_pending.ensures ∙ c.if-not-is_pending.false) (sym c.is_fit.ensures ∙ c.if-not-is_fit.false) c.in-Tools.is) c.tools_told.ensures.taken
+
+pub returns-in-Tools-clause-refused : goal.returns-in-Tools-clause-refused
+returns-in-Tools-clause-refused c = rw (reply_as c.args.n c.args.answer (told.Tools c.in-Tools.menus c.in-Tools.border) c.args.link.now (sym c.is_pending.ensures ∙ c.if-not-is_pending.false) (sym c.is_fit.ensures ∙ c.if-not-is_fit.false) c.in-Tools.is) c.tools_told.ensures.refused
