@@ -59,8 +59,10 @@ pub(crate) fn when_done(operation: &Operation, s: u32) -> WhenDone
         Operation::HandsOff => WhenDone::Undone,
         Operation::SaveCompleted { .. } => WhenDone::Goes(s + 1),
         Operation::SaveDropped(_) => WhenDone::Undone,
-        Operation::Close(CloseOption::SaveIfDirty) => WhenDone::Undone,
-        Operation::Close(CloseOption::NoSave) => WhenDone::Ends,
+        Operation::Close(option) => match option {
+            CloseOption::SaveIfDirty => WhenDone::Undone,
+            CloseOption::NoSave => WhenDone::Ends,
+        },
     }
 }
 
@@ -82,7 +84,10 @@ pub(crate) fn when_content(operation: &Operation) -> WhenContent
 {
     match operation {
         Operation::Save(_) => WhenContent::Saved,
-        Operation::Close(CloseOption::SaveIfDirty) => WhenContent::Closed,
+        Operation::Close(option) => match option {
+            CloseOption::SaveIfDirty => WhenContent::Closed,
+            CloseOption::NoSave => WhenContent::Unasked,
+        },
         _ => WhenContent::Unasked,
     }
 }
