@@ -1,5 +1,5 @@
 -- What an answer makes of a link, by what it means for the pending operation.
-use Rattle.std.proofs.Common.{◌≡◌, ◌∙◌, ◌==◌, ◌&&◌, ◌+◌, ◌≤◌, ℕ, List, Bool, true, false, Option, Some, None, is_some, Result, Ok, Err, refl, ap, sym, subst, arith}
+use Rattle.std.proofs.Common.{◌≡◌, ◌∙◌, ◌==◌, ◌&&◌, ℕ, List, true, false, Option, Some, None, is_some, Result, Err, refl, ap, sym}
 use Rattle.wire_msgs.specs.declared.answer.Answer.{Answer}
 use Rattle.wire_msgs.specs.declared.answer.Answer.TheVariants as told
 use Rattle.wire_msgs.specs.declared.operation.Operation.{Operation}
@@ -16,7 +16,6 @@ use Rattle.container_model.specs.declared.fault.ContainerFault.{ContainerFault}
 use Rattle.container_model.specs.declared.fault.ContainerFault.TheVariants.{Stale, BadAnswer}
 use Rattle.container_model.specs.declared.grants.Tells.TheVariants as tells
 use Rattle.container_model.specs.Messages.{Replied, closed_with, done_link, granted_link, is_fit, lost, noted, replied, reply_link, reply_pending, saved_link}
-use Rattle.container_model.specs.Room.{IfLinked, IsRoomy}
 use Rattle.container_links.specs.Answered.{answered, answered_at, grant_of, is_pending, when_content, when_done, when_refused}
 use Rattle.container_links.specs.declared.turns.WhenDone.{WhenDone}
 use Rattle.container_links.specs.declared.turns.WhenDone.TheVariants.{Goes, GivesUp, Ends, Undone}
@@ -54,10 +53,6 @@ fit_reply n answer (Some l) e f = fit_at n answer l l.pending e f
 
 pub reply_as : (n : ℕ) (answer is : Answer) (link : Option Link) → is_pending n link ≡ true → is_fit answer ≡ true → answer ≡ is → reply_link n answer link ≡ answered link is
 reply_as n answer is link e f a = fit_reply n answer link e f ∙ ap (answered link) a
-
--- numbers that are left to an activation
-pub calls_left : (link : Option Link) (l : Link) → IfLinked (IsRoomy 1000000 0) link → link ≡ Some l → IsRoomy 1000000 0 l
-calls_left link l r e = subst (IfLinked (IsRoomy 1000000 0)) e r
 
 -- what each kind of answer makes of an activation, by what it means for the operation
 abbrev by_done : Link → Op → WhenDone → Result Replied ContainerFault
