@@ -12,3 +12,5 @@ pub mod VerbsPlaced
 pub mod Missing
 pub mod VerbsTaken
 pub mod VerbsApart
+pub mod ImagesMade
+pub mod CommandsRun

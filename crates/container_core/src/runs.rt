@@ -58,17 +58,18 @@ impl State {
         ensures refused { IfErr result (λ e. IfSome (slice_get self.old.objects i) (λ o. Refuses (run_object self.old o inc) e)) }
         ensures kept { OnErr result (self.new ≡ self.old) }
     {
-        if self.objects[i].link.is_some() {
+        let object = &self.objects[i];
+        if object.link.is_some() {
             return Err(ContainerFault::WrongState);
         }
-        if !checks::is_known_class(self.objects[i].class) {
+        if !checks::is_known_class(object.class) {
             return Err(ContainerFault::UnknownClass);
         }
         if (self.numbers as usize) < checks::MARGIN || self.last_act >= self.numbers {
             return Err(ContainerFault::NumbersSpent);
         }
         let act = self.last_act + 1;
-        let Ok((link, actions)) = begun(alloc, &self.objects[i], inc, act) else {
+        let Ok((link, actions)) = begun(alloc, object, inc, act) else {
             return Err(ContainerFault::NoMemory);
         };
         self.last_act = act;
