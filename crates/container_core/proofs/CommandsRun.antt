@@ -1,5 +1,5 @@
 -- A passive object that is activated or goes, in its container.
-use Rattle.std.proofs.Common.{◌≡◌, ◌<◌, ◌≤◌, ◌+◌, arith, ◌||◌, [], ◌∷◌, ℕ, Bool, true, false, not, List, length, nat_le, nat_lt, Option, Some, None, Result, Ok, Err, IfSome, IsOk, get_or, set, slice_get, refl, sym, ◌∙◌, ap, subst}
+use Rattle.std.proofs.Common.{◌≡◌, ◌<◌, ◌≤◌, ◌+◌, arith, ◌||◌, [], ◌∷◌, ℕ, Bool, true, false, not, List, length, nat_le, nat_lt, Some, Result, Ok, Err, IfSome, get_or, set, slice_get, sym, ◌∙◌, ap, subst}
 use Rattle.std.specs.Prelude.{is_some, remove}
 use Rattle.std.proofs.lemmas.Bool.Decides.{nat_tests}
 use Rattle.std.proofs.lemmas.List.{get_or_default}
@@ -13,7 +13,7 @@ use Rattle.container_model.specs.declared.record.Link.{Link}
 use Rattle.container_model.specs.declared.record.Object.{Object}
 use Rattle.container_model.specs.Commands.{begun_link, delete_made, first_operation, is_known_class, run_made, run_object}
 use Rattle.container_model.specs.Numbered.{IsObjectAt}
-use Rattle.container_model.specs.Record.{MARGIN, Record, Refuses, Took, acts, counts_none, is_object, quiet_answer, sends, unless, without_first}
+use Rattle.container_model.specs.Record.{MARGIN, Record, Took, acts, counts_none, is_object, quiet_answer, sends, unless, without_first}
 use Rattle.container_core.proofs.VerbsPlaced.{object_here, own_here}
 
 -- what holds of the object that stands there

@@ -1,11 +1,10 @@
 -- The document of a frame whose commit is asked or in doubt, and why there is none.
-use Rattle.std.proofs.Common.{◌≡◌, ℕ, Bool, true, false, List, Option, Some, None, Result, Ok, Err, get_or, refl, sym, ◌∙◌, ap, subst, if◌then◌else◌}
+use Rattle.std.proofs.Common.{◌≡◌, ℕ, Bool, true, false, List, Some, None, Result, Ok, Err, get_or, refl, sym, ◌∙◌, ap, subst, if◌then◌else◌}
 use Rattle.std.specs.Prelude.{is_ok}
 use Rattle.wire_msgs.specs.Found.{nth}
 use Rattle.file_model.specs.declared.fault.WriteFault.{WriteFault}
 use Rattle.file_model.specs.Refusals.{writable}
 use Rattle.container_model.specs.declared.answer.Part.{Part}
-use Rattle.container_model.specs.declared.fault.ContainerFault.{ContainerFault}
 use Rattle.container_model.specs.declared.fault.ContainerFault.TheVariants.{NoSuch, WrongState, Full}
 use Rattle.container_model.specs.declared.record.Frame.{Frame}
 use Rattle.container_model.specs.declared.record.Object.{Object}

@@ -3,3 +3,4 @@ mod Gates
 mod Kept
 mod Moments
 mod Recovered
+mod Replaced

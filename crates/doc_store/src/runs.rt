@@ -46,6 +46,5 @@ pub(crate) fn replace<D: Disk>(disk: &mut D, document: &[u8]) -> Result<(), Disk
     stage(disk, document)?;
     set_gate(disk, OPEN)?;
     install(disk, document)?;
-    set_gate(disk, CLOSED)?;
-    Ok(())
+    set_gate(disk, CLOSED)
 }

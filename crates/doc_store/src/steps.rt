@@ -23,8 +23,7 @@ pub(crate) fn settle<D: Disk>(disk: &mut D) -> Result<(), DiskFailure>
     ensures count { Counts (D.failed disk.old) (D.failed disk.new) result }
 {
     disk.sync(Area::Document)?;
-    disk.sync(Area::Journal)?;
-    Ok(())
+    disk.sync(Area::Journal)
 }
 
 /// Reads the journal, and the document in it where its gate is open.
@@ -82,8 +81,7 @@ pub(crate) fn stage<D: Disk>(disk: &mut D, document: &[u8]) -> Result<(), DiskFa
     disk.write(Area::Journal, 1, &size.to_le_bytes())?;
     disk.write(Area::Journal, HEADER, document)?;
     disk.cut(Area::Journal, HEADER + size)?;
-    disk.sync(Area::Journal)?;
-    Ok(())
+    disk.sync(Area::Journal)
 }
 
 /// Writes the gate.
@@ -95,8 +93,7 @@ pub(crate) fn set_gate<D: Disk>(disk: &mut D, gate: u8) -> Result<(), DiskFailur
     ensures count { Counts (D.failed disk.old) (D.failed disk.new) result }
 {
     disk.write(Area::Journal, 0, &[gate])?;
-    disk.sync(Area::Journal)?;
-    Ok(())
+    disk.sync(Area::Journal)
 }
 
 /// Writes the document.
@@ -110,6 +107,5 @@ pub(crate) fn install<D: Disk>(disk: &mut D, document: &[u8]) -> Result<(), Disk
     let area = Area::Document;
     disk.write(area, 0, document)?;
     disk.cut(area, document.len() as u64)?;
-    disk.sync(area)?;
-    Ok(())
+    disk.sync(area)
 }
