@@ -1,12 +1,11 @@
--- An object and its frame, where they are there, and where one isn't.
-use Rattle.std.proofs.Common.{◌≡◌, ℕ, Bool, List, Result, Option, Some, None, get_or, sym, ◌∙◌, ap, subst}
+-- An object, or its frame, that isn't there.
+use Rattle.std.proofs.Common.{◌≡◌, ℕ, Bool, List, Result, Option, Some, None, get_or, sym, ◌∙◌, ap, subst, slice_get}
 use Rattle.wire_msgs.specs.Found.{IsPlace, find, nth}
 use Rattle.container_model.specs.declared.fault.ContainerFault.{ContainerFault}
 use Rattle.container_model.specs.declared.record.Frame.{Frame}
 use Rattle.container_model.specs.declared.record.Object.{Object}
-use Rattle.container_model.specs.Numbered.{IsNth}
 use Rattle.container_model.specs.Record.{Record, Took, is_object}
-use Rattle.container_core.proofs.VerbsPlaced.{frame_here, object_here}
+use Rattle.container_core.proofs.VerbsPlaced.{object_here}
 
 -- what a step says of an object that isn't there
 pub no_object : (s r : Record) (step : Option Object → Result Took ContainerFault) (n : ℕ) (os : List Object) → s ≡ r → os ≡ s.objects → find (is_object n) os ≡ None
@@ -25,15 +24,3 @@ no_frame s r step within is_meant i os fs x e eo ef is p at none =
     let q : IsPlace is_meant r.objects i = subst (λ (xs : List Object). IsPlace is_meant xs i) objects p in
     let here : find is_meant r.objects ≡ Some x = q.found ∙ object_here s r i x e q.fits at in
     ap step here ∙ (is x ∙ ap (within x) (ap (λ (ys : List Frame). nth ys x.frame) (sym frames) ∙ none))
-
--- and of one that is there with its frame
-pub in_its_frame : (s r : Record) (step : Option Object → Result Took ContainerFault) (within : Object → Option Frame → Result Took ContainerFault) (is_meant : Object → Bool) (i at : ℕ) (os : List Object) (fs : List Frame) (x : Object) (y : Frame)
-    → s ≡ r → os ≡ s.objects → fs ≡ s.frames → ((o : Object) → step (Some o) ≡ within o (nth r.frames o.frame))
-    → IsPlace is_meant os i → x ≡ get_or s.objects i x → IsNth x.frame fs at → y ≡ get_or s.frames at y → step (find is_meant r.objects) ≡ within x (Some y)
-in_its_frame s r step within is_meant i at os fs x y e eo ef is p read there again =
-    let objects : os ≡ r.objects = eo ∙ ap (λ (t : Record). t.objects) e in
-    let frames : fs ≡ r.frames = ef ∙ ap (λ (t : Record). t.frames) e in
-    let q : IsPlace is_meant r.objects i = subst (λ (xs : List Object). IsPlace is_meant xs i) objects p in
-    let here : find is_meant r.objects ≡ Some x = q.found ∙ object_here s r i x e q.fits read in
-    let n : IsNth x.frame r.frames at = subst (λ (ys : List Frame). IsNth x.frame ys at) frames there in
-    ap step here ∙ (is x ∙ ap (within x) (n.found ∙ frame_here s r at y e n.fits again))
