@@ -5,7 +5,7 @@ ghost use Rattle.message_bytes.specs.Holding.{Holds, IsBody};
 ghost use Rattle.message_model.specs.Frames.{shown};
 ghost use Rattle.std.specs.Prelude.{◌≡◌, ◌<◌, ◌++◌, ℕ, List, IfOk, None, OnErr, length, slice_set, take};
 
-use crate::front::{Front, front_of, take_frames};
+use crate::front::{Front, front_of, put_behind, take_frames};
 use crate::unfinished::{Unfinished, body_of};
 use message_drafts::body::Body;
 use message_model::fault::WireFault;
@@ -68,9 +68,9 @@ fn close_body(
 {
     let before = waiting.len();
     // The place of the body's frame, which comes last: no step behind it fails.
-    match waiting.push_back(Frame::Turn) {
+    match put_behind(waiting, Frame::Turn) {
         Ok(()) => {}
-        Err(_) => return Err(AllocError),
+        Err(fault) => return Err(fault),
     }
     let (rest, shown) = match take_behind(alloc, behind, waiting) {
         Ok(taken) => taken,
@@ -156,9 +156,9 @@ fn feed_few(
             }
         }
         Ok(Front::Whole(frame, used)) => {
-            match waiting.push_back(frame) {
+            match put_behind(waiting, frame) {
                 Ok(()) => {}
-                Err(_) => return Err(AllocError),
+                Err(fault) => return Err(fault),
             }
             let (_, behind) = piece.split_at(used.saturating_sub(len).min(piece.len()));
             take_behind(alloc, behind, waiting)

@@ -1,7 +1,7 @@
 //! The frame at the front of bytes.
 
 ghost use Rattle.message_bytes.specs.Fronts.{Ends, FrontIs, HeadIs, LengthIs, Took};
-ghost use Rattle.std.specs.Prelude.{◌≡◌, IfOk, OnErr, drop, take, length};
+ghost use Rattle.std.specs.Prelude.{[], ◌∷◌, ◌++◌, ◌≡◌, IfOk, OnErr, OnOk, drop, take, length};
 
 use message_bodies::body::{BodyFault, number_in, read_body};
 use message_model::codes::{Kind, kind_of};
@@ -102,6 +102,15 @@ pub(crate) fn front_of(alloc: Global, xs: &[u8]) -> Result<Front, AllocError>
     }
 }
 
+/// Puts a frame behind those that wait. Where this is refused, the frame is let go of here, once for all who call it.
+pub(crate) fn put_behind(waiting: &mut VecDeque<Frame>, frame: Frame) -> Result<(), AllocError>
+    ensures items { OnOk result (waiting.new.items ≡ waiting.old.items ++ frame ∷ []) }
+    ensures kept { OnErr result (waiting.new.items ≡ waiting.old.items) }
+{
+    waiting.push_back(frame)?;
+    Ok(())
+}
+
 /// Puts the frames at the front of bytes behind those that wait. It gives how many bytes they have, and the fault that the
 /// bytes behind them show.
 ///
@@ -121,9 +130,9 @@ pub(crate) fn take_frames(
             Ok(Front::Partial) => return Ok((used, None)),
             Ok(Front::Faulty(fault)) => return Ok((used, Some(fault))),
             Ok(Front::Whole(frame, n)) => {
-                match waiting.push_back(frame) {
+                match put_behind(waiting, frame) {
                     Ok(()) => {}
-                    Err(_) => return Err(AllocError),
+                    Err(fault) => return Err(fault),
                 }
                 used += n;
             }

@@ -16,7 +16,6 @@ pub(crate) const MOST_HELD: usize = 82;
 const HEAD_LEN: usize = 10;
 
 /// A frame of which some bytes came: these bytes, or where it is longer, its body.
-#[derive(Drop)]
 pub(crate) struct Unfinished {
     held: [u8; MOST_HELD],
     len: usize,
@@ -32,6 +31,18 @@ impl Model for Unfinished {
     ghost view = { λ u. record { front = take u.len u.held; body = u.body } };
 
     ghost invariant = { λ u. u.len ≤ MOST_HELD };
+}
+
+// Written out, so that letting go of it is one call for a proof, with or without a body.
+impl Drop for Unfinished {
+    fn drop(self) {
+        let Unfinished {
+            held: _,
+            len: _,
+            body,
+        } = self;
+        drop(body);
+    }
 }
 
 /// The body of a frame of which these bytes came.

@@ -34,12 +34,12 @@ returns-in-Ok-Whole-clause-leaves c =
     on_ok c.take_behind-in-Ok-Whole.result
     (λ x l none. subst (λ (y : List ℕ). Leaves c.args.waiting.now.items c.take_behind-in-Ok-Whole.new.waiting.items y x.0 x.1) (sym (held_parts held piece f n used none within w at at_is))
     (subst (λ (b : List ℕ). Leaves c.args.waiting.now.items c.take_behind-in-Ok-Whole.new.waiting.items (spell f ++ b) x.0 x.1) c.split_at-in-Ok-Whole.ensures.back
-    (leaves_pushed c.args.waiting.now.items c.take_behind-in-Ok-Whole.new.waiting.items f (spell f) c.split_at-in-Ok-Whole.result.1.now x.0 x.1 w.frame refl (rw c.in-Ok-push_back.ensures.items at l))))
+    (leaves_pushed c.args.waiting.now.items c.take_behind-in-Ok-Whole.new.waiting.items f (spell f) c.split_at-in-Ok-Whole.result.1.now x.0 x.1 w.frame refl (rw c.in-Ok-put_behind.ensures.items at l))))
     c.take_behind-in-Ok-Whole.ensures.leaves
 
 pub returns-in-Ok-Whole-clause-kept : goal.returns-in-Ok-Whole-clause-kept
 returns-in-Ok-Whole-clause-kept c =
-    on_err c.take_behind-in-Ok-Whole.result (λ e. taken_back c.args.waiting.now.items c.take_behind-in-Ok-Whole.new.waiting.items c.in-Ok-Whole.frame (rw c.in-Ok-push_back.ensures.items at e)) c.take_behind-in-Ok-Whole.ensures.kept
+    on_err c.take_behind-in-Ok-Whole.result (λ e. taken_back c.args.waiting.now.items c.take_behind-in-Ok-Whole.new.waiting.items c.in-Ok-Whole.frame (rw c.in-Ok-put_behind.ensures.items at e)) c.take_behind-in-Ok-Whole.ensures.kept
 
 pub returns-in-Ok-Faulty-clause-leaves : goal.returns-in-Ok-Faulty-clause-leaves
 returns-in-Ok-Faulty-clause-leaves c none =
