@@ -1,4 +1,5 @@
 pub mod Adding
 pub mod Fronts
+pub mod Heads
 pub mod Bodies
 pub mod Leaving
