@@ -1,5 +1,5 @@
 -- A walk over the children of a storage.
-use Rattle.std.proofs.Common.{◌≡◌, ◌+◌, ℕ, List, ◌∷◌, refl, sym, ◌∙◌, ap, arith, ◌++◌, append_assoc}
+use Rattle.std.proofs.Common.{◌≡◌, ◌≤◌, ◌<◌, ◌+◌, ℕ, min, List, [], ◌∷◌, refl, sym, ◌∙◌, ap, arith, ◌++◌, append_assoc}
 use Rattle.storage_tree.specs.Tree.{Tree, Children, tree}
 use Rattle.storage_tree.specs.Change.{Seen, bytes, inner, child}
 use Rattle.storage_tree.specs.View.{seen, children}
@@ -29,6 +29,27 @@ ids-child id k n (inner t) cs = let e : id + 1 + entries t ≡ id + (1 + entries
 pub ids-first : (id : ℕ) (rest es : Entries) (k : List ℕ) (v : List ℕ × Node) → rest ≡ (k, v) ∷ es
     → ids_from id (children rest) ≡ id ∷ ids_from (id + entries_with (seen v.1)) (children es)
 ids-first id rest es k v e = ap (λ r. ids_from id (children r)) e ∙ ids-child id k v.0 (seen v.1) (children es)
+
+one-entry : (s : Seen) → 1 ≤ entries_with s
+one-entry (bytes b) = omega arith
+one-entry (inner t) = omega arith
+
+-- one more child has an id
+module _ (rest es : Entries) (k : List ℕ) (v : List ℕ × Node) (steps : rest ≡ (k, v) ∷ es)
+    (first id count all most : ℕ) (before : id + entries_of (children rest) ≡ first + all) (few : first + all < most) (counted : count ≡ min most (entries_with (seen v.1))) where
+  whole-count : count ≡ entries_with (seen v.1)
+  whole-count = omega (arith, entries-first rest es k v steps, before, few, counted)
+
+  pub ids-counted : id + count + entries_of (children es) ≡ first + all
+  ids-counted = omega (arith, entries-first rest es k v steps, before, whole-count)
+
+  pub ids-few : (len more : ℕ) → more ≡ len + 1 → len + first ≤ id → more + first ≤ id + count
+  ids-few len more m h = omega (arith, one-entry (seen v.1), whole-count, m, h)
+
+  pub ids-listed : (ids new whole : List ℕ) → new ≡ ids ++ id ∷ [] → ids ++ ids_from id (children rest) ≡ whole → new ++ ids_from (id + count) (children es) ≡ whole
+  ids-listed ids new whole pushed h =
+      ap (λ o. o ++ ids_from (id + count) (children es)) pushed ∙ append_assoc ids (id ∷ []) (ids_from (id + count) (children es))
+      ∙ ap (λ r. ids ++ r) (ap (λ n. id ∷ ids_from (id + n) (children es)) whole-count ∙ sym (ids-first id rest es k v steps)) ∙ h
 
 minis-child : (k n : List ℕ) (s : Seen) (cs : Children) → over_streams_of short_pieces (child k (n, s) cs) ≡ minis_with s + over_streams_of short_pieces cs
 minis-child k n (bytes b) cs = refl

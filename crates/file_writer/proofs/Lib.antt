@@ -2,3 +2,4 @@ pub mod ContentsWalk
 pub mod ContentsSiblings
 pub mod Denoted
 pub mod ContentsPush
+pub mod ContentsStreams
