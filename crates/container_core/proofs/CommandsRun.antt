@@ -14,7 +14,7 @@ use Rattle.container_model.specs.declared.record.Object.{Object}
 use Rattle.container_model.specs.Commands.{begun_link, delete_made, first_operation, is_known_class, run_made, run_object}
 use Rattle.container_model.specs.Numbered.{IsObjectAt}
 use Rattle.container_model.specs.Record.{MARGIN, Record, Took, acts, counts_none, is_object, quiet_answer, sends, unless, without_first}
-use Rattle.container_core.proofs.VerbsPlaced.{object_here, own_here}
+use Rattle.container_steps.proofs.VerbsPlaced.{object_here, own_here}
 
 -- what holds of the object that stands there
 pub at_object : (P : Object → Type 0) (s r : Record) (i : ℕ) (x : Object) → s ≡ r → i < length r.objects → x ≡ get_or s.objects i x → P x → IfSome (slice_get r.objects i) P
@@ -87,9 +87,6 @@ run_is s r u i inc x x2 y l actions a e p at again link sent new is told =
     ap (λ (t : Record). run_made t x inc) (sym e) ∙ (ap (λ t. counts_none t (acts (sends (Call inc (s.last_act + 1) 1 (first_operation x x.work.streams) ∷ [])))) rec ∙ ap (counts_none u) answer)
 
 -- an object that is deleted
-abbrev deleting : Record → Object → Result Took ContainerFault
-deleting r x = unless (is_some x.link) WrongState (Ok (delete_made r x))
-
 pub delete_linked : (r : Record) (x : Object) → is_some x.link ≡ true → unless (is_some x.link) WrongState (Ok (delete_made r x)) ≡ Err WrongState
 delete_linked r x linked = ap (λ b. unless b WrongState (Ok (delete_made r x))) linked
 

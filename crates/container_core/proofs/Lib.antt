@@ -5,12 +5,8 @@ pub mod GrantsTold
 pub mod GrantsWaiting
 pub mod RepliesMade
 pub mod ReapsMade
-pub mod CommandsEdit
-pub mod CommandsSave
 pub mod StepsKeep
-pub mod VerbsPlaced
 pub mod Missing
 pub mod VerbsTaken
-pub mod VerbsApart
 pub mod ImagesMade
 pub mod CommandsRun

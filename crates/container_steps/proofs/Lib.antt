@@ -10,6 +10,10 @@ pub mod SteadyRuns
 pub mod SteadySteps
 pub mod SteadyTaking
 pub mod SteadyVerbs
+pub mod CommandsEdit
+pub mod CommandsSave
+pub mod VerbsApart
+pub mod VerbsPlaced
 pub use Rattle.container_steady.proofs.SteadyFinds
 pub use Rattle.container_steady.proofs.SteadyLookups
 pub use Rattle.container_steady.proofs.SteadyRecords

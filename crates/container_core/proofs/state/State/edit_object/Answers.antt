@@ -1,6 +1,6 @@
 use Rattle.std.proofs.Common.{refl}
 use Rattle.container_model.specs.Commands.{edit_linked}
-use Rattle.container_core.proofs.CommandsEdit.{object_refused, object_taken}
+use Rattle.container_steps.proofs.CommandsEdit.{object_refused, object_taken}
 use Rattle.container_core.proofs.state.State.edit_object.Goals as goal
 
 pub returns-in-Err-clause-refused : goal.returns-in-Err-clause-refused

@@ -7,7 +7,7 @@ use Rattle.container_model.specs.Numbered.{IsNth}
 use Rattle.container_model.specs.Record.{Record, acts, asked_object}
 use Rattle.container_model.specs.declared.record.Frame.{Frame}
 use Rattle.container_model.specs.declared.record.Object.{Object}
-use Rattle.container_core.proofs.CommandsSave.{saved_is, saved_taken}
+use Rattle.container_steps.proofs.CommandsSave.{saved_is, saved_taken}
 use Rattle.container_core.proofs.state.State.save_numbered.Goals as goal
 
 pub returns-clause-taken : goal.returns-clause-taken

@@ -11,7 +11,7 @@ use Rattle.container_model.specs.Numbered.{IsNth}
 use Rattle.container_model.specs.Record.{Record, Refuses, counts_none, is_object}
 use Rattle.container_model.specs.Verbs.{verb, verb_at, verb_in, verb_linked}
 use Rattle.container_core.proofs.Missing.{no_object, no_frame}
-use Rattle.container_core.proofs.VerbsPlaced.{at_both, frame_here, object_here, verb_is}
+use Rattle.container_steps.proofs.VerbsPlaced.{at_both, frame_here, object_here, verb_is}
 use Rattle.container_core.proofs.state.State.verb.Goals as goal
 
 pub returns-in_default-clause-refused : goal.returns-in_default-clause-refused
