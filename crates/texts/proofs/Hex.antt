@@ -1,8 +1,13 @@
 -- Bytes in hexadecimal.
-use Rattle.std.proofs.Common.{◌≡◌, ◌≤◌, ◌-◌, ◌++◌, ℕ, List, [], ◌∷◌, Option, Some, None, true, false, is_some, length, get_or, take, drop, sym, ap, ◌∙◌, arith, append_assoc, refl, rules}
+use Rattle.std.proofs.Common.{◌≡◌, ◌≤◌, ◌-◌, ◌++◌, ℕ, List, [], ◌∷◌, Option, Some, None, false, is_some, length, get_or, take, drop, sym, ap, ◌∙◌, arith, append_assoc, refl, rules}
 use Rattle.std.specs.Option.{option_map}
 use Rattle.std.proofs.lemmas.List.{take_rest}
 use Rattle.texts.specs.Words.{hex_read, hex_digit, pair_value, onto}
+
+-- no bytes before those that are read
+pub behind-nothing : {A : Type 0} (told : Option (List A)) → option_map (λ bs. [] ++ bs) told ≡ told
+behind-nothing None = refl
+behind-nothing (Some bs) = refl
 
 -- one more byte, behind those read so far
 pub onto-behind : {A : Type 0} (out : List A) (b : A) (told : Option A) (more : Option (List A)) → told ≡ Some b

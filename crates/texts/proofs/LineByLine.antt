@@ -1,5 +1,5 @@
 -- Lines of a text, one after another.
-use Rattle.std.proofs.Common.{◌≡◌, ◌≤◌, ◌<◌, ◌+◌, ◌-◌, ◌++◌, ℕ, zero, suc, Bool, true, false, List, [], ◌∷◌, Option, Some, None, Result, Ok, Err, cond, length, take, drop, slice_get, refl, sym, ap, ◌∙◌, subst, arith, append_assoc, append-nil, nat_eq, add-zero, rules}
+use Rattle.std.proofs.Common.{◌≡◌, ◌≤◌, ◌<◌, ◌+◌, ◌-◌, ◌++◌, ℕ, zero, suc, true, false, List, [], ◌∷◌, Option, Some, None, Result, Ok, Err, cond, length, take, drop, slice_get, refl, sym, ap, ◌∙◌, subst, arith, append-nil, nat_eq, add-zero, rules}
 use Rattle.std.specs.Prelude.{IsOk, IsSome}
 use Rattle.std.proofs.lemmas.List.{take-append-drop, length-take}
 use Rattle.std.proofs.lemmas.List.Splits.{length-slice_split}
@@ -7,7 +7,7 @@ use Rattle.std.proofs.lemmas.List.Sums.{count_by-le-length}
 use Rattle.embed_core.specs.Words.{pieces, lines}
 use Rattle.texts.specs.Lines.{is_skipped, put_first, lines_read, MayLackMemory}
 use Rattle.texts.specs.declared.lines.SyntaxFault.{SyntaxFault}
-use Rattle.texts.specs.declared.lines.SyntaxFault.TheVariants.{Bad, NoMemory}
+use Rattle.texts.specs.declared.lines.SyntaxFault.TheVariants.{Bad}
 
 -- there are no more pieces than bytes, and one
 pub length-pieces : (c : ℕ) (text : List ℕ) → length (pieces c text) ≤ length text + 1

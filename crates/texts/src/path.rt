@@ -1,8 +1,9 @@
 //! Paths of names, as they are spelled in texts.
 
-ghost use Rattle.std.specs.Prelude.{◌≡◌, ◌<◌, ℕ, List, Some, None, Ok, Err, length, is_some, IfErr, IfNone, IfOk, IfSome, IsOk, IsSome, MatchResult, OnOk, vec_items};
+ghost use Rattle.cfb_names.specs.Names.{name_read as taken_name};
 ghost use Rattle.std.specs.Option.{option_map};
-ghost use Rattle.texts.specs.Paths.{name_read, named, names_read, path_read, spelled_names};
+ghost use Rattle.std.specs.Prelude.{◌≡◌, ◌<◌, ◌++◌, [], ◌∷◌, Some, None, Ok, Err, true, false, length, is_some, IfErr, IfNone, IfOk, IfSome, IsOk, IsSome, MatchResult, OnOk};
+ghost use Rattle.texts.specs.Paths.{name_read, names_read, path_read};
 ghost use Rattle.texts.specs.Words.{onto};
 
 use crate::words::{is_hidden, lower_digit};
@@ -11,7 +12,6 @@ use cfb_names::name::Name;
 use embed_core::words::Pieces;
 use std::alloc::{AllocError, Global};
 use std::marker::Model;
-use storage_tree::bytes::Bytes;
 
 /// The names of a path, or why a directory doesn't take one of them.
 #[derive(Drop)]
@@ -31,44 +31,22 @@ impl Model for Path {
 }
 
 impl Path {
-    /// The path that a word spells. Memory is taken for a word that spells one.
+    /// The path that a word spells. Want of memory is told of a word that spells one.
     pub fn parse(alloc: Global, word: &[u8]) -> Result<Option<Path>, AllocError>
         ensures read { IfOk result (λ path. path ≡ path_read word.now) }
         ensures within { IfErr result (λ _. IsSome (path_read word.now)) }
     {
-        if !is_path(word) {
-            return Ok(None);
-        }
-        match spelled_names(alloc, word)? {
-            Some(spelled) => Ok(Some(Path::named(alloc, &spelled)?)),
-            None => Ok(None),
-        }
-    }
-
-    /// The path of these names. Memory is taken where a directory takes all of them.
-    fn named(alloc: Global, spelled: &[Bytes]) -> Result<Path, AllocError>
-        ensures named { IfOk result (λ path. path ≡ named spelled.now) }
-        ensures taken { IfErr result (λ _. IsOk (named spelled.now)) }
-    {
-        if let Err(fault) = check_names(spelled) {
-            return Ok(Path {
-                names: Vec::new(alloc),
-                fault: Some(fault),
-            });
-        }
-        let mut names = Vec::new(alloc);
-        for bytes in spelled {
-            match Name::new(bytes.as_slice()) {
-                Ok(name) => names.push(name)?,
-                Err(fault) => {
-                    return Ok(Path {
-                        names,
-                        fault: Some(fault),
-                    });
+        match spelled(alloc, word) {
+            Ok(path) => Ok(path),
+            // Only here is the word gone over twice.
+            Err(AllocError) => {
+                if is_path(word) {
+                    Err(AllocError)
+                } else {
+                    Ok(None)
                 }
             }
         }
-        Ok(Path { names, fault: None })
     }
 
     /// The names.
@@ -84,20 +62,57 @@ impl Path {
     }
 }
 
-/// Whether a directory takes all of these names.
-///
-/// Refused: the first that it doesn't take, by its fault.
-fn check_names(spelled: &[Bytes]) -> Result<(), DirFault>
-    ensures taken { OnOk result (IsOk (named spelled.now)) }
-    ensures refused { IfErr result (λ fault. named spelled.now ≡ Err fault) }
+/// The path that a word spells, in one pass over it.
+fn spelled(alloc: Global, word: &[u8]) -> Result<Option<Path>, AllocError>
+    ensures { IfOk result (λ path. path ≡ path_read word.now) }
 {
-    for bytes in spelled {
-        match Name::new(bytes.as_slice()) {
-            Ok(_) => {}
-            Err(fault) => return Err(fault),
+    if word.is_empty() {
+        return Ok(None);
+    }
+    let mut buffer = Vec::with_capacity(alloc, word.len())?;
+    let mut names = Vec::new(alloc);
+    let mut parts = Pieces::new(word, b'/');
+    while let Some(part) = parts.next_piece() {
+        if !read_name(&mut buffer, part)? {
+            return Ok(None);
+        }
+        if let Err(fault) = add_name(&mut names, &buffer)? {
+            return Ok(refused(names, fault, parts));
         }
     }
-    Ok(())
+    Ok(Some(Path { names, fault: None }))
+}
+
+/// The path of this fault of a name, if the parts behind that name spell names.
+fn refused(names: Vec<Name>, fault: DirFault, parts: Pieces<'_>) -> Option<Path>
+    ensures { result ≡ option_map (λ _. Err fault) (names_read parts.entry) }
+{
+    if are_names(parts) {
+        Some(Path {
+            names,
+            fault: Some(fault),
+        })
+    } else {
+        None
+    }
+}
+
+/// Adds the name of these bytes. Memory is taken for a name that a directory takes.
+///
+/// Refused: a name that a directory doesn't take, by its fault.
+fn add_name(names: &mut Vec<Name>, bytes: &[u8]) -> Result<Result<(), DirFault>, AllocError>
+    ensures pushed { IfOk result (λ r. OnOk r (names.new.items ≡ names.old.items ++ bytes.now ∷ [])) }
+    ensures taken { IfOk result (λ r. OnOk r (taken_name bytes.now ≡ Ok bytes.now)) }
+    ensures refused { IfOk result (λ r. IfErr r (λ fault. taken_name bytes.now ≡ Err fault)) }
+    ensures within { IfErr result (λ _. IsOk (taken_name bytes.now)) }
+{
+    match Name::new(bytes) {
+        Ok(name) => {
+            names.push(name)?;
+            Ok(Ok(()))
+        }
+        Err(fault) => Ok(Err(fault)),
+    }
 }
 
 /// Whether a word spells a path.
@@ -107,7 +122,13 @@ pub fn is_path(word: &[u8]) -> bool
     if word.is_empty() {
         return false;
     }
-    let mut parts = Pieces::new(word, b'/');
+    are_names(Pieces::new(word, b'/'))
+}
+
+/// Whether all of these parts of a path spell names.
+fn are_names(mut parts: Pieces<'_>) -> bool
+    ensures { result ≡ is_some (names_read parts.entry) }
+{
     while let Some(part) = parts.next_piece() {
         if !is_name(part) {
             return false;
@@ -128,24 +149,6 @@ fn is_name(part: &[u8]) -> bool
         }
     }
     true
-}
-
-/// The names that a word spells.
-fn spelled_names(alloc: Global, word: &[u8]) -> Result<Option<Vec<Bytes>>, AllocError>
-    ensures { IfOk result (λ names. option_map vec_items names ≡ spelled_names word.now) }
-{
-    if word.is_empty() {
-        return Ok(None);
-    }
-    let mut names = Vec::new(alloc);
-    let mut parts = Pieces::new(word, b'/');
-    while let Some(part) = parts.next_piece() {
-        match parse_name(alloc, part)? {
-            Some(name) => names.push(name)?,
-            None => return Ok(None),
-        }
-    }
-    Ok(Some(names))
 }
 
 /// The first byte that a name's spelling stands for, and what is spelled behind it.
@@ -175,20 +178,21 @@ fn first_byte(part: &[u8]) -> Option<(u8, &[u8])>
     }
 }
 
-/// The name that a part of a path spells.
-fn parse_name(alloc: Global, part: &[u8]) -> Result<Option<Bytes>, AllocError>
-    ensures { IfOk result (λ name. name ≡ name_read part.now) }
+/// Leaves the name that a part of a path spells in the buffer, and says whether it spells one.
+fn read_name(buffer: &mut Vec<u8>, part: &[u8]) -> Result<bool, AllocError>
+    ensures found { IfOk result (λ is. is ≡ true → name_read part.now ≡ Some buffer.new.items) }
+    ensures none { IfOk result (λ is. is ≡ false → name_read part.now ≡ None) }
 {
-    let mut bytes = Vec::with_capacity(alloc, part.len())?;
+    buffer.clear();
     let mut rest = part;
     while !rest.is_empty() {
         match first_byte(rest) {
             Some((byte, behind)) => {
-                bytes.push(byte)?;
+                buffer.push(byte)?;
                 rest = behind;
             }
-            None => return Ok(None),
+            None => return Ok(false),
         }
     }
-    Ok(Some(Bytes::from_vec(alloc, bytes)?))
+    Ok(true)
 }

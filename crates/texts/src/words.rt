@@ -24,8 +24,10 @@ fn hex_digit(digit: u8) -> Option<u8>
     ensures value { result ≡ hex_digit digit }
 {
     match digit {
+        b'0'..=b'9' => Some(digit - b'0'),
+        b'a'..=b'f' => Some(digit - b'a' + 10),
         b'A'..=b'F' => Some(digit - b'A' + 10),
-        _ => lower_digit(digit),
+        _ => None,
     }
 }
 
@@ -91,18 +93,25 @@ fn hex(alloc: Global, word: &[u8]) -> Result<Option<Vec<u8>>, AllocError>
     }
 }
 
-/// The bytes of a stream: hexadecimal, or `-` for none. Memory is taken for a word that spells them.
+/// The bytes of a stream: hexadecimal, or `-` for none. Want of memory is told of a word that spells them.
 pub fn content(alloc: Global, word: &[u8]) -> Result<Option<Vec<u8>>, AllocError>
     ensures read { IfOk result (λ bytes. option_map vec_items bytes ≡ content_read word.now) }
     ensures within { IfErr result (λ _. IsSome (content_read word.now)) }
 {
-    if !is_content(word) {
-        return Ok(None);
-    }
     match word {
         [] => Ok(None),
         [b'-'] => Ok(Some(Vec::new(alloc))),
-        _ => hex(alloc, word),
+        _ => match hex(alloc, word) {
+            Ok(bytes) => Ok(bytes),
+            // Only here is the word gone over twice.
+            Err(AllocError) => {
+                if is_content(word) {
+                    Err(AllocError)
+                } else {
+                    Ok(None)
+                }
+            }
+        },
     }
 }
 

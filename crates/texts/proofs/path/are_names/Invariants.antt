@@ -1,9 +1,9 @@
 use Rattle.std.proofs.Common.{◌≡◌, length, is_some}
-use Rattle.texts.specs.Paths.{names_read, spelled_names}
-use Rattle.texts.proofs.path.is_path.Given as goal
+use Rattle.texts.specs.Paths.{names_read}
+use Rattle.texts.proofs.path.are_names.Given as goal
 
 abbrev pub invariant-loop-part : goal.invariant-loop-part
-invariant-loop-part l = is_some (names_read l.parts) ≡ is_some (spelled_names l.word)
+invariant-loop-part l = is_some (names_read l.parts) ≡ is_some (names_read l.initial.parts)
 
 abbrev pub decreases-loop-part : goal.decreases-loop-part
 decreases-loop-part l = length l.parts
