@@ -1,7 +1,9 @@
 //! Commands of a description.
 
-ghost use Rattle.file_commands.specs.Commands.{fill_read, line_read, storage_read, stream_read};
+ghost use Rattle.file_commands.specs.Commands.{fill_read, line_read, storage_read, stream_of, stream_read};
 ghost use Rattle.std.specs.Prelude.{◌≡◌, IfErr, IfOk, IsSome};
+ghost use Rattle.texts.specs.Paths.{path_read};
+ghost use Rattle.texts.specs.Words.{content_read};
 
 use embed_core::words::{Pieces, number};
 use std::alloc::{AllocError, Global};
@@ -70,12 +72,25 @@ fn stream(alloc: Global, mut words: Pieces<'_>) -> Result<Option<Command>, Alloc
     ) else {
         return Ok(None);
     };
-    if !is_path(path) {
-        return Ok(None);
+    match stream_at(alloc, path, bytes) {
+        Ok(command) => Ok(command),
+        // Memory is told to lack only for words that ask for something.
+        Err(_) => {
+            if !is_path(path) {
+                return Ok(None);
+            }
+            if !is_content(bytes) {
+                return Ok(None);
+            }
+            Err(AllocError)
+        }
     }
-    if !is_content(bytes) {
-        return Ok(None);
-    }
+}
+
+/// The stream of a path and of bytes that are spelled so.
+fn stream_at(alloc: Global, path: &[u8], bytes: &[u8]) -> Result<Option<Command>, AllocError>
+    ensures { IfOk result (λ command. command ≡ stream_of (path_read path.now) (content_read bytes.now)) }
+{
     match Path::parse(alloc, path)? {
         Some(path) => match content(alloc, bytes)? {
             Some(bytes) => Ok(Some(Command::Stream(path, Bytes::from_vec(alloc, bytes)?))),
