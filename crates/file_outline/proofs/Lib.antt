@@ -1,4 +1,5 @@
 pub mod Followed
 pub mod Outlines
 pub mod Placed
+pub mod Sorted
 pub mod Found

@@ -15,7 +15,7 @@ use Rattle.file_outline.specs.declared.outline.Part.TheViews.{roll-Outline, roll
 use Rattle.file_outline.specs.declared.outline.Place.{Place}
 use Rattle.file_outline.proofs.Followed.{followed}
 
-followed-front : (k : List ℕ) (c : List ℕ × Seen) (cs ds : Children) → followed (child k c cs) ds ≡ child k c (followed cs ds)
+pub followed-front : (k : List ℕ) (c : List ℕ × Seen) (cs ds : Children) → followed (child k c cs) ds ≡ child k c (followed cs ds)
 followed-front k (n, bytes b) cs ds = refl
 followed-front k (n, inner t) cs ds = refl
 

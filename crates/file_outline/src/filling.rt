@@ -1,10 +1,11 @@
 //! The tree that an outline of a file shows, with the bytes of its streams.
 
-ghost use Rattle.cfb_names.specs.Names.{key};
+ghost use Rattle.cfb_names.specs.Names.{key, key_cmp};
 ghost use Rattle.file_outline.specs.View.{contents, shown, shown_part};
-ghost use Rattle.std.specs.Prelude.{◌≡◌, IfOk, OnOk, ℕ};
-ghost use Rattle.storage_tree.specs.Change.{place};
-ghost use Rattle.storage_tree.specs.View.{children, seen, view};
+ghost use Rattle.std.specs.List.Sorted.{IsStrictlySortedBy};
+ghost use Rattle.std.specs.Map.{keys_of};
+ghost use Rattle.std.specs.Prelude.{◌++◌, ◌≡◌, ◌∷◌, [], IfOk, OnOk, ℕ};
+ghost use Rattle.storage_tree.specs.View.{seen, view};
 ghost use Rattle.storage_tree.specs.Whole.{IsTree, IsWhole};
 
 use crate::outline::{Outline, Part, Place, is_short};
@@ -31,18 +32,25 @@ pub fn bytes_at(
     }
 }
 
-/// Adds a child under the key of its name.
-fn add_child(
-    map: &mut BTreeMap<[u8; 32], (Name, Node)>,
+/// Puts a child behind those so far, under the key of its name.
+fn push_child(
+    pairs: &mut Vec<([u8; 32], (Name, Node))>,
     name: Name,
     node: Node,
 ) -> Result<(), AllocError>
-    ensures { OnOk result (children map.new.entries ≡ place (key name) (name, seen node) (children map.old.entries)) }
+    ensures { OnOk result (pairs.new.items ≡ pairs.old.items ++ (key name, (name, node)) ∷ []) }
 {
-    match map.insert(name.key(), (name, node)) {
-        Ok(_) => Ok(()),
-        Err(_) => Err(AllocError),
-    }
+    Ok(pairs.push((name.key(), (name, node)))?)
+}
+
+/// The map of children whose keys ascend, made at once: to insert each one is a search of its own.
+fn map_of(
+    alloc: Global,
+    pairs: Vec<([u8; 32], (Name, Node))>,
+) -> Result<BTreeMap<[u8; 32], (Name, Node)>, AllocError>
+    ensures { IfOk result (λ map. IsStrictlySortedBy key_cmp (keys_of pairs.items) → map.entries ≡ pairs.items) }
+{
+    pairs.into_iter().collect(alloc)
 }
 
 /// The storage that an outline shows.
@@ -55,15 +63,15 @@ pub fn storage_at(
 ) -> Result<Storage, AllocError>
     ensures { IfOk result (λ s. (depth : ℕ) → IsTree depth (shown (contents fat.now mini.now) outline.now) → view s ≡ shown (contents fat.now mini.now) outline.now) }
 {
-    let mut map = BTreeMap::new(alloc);
+    let mut pairs = Vec::with_capacity(alloc, outline.parts.len())?;
     for part in &outline.parts {
         let node = node_at(alloc, fat, mini, &part.1)?;
-        add_child(&mut map, part.0.copy(), node)?;
+        push_child(&mut pairs, part.0.copy(), node)?;
     }
     Ok(Storage {
         class: outline.class,
         state: outline.state,
-        children: map,
+        children: map_of(alloc, pairs)?,
     })
 }
 

@@ -7,4 +7,4 @@ use Rattle.file_outline.proofs.filling.+filling.Given as goal
 
 abbrev pub invariant-storage_at-loop-part : goal.invariant-storage_at-loop-part
 invariant-storage_at-loop-part l = (depth : ℕ) → AreTrees depth (shown_parts (contents l.fat l.mini) l.part-items)
-    → followed (children l.map.entries) (shown_parts (contents l.fat l.mini) (drop l.part-index l.part-items)) ≡ shown_parts (contents l.fat l.mini) l.part-items
+    → followed (children l.pairs.items) (shown_parts (contents l.fat l.mini) (drop l.part-index l.part-items)) ≡ shown_parts (contents l.fat l.mini) l.part-items
