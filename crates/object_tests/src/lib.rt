@@ -6,8 +6,6 @@ mod drawings;
 #[cfg(test)]
 mod grants;
 #[cfg(test)]
-mod kinds;
-#[cfg(test)]
 mod notes;
 #[cfg(test)]
 mod objects;
@@ -17,8 +15,6 @@ mod states;
 mod steps;
 #[cfg(test)]
 mod tables;
-#[cfg(test)]
-mod tallies;
 #[cfg(test)]
 mod texts;
 #[cfg(test)]

@@ -1,11 +1,6 @@
 //! What a note does.
 
-use crate::objects::note;
-use crate::steps::play;
-use embed_core::tally::Tally;
-use std::test::Fail;
-
-const ROWS: &str = "
+pub(crate) const ROWS: &str = "
 # edits change the text
 edit i 0 ab => ab => Ok
 edit i 1 X => aXb => Ok
@@ -64,9 +59,3 @@ picture => d{60}$ => Ok
 load Text=<e$>{20}f$ => <e$>{20}f$ => Ok
 picture => <e$>{20} => Ok
 ";
-
-#[test]
-fn a_note_answers_its_calls(rt: HostRuntime) -> Result<(), Fail> {
-    let mut object = note(rt.alloc(), &Tally::new(rt.alloc())?)?;
-    play(&rt, rt.alloc(), &mut object, "Text", ROWS)
-}
