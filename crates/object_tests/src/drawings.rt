@@ -1,6 +1,11 @@
 //! What a drawing does.
 
-pub(crate) const ROWS: &str = "
+use crate::objects::drawing;
+use crate::steps::play;
+use embed_core::tally::Tally;
+use std::test::Fail;
+
+const ROWS: &str = "
 # edits change the shapes
 edit b 0 0 3 2 => b 0 0 3 2$ => Ok
 edit l 5 0 h 2 => b 0 0 3 2$l 5 0 h 2$ => Ok
@@ -72,3 +77,9 @@ picture => < {40}$>{12} => Ok
 load Shapes=b 38 0 100 2$l 0 0 h 2$ => b 38 0 100 2$l 0 0 h 2$ => Ok
 picture => -- {36}+-$ {38}+-$< {40}$>{10} => Ok
 ";
+
+#[test]
+fn a_drawing_answers_its_calls(rt: HostRuntime) -> Result<(), Fail> {
+    let mut object = drawing(rt.alloc(), &Tally::new(rt.alloc())?)?;
+    play(&rt, rt.alloc(), &mut object, "Shapes", ROWS)
+}

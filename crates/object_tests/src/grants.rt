@@ -1,15 +1,12 @@
 //! The table of a frame's grant, row by row, and what a frame shows.
 
 use crate::texts::word;
-use embed_core::kind_menus;
-use grant_core::{Claim, FrameUi, GrantFault, GrantState, MenuText, Tools, laws};
+use grant_core::{Claim, FrameUi, GrantFault, GrantState, MenuText, Menus, Tools, laws};
+use std::process::Abort;
 use std::str::SplitWhitespace;
 
 /// Where a frame is, what happens, where it is then, and the answer. Asked: it is being granted to A, which Held has it;
 /// Revoking: A is to give it up; Waited: and B waits for it; Next: it is being granted to B.
-///
-/// Size: a frame's width and height where it is Waited, who has it and who waits. Border: the width and height of a new one,
-/// the border that its holder asks for, the answer, and the border then.
 const ROWS: &str = "Free ask A Asked Ok
 Free granted A Free NotHolder
 Free revoked A Free NotHolder
@@ -45,33 +42,35 @@ Waited revoked A Next Ok
 Waited revoked B Waited NotHolder
 Waited lost A Next Ok
 Waited lost B Revoking Ok
-Waited lost C Waited Ok
-Size 40 10 A B
-Border 3 10 3 0 0 0 NoToolSpace 0 0 0 0
-Border 4 10 3 0 0 0 Ok 3 0 0 0
-Border 4 10 2 0 2 0 NoToolSpace 0 0 0 0
-Border 40 1 0 1 0 0 NoToolSpace 0 0 0 0
-Border 40 2 0 1 0 0 Ok 0 1 0 0
-Border 40 2 0 1 0 1 NoToolSpace 0 0 0 0
-Border 40 10 65535 0 65535 0 NoToolSpace 0 0 0 0";
+Waited lost C Waited Ok";
 
-const CONTAINERS: &str = "File - Container - Window - 0 0 0 0";
+/// What a frame shows where it is: its menus, of which `-` is none, and its border.
+const SHOWN: &str = "Free File - Container - Window - 0 0 0 0
+Asked File - Container - Window - 0 0 0 0
+Held File Edit Container Note Window Help 0 1 0 0
+Waited File - Container - Window - 0 0 0 0";
+
+/// A frame's width and height, the border that its holder asks for, the answer, and the border then.
+const BORDERS: &str = "3 10 3 0 0 0 NoToolSpace 0 0 0 0
+4 10 3 0 0 0 Ok 3 0 0 0
+4 10 2 0 2 0 NoToolSpace 0 0 0 0
+40 1 0 1 0 0 NoToolSpace 0 0 0 0
+40 2 0 1 0 0 Ok 0 1 0 0
+40 2 0 1 0 1 NoToolSpace 0 0 0 0
+40 10 65535 0 65535 0 NoToolSpace 0 0 0 0";
 
 const DRAWING: &str = "File Edit Container Draw Window Help";
 
 /// What a note answers.
-fn note() -> Tools {
+fn note(rt: &impl Abort) -> Tools {
     Tools {
-        menus: kind_menus::note(),
+        menus: menus(rt, b"Note"),
         border: [0, 1, 0, 0],
     }
 }
 
-fn drawing(border: [u16; 4]) -> Tools {
-    Tools {
-        menus: kind_menus::drawing(),
-        border,
-    }
+fn menus(rt: &impl Abort, object: &[u8]) -> Menus {
+    Menus::new(b"Edit", object, b"Help").expect(rt, "three texts")
 }
 
 fn claim_of(object: u32, act: u32, g: u32) -> Claim {
@@ -97,7 +96,8 @@ fn path_to(place: &str) -> &'static str {
         "Asked" => "ask A",
         "Held" => "ask A granted A",
         "Revoking" => "ask A granted A ask A",
-        _ => "ask A granted A ask B",
+        "Waited" => "ask A granted A ask B",
+        _ => "ask B",
     }
 }
 
@@ -115,27 +115,16 @@ fn held(tools: &Tools) -> GrantState {
     }
 }
 
-fn state(place: &str, tools: &Tools) -> GrantState {
-    match place {
+fn is_at(ui: &FrameUi, place: &str, tools: &Tools) -> bool {
+    let state = match place {
         "Free" => GrantState::Free,
         "Asked" => GrantState::Granting(claim("A")),
         "Held" => held(tools),
         "Revoking" => revoking(None),
         "Waited" => revoking(Some(claim("B"))),
         _ => GrantState::Granting(claim("B")),
-    }
-}
-
-/// What a frame shows where it is, where a note holds it: its menus, of which `-` is none, and its border.
-fn shown(place: &str) -> &'static str {
-    match place {
-        "Held" => "File Edit Container Note Window Help 0 1 0 0",
-        _ => CONTAINERS,
-    }
-}
-
-fn is_at(ui: &FrameUi, place: &str, tools: &Tools) -> bool {
-    ui.state() == state(place, tools) && shows(ui, &mut shown(place).split_whitespace())
+    };
+    ui.state() == state
 }
 
 fn apply(ui: &mut FrameUi, event: &str, name: &str, tools: &Tools) -> Result<(), GrantFault> {
@@ -158,28 +147,37 @@ fn told(answer: Result<(), GrantFault>) -> &'static str {
     }
 }
 
-/// The frame that events lead to.
-fn frame_at(place: &str, tools: &Tools) -> FrameUi {
+/// The frame that events lead to, each of which is taken.
+fn frame_at(rt: &impl Abort, place: &str, tools: &Tools) -> FrameUi {
     let mut ui = FrameUi::new(40, 10);
     let mut words = path_to(place).split_whitespace();
     for _ in 0..3 {
         let event = word(&mut words);
         if !event.is_empty() {
-            let _ = apply(&mut ui, event, word(&mut words), tools);
+            assert!(rt; apply(&mut ui, event, word(&mut words), tools).is_ok());
         }
     }
     ui
 }
 
-fn goes_by(from: &str, words: &mut SplitWhitespace<'_>) -> bool {
-    let tools = note();
-    let mut ui = frame_at(from, &tools);
-    if !is_at(&ui, from, &tools) {
+fn goes_by(rt: &impl Abort, tools: &Tools, row: &str) -> bool {
+    let mut words = row.split_whitespace();
+    let from = word(&mut words);
+    let mut ui = frame_at(rt, from, tools);
+    if !is_at(&ui, from, tools) {
         return false;
     }
-    let event = word(words);
-    let answer = told(apply(&mut ui, event, word(words), &tools));
-    is_at(&ui, word(words), &tools) && answer == word(words)
+    let event = word(&mut words);
+    let answer = told(apply(&mut ui, event, word(&mut words), tools));
+    is_at(&ui, word(&mut words), tools) && answer == word(&mut words)
+}
+
+#[test]
+fn a_frame_goes_by_its_table(rt: HostRuntime) {
+    let tools = note(&rt);
+    for row in ROWS.split('\n') {
+        assert!(rt; goes_by(&rt, &tools, row), "{row}");
+    }
 }
 
 fn text_is(text: &Option<MenuText>, want: &str) -> bool {
@@ -207,26 +205,29 @@ fn has_border(ui: &FrameUi, words: &mut SplitWhitespace<'_>) -> bool {
     true
 }
 
-fn shows(ui: &FrameUi, words: &mut SplitWhitespace<'_>) -> bool {
-    has_menu(ui, words) && has_border(ui, words)
-}
-
 fn number(text: &str) -> u16 {
     text.parse::<u16>().unwrap_or(0)
 }
 
-/// Whether a frame for whose holder another waits has this size, and tells these two.
-fn is_told(words: &mut SplitWhitespace<'_>) -> bool {
-    let ui = frame_at("Waited", &note());
-    ui.width() == number(word(words)) && ui.height() == number(word(words)) && tells(&ui, words)
+#[test]
+fn a_frame_shows_its_holders_menus(rt: HostRuntime) {
+    let tools = note(&rt);
+    for row in SHOWN.split('\n') {
+        let mut words = row.split_whitespace();
+        let ui = frame_at(&rt, word(&mut words), &tools);
+        assert!(rt;
+            has_menu(&ui, &mut words) && has_border(&ui, &mut words),
+            "{row}"
+        );
+    }
 }
 
-fn tells(ui: &FrameUi, words: &mut SplitWhitespace<'_>) -> bool {
-    is_claim(ui.state().who(), word(words)) && is_claim(ui.state().waiting(), word(words))
-}
-
-fn is_claim(found: Option<Claim>, name: &str) -> bool {
-    found == Some(claim(name))
+#[test]
+fn a_frame_tells_its_size_and_who_waits(rt: HostRuntime) {
+    let ui = frame_at(&rt, "Waited", &note(&rt));
+    assert!(rt; ui.width() == 40 && ui.height() == 10);
+    let state = ui.state();
+    assert!(rt; state.who() == Some(claim("A")) && state.waiting() == Some(claim("B")));
 }
 
 fn border_in(words: &mut SplitWhitespace<'_>) -> [u16; 4] {
@@ -237,36 +238,27 @@ fn border_in(words: &mut SplitWhitespace<'_>) -> [u16; 4] {
     border
 }
 
-fn sized(words: &mut SplitWhitespace<'_>) -> FrameUi {
-    let width = number(word(words));
-    FrameUi::new(width, number(word(words)))
-}
-
-fn leaves_room(words: &mut SplitWhitespace<'_>) -> bool {
-    let mut ui = sized(words);
-    let tools = drawing(border_in(words));
+fn leaves_room(rt: &impl Abort, row: &str) -> bool {
+    let mut words = row.split_whitespace();
+    let width = number(word(&mut words));
+    let mut ui = FrameUi::new(width, number(word(&mut words)));
+    let tools = Tools {
+        menus: menus(rt, b"Draw"),
+        border: border_in(&mut words),
+    };
     let asked = apply(&mut ui, "ask", "A", &tools).is_ok();
     let answer = told(apply(&mut ui, "granted", "A", &tools));
-    asked && answer == word(words) && ui.state() == held(&tools) && is_drawing(&ui, words)
-}
-
-fn is_drawing(ui: &FrameUi, words: &mut SplitWhitespace<'_>) -> bool {
-    has_border(ui, words) && has_menu(ui, &mut DRAWING.split_whitespace())
-}
-
-fn holds(row: &str) -> bool {
-    let mut words = row.split_whitespace();
-    match word(&mut words) {
-        "Size" => is_told(&mut words),
-        "Border" => leaves_room(&mut words),
-        from => goes_by(from, &mut words),
-    }
+    asked
+        && answer == word(&mut words)
+        && is_at(&ui, "Held", &tools)
+        && has_border(&ui, &mut words)
+        && has_menu(&ui, &mut DRAWING.split_whitespace())
 }
 
 #[test]
-fn a_frame_goes_by_its_table(rt: HostRuntime) {
-    for row in ROWS.split('\n') {
-        assert!(rt; holds(row), "{row}");
+fn a_border_leaves_room(rt: HostRuntime) {
+    for row in BORDERS.split('\n') {
+        assert!(rt; leaves_room(&rt, row), "{row}");
     }
 }
 

@@ -6,6 +6,8 @@ mod drawings;
 #[cfg(test)]
 mod grants;
 #[cfg(test)]
+mod kinds;
+#[cfg(test)]
 mod notes;
 #[cfg(test)]
 mod objects;
@@ -15,6 +17,8 @@ mod states;
 mod steps;
 #[cfg(test)]
 mod tables;
+#[cfg(test)]
+mod tallies;
 #[cfg(test)]
 mod texts;
 #[cfg(test)]

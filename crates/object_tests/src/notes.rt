@@ -1,6 +1,11 @@
 //! What a note does.
 
-pub(crate) const ROWS: &str = "
+use crate::objects::note;
+use crate::steps::play;
+use embed_core::tally::Tally;
+use std::test::Fail;
+
+const ROWS: &str = "
 # edits change the text
 edit i 0 ab => ab => Ok
 edit i 1 X => aXb => Ok
@@ -59,3 +64,9 @@ picture => d{60}$ => Ok
 load Text=<e$>{20}f$ => <e$>{20}f$ => Ok
 picture => <e$>{20} => Ok
 ";
+
+#[test]
+fn a_note_answers_its_calls(rt: HostRuntime) -> Result<(), Fail> {
+    let mut object = note(rt.alloc(), &Tally::new(rt.alloc())?)?;
+    play(&rt, rt.alloc(), &mut object, "Text", ROWS)
+}

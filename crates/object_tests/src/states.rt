@@ -6,21 +6,15 @@ use object_state::{
     are_printable, is_printable, laws,
 };
 use std::str::SplitWhitespace;
+use std::test::Fail;
 
-/// The states of a storage, and then those of a window.
-const STATES: &str =
-    "Unset Normal NoScribble HandsOff Passive Loaded Running InPlaceActive UiActive Open";
+const STORAGES: &str = "Unset Normal NoScribble HandsOff";
 
 const WINDOWS: &str = "Passive Loaded Running InPlaceActive UiActive Open";
 
 /// Each operation, what it makes of an object's storage in each state where the last save was number 5, and of a window in
 /// each. A refusal is `-` for WrongState, else the fault's name behind `!`.
-///
-/// Unsaved: what an operation makes of a storage before any save. Saving: the operations from the first to the last of a
-/// save, and before and behind each the number of the last save, and whether the object may read and write. Both: what an
-/// operation is refused for where both tables are kept. Steps: each verb's number and each way to close, what it leads to, and
-/// its steps from each state of a window. NoVerb: a number that no verb has.
-const ROWS: &str =
+const OPERATIONS: &str =
     "InitNew Normal !AlreadyInitialized !AlreadyInitialized !AlreadyInitialized - Running - - - -
 Load Normal !AlreadyInitialized !AlreadyInitialized !AlreadyInitialized - Running - - - -
 Save6 !NotInitialized NoScribble !Scribble !HandsOff - - Running InPlaceActive UiActive Open
@@ -37,24 +31,26 @@ InPlaceDeactivate !NotInitialized Normal NoScribble HandsOff - - - Running - Run
 OpenWindow !NotInitialized Normal NoScribble HandsOff - - Open - - -
 Edit !NotInitialized Normal NoScribble HandsOff - - Running InPlaceActive UiActive Open
 SaveIfDirty !NotInitialized Normal NoScribble HandsOff - - Passive - - -
-NoSave !NotInitialized Normal NoScribble HandsOff - - Passive - - -
-Unsaved HandsOff Completed4 -
-Unsaved HandsOff Dropped4 -
-Saving none false false InitNew none true true Save5 5 true false HandsOff 5 false false Completed5 5 true true
-Both UiDeactivate -
-Both InitNew !AlreadyInitialized
-Steps 0 menus - ; - ; InPlace UiActivate ; UiActivate ; ; - ;
-Steps -1 menus - ; - ; InPlace UiActivate ; UiActivate ; ; - ;
-Steps -4 menus - ; - ; InPlace UiActivate ; UiActivate ; ; - ;
-Steps -2 none - ; - ; OpenWindow ; InPlaceDeactivate OpenWindow ; UiDeactivate InPlaceDeactivate OpenWindow ; ;
-Steps -3 none - ; - ; ; InPlaceDeactivate ; UiDeactivate InPlaceDeactivate ; InPlaceDeactivate ;
-Steps -5 none - ; - ; InPlace ; ; UiDeactivate ; - ;
-Steps SaveIfDirty none - ; - ; SaveIfDirty ; InPlaceDeactivate SaveIfDirty ; UiDeactivate InPlaceDeactivate SaveIfDirty ; InPlaceDeactivate SaveIfDirty ;
-Steps NoSave none - ; - ; NoSave ; InPlaceDeactivate NoSave ; UiDeactivate InPlaceDeactivate NoSave ; InPlaceDeactivate NoSave ;
-NoVerb 1
-NoVerb -6
-NoVerb 2147483647
-NoVerb -2147483648";
+NoSave !NotInitialized Normal NoScribble HandsOff - - Passive - - -";
+
+/// The operations from the first to the last of a save, and behind each the number of the last save, and whether the object
+/// may read and write.
+const SAVE: &str = "InitNew none true true
+Save5 5 true false
+HandsOff 5 false false
+Completed5 5 true true";
+
+/// Each verb's number, what it leads to, and its steps from each state of a window.
+const VERBS: &str = "0 menus - ; - ; InPlace UiActivate ; UiActivate ; ; - ;
+-1 menus - ; - ; InPlace UiActivate ; UiActivate ; ; - ;
+-4 menus - ; - ; InPlace UiActivate ; UiActivate ; ; - ;
+-2 none - ; - ; OpenWindow ; InPlaceDeactivate OpenWindow ; UiDeactivate InPlaceDeactivate OpenWindow ; ;
+-3 none - ; - ; ; InPlaceDeactivate ; UiDeactivate InPlaceDeactivate ; InPlaceDeactivate ;
+-5 none - ; - ; InPlace ; ; UiDeactivate ; - ;";
+
+const CLOSES: &str =
+    "SaveIfDirty - ; - ; SaveIfDirty ; InPlaceDeactivate SaveIfDirty ; UiDeactivate InPlaceDeactivate SaveIfDirty ; InPlaceDeactivate SaveIfDirty ;
+NoSave - ; - ; NoSave ; InPlaceDeactivate NoSave ; UiDeactivate InPlaceDeactivate NoSave ; InPlaceDeactivate NoSave ;";
 
 fn op(name: &str) -> Op {
     match name {
@@ -146,56 +142,48 @@ fn shows(state: &str, operation: Op, want: &str) -> bool {
     }
 }
 
-fn becomes(state: &str, operation: Op, want: &str) -> bool {
-    match state {
-        "Unset" | "Normal" | "NoScribble" | "HandsOff" => stores(state, Some(5), operation, want),
-        _ => shows(state, operation, want),
+fn goes_by(row: &str) -> bool {
+    let mut words = row.split_whitespace();
+    let operation = op(word(&mut words));
+    for state in STORAGES.split_whitespace() {
+        if !stores(state, Some(5), operation, word(&mut words)) {
+            return false;
+        }
     }
-}
-
-fn goes_by(operation: Op, words: &mut SplitWhitespace<'_>) -> bool {
-    for state in STATES.split_whitespace() {
-        if !becomes(state, operation, word(words)) {
+    for state in WINDOWS.split_whitespace() {
+        if !shows(state, operation, word(&mut words)) {
             return false;
         }
     }
     true
 }
 
-fn is_unsaved(words: &mut SplitWhitespace<'_>) -> bool {
-    let state = word(words);
-    let operation = op(word(words));
-    stores(state, None, operation, word(words))
+#[test]
+fn states_go_by_their_tables(rt: HostRuntime) {
+    for row in OPERATIONS.split('\n') {
+        assert!(rt; goes_by(row), "{row}");
+    }
+    // before any save none is ended
+    assert!(rt; stores("HandsOff", None, op("Completed4"), "-"));
+    assert!(rt; stores("HandsOff", None, op("Dropped4"), "-"));
 }
 
 fn is_at(persist: Persist, words: &mut SplitWhitespace<'_>) -> bool {
-    persist.last_save == word(words).parse::<u32>().ok() && is_open(persist.state, words)
+    persist.last_save == word(words).parse::<u32>().ok()
+        && persist.state.may_read() == (word(words) == "true")
+        && persist.state.may_write() == (word(words) == "true")
 }
 
-fn is_open(state: PersistState, words: &mut SplitWhitespace<'_>) -> bool {
-    is_true(state.may_read(), word(words)) && is_true(state.may_write(), word(words))
-}
-
-fn is_true(holds: bool, want: &str) -> bool {
-    holds == (want == "true")
-}
-
-fn saves(words: &mut SplitWhitespace<'_>) -> bool {
+#[test]
+fn a_save_from_first_to_last(rt: HostRuntime) -> Result<(), Fail> {
     let mut persist = Persist::new();
-    for _ in 0..4 {
-        if !is_at(persist, words) {
-            return false;
-        }
-        match persist.step(op(word(words))) {
-            Ok(after) => persist = after,
-            Err(_) => return false,
-        }
+    assert!(rt; is_at(persist, &mut "none false false".split_whitespace()));
+    for row in SAVE.split('\n') {
+        let mut words = row.split_whitespace();
+        persist = persist.step(op(word(&mut words)))?;
+        assert!(rt; is_at(persist, &mut words), "{row}");
     }
-    is_at(persist, words)
-}
-
-fn is_running(states: States) -> bool {
-    states.persist.state == storage("Normal") && states.object == window("Running")
+    Ok(())
 }
 
 fn refuses(states: States, operation: &str, want: &str) -> bool {
@@ -205,130 +193,102 @@ fn refuses(states: States, operation: &str, want: &str) -> bool {
     }
 }
 
-fn are_kept(words: &mut SplitWhitespace<'_>) -> bool {
-    let operation = word(words);
-    match States::new().step(Op::Load) {
-        Ok(states) => is_running(states) && refuses(states, operation, word(words)),
-        Err(_) => false,
-    }
-}
-
-fn is_step(step: Step, name: &str) -> bool {
-    step_name(step) == name && step.op(9) == op(name)
+#[test]
+fn both_tables_are_kept(rt: HostRuntime) -> Result<(), Fail> {
+    let running = States::new().step(Op::Load)?;
+    assert!(rt; running.persist.state == storage("Normal") && running.object == window("Running"));
+    assert!(rt; refuses(running, "UiDeactivate", "-"));
+    assert!(rt; refuses(running, "InitNew", "!AlreadyInitialized"));
+    Ok(())
 }
 
 /// Whether steps are these, up to the next `;`.
-fn are_steps(steps: &[Step], words: &mut SplitWhitespace<'_>) -> bool {
+fn are_steps(steps: Option<&[Step]>, words: &mut SplitWhitespace<'_>) -> bool {
+    let Some(steps) = steps else {
+        return word(words) == "-" && word(words) == ";";
+    };
     for step in steps {
-        if !is_step(*step, word(words)) {
+        let name = word(words);
+        if step_name(*step) != name || step.op(9) != op(name) {
             return false;
         }
     }
     word(words) == ";"
 }
 
-fn may_be_steps(steps: Option<&[Step]>, words: &mut SplitWhitespace<'_>) -> bool {
-    match steps {
-        Some(steps) => are_steps(steps, words),
-        None => word(words) == "-" && word(words) == ";",
+fn verb_has_its_steps(row: &str) -> bool {
+    let mut words = row.split_whitespace();
+    let Some(verb) = verb(word(&mut words)) else {
+        return false;
+    };
+    if verb.activates_ui() != (word(&mut words) == "menus") {
+        return false;
     }
-}
-
-fn verb(number: &str) -> Option<Verb> {
-    Verb::new(number.parse::<i32>().ok()?)
-}
-
-fn close(name: &str) -> CloseOption {
-    match name {
-        "NoSave" => CloseOption::NoSave,
-        _ => CloseOption::SaveIfDirty,
-    }
-}
-
-fn activates(name: &str) -> &'static str {
-    match verb(name) {
-        Some(verb) if verb.activates_ui() => "menus",
-        _ => "none",
-    }
-}
-
-fn steps(name: &str, state: ObjectState) -> Option<&'static [Step]> {
-    match verb(name) {
-        Some(verb) => verb.steps(state),
-        None => close(name).steps(state),
-    }
-}
-
-fn has_steps(name: &str, words: &mut SplitWhitespace<'_>) -> bool {
     for state in WINDOWS.split_whitespace() {
-        if !may_be_steps(steps(name, window(state)), words) {
+        if !are_steps(verb.steps(window(state)), &mut words) {
             return false;
         }
     }
     true
 }
 
-fn leads(words: &mut SplitWhitespace<'_>) -> bool {
-    let name = word(words);
-    activates(name) == word(words) && has_steps(name, words)
+fn verb(number: &str) -> Option<Verb> {
+    Verb::new(number.parse::<i32>().ok()?)
 }
 
-fn holds(row: &str) -> bool {
+fn close_has_its_steps(option: CloseOption, row: &str) -> bool {
     let mut words = row.split_whitespace();
-    match word(&mut words) {
-        "Unsaved" => is_unsaved(&mut words),
-        "Saving" => saves(&mut words),
-        "Both" => are_kept(&mut words),
-        "Steps" => leads(&mut words),
-        "NoVerb" => verb(word(&mut words)).is_none(),
-        name => goes_by(op(name), &mut words),
+    if Op::Close(option) != op(word(&mut words)) {
+        return false;
     }
+    for state in WINDOWS.split_whitespace() {
+        if !are_steps(option.steps(window(state)), &mut words) {
+            return false;
+        }
+    }
+    true
 }
 
 #[test]
-fn states_go_by_their_tables(rt: HostRuntime) {
-    for row in ROWS.split('\n') {
-        assert!(rt; holds(row), "{row}");
+fn verbs_and_closes_have_their_steps(rt: HostRuntime) {
+    for row in VERBS.split('\n') {
+        assert!(rt; verb_has_its_steps(row), "{row}");
     }
+    for number in "1 -6 2147483647 -2147483648".split_whitespace() {
+        assert!(rt; verb(number).is_none(), "{number}");
+    }
+    let (saving, dropping) = halves(CLOSES, "\n");
+    assert!(rt; close_has_its_steps(CloseOption::SaveIfDirty, saving));
+    assert!(rt; close_has_its_steps(CloseOption::NoSave, dropping));
 }
 
-/// Menus with `|` between their texts, behind a `-` where they are none.
-const MENUS: &str =
-    "+Edit|Note|,+sixteen letters.||~ ,-seventeen letters||,-Edit|No\nte|Help,-Edit|Note|\x7f";
+/// Menus with `|` between their texts.
+const MENUS: &str = "Edit|Note|,sixteen letters.||~ ";
+
+const NO_MENUS: &str = "seventeen letters||,Edit|No\nte|Help,Edit|Note|\x7f";
 
 fn are_menus(row: &str) -> bool {
     let (edit, rest) = halves(row, "|");
     let (object, help) = halves(rest, "|");
     match Menus::new(edit.as_bytes(), object.as_bytes(), help.as_bytes()) {
-        Some(menus) => have_texts(&menus, edit, object, help),
+        Some(menus) => {
+            menus.edit.as_bytes() == edit.as_bytes()
+                && menus.object.as_bytes() == object.as_bytes()
+                && menus.help.as_bytes() == help.as_bytes()
+        }
         None => false,
     }
-}
-
-fn have_texts(menus: &Menus, edit: &str, object: &str, help: &str) -> bool {
-    menus.edit.as_bytes() == edit.as_bytes()
-        && menus.object.as_bytes() == object.as_bytes()
-        && menus.help.as_bytes() == help.as_bytes()
-}
-
-/// Whether menus are some, which the text behind the sign is then.
-fn are_signed(row: &str) -> bool {
-    match row.split_once("-") {
-        Some((_, texts)) => !are_menus(texts),
-        None => are_menus(halves(row, "+").1),
-    }
-}
-
-fn are_some_printable() -> bool {
-    is_printable(b'~') && are_printable(b" ~") && !are_printable(b" \x7f")
 }
 
 #[test]
 fn menus_are_short_and_printable(rt: HostRuntime) {
     for row in MENUS.split(',') {
-        assert!(rt; are_signed(row), "{row}");
+        assert!(rt; are_menus(row), "{row}");
     }
-    assert!(rt; are_some_printable());
+    for row in NO_MENUS.split(',') {
+        assert!(rt; !are_menus(row), "{row}");
+    }
+    assert!(rt; is_printable(b'~') && are_printable(b" ~") && !are_printable(b" \x7f"));
 }
 
 #[test]

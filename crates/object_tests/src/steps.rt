@@ -20,7 +20,9 @@ pub(crate) fn play(
     rows: &str,
 ) -> Result<(), Fail> {
     for row in rows.split('\n') {
-        assert!(rt; holds(alloc, object, name, row)?, "{row}");
+        if is_row(row) {
+            expect(rt, alloc, object, name, row)?;
+        }
     }
     Ok(())
 }
@@ -29,35 +31,32 @@ fn is_row(line: &str) -> bool {
     !line.is_empty() && !line.starts_with("#")
 }
 
-fn holds(
+fn expect(
+    rt: &impl Abort,
     alloc: Global,
     object: &mut Box<dyn Embedded>,
     name: &str,
     row: &str,
-) -> Result<bool, Fail> {
+) -> Result<(), Fail> {
     let (step, wants) = halves(row, " => ");
     let (shows, answer) = halves(wants, " => ");
-    if !is_row(row) {
-        return Ok(true);
-    }
-    if carry_out(alloc, object, step)? != answer {
-        return Ok(false);
-    }
-    looks(alloc, object, name, step, shows)
+    let told = carry_out(alloc, object, step)?;
+    assert!(rt; told == answer, "{row}: {told}");
+    let shown = shown(alloc, object, name, step)?;
+    assert!(rt; shown == spelled(alloc, shows)?, "{row}");
+    Ok(())
 }
 
-fn looks(
+fn shown(
     alloc: Global,
     object: &Box<dyn Embedded>,
     name: &str,
     step: &str,
-    shows: &str,
-) -> Result<bool, Fail> {
-    let want = spelled(alloc, shows)?;
+) -> Result<Vec<u8>, Fail> {
     if step == "picture" {
-        is_drawn(alloc, object, &want)
+        picture(alloc, object)
     } else {
-        is_stored(alloc, object, name, &want)
+        stored(alloc, object, name)
     }
 }
 
@@ -117,24 +116,17 @@ fn push(alloc: Global, streams: &mut Streams, text: &str) -> Result<(), Fail> {
     Ok(())
 }
 
-fn is_drawn(alloc: Global, object: &Box<dyn Embedded>, want: &[u8]) -> Result<bool, Fail> {
-    Ok(object.render(alloc)?.as_slice() == want)
+fn picture(alloc: Global, object: &Box<dyn Embedded>) -> Result<Vec<u8>, Fail> {
+    Ok(object.render(alloc)?)
 }
 
-/// Whether these bytes are those of the one stream that an object is stored in, and it is of this name.
-fn is_stored(
-    alloc: Global,
-    object: &Box<dyn Embedded>,
-    name: &str,
-    want: &[u8],
-) -> Result<bool, Fail> {
+/// The bytes of the one stream that an object is stored in, which is to be of this name.
+fn stored(alloc: Global, object: &Box<dyn Embedded>, name: &str) -> Result<Vec<u8>, Fail> {
     let streams = object.save(alloc)?;
-    Ok(is_sole(&streams, name, want))
-}
-
-fn is_sole(streams: &Streams, name: &str, want: &[u8]) -> bool {
     match streams.as_slice() {
-        [stream] => stream.name.as_bytes() == name.as_bytes() && stream.bytes.as_slice() == want,
-        _ => false,
+        [stream] if stream.name.as_bytes() == name.as_bytes() => {
+            Ok(Vec::from_slice(alloc, stream.bytes.as_slice())?)
+        }
+        _ => Err(EmbedFault::BadContent.into()),
     }
 }

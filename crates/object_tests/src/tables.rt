@@ -1,6 +1,11 @@
 //! What a table does.
 
-pub(crate) const ROWS: &str = "
+use crate::objects::table;
+use crate::steps::play;
+use embed_core::tally::Tally;
+use std::test::Fail;
+
+const ROWS: &str = "
 # edits change cells
 init =>  => Ok
 edit s B2 hi => B2 hi$ => Ok
@@ -72,3 +77,9 @@ load Cells=A1 x$B1 x$C1 x$D1 x$E1 x$F1 x$G1 x$H1 x$I1 x$J1 x$K1 x$L1 x$M1 x$N1 x
 edit s U1 x => A1 x$B1 x$C1 x$D1 x$E1 x$F1 x$G1 x$H1 x$I1 x$J1 x$K1 x$L1 x$M1 x$N1 x$O1 x$P1 x$Q1 x$R1 x$S1 x$T1 x$U1 x$ => Ok
 picture => A1=x$B1=x$C1=x$D1=x$E1=x$F1=x$G1=x$H1=x$I1=x$J1=x$K1=x$L1=x$M1=x$N1=x$O1=x$P1=x$Q1=x$R1=x$S1=x$T1=x$ => Ok
 ";
+
+#[test]
+fn a_table_answers_its_calls(rt: HostRuntime) -> Result<(), Fail> {
+    let mut object = table(rt.alloc(), &Tally::new(rt.alloc())?)?;
+    play(&rt, rt.alloc(), &mut object, "Cells", ROWS)
+}

@@ -1,6 +1,5 @@
 //! Words, numbers and streams, as the kinds read and write them.
 
-use crate::texts::halves;
 use cfb_names::name::Name;
 use embed_core::words::{Pieces, cut, number};
 use embed_core::{Streams, picture, sole_stream, stream_names};
@@ -18,11 +17,14 @@ fn is_missed(streams: &Streams, name: &Name) -> bool {
     sole_stream::bytes(streams, name).is_none()
 }
 
-fn has_sole_stream(alloc: Global) -> Result<bool, Fail> {
-    let bytes = Vec::from_slice(alloc, b"ab")?;
-    let streams = sole_stream::streams(alloc, stream_names::note(), bytes)?;
-    let text = Name::new(b"TEXT")?;
-    Ok(is_found(&streams, &text, b"ab") && is_missed(&streams, &stream_names::table()))
+#[test]
+fn a_sole_stream_is_found(rt: HostRuntime) -> Result<(), Fail> {
+    let bytes = Vec::from_slice(rt.alloc(), b"ab")?;
+    let streams = sole_stream::streams(rt.alloc(), stream_names::note(), bytes)?;
+    assert!(rt; is_found(&streams, &Name::new(b"TEXT")?, b"ab"));
+    assert!(rt; is_missed(&streams, &stream_names::table()));
+    assert!(rt; is_missed(&Streams::new(rt.alloc()), &stream_names::note()));
+    Ok(())
 }
 
 /// The pieces of a text between spaces, each behind a `+`.
@@ -55,9 +57,27 @@ fn sides(alloc: Global, text: &str) -> Result<Vec<u8>, AllocError> {
     Ok(told)
 }
 
-/// A number of up to 32 bits without leading zeros, as std reads it too, or none where none is wanted.
-fn is_number(word: &str, want: &str) -> bool {
-    number(word.as_bytes()) == want.parse::<u32>().ok()
+#[test]
+fn words_are_parted(rt: HostRuntime) -> Result<(), Fail> {
+    assert!(rt; sides(rt.alloc(), "i 0 a")?.as_slice() == b"+i+0 a".as_slice());
+    assert!(rt; sides(rt.alloc(), "i")?.as_slice() == b"+i".as_slice());
+    assert!(rt; pieces(rt.alloc(), "a  b")?.as_slice() == b"+a++b".as_slice());
+    Ok(())
+}
+
+/// A number of up to 32 bits without leading zeros, as std reads it too.
+fn is_number(word: &str) -> bool {
+    number(word.as_bytes()).is_some() && number(word.as_bytes()) == word.parse::<u32>().ok()
+}
+
+#[test]
+fn numbers_have_no_leading_zeros(rt: HostRuntime) {
+    for word in "0|10|4294967295".split('|') {
+        assert!(rt; is_number(word), "{word}");
+    }
+    for word in "|00|01|4294967296|1a|-1| 1".split('|') {
+        assert!(rt; number(word.as_bytes()).is_none(), "{word}");
+    }
 }
 
 fn lines(alloc: Global) -> Result<Vec<u8>, AllocError> {
@@ -67,57 +87,8 @@ fn lines(alloc: Global) -> Result<Vec<u8>, AllocError> {
     Ok(lines)
 }
 
-fn is_missed_in_none(alloc: Global) -> bool {
-    is_missed(&Streams::new(alloc), &stream_names::note())
-}
-
-/// A call, a text and what it tells.
-const ROWS: &str = "sides i 0 a => +i+0 a
-sides i => +i
-pieces a  b => +a++b
-number 0 => 0
-number 10 => 10
-number 4294967295 => 4294967295
-number  => none
-number 00 => none
-number 01 => none
-number 4294967296 => none
-number 1a => none
-number -1 => none
-number  1 => none
-stream
-lines
-none";
-
-fn are_lines(alloc: Global) -> Result<bool, Fail> {
-    Ok(lines(alloc)?.as_slice() == b"ab\n\n".as_slice())
-}
-
-fn are_sides(alloc: Global, text: &str, want: &str) -> Result<bool, Fail> {
-    Ok(sides(alloc, text)?.as_slice() == want.as_bytes())
-}
-
-fn are_pieces(alloc: Global, text: &str, want: &str) -> Result<bool, Fail> {
-    Ok(pieces(alloc, text)?.as_slice() == want.as_bytes())
-}
-
-fn holds(alloc: Global, row: &str) -> Result<bool, Fail> {
-    let (call, want) = halves(row, " => ");
-    let (call, text) = halves(call, " ");
-    match call {
-        "sides" => are_sides(alloc, text, want),
-        "pieces" => are_pieces(alloc, text, want),
-        "number" => Ok(is_number(text, want)),
-        "stream" => has_sole_stream(alloc),
-        "lines" => are_lines(alloc),
-        _ => Ok(is_missed_in_none(alloc)),
-    }
-}
-
 #[test]
-fn words_and_streams_are_read(rt: HostRuntime) -> Result<(), Fail> {
-    for row in ROWS.split('\n') {
-        assert!(rt; holds(rt.alloc(), row)?, "{row}");
-    }
+fn lines_of_pictures_are_ended(rt: HostRuntime) -> Result<(), Fail> {
+    assert!(rt; lines(rt.alloc())?.as_slice() == b"ab\n\n".as_slice());
     Ok(())
 }

@@ -1,0 +1,65 @@
+//! What the kinds are.
+
+use crate::objects::{drawing, note, table};
+use embed_core::embedded::Embedded;
+use embed_core::fault::EmbedFault;
+use embed_core::tally::Tally;
+use embed_core::{ClassId, Menus, classes, kind_menus, laws, stream_names};
+use std::test::Fail;
+
+/// The bytes of a class id behind the first, which is the kind's number.
+const CLASS: &[u8] = b"\x2a\x1d\x6f\x4b\x3c\x5f\x4e\x8a\x9b\x0c\x1d\x2e\x3f\x40\x51";
+
+fn is_class(class: ClassId, number: u8) -> bool {
+    match class.as_bytes().split_first() {
+        Some((first, rest)) => *first == number && rest == CLASS,
+        None => false,
+    }
+}
+
+fn are_menus(menus: &Menus, object: &str) -> bool {
+    menus.edit.as_bytes() == b"Edit".as_slice()
+        && menus.object.as_bytes() == object.as_bytes()
+        && menus.help.as_bytes() == b"Help".as_slice()
+}
+
+/// Whether an object is of the kind with this number, and asks for this menu and this much space above and on its left.
+fn is_object(object: Box<dyn Embedded>, number: u8, menu: &str, left: u16, above: u16) -> bool {
+    is_class(object.class(), number)
+        && are_menus(&object.menus(), menu)
+        && object.border() == [left, above, 0, 0]
+}
+
+#[test]
+fn objects_have_their_classes_menus_and_borders(rt: HostRuntime) -> Result<(), Fail> {
+    let tally = Tally::new(rt.alloc())?;
+    assert!(rt; is_object(note(rt.alloc(), &tally)?, 1, "Note", 0, 1));
+    assert!(rt; is_object(table(rt.alloc(), &tally)?, 2, "Table", 2, 1));
+    assert!(rt; is_object(drawing(rt.alloc(), &tally)?, 3, "Draw", 3, 0));
+    Ok(())
+}
+
+fn is_kind(class: ClassId, menus: &Menus, number: u8, menu: &str) -> bool {
+    is_class(class, number) && are_menus(menus, menu)
+}
+
+#[test]
+fn kinds_have_their_classes_menus_and_streams(rt: HostRuntime) {
+    assert!(rt; is_kind(classes::note(), &kind_menus::note(), 1, "Note"));
+    assert!(rt; is_kind(classes::table(), &kind_menus::table(), 2, "Table"));
+    assert!(rt; is_kind(classes::drawing(), &kind_menus::drawing(), 3, "Draw"));
+    assert!(rt; stream_names::note().as_bytes() == b"Text".as_slice());
+    assert!(rt; stream_names::table().as_bytes() == b"Cells".as_slice());
+    assert!(rt; stream_names::drawing().as_bytes() == b"Shapes".as_slice());
+}
+
+#[test]
+fn laws_take_nothing(rt: HostRuntime) {
+    laws::spelled_is_read();
+    laws::read_was_spelled();
+    laws::stored_is_loaded();
+    laws::loaded_was_stored();
+    laws::edits_stay();
+    // the other faults are in the tables of calls
+    assert!(rt; EmbedFault::NoMemory.name() == "NoMemory");
+}

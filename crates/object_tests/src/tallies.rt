@@ -1,0 +1,79 @@
+//! Tallies: each object tells its own once, as it is dropped.
+
+use crate::objects::{drawing, note, table};
+use crate::texts::halves;
+use embed_core::embedded::Embedded;
+use embed_core::tally::Tally;
+use std::alloc::Global;
+use std::test::Fail;
+
+/// Edits an object, and drops it where the edit is refused.
+fn edited(alloc: Global, mut object: Box<dyn Embedded>, edit: &[u8]) -> Option<Box<dyn Embedded>> {
+    match object.edit(alloc, edit) {
+        Ok(()) => Some(object),
+        Err(_) => None,
+    }
+}
+
+/// Of two objects the second is dropped as its edit is refused, and the first behind it.
+fn are_counted(
+    alloc: Global,
+    tally: &Tally,
+    first: Box<dyn Embedded>,
+    second: Box<dyn Embedded>,
+    edits: &str,
+) -> bool {
+    let before = tally.count();
+    let (good, bad) = halves(edits, "|");
+    let first = edited(alloc, first, good.as_bytes());
+    let both = first.is_some() && is_past(tally, before, 0);
+    let second = edited(alloc, second, bad.as_bytes());
+    let one = second.is_none() && is_past(tally, before, 1);
+    drop(first);
+    both && one && is_past(tally, before, 2)
+}
+
+fn is_past(tally: &Tally, before: u32, count: u32) -> bool {
+    tally.count().checked_sub(before) == Some(count)
+}
+
+/// A kind, an edit that it takes, and one that it doesn't.
+const KINDS: &str = "note i 0 ab|d 0 2
+table s A1 x|c A1
+drawing b 0 0 3 2|r 1";
+
+fn object(alloc: Global, tally: &Tally, kind: &str) -> Result<Box<dyn Embedded>, Fail> {
+    match kind {
+        "note" => note(alloc, tally),
+        "table" => table(alloc, tally),
+        _ => drawing(alloc, tally),
+    }
+}
+
+fn is_counted(alloc: Global, row: &str) -> Result<bool, Fail> {
+    let (kind, edits) = halves(row, " ");
+    let tally = Tally::new(alloc)?;
+    let first = object(alloc, &tally, kind)?;
+    let second = object(alloc, &tally, kind)?;
+    Ok(are_counted(alloc, &tally, first, second, edits))
+}
+
+#[test]
+fn each_object_is_counted_once(rt: HostRuntime) -> Result<(), Fail> {
+    for row in KINDS.split('\n') {
+        assert!(rt; is_counted(rt.alloc(), row)?, "{row}");
+    }
+    Ok(())
+}
+
+#[test]
+fn a_tally_is_shared(rt: HostRuntime) -> Result<(), Fail> {
+    let tally = Tally::new(rt.alloc())?;
+    let other = tally.share()?;
+    assert!(rt; other.count() == 0);
+    other.raise();
+    tally.raise();
+    drop(other);
+    assert!(rt; tally.count() == 2);
+    Ok(())
+}
