@@ -11,7 +11,7 @@ use Rattle.std.specs.List.{AllByRecursion}
 use Rattle.std.specs.Map.{keys_of}
 use Rattle.storage_tree.specs.declared.fault.TreeFault.{TreeFault}
 use Rattle.storage_tree.specs.declared.storage.Edit.{Edit}
-use Rattle.storage_tree.specs.declared.storage.Edit.TheVariants.{Put, Make, Remove}
+use Rattle.storage_tree.specs.declared.storage.Edit.TheVariants.{Put, Add, Make, Remove}
 use Rattle.storage_tree.specs.declared.fault.TreeFault.TheVariants.{NotFound, Exists, WrongKind, NoTransaction, TooDeep, NoMemory}
 use Rattle.std.specs.Option.{option_map}
 use Rattle.std.specs.Map.{lookup, set_value, remove_entry}
@@ -19,7 +19,7 @@ use Rattle.std.specs.BTreeMap.{insert_entry, BTreeMap, is_at}
 use Rattle.std.specs.Ordering.{is_eq, match_ordering, ordering_reverse}
 use Rattle.std.specs.declared.cmp.Ordering.TheVariants.{Less, Equal, Greater}
 use Rattle.storage_tree.specs.Tree.{Tree, Children, none, tree}
-use Rattle.storage_tree.specs.Change.{child, Seen, bytes, inner, find, place, without, map_ok, on_ok, found, change, putting, put_seen, making, removing, look, Outcome}
+use Rattle.storage_tree.specs.Change.{child, Seen, bytes, inner, find, place, without, map_ok, on_ok, found, change, putting, put_seen, adding, making, removing, look, Outcome}
 use Rattle.cfb_names.specs.Names.{key, key_cmp, key_eq}
 use Rattle.storage_tree.specs.View.{node_step, storage_step, seen, view, shown, children}
 use Rattle.storage_tree.specs.declared.storage.Node.{Node, fold-roll-Node}
@@ -209,6 +209,30 @@ is_some-map f (Some a) b h = sym h
 pub none_from : {A : Type 0} (o : Option A) → is_some o ≡ false → o ≡ None
 none_from None h = refl
 none_from (Some a) h = absurd (search (rules))
+
+-- a stream where nothing stands
+pub add-new : (name new class : List ℕ) (state : ℕ) (es es' : Entries) (v : Node)
+    → lookup (is_at (key_cmp (key name))) es ≡ None → seen v ≡ bytes new → es' ≡ insert_entry key_cmp es (key name) (name, v)
+    → change (Add new) (name ∷ []) (inner (tree class state (children es))) ≡ Ok (inner (tree class state (children es')))
+add-new name new class state es es' v h e q =
+    let g : Children → Seen = λ c. inner (tree class state c) in
+    ap (λ o. map_ok g (adding name new (children es) o)) (find-none (key name) es h) ∙ ap (λ c. Ok (g c)) (placed (key name) name v (bytes new) es es' e q)
+
+pub add-ok : (name new class : List ℕ) (state : ℕ) (es : Entries)
+    → lookup (is_at (key_cmp (key name))) es ≡ None → IsOk (change (Add new) (name ∷ []) (inner (tree class state (children es))))
+add-ok name new class state es h =
+    let P : Option (List ℕ × Seen) → Type 0 = λ o. IsOk (map_ok {A = Children} {B = Seen} (λ c. inner (tree class state c)) (adding name new (children es) o)) in
+    subst P (sym (find-none (key name) es h)) refl
+
+adding-some : (name new class : List ℕ) (state : ℕ) (cs : Children) (o : Option (List ℕ × Seen)) → is_some o ≡ true
+    → map_ok {A = Children} {B = Seen} (λ c. inner (tree class state c)) (adding name new cs o) ≡ Err Exists
+adding-some name new class state cs None h = absurd (search (rules))
+adding-some name new class state cs (Some c) h = refl
+
+pub add-there : (name new class : List ℕ) (state : ℕ) (es : Entries) → is_some (lookup (is_at (key_cmp (key name))) es) ≡ true
+    → change (Add new) (name ∷ []) (inner (tree class state (children es))) ≡ Err Exists
+add-there name new class state es h = adding-some name new class state (children es) (find (key name) (children es))
+    (ap is_some (find-entries (key name) es) ∙ is_some-map shown (lookup (is_at (key_cmp (key name))) es) true (sym h))
 
 module _ (name class : List ℕ) (state : ℕ) (fits : Bool) (c : List ℕ) (st : ℕ) (cs : Children) where
   making-some : (o : Option (List ℕ × Seen)) → is_some o ≡ true → map_ok {A = Children} {B = Seen} (λ x. inner (tree c st x)) (making name class state fits cs o) ≡ Err Exists

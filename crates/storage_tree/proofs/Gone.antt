@@ -9,7 +9,7 @@ use Rattle.storage_tree.specs.Kept.{Kept, beginning, committing, committed, reve
 use Rattle.storage_tree.specs.Transactions.{Within, nothing, changes, commits, reverts, RevertGivesBack}
 use Rattle.storage_tree.specs.declared.fault.TreeFault.TheVariants.{NotFound, Exists, WrongKind, TooDeep}
 use Rattle.storage_tree.specs.declared.storage.Edit.{Edit}
-use Rattle.storage_tree.specs.declared.storage.Edit.TheVariants.{Put, Make, Remove, Rename}
+use Rattle.storage_tree.specs.declared.storage.Edit.TheVariants.{Put, Add, Make, Remove, Rename}
 use Rattle.storage_tree.proofs.Entries.{find-child, without-child, reflexive, key_eq-flip}
 use Rattle.storage_tree.proofs.Lawful.{err_ok, ok_is, from_map, from_found, find-place, find-place-other}
 use Rattle.storage_tree.proofs.Wholes.{from, tied, find-whole}
@@ -50,6 +50,7 @@ renamed-gone d name new cs cs' (Some c) all e h =
 
 edited-gone : (e : Edit) (d : ℕ) (name : List ℕ) (cs cs' : Children) → AreTrees d cs → Frees e (name ∷ []) → edited e name cs ≡ Ok cs' → find (key name) cs' ≡ None
 edited-gone (Put new) d name cs cs' all f h = absurd f
+edited-gone (Add new) d name cs cs' all f h = absurd f
 edited-gone (Make class state fits) d name cs cs' all f h = absurd f
 edited-gone Remove d name cs cs' all f h = removed-gone d name cs cs' (find (key name) cs) all h
 edited-gone (Rename new) d name cs cs' all (inl e) h = renamed-gone d name new cs cs' (find (key name) cs) all e h
@@ -60,6 +61,7 @@ not_other k h = let e : key_eq k k ≡ true = ap is_eq (reflexive k) in absurd (
 
 frees-below : (e : Edit) (n x : List ℕ) (rest : List (List ℕ)) → Frees e (n ∷ x ∷ rest) → Frees e (x ∷ rest)
 frees-below (Put new) n x rest f = f
+frees-below (Add new) n x rest f = f
 frees-below (Make class state fits) n x rest f = f
 frees-below Remove n x rest f = f
 frees-below (Rename new) n x rest (inl h) = not_other (key n) h

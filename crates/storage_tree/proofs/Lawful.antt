@@ -1,14 +1,15 @@
 use Rattle.std.proofs.Common.{◌++◌, subst, ◌≡◌, ℕ, List, [], ◌∷◌, refl, sym, ◌∙◌, ap, Bool, true, false, cond, Option, Some, None, Result, Ok, Err, rules, inl, inr}
+use Rattle.std.specs.Prelude.{is_ok}
 use Rattle.std.specs.Cmp.Lexicographic.{nat_list_cmp_total}
 use Rattle.std.specs.Ordering.{is_eq, match_ordering, ordering_reverse}
 use Rattle.std.specs.declared.cmp.Ordering.TheVariants.{Less, Equal, Greater}
 use Rattle.storage_tree.specs.declared.fault.TreeFault.{TreeFault}
 use Rattle.storage_tree.specs.declared.fault.TreeFault.TheVariants.{NotFound, Exists, WrongKind, TooDeep}
 use Rattle.storage_tree.specs.declared.storage.Edit.{Edit}
-use Rattle.storage_tree.specs.declared.storage.Edit.TheVariants.{Put, Make, Remove, Rename}
+use Rattle.storage_tree.specs.declared.storage.Edit.TheVariants.{Put, Add, Make, Remove, Rename}
 use Rattle.cfb_names.specs.Names.{key, key_cmp, key_eq}
 use Rattle.storage_tree.specs.Tree.{Children, none, stream, storage, tree}
-use Rattle.storage_tree.specs.Change.{child, Seen, bytes, inner, find, place, without, map_ok, on_ok, found, change, edited, putting, making, removing, moving, renaming, look}
+use Rattle.storage_tree.specs.Change.{child, Seen, bytes, inner, find, place, without, map_ok, on_ok, found, change, edited, putting, adding, making, removing, moving, renaming, look}
 use Rattle.storage_tree.specs.Laws.{Apart, beside, target, Stays, PutIsThere, MadeIsThere, RenamedIsThere}
 use Rattle.storage_tree.proofs.Entries.{find-child, place-child, without-child, reflexive}
 
@@ -73,6 +74,10 @@ put-other q name new cs cs' None d h = ap (find q) (sym (ok_is _ _ h)) ∙ find-
 put-other q name new cs cs' (Some (n, bytes b)) d h = ap (find q) (sym (ok_is _ _ h)) ∙ find-place-other q (key name) (n, bytes new) cs d
 put-other q name new cs cs' (Some (n, inner t)) d h = err_ok WrongKind cs' h
 
+add-other : (q name new : List ℕ) (cs cs' : Children) (o : Option (List ℕ × Seen)) → key_eq q (key name) ≡ false → adding name new cs o ≡ Ok cs' → find q cs' ≡ find q cs
+add-other q name new cs cs' None d h = ap (find q) (sym (ok_is _ _ h)) ∙ find-place-other q (key name) (name, bytes new) cs d
+add-other q name new cs cs' (Some c) d h = err_ok Exists cs' h
+
 make-other : (q name class : List ℕ) (state : ℕ) (fits : Bool) (cs cs' : Children) (o : Option (List ℕ × Seen)) → key_eq q (key name) ≡ false → making name class state fits cs o ≡ Ok cs' → find q cs' ≡ find q cs
 make-other q name class state true cs cs' None d h = ap (find q) (sym (ok_is _ _ h)) ∙ find-place-other q (key name) (name, inner (tree class state none)) cs d
 make-other q name class state false cs cs' None d h = err_ok TooDeep cs' h
@@ -94,6 +99,7 @@ rename-other q name new cs cs' (Some c) d e h =
 
 edited-other : (e : Edit) (m n : List ℕ) (q : List (List ℕ)) (cs cs' : Children) → key_eq (key m) (key n) ≡ false → Apart (target e (n ∷ [])) (m ∷ q) → edited e n cs ≡ Ok cs' → find (key m) cs' ≡ find (key m) cs
 edited-other (Put new) m n q cs cs' d a h = put-other (key m) n new cs cs' (find (key n) cs) d h
+edited-other (Add new) m n q cs cs' d a h = add-other (key m) n new cs cs' (find (key n) cs) d h
 edited-other (Make class state fits) m n q cs cs' d a h = make-other (key m) n class state fits cs cs' (find (key n) cs) d h
 edited-other Remove m n q cs cs' d a h = remove-other (key m) n cs cs' (find (key n) cs) d h
 edited-other (Rename new) m n q cs cs' d (inl e) h = rename-other (key m) n new cs cs' (find (key n) cs) d e h
@@ -133,6 +139,7 @@ module _ (n m : List ℕ) (q : List (List ℕ)) (cs : Children) (c : List ℕ ×
 -- the target of a change below
 target-below : (e : Edit) (n x : List ℕ) (rest : List (List ℕ)) → target e (n ∷ x ∷ rest) ≡ n ∷ target e (x ∷ rest)
 target-below (Put new) n x rest = refl
+target-below (Add new) n x rest = refl
 target-below (Make class state fits) n x rest = refl
 target-below Remove n x rest = refl
 target-below (Rename new) n x rest = refl
@@ -170,6 +177,25 @@ put_is_there (n ∷ x ∷ rest) new (inner (tree class state cs)) t h =
     let w = from_map _ (change (Put new) (x ∷ rest) u.0.1) t u.2 in
     ap (look (n ∷ x ∷ rest)) (sym w.2) ∙ ap (λ o. on_ok (λ c. look (x ∷ rest) c.1) (found o)) (find-place (key n) (u.0.0, w.0) cs)
     ∙ put_is_there (x ∷ rest) new u.0.1 w.0 w.1
+
+-- below the root, a stream is made as it is put
+add-here : (class : List ℕ) (state : ℕ) (name new : List ℕ) (cs : Children) (o : Option (List ℕ × Seen)) → map_ok {A = Children} {B = Seen} (λ x. inner (tree class state x)) (adding name new cs o)
+    ≡ cond (is_ok (on_ok (λ c. look [] c.1) (found o))) (Err Exists) (map_ok (λ x. inner (tree class state x)) (putting name new cs o))
+add-here class state name new cs None = refl
+add-here class state name new cs (Some c) = refl
+
+add-below : (f : Seen → Seen) (b : Bool) (told other : Result Seen TreeFault) → told ≡ cond b (Err Exists) other → map_ok f told ≡ cond b (Err Exists) (map_ok f other)
+add-below f true told other h = ap (map_ok f) h
+add-below f false told other h = ap (map_ok f) h
+
+pub added_is_put : (name : List ℕ) (rest : List (List ℕ)) (new : List ℕ) (s : Seen)
+    → change (Add new) (name ∷ rest) s ≡ cond (is_ok (look (name ∷ rest) s)) (Err Exists) (change (Put new) (name ∷ rest) s)
+added_is_put n rest new (bytes b) = refl
+added_is_put n [] new (inner (tree class state cs)) = add-here class state n new cs (find (key n) cs)
+added_is_put n (x ∷ rest) new (inner (tree class state cs)) =
+    elim (find (key n) cs) as (λ o. on_ok (λ c. map_ok (λ s. inner (tree class state (place (key n) (c.0, s) cs))) (change (Add new) (x ∷ rest) c.1)) (found o)
+    ≡ cond (is_ok (on_ok (λ c. look (x ∷ rest) c.1) (found o))) (Err Exists) (on_ok (λ c. map_ok (λ s. inner (tree class state (place (key n) (c.0, s) cs))) (change (Put new) (x ∷ rest) c.1)) (found o)))
+    [ None ↦ refl | Some c ↦ add-below (λ s. inner (tree class state (place (key n) (c.0, s) cs))) (is_ok (look (x ∷ rest) c.1)) (change (Add new) (x ∷ rest) c.1) (change (Put new) (x ∷ rest) c.1) (added_is_put x rest new c.1) ]
 
 make-here : (name class : List ℕ) (state : ℕ) (fits : Bool) (cs cs' : Children) (o : Option (List ℕ × Seen)) → making name class state fits cs o ≡ Ok cs'
     → on_ok (λ c. look [] c.1) (found (find (key name) cs')) ≡ Ok (inner (tree class state none))

@@ -1,6 +1,6 @@
 -- An entry under another name.
 use Rattle.std.proofs.Common.{◌≡◌, ℕ, List, [], ◌∷◌, refl, sym, ◌∙◌, ap, subst, true, false, cond, Option, Some, None, Result, Ok, Err, rules}
-use Rattle.std.specs.Prelude.{IsOk}
+use Rattle.std.specs.Prelude.{IsOk, IsSome}
 use Rattle.std.specs.Option.{is_some}
 use Rattle.std.specs.List.Sorted.{IsStrictlySortedBy}
 use Rattle.std.specs.Cmp.Lexicographic.{nat_list_cmp_total}
@@ -18,10 +18,10 @@ use Rattle.storage_tree.specs.Change.{Seen, inner, find, place, without, map_ok,
 use Rattle.cfb_names.specs.Names.{key, key_cmp, key_eq}
 use Rattle.storage_tree.specs.View.{seen, children, moved, moved_from, with_node}
 use Rattle.storage_tree.specs.declared.storage.Node.{Node}
-use Rattle.storage_tree.proofs.Entries.{Entries, some_none, find-none, find-some, key_eq-flip, place-insert, place-set, reflexive, without-entries}
+use Rattle.storage_tree.proofs.Entries.{Entries, some_none, find-none, find-some, key_eq-flip, place-insert, place-set, reflexive, set-same, without-entries}
 
 module _ (k : List ℕ) (v w : List ℕ × Node) where
-  lookup-insert : (es : Entries) → lookup (is_at (key_cmp k)) (insert_entry key_cmp es k v) ≡ Some v
+  pub lookup-insert : (es : Entries) → lookup (is_at (key_cmp k)) (insert_entry key_cmp es k v) ≡ Some v
   lookup-insert [] = ap (λ o. cond (is_eq o) (Some v) None) (reflexive k)
   lookup-insert (e ∷ es) = elim (key_cmp k e.0) as (λ o. key_cmp k e.0 ≡ o → lookup (is_at (key_cmp k)) (match_ordering o ((k, v) ∷ e ∷ es) ((e.0, v) ∷ es) (e ∷ insert_entry key_cmp es k v)) ≡ Some v) [
     | Less ↦ λ q. ap (λ o. cond (is_eq o) (Some v) (lookup (is_at (key_cmp k)) (e ∷ es))) (reflexive k)
@@ -29,7 +29,7 @@ module _ (k : List ℕ) (v w : List ℕ × Node) where
     | Greater ↦ λ q. ap (λ o. cond (is_eq o) (Some e.1) (lookup (is_at (key_cmp k)) (insert_entry key_cmp es k v))) q ∙ lookup-insert es
   ] refl
 
-  set-insert : (es : Entries) → set_value (is_at (key_cmp k)) (insert_entry key_cmp es k v) w ≡ insert_entry key_cmp es k w
+  pub set-insert : (es : Entries) → set_value (is_at (key_cmp k)) (insert_entry key_cmp es k v) w ≡ insert_entry key_cmp es k w
   set-insert [] = ap (λ o. cond (is_eq o) ((k, w) ∷ []) ((k, v) ∷ [])) (reflexive k)
   set-insert (e ∷ es) = elim (key_cmp k e.0) as (λ o. key_cmp k e.0 ≡ o → set_value (is_at (key_cmp k)) (match_ordering o ((k, v) ∷ e ∷ es) ((e.0, v) ∷ es) (e ∷ insert_entry key_cmp es k v)) w
       ≡ match_ordering o ((k, w) ∷ e ∷ es) ((e.0, w) ∷ es) (e ∷ insert_entry key_cmp es k w)) [
@@ -37,6 +37,15 @@ module _ (k : List ℕ) (v w : List ℕ × Node) where
         | Equal ↦ λ q. ap (λ o. cond (is_eq o) ((e.0, w) ∷ es) ((e.0, v) ∷ set_value (is_at (key_cmp k)) es w)) q
         | Greater ↦ λ q. ap (λ o. cond (is_eq o) ((e.0, w) ∷ insert_entry key_cmp es k v) (e ∷ set_value (is_at (key_cmp k)) (insert_entry key_cmp es k v) w)) q ∙ ap (λ x. e ∷ x) (set-insert es)
       ] refl
+
+-- what was there, put back over what took its place
+pub put-back : (k : List ℕ) (v x : List ℕ × Node) (es one two : Entries) → IsStrictlySortedBy key_cmp (keys_of es) → lookup (is_at (key_cmp k)) es ≡ Some x
+    → one ≡ insert_entry key_cmp es k v → (IsSome (lookup (is_at (key_cmp k)) one) → two ≡ set_value (is_at (key_cmp k)) one x) → children two ≡ children es
+put-back k v x es one two up known q put =
+    let P : Option (List ℕ × Node) → Type 0 = λ o. IsSome o in
+    let there : IsSome (lookup (is_at (key_cmp k)) one) = subst P (sym (ap (lookup (is_at (key_cmp k))) q ∙ lookup-insert k v x es)) refl in
+    ap children (put there ∙ ap (λ e. set_value (is_at (key_cmp k)) e x) q ∙ set-insert k v x es)
+    ∙ sym (place-insert k x es) ∙ place-set k x x es up known ∙ set-same k x es known
 
 insert-first : (k : List ℕ) (v : List ℕ × Node) (e : List ℕ × (List ℕ × Node)) (es : Entries) → IsStrictlySortedBy key_cmp (keys_of (e ∷ es)) → key_cmp k e.0 ≡ Less
     → insert_entry key_cmp es k v ≡ (k, v) ∷ es

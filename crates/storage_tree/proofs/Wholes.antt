@@ -7,11 +7,11 @@ use Rattle.std.specs.Ordering.{is_eq, match_ordering, ordering_reverse}
 use Rattle.std.specs.declared.cmp.Ordering.TheVariants.{Less, Equal, Greater}
 use Rattle.cfb_names.specs.Names.{key, key_cmp, key_eq}
 use Rattle.storage_tree.specs.Tree.{Tree, Children, none, stream, storage, tree}
-use Rattle.storage_tree.specs.Change.{Outcome, child, Seen, bytes, inner, find, place, without, change, edited, putting, making, removing, moving, renaming}
+use Rattle.storage_tree.specs.Change.{Outcome, child, Seen, bytes, inner, find, place, without, change, edited, putting, adding, making, removing, moving, renaming}
 use Rattle.storage_tree.specs.declared.fault.TreeFault.{TreeFault}
 use Rattle.storage_tree.specs.declared.fault.TreeFault.TheVariants.{NotFound, Exists, WrongKind, NoTransaction, TooDeep, NoMemory}
 use Rattle.storage_tree.specs.declared.storage.Edit.{Edit}
-use Rattle.storage_tree.specs.declared.storage.Edit.TheVariants.{Put, Make, Remove, Rename}
+use Rattle.storage_tree.specs.declared.storage.Edit.TheVariants.{Put, Add, Make, Remove, Rename}
 use Rattle.std.specs.Result.{OnOk}
 use Rattle.cfb_names.specs.Names.{IsName}
 use Rattle.storage_tree.specs.Laws.{IsNewName, LeavesNames, FitsIn, ChangeKeeps}
@@ -152,6 +152,10 @@ module _ (d : ℕ) (name : List ℕ) (cs cs' : Children) (all : AreTrees d cs) w
   putting-whole new (Some (n, bytes b)) v f h = subst P (ok_is _ _ h) (replace-whole d (key name) (n, bytes b) (bytes new) cs all f tt)
   putting-whole new (Some (n, inner t)) v f h = err_ok WrongKind cs' h
 
+  adding-whole : (new : List ℕ) (o : Option (List ℕ × Seen)) → IsName name → adding name new cs o ≡ Ok cs' → AreTrees d cs'
+  adding-whole new None v h = subst P (ok_is _ _ h) (place-whole d name (bytes new) cs v tt all)
+  adding-whole new (Some c) v h = err_ok Exists cs' h
+
   making-whole : (class : List ℕ) (state : ℕ) (fits : Bool) (o : Option (List ℕ × Seen)) → IsName name → (fits ≡ true → IsWhole d (inner (tree class state none))) → making name class state fits cs o ≡ Ok cs' → AreTrees d cs'
   making-whole class state true None v w h = subst P (ok_is _ _ h) (place-whole d name (inner (tree class state none)) cs v (w refl) all)
   making-whole class state false None v w h = err_ok TooDeep cs' h
@@ -179,12 +183,14 @@ made-whole (suc d) class state h = tt
 
 edited-whole : (e : Edit) (d : ℕ) (name : List ℕ) (cs cs' : Children) → AreTrees d cs → IsNewName e name → FitsIn e 1 d → edited e name cs ≡ Ok cs' → AreTrees d cs'
 edited-whole (Put new) d name cs cs' all v w h = putting-whole d name cs cs' all new (find (key name) cs) v refl h
+edited-whole (Add new) d name cs cs' all v w h = adding-whole d name cs cs' all new (find (key name) cs) v h
 edited-whole (Make class state fits) d name cs cs' all v w h = making-whole d name cs cs' all class state fits (find (key name) cs) v (λ e. made-whole d class state (w e)) h
 edited-whole Remove d name cs cs' all v w h = removing-whole d name cs cs' all (find (key name) cs) h
 edited-whole (Rename new) d name cs cs' all v w h = renaming-whole d name cs cs' all new (find (key name) cs) v refl h
 
 weaker : (e : Edit) (n d m k : ℕ) → (n ≤ d → m ≤ k) → FitsIn e n d → FitsIn e m k
 weaker (Put new) n d m k f w = tt
+weaker (Add new) n d m k f w = tt
 weaker (Make class state fits) n d m k f w = λ h. f (w h)
 weaker Remove n d m k f w = tt
 weaker (Rename new) n d m k f w = tt

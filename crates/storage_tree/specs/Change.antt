@@ -6,7 +6,7 @@ use Rattle.storage_tree.specs.Tree.{Tree, Children, tree, none, stream, storage}
 use Rattle.storage_tree.specs.declared.fault.TreeFault.{TreeFault}
 use Rattle.storage_tree.specs.declared.fault.TreeFault.TheVariants.{NotFound, Exists, WrongKind, TooDeep, NoMemory}
 use Rattle.storage_tree.specs.declared.storage.Edit.{Edit}
-use Rattle.storage_tree.specs.declared.storage.Edit.TheVariants.{Put, Make, Remove, Rename}
+use Rattle.storage_tree.specs.declared.storage.Edit.TheVariants.{Put, Add, Make, Remove, Rename}
 
 -- what stands at a path: a stream's bytes, or a storage
 pub data Seen : Type 0 where
@@ -64,6 +64,11 @@ abbrev pub putting : List ℕ → List ℕ → Children → Option (List ℕ × 
 putting name new cs None = Ok (place (key name) (name, bytes new) cs)
 putting name new cs (Some c) = map_ok (λ s. place (key name) (c.0, s) cs) (put_seen new c.1)
 
+-- a stream is made where nothing stands
+abbrev pub adding : List ℕ → List ℕ → Children → Option (List ℕ × Seen) → Result Children TreeFault
+adding name new cs None = Ok (place (key name) (name, bytes new) cs)
+adding name new cs (Some c) = Err Exists
+
 -- a storage without children is made where nothing stands and where it isn't nested too deep
 abbrev pub making : List ℕ → List ℕ → ℕ → Bool → Children → Option (List ℕ × Seen) → Result Children TreeFault
 making name class state fits cs None = cond fits (Ok (place (key name) (name, inner (tree class state none)) cs)) (Err TooDeep)
@@ -87,6 +92,7 @@ renaming name new cs (Some c) = cond (key_eq (key new) (key name)) (Ok (place (k
 -- a change under a name
 abbrev pub edited : Edit → List ℕ → Children → Result Children TreeFault
 edited (Put new) name cs = putting name new cs (find (key name) cs)
+edited (Add new) name cs = adding name new cs (find (key name) cs)
 edited (Make class state fits) name cs = making name class state fits cs (find (key name) cs)
 edited Remove name cs = removing name cs (find (key name) cs)
 edited (Rename new) name cs = renaming name new cs (find (key name) cs)

@@ -6,7 +6,7 @@ use Rattle.storage_tree.specs.View.{view}
 use Rattle.storage_tree.specs.declared.fault.TreeFault.{TreeFault}
 use Rattle.storage_tree.specs.declared.fault.TreeFault.TheVariants.{NoTransaction, TooDeep}
 use Rattle.storage_tree.specs.declared.storage.Edit.{Edit}
-use Rattle.storage_tree.specs.declared.storage.Edit.TheVariants.{Put, Make, Remove, Rename}
+use Rattle.storage_tree.specs.declared.storage.Edit.TheVariants.{Put, Add, Make, Remove, Rename}
 use Rattle.storage_tree.specs.declared.tree.Tree as declared
 
 -- the tree now, and those that the open transactions began with, the newest first
@@ -28,6 +28,9 @@ changing e path k = map_ok (λ s. record { now = tree_of s k.now; saved = k.save
 
 abbrev pub put : List (List ℕ) → List ℕ → Kept → Result Kept TreeFault
 put path new k = changing (Put new) path k
+
+abbrev pub added : List (List ℕ) → List ℕ → Kept → Result Kept TreeFault
+added path new k = changing (Add new) path k
 
 abbrev pub made : List (List ℕ) → List ℕ → ℕ → Kept → Result Kept TreeFault
 made path class state k = changing (Make class state (nat_le (length path) 32)) path k

@@ -6,7 +6,7 @@ use Rattle.storage_tree.specs.Change.{Seen, bytes, inner, change, look}
 use Rattle.storage_tree.specs.Whole.{IsWhole}
 use Rattle.storage_tree.specs.declared.fault.TreeFault.TheVariants.{NotFound}
 use Rattle.storage_tree.specs.declared.storage.Edit.{Edit}
-use Rattle.storage_tree.specs.declared.storage.Edit.TheVariants.{Put, Make, Remove, Rename}
+use Rattle.storage_tree.specs.declared.storage.Edit.TheVariants.{Put, Add, Make, Remove, Rename}
 
 -- two paths that part, neither leading to the other
 abbrev pub Apart : List (List ℕ) → List (List ℕ) → Type 0
@@ -23,6 +23,7 @@ beside (name ∷ next ∷ rest) new = name ∷ beside (next ∷ rest) new
 -- where what a change writes stands afterwards
 abbrev pub target : Edit → List (List ℕ) → List (List ℕ)
 target (Put new) path = path
+target (Add new) path = path
 target (Make class state fits) path = path
 target Remove path = path
 target (Rename new) path = beside path new
@@ -48,6 +49,7 @@ RenamedIsThere = (path below : List (List ℕ)) (new : List ℕ) (s t : Seen)
 -- a removal frees its path, and a rename to another name its old one
 abbrev pub Frees : Edit → List (List ℕ) → Type 0
 Frees (Put new) path = ⊥
+Frees (Add new) path = ⊥
 Frees (Make class state fits) path = ⊥
 Frees Remove path = Unit {0}
 Frees (Rename new) path = Apart (beside path new) path
@@ -58,6 +60,7 @@ IsGone = (e : Edit) (path : List (List ℕ)) (s t : Seen) (depth : ℕ) → Free
 -- what a change names anew has a name that a directory takes
 abbrev pub IsNewName : Edit → List ℕ → Type 0
 IsNewName (Put new) name = IsName name
+IsNewName (Add new) name = IsName name
 IsNewName (Make class state fits) name = IsName name
 IsNewName Remove name = Unit {0}
 IsNewName (Rename new) name = IsName new
@@ -70,6 +73,7 @@ LeavesNames e (name ∷ next ∷ rest) = LeavesNames e (next ∷ rest)
 -- a storage is made only where so many levels below are within the depth
 abbrev pub FitsIn : Edit → ℕ → ℕ → Type 0
 FitsIn (Put new) below depth = Unit {0}
+FitsIn (Add new) below depth = Unit {0}
 FitsIn (Make class state fits) below depth = fits ≡ true → below ≤ depth
 FitsIn Remove below depth = Unit {0}
 FitsIn (Rename new) below depth = Unit {0}

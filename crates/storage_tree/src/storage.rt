@@ -1,8 +1,10 @@
 //! Storages.
 
-ghost use Rattle.std.specs.Prelude.{◌≡◌, ◌≢◌, [], ◌∷◌, Err, IfOk, OnOk};
+ghost use Rattle.std.specs.Prelude.{◌≡◌, ◌≢◌, [], ◌∷◌, Err, IfOk, OnOk, IsSome};
+ghost use Rattle.std.specs.BTreeMap.{is_at};
+ghost use Rattle.std.specs.Map.{lookup, set_value};
 ghost use Rattle.storage_tree.specs.declared.fault.TreeFault.TheVariants.{NoMemory};
-ghost use Rattle.cfb_names.specs.Names.{IsName, key};
+ghost use Rattle.cfb_names.specs.Names.{IsName, key, key_cmp};
 ghost use Rattle.storage_tree.specs.Laws.{IsNewName, LeavesNames};
 ghost use Rattle.storage_tree.specs.Tree.{child_names, none, tree};
 ghost use Rattle.storage_tree.specs.Change.{Changes, Outcome, inner, look, map_ok, put_seen};
@@ -51,6 +53,8 @@ pub enum Found<'a> {
 pub enum Edit {
     /// Makes a stream of these bytes, or replaces the bytes of one.
     Put(Bytes),
+    /// Makes a stream of these bytes where nothing stands.
+    Add(Bytes),
     /// Makes a storage of this class id and these state bits, where it is known to fit.
     Make(ClassId, u32, bool),
     /// Removes what stands there.
@@ -181,6 +185,7 @@ impl Storage {
     {
         match edit {
             Edit::Put(bytes) => self.put_child(name, bytes),
+            Edit::Add(bytes) => self.add_child(name, bytes),
             Edit::Make(class, state, fits) => self.make_child(alloc, name, class, state, fits),
             Edit::Remove => self.remove_child(name),
             Edit::Rename(new) => self.rename_child(alloc, name, new),
@@ -201,6 +206,36 @@ impl Storage {
                 Ok(_) => Ok(()),
                 Err(_) => Err(TreeFault::NoMemory),
             },
+        }
+    }
+
+    fn add_child(&mut self, name: &Name, bytes: Bytes) -> Result<(), TreeFault>
+        ensures names { IsName name.now }
+        ensures change { Changes result (Edit.Add bytes) (name.now ∷ []) (inner (view self.old)) (inner (view self.new)) }
+    {
+        let key = key_of(name);
+        match self
+            .children
+            .insert(key, (name.copy(), Node::Stream(bytes)))
+        {
+            Ok(None) => Ok(()),
+            Ok(Some(there)) => {
+                self.put_back(&key, there);
+                Err(TreeFault::Exists)
+            }
+            Err(_) => Err(TreeFault::NoMemory),
+        }
+    }
+
+    /// Puts a child back into the place that another one took.
+    fn put_back(&mut self, key: &[u8; 32], there: (Name, Node))
+        ensures class { self.new.class ≡ self.old.class }
+        ensures state { self.new.state ≡ self.old.state }
+        ensures entries { IsSome (lookup (is_at (key_cmp key.now)) self.old.children.entries) → self.new.children.entries ≡ set_value (is_at (key_cmp key.now)) self.old.children.entries there }
+    {
+        match self.children.get_mut(key) {
+            Some(child) => *child = there,
+            None => {}
         }
     }
 

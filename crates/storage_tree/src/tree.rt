@@ -37,7 +37,7 @@ pub struct Tree {
 }
 
 impl Tree {
-    ghost use Rattle.storage_tree.specs.Kept.{beginning, committing, reverting, changing, kept, put, made, removed, renamed};
+    ghost use Rattle.storage_tree.specs.Kept.{beginning, committing, reverting, changing, kept, put, added, made, removed, renamed};
 
     /// A root without children, with this class id and these state bits, outside transactions. What later calls take
     /// comes from this allocator.
@@ -77,6 +77,16 @@ impl Tree {
         ensures { Outcome result (put path.now bytes (kept self.old)) (kept self.old) (kept self.new) }
     {
         self.root.edit(self.alloc, path, Edit::Put(bytes))
+    }
+
+    /// Makes a stream of these bytes at a path.
+    ///
+    /// Refused: `NotFound` where a storage on the way isn't there; `WrongKind` for the empty path or a stream on the way;
+    /// `Exists` where something stands at the path; then `NoMemory`. A refusal changes nothing.
+    pub fn make_stream(&mut self, path: &[Name], bytes: Bytes) -> Result<(), TreeFault>
+        ensures { Outcome result (added path.now bytes (kept self.old)) (kept self.old) (kept self.new) }
+    {
+        self.root.edit(self.alloc, path, Edit::Add(bytes))
     }
 
     /// Makes a storage without children at a path.
