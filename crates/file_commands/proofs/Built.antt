@@ -1,14 +1,15 @@
 -- Steps of building a tree from a description.
-use Rattle.std.proofs.Common.{◌≡◌, ◌≤◌, ◌<◌, ◌+◌, ℕ, Bool, true, false, cond, List, [], ◌∷◌, Option, Some, None, Result, Ok, Err, length, refl, sym, ap, subst, ◌∙◌, arith}
+use Rattle.std.proofs.Common.{◌≡◌, ◌≤◌, ◌<◌, ◌+◌, ℕ, Bool, true, false, cond, List, [], ◌∷◌, Option, Some, None, Result, Ok, Err, length, refl, sym, ap, subst, ◌∙◌, ◌==◌, arith, rules}
 use Rattle.std.specs.Prelude.{is_ok, nat_le, IsOk, IsTrue}
 use Rattle.cfb_names.specs.Names.{key}
 use Rattle.storage_tree.specs.Tree.{Tree, Children, tree}
 use Rattle.storage_tree.specs.Change.{Seen, bytes, inner, find, place, look, map_ok, on_ok, found, change, edited, Outcome}
-use Rattle.storage_tree.specs.Kept.{Kept, kept, put, made, tree_of}
+use Rattle.storage_tree.specs.Kept.{Kept, kept, put, added, made, tree_of}
 use Rattle.storage_tree.specs.declared.storage.Edit.{Edit}
-use Rattle.storage_tree.specs.declared.storage.Edit.TheVariants.{Put, Make}
+use Rattle.storage_tree.specs.declared.storage.Edit.TheVariants.{Put, Add, Make}
 use Rattle.storage_tree.specs.declared.fault.TreeFault.{TreeFault}
 use Rattle.storage_tree.specs.declared.fault.TreeFault.TheVariants.{NotFound, Exists, WrongKind, NoTransaction, TooDeep, NoMemory}
+use Rattle.storage_tree.proofs.Lawful.{added_is_put}
 use Rattle.file_model.specs.Need.{over_streams}
 use Rattle.file_commands.specs.Outline.{outline, outlined, total}
 use Rattle.file_commands.specs.Building.{IsBuilt, room}
@@ -142,15 +143,39 @@ outline-refused b k after_it path new fault built free h =
     (ok-same (kept b.tree) k (change (Put []) path (inner (kept b.tree).now)) (change (Put new) path (inner k.now)) (puts-alike (kept b.tree) k path new built.same))
     (λ f told. err-alike (kept b.tree) k (change (Put []) path (inner (kept b.tree).now)) (change (Put new) path (inner k.now)) f (puts-alike (kept b.tree) k path new built.same) told) h)
 
+-- a stream is made where nothing stands
+made-map : (f : Seen → Kept) (b : Bool) (told other : Result Seen TreeFault) → told ≡ cond b (Err Exists) other
+    → of_tree (map_ok f told) ≡ cond b (Err (line.Tree Exists)) (of_tree (map_ok f other))
+made-map f true told other h = ap (λ r. of_tree (map_ok f r)) h
+made-map f false told other h = ap (λ r. of_tree (map_ok f r)) h
+
+made-is : (k : Kept) (path : List (List ℕ)) (new : List ℕ) → false ≡ (length path == 0) → of_tree (added path new k) ≡ stream_made new k path
+made-is k [] new h = absurd (search (rules))
+made-is k (name ∷ rest) new h =
+    made-map (after k) (is_ok (look (name ∷ rest) (inner k.now))) (change (Add new) (name ∷ rest) (inner k.now)) (change (Put new) (name ∷ rest) (inner k.now)) (added_is_put name rest new (inner k.now))
+
+-- the root stands at the empty path
+pub root-exists : (k : Kept) (path : List (List ℕ)) (new : List ℕ) → true ≡ (length path == 0) → stream_made new k path ≡ Err (line.Tree Exists)
+root-exists k [] new h = refl
+root-exists k (name ∷ rest) new h = absurd (grind (arith))
+
+free-from : (k x : Kept) (path : List (List ℕ)) (new : List ℕ) → stream_made new k path ≡ Ok x → is_ok (look path (inner k.now)) ≡ false
+free-from k x path new h =
+    elim (is_ok (look path (inner k.now))) as (λ b. cond b (Err (line.Tree Exists)) (of_tree (put path new k)) ≡ Ok x → b ≡ false) [ true ↦ λ g. absurd (search (rules)) | false ↦ λ g. refl ] h
+
+of_tree-is : (r : Result Kept TreeFault) (x : Kept) → of_tree r ≡ Ok x → r ≡ Ok x
+of_tree-is (Ok k) x h = cc
+of_tree-is (Err fault) x h = absurd (search (rules))
+
 -- a stream is put with its bytes
-pub whole-put : (b b' : Building) (k : Kept) (path : List (List ℕ)) (new : List ℕ) → IsBuilt b k → b.spent + length new ≤ room → is_ok (look path (inner (kept b.tree).now)) ≡ false
-    → put path new (kept b.tree) ≡ Ok (kept b'.tree) → b'.spent ≡ b.spent + length new → (x : Kept) × (stream_made new k path ≡ Ok x) × IsBuilt b' x
-whole-put b b' k path new built within free h spent =
+pub whole-put : (b b' : Building) (k : Kept) (path : List (List ℕ)) (new : List ℕ) → IsBuilt b k → b.spent + length new ≤ room → false ≡ (length path == 0)
+    → added path new (kept b.tree) ≡ Ok (kept b'.tree) → b'.spent ≡ b.spent + length new → (x : Kept) × (stream_made new k path ≡ Ok x) × IsBuilt b' x
+whole-put b b' k path new built within below h spent =
     let is : kept b.tree ≡ k = built.exact (omega arith) in
-    let here : is_ok (look path (inner k.now)) ≡ false = looks-alike (kept b.tree) k path built.same ∙ free in
-    let told : put path new k ≡ Ok (kept b'.tree) = ap (put path new) (sym is) ∙ h in
-    let more = put-grows k (kept b'.tree) path new here told in
-    (kept b'.tree, free-put k path new here ∙ ap of_tree told, record { same = refl; spent = omega (arith, built.spent, more); exact = λ _. refl })
+    let told : stream_made new k path ≡ Ok (kept b'.tree) = sym (made-is k path new below) ∙ ap (λ q. of_tree (added path new q)) (sym is) ∙ ap of_tree h in
+    let free = free-from k (kept b'.tree) path new told in
+    let more = put-grows k (kept b'.tree) path new free (of_tree-is (put path new k) (kept b'.tree) (sym (free-put k path new free) ∙ told)) in
+    (kept b'.tree, told, record { same = refl; spent = omega (arith, built.spent, more); exact = λ _. refl })
 
 -- a storage is made, or refused
 pub storage-made : (b b' : Building) (k : Kept) (path : List (List ℕ)) (class : List ℕ) (state : ℕ) → IsBuilt b k
@@ -191,12 +216,11 @@ empty-ok b b' k path new built free h =
 
 -- a stream with its bytes is refused
 pub whole-refused : (b : Building) (k after_it : Kept) (path : List (List ℕ)) (new : List ℕ) (fault : TreeFault) → IsBuilt b k → b.spent + length new ≤ room
-    → is_ok (look path (inner (kept b.tree).now)) ≡ false
-    → Outcome (Err fault) (put path new (kept b.tree)) (kept b.tree) after_it → Refuses (stream_made new k path) (of_tree_fault fault)
-whole-refused b k after_it path new fault built within free h =
+    → false ≡ (length path == 0)
+    → Outcome (Err fault) (added path new (kept b.tree)) (kept b.tree) after_it → Refuses (stream_made new k path) (of_tree_fault fault)
+whole-refused b k after_it path new fault built within below h =
     let is : kept b.tree ≡ k = built.exact (omega arith) in
-    let here : is_ok (look path (inner k.now)) ≡ false = looks-alike (kept b.tree) k path built.same ∙ free in
-    let same : put path new (kept b.tree) ≡ put path new k = ap (put path new) is in
+    let same : added path new (kept b.tree) ≡ added path new k = ap (added path new) is in
     let P : Result Kept LineFault → Type 0 = λ r. Refuses r (of_tree_fault fault) in
-    subst P (sym (free-put k path new here)) (refused-alike fault (put path new (kept b.tree)) (put path new k) (kept b.tree) after_it
+    subst P (made-is k path new below) (refused-alike fault (added path new (kept b.tree)) (added path new k) (kept b.tree) after_it
     (ap is_ok same) (λ f told. sym same ∙ told) h)

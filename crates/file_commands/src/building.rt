@@ -111,11 +111,12 @@ impl Building {
         requires { self.old.spent + length bytes ≤ room }
         ensures { (k : Kept) → IsBuilt self.old k → Builds (stream_made bytes k path.now) result self.new }
     {
-        if self.is_taken(path) {
+        if path.is_empty() {
+            // The root stands there.
             return Err(LineFault::Tree(TreeFault::Exists));
         }
         let size = bytes.len() as u64;
-        match self.tree.put_stream(path, bytes) {
+        match self.tree.make_stream(path, bytes) {
             Ok(()) => {
                 self.spent += size;
                 Ok(())
