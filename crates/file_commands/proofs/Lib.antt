@@ -4,5 +4,6 @@ pub mod Totals
 pub mod Room
 pub mod Built
 pub mod Streams
+pub mod Pushed
 pub mod ReadRefused
 pub mod Listed

@@ -60,7 +60,6 @@ fn storage(alloc: Global, mut words: Pieces<'_>) -> Result<Option<Command>, Allo
 }
 
 /// The stream that the words behind `stream` ask for.
-#[tactic(auto, using(crate::proofs::Streams::stream_within))]
 fn stream(alloc: Global, mut words: Pieces<'_>) -> Result<Option<Command>, AllocError>
     ensures read { IfOk result (λ command. command ≡ stream_read words.entry) }
     ensures within { IfErr result (λ _. IsSome (stream_read words.entry)) }

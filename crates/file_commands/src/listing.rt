@@ -98,10 +98,9 @@ fn push_part(
 {
     let path = path_text(alloc, within, name)?;
     match part {
-        Part::Stream(place) => push_stream(alloc, text, &path, place.size as usize)?,
-        Part::Storage(inner) => push_inner(alloc, text, path, inner)?,
+        Part::Stream(place) => push_stream(alloc, text, &path, place.size as usize),
+        Part::Storage(inner) => push_inner(alloc, text, path, inner),
     }
-    Ok(())
 }
 
 /// Writes the line of a storage and the lines of what stands below it.
@@ -116,6 +115,5 @@ fn push_inner(
 {
     push_storage(text, &path, &inner.class)?;
     path.push(b'/')?;
-    push_below(alloc, text, &path, inner)?;
-    Ok(())
+    push_below(alloc, text, &path, inner)
 }

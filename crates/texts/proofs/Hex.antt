@@ -1,5 +1,6 @@
 -- Bytes in hexadecimal.
-use Rattle.std.proofs.Common.{◌≡◌, ◌≤◌, ◌-◌, ◌++◌, ℕ, List, [], ◌∷◌, Option, Some, None, false, is_some, length, get_or, take, drop, sym, ap, ◌∙◌, arith, append_assoc, refl, rules}
+use Rattle.std.proofs.Common.{◌≡◌, ◌≤◌, ◌<◌, ◌-◌, ◌++◌, ℕ, List, [], ◌∷◌, Bool, Option, Some, None, true, false, is_some, length, get_or, take, drop, sym, ap, ◌∙◌, arith, append_assoc, refl, rules}
+use Rattle.std.specs.Bool.{◌==◌}
 use Rattle.std.specs.Option.{option_map}
 use Rattle.std.proofs.lemmas.List.{take_rest}
 use Rattle.texts.specs.Words.{hex_read, hex_digit, pair_value, onto}
@@ -23,6 +24,35 @@ hex_turn word out [] b long is same = absurd (omega arith)
 hex_turn word out (a ∷ []) b long is same = absurd (omega arith)
 hex_turn word out (a ∷ d ∷ cs) b long is same =
     ap (λ r. option_map (λ bs. (out ++ b ∷ []) ++ bs) (hex_read r)) (take_rest (a ∷ d ∷ cs) 2) ∙ onto-behind out b (pair_value (hex_digit a) (hex_digit d)) (hex_read cs) is ∙ same
+
+-- whether what comes first and what is behind it can be read
+pub some-onto : {A : Type 0} (told : Option A) (more : Option (List A)) → true ≡ is_some told → is_some more ≡ is_some (onto told more)
+some-onto (Some a) None is = refl
+some-onto (Some a) (Some xs) is = refl
+some-onto None more is = absurd (search rules)
+
+pub none-onto : {A : Type 0} (told : Option A) (more : Option (List A)) → false ≡ is_some told → false ≡ is_some (onto told more)
+none-onto None more is = refl
+none-onto (Some a) more is = absurd (search rules)
+
+-- whether a word is bytes, where its next two bytes are digits, where they aren't, and where there are no two
+pub hex_more : (rest : List ℕ) (b : ℕ) (whole : Bool) → 2 ≤ length rest → pair_value (hex_digit (get_or rest 0 0)) (hex_digit (get_or rest 1 0)) ≡ Some b
+    → is_some (hex_read rest) ≡ whole → is_some (hex_read (take (length rest - 2) (drop 2 rest))) ≡ whole
+hex_more [] b whole long is so = absurd (omega arith)
+hex_more (a ∷ []) b whole long is so = absurd (omega arith)
+hex_more (a ∷ d ∷ cs) b whole long is so =
+    ap (λ r. is_some (hex_read r)) (take_rest (a ∷ d ∷ cs) 2) ∙ some-onto (pair_value (hex_digit a) (hex_digit d)) (hex_read cs) (ap is_some (sym is)) ∙ so
+
+pub hex_stops : (rest : List ℕ) (whole : Bool) → 2 ≤ length rest → None ≡ pair_value (hex_digit (get_or rest 0 0)) (hex_digit (get_or rest 1 0))
+    → is_some (hex_read rest) ≡ whole → false ≡ whole
+hex_stops [] whole long is so = absurd (omega arith)
+hex_stops (a ∷ []) whole long is so = absurd (omega arith)
+hex_stops (a ∷ d ∷ cs) whole long is so = none-onto (pair_value (hex_digit a) (hex_digit d)) (hex_read cs) (ap is_some is) ∙ so
+
+pub hex_ends : (rest : List ℕ) (whole : Bool) → length rest < 2 → is_some (hex_read rest) ≡ whole → (length rest == 0) ≡ whole
+hex_ends [] whole short so = so
+hex_ends (a ∷ []) whole short so = so
+hex_ends (a ∷ d ∷ cs) whole short so = absurd (omega arith)
 
 -- what is no value
 pub absent : {A : Type 0} (o : Option A) → false ≡ is_some o → None ≡ o

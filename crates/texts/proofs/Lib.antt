@@ -3,4 +3,5 @@ pub mod Inputs
 pub mod LineByLine
 pub mod Named
 pub mod Numbers
+pub mod Pushed
 pub mod Spelled

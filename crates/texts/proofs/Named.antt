@@ -1,10 +1,11 @@
 -- The names of a path, one after another.
-use Rattle.std.proofs.Common.{◌≡◌, ◌++◌, ℕ, List, Option, Some, None, Result, Ok, Err, sym, ap, ◌∙◌}
+use Rattle.std.proofs.Common.{◌≡◌, ◌++◌, ◌∷◌, ℕ, Bool, List, Option, Some, None, Result, Ok, Err, true, false, is_some, sym, ap, ◌∙◌}
 use Rattle.std.specs.Option.{option_map}
 use Rattle.cfb_names.specs.Names.{name_read as taken_name}
 use Rattle.cfb_names.specs.declared.fault.DirFault.{DirFault}
-use Rattle.texts.specs.Paths.{named, named_onto}
+use Rattle.texts.specs.Paths.{name_read, named, named_onto, names_read}
 use Rattle.texts.specs.Words.{onto}
+use Rattle.texts.proofs.Hex.{none-onto, some-onto}
 
 -- names before those that are read behind them
 abbrev pub behind : List (List ℕ) → Result (List (List ℕ)) DirFault → Result (List (List ℕ)) DirFault
@@ -18,3 +19,12 @@ named-fault front name fault part None is not = ap (λ p. option_map (λ ns. beh
 named-fault front name fault part (Some ns) is not =
     ap (λ r. Some (behind front (named_onto r (named ns)))) (sym not)
     ∙ ap (λ p. option_map (λ ns. behind front (named ns)) (onto p (Some ns))) (sym is)
+
+-- whether parts are names, where the first of them is one, and where it isn't
+pub more-names : (part : List ℕ) (parts rest : List (List ℕ)) (whole : Bool) → parts ≡ part ∷ rest → true ≡ is_some (name_read part)
+    → is_some (names_read parts) ≡ whole → is_some (names_read rest) ≡ whole
+more-names part parts rest whole cut is so = some-onto (name_read part) (names_read rest) is ∙ ap (λ ps. is_some (names_read ps)) (sym cut) ∙ so
+
+pub no-name : (part : List ℕ) (parts rest : List (List ℕ)) (whole : Bool) → parts ≡ part ∷ rest → false ≡ is_some (name_read part)
+    → is_some (names_read parts) ≡ whole → false ≡ whole
+no-name part parts rest whole cut is so = none-onto (name_read part) (names_read rest) is ∙ ap (λ ps. is_some (names_read ps)) (sym cut) ∙ so

@@ -38,7 +38,8 @@ impl Path {
     {
         match spelled(alloc, word) {
             Ok(path) => Ok(path),
-            // Only here is the word gone over twice.
+            // Memory was asked for before it was known whether the word spells something, so only where it was refused is
+            // the word gone over a second time, to tell want of memory of a word within the grammar alone.
             Err(AllocError) => {
                 if is_path(word) {
                     Err(AllocError)

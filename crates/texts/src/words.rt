@@ -54,10 +54,10 @@ fn is_hex(word: &[u8]) -> bool
 {
     let mut rest = word;
     while let [high, low, more @ ..] = rest {
-        if pair(*high, *low).is_none() {
-            return false;
+        match pair(*high, *low) {
+            Some(_) => rest = more,
+            None => return false,
         }
-        rest = more;
     }
     rest.is_empty()
 }
@@ -103,7 +103,8 @@ pub fn content(alloc: Global, word: &[u8]) -> Result<Option<Vec<u8>>, AllocError
         [b'-'] => Ok(Some(Vec::new(alloc))),
         _ => match hex(alloc, word) {
             Ok(bytes) => Ok(bytes),
-            // Only here is the word gone over twice.
+            // Memory was asked for before it was known whether the word spells something, so only where it was refused is
+            // the word gone over a second time, to tell want of memory of a word within the grammar alone.
             Err(AllocError) => {
                 if is_content(word) {
                     Err(AllocError)
