@@ -1,3 +1,4 @@
+mod Digits
 pub mod Hex
 pub mod Inputs
 pub mod LineByLine

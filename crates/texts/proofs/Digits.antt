@@ -1,0 +1,69 @@
+-- The table of hexadecimal digits.
+use Rattle.std.proofs.Common.{◌≡◌, ◌<◌, ◌≤◌, ◌+◌, ◌%◌, ℕ, zero, suc, List, [], ◌∷◌, Bool, true, false, cond, nat_eq, nat_lt, Option, Some, None, slice_index_or, length, refl, sym, ap, ◌∙◌, arith, rules}
+use Rattle.texts.specs.Words.{hex_digit}
+
+abbrev digits : List ℕ
+digits = 0 ∷ 1 ∷ 2 ∷ 3 ∷ 4 ∷ 5 ∷ 6 ∷ 7 ∷ 8 ∷ 9 ∷ 255 ∷ 255 ∷ 255 ∷ 255 ∷ 255 ∷ 255 ∷ 255 ∷ 10 ∷ 11 ∷ 12 ∷ 13 ∷ 14 ∷ 15 ∷ 255 ∷ 255 ∷ 255 ∷ 255 ∷ 255 ∷ 255 ∷ 255 ∷ 255 ∷ 255 ∷ 255 ∷ 255 ∷ 255 ∷ 255 ∷ 255 ∷ 255 ∷ 255 ∷ 255 ∷ 255 ∷ 255 ∷ 255 ∷ 255 ∷ 255 ∷ 255 ∷ 255 ∷ 255 ∷ 255 ∷ 10 ∷ 11 ∷ 12 ∷ 13 ∷ 14 ∷ 15 ∷ []
+
+lt-true : (a b : ℕ) → a < b → true ≡ nat_lt a b
+lt-true a b l = grind (arith, l)
+
+lt-false : (a b : ℕ) → b ≤ a → false ≡ nat_lt a b
+lt-false a b l = grind (arith, l)
+
+-- what is told of a value that stands there
+abbrev told : ℕ → Option ℕ
+told value = cond (nat_lt value 16) (Some value) None
+
+pub told_of : (value : ℕ) → value < 16 → Some value ≡ told value
+told_of value l = ap (λ b. cond b (Some value) None) (lt-true value 16 l)
+
+pub none_of : (value : ℕ) → 16 ≤ value → None ≡ told value
+none_of value l = ap (λ b. cond b (Some value) None) (lt-false value 16 l)
+
+abbrev same : Option ℕ → Option ℕ → Bool
+same None None = true
+same None (Some b) = false
+same (Some a) None = false
+same (Some a) (Some b) = nat_eq a b
+
+equal : (a b : ℕ) → nat_eq a b ≡ true → a ≡ b
+equal a b h = grind (arith, h)
+
+same-is : (x y : Option ℕ) → same x y ≡ true → x ≡ y
+same-is None None h = refl
+same-is None (Some b) h = absurd (search rules)
+same-is (Some a) None h = absurd (search rules)
+same-is (Some a) (Some b) h = ap Some (equal a b h)
+
+abbrev every : (ℕ → Bool) → ℕ → Bool
+every p zero = true
+every p (suc n) = cond (p n) (every p n) false
+
+every-is : (p : ℕ → Bool) (n d : ℕ) → every p n ≡ true → d < n → p d ≡ true
+every-is p zero d h l = absurd (omega (arith, l))
+every-is p (suc n) d h l = elim (p n) as (λ b. p n ≡ b → cond b (every p n) false ≡ true → p d ≡ true) [
+  | true ↦ λ q g. elim (nat_eq d n) as (λ b. nat_eq d n ≡ b → p d ≡ true) [ true ↦ λ e. ap p (equal d n e) ∙ q | false ↦ λ e. every-is p n d g (grind (arith, l, e)) ] refl
+  | false ↦ λ q g. absurd (search rules)
+] refl h
+
+-- what the table tells of a byte
+abbrev tells : ℕ → Option ℕ
+tells d = cond (nat_lt ((d + 208) % 256) 55) (told (slice_index_or digits ((d + 208) % 256) 0)) None
+
+tells-is : (d : ℕ) → d < 256 → tells d ≡ hex_digit d
+tells-is d l = same-is (tells d) (hex_digit d) (every-is (λ x. same (tells x) (hex_digit x)) 256 d refl l)
+
+-- where something stands, nothing else is told
+at-any : (xs : List ℕ) (n d e : ℕ) → n < length xs → slice_index_or xs n d ≡ slice_index_or xs n e
+at-any [] n d e l = absurd (omega (arith, l))
+at-any (x ∷ xs) zero d e l = refl
+at-any (x ∷ xs) (suc n) d e l = at-any xs n d e (omega (arith, l))
+
+lt-from : (a b : ℕ) → true ≡ nat_lt a b → a < b
+lt-from a b h = grind (arith, h)
+
+pub in_table : (d n value : ℕ) → d < 256 → n ≡ (d + 208) % 256 → true ≡ nat_lt n 55 → value ≡ slice_index_or digits n value → told value ≡ hex_digit d
+in_table d n value l at within is =
+    ap told (is ∙ at-any digits n value 0 (lt-from n 55 within)) ∙ ap (λ b. cond b (told (slice_index_or digits n 0)) None) within
+    ∙ ap (λ m. cond (nat_lt m 55) (told (slice_index_or digits m 0)) None) at ∙ tells-is d l
