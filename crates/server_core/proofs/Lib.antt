@@ -1,2 +1,3 @@
 pub mod Gathering
+pub mod NextCalls
 pub mod OwnCalls

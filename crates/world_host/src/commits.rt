@@ -105,11 +105,9 @@ impl Host {
         let k = frame.k;
         let name = name_after(alloc, frame)?;
         let bytes = Bytes::from_vec(alloc, bytes)?;
-        let count = self.most();
-        let room = Room::new(alloc, count)?;
-        self.reserve(count)?;
+        let room = self.make_room(alloc)?;
         self.files.reserve(1)?;
-        self.container_done.reserve(count)?;
+        self.container_done.reserve(self.core.all_objects().len())?;
         match self.core.commit_done(alloc, f) {
             Ok(committed) => {
                 let Committed { answer, counted } = committed;

@@ -221,6 +221,18 @@ impl Host {
         Ok(())
     }
 
+    // Room for any step of the container.
+    pub(crate) fn make_room(&mut self, alloc: Global) -> Result<Room, AllocError>
+        ensures room { IfOk result (λ r. IsRoom (most self.old.core) r) }
+        ensures logs { OnOk result (HasLogRoom (most self.old.core) self.new) }
+        ensures kept { bare self.new ≡ bare self.old }
+    {
+        let count = self.most();
+        let room = Room::new(alloc, count)?;
+        self.reserve(count)?;
+        Ok(room)
+    }
+
     // Keeps what a step of the container asks for; gives the servers that it ends and starts.
     pub(crate) fn join(&mut self, answer: Answer, room: Room) -> Servers
         requires logs { HasLogRoom (length answer.actions) self.old }
@@ -289,9 +301,7 @@ impl Host {
         ensures few { IfOk result (λ s. vec_len s.starts ≤ most self.old.core) }
         ensures kept { OnErr result (bare self.new ≡ bare self.old) }
     {
-        let count = self.most();
-        let room = Room::new(alloc, count)?;
-        self.reserve(count)?;
+        let room = self.make_room(alloc)?;
         self.owners.reserve(1)?;
         match self.core.command(alloc, copy_command(alloc, command)?) {
             Ok(answer) => {
@@ -319,9 +329,7 @@ impl Host {
         ensures few { IfOk result (λ s. vec_len s.starts ≤ most self.old.core) }
         ensures kept { OnErr result (bare self.new ≡ bare self.old) }
     {
-        let count = self.most();
-        let room = Room::new(alloc, count)?;
-        self.reserve(count)?;
+        let room = self.make_room(alloc)?;
         self.taken.reserve(1)?;
         let entry = entry(place, &message, self.core.all_objects());
         match self.core.on_message(alloc, inc, message) {
@@ -343,9 +351,7 @@ impl Host {
         ensures few { IfOk result (λ s. vec_len s.starts ≤ most self.old.core) }
         ensures kept { OnErr result (bare self.new ≡ bare self.old) }
     {
-        let count = self.most();
-        let room = Room::new(alloc, count)?;
-        self.reserve(count)?;
+        let room = self.make_room(alloc)?;
         match self.core.on_reap(alloc, inc) {
             Ok(answer) => Ok(self.join(answer, room)),
             Err(ContainerFault::NoMemory) => Err(AllocError),

@@ -1,3 +1,4 @@
 pub mod View
 pub mod Shown
 pub mod Plans
+pub mod Lives

@@ -1,10 +1,11 @@
 //! What a world is made of, and the events that happen in it.
 
-ghost use Rattle.std.specs.Prelude.{◌≡◌, ◌≤◌, ◌<◌, ◌+◌, ◌++◌, [], List, ℕ, IfErr, IfSome, IsSome, MatchOption, None, OnErr, OnOk, Ok, Err, Some, length, map, slice_get, take, vec_len, vec_capacity};
+ghost use Rattle.std.specs.Prelude.{◌≡◌, ◌≤◌, ◌<◌, ◌+◌, ◌++◌, [], List, ℕ, IfErr, IfSome, MatchOption, None, OnErr, OnOk, Ok, Err, Some, length, map, slice_get, take, vec_len, vec_capacity};
 ghost use Rattle.container_model.specs.Numbered.{IsNth};
 ghost use Rattle.wire_msgs.specs.Found.{nth, set_nth};
 ghost use Rattle.world_model.specs.declared.event.Event.{Event};
 ghost use Rattle.world_host.specs.Servers.{ends_by};
+ghost use Rattle.world_run.specs.Lives.{Lives};
 ghost use Rattle.world_run.specs.Plans.{tell};
 ghost use Rattle.world_run.specs.View.{seen, seen_instance, seen_stocked};
 ghost use Rattle.world_model.specs.World.{IsImage, Refuses, Run, StopsAt, empty_world, ended_at, fresh, step, view_in};
@@ -133,7 +134,7 @@ impl State {
     #[tactic(auto, using(crate::proofs::Servers::nth_at))]
     // The life of a server of this incarnation, and where it stands.
     pub(crate) fn life(&self, inc: u32) -> Option<(usize, Life)>
-        ensures { MatchOption result (nth (seen (λ s. content s.boxed) self.now).instances inc ≡ None) (λ r. IsNth inc self.now.instances.items r.0 × IfSome (nth (seen (λ s. content s.boxed) self.now).instances inc) (λ x. x.life ≡ r.1) × IsSome (nth (seen (λ s. content s.boxed) self.now).instances inc)) }
+        ensures { MatchOption result (nth (seen (λ s. content s.boxed) self.now).instances inc ≡ None) (Lives inc self.now.instances.items (seen (λ s. content s.boxed) self.now).instances) }
     {
         match place(&self.instances, inc) {
             Some(i) => Some((i, self.instances[i].life)),
