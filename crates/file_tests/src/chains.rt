@@ -1,13 +1,12 @@
 //! Headers and chains of small files.
 
-use crate::texts::{number, numbers, spelled, word};
+use crate::texts::{are_numbers, are_spelled, number, numbers, spelled, word};
 use cfb_chain::fat::Fat;
 use cfb_chain::fault::ChainFault;
 use cfb_chain::header::Header;
 use cfb_chain::image::Image;
 use std::alloc::Global;
 use std::process::Abort;
-use std::test::Fail;
 
 /// A header: the FAT in sector 0, the directory at sector 1, a mini FAT of one sector at sector 5.
 const HEADER: &str =
@@ -56,43 +55,56 @@ const FAULTS: &str = "7 e2 BadSignature 0
 44 6e TooBig 0
 72 01 TooBig 0";
 
-fn file_of(alloc: Global, fat: &str) -> Result<Vec<u8>, Fail> {
-    let mut file = spelled(alloc, HEADER)?;
-    file.extend_from_slice(&spelled(alloc, fat)?)?;
-    file.extend_from_slice(&spelled(alloc, SECTORS)?)?;
-    Ok(file)
+fn file_of(rt: &impl Abort, alloc: Global, fat: &str) -> Vec<u8> {
+    let mut file = spelled(rt, alloc, HEADER);
+    push(rt, alloc, &mut file, fat);
+    push(rt, alloc, &mut file, SECTORS);
+    file
+}
+
+fn push(rt: &impl Abort, alloc: Global, file: &mut Vec<u8>, text: &str) {
+    file.extend_from_slice(&spelled(rt, alloc, text))
+        .expect(rt, "memory");
+}
+
+fn header_of(rt: &impl Abort, file: &[u8]) -> Header {
+    Header::read(file).expect(rt, "a header")
+}
+
+fn load<'a>(rt: &impl Abort, alloc: Global, header: &Header, file: &'a [u8]) -> Fat<'a> {
+    Fat::load(alloc, header, Image::Whole(file)).expect(rt, "a table")
 }
 
 /// Checks that a table tells what each call wants.
-fn play(rt: &impl Abort, alloc: Global, fat: &mut Fat, calls: &str) -> Result<(), Fail> {
+fn play(rt: &impl Abort, alloc: Global, fat: &mut Fat, calls: &str) {
     for row in calls.split('\n') {
-        let mut words = row.split_whitespace();
-        let call = word(&mut words);
-        let sector = word(&mut words);
-        let with = word(&mut words);
-        let told = carry_out(alloc, fat, call, sector, with, word(&mut words))?;
-        assert!(rt; told, "{row}");
+        assert!(rt; answers(rt, alloc, fat, row), "{row}");
     }
-    Ok(())
+}
+
+fn answers(rt: &impl Abort, alloc: Global, fat: &mut Fat, row: &str) -> bool {
+    let mut words = row.split_whitespace();
+    let call = word(&mut words);
+    let sector = word(&mut words);
+    let with = word(&mut words);
+    carry_out(rt, alloc, fat, call, sector, with, word(&mut words))
 }
 
 fn carry_out(
+    rt: &impl Abort,
     alloc: Global,
     fat: &mut Fat,
     call: &str,
     sector: &str,
     with: &str,
     want: &str,
-) -> Result<bool, Fail> {
+) -> bool {
     match call {
-        "chain" => Ok(is_refused(fat.chain(alloc, number(sector)), want)),
-        "bytes" => tells(alloc, bytes(alloc, fat, number(sector), number(with)), want),
-        "join" => {
-            let sectors = numbers(alloc, want)?;
-            joins(alloc, fat, number(sector), &sectors, &spelled(alloc, with)?)
-        }
-        "run" => run_is(alloc, fat, &numbers(alloc, sector)?, want),
-        _ => Ok(free(fat) == number(want)),
+        "chain" => is_refused(alloc, fat, number(sector), want),
+        "bytes" => holds(rt, alloc, fat, number(sector), number(with), want),
+        "join" => joins(rt, alloc, fat, number(sector), with, want),
+        "run" => run_is(rt, alloc, fat, sector, want),
+        _ => free(fat) == number(want),
     }
 }
 
@@ -100,76 +112,83 @@ fn free(fat: &Fat) -> u32 {
     fat.free_sector().unwrap_or(u32::MAX)
 }
 
-fn is_refused<T: Drop>(answer: Result<T, ChainFault>, want: &str) -> bool {
-    match answer {
+/// Whether no chain is found from a sector on, for this fault.
+fn is_refused(alloc: Global, fat: &mut Fat, start: u32, want: &str) -> bool {
+    match fat.chain(alloc, start) {
         Ok(_) => false,
         Err(fault) => fault.name() == want,
     }
 }
 
-/// The first bytes of a chain, which is marked.
-fn bytes(alloc: Global, fat: &mut Fat, start: u32, len: u32) -> Result<Vec<u8>, ChainFault> {
-    fat.mark_chain(start, len)?;
-    let bytes = fat.held(alloc, start, len)?;
-    Ok(bytes)
+/// Whether a chain is marked and has these first bytes, or isn't for this fault.
+fn holds(rt: &impl Abort, alloc: Global, fat: &mut Fat, start: u32, len: u32, want: &str) -> bool {
+    match fat.mark_chain(start, len) {
+        Ok(()) => are_spelled(rt, alloc, &held(rt, alloc, fat, start, len), want),
+        Err(fault) => fault.name() == want,
+    }
 }
 
-fn tells(alloc: Global, told: Result<Vec<u8>, ChainFault>, want: &str) -> Result<bool, Fail> {
-    match told {
-        Ok(bytes) => Ok(bytes == spelled(alloc, want)?),
-        Err(fault) => Ok(fault.name() == want),
-    }
+fn held(rt: &impl Abort, alloc: Global, fat: &Fat, start: u32, len: u32) -> Vec<u8> {
+    fat.held(alloc, start, len).expect(rt, "memory")
 }
 
 /// Whether the chain from a sector on is of these sectors, and has these bytes.
 fn joins(
+    rt: &impl Abort,
     alloc: Global,
     fat: &mut Fat,
     start: u32,
-    sectors: &[u32],
-    bytes: &[u8],
-) -> Result<bool, Fail> {
-    let chain = fat.chain(alloc, start)?;
-    let joined = fat.join(alloc, &chain)?;
-    Ok(chain.as_slice() == sectors && joined.as_slice() == bytes)
+    bytes: &str,
+    sectors: &str,
+) -> bool {
+    let chain = fat.chain(alloc, start).expect(rt, "a chain");
+    let joined = fat.join(alloc, &chain).expect(rt, "memory");
+    are_numbers(rt, alloc, &chain, sectors) && are_spelled(rt, alloc, &joined, bytes)
 }
 
-fn run_is(alloc: Global, fat: &Fat, sectors: &[u32], want: &str) -> Result<bool, Fail> {
-    match fat.run(sectors) {
-        Some(bytes) => Ok(spelled(alloc, want)?.as_slice() == bytes),
-        None => Ok(want == "none"),
+fn run_is(rt: &impl Abort, alloc: Global, fat: &Fat, sectors: &str, want: &str) -> bool {
+    match fat.run(&numbers(rt, alloc, sectors)) {
+        Some(bytes) => are_spelled(rt, alloc, bytes, want),
+        None => want == "none",
     }
 }
 
 #[test]
-fn chains_are_followed(rt: HostRuntime) -> Result<(), Fail> {
-    let file = file_of(rt.alloc(), LINKED)?;
-    let mut fat = Fat::load(rt.alloc(), &Header::read(&file)?, Image::Whole(&file))?;
-    play(&rt, rt.alloc(), &mut fat, LINKED_CALLS)
+fn chains_are_followed(rt: HostRuntime) {
+    let file = file_of(&rt, rt.alloc(), LINKED);
+    let mut fat = load(&rt, rt.alloc(), &header_of(&rt, &file), &file);
+    play(&rt, rt.alloc(), &mut fat, LINKED_CALLS);
+}
+
+/// Checks what the mini stream of a table tells.
+fn play_mini(rt: &impl Abort, alloc: Global, fat: &mut Fat, header: &Header) {
+    let mut mini = fat.mini(alloc, header, 2, 640).expect(rt, "a mini stream");
+    play(rt, alloc, &mut mini, STREAM_CALLS);
 }
 
 #[test]
-fn a_mini_stream_is_read(rt: HostRuntime) -> Result<(), Fail> {
-    let file = file_of(rt.alloc(), MINI)?;
-    let header = Header::read(&file)?;
-    let mut fat = Fat::load(rt.alloc(), &header, Image::Whole(&file))?;
-    play(&rt, rt.alloc(), &mut fat, MINI_CALLS)?;
-    let mut mini = fat.mini(rt.alloc(), &header, 2, 640)?;
-    play(&rt, rt.alloc(), &mut mini, STREAM_CALLS)?;
-    play(&rt, rt.alloc(), &mut fat, LATER_CALLS)
+fn a_mini_stream_is_read(rt: HostRuntime) {
+    let file = file_of(&rt, rt.alloc(), MINI);
+    let header = header_of(&rt, &file);
+    let mut fat = load(&rt, rt.alloc(), &header, &file);
+    play(&rt, rt.alloc(), &mut fat, MINI_CALLS);
+    play_mini(&rt, rt.alloc(), &mut fat, &header);
+    play(&rt, rt.alloc(), &mut fat, LATER_CALLS);
 }
 
 /// Whether a header with a byte changed is refused so.
-fn refuses(alloc: Global, row: &str) -> Result<bool, Fail> {
+fn refuses(rt: &impl Abort, alloc: Global, row: &str) -> bool {
     let mut words = row.split_whitespace();
-    let mut bytes = spelled(alloc, HEADER)?;
-    put(
-        &mut bytes,
-        number(word(&mut words)),
-        &spelled(alloc, word(&mut words))?,
-    );
+    let at = number(word(&mut words));
+    let bytes = changed(rt, alloc, at, word(&mut words));
     let fault = word(&mut words);
-    Ok(header_is_refused(&bytes, fault, number(word(&mut words))))
+    header_is_refused(&bytes, fault, number(word(&mut words)))
+}
+
+fn changed(rt: &impl Abort, alloc: Global, at: u32, byte: &str) -> Vec<u8> {
+    let mut bytes = spelled(rt, alloc, HEADER);
+    put(&mut bytes, at, &spelled(rt, alloc, byte));
+    bytes
 }
 
 fn put(bytes: &mut [u8], at: u32, changed: &[u8]) {
@@ -194,16 +213,22 @@ fn is_sample(header: &Header) -> bool {
         && header.mini_fat_count() == 1
 }
 
+fn is_written(rt: &impl Abort, alloc: Global) -> bool {
+    let made = Header::new(&[0], 1, 5, 1).expect(rt, "one sector");
+    are_spelled(rt, alloc, &made.write(), HEADER)
+}
+
 #[test]
-fn headers_are_read_written_and_refused(rt: HostRuntime) -> Result<(), Fail> {
-    let bytes = spelled(rt.alloc(), HEADER)?;
-    assert!(rt; is_sample(&Header::read(&bytes)?));
-    let made = Header::new(&[0], 1, 5, 1)?;
-    assert!(rt; made.write().as_slice() == bytes.as_slice());
+fn headers_are_read_and_written(rt: HostRuntime) {
+    let bytes = spelled(&rt, rt.alloc(), HEADER);
+    assert!(rt; is_sample(&header_of(&rt, &bytes)));
+    assert!(rt; is_written(&rt, rt.alloc()));
+}
+
+#[test]
+fn headers_are_refused(rt: HostRuntime) {
     for row in FAULTS.split('\n') {
-        assert!(rt; refuses(rt.alloc(), row)?, "{row}");
+        assert!(rt; refuses(&rt, rt.alloc(), row), "{row}");
     }
-    let short = spelled(rt.alloc(), "511*d0")?;
-    assert!(rt; header_is_refused(&short, "Truncated", 0));
-    Ok(())
+    assert!(rt; header_is_refused(&spelled(&rt, rt.alloc(), "511*d0"), "Truncated", 0));
 }

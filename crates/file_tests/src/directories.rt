@@ -1,6 +1,6 @@
 //! Names, entries and siblings, with values from the format.
 
-use crate::texts::{are_all, number, numbers, spelled, word};
+use crate::texts::{are_all, are_numbers, are_spelled, number, word};
 use cfb_directory::entries::{Entries, EntryKind, NO_STREAM};
 use cfb_directory::links::{Links, balanced, build};
 use cfb_directory::write::{EntryFields, write_entry, write_free_entry};
@@ -8,8 +8,8 @@ use cfb_names::fault::DirFault;
 use cfb_names::name::{LONGEST, Name, keys_agree};
 use std::alloc::{AllocError, Global};
 use std::cmp::Ordering;
+use std::process::Abort;
 use std::str::SplitWhitespace;
-use std::test::Fail;
 
 /// Names, and what they are refused for behind a `|`.
 const NAMES: &str = "\x01CompObj|
@@ -52,28 +52,41 @@ fn ordering_text(order: Ordering) -> &'static str {
     }
 }
 
+fn name(rt: &impl Abort, text: &str) -> Name {
+    Name::new(text.as_bytes()).expect(rt, "a name")
+}
+
 /// Whether two names stand so to one another, and their keys as well.
-fn order_is(row: &str) -> Result<bool, DirFault> {
+fn stand_so(one: &Name, other: &Name, want: &str) -> bool {
+    ordering_text(one.cmp(other)) == want && ordering_text(one.key().cmp(&other.key())) == want
+}
+
+fn order_is(rt: &impl Abort, row: &str) -> bool {
     let mut words = row.split_whitespace();
-    let one = Name::new(word(&mut words).as_bytes())?;
-    let other = Name::new(word(&mut words).as_bytes())?;
-    let told = ordering_text(one.cmp(&other));
-    let keys = ordering_text(one.key().cmp(&other.key()));
-    Ok(told == keys && told == word(&mut words))
+    let one = name(rt, word(&mut words));
+    let other = name(rt, word(&mut words));
+    stand_so(&one, &other, word(&mut words))
+}
+
+fn is_read_or_refused(row: &str) -> bool {
+    let (name, fault) = row.split_once("|").unwrap_or((row, ""));
+    name_is(name.as_bytes(), fault)
 }
 
 #[test]
-fn names_are_read_refused_and_ordered(rt: HostRuntime) -> Result<(), Fail> {
+fn names_are_read_and_refused(rt: HostRuntime) {
     for row in NAMES.split('\n') {
-        let (name, fault) = row.split_once("|").unwrap_or((row, ""));
-        assert!(rt; name_is(name.as_bytes(), fault), "{row}");
+        assert!(rt; is_read_or_refused(row), "{row}");
+    }
+}
+
+#[test]
+fn names_are_ordered(rt: HostRuntime) {
+    for row in ORDERS.split('\n') {
+        assert!(rt; order_is(&rt, row), "{row}");
     }
     assert!(rt; Name::root().as_bytes() == b"Root Entry".as_slice());
     keys_agree();
-    for row in ORDERS.split('\n') {
-        assert!(rt; order_is(row)?, "{row}");
-    }
-    Ok(())
 }
 
 /// An entry with these links.
@@ -101,33 +114,47 @@ fn push_free(out: &mut Vec<u8>) -> Result<(), AllocError> {
     write_free_entry(out)
 }
 
+fn entry(rt: &impl Abort, out: &mut Vec<u8>, name: &str, fields: &EntryFields) {
+    push(out, name, fields).expect(rt, "memory");
+}
+
+fn free_entry(rt: &impl Abort, out: &mut Vec<u8>) {
+    push_free(out).expect(rt, "memory");
+}
+
 #[test]
-fn entries_are_written(rt: HostRuntime) -> Result<(), Fail> {
+fn entries_are_written(rt: HostRuntime) {
     let mut bytes = Vec::new(rt.alloc());
-    push(
+    entry(
+        &rt,
         &mut bytes,
         "Ab",
         &fields(EntryKind::Root, NO_STREAM, 0x55, 2),
-    )?;
-    push_free(&mut bytes)?;
-    assert!(rt; bytes == spelled(rt.alloc(), WRITTEN)?);
-    Ok(())
+    );
+    free_entry(&rt, &mut bytes);
+    assert!(rt; are_spelled(&rt, rt.alloc(), &bytes, WRITTEN));
 }
 
 /// A root with the children `A`, `B` and `C`, and a free entry.
-fn directory(alloc: Global) -> Result<Vec<u8>, AllocError> {
+fn directory(rt: &impl Abort, alloc: Global) -> Vec<u8> {
     let mut out = Vec::new(alloc);
     let leaf = fields(EntryKind::Stream, NO_STREAM, NO_STREAM, NO_STREAM);
-    push(
+    entry(
+        rt,
         &mut out,
         "Root Entry",
         &fields(EntryKind::Root, NO_STREAM, NO_STREAM, 2),
-    )?;
-    push(&mut out, "A", &leaf)?;
-    push(&mut out, "B", &fields(EntryKind::Storage, 1, 3, NO_STREAM))?;
-    push(&mut out, "C", &leaf)?;
-    push_free(&mut out)?;
-    Ok(out)
+    );
+    entry(rt, &mut out, "A", &leaf);
+    entry(
+        rt,
+        &mut out,
+        "B",
+        &fields(EntryKind::Storage, 1, 3, NO_STREAM),
+    );
+    entry(rt, &mut out, "C", &leaf);
+    free_entry(rt, &mut out);
+    out
 }
 
 /// Whether an entry has this name, kind and child, and all else as `fields` has it, or is refused so.
@@ -147,27 +174,45 @@ fn entry_is(entries: &Entries, id: u32, name: &str, kind: EntryKind, child: u32)
 }
 
 /// Whether a storage has these children, or is refused so.
-fn children_are(alloc: Global, entries: &mut Entries, id: u32, want: &[u32], fault: &str) -> bool {
+fn children_are(
+    rt: &impl Abort,
+    alloc: Global,
+    entries: &mut Entries,
+    id: u32,
+    want: &str,
+    fault: &str,
+) -> bool {
     match entries.children(alloc, id) {
-        Ok(children) => children.as_slice() == want,
+        Ok(children) => are_numbers(rt, alloc, &children, want),
         Err(refused) => refused.name() == fault,
     }
 }
 
+/// Of the last two, one is free and one isn't there.
+fn are_entries(entries: &Entries) -> bool {
+    entry_is(entries, 0, "Root Entry", EntryKind::Root, 2)
+        && entry_is(entries, 2, "B", EntryKind::Storage, NO_STREAM)
+        && entry_is(entries, 4, "BadEntry", EntryKind::Root, 0)
+        && entry_is(entries, 5, "BadEntry", EntryKind::Root, 0)
+}
+
+/// The root's are marked once they are read.
+fn are_children(rt: &impl Abort, alloc: Global, entries: &mut Entries) -> bool {
+    children_are(rt, alloc, entries, 0, "2,1,3", "")
+        && children_are(rt, alloc, entries, 2, "", "")
+        && children_are(rt, alloc, entries, 0, "", "TreeCycle")
+}
+
+fn entries_in<'a>(rt: &impl Abort, alloc: Global, bytes: &'a [u8]) -> Entries<'a> {
+    Entries::load(alloc, bytes).expect(rt, "memory")
+}
+
 #[test]
-fn entries_are_read(rt: HostRuntime) -> Result<(), Fail> {
-    let bytes = directory(rt.alloc())?;
-    let mut entries = Entries::load(rt.alloc(), &bytes)?;
-    assert!(rt; entry_is(&entries, 0, "Root Entry", EntryKind::Root, 2));
-    assert!(rt; entry_is(&entries, 2, "B", EntryKind::Storage, NO_STREAM));
-    assert!(rt; entry_is(&entries, 4, "BadEntry", EntryKind::Root, 0));
-    assert!(rt; entry_is(&entries, 5, "BadEntry", EntryKind::Root, 0));
-    let below_root = numbers(rt.alloc(), "2,1,3")?;
-    assert!(rt; children_are(rt.alloc(), &mut entries, 0, &below_root, ""));
-    assert!(rt; children_are(rt.alloc(), &mut entries, 2, &[], ""));
-    // they are marked by now
-    assert!(rt; children_are(rt.alloc(), &mut entries, 0, &[], "TreeCycle"));
-    Ok(())
+fn entries_are_read(rt: HostRuntime) {
+    let bytes = directory(&rt, rt.alloc());
+    let mut entries = entries_in(&rt, rt.alloc(), &bytes);
+    assert!(rt; are_entries(&entries));
+    assert!(rt; are_children(&rt, rt.alloc(), &mut entries));
 }
 
 /// So many siblings, which is on top, and the left and the right one of each; none is `-`.
@@ -178,50 +223,59 @@ const BALANCED: &str = "0 -
 /// The same of siblings with these names.
 const BUILT: &str = "aa,c,B,a 1 -,2,3,- -,0,-,-";
 
-fn links_are(alloc: Global, links: &Links, words: &mut SplitWhitespace<'_>) -> Result<bool, Fail> {
+fn links_are(
+    rt: &impl Abort,
+    alloc: Global,
+    links: &Links,
+    words: &mut SplitWhitespace<'_>,
+) -> bool {
     let top = number(word(words));
-    let left = numbers(alloc, word(words))?;
-    let right = numbers(alloc, word(words))?;
-    Ok(links.top == top && links.left == left && links.right == right)
+    let left = word(words);
+    links.top == top
+        && are_numbers(rt, alloc, &links.left, left)
+        && are_numbers(rt, alloc, &links.right, word(words))
 }
 
-fn is_balanced(alloc: Global, row: &str) -> Result<bool, Fail> {
+fn is_balanced(rt: &impl Abort, alloc: Global, row: &str) -> bool {
     let mut words = row.split_whitespace();
-    let links = balanced(alloc, number(word(&mut words)))?;
-    links_are(alloc, &links, &mut words)
+    let links = balanced(alloc, number(word(&mut words))).expect(rt, "memory");
+    links_are(rt, alloc, &links, &mut words)
+}
+
+fn names(rt: &impl Abort, alloc: Global, names: &str) -> Vec<Name> {
+    let mut list = Vec::new(alloc);
+    for text in names.split(',') {
+        list.push(name(rt, text)).expect(rt, "memory");
+    }
+    list
 }
 
 /// The links of siblings with these names.
-fn built(alloc: Global, names: &str) -> Result<Links, DirFault> {
-    let mut list = Vec::new(alloc);
-    for name in names.split(',') {
-        list.push(Name::new(name.as_bytes())?)?;
-    }
-    if list.len() > 100 {
+fn built(alloc: Global, names: &[Name]) -> Result<Links, DirFault> {
+    if names.len() > 100 {
         return Err(DirFault::NameTooLong);
     }
-    build(alloc, &list)
+    build(alloc, names)
 }
 
-fn is_built(alloc: Global, row: &str) -> Result<bool, Fail> {
+fn is_built(rt: &impl Abort, alloc: Global, row: &str) -> bool {
     let mut words = row.split_whitespace();
-    let links = built(alloc, word(&mut words))?;
-    links_are(alloc, &links, &mut words)
+    let links = built(alloc, &names(rt, alloc, word(&mut words))).expect(rt, "other names");
+    links_are(rt, alloc, &links, &mut words)
 }
 
-fn is_twice_named(alloc: Global, names: &str) -> bool {
-    match built(alloc, names) {
+fn is_twice_named(rt: &impl Abort, alloc: Global, list: &str) -> bool {
+    match built(alloc, &names(rt, alloc, list)) {
         Ok(_) => false,
         Err(fault) => fault == DirFault::DuplicateName,
     }
 }
 
 #[test]
-fn siblings_are_linked(rt: HostRuntime) -> Result<(), Fail> {
+fn siblings_are_linked(rt: HostRuntime) {
     for row in BALANCED.split('\n') {
-        assert!(rt; is_balanced(rt.alloc(), row)?, "{row}");
+        assert!(rt; is_balanced(&rt, rt.alloc(), row), "{row}");
     }
-    assert!(rt; is_built(rt.alloc(), BUILT)?);
-    assert!(rt; is_twice_named(rt.alloc(), "x,y,X"));
-    Ok(())
+    assert!(rt; is_built(&rt, rt.alloc(), BUILT));
+    assert!(rt; is_twice_named(&rt, rt.alloc(), "x,y,X"));
 }

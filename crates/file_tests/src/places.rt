@@ -7,7 +7,6 @@ use file_places::reading::{Catalog, read_catalog};
 use file_places::source::{Sought, Source};
 use std::alloc::Global;
 use std::io::{self, Cursor, ErrorKind};
-use std::test::Fail;
 use stream_io::read::read_placed;
 
 /// How many calls the file takes: one for its length, and one each for its header, the FAT, the directory and the mini FAT.
@@ -76,31 +75,32 @@ fn is_unreadable(answer: Result<Catalog, PlacesFault>) -> bool {
     }
 }
 
-#[test]
-fn a_listing_reads_its_places(rt: HostRuntime) -> Result<(), Fail> {
-    let file = spelled(rt.alloc(), FILE)?;
-    assert!(rt; listed(rt.alloc(), &mut file.as_slice()) == Some(3));
-    assert!(rt; listed(rt.alloc(), &mut Sought::new(Cursor::new(file.as_slice()))) == Some(3));
-    Ok(())
+fn is_sought(alloc: Global, file: &[u8]) -> bool {
+    listed(alloc, &mut Sought::new(Cursor::new(file))) == Some(3)
 }
 
 #[test]
-fn a_read_that_fails_is_told(rt: HostRuntime) -> Result<(), Fail> {
-    let file = spelled(rt.alloc(), FILE)?;
+fn a_listing_reads_its_places(rt: HostRuntime) {
+    let file = spelled(&rt, rt.alloc(), FILE);
+    assert!(rt; listed(rt.alloc(), &mut file.as_slice()) == Some(3));
+    assert!(rt; is_sought(rt.alloc(), &file));
+}
+
+fn fails(alloc: Global, bytes: &[u8], calls: usize) -> bool {
+    let mut source = Broken { bytes, calls };
+    is_unreadable(cataloged(alloc, &mut source))
+}
+
+fn is_listed(alloc: Global, bytes: &[u8], calls: usize) -> bool {
+    let mut source = Broken { bytes, calls };
+    listed(alloc, &mut source) == Some(3)
+}
+
+#[test]
+fn a_read_that_fails_is_told(rt: HostRuntime) {
+    let file = spelled(&rt, rt.alloc(), FILE);
     for calls in 0..CALLS {
-        let mut source = Broken {
-            bytes: &file,
-            calls,
-        };
-        assert!(rt;
-            is_unreadable(cataloged(rt.alloc(), &mut source)),
-            "{calls}"
-        );
+        assert!(rt; fails(rt.alloc(), &file, calls), "{calls}");
     }
-    let mut source = Broken {
-        bytes: &file,
-        calls: CALLS,
-    };
-    assert!(rt; listed(rt.alloc(), &mut source) == Some(3));
-    Ok(())
+    assert!(rt; is_listed(rt.alloc(), &file, CALLS));
 }

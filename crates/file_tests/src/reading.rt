@@ -4,7 +4,8 @@
 use crate::texts::{are_all, spelled};
 use cfb_names::name::Name;
 use file_outline::outline::{Outline, Part};
-use std::test::Fail;
+use std::alloc::Global;
+use std::process::Abort;
 use storage_tree::storage::Found;
 use storage_tree::tree::Tree;
 use stream_io::fault::{ReadFault, StreamFault};
@@ -42,14 +43,31 @@ fn is_no_stream(answer: Result<Vec<u8>, StreamFault>) -> bool {
     }
 }
 
+fn name(rt: &impl Abort, text: &str) -> Name {
+    Name::new(text.as_bytes()).expect(rt, "a name")
+}
+
+fn is_whole(rt: &impl Abort, alloc: Global, file: &[u8]) -> bool {
+    let tree = read_file(alloc, file).expect(rt, "a file");
+    is_read(&tree, name(rt, "A"))
+}
+
+fn is_outlined(rt: &impl Abort, alloc: Global, file: &[u8]) -> bool {
+    let outline = read_outline(alloc, file).expect(rt, "a file");
+    first_size(&outline) == Some(3)
+}
+
+fn has_stream(rt: &impl Abort, alloc: Global, file: &[u8]) -> bool {
+    let bytes = read_stream(alloc, file, &[name(rt, "a")]).expect(rt, "a stream");
+    bytes.as_slice() == b"\x01\x02\x03".as_slice()
+}
+
 #[test]
-fn a_file_is_read(rt: HostRuntime) -> Result<(), Fail> {
-    let file = spelled(rt.alloc(), FILE)?;
-    assert!(rt; is_read(&read_file(rt.alloc(), &file)?, Name::new(b"A")?));
-    assert!(rt; first_size(&read_outline(rt.alloc(), &file)?) == Some(3));
-    let bytes = read_stream(rt.alloc(), &file, &[Name::new(b"a")?])?;
-    assert!(rt; bytes.as_slice() == b"\x01\x02\x03".as_slice());
+fn a_file_is_read(rt: HostRuntime) {
+    let file = spelled(&rt, rt.alloc(), FILE);
+    assert!(rt; is_whole(&rt, rt.alloc(), &file));
+    assert!(rt; is_outlined(&rt, rt.alloc(), &file));
+    assert!(rt; has_stream(&rt, rt.alloc(), &file));
     assert!(rt; is_no_stream(read_stream(rt.alloc(), &file, &[])));
     assert!(rt; ReadFault::NoMemory.name() == "NoMemory");
-    Ok(())
 }

@@ -3,7 +3,7 @@
 use crate::texts::{number, word};
 use cfb_names::name::Name;
 use std::alloc::Global;
-use std::test::Fail;
+use std::process::Abort;
 use storage_tree::bytes::Bytes;
 use storage_tree::class_id::ClassId;
 use storage_tree::fault::{StreamsFault, TreeFault};
@@ -24,11 +24,14 @@ get Shapes 4 none
 next Shapes . ok
 next Cell . none";
 
-fn push(alloc: Global, streams: &mut Streams, name: Name, text: &str) -> Result<bool, Fail> {
-    let bytes = Bytes::from_slice(alloc, text.as_bytes())?;
+fn bytes(rt: &impl Abort, alloc: Global, text: &str) -> Bytes {
+    Bytes::from_slice(alloc, text.as_bytes()).expect(rt, "memory")
+}
+
+fn push(streams: &mut Streams, name: Name, bytes: Bytes) -> bool {
     match streams.push(NamedStream { name, bytes }) {
-        Ok(()) => Ok(true),
-        Err(fault) => Ok(fault.name() != "OutOfOrder"),
+        Ok(()) => true,
+        Err(fault) => fault.name() != "OutOfOrder",
     }
 }
 
@@ -48,43 +51,59 @@ fn are_so_many(streams: &Streams, count: u32) -> bool {
 }
 
 fn carry_out(
+    rt: &impl Abort,
     alloc: Global,
     streams: &mut Streams,
     call: &str,
     name: Name,
     with: &str,
-) -> Result<bool, Fail> {
+) -> bool {
     match call {
-        "push" => push(alloc, streams, name, with),
-        "get" => Ok(holds(streams, &name, with)),
-        "len" => Ok(are_so_many(streams, number(with))),
-        _ => Ok(streams.is_next(&name)),
+        "push" => push(streams, name, bytes(rt, alloc, with)),
+        "get" => holds(streams, &name, with),
+        "len" => are_so_many(streams, number(with)),
+        _ => streams.is_next(&name),
     }
+}
+
+fn name(rt: &impl Abort, text: &str) -> Name {
+    Name::new(text.as_bytes()).expect(rt, "a name")
 }
 
 /// Whether streams tell what a call wants.
-fn tells(alloc: Global, streams: &mut Streams, row: &str) -> Result<bool, Fail> {
+fn tells(rt: &impl Abort, alloc: Global, streams: &mut Streams, row: &str) -> bool {
     let mut words = row.split_whitespace();
     let call = word(&mut words);
-    let name = Name::new(word(&mut words).as_bytes())?;
+    let name = name(rt, word(&mut words));
     let with = word(&mut words);
-    let told = carry_out(alloc, streams, call, name, with)?;
-    Ok(told == (word(&mut words) == "ok"))
+    let told = carry_out(rt, alloc, streams, call, name, with);
+    told == (word(&mut words) == "ok")
+}
+
+/// Checks that streams tell what each call wants.
+fn play(rt: &impl Abort, alloc: Global, streams: &mut Streams, calls: &str) {
+    for row in calls.split('\n') {
+        assert!(rt; tells(rt, alloc, streams, row), "{row}");
+    }
+}
+
+fn is_seven(rt: &impl Abort, alloc: Global, picture: Bytes) -> bool {
+    let bytes = picture.into_vec(alloc).expect(rt, "memory");
+    bytes.as_slice() == b"7".as_slice()
+}
+
+fn copy(rt: &impl Abort, alloc: Global, stored: &Stored) -> Stored {
+    stored.copy(alloc).expect(rt, "memory")
 }
 
 #[test]
-fn streams_stand_in_name_order(rt: HostRuntime) -> Result<(), Fail> {
+fn streams_stand_in_name_order(rt: HostRuntime) {
     let mut stored = Stored::new(rt.alloc());
-    for row in PUSHES.split('\n') {
-        assert!(rt; tells(rt.alloc(), &mut stored.streams, row)?, "{row}");
-    }
-    stored.picture = Bytes::from_slice(rt.alloc(), b"7")?;
-    let mut copy = stored.copy(rt.alloc())?;
-    for row in COPIED.split('\n') {
-        assert!(rt; tells(rt.alloc(), &mut copy.streams, row)?, "{row}");
-    }
-    assert!(rt; copy.picture.into_vec(rt.alloc())?.as_slice() == b"7".as_slice());
-    Ok(())
+    play(&rt, rt.alloc(), &mut stored.streams, PUSHES);
+    stored.picture = bytes(&rt, rt.alloc(), "7");
+    let mut copy = copy(&rt, rt.alloc(), &stored);
+    play(&rt, rt.alloc(), &mut copy.streams, COPIED);
+    assert!(rt; is_seven(&rt, rt.alloc(), copy.picture));
 }
 
 #[test]

@@ -1,8 +1,8 @@
 //! Tables as texts, a row a line: a text costs the same to prove however many rows it has.
 
 use std::alloc::Global;
+use std::process::Abort;
 use std::str::SplitWhitespace;
-use std::test::Fail;
 
 /// The next word of a row, and none at its end.
 pub(crate) fn word<'a>(words: &mut SplitWhitespace<'a>) -> &'a str {
@@ -28,15 +28,20 @@ fn with_digit(number: u32, digit: u8) -> u32 {
         .saturating_add(u32::from(value(digit)))
 }
 
-/// Numbers with commas between.
-pub(crate) fn numbers(alloc: Global, text: &str) -> Result<Vec<u32>, Fail> {
+/// Numbers with commas between, and none of an empty text.
+pub(crate) fn numbers(rt: &impl Abort, alloc: Global, text: &str) -> Vec<u32> {
     let mut numbers = Vec::new(alloc);
     for part in text.split(',') {
         if !part.is_empty() {
-            numbers.push(number(part))?;
+            numbers.push(number(part)).expect(rt, "memory");
         }
     }
-    Ok(numbers)
+    numbers
+}
+
+/// Whether numbers are those of a text.
+pub(crate) fn are_numbers(rt: &impl Abort, alloc: Global, told: &[u32], text: &str) -> bool {
+    numbers(rt, alloc, text).as_slice() == told
 }
 
 /// Whether bytes are all the same one.
@@ -50,38 +55,51 @@ pub(crate) fn are_all(bytes: &[u8], byte: u8) -> bool {
 }
 
 /// Bytes in hexadecimal with commas between parts: `8*00` for a byte that stands there eight times.
-pub(crate) fn spelled(alloc: Global, text: &str) -> Result<Vec<u8>, Fail> {
+pub(crate) fn spelled(rt: &impl Abort, alloc: Global, text: &str) -> Vec<u8> {
     let mut bytes = Vec::new(alloc);
     for part in text.split(',') {
-        push_part(&mut bytes, part)?;
+        push_part(rt, &mut bytes, part);
     }
-    Ok(bytes)
+    bytes
 }
 
-fn push_part(bytes: &mut Vec<u8>, part: &str) -> Result<(), Fail> {
+/// Whether bytes are those that a text spells.
+pub(crate) fn are_spelled(rt: &impl Abort, alloc: Global, told: &[u8], text: &str) -> bool {
+    spelled(rt, alloc, text).as_slice() == told
+}
+
+fn push_part(rt: &impl Abort, bytes: &mut Vec<u8>, part: &str) {
     match part.split_once("*") {
-        Some((count, unit)) => {
-            for _ in 0..number(count) {
-                push_digits(bytes, unit)?;
-            }
-            Ok(())
-        }
-        None => push_digits(bytes, part),
+        Some((count, unit)) => push_often(rt, bytes, number(count), unit),
+        None => push_digits(rt, bytes, part),
     }
 }
 
-fn push_digits(bytes: &mut Vec<u8>, digits: &str) -> Result<(), Fail> {
+fn push_often(rt: &impl Abort, bytes: &mut Vec<u8>, count: u32, unit: &str) {
+    for _ in 0..count {
+        push_digits(rt, bytes, unit);
+    }
+}
+
+fn push_digits(rt: &impl Abort, bytes: &mut Vec<u8>, digits: &str) {
     let mut high = None;
     for digit in digits.as_bytes() {
         match high {
             None => high = Some(value(*digit)),
             Some(sixteens) => {
-                bytes.push(value(*digit).saturating_add(sixteens.saturating_mul(16)))?;
+                push(
+                    rt,
+                    bytes,
+                    value(*digit).saturating_add(sixteens.saturating_mul(16)),
+                );
                 high = None;
             }
         }
     }
-    Ok(())
+}
+
+fn push(rt: &impl Abort, bytes: &mut Vec<u8>, byte: u8) {
+    bytes.push(byte).expect(rt, "memory");
 }
 
 fn value(digit: u8) -> u8 {

@@ -3,7 +3,7 @@
 use crate::texts::{number, word};
 use cfb_names::name::Name;
 use std::alloc::Global;
-use std::test::Fail;
+use std::process::Abort;
 use storage_tree::bytes::Bytes;
 use storage_tree::class_id::ClassId;
 use storage_tree::fault::TreeFault;
@@ -79,22 +79,34 @@ begin . . ok
 revert . . ok
 get 7 7 ok";
 
+fn name(rt: &impl Abort, text: &str) -> Name {
+    Name::new(text.as_bytes()).expect(rt, "a name")
+}
+
 /// A path of names with slashes between, or the empty one.
-fn path(alloc: Global, text: &str) -> Result<Vec<Name>, Fail> {
-    let mut names = Vec::new(alloc);
+fn path(rt: &impl Abort, alloc: Global, text: &str) -> Vec<Name> {
     if text == "." {
-        return Ok(names);
+        Vec::new(alloc)
+    } else {
+        names(rt, alloc, text)
     }
-    for name in text.split('/') {
-        names.push(Name::new(name.as_bytes())?)?;
+}
+
+fn names(rt: &impl Abort, alloc: Global, text: &str) -> Vec<Name> {
+    let mut names = Vec::new(alloc);
+    for part in text.split('/') {
+        names.push(name(rt, part)).expect(rt, "memory");
     }
-    Ok(names)
+    names
 }
 
 /// The bytes of a text.
-fn content(alloc: Global, text: &str) -> Result<Bytes, Fail> {
-    let text = if text == "." { "" } else { text };
-    Ok(Bytes::from_slice(alloc, text.as_bytes())?)
+fn content(rt: &impl Abort, alloc: Global, text: &str) -> Bytes {
+    Bytes::from_slice(alloc, filled(text).as_bytes()).expect(rt, "memory")
+}
+
+fn filled(text: &str) -> &str {
+    if text == "." { "" } else { text }
 }
 
 /// The class that is named by a letter.
@@ -120,61 +132,62 @@ fn whether(holds: bool) -> &'static str {
     if holds { "ok" } else { "otherwise" }
 }
 
-fn put(alloc: Global, tree: &mut Tree, at: &str, text: &str) -> Result<&'static str, Fail> {
-    Ok(told(tree.put_stream(&path(alloc, at)?, content(alloc, text)?)))
+fn put(rt: &impl Abort, alloc: Global, tree: &mut Tree, at: &str, text: &str) -> &'static str {
+    told(tree.put_stream(&path(rt, alloc, at), content(rt, alloc, text)))
 }
 
 /// The state bits of a storage are the letter of its class.
-fn make(alloc: Global, tree: &mut Tree, at: &str, with: u8) -> Result<&'static str, Fail> {
-    Ok(told(tree.make_storage(&path(alloc, at)?, class(with), u32::from(with))))
+fn make(rt: &impl Abort, alloc: Global, tree: &mut Tree, at: &str, with: u8) -> &'static str {
+    told(tree.make_storage(&path(rt, alloc, at), class(with), u32::from(with)))
 }
 
-fn remove(alloc: Global, tree: &mut Tree, at: &str) -> Result<&'static str, Fail> {
-    Ok(told(tree.remove(&path(alloc, at)?)))
+fn remove(rt: &impl Abort, alloc: Global, tree: &mut Tree, at: &str) -> &'static str {
+    told(tree.remove(&path(rt, alloc, at)))
 }
 
-fn rename(alloc: Global, tree: &mut Tree, at: &str, new: &str) -> Result<&'static str, Fail> {
-    Ok(told(tree.rename(&path(alloc, at)?, Name::new(new.as_bytes())?)))
+fn rename(rt: &impl Abort, alloc: Global, tree: &mut Tree, at: &str, new: &str) -> &'static str {
+    told(tree.rename(&path(rt, alloc, at), name(rt, new)))
 }
 
 /// Whether the stream at a path of a storage has these bytes.
-fn get(alloc: Global, root: &Storage, at: &str, text: &str) -> Result<&'static str, Fail> {
-    let text = if text == "." { "" } else { text };
-    match root.get(&path(alloc, at)?) {
-        Ok(Found::Stream(bytes)) => Ok(whether(bytes.as_slice() == text.as_bytes())),
-        Ok(Found::Storage(_)) => Ok("otherwise"),
-        Err(fault) => Ok(fault.name()),
+fn get(rt: &impl Abort, alloc: Global, root: &Storage, at: &str, text: &str) -> &'static str {
+    match root.get(&path(rt, alloc, at)) {
+        Ok(Found::Stream(bytes)) => whether(bytes.as_slice() == filled(text).as_bytes()),
+        Ok(Found::Storage(_)) => "otherwise",
+        Err(fault) => fault.name(),
     }
 }
 
 /// Whether the storage at a path has this class, and its state bits.
-fn is_storage(alloc: Global, tree: &Tree, at: &str, with: u8) -> Result<&'static str, Fail> {
-    match tree.get(&path(alloc, at)?) {
-        Ok(Found::Storage(inner)) => Ok(whether(
-            inner.class == class(with) && inner.state == u32::from(with),
-        )),
-        Ok(Found::Stream(_)) => Ok("otherwise"),
-        Err(fault) => Ok(fault.name()),
+fn is_storage(rt: &impl Abort, alloc: Global, tree: &Tree, at: &str, with: u8) -> &'static str {
+    match tree.get(&path(rt, alloc, at)) {
+        Ok(Found::Storage(inner)) => whether(has(inner, with)),
+        Ok(Found::Stream(_)) => "otherwise",
+        Err(fault) => fault.name(),
     }
 }
 
+fn has(storage: &Storage, with: u8) -> bool {
+    storage.class == class(with) && storage.state == u32::from(with)
+}
+
 /// Whether the root's only child is spelled so.
-fn is_named(alloc: Global, tree: &Tree, text: &str) -> Result<&'static str, Fail> {
-    let names = tree.root().names(alloc)?;
-    match names.first() {
-        Some(name) => Ok(whether(name.as_bytes() == text.as_bytes() && names.len() == 1)),
-        None => Ok("otherwise"),
+fn is_named(rt: &impl Abort, alloc: Global, tree: &Tree, text: &str) -> bool {
+    let names = tree.root().names(alloc).expect(rt, "memory");
+    match names.as_slice() {
+        [name] => name.as_bytes() == text.as_bytes(),
+        _ => false,
     }
 }
 
 /// Whether a copy of the root, taken before its storage `D` goes, has these bytes.
-fn copied(alloc: Global, tree: &mut Tree, at: &str, text: &str) -> Result<&'static str, Fail> {
-    let copy = tree.root().copy(alloc)?;
-    let _ = remove(alloc, tree, "D")?;
+fn copied(rt: &impl Abort, alloc: Global, tree: &mut Tree, at: &str, text: &str) -> &'static str {
+    let copy = tree.root().copy(alloc).expect(rt, "memory");
+    let _ = remove(rt, alloc, tree, "D");
     if copy.class != tree.root().class || copy.state != tree.root().state {
-        return Ok("otherwise");
+        return "otherwise";
     }
-    get(alloc, &copy, at, text)
+    get(rt, alloc, &copy, at, text)
 }
 
 /// A tree without children, of this class.
@@ -182,58 +195,64 @@ fn fresh(alloc: Global, with: u8) -> Tree {
     Tree::new(alloc, class(with), u32::from(with))
 }
 
+fn renew(alloc: Global, tree: &mut Tree, with: u8) -> &'static str {
+    *tree = fresh(alloc, with);
+    "ok"
+}
+
 /// Puts so many streams, each named by its number, with that as its bytes.
-fn put_many(alloc: Global, tree: &mut Tree, count: u32) -> Result<&'static str, Fail> {
+fn put_many(rt: &impl Abort, alloc: Global, tree: &mut Tree, count: u32) -> &'static str {
     for number in 0..count {
-        let digits = format!(in alloc; "{number}")?;
-        let _ = put(alloc, tree, digits.as_str(), digits.as_str())?;
+        let digits = format!(in alloc; "{number}").expect(rt, "memory");
+        let _ = put(rt, alloc, tree, digits.as_str(), digits.as_str());
     }
-    Ok("ok")
+    "ok"
+}
+
+fn counts(tree: &Tree, count: u32) -> bool {
+    tree.root().children.len() == count as usize
 }
 
 fn call(
+    rt: &impl Abort,
     alloc: Global,
     tree: &mut Tree,
     call: &str,
     at: &str,
     with: &str,
-) -> Result<&'static str, Fail> {
+) -> &'static str {
     match call {
-        "new" => {
-            *tree = fresh(alloc, letter(with));
-            Ok("ok")
-        }
-        "begin" => Ok(told(tree.begin())),
-        "commit" => Ok(told(tree.commit())),
-        "revert" => Ok(told(tree.revert())),
-        "put" => put(alloc, tree, at, with),
-        "make" => make(alloc, tree, at, letter(with)),
-        "remove" => remove(alloc, tree, at),
-        "rename" => rename(alloc, tree, at, with),
-        "get" => get(alloc, tree.root(), at, with),
-        "class" => is_storage(alloc, tree, at, letter(with)),
-        "names" => is_named(alloc, tree, with),
-        "count" => Ok(whether(tree.root().children.len() == number(with) as usize)),
-        "many" => put_many(alloc, tree, number(with)),
-        "copy" => copied(alloc, tree, at, with),
-        _ => Ok("unknown"),
+        "new" => renew(alloc, tree, letter(with)),
+        "begin" => told(tree.begin()),
+        "commit" => told(tree.commit()),
+        "revert" => told(tree.revert()),
+        "put" => put(rt, alloc, tree, at, with),
+        "make" => make(rt, alloc, tree, at, letter(with)),
+        "remove" => remove(rt, alloc, tree, at),
+        "rename" => rename(rt, alloc, tree, at, with),
+        "get" => get(rt, alloc, tree.root(), at, with),
+        "class" => is_storage(rt, alloc, tree, at, letter(with)),
+        "names" => whether(is_named(rt, alloc, tree, with)),
+        "count" => whether(counts(tree, number(with))),
+        "many" => put_many(rt, alloc, tree, number(with)),
+        "copy" => copied(rt, alloc, tree, at, with),
+        _ => "unknown",
     }
 }
 
 /// Whether a call has its answer.
-fn answers(alloc: Global, tree: &mut Tree, row: &str) -> Result<bool, Fail> {
+fn answers(rt: &impl Abort, alloc: Global, tree: &mut Tree, row: &str) -> bool {
     let mut words = row.split_whitespace();
     let name = word(&mut words);
     let at = word(&mut words);
     let with = word(&mut words);
-    Ok(call(alloc, tree, name, at, with)? == word(&mut words))
+    call(rt, alloc, tree, name, at, with) == word(&mut words)
 }
 
 #[test]
-fn calls_have_their_answers(rt: HostRuntime) -> Result<(), Fail> {
+fn calls_have_their_answers(rt: HostRuntime) {
     let mut tree = fresh(rt.alloc(), 0);
     for row in CALLS.split('\n') {
-        assert!(rt; answers(rt.alloc(), &mut tree, row)?, "{row}");
+        assert!(rt; answers(&rt, rt.alloc(), &mut tree, row), "{row}");
     }
-    Ok(())
 }

@@ -4,7 +4,7 @@ use crate::texts::{number, word};
 use cfb_names::name::Name;
 use file_writer::write::{fits, write_file};
 use std::alloc::Global;
-use std::test::Fail;
+use std::process::Abort;
 use storage_tree::bytes::Bytes;
 use storage_tree::class_id::ClassId;
 use storage_tree::tree::Tree;
@@ -38,11 +38,18 @@ O 0 64000 fits
 O 1536 66048 fits
 O 2048 67072 fits";
 
-/// Puts a stream of so many bytes 7.
-fn put(alloc: Global, tree: &mut Tree, name: &str, len: u32) -> Result<(), Fail> {
-    let bytes = Bytes::from_vec(alloc, vec![in alloc; 7; len as usize]?)?;
-    tree.put_stream(&[Name::new(name.as_bytes())?], bytes)?;
-    Ok(())
+/// So many bytes 7.
+fn bytes(rt: &impl Abort, alloc: Global, len: u32) -> Bytes {
+    let bytes = vec![in alloc; 7; len as usize].expect(rt, "memory");
+    Bytes::from_vec(alloc, bytes).expect(rt, "memory")
+}
+
+fn name(rt: &impl Abort, text: &str) -> Name {
+    Name::new(text.as_bytes()).expect(rt, "a name")
+}
+
+fn put(rt: &impl Abort, tree: &mut Tree, name: Name, bytes: Bytes) {
+    tree.put_stream(&[name], bytes).expect(rt, "a free name");
 }
 
 /// Whether a file can hold a tree, or why not.
@@ -62,22 +69,22 @@ fn written(alloc: Global, tree: &Tree) -> usize {
 }
 
 /// Puts the stream of a row, and whether the file is then as it says.
-fn holds(alloc: Global, tree: &mut Tree, row: &str) -> Result<bool, Fail> {
+fn holds(rt: &impl Abort, alloc: Global, tree: &mut Tree, row: &str) -> bool {
     let mut words = row.split_whitespace();
-    let name = word(&mut words);
-    put(alloc, tree, name, number(word(&mut words)))?;
+    let name = name(rt, word(&mut words));
+    put(rt, tree, name, bytes(rt, alloc, number(word(&mut words))));
     let len = word(&mut words);
-    if len == "." {
-        return Ok(true);
-    }
-    Ok(written(alloc, tree) == number(len) as usize && told(tree) == word(&mut words))
+    len == "." || is_file(alloc, tree, number(len), word(&mut words))
+}
+
+fn is_file(alloc: Global, tree: &Tree, len: u32, want: &str) -> bool {
+    written(alloc, tree) == len as usize && told(tree) == want
 }
 
 #[test]
-fn trees_are_written_while_they_fit(rt: HostRuntime) -> Result<(), Fail> {
+fn trees_are_written_while_they_fit(rt: HostRuntime) {
     let mut tree = Tree::new(rt.alloc(), ClassId::from_bytes(*b"0123456789abcdef"), 0);
     for row in STREAMS.split('\n') {
-        assert!(rt; holds(rt.alloc(), &mut tree, row)?, "{row}");
+        assert!(rt; holds(&rt, rt.alloc(), &mut tree, row), "{row}");
     }
-    Ok(())
 }

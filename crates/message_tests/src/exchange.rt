@@ -1,16 +1,15 @@
 //! The worked exchange of docs/protocol.md, byte for byte.
 
+use crate::contents::{bytes_of, put};
 use crate::frames::first_bad_cut;
-use cfb_names::name::Name;
-use message_bytes::encode::encode;
+use crate::pieces::encoded;
+use crate::texts::push;
 use message_bytes::frame::Frame;
 use object_state::{CloseOption, Menus};
 use std::alloc::Global;
-use std::test::Fail;
-use storage_tree::bytes::Bytes;
+use std::process::Abort;
 use storage_tree::class_id::ClassId;
 use storage_tree::stored::Stored;
-use storage_tree::streams::NamedStream;
 use wire_msgs::answer::Answer;
 use wire_msgs::message::Message;
 use wire_msgs::operation::Operation;
@@ -52,20 +51,15 @@ fn ask(g: u32) -> Frame {
     Frame::Message(Message::Ask { inc: 1, act: 1, g })
 }
 
-/// These bytes.
-fn bytes(alloc: Global, items: &[u8]) -> Result<Bytes, Fail> {
-    Ok(Bytes::from_slice(alloc, items)?)
+/// A note of `ab`.
+fn content(rt: &impl Abort, alloc: Global) -> Stored {
+    let mut stored = Stored::new(alloc);
+    put(rt, &mut stored, "Text", bytes_of(rt, alloc, "ab"));
+    stored
 }
 
-/// A note of `ab`.
-fn content(alloc: Global) -> Result<Stored, Fail> {
-    let mut stored = Stored::new(alloc);
-    let text = NamedStream {
-        name: Name::new(b"Text")?,
-        bytes: bytes(alloc, b"ab")?,
-    };
-    stored.streams.push(text)?;
-    Ok(stored)
+fn edit(rt: &impl Abort, alloc: Global, n: u32, text: &str) -> Frame {
+    call(n, Operation::Edit(bytes_of(rt, alloc, text)))
 }
 
 /// The class of notes.
@@ -74,65 +68,63 @@ const NOTE: [u8; 16] = [
 ];
 
 /// What the note wants of its frame.
-fn tools() -> Result<Frame, Fail> {
-    let menus = Menus::new(b"Edit", b"Note", b"Help").ok_or("three texts")?;
+fn tools(rt: &impl Abort) -> Frame {
+    let menus = Menus::new(b"Edit", b"Note", b"Help").expect(rt, "three texts");
     let border = [0, 1, 0, 0];
-    Ok(reply(4, Answer::Tools { menus, border }))
+    reply(4, Answer::Tools { menus, border })
 }
 
 /// The bytes of the exchange in hexadecimal.
-const TEXTS: [&str; 24] = [
-    "4f4c434d01011d00000001000000010000000100000001012a1d6f4b3c5f4e8a9b0c1d2e3f4051",
-    "4f4c434d010500000000",
-    "4f4c434d01020d00000001000000010000000100000000",
-    "4f4c434d010500000000",
-    "4f4c434d0101170000000100000001000000020000000806000000692030206162",
-    "4f4c434d01020d00000001000000010000000200000000",
-    "4f4c434d0103200000000100000001000000010000000100000001045465787402000000616200000000",
-    "4f4c434d01010d00000001000000010000000300000003",
-    "4f4c434d01020d00000001000000010000000300000000",
-    "4f4c434d0101110000000100000001000000040000000401000000",
-    "4f4c434d010224000000010000000100000004000000030445646974044e6f74650448656c700000010000000000",
-    "4f4c434d01040c000000010000000100000001000000",
-    "4f4c434d01010d00000001000000010000000500000005",
-    "4f4c434d01020d00000001000000010000000500000000",
-    "4f4c434d0101110000000100000001000000060000000901000000",
-    "4f4c434d01021d0000000100000001000000060000000201045465787402000000616200000000",
-    "4f4c434d0101120000000100000001000000070000000b0100000000",
-    "4f4c434d01020d00000001000000010000000700000000",
-    "4f4c434d01011600000001000000010000000800000008050000006420392031",
-    "4f4c434d01020e0000000100000001000000080000000101",
-    "4f4c434d01010d00000001000000010000000900000006",
-    "4f4c434d01020d00000001000000010000000900000000",
-    "4f4c434d01010e00000001000000010000000a0000000d00",
-    "4f4c434d01021d00000001000000010000000a0000000201045465787402000000616200000000",
-];
+const TEXTS: &str = "4f4c434d01011d00000001000000010000000100000001012a1d6f4b3c5f4e8a9b0c1d2e3f4051
+4f4c434d010500000000
+4f4c434d01020d00000001000000010000000100000000
+4f4c434d010500000000
+4f4c434d0101170000000100000001000000020000000806000000692030206162
+4f4c434d01020d00000001000000010000000200000000
+4f4c434d0103200000000100000001000000010000000100000001045465787402000000616200000000
+4f4c434d01010d00000001000000010000000300000003
+4f4c434d01020d00000001000000010000000300000000
+4f4c434d0101110000000100000001000000040000000401000000
+4f4c434d010224000000010000000100000004000000030445646974044e6f74650448656c700000010000000000
+4f4c434d01040c000000010000000100000001000000
+4f4c434d01010d00000001000000010000000500000005
+4f4c434d01020d00000001000000010000000500000000
+4f4c434d0101110000000100000001000000060000000901000000
+4f4c434d01021d0000000100000001000000060000000201045465787402000000616200000000
+4f4c434d0101120000000100000001000000070000000b0100000000
+4f4c434d01020d00000001000000010000000700000000
+4f4c434d01011600000001000000010000000800000008050000006420392031
+4f4c434d01020e0000000100000001000000080000000101
+4f4c434d01010d00000001000000010000000900000006
+4f4c434d01020d00000001000000010000000900000000
+4f4c434d01010e00000001000000010000000a0000000d00
+4f4c434d01021d00000001000000010000000a0000000201045465787402000000616200000000";
 
 /// The frames of the first half.
-fn first_frame(alloc: Global, at: usize) -> Result<Frame, Fail> {
-    Ok(match at {
+fn first_frame(rt: &impl Abort, alloc: Global, at: usize) -> Frame {
+    match at {
         0 => call(1, Operation::InitNew(ClassId::from_bytes(NOTE))),
         1 => Frame::Turn,
         2 => reply(1, Answer::Done),
         3 => Frame::Turn,
-        4 => call(2, Operation::Edit(bytes(alloc, b"i 0 ab")?)),
+        4 => edit(rt, alloc, 2, "i 0 ab"),
         5 => reply(2, Answer::Done),
-        6 => write(1, 1, content(alloc)?),
+        6 => write(1, 1, content(rt, alloc)),
         7 => call(3, Operation::InPlace),
         8 => reply(3, Answer::Done),
         9 => call(4, Operation::UiActivate(1)),
-        10 => tools()?,
+        10 => tools(rt),
         _ => ask(1),
-    })
+    }
 }
 
 /// The frames of the last half.
-fn last_frame(alloc: Global, at: usize) -> Result<Frame, Fail> {
-    Ok(match at {
+fn last_frame(rt: &impl Abort, alloc: Global, at: usize) -> Frame {
+    match at {
         12 => call(5, Operation::UiDeactivate),
         13 => reply(5, Answer::Done),
         14 => call(6, Operation::Save(1)),
-        15 => reply(6, Answer::Content(content(alloc)?)),
+        15 => reply(6, Answer::Content(content(rt, alloc))),
         16 => call(
             7,
             Operation::SaveCompleted {
@@ -141,13 +133,13 @@ fn last_frame(alloc: Global, at: usize) -> Result<Frame, Fail> {
             },
         ),
         17 => reply(7, Answer::Done),
-        18 => call(8, Operation::Edit(bytes(alloc, b"d 9 1")?)),
+        18 => edit(rt, alloc, 8, "d 9 1"),
         19 => reply(8, Answer::Refused(Refusal::BadEdit)),
         20 => call(9, Operation::InPlaceDeactivate),
         21 => reply(9, Answer::Done),
         22 => call(10, Operation::Close(CloseOption::SaveIfDirty)),
-        _ => reply(10, Answer::Content(content(alloc)?)),
-    })
+        _ => reply(10, Answer::Content(content(rt, alloc))),
+    }
 }
 
 /// A digit of hexadecimal in lower case.
@@ -160,36 +152,34 @@ fn digit(value: u8) -> u8 {
 }
 
 /// Bytes in hexadecimal.
-fn hexadecimal(alloc: Global, items: &[u8]) -> Result<Vec<u8>, Fail> {
+fn hexadecimal(rt: &impl Abort, alloc: Global, items: &[u8]) -> Vec<u8> {
     let mut text = Vec::new(alloc);
     for item in items {
-        text.push(digit(*item / 16))?;
-        text.push(digit(*item % 16))?;
+        push(rt, &mut text, digit(*item / 16));
+        push(rt, &mut text, digit(*item % 16));
     }
-    Ok(text)
+    text
 }
 
 /// A frame of the exchange.
-fn frame_at(alloc: Global, at: usize) -> Result<Frame, Fail> {
+fn frame_at(rt: &impl Abort, alloc: Global, at: usize) -> Frame {
     if at < 12 {
-        first_frame(alloc, at)
+        first_frame(rt, alloc, at)
     } else {
-        last_frame(alloc, at)
+        last_frame(rt, alloc, at)
     }
 }
 
 /// Whether a frame is spelled so, and comes again wherever it is cut.
-fn is_spelled(alloc: Global, frame: &Frame, text: &str) -> Result<bool, Fail> {
-    let spelled = encode(alloc, frame)?;
-    let told = hexadecimal(alloc, &spelled)?;
-    Ok(told.as_slice() == text.as_bytes() && first_bad_cut(alloc, &spelled)?.is_none())
+fn is_spelled(rt: &impl Abort, alloc: Global, at: usize, text: &str) -> bool {
+    let spelled = encoded(rt, alloc, &frame_at(rt, alloc, at));
+    hexadecimal(rt, alloc, &spelled).as_slice() == text.as_bytes()
+        && first_bad_cut(rt, alloc, &spelled).is_none()
 }
 
 #[test]
-fn the_exchange_is_as_it_is_written(rt: HostRuntime) -> Result<(), Fail> {
-    for (at, text) in TEXTS.iter().enumerate() {
-        let frame = frame_at(rt.alloc(), at)?;
-        assert!(rt; is_spelled(rt.alloc(), &frame, text)?, "{text}");
+fn the_exchange_is_as_it_is_written(rt: HostRuntime) {
+    for (at, text) in TEXTS.split('\n').enumerate() {
+        assert!(rt; is_spelled(&rt, rt.alloc(), at, text), "{text}");
     }
-    Ok(())
 }

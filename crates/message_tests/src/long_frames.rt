@@ -2,32 +2,27 @@
 
 ghost use Rattle.std.specs.Prelude.{◌<◌};
 
+use crate::contents::{bytes, put};
 use crate::frames::first_bad_cut;
-use crate::pieces::{bytes, comes_in_pieces, feed_all, next_is, shown};
-use cfb_names::name::Name;
+use crate::pieces::{comes_in_pieces, encoded, feed_all, is_shown_at, next_is};
+use crate::texts::{number, spelled, word};
 use message_bytes::decoder::Decoder;
-use message_bytes::encode::encode;
-use message_bytes::fault::WireFault;
 use message_bytes::frame::Frame;
 use std::alloc::Global;
-use std::test::Fail;
+use std::process::Abort;
 use storage_tree::class_id::ClassId;
 use storage_tree::stored::Stored;
-use storage_tree::streams::NamedStream;
 use wire_msgs::answer::Answer;
 use wire_msgs::message::Message;
 use wire_msgs::operation::Operation;
 
 /// A stream of no bytes, one of 50, and a picture of 30.
-fn content(alloc: Global) -> Result<Stored, Fail> {
+fn content(rt: &impl Abort, alloc: Global) -> Stored {
     let mut stored = Stored::new(alloc);
-    for (name, count) in [(b"b".as_slice(), 0), (b"Text".as_slice(), 50)] {
-        let name = Name::new(name)?;
-        let bytes = bytes(alloc, count)?;
-        stored.streams.push(NamedStream { name, bytes })?;
-    }
-    stored.picture = bytes(alloc, 30)?;
-    Ok(stored)
+    put(rt, &mut stored, "b", bytes(rt, alloc, 0));
+    put(rt, &mut stored, "Text", bytes(rt, alloc, 50));
+    stored.picture = bytes(rt, alloc, 30);
+    stored
 }
 
 /// A call under 1, 2, 3.
@@ -41,127 +36,130 @@ fn call(operation: Operation) -> Frame {
 }
 
 /// The four that have blobs.
-fn frame_at(alloc: Global, at: u32) -> Result<Frame, Fail> {
-    Ok(match at {
-        0 => call(Operation::Edit(bytes(alloc, 90)?)),
-        1 => call(Operation::Load(ClassId::from_bytes([7; 16]), content(alloc)?)),
+fn frame_at(rt: &impl Abort, alloc: Global, at: u32) -> Frame {
+    match at {
+        0 => call(Operation::Edit(bytes(rt, alloc, 90))),
+        1 => call(Operation::Load(ClassId::from_bytes([7; 16]), content(rt, alloc))),
         2 => Frame::Message(Message::Reply {
             inc: 1,
             act: 2,
             n: 3,
-            answer: Answer::Content(content(alloc)?),
+            answer: Answer::Content(content(rt, alloc)),
         }),
         _ => Frame::Message(Message::Write {
             inc: 1,
             act: 2,
             s: 3,
             w: 4,
-            content: content(alloc)?,
+            content: content(rt, alloc),
         }),
-    })
+    }
+}
+
+fn spelled_at(rt: &impl Abort, alloc: Global, at: u32) -> Vec<u8> {
+    let frame = frame_at(rt, alloc, at);
+    encoded(rt, alloc, &frame)
+}
+
+fn comes_however(rt: &impl Abort, alloc: Global, at: u32) -> bool {
+    let bytes = spelled_at(rt, alloc, at);
+    82 < bytes.len()
+        && first_bad_cut(rt, alloc, &bytes).is_none()
+        && comes_in_pieces(rt, alloc, &bytes, 1)
 }
 
 #[test]
-fn long_frames_come_again_however_they_are_cut(rt: HostRuntime) -> Result<(), Fail> {
+fn long_frames_come_again_however_they_are_cut(rt: HostRuntime) {
     for at in 0..4 {
-        let spelled = encode(rt.alloc(), &frame_at(rt.alloc(), at)?)?;
-        assert!(rt; 82 < spelled.len());
-        assert!(rt;
-            first_bad_cut(rt.alloc(), &spelled)?.is_none(),
-            "frame {at}"
-        );
-        assert!(rt; comes_in_pieces(rt.alloc(), &spelled, 1)?, "frame {at}");
+        assert!(rt; comes_however(&rt, rt.alloc(), at), "frame {at}");
     }
-    Ok(())
 }
 
 /// How many frames come, where each is spelled so; none where one isn't.
 fn count(
+    rt: &impl Abort,
     alloc: Global,
     decoder: &mut Decoder,
     most: usize,
     spelled: &[u8],
-) -> Result<Option<usize>, WireFault> {
+) -> Option<usize> {
     for count in 0..most {
-        match next_is(alloc, decoder, spelled)? {
+        match next_is(rt, alloc, decoder, spelled) {
             Some(true) => {}
-            Some(false) => return Ok(None),
-            None => return Ok(Some(count)),
+            Some(false) => return None,
+            None => return Some(count),
         }
     }
-    Ok(None)
+    None
 }
 
 /// Whether three frames come of bytes in pieces of this length, each spelled so.
-fn three_come(alloc: Global, all: &[u8], len: usize, spelled: &[u8]) -> Result<bool, WireFault>
+fn three_come(rt: &impl Abort, alloc: Global, all: &[u8], len: usize, spelled: &[u8]) -> bool
     requires { 0 < len }
 {
     let mut decoder = Decoder::new(alloc);
-    feed_all(&mut decoder, all, len)?;
-    Ok(count(alloc, &mut decoder, all.len(), spelled)? == Some(3))
+    feed_all(rt, &mut decoder, all, len);
+    count(rt, alloc, &mut decoder, all.len(), spelled) == Some(3)
 }
 
-fn thrice(alloc: Global, spelled: &[u8]) -> Result<Vec<u8>, Fail> {
+fn thrice(rt: &impl Abort, alloc: Global, spelled: &[u8]) -> Vec<u8> {
     let mut all = Vec::new(alloc);
     for _ in 0..3 {
-        all.extend_from_slice(spelled)?;
+        all.extend_from_slice(spelled).expect(rt, "memory");
     }
-    Ok(all)
+    all
 }
 
 #[test]
-fn long_frames_come_one_behind_the_other(rt: HostRuntime) -> Result<(), Fail> {
-    let spelled = encode(rt.alloc(), &frame_at(rt.alloc(), 3)?)?;
-    let all = thrice(rt.alloc(), &spelled)?;
+fn long_frames_come_one_behind_the_other(rt: HostRuntime) {
+    let spelled = spelled_at(&rt, rt.alloc(), 3);
+    let all = thrice(&rt, rt.alloc(), &spelled);
     for len in [1, 60, 127, 200, 378] {
         assert!(rt;
-            three_come(rt.alloc(), &all, len, &spelled)?,
+            three_come(&rt, rt.alloc(), &all, len, &spelled),
             "pieces of {len}"
         );
     }
-    Ok(())
 }
 
-/// The fault that a frame shows, fed byte by byte, where one of its bytes is another, and after how many bytes.
-fn shown_with(
-    alloc: Global,
-    spelled: &[u8],
-    at: usize,
-    value: u8,
-) -> Result<(usize, Option<WireFault>), Fail> {
-    let mut changed = Vec::from_slice(alloc, spelled)?;
-    match changed.get_mut(at) {
-        Some(place) => *place = value,
-        None => {}
+/// A byte of a frame of 126 bytes, and another in its place: the kind, a number, the count, the lengths of a name, a name,
+/// the lengths of a stream and of the picture.
+const CHANGED: &str = "5 01
+5 02
+5 04
+5 05
+10 00
+26 09
+27 00
+27 20
+28 2f
+38 ff
+92 1d
+92 1f";
+
+fn changed(rt: &impl Abort, alloc: Global, at: usize, byte: &str) -> Vec<u8> {
+    let mut bytes = spelled_at(rt, alloc, 3);
+    put_byte(&mut bytes, at, &spelled(rt, alloc, byte));
+    bytes
+}
+
+fn put_byte(bytes: &mut [u8], at: usize, changed: &[u8]) {
+    if let (Some(place), Some(byte)) = (bytes.get_mut(at), changed.first()) {
+        *place = *byte;
     }
-    Ok(shown(alloc, &changed))
+}
+
+/// Whether a frame that is fed byte by byte, with one of them changed, is shown bad by its last.
+fn is_bad(rt: &impl Abort, alloc: Global, row: &str) -> bool {
+    let mut words = row.split_whitespace();
+    let at = number(word(&mut words));
+    let bytes = changed(rt, alloc, at, word(&mut words));
+    bytes.len() == 126 && is_shown_at(alloc, &bytes, 125, "BadField")
 }
 
 #[test]
-fn bad_long_frames_are_shown_by_their_last_byte(rt: HostRuntime) -> Result<(), Fail> {
-    let spelled = encode(rt.alloc(), &frame_at(rt.alloc(), 3)?)?;
-    assert_eq!(rt; spelled.len(), 126);
-    // The kind, a number, the count, the lengths of a name, a name, the lengths of a stream and of the picture.
-    let rows = [
-        (5, 1),
-        (5, 2),
-        (5, 4),
-        (5, 5),
-        (10, 0),
-        (26, 9),
-        (27, 0),
-        (27, 32),
-        (28, 0x2f),
-        (38, 255),
-        (92, 29),
-        (92, 31),
-    ];
-    for (at, value) in rows {
-        assert_eq!(rt;
-            shown_with(rt.alloc(), &spelled, at, value)?,
-            (125, Some(WireFault::BadField)),
-            "byte {at}"
-        );
+fn bad_long_frames_are_shown_by_their_last_byte(rt: HostRuntime) {
+    for row in CHANGED.split('\n') {
+        assert!(rt; is_bad(&rt, rt.alloc(), row), "{row}");
     }
-    Ok(())
 }

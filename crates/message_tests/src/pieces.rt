@@ -2,14 +2,14 @@
 
 ghost use Rattle.std.specs.Prelude.{◌<◌};
 
+use crate::contents::bytes;
 use crate::texts::{number, spelled, word};
 use message_bytes::decoder::Decoder;
 use message_bytes::encode::encode;
 use message_bytes::fault::WireFault;
 use message_bytes::frame::Frame;
 use std::alloc::Global;
-use std::test::Fail;
-use storage_tree::bytes::Bytes;
+use std::process::Abort;
 use storage_tree::stored::Stored;
 use storage_tree::streams::Streams;
 use wire_msgs::message::Message;
@@ -77,24 +77,23 @@ fn came(decoder: &mut Decoder) -> &'static str {
 }
 
 /// Whether a decoder takes what a row feeds, and gives what it wants.
-fn takes(alloc: Global, decoder: &mut Decoder, row: &str) -> Result<bool, Fail> {
+fn takes(rt: &impl Abort, alloc: Global, decoder: &mut Decoder, row: &str) -> bool {
     let mut words = row.split_whitespace();
-    let piece = spelled(alloc, word(&mut words))?;
+    let piece = spelled(rt, alloc, word(&mut words));
     let answer = fed(decoder, &piece);
-    Ok(answer == word(&mut words) && came(decoder) == word(&mut words))
+    answer == word(&mut words) && came(decoder) == word(&mut words)
 }
 
 #[test]
-fn a_call_comes_byte_by_byte(rt: HostRuntime) -> Result<(), Fail> {
+fn a_call_comes_byte_by_byte(rt: HostRuntime) {
     let mut decoder = Decoder::new(rt.alloc());
     for row in FED.split('\n') {
-        assert!(rt; takes(rt.alloc(), &mut decoder, row)?, "{row}");
+        assert!(rt; takes(&rt, rt.alloc(), &mut decoder, row), "{row}");
     }
-    Ok(())
 }
 
 /// The fault that bytes show, fed one by one, and after how many of them.
-pub(crate) fn shown(alloc: Global, bytes: &[u8]) -> (usize, Option<WireFault>) {
+fn shown(alloc: Global, bytes: &[u8]) -> (usize, Option<WireFault>) {
     let mut decoder = Decoder::new(alloc);
     for (i, byte) in bytes.iter().enumerate() {
         match decoder.feed(&[*byte]) {
@@ -116,12 +115,18 @@ const FAULTS: &str = "0001020304 3 BadMagic
 4f4c434d,01,04,0d000000,01000000,02000000,03000000,00 22 BadField
 4f4c434d,01,01,00000000 9 BadField";
 
+/// Whether bytes show this fault with the byte at this place.
+pub(crate) fn is_shown_at(alloc: Global, bytes: &[u8], at: usize, want: &str) -> bool {
+    let (place, fault) = shown(alloc, bytes);
+    place == at && name(fault) == want
+}
+
 /// Whether bytes show the fault of a row where it says.
-fn is_shown(alloc: Global, row: &str) -> Result<bool, Fail> {
+fn is_shown(rt: &impl Abort, alloc: Global, row: &str) -> bool {
     let mut words = row.split_whitespace();
-    let bytes = spelled(alloc, word(&mut words))?;
-    let (at, fault) = shown(alloc, &bytes);
-    Ok(at == number(word(&mut words)) && name(fault) == word(&mut words))
+    let bytes = spelled(rt, alloc, word(&mut words));
+    let at = number(word(&mut words));
+    is_shown_at(alloc, &bytes, at, word(&mut words))
 }
 
 fn name(fault: Option<WireFault>) -> &'static str {
@@ -132,11 +137,10 @@ fn name(fault: Option<WireFault>) -> &'static str {
 }
 
 #[test]
-fn faults_are_shown_by_their_bytes(rt: HostRuntime) -> Result<(), Fail> {
+fn faults_are_shown_by_their_bytes(rt: HostRuntime) {
     for row in FAULTS.split('\n') {
-        assert!(rt; is_shown(rt.alloc(), row)?, "{row}");
+        assert!(rt; is_shown(&rt, rt.alloc(), row), "{row}");
     }
-    Ok(())
 }
 
 /// A call's head and its numbers, of which no more is there.
@@ -147,11 +151,6 @@ fn is_begun(alloc: Global, bytes: &[u8]) -> bool {
 
 /// The beginning of a write whose body has 1,048,576 bytes: its head, and ten bytes of its numbers.
 const LONG: &str = "4f4c434d,01,03,00001000,01000000,01000000,0100";
-
-/// So many bytes.
-pub(crate) fn bytes(alloc: Global, count: usize) -> Result<Bytes, Fail> {
-    Ok(Bytes::from_vec(alloc, vec![in alloc; 7; count]?)?)
-}
 
 fn write_of(content: Stored) -> Frame {
     Frame::Message(Message::Write {
@@ -164,20 +163,19 @@ fn write_of(content: Stored) -> Frame {
 }
 
 /// A write of so many bytes in its picture.
-fn write(alloc: Global, count: usize) -> Result<Frame, Fail> {
-    let picture = bytes(alloc, count)?;
+fn write(rt: &impl Abort, alloc: Global, count: usize) -> Frame {
+    let picture = bytes(rt, alloc, count);
     let streams = Streams::new(alloc);
-    Ok(write_of(Stored { streams, picture }))
+    write_of(Stored { streams, picture })
 }
 
 /// Feeds bytes in pieces of this length, each again where memory is refused.
-pub(crate) fn feed_all(decoder: &mut Decoder, bytes: &[u8], len: usize) -> Result<(), WireFault>
+pub(crate) fn feed_all(rt: &impl Abort, decoder: &mut Decoder, bytes: &[u8], len: usize)
     requires { 0 < len }
 {
     for piece in bytes.chunks(len) {
-        feed(decoder, piece)?;
+        feed(decoder, piece).expect(rt, "a good piece");
     }
-    Ok(())
 }
 
 fn feed(decoder: &mut Decoder, piece: &[u8]) -> Result<(), WireFault> {
@@ -187,43 +185,62 @@ fn feed(decoder: &mut Decoder, piece: &[u8]) -> Result<(), WireFault> {
     }
 }
 
+pub(crate) fn encoded(rt: &impl Abort, alloc: Global, frame: &Frame) -> Vec<u8> {
+    encode(alloc, frame).expect(rt, "a frame that fits")
+}
+
+fn is_spelled(rt: &impl Abort, alloc: Global, frame: &Frame, spelled: &[u8]) -> bool {
+    encoded(rt, alloc, frame).as_slice() == spelled
+}
+
 /// Whether the next frame is spelled so, where one comes.
 pub(crate) fn next_is(
+    rt: &impl Abort,
     alloc: Global,
     decoder: &mut Decoder,
     spelled: &[u8],
-) -> Result<Option<bool>, WireFault> {
-    match decoder.next()? {
-        Some(frame) => Ok(Some(encode(alloc, &frame)?.as_slice() == spelled)),
-        None => Ok(None),
+) -> Option<bool> {
+    match decoder.next().expect(rt, "good bytes") {
+        Some(frame) => Some(is_spelled(rt, alloc, &frame, spelled)),
+        None => None,
     }
 }
 
 /// Whether a frame comes of bytes in pieces of this length, and is spelled as it came.
-pub(crate) fn comes_in_pieces(alloc: Global, spelled: &[u8], len: usize) -> Result<bool, WireFault>
+pub(crate) fn comes_in_pieces(rt: &impl Abort, alloc: Global, spelled: &[u8], len: usize) -> bool
     requires { 0 < len }
 {
     let mut decoder = Decoder::new(alloc);
-    feed_all(&mut decoder, spelled, len)?;
-    Ok(next_is(alloc, &mut decoder, spelled)? == Some(true))
+    feed_all(rt, &mut decoder, spelled, len);
+    next_is(rt, alloc, &mut decoder, spelled) == Some(true)
 }
 
 /// Whether a write is too large to be spelled.
-fn is_too_large(alloc: Global, count: usize) -> Result<bool, Fail> {
-    match encode(alloc, &write(alloc, count)?) {
-        Err(fault) => Ok(fault == WireFault::BadField),
-        Ok(_) => Ok(false),
+fn is_too_large(rt: &impl Abort, alloc: Global, count: usize) -> bool {
+    match encode(alloc, &write(rt, alloc, count)) {
+        Err(fault) => fault == WireFault::BadField,
+        Ok(_) => false,
     }
 }
 
+fn comes(rt: &impl Abort, alloc: Global, large: &[u8]) -> bool {
+    comes_in_pieces(rt, alloc, large, 1) && comes_in_pieces(rt, alloc, large, 4096)
+}
+
+fn first(large: &[u8]) -> &[u8] {
+    large.get(..26).unwrap_or(&[])
+}
+
 #[test]
-fn a_large_write_comes_in_pieces(rt: HostRuntime) -> Result<(), Fail> {
-    let large = encode(rt.alloc(), &write(rt.alloc(), 262_144)?)?;
+fn a_large_write_comes_in_pieces(rt: HostRuntime) {
+    let large = encoded(&rt, rt.alloc(), &write(&rt, rt.alloc(), 262_144));
     assert!(rt; large.len() == 10 + 16 + 1 + 4 + 262_144);
-    assert!(rt; comes_in_pieces(rt.alloc(), &large, 1)?);
-    assert!(rt; comes_in_pieces(rt.alloc(), &large, 4096)?);
-    assert!(rt; is_begun(rt.alloc(), large.get(..26).ok_or("26 bytes")?));
-    assert!(rt; is_begun(rt.alloc(), &spelled(rt.alloc(), LONG)?));
-    assert!(rt; is_too_large(rt.alloc(), 262_145)?);
-    Ok(())
+    assert!(rt; comes(&rt, rt.alloc(), &large));
+    assert!(rt; is_begun(rt.alloc(), first(&large)));
+}
+
+#[test]
+fn a_write_may_be_too_large(rt: HostRuntime) {
+    assert!(rt; is_begun(rt.alloc(), &spelled(&rt, rt.alloc(), LONG)));
+    assert!(rt; is_too_large(&rt, rt.alloc(), 262_145));
 }

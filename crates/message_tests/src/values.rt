@@ -1,7 +1,10 @@
-use cfb_names::name::Name;
+//! Messages as values.
+
+use crate::contents::{bytes_of, name};
+use crate::texts::{number, word};
 use object_state::{CloseOption, Menus, Op, StateFault};
 use std::alloc::Global;
-use std::test::Fail;
+use std::process::Abort;
 use storage_tree::bytes::Bytes;
 use storage_tree::class_id::ClassId;
 use storage_tree::stored::Stored;
@@ -12,118 +15,148 @@ use wire_msgs::message::Message;
 use wire_msgs::operation::Operation;
 use wire_msgs::refusal::Refusal;
 
+const CODES: &str = "BadEdit 1
+BadContent 2
+TooBig 3
+AlreadyInitialized 11
+NotInitialized 12
+Scribble 13
+HandsOff 14
+NeedsStorage 15
+WrongState 16";
+
+fn refusal(name: &str) -> Refusal {
+    match name {
+        "BadEdit" => Refusal::BadEdit,
+        "BadContent" => Refusal::BadContent,
+        "TooBig" => Refusal::TooBig,
+        "AlreadyInitialized" => Refusal::AlreadyInitialized,
+        "NotInitialized" => Refusal::NotInitialized,
+        "Scribble" => Refusal::Scribble,
+        "HandsOff" => Refusal::HandsOff,
+        "NeedsStorage" => Refusal::NeedsStorage,
+        _ => Refusal::WrongState,
+    }
+}
+
+fn has_code(row: &str) -> bool {
+    let mut words = row.split_whitespace();
+    let refusal = refusal(word(&mut words));
+    usize::from(refusal.code()) == number(word(&mut words))
+}
+
 #[test]
 fn refusals_stand_by_their_codes(rt: HostRuntime) {
-    let rows = [
-        (Refusal::BadEdit, 1),
-        (Refusal::BadContent, 2),
-        (Refusal::TooBig, 3),
-        (Refusal::AlreadyInitialized, 11),
-        (Refusal::NotInitialized, 12),
-        (Refusal::Scribble, 13),
-        (Refusal::HandsOff, 14),
-        (Refusal::NeedsStorage, 15),
-        (Refusal::WrongState, 16),
-    ];
-    for (refusal, code) in rows {
-        assert_eq!(rt; refusal.code(), code, "{refusal:?}");
+    for row in CODES.split('\n') {
+        assert!(rt; has_code(row), "{row}");
     }
-    assert_eq!(rt;
-        Refusal::of_state(StateFault::NeedsStorage),
-        Refusal::NeedsStorage
-    );
+    assert!(rt; Refusal::of_state(StateFault::NeedsStorage) == Refusal::NeedsStorage);
 }
 
-fn two(alloc: Global) -> Result<Items<u32>, Fail> {
+fn two(rt: &impl Abort, alloc: Global) -> Items<u32> {
     let mut items = Items::new(alloc);
-    items.push(4)?;
-    items.push(7)?;
-    Ok(items)
+    items.push(4).expect(rt, "memory");
+    items.push(7).expect(rt, "memory");
+    items
 }
 
-fn with_nine(items: Items<u32>) -> Result<Items<u32>, Fail> {
+fn with_nine(rt: &impl Abort, items: Items<u32>) -> Items<u32> {
     let mut vec = items.into_vec();
-    vec.push(9)?;
-    Ok(Items::from_vec(vec))
+    vec.push(9).expect(rt, "memory");
+    Items::from_vec(vec)
+}
+
+fn are_two(items: &Items<u32>) -> bool {
+    items.len() == 2 && items.as_slice() == [4, 7].as_slice()
+}
+
+fn are_three(items: &Items<u32>) -> bool {
+    items.as_slice() == [4, 7, 9].as_slice()
+}
+
+fn loses_its_first(mut items: Items<u32>) -> bool {
+    items.take_first() == Some(4) && items.as_slice() == [7, 9].as_slice()
 }
 
 #[test]
-fn items_are_kept_in_turn(rt: HostRuntime) -> Result<(), Fail> {
+fn items_are_kept_in_turn(rt: HostRuntime) {
     assert!(rt; Items::<u32>::new(rt.alloc()).is_empty());
-    let items = two(rt.alloc())?;
-    assert!(rt; items.len() == 2 && items.as_slice() == [4, 7].as_slice());
-    let mut items = with_nine(items)?;
-    assert!(rt; items.as_slice() == [4, 7, 9].as_slice());
-    assert!(rt; items.take_first() == Some(4));
-    assert!(rt; items.as_slice() == [7, 9].as_slice());
-    Ok(())
+    let items = two(&rt, rt.alloc());
+    assert!(rt; are_two(&items));
+    let items = with_nine(&rt, items);
+    assert!(rt; are_three(&items));
+    assert!(rt; loses_its_first(items));
 }
 
-#[test]
-fn operations_have_their_rows(rt: HostRuntime) -> Result<(), Fail> {
+fn row_of_load(alloc: Global) -> Op {
     let class = ClassId::from_bytes([1; 16]);
-    let load = Operation::Load(class, Stored::new(rt.alloc()));
-    assert!(rt; load.op() == Op::Load);
-    let completed = Operation::SaveCompleted {
+    Operation::Load(class, Stored::new(alloc)).op()
+}
+
+fn row_of_completed() -> Op {
+    Operation::SaveCompleted {
         save: 6,
         storage: false,
-    };
+    }
+    .op()
+}
+
+#[test]
+fn operations_have_their_rows(rt: HostRuntime) {
+    assert!(rt; row_of_load(rt.alloc()) == Op::Load);
     let row = Op::SaveCompleted {
         save: 6,
         storage: false,
     };
-    assert!(rt; completed.op() == row);
+    assert!(rt; row_of_completed() == row);
     let close = Operation::Close(CloseOption::NoSave);
     assert!(rt; close.op() == Op::Close(CloseOption::NoSave));
-    Ok(())
 }
 
-/// The bytes of an edit, none of another operation.
-fn edit_of(operation: &Operation) -> Option<&[u8]> {
+/// Whether an operation is an edit of these bytes.
+fn is_edit(operation: &Operation, bytes: &[u8]) -> bool {
     match operation {
-        Operation::Edit(bytes) => Some(bytes.as_slice()),
-        _ => None,
+        Operation::Edit(edit) => edit.as_slice() == bytes,
+        _ => false,
     }
 }
 
 #[test]
-fn an_operation_is_copied(rt: HostRuntime) -> Result<(), Fail> {
-    let edit = Bytes::from_slice(rt.alloc(), b"i 0 a")?;
-    let copy = Operation::Edit(edit).copy(rt.alloc())?;
-    assert!(rt; edit_of(&copy) == Some(b"i 0 a".as_slice()));
-    Ok(())
+fn an_operation_is_copied(rt: HostRuntime) {
+    let edit = Operation::Edit(bytes_of(&rt, rt.alloc(), "i 0 a"));
+    let copy = edit.copy(rt.alloc()).expect(&rt, "memory");
+    assert!(rt; is_edit(&copy, b"i 0 a"));
 }
 
-/// The border space of an answer, none of another answer.
-fn border_of(answer: &Answer) -> Option<[u16; 4]> {
+/// Whether an answer is of tools with this border.
+fn has_border(answer: &Answer, want: [u16; 4]) -> bool {
     match answer {
-        Answer::Tools { border, .. } => Some(*border),
-        _ => None,
+        Answer::Tools { border, .. } => *border == want,
+        _ => false,
     }
 }
 
 #[test]
-fn an_answer_is_copied(rt: HostRuntime) -> Result<(), Fail> {
+fn an_answer_is_copied(rt: HostRuntime) {
     let menus = Menus::new(b"Edit", b"Note", b"Help").expect(&rt, "three texts");
     let answer = Answer::Tools {
         menus,
         border: [0, 1, 2, 3],
     };
-    let copy = answer.copy(rt.alloc())?;
-    assert!(rt; border_of(&copy) == Some([0, 1, 2, 3]));
-    Ok(())
+    let copy = answer.copy(rt.alloc()).expect(&rt, "memory");
+    assert!(rt; has_border(&copy, [0, 1, 2, 3]));
 }
 
-/// The numbers of a Write, none of another message.
-fn write_of(message: &Message) -> Option<[u32; 4]> {
+/// Whether a message is a Write with these numbers.
+fn is_write(message: &Message, numbers: [u32; 4]) -> bool {
     match message {
-        Message::Write { inc, act, s, w, .. } => Some([*inc, *act, *s, *w]),
-        _ => None,
+        Message::Write { inc, act, s, w, .. } => [*inc, *act, *s, *w] == numbers,
+        _ => false,
     }
 }
 
 #[test]
-fn a_message_is_copied(rt: HostRuntime) -> Result<(), Fail> {
+fn a_message_is_copied(rt: HostRuntime) {
     let message = Message::Write {
         inc: 1,
         act: 2,
@@ -131,29 +164,30 @@ fn a_message_is_copied(rt: HostRuntime) -> Result<(), Fail> {
         w: 4,
         content: Stored::new(rt.alloc()),
     };
-    let copy = message.copy(rt.alloc())?;
-    assert!(rt; write_of(&copy) == Some([1, 2, 3, 4]));
-    Ok(())
+    let copy = message.copy(rt.alloc()).expect(&rt, "memory");
+    assert!(rt; is_write(&copy, [1, 2, 3, 4]));
+}
+
+fn push(rt: &impl Abort, alloc: Global, items: &mut Vec<NamedStream>, text: &str) {
+    let name = name(rt, text);
+    let bytes = Bytes::new(alloc);
+    items.push(NamedStream { name, bytes }).expect(rt, "memory");
 }
 
 /// How many streams a vector of two names makes, if it makes any.
-fn streams_of(alloc: Global, first: &[u8], last: &[u8]) -> Result<Option<usize>, Fail> {
+fn streams_of(rt: &impl Abort, alloc: Global, first: &str, last: &str) -> Option<usize> {
     let mut items = Vec::new(alloc);
-    for name in [first, last] {
-        let name = Name::new(name)?;
-        let bytes = Bytes::new(alloc);
-        items.push(NamedStream { name, bytes })?;
-    }
+    push(rt, alloc, &mut items, first);
+    push(rt, alloc, &mut items, last);
     match Streams::from_vec(items) {
-        Some(streams) => Ok(Some(streams.len())),
-        None => Ok(None),
+        Some(streams) => Some(streams.len()),
+        None => None,
     }
 }
 
 #[test]
-fn a_vector_in_name_order_makes_streams(rt: HostRuntime) -> Result<(), Fail> {
-    assert_eq!(rt; streams_of(rt.alloc(), b"a", b"b")?, Some(2));
-    assert_eq!(rt; streams_of(rt.alloc(), b"b", b"a")?, None);
-    assert_eq!(rt; streams_of(rt.alloc(), b"a", b"A")?, None);
-    Ok(())
+fn a_vector_in_name_order_makes_streams(rt: HostRuntime) {
+    assert!(rt; streams_of(&rt, rt.alloc(), "a", "b") == Some(2));
+    assert!(rt; streams_of(&rt, rt.alloc(), "b", "a").is_none());
+    assert!(rt; streams_of(&rt, rt.alloc(), "a", "A").is_none());
 }

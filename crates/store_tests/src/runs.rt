@@ -6,27 +6,29 @@ use doc_store::fault::StoreFault;
 use doc_store::memory_disk::{Faults, MemoryDisk};
 use doc_store::store::Store;
 use std::alloc::{AllocError, Global};
+use std::process::Abort;
+
+fn disk_of(alloc: Global, document: &[u8], journal: &[u8]) -> Result<MemoryDisk, AllocError> {
+    MemoryDisk::new(alloc, document.to_vec(alloc)?, journal.to_vec(alloc)?)
+}
 
 /// A disk in memory with these bytes.
-pub(crate) fn disk(
-    alloc: Global,
-    document: &[u8],
-    journal: &[u8],
-) -> Result<MemoryDisk, AllocError> {
-    MemoryDisk::new(alloc, document.to_vec(alloc)?, journal.to_vec(alloc)?)
+pub(crate) fn disk(rt: &impl Abort, alloc: Global, document: &[u8], journal: &[u8]) -> MemoryDisk {
+    disk_of(alloc, document, journal).expect(rt, "memory")
 }
 
 /// The disk that a crash leaves after the first so many calls of another.
 pub(crate) fn crashed(
+    rt: &impl Abort,
     alloc: Global,
     from: &MemoryDisk,
     calls: usize,
     document: Pending,
     journal: Pending,
-) -> Result<MemoryDisk, AllocError> {
-    let document = left(alloc, from, calls, Area::Document, document)?;
-    let journal = left(alloc, from, calls, Area::Journal, journal)?;
-    MemoryDisk::new(alloc, document, journal)
+) -> MemoryDisk {
+    let document = left(alloc, from, calls, Area::Document, document).expect(rt, "memory");
+    let journal = left(alloc, from, calls, Area::Journal, journal).expect(rt, "memory");
+    MemoryDisk::new(alloc, document, journal).expect(rt, "memory")
 }
 
 /// Opens a disk, and gives the disk back whatever it answers.
