@@ -68,11 +68,20 @@ fn list_open<R: Runtime + AllocGlobal>(rt: &R, mut source: R::File) -> Result<()
 
 /// Writes the stream at a path of a file to standard output.
 pub fn get<R: Runtime + AllocGlobal>(rt: &R, path: &str, word: &str) -> ExitCode {
-    let spelled = match Path::parse(rt.alloc(), word.as_bytes()) {
-        Ok(Some(spelled)) => spelled,
-        Ok(None) => return refuse_path(rt, word, "no path is spelled so"),
-        Err(_) => return refuse(rt, &Report::File(path, "NoMemory")),
-    };
+    match Path::parse(rt.alloc(), word.as_bytes()) {
+        Ok(Some(spelled)) => get_spelled(rt, path, word, &spelled),
+        Ok(None) => refuse_path(rt, word, "no path is spelled so"),
+        Err(_) => refuse(rt, &Report::File(path, "NoMemory")),
+    }
+}
+
+/// Writes the stream at a path that a word spells.
+fn get_spelled<R: Runtime + AllocGlobal>(
+    rt: &R,
+    path: &str,
+    word: &str,
+    spelled: &Path,
+) -> ExitCode {
     let names = match spelled.names() {
         Ok(names) => names,
         Err(fault) => return refuse_path(rt, word, fault.name()),
@@ -88,11 +97,21 @@ pub fn get<R: Runtime + AllocGlobal>(rt: &R, path: &str, word: &str) -> ExitCode
 
 /// Writes the tree of a file to another, or to the same.
 pub fn clean<R: Runtime + AllocGlobal>(rt: &R, path: &str, out: &str) -> ExitCode {
-    let Ok(mut source) = fs::open(rt, path) else {
-        return refuse(rt, &Report::File(path, "Unreadable"));
-    };
+    match fs::open(rt, path) {
+        Ok(mut source) => clean_open(rt, &mut source, path, out),
+        Err(_) => refuse(rt, &Report::File(path, "Unreadable")),
+    }
+}
+
+/// Writes the tree of an open file of a path to another.
+fn clean_open<R: Runtime + AllocGlobal>(
+    rt: &R,
+    source: &mut R::File,
+    path: &str,
+    out: &str,
+) -> ExitCode {
     let mut new = NewFile::new(rt, out);
-    match clean_file(rt.alloc(), &mut source, &mut new) {
+    match clean_file(rt.alloc(), source, &mut new) {
         Ok(count) => keep(rt, new, out, count),
         Err(fault) => {
             new.discard();

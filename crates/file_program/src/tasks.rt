@@ -23,16 +23,15 @@ impl<'a> Task<'a> {
     /// What a parsed command line asks for; none where it names no command over files.
     pub fn of(matches: &ArgMatches<'a>) -> Option<Task<'a>> {
         if let Some(made) = matches.subcommand_matches(MAKE) {
-            return Some(Task::Make(made.get_str(FILE)?));
+            return making(made);
         }
         if let Some(listed) = matches.subcommand_matches(LIST) {
-            return Some(Task::List(listed.get_str(FILE)?));
+            return listing(listed);
         }
         if let Some(got) = matches.subcommand_matches(GET) {
-            return Some(Task::Get(got.get_str(FILE)?, got.get_str(PATH)?));
+            return getting(got);
         }
-        let cleaned = matches.subcommand_matches(CLEAN)?;
-        Some(Task::Clean(cleaned.get_str(FILE)?, cleaned.get_str(OUT)?))
+        cleaning(matches.subcommand_matches(CLEAN)?)
     }
 
     /// Does what is asked for, and gives the status to end with.
@@ -44,4 +43,20 @@ impl<'a> Task<'a> {
             Task::Clean(path, out) => clean(rt, path, out),
         }
     }
+}
+
+fn making<'a>(made: &ArgMatches<'a>) -> Option<Task<'a>> {
+    Some(Task::Make(made.get_str(FILE)?))
+}
+
+fn listing<'a>(listed: &ArgMatches<'a>) -> Option<Task<'a>> {
+    Some(Task::List(listed.get_str(FILE)?))
+}
+
+fn getting<'a>(got: &ArgMatches<'a>) -> Option<Task<'a>> {
+    Some(Task::Get(got.get_str(FILE)?, got.get_str(PATH)?))
+}
+
+fn cleaning<'a>(cleaned: &ArgMatches<'a>) -> Option<Task<'a>> {
+    Some(Task::Clean(cleaned.get_str(FILE)?, cleaned.get_str(OUT)?))
 }

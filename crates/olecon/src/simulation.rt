@@ -1,8 +1,8 @@
 //! The simulation of a world: its events are read, happen, and are told.
 
 ghost use Rattle.event_texts.specs.Answers.{answer_lines};
-ghost use Rattle.container_cli.specs.Simulation.{IsSimulated, MayRefuseSimulate, Simulates};
-ghost use Rattle.std.specs.Prelude.{◌≡◌, ◌≢◌, ◌≤◌, ◌++◌, IfErr, IfOk, IfSome, OnOk, length, map};
+ghost use Rattle.container_cli.specs.Simulation.{IsSimulated, MayRefuseSimulate, Simulates, stop_text};
+ghost use Rattle.std.specs.Prelude.{◌≡◌, ◌≢◌, ◌≤◌, ◌<◌, ◌++◌, IfErr, IfOk, IfSome, OnOk, length, map};
 ghost use Rattle.world_model.specs.Report.{report};
 ghost use Rattle.world_run.specs.Shown.{shown};
 ghost use Rattle.world_run.specs.View.{seen_stocked};
@@ -63,10 +63,25 @@ fn run(
     let mut world = World::new(alloc, limits, stock);
     let (taken, stop) = world.run(alloc, events);
     let mut out = Vec::new(alloc);
-    push_answers(alloc, &mut out, &world)?;
-    push_report(alloc, &mut out, &world)?;
-    push_end(alloc, &mut out, taken, stop)?;
+    push_told(alloc, &mut out, &world, taken, stop)?;
     Ok((out, stop))
+}
+
+/// Writes what a world's events were answered, its report, and the event before which its run stopped, if it did.
+fn push_told(
+    alloc: Global,
+    out: &mut Vec<u8>,
+    world: &World,
+    taken: usize,
+    stop: Option<Stop>,
+) -> Result<(), AllocError>
+    requires few { length (shown (λ s. (⟦<dyn Embedded as Embedded>⟧ s.boxed.vtable).content s.boxed.value) world.now).answers ≤ MOST_EVENTS }
+    requires before { IfSome stop (λ stop. taken < usize.MAX) }
+    ensures { OnOk result (out.new.items ≡ out.old.items ++ answer_lines 1 (shown (λ s. (⟦<dyn Embedded as Embedded>⟧ s.boxed.vtable).content s.boxed.value) world.now).answers ++ report (shown (λ s. (⟦<dyn Embedded as Embedded>⟧ s.boxed.vtable).content s.boxed.value) world.now) ++ stop_text taken stop) }
+{
+    push_answers(alloc, out, world)?;
+    push_report(alloc, out, world)?;
+    push_end(alloc, out, taken, stop)
 }
 
 /// Writes what a world's events were answered.

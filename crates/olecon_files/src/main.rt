@@ -6,6 +6,7 @@ use clap::ArgMatches;
 use file_program::command_lines::command_line;
 use file_program::ends::{answer_usage, refuse_command, refuse_start};
 use file_program::tasks::Task;
+use std::alloc::AllocError;
 use std::process::ExitCode;
 use std::rt::Runtime;
 use std::{env, io};
@@ -18,13 +19,17 @@ fn run<R: Runtime + AllocGlobal>(rt: &R, matches: &ArgMatches<'_>) -> ExitCode {
     }
 }
 
-fn start<R: Runtime + AllocGlobal>(rt: &R) -> io::Result<ExitCode> {
-    let alloc = rt.alloc();
-    let words: Vec<String> = env::args(rt)?.collect(alloc)?;
-    match command_line(alloc)?.try_get_matches_from(words.as_slice()) {
+/// Does what the words of a command line ask for, or tells what is wrong with them.
+fn answer<R: Runtime + AllocGlobal>(rt: &R, words: &[String]) -> Result<ExitCode, AllocError> {
+    match command_line(rt.alloc())?.try_get_matches_from(words) {
         Ok(matches) => Ok(run(rt, &matches)),
         Err(error) => Ok(answer_usage(rt, &error)),
     }
+}
+
+fn start<R: Runtime + AllocGlobal>(rt: &R) -> io::Result<ExitCode> {
+    let words: Vec<String> = env::args(rt)?.collect(rt.alloc())?;
+    Ok(answer(rt, words.as_slice())?)
 }
 
 fn main(rt: HostRuntime) -> ExitCode {

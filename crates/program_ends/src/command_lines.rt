@@ -61,55 +61,68 @@ Example: olecon clean letter.doc letter.doc";
 const STATUSES: &str =
     "Status: 0, 2 for a command line that is refused, 3 for a file or a line that is refused or a run that stops";
 
+/// An argument that can't be left out: the name by which it is read, the word that the help has for it, and what it is.
+fn required<'a>(alloc: Global, id: &'a str, word: &'a str, help: &'a str) -> Arg<'a> {
+    Arg::new(alloc, id)
+        .value_name(word)
+        .help(help)
+        .required(true)
+}
+
+/// A command of this name that reads a file.
+fn reading_command<'a>(
+    alloc: Global,
+    name: &'a str,
+    about: &'a str,
+) -> Result<Command<'a>, AllocError> {
+    Command::new(alloc, name)
+        .about(about)
+        .arg(required(alloc, FILE, "FILE", "The file to read"))
+}
+
 fn make_command<'a>(alloc: Global) -> Result<Command<'a>, AllocError> {
-    let made = Arg::new(alloc, FILE)
-        .value_name("FILE")
-        .help("The file to write")
-        .required(true);
     Command::new(alloc, MAKE)
         .about(ABOUT_MAKE)
         .after_help(LINES)
-        .arg(made)
-}
-
-fn list_command<'a>(alloc: Global) -> Result<Command<'a>, AllocError> {
-    let listed = Arg::new(alloc, FILE)
-        .value_name("FILE")
-        .help("The file to read")
-        .required(true);
-    Command::new(alloc, LIST).about(ABOUT_LIST).arg(listed)
+        .arg(required(alloc, FILE, "FILE", "The file to write"))
 }
 
 fn get_command<'a>(alloc: Global) -> Result<Command<'a>, AllocError> {
-    let read = Arg::new(alloc, FILE)
-        .value_name("FILE")
-        .help("The file to read")
-        .required(true);
-    let path = Arg::new(alloc, PATH)
-        .value_name("PATH")
-        .help("The stream to write")
-        .required(true);
-    Command::new(alloc, GET)
-        .about(ABOUT_GET)
+    reading_command(alloc, GET, ABOUT_GET)?
         .after_help(NAMES)
-        .arg(read)?
-        .arg(path)
+        .arg(required(alloc, PATH, "PATH", "The stream to write"))
 }
 
 fn clean_command<'a>(alloc: Global) -> Result<Command<'a>, AllocError> {
-    let read = Arg::new(alloc, FILE)
-        .value_name("FILE")
-        .help("The file to read")
-        .required(true);
-    let made = Arg::new(alloc, OUT)
-        .value_name("OUT")
-        .help("The file to write")
-        .required(true);
-    Command::new(alloc, CLEAN)
-        .about(ABOUT_CLEAN)
+    reading_command(alloc, CLEAN, ABOUT_CLEAN)?
         .after_help(LEFT_BEHIND)
-        .arg(read)?
-        .arg(made)
+        .arg(required(alloc, OUT, "OUT", "The file to write"))
+}
+
+/// The program with no command yet.
+fn program<'a>(alloc: Global) -> Command<'a> {
+    Command::new(alloc, "olecon")
+        .version(VERSION)
+        .about(ABOUT)
+        .after_help(STATUSES)
+        .subcommand_required(true)
+}
+
+/// Adds a command, if that could be made.
+fn push_made<'a>(
+    commands: &mut Vec<Command<'a>>,
+    command: Result<Command<'a>, AllocError>,
+) -> Result<(), AllocError> {
+    commands.push(command?)?;
+    Ok(())
+}
+
+/// Adds the commands over files.
+fn push_commands<'a>(alloc: Global, commands: &mut Vec<Command<'a>>) -> Result<(), AllocError> {
+    push_made(commands, make_command(alloc))?;
+    push_made(commands, reading_command(alloc, LIST, ABOUT_LIST))?;
+    push_made(commands, get_command(alloc))?;
+    push_made(commands, clean_command(alloc))
 }
 
 /// The command line of the program `olecon` with its commands over files: `make`, `list`, `get` and `clean`. A program
@@ -117,13 +130,7 @@ fn clean_command<'a>(alloc: Global) -> Result<Command<'a>, AllocError> {
 ///
 /// Refused for want of memory alone.
 pub fn command_line<'a>(alloc: Global) -> Result<Command<'a>, AllocError> {
-    Command::new(alloc, "olecon")
-        .version(VERSION)
-        .about(ABOUT)
-        .after_help(STATUSES)
-        .subcommand_required(true)
-        .subcommand(make_command(alloc)?)?
-        .subcommand(list_command(alloc)?)?
-        .subcommand(get_command(alloc)?)?
-        .subcommand(clean_command(alloc)?)
+    let mut commands = Vec::new(alloc);
+    push_commands(alloc, &mut commands)?;
+    program(alloc).subcommands(commands)
 }

@@ -1,5 +1,6 @@
 //! Files that are made whole, or not at all.
 
+use std::alloc::{AllocError, Global};
 use std::fs::{self, Metadata, OpenFile, OpenOptions};
 use std::io;
 use std::io::ErrorKind;
@@ -60,25 +61,25 @@ impl<'a, R: Files + AllocGlobal> NewFile<'a, R> {
     /// Puts what was written in the place of the path's file, once the device has all of it. A failure leaves the path
     /// as it was, and no new file.
     pub fn keep(self) -> io::Result<()> {
-        let NewFile { rt, place, .. } = self;
-        let Place::Beside(new) = place else {
-            return Ok(());
-        };
-        match put_in_place(rt, &new) {
-            Ok(()) => Ok(()),
-            Err(error) => {
-                let _ = fs::remove_file(rt, &new.name);
-                Err(error)
-            }
+        match &self.place {
+            Place::Beside(new) => remove_unless(self.rt, new, put_in_place(self.rt, new)),
+            _ => Ok(()),
         }
     }
 
     /// Drops what was written: the path's file stays as it was.
     pub fn discard(self) {
-        let NewFile { rt, place, .. } = self;
-        if let Place::Beside(new) = place {
-            let _ = fs::remove_file(rt, &new.name);
+        if let Place::Beside(new) = &self.place {
+            let _ = fs::remove_file(self.rt, &new.name);
         }
+    }
+
+    /// Opens what the bytes go to, once.
+    fn begin(&mut self) -> io::Result<()> {
+        if let Place::Unopened = self.place {
+            self.place = open(self.rt, self.path)?;
+        }
+        Ok(())
     }
 }
 
@@ -102,9 +103,7 @@ impl<F: io::Write + Drop> io::Write for Place<F> {
 
 impl<'a, R: Files + AllocGlobal> io::Write for NewFile<'a, R> {
     fn write(&mut self, buf: &[u8]) -> io::Result<usize> {
-        if let Place::Unopened = self.place {
-            self.place = open(self.rt, self.path)?;
-        }
+        self.begin()?;
         self.place.write(buf)
     }
 
@@ -116,13 +115,29 @@ impl<'a, R: Files + AllocGlobal> io::Write for NewFile<'a, R> {
 /// Where the bytes of a path's file go.
 fn open<R: Files + AllocGlobal>(rt: &R, path: &str) -> io::Result<Place<R::File>> {
     match fs::metadata(rt, path) {
-        Ok(old) if old.is_file() => Ok(Place::Beside(open_in_place_of(rt, path, &old)?)),
-        Ok(_) => Ok(Place::Itself(OpenOptions::new().write(true).open(rt, path)?)),
+        Ok(old) => open_over(rt, path, &old),
         Err(error) if error.kind() == ErrorKind::NotFound => {
             Ok(Place::Beside(open_where_nothing_is(rt, path)?))
         }
         Err(error) => Err(error),
     }
+}
+
+/// Where the bytes of a path go that leads to something.
+fn open_over<R: Files + AllocGlobal>(
+    rt: &R,
+    path: &str,
+    old: &Metadata,
+) -> io::Result<Place<R::File>> {
+    if old.is_file() {
+        Ok(Place::Beside(open_in_place_of(rt, path, old)?))
+    } else {
+        Ok(Place::Itself(open_to_write(rt, path)?))
+    }
+}
+
+fn open_to_write<R: Files>(rt: &R, path: &str) -> io::Result<R::File> {
+    OpenOptions::new().write(true).open(rt, path)
 }
 
 /// A new file of the same owner and permissions beside the regular file that a path leads to, which may be written.
@@ -131,16 +146,18 @@ fn open_in_place_of<R: Files + AllocGlobal>(
     path: &str,
     old: &Metadata,
 ) -> io::Result<Beside<R::File>> {
-    OpenOptions::new().write(true).open(rt, path)?;
-    let target = fs::canonicalize(rt, path)?;
-    let new = open_beside(rt, target, OWNER_MODE)?;
-    match take_over(rt, &new, old) {
-        Ok(()) => Ok(new),
-        Err(error) => {
-            let _ = fs::remove_file(rt, &new.name);
-            Err(error)
-        }
+    open_to_write(rt, path)?;
+    let new = open_beside(rt, fs::canonicalize(rt, path)?, OWNER_MODE)?;
+    remove_unless(rt, &new, take_over(rt, &new, old))?;
+    Ok(new)
+}
+
+/// Removes a new file unless what was done with it is done.
+fn remove_unless<R: Files>(rt: &R, new: &Beside<R::File>, done: io::Result<()>) -> io::Result<()> {
+    if done.is_err() {
+        let _ = fs::remove_file(rt, &new.name);
     }
+    done
 }
 
 /// Gives a new file the permissions of an old one, and its owner where that can be.
@@ -176,21 +193,39 @@ fn open_beside<R: Files + AllocGlobal>(
     target: PathBuf,
     mode: u32,
 ) -> io::Result<Beside<R::File>> {
+    let (file, name) = create_beside(rt, &target, mode)?;
+    Ok(Beside { file, name, target })
+}
+
+/// A new file in the folder of a path, and its name, which was free.
+fn create_beside<R: Files + AllocGlobal>(
+    rt: &R,
+    target: &PathBuf,
+    mode: u32,
+) -> io::Result<(R::File, PathBuf)> {
     for number in 0..MOST_NAMES {
-        let spelled = format!(in rt.alloc(); ".olecon-{number}")?;
-        let name = target.with_file_name(rt.alloc(), spelled.as_str())?;
-        match OpenOptions::new()
-            .write(true)
-            .create_new(true)
-            .mode(mode)
-            .open(rt, &name)
-        {
-            Ok(file) => return Ok(Beside { file, name, target }),
+        let name = name_beside(rt.alloc(), target, number)?;
+        match create(rt, &name, mode) {
+            Ok(file) => return Ok((file, name)),
             Err(error) if error.kind() == ErrorKind::AlreadyExists => {}
             Err(error) => return Err(error),
         }
     }
     Err(io::Error::from(ErrorKind::AlreadyExists))
+}
+
+/// The name of this number for a new file beside a path.
+fn name_beside(alloc: Global, target: &PathBuf, number: u32) -> Result<PathBuf, AllocError> {
+    let spelled = format!(in alloc; ".olecon-{number}")?;
+    target.with_file_name(alloc, spelled.as_str())
+}
+
+fn create<R: Files>(rt: &R, name: &PathBuf, mode: u32) -> io::Result<R::File> {
+    OpenOptions::new()
+        .write(true)
+        .create_new(true)
+        .mode(mode)
+        .open(rt, name)
 }
 
 /// Puts a new file, once the device has it, in the place of its target.
@@ -203,11 +238,14 @@ fn put_in_place<R: Files + AllocGlobal>(rt: &R, new: &Beside<R::File>) -> io::Re
 }
 
 /// Waits until the device has the names of a file's folder.
-fn sync_folder<R: Files + AllocGlobal>(rt: &R, path: &PathBuf) -> io::Result<()> {
-    let mut folder = PathBuf::from_str(rt.alloc(), path.as_str())?;
-    folder.pop();
-    if folder.as_str().is_empty() {
-        folder.push(".")?;
+fn sync_folder<R: Files>(rt: &R, path: &PathBuf) -> io::Result<()> {
+    fs::open(rt, folder_of(path))?.sync_all()
+}
+
+/// The folder of a file's path.
+fn folder_of(path: &PathBuf) -> &str {
+    match path.parent() {
+        Some(folder) if !folder.as_str().is_empty() => folder.as_str(),
+        _ => ".",
     }
-    fs::open(rt, &folder)?.sync_all()
 }
