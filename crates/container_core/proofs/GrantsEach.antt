@@ -1,5 +1,5 @@
 -- Objects that are told of their grants, one after the other.
-use Rattle.std.proofs.Common.{◌≡◌, ◌++◌, ℕ, List, [], ◌∷◌, map, Option, Some, None, refl, sym, ap, ◌∙◌, append_assoc}
+use Rattle.std.proofs.Common.{◌≡◌, ◌++◌, ℕ, List, [], ◌∷◌, map, Option, Some, None, refl, sym, ap, ◌∙◌}
 use Rattle.std.proofs.lemmas.List.{map-append}
 use Rattle.std.specs.List.{AllByRecursion}
 use Rattle.std.specs.Prelude.{option_to_list}
@@ -8,13 +8,12 @@ use Rattle.wire_msgs.specs.declared.message.Message.{Message}
 use Rattle.wire_msgs.specs.declared.operation.Operation.{Operation}
 use Rattle.wire_msgs.specs.declared.operation.Operation.TheVariants.{UiActivate}
 use Rattle.grant_core.specs.declared.grant_states.Claim.{Claim}
-use Rattle.container_links.specs.Asking.{called, installed, prepared_link}
+use Rattle.container_links.specs.Asking.{installed, prepared_link}
 use Rattle.container_links.proofs.AskingAll.{called_sent, installed_one}
-use Rattle.container_model.specs.declared.answer.Action.{Action}
 use Rattle.container_model.specs.declared.answer.Action.TheVariants.{Send}
 use Rattle.container_model.specs.declared.record.Object.{Object}
-use Rattle.container_model.specs.Grants.{Requested, grant_each, requested}
-use Rattle.container_model.specs.Record.{Record, asked_link, asked_sent, is_object, sends}
+use Rattle.container_model.specs.Grants.{grant_each, requested}
+use Rattle.container_model.specs.Record.{Record, asked_link, is_object, sends}
 use Rattle.container_grants.specs.Granted.{actions_of, asked_by, asked_in, installed_by, installed_each, installed_in, ready, ready_in, sent_by, sent_in}
 use Rattle.container_objects.proofs.LookupPlaces.{found_number}
 use Rattle.container_steps.proofs.SteadyFinds.{find-put_other}

@@ -1,5 +1,5 @@
 -- What an answer tells of a frame's grant, in the record.
-use Rattle.std.proofs.Common.{◌≡◌, ◌==◌, ℕ, Bool, true, false, List, [], ◌∷◌, Option, Some, None, Result, Ok, Err, refl, sym, ap, ◌∙◌, eq-eqb}
+use Rattle.std.proofs.Common.{◌≡◌, ℕ, List, [], Option, Some, None, Ok, refl, eq-eqb}
 use Rattle.std.specs.Prelude.{option_to_list}
 use Rattle.wire_msgs.specs.Found.{nth}
 use Rattle.grant_core.specs.declared.grant_states.Claim.{Claim}
@@ -9,14 +9,13 @@ use Rattle.grant_core.specs.declared.grant_states.Tools.{Tools}
 use Rattle.grant_core.specs.Frames.{after, kept}
 use Rattle.grant_core.specs.Grants.{Granted, Revoked, table, waiting}
 use Rattle.container_links.specs.Relieving.{gives_up, tells_give_up}
-use Rattle.container_model.specs.declared.fault.ContainerFault.{ContainerFault}
 use Rattle.container_model.specs.declared.grants.Tells.{Tells}
 use Rattle.container_model.specs.declared.grants.Tells.TheVariants.{Gets, GivesUp}
 use Rattle.container_model.specs.declared.record.Frame.{Frame}
 use Rattle.container_model.specs.Grants.{Regranted, event_of, grant_of, moved, passed_to, regranted, regranted_in}
 use Rattle.container_model.specs.Messages.{Replied}
 use Rattle.container_model.specs.Record.{Record, with_frame}
-use Rattle.container_grants.specs.Granted.{claims_if, claims_in, told_frames, told_frames_in, told_space_in}
+use Rattle.container_grants.specs.Granted.{claims_if, told_frames, told_frames_in, told_space_in}
 use Rattle.container_core.proofs.GrantsEach.{grant_each_is, granted_objects, granted_sent}
 
 -- who gets a frame that an answer moves

@@ -1,6 +1,6 @@
 -- Objects that wait for their frames, where another one gives its frame up, or its server ends.
-use Rattle.std.proofs.Common.{◌≡◌, ◌≤◌, ◌+◌, ◌==◌, ◌⊎◌, ℕ, zero, suc, Bool, true, false, List, [], ◌∷◌, ◌++◌, length, map, Option, Some, None, Result, Ok, Err, inl, inr, refl, sym, ap, ◌∙◌, subst, arith, eq-eqb, nat_le, slice_get, if◌then◌else◌}
-use Rattle.std.proofs.lemmas.Bool.{ne_eqb, eqb-true}
+use Rattle.std.proofs.Common.{◌≡◌, ◌≤◌, ◌+◌, ◌==◌, ◌⊎◌, ℕ, zero, suc, Bool, true, false, List, [], ◌∷◌, ◌++◌, length, map, Option, Some, None, Ok, inl, inr, refl, sym, ap, ◌∙◌, subst, arith, eq-eqb, nat_le, slice_get, if◌then◌else◌}
+use Rattle.std.proofs.lemmas.Bool.{ne_eqb}
 use Rattle.std.specs.List.{AllByRecursion}
 use Rattle.std.specs.Prelude.{IfSome, option_map, option_to_list}
 use Rattle.wire_msgs.specs.Found.{find, nth, put}
@@ -19,7 +19,7 @@ use Rattle.container_model.specs.declared.record.Object.{Object}
 use Rattle.container_model.specs.Grants.{freed, freed_claims, is_hosted, is_hosted_object, passed_to, unwaited}
 use Rattle.container_model.specs.Saves as saves
 use Rattle.container_model.specs.Messages.{reaped_object, reply_link}
-use Rattle.container_model.specs.Record.{Record, is_linked, is_object}
+use Rattle.container_model.specs.Record.{Record, is_object}
 use Rattle.container_grants.specs.Granted.{claims_if}
 use Rattle.container_steps.specs.Roles.{Giving, IsClaim, Plays, SteadyGrant, queue_of, role_in, waits_as}
 use Rattle.container_steps.specs.Steady.{Steady, SteadyLink, SteadyObject}

@@ -1,12 +1,6 @@
-pub mod CommitsDone
-pub mod WritesMade
 pub mod GrantsEach
 pub mod GrantsTold
 pub mod GrantsWaiting
 pub mod RepliesMade
 pub mod ReapsMade
-pub mod StepsKeep
-pub mod Missing
 pub mod VerbsTaken
-pub mod ImagesMade
-pub mod CommandsRun

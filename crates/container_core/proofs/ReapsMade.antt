@@ -1,5 +1,5 @@
 -- The record after the end of a server.
-use Rattle.std.proofs.Common.{◌≡◌, ℕ, Bool, true, List, [], ◌++◌, map, Ok, refl, ap, sym, ◌∙◌}
+use Rattle.std.proofs.Common.{◌≡◌, ℕ, Bool, true, List, ◌++◌, map, Ok, refl, ◌∙◌}
 use Rattle.wire_msgs.specs.Found.{set_nth}
 use Rattle.grant_core.specs.declared.grant_states.Claim.{Claim}
 use Rattle.container_model.specs.declared.answer.Action.{Action}

@@ -1,5 +1,5 @@
 -- The record after a reply.
-use Rattle.std.proofs.Common.{◌≡◌, ℕ, Bool, true, false, List, [], ◌∷◌, ◌++◌, map, Option, Some, None, Result, Ok, Err, refl, ap, sym, ◌∙◌, append_assoc}
+use Rattle.std.proofs.Common.{◌≡◌, ℕ, Bool, true, false, List, [], ◌++◌, map, Some, None, Result, Ok, Err, refl, ap, sym, ◌∙◌}
 use Rattle.std.proofs.lemmas.List.{map-append}
 use Rattle.std.specs.Prelude.{IsOk}
 use Rattle.wire_msgs.specs.Found.{find, nth, put}
@@ -13,13 +13,13 @@ use Rattle.container_model.specs.declared.fault.ContainerFault.{ContainerFault}
 use Rattle.container_model.specs.declared.fault.ContainerFault.TheVariants.{NoSuch, Busy, NotRunning, InDoubt, WrongLink, Stale, Full, NumbersSpent, WrongState, BadFile, BadAnswer, UnknownClass, NoMemory}
 use Rattle.container_model.specs.declared.record.Frame.{Frame}
 use Rattle.container_model.specs.declared.record.Object.{Object}
-use Rattle.container_model.specs.Messages.{Replied, next_sent, replied_grant, replied_record, reply_found, reply_link, reply_made, reply_taken}
+use Rattle.container_model.specs.Messages.{Replied, next_sent, replied_record, reply_found, reply_link, reply_made, reply_taken}
 use Rattle.container_model.specs.Record.{Record, Refuses, Took, is_linked, quiet_answer, sends}
 use Rattle.container_model.specs.Saves.{settle, settle_actions, settled_actions, settled_frames}
 use Rattle.container_grants.specs.Granted.{actions_of, claims_if, installed_each, ready, told_frames, told_space_in}
 use Rattle.container_objects.specs.Told.{ToldObject, told_of}
 use Rattle.container_core.proofs.GrantsEach.{Agrees, Differ, actions_are, granted_objects, granted_sent, installed_each_is}
-use Rattle.container_core.proofs.GrantsTold.{claims_are, claims_told, regranted_is, told_record}
+use Rattle.container_core.proofs.GrantsTold.{claims_are, regranted_is}
 
 -- what a reply gives of which this is told
 abbrev told_grants : Record → ℕ → ToldObject → List Object → List Claim → Record

@@ -1,5 +1,5 @@
 -- An object that takes its frame, in its container.
-use Rattle.std.proofs.Common.{◌≡◌, ◌≢◌, ◌<◌, arith, ◌+◌, ◌++◌, ◌||◌, ℕ, Bool, true, false, not, nat_eq, nat_le, List, [], ◌∷◌, length, Option, Some, None, IfSome, IsSomeAnd, Ok, refl, sym, ◌∙◌, ap, subst, slice_get, get_or, if◌then◌else◌}
+use Rattle.std.proofs.Common.{◌≡◌, ◌≢◌, ◌<◌, arith, ◌+◌, ◌++◌, ◌||◌, ℕ, true, false, not, nat_eq, nat_le, List, [], ◌∷◌, length, Option, Some, None, IsSomeAnd, Ok, refl, ◌∙◌, ap, slice_get, get_or, if◌then◌else◌}
 use Rattle.std.proofs.lemmas.Option.{get_or_from_slice_get}
 use Rattle.wire_msgs.specs.Found.{find, put, set_nth}
 use Rattle.wire_msgs.specs.declared.operation.Operation.TheVariants.{UiDeactivate}
@@ -13,7 +13,7 @@ use Rattle.container_model.specs.declared.record.Link.{Link}
 use Rattle.container_model.specs.declared.record.Object.{Object}
 use Rattle.container_model.specs.Grants.{Requested, moved, requested}
 use Rattle.container_model.specs.Record.{Record, acts, counts_none, is_object, quiet_answer, sends, unless, with_object}
-use Rattle.container_model.specs.Verbs.{claim_of, claimed, holder_has_numbers, holder_of, leaving_made, revoked_at, stepped_link, stepping, steps_now, takes, taking, taking_made}
+use Rattle.container_model.specs.Verbs.{claim_of, claimed, holder_has_numbers, holder_of, leaving_made, revoked_at, stepped_link, steps_now, takes, taking, taking_made}
 use Rattle.container_objects.specs.Stepping.{told_in, told_objects, told_one, told_sent}
 use Rattle.container_objects.specs.Went.{verb_went}
 

@@ -9,9 +9,7 @@ ghost use Rattle.container_model.specs.Verbs.{close, close_linked};
 use crate::state::State;
 use container_model::answer::Answer;
 use container_model::fault::ContainerFault;
-use container_objects::checks;
 use container_objects::closes::close_one;
-use container_objects::lookups::{place, place_object};
 use object_state::CloseOption;
 use std::alloc::Global;
 
@@ -35,20 +33,10 @@ impl State {
         ensures refused { IfErr result (Refuses (close self.old object option)) }
         ensures kept { OnErr result (self.new ≡ self.old) }
     {
-        let Some(i) = place_object(self.objects.as_slice(), object) else {
-            return Err(ContainerFault::NoSuch);
-        };
-        let Some(at) = place(self.frames.as_slice(), self.objects[i].frame) else {
-            return Err(ContainerFault::NoSuch);
-        };
-        if checks::is_doubtful(self.frames[at].phase) {
-            return Err(ContainerFault::InDoubt);
+        match self.place_ready(object) {
+            Ok((i, at)) => self.close_object(alloc, i, at, option),
+            Err(fault) => Err(fault),
         }
-        let state = self.frames[at].ui.state();
-        if checks::is_saving(self.frames[at].phase) || checks::is_busy(&state, &self.objects[i]) {
-            return Err(ContainerFault::Busy);
-        }
-        self.close_object(alloc, i, at, option)
     }
 
     // The object that stands there, in the frame that stands there, is asked to close.

@@ -9,8 +9,6 @@ ghost use Rattle.container_model.specs.declared.fault.ContainerFault.TheVariants
 use crate::state::State;
 use container_model::answer::Answer;
 use container_model::fault::ContainerFault;
-use container_objects::checks;
-use container_objects::lookups::{place, place_object};
 use std::alloc::Global;
 
 impl State {
@@ -27,20 +25,10 @@ impl State {
         ensures refused { IfErr result (Refuses (delete self.old object)) }
         ensures kept { OnErr result (self.new ≡ self.old) }
     {
-        let Some(i) = place_object(self.objects.as_slice(), object) else {
-            return Err(ContainerFault::NoSuch);
-        };
-        let Some(at) = place(self.frames.as_slice(), self.objects[i].frame) else {
-            return Err(ContainerFault::NoSuch);
-        };
-        if checks::is_doubtful(self.frames[at].phase) {
-            return Err(ContainerFault::InDoubt);
+        match self.place_ready(object) {
+            Ok((i, _)) => self.delete_object(alloc, i),
+            Err(fault) => Err(fault),
         }
-        let state = self.frames[at].ui.state();
-        if checks::is_saving(self.frames[at].phase) || checks::is_busy(&state, &self.objects[i]) {
-            return Err(ContainerFault::Busy);
-        }
-        self.delete_object(alloc, i)
     }
 
     // The object that stands there goes, where it is passive.

@@ -9,9 +9,7 @@ ghost use Rattle.container_model.specs.Room.{IsSound};
 use crate::state::State;
 use container_model::answer::Answer;
 use container_model::fault::ContainerFault;
-use container_objects::checks;
 use container_objects::edits::edit_one;
-use container_objects::lookups::{place, place_object};
 use std::alloc::Global;
 use storage_tree::bytes::Bytes;
 
@@ -35,20 +33,10 @@ impl State {
         ensures refused { IfErr result (Refuses (edit self.old object bytes)) }
         ensures kept { OnErr result (self.new ≡ self.old) }
     {
-        let Some(i) = place_object(self.objects.as_slice(), object) else {
-            return Err(ContainerFault::NoSuch);
-        };
-        let Some(at) = place(self.frames.as_slice(), self.objects[i].frame) else {
-            return Err(ContainerFault::NoSuch);
-        };
-        if checks::is_doubtful(self.frames[at].phase) {
-            return Err(ContainerFault::InDoubt);
+        match self.place_ready(object) {
+            Ok((i, _)) => self.edit_object(alloc, i, bytes),
+            Err(fault) => Err(fault),
         }
-        let state = self.frames[at].ui.state();
-        if checks::is_saving(self.frames[at].phase) || checks::is_busy(&state, &self.objects[i]) {
-            return Err(ContainerFault::Busy);
-        }
-        self.edit_object(alloc, i, bytes)
     }
 
     // The object that stands there is asked for an edit.

@@ -1,25 +1,55 @@
 //! New objects.
 
-ghost use Rattle.std.specs.Prelude.{◌≡◌, ◌≤◌, IfErr, IfOk, Ok, OnErr, length};
-ghost use Rattle.container_model.specs.Commands.{insert, insert_into, kind_of};
-ghost use Rattle.container_model.specs.Record.{Refuses, counts_none};
+ghost use Rattle.std.specs.Prelude.{◌≡◌, ◌+◌, ◌≤◌, ◌∷◌, [], ℕ, IfErr, IfOk, Ok, OnErr, OnOk, Some, length};
+ghost use Rattle.container_model.specs.Commands.{insert, insert_at, insert_into, insert_made, kind_of};
+ghost use Rattle.container_model.specs.Record.{Record, Refuses, counts_none, quiet_answer};
+ghost use Rattle.container_model.specs.declared.command.ObjectKind.{ObjectKind};
 
 use crate::state::State;
 use container_model::answer::Answer;
 use container_model::command::ObjectKind;
 use container_model::fault::ContainerFault;
+use container_model::record::Frame;
 use container_objects::activations::new_object;
 use container_objects::checks;
 use container_objects::lookups::place;
 use object_parts::area::Area;
-use std::alloc::Global;
+use std::alloc::{AllocError, Global};
 
 // How many objects a frame may have.
 const MOST_OBJECTS: usize = 64;
 
+// Whether a frame takes an object on an area, as far as its phase and the area tell.
+//
+// Refused: `InDoubt`, `Busy`, `WrongState`.
+fn may_insert(frame: &Frame, area: Area) -> Result<(), ContainerFault>
+    ensures may { OnOk result ((r : Record) (f : ℕ) (kind : ObjectKind) → insert_at r f (kind_of kind) area (Some frame.now) ≡ insert_into r f (kind_of kind) area) }
+    ensures refused { IfErr result (λ e. (r : Record) (f : ℕ) (kind : ObjectKind) → Refuses (insert_at r f (kind_of kind) area (Some frame.now)) e) }
+{
+    if checks::is_doubtful(frame.phase) {
+        return Err(ContainerFault::InDoubt);
+    }
+    if checks::is_saving(frame.phase) {
+        return Err(ContainerFault::Busy);
+    }
+    if checks::is_empty_area(area) {
+        return Err(ContainerFault::WrongState);
+    }
+    Ok(())
+}
+
+// The answer that an object was made.
+fn made(alloc: Global, number: u32) -> Result<Answer, AllocError>
+    ensures { IfOk result (λ a. a ≡ record quiet_answer { objects = number ∷ [] }) }
+{
+    let mut answer = Answer::quiet(alloc);
+    answer.objects.push(number)?;
+    Ok(answer)
+}
+
 impl State {
-    ghost use Rattle.std.specs.Prelude.{◌≡◌, ◌≤◌, IfErr, IfOk, Ok, OnErr, length};
-    ghost use Rattle.container_model.specs.Commands.{insert, insert_into, kind_of};
+    ghost use Rattle.std.specs.Prelude.{◌≡◌, ◌+◌, ◌≤◌, IfErr, IfOk, Ok, OnErr, length};
+    ghost use Rattle.container_model.specs.Commands.{insert, insert_into, insert_made, kind_of};
     ghost use Rattle.container_model.specs.Record.{Refuses, counts_none};
 
     // A new passive object without content.
@@ -38,16 +68,10 @@ impl State {
         let Some(at) = place(self.frames.as_slice(), frame) else {
             return Err(ContainerFault::NoSuch);
         };
-        if checks::is_doubtful(self.frames[at].phase) {
-            return Err(ContainerFault::InDoubt);
+        match may_insert(&self.frames[at], area) {
+            Ok(()) => self.insert_into(alloc, frame, kind, area),
+            Err(fault) => Err(fault),
         }
-        if checks::is_saving(self.frames[at].phase) {
-            return Err(ContainerFault::Busy);
-        }
-        if checks::is_empty_area(area) {
-            return Err(ContainerFault::WrongState);
-        }
-        self.insert_into(alloc, frame, kind, area)
     }
 
     // A new passive object in a frame that takes one.
@@ -70,16 +94,29 @@ impl State {
             return Err(ContainerFault::NumbersSpent);
         }
         let number = self.last_object + 1;
-        let mut answer = Answer::quiet(alloc);
-        if answer.objects.push(number).is_err() {
-            return Err(ContainerFault::NoMemory);
+        match self.insert_numbered(alloc, number, frame, kind, area) {
+            Ok(answer) => Ok(answer),
+            Err(_) => Err(ContainerFault::NoMemory),
         }
-        let Ok(object) = new_object(alloc, number, frame, kind, area) else {
-            return Err(ContainerFault::NoMemory);
-        };
-        if self.objects.push(object).is_err() {
-            return Err(ContainerFault::NoMemory);
-        }
+    }
+
+    // A new passive object of the next number.
+    fn insert_numbered(
+        &mut self,
+        alloc: Global,
+        number: u32,
+        frame: u32,
+        kind: ObjectKind,
+        area: Area,
+    ) -> Result<Answer, AllocError>
+        requires { number ≡ self.old.last_object + 1 }
+        ensures taken { IfOk result (λ a. insert_made self.old frame (kind_of kind) area ≡ counts_none self.new a) }
+        ensures few { IfOk result (λ a. length a.actions ≤ 1) }
+        ensures kept { OnErr result (self.new ≡ self.old) }
+    {
+        let object = new_object(alloc, number, frame, kind, area)?;
+        let answer = made(alloc, number)?;
+        self.objects.push(object)?;
         self.last_object = number;
         Ok(answer)
     }

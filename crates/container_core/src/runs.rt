@@ -10,7 +10,6 @@ use container_model::answer::Answer;
 use container_model::fault::ContainerFault;
 use container_objects::activations::{begin, begun};
 use container_objects::checks;
-use container_objects::lookups::{place, place_object};
 use std::alloc::Global;
 
 impl State {
@@ -31,23 +30,13 @@ impl State {
         ensures refused { IfErr result (Refuses (run self.old object inc)) }
         ensures kept { OnErr result (self.new ≡ self.old) }
     {
-        let Some(i) = place_object(self.objects.as_slice(), object) else {
-            return Err(ContainerFault::NoSuch);
-        };
-        let Some(at) = place(self.frames.as_slice(), self.objects[i].frame) else {
-            return Err(ContainerFault::NoSuch);
-        };
         if !self.servers.is_alive(inc) {
             return Err(ContainerFault::NoSuch);
         }
-        if checks::is_doubtful(self.frames[at].phase) {
-            return Err(ContainerFault::InDoubt);
+        match self.place_ready(object) {
+            Ok((i, _)) => self.run_object(alloc, i, inc),
+            Err(fault) => Err(fault),
         }
-        let state = self.frames[at].ui.state();
-        if checks::is_saving(self.frames[at].phase) || checks::is_busy(&state, &self.objects[i]) {
-            return Err(ContainerFault::Busy);
-        }
-        self.run_object(alloc, i, inc)
     }
 
     // A new activation of the object that stands there.

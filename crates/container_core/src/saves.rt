@@ -1,8 +1,8 @@
 //! Frames that are saved.
 
-ghost use Rattle.std.specs.Prelude.{◌+◌, ◌≡◌, ◌≤◌, IfErr, IfOk, IfSome, Ok, OnErr, length, slice_get};
-ghost use Rattle.container_model.specs.Commands.{save, save_numbered};
-ghost use Rattle.container_model.specs.Record.{Refuses, counts_none};
+ghost use Rattle.std.specs.Prelude.{◌+◌, ◌≡◌, ◌≤◌, IfErr, IfOk, IfSome, Ok, OnErr, OnOk, Some, length, slice_get};
+ghost use Rattle.container_model.specs.Commands.{save, save_at, save_numbered};
+ghost use Rattle.container_model.specs.Record.{Record, Refuses, counts_none};
 ghost use Rattle.container_model.specs.Numbered.{IsNth};
 ghost use Rattle.container_model.specs.Room.{IsSound};
 
@@ -11,11 +11,35 @@ use container_links::asking::take_up;
 use container_links::settling::settle_into;
 use container_model::answer::Answer;
 use container_model::fault::ContainerFault;
+use container_model::record::{Frame, Object};
 use container_objects::checks;
 use container_objects::lookups::place;
 use container_objects::saves::{begin_save, prepare_save};
 use std::alloc::Global;
 use wire_msgs::items::Items;
+
+// Whether the objects of a frame may be asked for their contents.
+//
+// Refused: `InDoubt`, `Busy`.
+fn may_save(number: u32, frame: &Frame, objects: &[Object]) -> Result<(), ContainerFault>
+    ensures may { OnOk result ((r : Record) → r.objects ≡ objects.now → save_at r number (Some frame.now) ≡ save_numbered r number frame.now) }
+    ensures refused { IfErr result (λ e. (r : Record) → r.objects ≡ objects.now → Refuses (save_at r number (Some frame.now)) e) }
+{
+    if checks::is_doubtful(frame.phase) {
+        return Err(ContainerFault::InDoubt);
+    }
+    if checks::is_saving(frame.phase) {
+        return Err(ContainerFault::Busy);
+    }
+    let state = frame.ui.state();
+    if checks::is_moving(&state) {
+        return Err(ContainerFault::Busy);
+    }
+    if checks::any_busy(number, &state, objects) {
+        return Err(ContainerFault::Busy);
+    }
+    Ok(())
+}
 
 impl State {
     ghost use Rattle.std.specs.Prelude.{◌+◌, ◌≡◌, ◌≤◌, IfErr, IfOk, IfSome, Ok, OnErr, length, slice_get};
@@ -35,17 +59,10 @@ impl State {
         let Some(at) = place(self.frames.as_slice(), frame) else {
             return Err(ContainerFault::NoSuch);
         };
-        if checks::is_doubtful(self.frames[at].phase) {
-            return Err(ContainerFault::InDoubt);
+        match may_save(frame, &self.frames[at], self.objects.as_slice()) {
+            Ok(()) => self.save_numbered(alloc, frame, at),
+            Err(fault) => Err(fault),
         }
-        let state = self.frames[at].ui.state();
-        if checks::is_saving(self.frames[at].phase)
-            || checks::is_moving(&state)
-            || checks::any_busy(frame, &state, self.objects.as_slice())
-        {
-            return Err(ContainerFault::Busy);
-        }
-        self.save_numbered(alloc, frame, at)
     }
 
     // The same where the frame isn't busy.

@@ -1,16 +1,27 @@
 //! New servers.
 
-ghost use Rattle.std.specs.Prelude.{◌≡◌, ◌≤◌, IfErr, IfOk, Ok, OnErr, length};
+ghost use Rattle.std.specs.Prelude.{◌≡◌, ◌≤◌, ◌∷◌, [], IfErr, IfOk, Ok, OnErr, Some, length};
 ghost use Rattle.container_model.specs.Commands.{start};
-ghost use Rattle.container_model.specs.Record.{Refuses, counts_none};
+ghost use Rattle.container_model.specs.Record.{Refuses, counts_none, quiet_answer};
+ghost use Rattle.container_model.specs.declared.answer.Action.TheVariants.{Start};
 
 use crate::state::State;
 use container_model::answer::{Action, Answer};
 use container_model::fault::ContainerFault;
-use std::alloc::Global;
+use std::alloc::{AllocError, Global};
 
 // How many servers may be there that aren't reaped.
 const MOST_SERVERS: usize = 8;
+
+// The answer that a server is to be started.
+fn started(alloc: Global, inc: u32) -> Result<Answer, AllocError>
+    ensures { IfOk result (λ a. a ≡ record quiet_answer { server = Some inc; actions = Start inc ∷ [] }) }
+{
+    let mut answer = Answer::quiet(alloc);
+    answer.server = Some(inc);
+    answer.actions.push(Action::Start(inc))?;
+    Ok(answer)
+}
 
 impl State {
     ghost use Rattle.std.specs.Prelude.{◌≡◌, ◌≤◌, IfErr, IfOk, Ok, OnErr, length};
@@ -32,11 +43,9 @@ impl State {
             return Err(ContainerFault::NumbersSpent);
         }
         let inc = count as u32 + 1;
-        let mut answer = Answer::quiet(alloc);
-        answer.server = Some(inc);
-        if answer.actions.push(Action::Start(inc)).is_err() {
+        let Ok(answer) = started(alloc, inc) else {
             return Err(ContainerFault::NoMemory);
-        }
+        };
         if self.servers.start().is_err() {
             return Err(ContainerFault::NoMemory);
         }

@@ -1,9 +1,8 @@
 -- A frame that begins a save.
-use Rattle.std.proofs.Common.{◌≡◌, ◌≢◌, ◌≤◌, ◌<◌, ◌+◌, ◌==◌, ◌++◌, ℕ, zero, suc, Bool, true, false, List, [], ◌∷◌, length, map, Some, Ok, inl, inr, get_or, set, refl, sym, ◌∙◌, ap, subst, arith, IfSome, slice_get, if◌then◌else◌, All, nat_le}
+use Rattle.std.proofs.Common.{◌≡◌, ◌<◌, ◌+◌, ◌++◌, ℕ, true, false, List, [], length, map, Some, Ok, get_or, set, sym, ◌∙◌, ap, subst, arith, IfSome, slice_get, nat_le}
 use Rattle.std.proofs.lemmas.List.{get_or_default}
 use Rattle.std.proofs.lemmas.Option.{slice_get-get_or}
-use Rattle.wire_msgs.specs.Found.{nth, set_nth}
-use Rattle.wire_msgs.specs.declared.operation.Operation.{Operation}
+use Rattle.wire_msgs.specs.Found.{set_nth}
 use Rattle.wire_msgs.specs.declared.operation.Operation.TheVariants.{Save}
 use Rattle.container_model.specs.declared.answer.Action.{Action}
 use Rattle.container_model.specs.declared.answer.Answer.{Answer}
@@ -11,7 +10,7 @@ use Rattle.container_model.specs.declared.record.Frame.{Frame}
 use Rattle.container_model.specs.declared.record.Object.{Object}
 use Rattle.container_model.specs.Commands.{all_have_numbers, save_made, save_numbered, saving, saving_frame}
 use Rattle.container_model.specs.Numbered.{IsNth}
-use Rattle.container_model.specs.Record.{Record, Took, acts, asked_all, asked_link, asked_object, sends}
+use Rattle.container_model.specs.Record.{Record, Took, acts, asked_all, asked_object, sends}
 use Rattle.container_model.specs.Saves.{settle, settle_actions, settled_actions, settled_frames}
 
 -- ---- the record in which a save begins

@@ -17,3 +17,12 @@ pub mod VerbsPlaced
 pub use Rattle.container_steady.proofs.SteadyFinds
 pub use Rattle.container_steady.proofs.SteadyLookups
 pub use Rattle.container_steady.proofs.SteadyRecords
+pub mod LocatedSteps
+pub mod SavesMade
+pub mod InsertsMade
+pub mod Missing
+pub mod CommandsRun
+pub mod CommitsDone
+pub mod WritesMade
+pub mod StepsKeep
+pub mod ImagesMade

@@ -1,5 +1,5 @@
 -- An object and its frame, where they stand in their container.
-use Rattle.std.proofs.Common.{◌≡◌, ◌<◌, ℕ, ℤ, List, [], length, Result, Option, Some, Ok, get_or, set, refl, sym, ◌∙◌, ap, subst, IfSome, slice_get}
+use Rattle.std.proofs.Common.{◌≡◌, ◌<◌, ℕ, ℤ, length, Result, Option, Some, Ok, get_or, set, refl, sym, ◌∙◌, ap, subst, IfSome, slice_get}
 use Rattle.std.proofs.lemmas.Option.{slice_get_read}
 use Rattle.wire_msgs.specs.Found.{IsPlace, nth, put, set_nth}
 use Rattle.container_model.specs.declared.answer.Answer.{Answer}

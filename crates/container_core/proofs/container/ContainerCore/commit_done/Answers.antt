@@ -1,7 +1,7 @@
 use Rattle.container_steps.specs.Steady.{Steady}
 use Rattle.container_model.specs.Saves.{commit_done}
 use Rattle.container_model.specs.Room.{IsSound}
-use Rattle.container_core.proofs.StepsKeep.{commit_keeps}
+use Rattle.container_steps.proofs.StepsKeep.{commit_keeps}
 use Rattle.container_core.proofs.container.ContainerCore.commit_done.Goals as goal
 
 pub returns-clause-steady : goal.returns-clause-steady

@@ -1,7 +1,7 @@
 use Rattle.container_steps.specs.Steady.{Steady}
 use Rattle.container_model.specs.Messages.{on_reap}
 use Rattle.container_model.specs.Room.{IsSound}
-use Rattle.container_core.proofs.StepsKeep.{step_keeps}
+use Rattle.container_steps.proofs.StepsKeep.{step_keeps}
 use Rattle.container_core.proofs.container.ContainerCore.on_reap.Goals as goal
 
 pub returns-clause-steady : goal.returns-clause-steady

@@ -1,5 +1,5 @@
 use Rattle.std.proofs.Common.{◌∙◌, sym}
-use Rattle.container_core.proofs.ImagesMade.{fine_image, full_image, no_image, wrong_image}
+use Rattle.container_steps.proofs.ImagesMade.{fine_image, full_image, no_image, wrong_image}
 use Rattle.container_core.proofs.state.State.check_image.Goals as goal
 
 pub returns-in_default-clause-refused : goal.returns-in_default-clause-refused

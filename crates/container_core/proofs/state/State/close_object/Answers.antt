@@ -1,7 +1,6 @@
 use Rattle.std.proofs.Common.{◌≡◌, ◌∙◌, Some, Ok, ap, slice_get, sym, refl}
-use Rattle.wire_msgs.specs.Found.{IsPlace, nth}
 use Rattle.container_model.specs.Numbered.{IsNth}
-use Rattle.container_model.specs.Record.{Record, Refuses, acts, counts_none, is_object, with_frame, with_object}
+use Rattle.container_model.specs.Record.{Record, Refuses, acts, counts_none, with_frame, with_object}
 use Rattle.container_model.specs.Verbs.{close_linked}
 use Rattle.container_model.specs.declared.record.Frame.{Frame}
 use Rattle.container_model.specs.declared.record.Object.{Object}

@@ -8,7 +8,7 @@ use Rattle.container_model.specs.Saves.{commit_made, completed, completion}
 use Rattle.container_model.specs.declared.fault.ContainerFault.{ContainerFault}
 use Rattle.container_model.specs.declared.record.Frame.{Frame}
 use Rattle.container_model.specs.declared.record.Object.{Object}
-use Rattle.container_core.proofs.CommitsDone.{after_is, answer_is, counted_is, frame_here, took_is}
+use Rattle.container_steps.proofs.CommitsDone.{after_is, answer_is, counted_is, frame_here, took_is}
 use Rattle.container_core.proofs.state.State.commit_done.Goals as goal
 
 pub returns-clause-taken : goal.returns-clause-taken

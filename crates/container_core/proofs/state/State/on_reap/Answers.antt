@@ -1,4 +1,4 @@
-use Rattle.std.proofs.Common.{◌≡◌, ◌≤◌, ◌++◌, ◌+◌, ℕ, true, List, length, map, ap, arith, rules, subst, sym, vec_len, ◌∙◌}
+use Rattle.std.proofs.Common.{◌≡◌, ◌≤◌, ◌++◌, true, List, length, map, ap, arith, rules, subst, sym, vec_len, ◌∙◌}
 use Rattle.std.proofs.lemmas.List.{length-map}
 use Rattle.container_model.specs.Grants.{freed_claims, freed_frame}
 use Rattle.container_model.specs.Record.{Record, acts, is_alive}

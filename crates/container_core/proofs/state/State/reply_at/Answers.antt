@@ -1,10 +1,10 @@
-use Rattle.std.proofs.Common.{◌≡◌, ◌++◌, ℕ, Bool, true, List, Some, IfSome, get_or, slice_get, slice_set, ap, refl, subst, sym, ◌∙◌, map}
+use Rattle.std.proofs.Common.{◌≡◌, ◌++◌, ℕ, Bool, true, List, Some, IfSome, slice_get, slice_set, ap, subst, sym, ◌∙◌, map}
 use Rattle.std.proofs.lemmas.List.{get_or_default}
 use Rattle.std.proofs.lemmas.Option.{slice_get-get_or}
 use Rattle.wire_msgs.specs.Found.{find, nth, put, IsPlace}
 use Rattle.container_links.specs.Relieving.{gives_up}
-use Rattle.container_model.specs.Messages.{reply_found, reply_link}
-use Rattle.container_model.specs.Record.{Record, Refuses, is_linked}
+use Rattle.container_model.specs.Messages.{reply_link}
+use Rattle.container_model.specs.Record.{Record, is_linked}
 use Rattle.container_model.specs.declared.record.Frame.{Frame}
 use Rattle.container_model.specs.declared.record.Object.{Object}
 use Rattle.wire_msgs.specs.declared.operation.Operation.TheVariants.{UiDeactivate}
@@ -13,7 +13,7 @@ use Rattle.container_objects.specs.Told.{ToldObject}
 use Rattle.container_steps.specs.Steady.{Steady}
 use Rattle.container_core.proofs.GrantsEach.{Agrees}
 use Rattle.container_core.proofs.GrantsWaiting.{reply_agrees, reply_differs}
-use Rattle.container_core.proofs.RepliesMade.{reply_fine, reply_is, reply_refused}
+use Rattle.container_core.proofs.RepliesMade.{reply_is, reply_refused}
 use Rattle.container_core.proofs.state.State.reply_at.Goals as goal
 
 pub returns-in-Err-clause-refused : goal.returns-in-Err-clause-refused

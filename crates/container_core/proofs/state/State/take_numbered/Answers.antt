@@ -1,10 +1,9 @@
-use Rattle.std.proofs.Common.{◌≡◌, ◌+◌, ◌++◌, ◌∙◌, ℕ, List, Some, IfSome, ap, refl, set, slice_get, subst, sym}
-use Rattle.wire_msgs.specs.Found.{put, set_nth}
+use Rattle.std.proofs.Common.{◌≡◌, ◌+◌, ◌++◌, ◌∙◌, List, Some, IfSome, ap, refl, set, slice_get, subst, sym}
+use Rattle.wire_msgs.specs.Found.{put}
 use Rattle.object_state.specs.declared.verbs.Step.{Step}
 use Rattle.grant_core.specs.Grants.{Ask}
 use Rattle.grant_core.specs.declared.grant_states.Claim.{Claim}
 use Rattle.container_model.specs.declared.record.Frame.{Frame}
-use Rattle.container_model.specs.declared.record.Link.{Link}
 use Rattle.container_model.specs.declared.record.Object.{Object}
 use Rattle.container_model.specs.Grants.{moved}
 use Rattle.container_model.specs.Numbered.{IsNth}

@@ -10,7 +10,7 @@ use Rattle.container_model.specs.declared.record.Object.{Object}
 use Rattle.container_model.specs.Numbered.{IsNth}
 use Rattle.container_model.specs.Record.{Record, Refuses, counts_none, is_object}
 use Rattle.container_model.specs.Verbs.{verb, verb_at, verb_in, verb_linked}
-use Rattle.container_core.proofs.Missing.{no_object, no_frame}
+use Rattle.container_steps.proofs.Missing.{no_object, no_frame}
 use Rattle.container_steps.proofs.VerbsPlaced.{at_both, frame_here, object_here, verb_is}
 use Rattle.container_core.proofs.state.State.verb.Goals as goal
 
@@ -45,7 +45,6 @@ verb_object-requires-clause-frame c =
     let i : ℕ = c.in-Some.i in
     let at : ℕ = c.in-Some-place.at in
     let x : Object = c.index-3.result.now in
-    let y : Frame = c.index-2.result.now in
     let objects : c.as_slice.result.now ≡ r.objects = c.as_slice.ensures.value ∙ ap (λ (t : Record). t.objects) c.self.view_is in
     let frames : c.as_slice-2.result.now ≡ r.frames = c.as_slice-2.ensures.value ∙ ap (λ (t : Record). t.frames) c.self.view_is in
     let found : IsPlace (is_object c.args.object) r.objects i = subst (λ (os : List Object). IsPlace (is_object c.args.object) os i) objects c.in-Some.ensures.found in
@@ -53,9 +52,6 @@ verb_object-requires-clause-frame c =
     let first : slice_get r.objects i ≡ Some c.index.result.now = object_here _ r i c.index.result.now c.self.view_is found.fits c.index.ensures in
     let same : c.index.result.now ≡ x = same_Some c.index.result.now x (sym first ∙ here) in
     let place : IsNth x.frame r.frames at = subst (λ (o : Object). IsNth o.frame r.frames at) same (subst (λ (fs : List Frame). IsNth c.index.result.now.frame fs at) frames c.in-Some-place.ensures) in
-    let there : slice_get r.frames at ≡ Some y = frame_here _ r at y c.self.view_is place.fits c.index-2.ensures in
-    let v : Option Verb = c.verb_of-verb.result in
-    let is : verb r c.args.object c.args.number ≡ verb_in r x v (Some y) = verb_is r c.args.object c.args.number v i x y (c.verb_of-verb.ensures ∙ ap verb_of (to_z-of_z c.ranges.number)) found here (place.found ∙ there) in
     subst (λ t. IfSome t (λ (o : Object). IsNth o.frame r.frames at)) (sym here) place
 
 pub returns-clause-taken : goal.returns-clause-taken

@@ -42,11 +42,7 @@ take-requires-clause-linked c =
     let r : Record = c.args.self.now in
     let x : Object = c.index.result.now in
     let here : slice_get r.objects c.args.i ≡ Some x = object_here _ r c.args.i x c.self.view_is c.requires.place.fits c.index.ensures in
-    let place : IsNth x.frame r.frames c.args.at = in_frame r c.args.i c.args.at x here c.requires.frame in
-    let y : (f : Frame) × (slice_get r.frames c.args.at ≡ Some f) = item_at r.frames c.args.at place.fits in
-    let n : r.numbers ≡ c.self.inside.numbers = ap (λ (t : Record). t.numbers) (sym c.self.view_is) in
     let w : (l : Link) × (x.link ≡ Some l) × ((q : Record) (f : Frame) → q.numbers ≡ c.self.inside.numbers → verb_linked q f x c.args.verb x.link ≡ verb_went q f x l c.in-Ok.steps.now) = some_and _ x.link c.in-Ok.ensures.taken in
-    let did : verb_linked r y.0 x c.args.verb x.link ≡ verb_went r y.0 x w.0 c.in-Ok.steps.now = w.2 r y.0 n in
     subst (λ t. IfSome t (λ o. is_some o.link ≡ true)) (sym here) (ap is_some w.1)
 
 pub take-requires-clause-apart : goal.take-requires-clause-apart
@@ -56,9 +52,7 @@ take-requires-clause-apart c =
     let here : slice_get r.objects c.args.i ≡ Some x = object_here _ r c.args.i x c.self.view_is c.requires.place.fits c.index.ensures in
     let place : IsNth x.frame r.frames c.args.at = in_frame r c.args.i c.args.at x here c.requires.frame in
     let y : (f : Frame) × (slice_get r.frames c.args.at ≡ Some f) = item_at r.frames c.args.at place.fits in
-    let n : r.numbers ≡ c.self.inside.numbers = ap (λ (t : Record). t.numbers) (sym c.self.view_is) in
     let w : (l : Link) × (x.link ≡ Some l) × ((q : Record) (f : Frame) → q.numbers ≡ c.self.inside.numbers → verb_linked q f x c.args.verb x.link ≡ verb_went q f x l c.in-Ok.steps.now) = some_and _ x.link c.in-Ok.ensures.taken in
-    let did : verb_linked r y.0 x c.args.verb x.link ≡ verb_went r y.0 x w.0 c.in-Ok.steps.now = w.2 r y.0 n in
     let steps : steps_of c.args.verb w.0.states.object ≡ Some c.in-Ok.steps.now = subst (λ t. IfSome t (λ (l : Link). steps_of c.args.verb l.states.object ≡ Some c.in-Ok.steps.now)) w.1 c.in-Ok.ensures.steps in
     both_here (λ p q. IfSome (holder_of q.ui.state) (λ m. m ≢ p.number)) r c.args.i c.args.at x y.0 here y.1 (apart r c.args.i x w.0 y.0 c.args.verb c.in-Ok.steps.now c.requires.steady here w.1 (place.found ∙ y.1) steps (sym c.if-takes.ensures))
 
@@ -93,11 +87,7 @@ leave-requires-clause-linked c =
     let r : Record = c.args.self.now in
     let x : Object = c.index.result.now in
     let here : slice_get r.objects c.args.i ≡ Some x = object_here _ r c.args.i x c.self.view_is c.requires.place.fits c.index.ensures in
-    let place : IsNth x.frame r.frames c.args.at = in_frame r c.args.i c.args.at x here c.requires.frame in
-    let y : (f : Frame) × (slice_get r.frames c.args.at ≡ Some f) = item_at r.frames c.args.at place.fits in
-    let n : r.numbers ≡ c.self.inside.numbers = ap (λ (t : Record). t.numbers) (sym c.self.view_is) in
     let w : (l : Link) × (x.link ≡ Some l) × ((q : Record) (f : Frame) → q.numbers ≡ c.self.inside.numbers → verb_linked q f x c.args.verb x.link ≡ verb_went q f x l c.in-Ok.steps.now) = some_and _ x.link c.in-Ok.ensures.taken in
-    let did : verb_linked r y.0 x c.args.verb x.link ≡ verb_went r y.0 x w.0 c.in-Ok.steps.now = w.2 r y.0 n in
     subst (λ t. IfSome t (λ o. is_some o.link ≡ true)) (sym here) (ap is_some w.1)
 
 pub returns-clause-taken : goal.returns-clause-taken

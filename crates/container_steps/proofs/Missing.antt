@@ -1,5 +1,5 @@
 -- An object, or its frame, that isn't there.
-use Rattle.std.proofs.Common.{◌≡◌, ℕ, Bool, List, Result, Option, Some, None, get_or, sym, ◌∙◌, ap, subst, slice_get}
+use Rattle.std.proofs.Common.{◌≡◌, ℕ, Bool, List, Result, Option, Some, None, get_or, sym, ◌∙◌, ap, subst}
 use Rattle.wire_msgs.specs.Found.{IsPlace, find, nth}
 use Rattle.container_model.specs.declared.fault.ContainerFault.{ContainerFault}
 use Rattle.container_model.specs.declared.record.Frame.{Frame}

@@ -1,19 +1,19 @@
 -- A passive object that is activated or goes, in its container.
-use Rattle.std.proofs.Common.{◌≡◌, ◌<◌, ◌≤◌, ◌+◌, arith, ◌||◌, [], ◌∷◌, ℕ, Bool, true, false, not, List, length, nat_le, nat_lt, Some, Result, Ok, Err, IfSome, get_or, set, slice_get, sym, ◌∙◌, ap, subst}
+use Rattle.std.proofs.Common.{◌≡◌, ◌<◌, ◌≤◌, ◌+◌, arith, ◌||◌, [], ◌∷◌, ℕ, Bool, true, false, not, List, length, nat_le, nat_lt, Option, Some, None, refl, Ok, Err, IfSome, get_or, set, slice_get, sym, ◌∙◌, ap, subst}
 use Rattle.std.specs.Prelude.{is_some, remove}
 use Rattle.std.proofs.lemmas.Bool.Decides.{nat_tests}
 use Rattle.std.proofs.lemmas.List.{get_or_default}
-use Rattle.wire_msgs.specs.Found.{IsPlace, put}
+use Rattle.wire_msgs.specs.Found.{IsPlace, nth, put}
 use Rattle.wire_msgs.specs.declared.message.Message.TheVariants.{Call}
 use Rattle.container_model.specs.declared.answer.Action.{Action}
 use Rattle.container_model.specs.declared.answer.Answer.{Answer}
-use Rattle.container_model.specs.declared.fault.ContainerFault.{ContainerFault}
-use Rattle.container_model.specs.declared.fault.ContainerFault.TheVariants.{WrongState, UnknownClass, NumbersSpent}
+use Rattle.container_model.specs.declared.fault.ContainerFault.TheVariants.{Busy, InDoubt, NoSuch, WrongState, UnknownClass, NumbersSpent}
+use Rattle.container_model.specs.declared.record.Frame.{Frame}
 use Rattle.container_model.specs.declared.record.Link.{Link}
 use Rattle.container_model.specs.declared.record.Object.{Object}
-use Rattle.container_model.specs.Commands.{begun_link, delete_made, first_operation, is_known_class, run_made, run_object}
+use Rattle.container_model.specs.Commands.{begun_link, delete_made, first_operation, is_known_class, run_at, run_in, run_made, run_object}
 use Rattle.container_model.specs.Numbered.{IsObjectAt}
-use Rattle.container_model.specs.Record.{MARGIN, Record, Took, acts, counts_none, is_object, quiet_answer, sends, unless, without_first}
+use Rattle.container_model.specs.Record.{MARGIN, Record, acts, counts_none, is_alive, is_busy, is_doubtful, is_object, is_saving, quiet_answer, sends, unless, without_first}
 use Rattle.container_steps.proofs.VerbsPlaced.{object_here, own_here}
 
 -- what holds of the object that stands there
@@ -30,23 +30,33 @@ same_read s r i x y e lt at again =
 abbrev spent : Record → Bool
 spent r = nat_lt r.numbers MARGIN || nat_le r.numbers r.last_act
 
-few_left : (n last : ℕ) → n < 8 → (nat_lt n 8 || nat_le n last) ≡ true
+few_left : (n last : ℕ) → n < MARGIN → (nat_lt n MARGIN || nat_le n last) ≡ true
 few_left n last few = grind (arith, nat_tests, few)
 
-none_left : (n last : ℕ) → n ≤ last → (nat_lt n 8 || nat_le n last) ≡ true
+none_left : (n last : ℕ) → n ≤ last → (nat_lt n MARGIN || nat_le n last) ≡ true
 none_left n last le = grind (arith, nat_tests, le)
 
-some_left : (n last : ℕ) → 8 ≤ n → last < n → (nat_lt n 8 || nat_le n last) ≡ false
+some_left : (n last : ℕ) → MARGIN ≤ n → last < n → (nat_lt n MARGIN || nat_le n last) ≡ false
 some_left n last many left = grind (arith, nat_tests, many, left)
 
-pub few_spent : (r s : Record) → s ≡ r → s.numbers < 8 → spent r ≡ true
+pub few_spent : (r s : Record) → s ≡ r → s.numbers < MARGIN → spent r ≡ true
 few_spent r s e few = subst (λ (t : Record). spent t ≡ true) e (few_left s.numbers s.last_act few)
 
 pub last_spent : (r s : Record) → s ≡ r → s.numbers ≤ s.last_act → spent r ≡ true
 last_spent r s e last = subst (λ (t : Record). spent t ≡ true) e (none_left s.numbers s.last_act last)
 
-pub not_spent : (r s : Record) → s ≡ r → 8 ≤ s.numbers → s.last_act < s.numbers → spent r ≡ false
+pub not_spent : (r s : Record) → s ≡ r → MARGIN ≤ s.numbers → s.last_act < s.numbers → spent r ≡ false
 not_spent r s e many left = subst (λ (t : Record). spent t ≡ false) e (some_left s.numbers s.last_act many left)
+
+-- the server isn't there
+dead_in : (r : Record) (o : Object) (inc : ℕ) → is_alive r inc ≡ false → (frame : Option Frame) → run_in r o inc frame ≡ Err NoSuch
+dead_in r o inc e None = refl
+dead_in r o inc e (Some f) =
+    ap (λ b. unless (not b) NoSuch (unless (is_doubtful f.phase) InDoubt (unless (is_saving f.phase || is_busy f.ui.state o) Busy (run_object r o inc)))) e
+
+pub run_dead : (r : Record) (inc : ℕ) → is_alive r inc ≡ false → (found : Option Object) → run_at r inc found ≡ Err NoSuch
+run_dead r inc e None = refl
+run_dead r inc e (Some o) = dead_in r o inc e (nth r.frames o.frame)
 
 pub run_linked : (r : Record) (x : Object) (inc : ℕ) → is_some x.link ≡ true → run_object r x inc ≡ Err WrongState
 run_linked r x inc linked =

@@ -1,12 +1,12 @@
 -- The record after a write.
-use Rattle.std.proofs.Common.{◌≡◌, ℕ, true, List, Some, Ok, Result, ap, sym, ◌∙◌, subst}
+use Rattle.std.proofs.Common.{◌≡◌, ℕ, true, List, Some, Ok, ap, sym, ◌∙◌, subst}
 use Rattle.wire_msgs.specs.Found.{find, put}
 use Rattle.storage_tree.specs.declared.stored.Stored.{Stored}
 use Rattle.container_model.specs.declared.answer.Answer as told_answer
 use Rattle.container_model.specs.declared.fault.ContainerFault.{ContainerFault}
 use Rattle.container_model.specs.declared.record.Object.{Object}
 use Rattle.container_model.specs.Messages.{write_found, write_link}
-use Rattle.container_model.specs.Record.{Record, Refuses, Took, counts_none, is_linked, quiet_answer}
+use Rattle.container_model.specs.Record.{Record, Refuses, counts_none, is_linked, quiet_answer}
 
 -- what a write makes of the record
 pub write_made : (r : Record) (inc act s w : ℕ) (content : Stored) (x y : Object) (objects : List Object) (a : told_answer.Answer) → find (is_linked inc act) r.objects ≡ Some x
