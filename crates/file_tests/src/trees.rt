@@ -52,6 +52,14 @@ get Obj1/Text/X . WrongKind
 put Obj1/Text/X . WrongKind
 put Obj1 . WrongKind
 put Obj2/Text . NotFound
+add Obj1/Text c Exists
+add obj1 c Exists
+add Obj2/Text c NotFound
+add Obj1/Text/X c WrongKind
+add . c WrongKind
+add Obj1/More c ok
+get Obj1/More c ok
+get Obj1/Text ab ok
 remove Obj2 . NotFound
 make obj1 0 Exists
 remove Obj1 . ok
@@ -134,6 +142,10 @@ fn whether(holds: bool) -> &'static str {
 
 fn put(rt: &impl Abort, alloc: Global, tree: &mut Tree, at: &str, text: &str) -> &'static str {
     told(tree.put_stream(&path(rt, alloc, at), content(rt, alloc, text)))
+}
+
+fn add(rt: &impl Abort, alloc: Global, tree: &mut Tree, at: &str, text: &str) -> &'static str {
+    told(tree.make_stream(&path(rt, alloc, at), content(rt, alloc, text)))
 }
 
 /// The state bits of a storage are the letter of its class.
@@ -227,6 +239,7 @@ fn call(
         "commit" => told(tree.commit()),
         "revert" => told(tree.revert()),
         "put" => put(rt, alloc, tree, at, with),
+        "add" => add(rt, alloc, tree, at, with),
         "make" => make(rt, alloc, tree, at, letter(with)),
         "remove" => remove(rt, alloc, tree, at),
         "rename" => rename(rt, alloc, tree, at, with),
