@@ -18,7 +18,7 @@ use Rattle.container_model.specs.declared.grants.Tells.TheVariants as tells
 use Rattle.container_model.specs.Messages.{Replied, closed_with, done_link, granted_link, is_fit, lost, noted, replied, reply_link, reply_pending, saved_link}
 use Rattle.container_links.specs.Answered.{answered, answered_at, grant_of, is_pending, when_content, when_done, when_refused}
 use Rattle.container_links.specs.declared.turns.WhenDone.{WhenDone}
-use Rattle.container_links.specs.declared.turns.WhenDone.TheVariants.{Goes, GivesUp, Ends, Undone}
+use Rattle.container_links.specs.declared.turns.WhenDone.TheVariants.{Continues, GivesUp, Ends, Undone}
 use Rattle.container_links.specs.declared.turns.WhenRefused.{WhenRefused}
 use Rattle.container_links.specs.declared.turns.WhenRefused.TheVariants.{Lost, Noted, Unrefused}
 use Rattle.container_links.specs.declared.turns.WhenContent.{WhenContent}
@@ -56,7 +56,7 @@ reply_as n answer is link e f a = fit_reply n answer link e f ∙ ap (answered l
 
 -- what each kind of answer makes of an activation, by what it means for the operation
 abbrev by_done : Link → Op → WhenDone → Result Replied ContainerFault
-by_done l o (Goes s) = done_link l s (both.step l.states o)
+by_done l o (Continues s) = done_link l s (both.step l.states o)
 by_done l o GivesUp = granted_link tells.GivesUp (done_link l l.s (both.step l.states o))
 by_done l o Ends = closed_with None (both.step l.states o)
 by_done l o Undone = Err BadAnswer

@@ -10,7 +10,7 @@ use Rattle.container_model.specs.declared.fault.ContainerFault.{ContainerFault}
 use Rattle.container_model.specs.declared.fault.ContainerFault.TheVariants.{Stale}
 use Rattle.container_model.specs.Messages.{Replied, replied}
 use Rattle.container_links.specs.declared.turns.WhenDone.{WhenDone}
-use Rattle.container_links.specs.declared.turns.WhenDone.TheVariants.{Goes, GivesUp, Ends, Undone}
+use Rattle.container_links.specs.declared.turns.WhenDone.TheVariants.{Continues, GivesUp, Ends, Undone}
 use Rattle.container_links.specs.declared.turns.WhenRefused.{WhenRefused}
 use Rattle.container_links.specs.declared.turns.WhenRefused.TheVariants.{Lost, Noted, Unrefused}
 use Rattle.container_links.specs.declared.turns.WhenContent.{WhenContent}
@@ -32,13 +32,13 @@ answered (Some l) answer = answered_at l answer l.pending
 
 -- what an operation that was done makes of an activation with this storage grant
 abbrev pub when_done : Operation → ℕ → WhenDone
-when_done (InitNew class) s = Goes 1
-when_done (Load class content) s = Goes 1
-when_done InPlace s = Goes s
-when_done InPlaceDeactivate s = Goes s
-when_done OpenWindow s = Goes s
-when_done (Edit bytes) s = Goes s
-when_done (SaveCompleted k storage) s = Goes (s + 1)
+when_done (InitNew class) s = Continues 1
+when_done (Load class content) s = Continues 1
+when_done InPlace s = Continues s
+when_done InPlaceDeactivate s = Continues s
+when_done OpenWindow s = Continues s
+when_done (Edit bytes) s = Continues s
+when_done (SaveCompleted k storage) s = Continues (s + 1)
 when_done UiDeactivate s = GivesUp
 when_done (Close NoSave) s = Ends
 when_done op s = Undone

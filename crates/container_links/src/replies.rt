@@ -294,7 +294,7 @@ fn done_told(alloc: Global, link: &mut Option<Link>, more: usize) -> Result<Repl
     let op = operation.op();
     let states = l.states;
     match when_done(operation, l.s) {
-        WhenDone::Goes(s) => done(alloc, l, op, s, more),
+        WhenDone::Continues(s) => done(alloc, l, op, s, more),
         WhenDone::GivesUp => granted(alloc, l, op, Tells::GivesUp, more),
         WhenDone::Ends => closed(alloc, link, states, op, None, more),
         WhenDone::Undone => Err(ContainerFault::BadAnswer),

@@ -10,7 +10,7 @@ use wire_msgs::operation::Operation;
 #[derive(Clone, Copy)]
 pub(crate) enum WhenDone {
     /// It goes on, with this storage grant.
-    Goes(u32),
+    Continues(u32),
     /// It goes on, and has given its frame up.
     GivesUp,
     /// It is over.
@@ -47,17 +47,17 @@ pub(crate) fn when_done(operation: &Operation, s: u32) -> WhenDone
     ensures { result ≡ when_done operation.now s }
 {
     match operation {
-        Operation::InitNew(_) => WhenDone::Goes(1),
-        Operation::Load(_, _) => WhenDone::Goes(1),
-        Operation::InPlace => WhenDone::Goes(s),
+        Operation::InitNew(_) => WhenDone::Continues(1),
+        Operation::Load(_, _) => WhenDone::Continues(1),
+        Operation::InPlace => WhenDone::Continues(s),
         Operation::UiActivate(_) => WhenDone::Undone,
         Operation::UiDeactivate => WhenDone::GivesUp,
-        Operation::InPlaceDeactivate => WhenDone::Goes(s),
-        Operation::OpenWindow => WhenDone::Goes(s),
-        Operation::Edit(_) => WhenDone::Goes(s),
+        Operation::InPlaceDeactivate => WhenDone::Continues(s),
+        Operation::OpenWindow => WhenDone::Continues(s),
+        Operation::Edit(_) => WhenDone::Continues(s),
         Operation::Save(_) => WhenDone::Undone,
         Operation::HandsOff => WhenDone::Undone,
-        Operation::SaveCompleted { .. } => WhenDone::Goes(s + 1),
+        Operation::SaveCompleted { .. } => WhenDone::Continues(s + 1),
         Operation::SaveDropped(_) => WhenDone::Undone,
         Operation::Close(option) => match option {
             CloseOption::SaveIfDirty => WhenDone::Undone,

@@ -9,7 +9,7 @@ use Rattle.message_drafts.specs.declared.draft.Opening.{Opening}
 use Rattle.message_drafts.specs.declared.draft.Phase.TheVariants.{Fields, Picture, Bad}
 use Rattle.message_model.specs.Frames.{number_in}
 use Rattle.message_model.specs.Reading.{may_follow}
-use Rattle.message_drafts.specs.Drafts.{Begins, Goes, IsField, IsFull, IsFullAt, IsOver, IsOverAt, IsPlanned, IsPlannedAt, IsStreamField, Keeps, Took, frame_of, lengthened, longer, need, read_on, resume}
+use Rattle.message_drafts.specs.Drafts.{Begins, Advances, IsField, IsFull, IsFullAt, IsOver, IsOverAt, IsPlanned, IsPlannedAt, IsStreamField, Keeps, Took, frame_of, lengthened, longer, need, read_on, resume}
 use Rattle.message_drafts.proofs.Streams.{order_lengthened, grew_same, grew_pushed, grew_lengthened}
 use Rattle.message_drafts.proofs.Plans.{range, stream_outside}
 use Rattle.storage_tree.specs.Streams.{is_next}
@@ -28,7 +28,7 @@ pub parts_same : (d e : Draft) (x : List ℕ) (p q : Phase) (l r m m' : ℕ) (h 
     → q ≡ e.plan.phase → l ≡ e.plan.left → r ≡ e.plan.room → m' ≡ e.plan.missing → h' ≡ take e.plan.len e.plan.held → d.opening ≡ e.opening → ss ≡ e.streams.items → pic ≡ e.picture
     → d.plan.to_come ≡ length x + e.plan.to_come
     → ((ys : List ℕ) → length ys ≡ e.plan.to_come → read_on p d.plan.left d.plan.room m h d.opening d.streams.items d.picture (x ++ ys) ≡ read_on q l r m' h' d.opening ss pic ys)
-    → Goes d e x
+    → Advances d e x
 unfolding resume
 parts_same d e x p q l r m m' h h' ss pic phase held missing q_is l_is r_is m_is h_is o_is ss_is pic_is count same = record {
   count = count;
@@ -39,7 +39,7 @@ parts_same d e x p q l r m m' h h' ss pic phase held missing q_is l_is r_is m_is
 
 pub goes_stream : (d e : Draft) (x : List ℕ) → IsPlanned d → d.plan.phase ≡ Fields → 0 < d.plan.missing → length x ≤ d.plan.missing
     → Fields ≡ e.plan.phase → d.plan.left ≡ e.plan.left → d.plan.room ≡ e.plan.room → e.plan.missing ≡ d.plan.missing - length x → e.plan.to_come ≡ d.plan.to_come - length x → take d.plan.len d.plan.held ≡ take e.plan.len e.plan.held
-    → d.opening ≡ e.opening → lengthened d.streams.items x ≡ e.streams.items → d.picture ≡ e.picture → Goes d e x
+    → d.opening ≡ e.opening → lengthened d.streams.items x ≡ e.streams.items → d.picture ≡ e.picture → Advances d e x
 goes_stream d e x planned phase some le q l r m t h o ss pic =
     let at = planned_at d Fields phase planned in
     let fits : d.plan.missing ≤ d.plan.to_come = at.2 in
@@ -50,7 +50,7 @@ goes_stream d e x planned phase some le q l r m t h o ss pic =
 
 pub goes_picture : (d e : Draft) (x : List ℕ) → IsPlanned d → d.plan.phase ≡ Picture → length x ≤ d.plan.missing
     → Picture ≡ e.plan.phase → d.plan.left ≡ e.plan.left → d.plan.room ≡ e.plan.room → e.plan.missing ≡ d.plan.missing - length x → e.plan.to_come ≡ d.plan.to_come - length x → take d.plan.len d.plan.held ≡ take e.plan.len e.plan.held
-    → d.opening ≡ e.opening → d.streams.items ≡ e.streams.items → d.picture ++ x ≡ e.picture → Goes d e x
+    → d.opening ≡ e.opening → d.streams.items ≡ e.streams.items → d.picture ++ x ≡ e.picture → Advances d e x
 goes_picture d e x planned phase le q l r m t h o ss pic =
     let at = planned_at d Picture phase planned in
     let fits : d.plan.missing ≤ d.plan.to_come = at in
@@ -62,7 +62,7 @@ goes_picture d e x planned phase le q l r m t h o ss pic =
 
 pub goes_bad : (d e : Draft) (x : List ℕ) (p : Phase) (m : ℕ) (h : List ℕ) → d.plan.phase ≡ p → take d.plan.len d.plan.held ≡ h → d.plan.missing ≡ m
     → Bad ≡ e.plan.phase → d.opening ≡ e.opening → d.plan.to_come ≡ length x + e.plan.to_come
-    → ((ys : List ℕ) → length ys ≡ e.plan.to_come → read_on p d.plan.left d.plan.room m h d.opening d.streams.items d.picture (x ++ ys) ≡ None) → Goes d e x
+    → ((ys : List ℕ) → length ys ≡ e.plan.to_come → read_on p d.plan.left d.plan.room m h d.opening d.streams.items d.picture (x ++ ys) ≡ None) → Advances d e x
 goes_bad d e x p m h phase held missing to_bad o count none =
     parts_same d e x p Bad e.plan.left e.plan.room m e.plan.missing h (take e.plan.len e.plan.held) e.streams.items e.picture
     phase held missing to_bad refl refl refl refl o refl refl count none

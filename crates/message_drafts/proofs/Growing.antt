@@ -7,13 +7,13 @@ use Rattle.message_drafts.specs.declared.back.Mark.{Mark}
 use Rattle.storage_tree.specs.Streams.{AreInOrder}
 use Rattle.message_model.specs.declared.frame.Frame.{Frame}
 use Rattle.message_drafts.specs.declared.draft.Plan.{Plan}
-use Rattle.message_drafts.specs.Drafts.{Alike, Goes, Grew, IsMark, IsPlanned, IsPlannedAt, Keeps, cut_last, last_len, read_on, resume}
+use Rattle.message_drafts.specs.Drafts.{Alike, Advances, Grew, IsMark, IsPlanned, IsPlannedAt, Keeps, cut_last, last_len, read_on, resume}
 use Rattle.message_drafts.proofs.Streams.{grew_same}
 
-pub goes_none : (d : Draft) → Goes d d []
+pub goes_none : (d : Draft) → Advances d d []
 goes_none d = record { count = omega arith; same = λ ys len. refl }
 
-pub goes_on : (a b c : Draft) (x y : List ℕ) → Goes a b x → Goes b c y → Goes a c (x ++ y)
+pub goes_on : (a b c : Draft) (x y : List ℕ) → Advances a b x → Advances b c y → Advances a c (x ++ y)
 goes_on a b c x y p q =
     let first : a.plan.to_come ≡ length x + b.plan.to_come = p.count in
     let then : b.plan.to_come ≡ length y + c.plan.to_come = q.count in
@@ -113,8 +113,8 @@ pub resume_alike : (d e : Draft) → Alike d e → resume e ≡ resume d
 unfolding resume
 resume_alike d e a = λ i xs. read_on (a.plan i).phase (a.plan i).left (a.plan i).room (a.plan i).missing (take (a.plan i).len (a.plan i).held) (a.opening i) (a.streams i) (a.picture i) xs
 
-pub made_of : (d e : Draft) (xs : List ℕ) (f : Option Frame) → Goes d e xs → e.plan.to_come ≡ 0 → f ≡ resume e [] → f ≡ resume d xs
+pub made_of : (d e : Draft) (xs : List ℕ) (f : Option Frame) → Advances d e xs → e.plan.to_come ≡ 0 → f ≡ resume e [] → f ≡ resume d xs
 made_of d e xs f g none made = made ∙ sym (g.same [] (sym none)) ∙ ap (resume d) (append-nil xs)
 
-pub goes_whole : (d e : Draft) (xs : List ℕ) → Goes d e xs → length xs ≡ d.plan.to_come → e.plan.to_come ≡ 0
+pub goes_whole : (d e : Draft) (xs : List ℕ) → Advances d e xs → length xs ≡ d.plan.to_come → e.plan.to_come ≡ 0
 goes_whole d e xs g whole = let c : d.plan.to_come ≡ length xs + e.plan.to_come = g.count in omega (arith, whole)

@@ -23,7 +23,7 @@ use Rattle.message_model.proofs.Fields.{bytes_again, le_passes}
 use Rattle.message_drafts.specs.declared.draft.Draft.{Draft}
 use Rattle.message_drafts.specs.declared.draft.Opening.{Opening}
 use Rattle.message_drafts.specs.declared.draft.Opening.TheVariants as opening
-use Rattle.message_drafts.specs.Drafts.{Goes, last, resume}
+use Rattle.message_drafts.specs.Drafts.{Advances, last, resume}
 use Rattle.message_drafts.specs.Opens.{Comes, Opens, OpensLoad, form, reads, room_of}
 use Rattle.message_drafts.proofs.Plans.{bytes_long, bytes_short}
 
@@ -198,7 +198,7 @@ comes_bad kind len front d long within none to_come bad = record {
 
 pub comes_opened : (kind : Kind) (len : ℕ) (front rest : List ℕ) (o : Opening) (left : ℕ) (d e : Draft) → length rest ≤ length front → length front ≤ len
     → ((ys : List ℕ) → read_body kind (front ++ ys) ≡ more left [] (room_of o) (last o) (rest ++ ys)) → d.plan.to_come ≡ len - (length front - length rest) → ((ys : List ℕ) → resume d ys ≡ more left [] (room_of o) (last o) ys)
-    → Goes d e rest → Comes kind len front (form e)
+    → Advances d e rest → Comes kind len front (form e)
 unfolding resume reads
 comes_opened kind len front rest o left d e shorter within opens to_come begun goes =
     let count : d.plan.to_come ≡ length rest + e.plan.to_come = goes.count in

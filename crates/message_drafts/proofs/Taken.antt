@@ -11,7 +11,7 @@ use Rattle.message_model.proofs.Fields.{first_of}
 use Rattle.message_drafts.specs.declared.draft.Draft.{Draft}
 use Rattle.message_drafts.specs.declared.draft.Phase.{Phase}
 use Rattle.message_drafts.specs.declared.draft.Phase.TheVariants.{Fields, Picture, Bad}
-use Rattle.message_drafts.specs.Drafts.{Begins, Goes, Grew, IsFull, IsFullAt, IsLong, IsOver, IsOverAt, IsPlanned, IsPlannedAt, IsStreamField, Keeps, Took, lengthened, longer, need, read_on}
+use Rattle.message_drafts.specs.Drafts.{Begins, Advances, Grew, IsFull, IsFullAt, IsLong, IsOver, IsOverAt, IsPlanned, IsPlannedAt, IsStreamField, Keeps, Took, lengthened, longer, need, read_on}
 use Rattle.message_drafts.proofs.Streams.{order_lengthened, grew_same, grew_pushed, grew_lengthened}
 use Rattle.message_drafts.proofs.Steps.{on_held, on_more, stream_begun}
 use Rattle.message_drafts.proofs.Bodies.{planned_at, planned_from, parts_same, goes_bad}
@@ -44,21 +44,21 @@ begun_stream d e n rest nm len f some held field follows le there q left room mi
 
 pub goes_held : (d e : Draft) (x : List ℕ) → d.plan.phase ≡ Fields → d.plan.missing ≡ 0 → length x ≤ d.plan.to_come
     → Fields ≡ e.plan.phase → d.plan.left ≡ e.plan.left → d.plan.room ≡ e.plan.room → e.plan.missing ≡ 0 → e.plan.to_come ≡ d.plan.to_come - length x → take e.plan.len e.plan.held ≡ take d.plan.len d.plan.held ++ x
-    → d.opening ≡ e.opening → d.streams.items ≡ e.streams.items → d.picture ≡ e.picture → Goes d e x
+    → d.opening ≡ e.opening → d.streams.items ≡ e.streams.items → d.picture ≡ e.picture → Advances d e x
 goes_held d e x phase none le q l r m t h o ss pic =
     parts_same d e x Fields Fields d.plan.left d.plan.room 0 0 (take d.plan.len d.plan.held) (take d.plan.len d.plan.held ++ x) d.streams.items d.picture
     phase refl none q l r (sym m) (sym h) o ss pic (omega (arith, t))
     (λ ys len. on_held d.plan.left d.plan.room (take d.plan.len d.plan.held) d.opening d.streams.items d.picture x ys)
 
-pub goes_settled : (d m e : Draft) (x : List ℕ) → Goes d m x → Begins m e → Goes d e x
-goes_settled d m e x p b = subst (Goes d e) (append-nil x) (goes_on d m e x [] p b.goes)
+pub goes_settled : (d m e : Draft) (x : List ℕ) → Advances d m x → Begins m e → Advances d e x
+goes_settled d m e x p b = subst (Advances d e) (append-nil x) (goes_on d m e x [] p b.goes)
 
 over_none : (p : Phase) (l r m : ℕ) (h : List ℕ) (d : Draft) (x ys : List ℕ) → IsOverAt p m → 0 < length x → read_on p l r m h d.opening d.streams.items d.picture (x ++ ys) ≡ None
 over_none Fields l r m h d x ys over some = absurd over
 over_none Picture l r m h d x ys over some = ap (λ (k : ℕ). read_on Picture l r k h d.opening d.streams.items d.picture (x ++ ys)) over ∙ on_more l r h d.opening d.streams.items d.picture x ys some
 over_none Bad l r m h d x ys over some = refl
 
-pub goes_over : (d e : Draft) (x : List ℕ) → IsOver d → 0 < length x → length x ≤ d.plan.to_come → Bad ≡ e.plan.phase → d.opening ≡ e.opening → e.plan.to_come ≡ d.plan.to_come - length x → Goes d e x
+pub goes_over : (d e : Draft) (x : List ℕ) → IsOver d → 0 < length x → length x ≤ d.plan.to_come → Bad ≡ e.plan.phase → d.opening ≡ e.opening → e.plan.to_come ≡ d.plan.to_come - length x → Advances d e x
 goes_over d e x over some le to_bad o t =
     goes_bad d e x d.plan.phase d.plan.missing (take d.plan.len d.plan.held) refl refl refl to_bad o (omega (arith, t))
     (λ ys len. over_none d.plan.phase d.plan.left d.plan.room d.plan.missing (take d.plan.len d.plan.held) d x ys over some)

@@ -78,7 +78,7 @@ pub record Keeps (old new : Draft) : Type 0 where
   pub picture : take (length old.picture) new.picture ≡ old.picture
 
 -- a body after these bytes more
-pub record Goes (old new : Draft) (xs : List ℕ) : Type 0 where
+pub record Advances (old new : Draft) (xs : List ℕ) : Type 0 where
   pub count : old.plan.to_come ≡ length xs + new.plan.to_come
   pub same : (ys : List ℕ) → length ys ≡ new.plan.to_come → resume old (xs ++ ys) ≡ resume new ys
 
@@ -86,7 +86,7 @@ pub record Goes (old new : Draft) (xs : List ℕ) : Type 0 where
 pub record Took (old new : Draft) (bytes : List ℕ) (n : ℕ) : Type 0 where
   pub some : 0 < n
   pub within : n ≤ length bytes
-  pub goes : Goes old new (take n bytes)
+  pub goes : Advances old new (take n bytes)
 
 -- The field that comes next is whole: the length of the picture, the length of a name, or a stream's name and length.
 abbrev pub IsFullAt : ℕ → List ℕ → Type 0
@@ -126,7 +126,7 @@ call_of inc act n o = Message (Call inc act n o)
 
 -- a body of which the field is read
 pub record Begins (old new : Draft) : Type 0 where
-  pub goes : Goes old new []
+  pub goes : Advances old new []
   pub planned : IsPlanned new
 
 -- a field that is whole: a stream's name and length

@@ -1,6 +1,6 @@
 //! What a body was before, where a growth is refused.
 
-ghost use Rattle.message_drafts.specs.Drafts.{Alike, Goes, IsMark, IsPlanned, Keeps, cut_last, last_len, resume};
+ghost use Rattle.message_drafts.specs.Drafts.{Alike, Advances, IsMark, IsPlanned, Keeps, cut_last, last_len, resume};
 ghost use Rattle.message_drafts.specs.declared.draft.Draft.{Draft};
 ghost use Rattle.std.specs.Prelude.{◌≡◌, ◌≤◌, IfOk, OnErr, OnOk, length, take};
 
@@ -68,7 +68,7 @@ impl Draft {
     pub(crate) fn add(&mut self, alloc: Global, bytes: &[u8]) -> Result<(), AllocError>
         requires planned { IsPlanned self.old }
         requires within { length bytes.now ≤ self.old.plan.to_come }
-        ensures goes { OnOk result (Goes self.old self.new bytes.now) }
+        ensures goes { OnOk result (Advances self.old self.new bytes.now) }
         ensures planned { IsPlanned self.new }
         ensures same { OnErr result (Alike self.old self.new) }
     {

@@ -1,6 +1,6 @@
 //! A body of which some bytes came.
 
-ghost use Rattle.message_drafts.specs.Drafts.{Begins, Goes, IsFull, IsLong, IsOver, IsPlanned, Keeps, Took, lengthened};
+ghost use Rattle.message_drafts.specs.Drafts.{Begins, Advances, IsFull, IsLong, IsOver, IsPlanned, Keeps, Took, lengthened};
 ghost use Rattle.message_drafts.specs.declared.draft.Phase.TheVariants.{Fields, Picture};
 ghost use Rattle.message_model.specs.Reading.{may_follow};
 ghost use Rattle.storage_tree.specs.Streams.{is_next};
@@ -239,7 +239,7 @@ impl Draft {
         requires planned { IsPlanned self.old }
         requires over { IsOver self.old }
         requires some { (0 < length bytes.now) × (length bytes.now ≤ self.old.plan.to_come) }
-        ensures goes { Goes self.old self.new bytes.now }
+        ensures goes { Advances self.old self.new bytes.now }
         ensures planned { IsPlanned self.new }
         ensures keeps { Keeps self.old self.new }
     {
@@ -283,7 +283,7 @@ impl Draft {
     pub(crate) fn grow(&mut self, alloc: Global, bytes: &[u8]) -> Result<(), AllocError>
         requires planned { IsPlanned self.old }
         requires within { length bytes.now ≤ self.old.plan.to_come }
-        ensures goes { OnOk result (Goes self.old self.new bytes.now) }
+        ensures goes { OnOk result (Advances self.old self.new bytes.now) }
         ensures planned { OnOk result (IsPlanned self.new) }
         ensures keeps { Keeps self.old self.new }
     {

@@ -1,6 +1,6 @@
 use Rattle.std.proofs.Common.{◌+◌, ◌-◌, ◌≡◌, take, drop, length, sym, ap, subst, arith, ℕ, List}
 use Rattle.std.proofs.lemmas.List.{length-drop, take_all}
-use Rattle.message_drafts.specs.Drafts.{Goes}
+use Rattle.message_drafts.specs.Drafts.{Advances}
 use Rattle.message_drafts.proofs.Growing.{goes_none, goes_on, keeps_same, keeps_on, take_both}
 use Rattle.message_drafts.proofs.draft.Draft.grow.Goals as goal
 
@@ -17,5 +17,5 @@ steps-preserved c =
     let xs : List ℕ = c.args.bytes.now in
     let whole : take (length xs - used) (drop used xs) ≡ drop used xs = take_all (length xs - used) (drop used xs) (omega (arith, length-drop used xs)) in
     let size : length (take (length xs - used) (drop used xs)) ≡ length (drop used xs) = ap length whole in
-    let goes : Goes c.steps.self c.step.new.self (take n (drop used xs)) = subst (λ (zs : List ℕ). Goes c.steps.self c.step.new.self (take n zs)) whole c.in_ok-used.ensures.took.goes in
-    (omega (arith, c.steps.invariant.0, c.in_ok-used.ensures.took.within, size, length-drop used xs), c.in_ok-used.ensures.planned, subst (Goes c.args.self.now c.step.new.self) (sym (take_both used n xs c.steps.invariant.0)) (goes_on c.args.self.now c.steps.self c.step.new.self (take used xs) (take n (drop used xs)) c.steps.invariant.2 goes), keeps_on c.args.self.now c.steps.self c.step.new.self c.steps.invariant.3 c.in_ok-used.ensures.keeps)
+    let goes : Advances c.steps.self c.step.new.self (take n (drop used xs)) = subst (λ (zs : List ℕ). Advances c.steps.self c.step.new.self (take n zs)) whole c.in_ok-used.ensures.took.goes in
+    (omega (arith, c.steps.invariant.0, c.in_ok-used.ensures.took.within, size, length-drop used xs), c.in_ok-used.ensures.planned, subst (Advances c.args.self.now c.step.new.self) (sym (take_both used n xs c.steps.invariant.0)) (goes_on c.args.self.now c.steps.self c.step.new.self (take used xs) (take n (drop used xs)) c.steps.invariant.2 goes), keeps_on c.args.self.now c.steps.self c.step.new.self c.steps.invariant.3 c.in_ok-used.ensures.keeps)
