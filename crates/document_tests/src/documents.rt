@@ -10,7 +10,7 @@ use object_parts::limits::{comp_obj, ole, ole_pres};
 use ole_streams::doc::{Doc, DocObject};
 use ole_streams::names;
 use std::alloc::Global;
-use std::test::Fail;
+use std::process::Abort;
 use storage_tree::bytes::Bytes;
 use storage_tree::streams::Streams;
 use storage_tree::tree::Tree;
@@ -43,57 +43,54 @@ const TREES: &str = "01,02,02 . read
 /// A picture that can't be drawn, which is kept as it is.
 const UNDRAWN: &[u8] = b"\xff\xff\xff\xff\x03\0\0\0";
 
-fn long(alloc: Global) -> Result<Vec<u8>, Fail> {
-    Ok(vec![in alloc; 7; 262_144]?)
+fn long(rt: &impl Abort, alloc: Global) -> Vec<u8> {
+    vec![in alloc; 7; 262_144].expect(rt, "memory")
 }
 
-fn stream_of(alloc: Global, word: &str) -> Result<Vec<u8>, Fail> {
+fn stream_of(rt: &impl Abort, alloc: Global, word: &str) -> Vec<u8> {
     match word {
-        "long" => long(alloc),
-        _ => spelled(alloc, word),
+        "long" => long(rt, alloc),
+        _ => spelled(rt, alloc, word),
     }
 }
 
 /// Whether a push is answered as a row says.
-fn is_pushed(alloc: Global, doc: &mut Doc, row: &str) -> Result<bool, Fail> {
+fn is_pushed(rt: &impl Abort, alloc: Global, doc: &mut Doc, row: &str) -> bool {
     let mut words = row.split_whitespace();
-    let picture = spelled(alloc, word(&mut words))?;
-    let stream = stream_of(alloc, word(&mut words))?;
-    let told = pushed(doc, object(alloc, 1, &picture, &stream)?);
-    Ok(told == word(&mut words))
+    let picture = spelled(rt, alloc, word(&mut words));
+    let stream = stream_of(rt, alloc, word(&mut words));
+    pushed(doc, object(rt, alloc, 1, &picture, &stream)) == word(&mut words)
 }
 
-fn change(alloc: Global, tree: &mut Tree, what: &str) -> Result<(), Fail> {
+fn change(rt: &impl Abort, alloc: Global, tree: &mut Tree, what: &str) {
     match what {
-        "areas" => put(tree, &[names::layout()], layout(alloc, 1, 2)?),
-        "-layout" => remove(tree, &[names::layout()]),
-        "-kind" => remove(tree, &[names::object(1), comp_obj()]),
-        "ole" => put_ole(alloc, tree),
-        "picture" => put_picture(alloc, tree),
-        _ => Ok(()),
+        "areas" => put_areas(rt, alloc, tree),
+        "-layout" => remove(rt, tree, &[names::layout()]),
+        "-kind" => remove(rt, tree, &[names::object(1), comp_obj()]),
+        "ole" => put_ole(rt, alloc, tree),
+        "picture" => put_picture(rt, alloc, tree),
+        _ => {}
     }
 }
 
-fn put_ole(alloc: Global, tree: &mut Tree) -> Result<(), Fail> {
-    let cut = bytes(alloc, b"\x01\0\0\x02")?;
-    put(tree, &[names::object(1), ole()], cut)
+fn put_areas(rt: &impl Abort, alloc: Global, tree: &mut Tree) {
+    put(rt, tree, &[names::layout()], layout(rt, alloc, 1, 2));
 }
 
-fn put_picture(alloc: Global, tree: &mut Tree) -> Result<(), Fail> {
-    put(tree, &[names::object(1), ole_pres()], Bytes::new(alloc))
+fn put_ole(rt: &impl Abort, alloc: Global, tree: &mut Tree) {
+    let cut = bytes(rt, alloc, b"\x01\0\0\x02");
+    put(rt, tree, &[names::object(1), ole()], cut);
 }
 
-fn with_empty_picture(alloc: Global) -> Result<Tree, Fail> {
-    let mut tree = tree_with(alloc, 1, 1, 1)?;
-    put_picture(alloc, &mut tree)?;
-    Ok(tree)
+fn put_picture(rt: &impl Abort, alloc: Global, tree: &mut Tree) {
+    let path = [names::object(1), ole_pres()];
+    put(rt, tree, &path, Bytes::new(alloc));
 }
 
-fn read_again(alloc: Global, tree: Tree) -> Result<Doc, Fail> {
-    match doc_of(alloc, tree) {
-        Ok(doc) => Ok(doc),
-        Err(_) => Err(Fail::from("refused")),
-    }
+fn with_empty_picture(rt: &impl Abort, alloc: Global) -> Tree {
+    let mut tree = tree_with(rt, alloc, 1, 1, 1);
+    put_picture(rt, alloc, &mut tree);
+    tree
 }
 
 /// Whether the only object of a document has no picture and an empty user type.
@@ -104,19 +101,18 @@ fn is_undrawn(doc: &Doc) -> bool {
     }
 }
 
-fn numbered(alloc: Global, numbers: &[u8]) -> Result<Tree, Fail> {
-    match numbers {
-        [first, last, count] => tree_with(alloc, usize::from(*first), usize::from(*last), *count),
-        _ => Err(Fail::from("no three numbers")),
-    }
+fn numbered(rt: &impl Abort, alloc: Global, numbers: &[u8]) -> Tree {
+    assert!(rt; numbers.len() == 3);
+    let first = usize::from(numbers[0]);
+    tree_with(rt, alloc, first, usize::from(numbers[1]), numbers[2])
 }
 
 /// Whether a tree holds a document, or not, as a row says.
-fn is_told(alloc: Global, row: &str) -> Result<bool, Fail> {
+fn is_told(rt: &impl Abort, alloc: Global, row: &str) -> bool {
     let mut words = row.split_whitespace();
-    let mut tree = numbered(alloc, &spelled(alloc, word(&mut words))?)?;
-    change(alloc, &mut tree, word(&mut words))?;
-    Ok(doc_told(alloc, tree) == word(&mut words))
+    let mut tree = numbered(rt, alloc, &spelled(rt, alloc, word(&mut words)));
+    change(rt, alloc, &mut tree, word(&mut words));
+    doc_told(alloc, tree) == word(&mut words)
 }
 
 /// Whether a stream has these bytes.
@@ -128,13 +124,11 @@ fn holds(streams: &Streams, name: &Name, want: &[u8]) -> bool {
 }
 
 /// Whether an object is one that was made at this column, with this picture and this stream.
-fn is_made(object: &DocObject, x: u16, picture: &[u8], stream: &[u8]) -> Result<bool, Fail> {
-    Ok(
-        has_place(object, x)
-            && object.user_type.as_slice() == b"Note".as_slice()
-            && object.stored.picture.as_slice() == picture
-            && holds(&object.stored.streams, &name(b"Text")?, stream),
-    )
+fn is_made(rt: &impl Abort, object: &DocObject, x: u16, picture: &[u8], stream: &[u8]) -> bool {
+    has_place(object, x)
+        && object.user_type.as_slice() == b"Note".as_slice()
+        && object.stored.picture.as_slice() == picture
+        && holds(&object.stored.streams, &name(rt, b"Text"), stream)
 }
 
 fn has_place(object: &DocObject, x: u16) -> bool {
@@ -155,66 +149,77 @@ fn are_all(bytes: &[u8], byte: u8) -> bool {
     true
 }
 
+/// Whether an object at this column, with this picture and this stream, is taken.
+fn takes(
+    rt: &impl Abort,
+    alloc: Global,
+    doc: &mut Doc,
+    x: u16,
+    picture: &[u8],
+    stream: &[u8],
+) -> bool {
+    pushed(doc, object(rt, alloc, x, picture, stream)) == "pushed"
+}
+
+/// A document with two objects.
+fn two(rt: &impl Abort, alloc: Global) -> Doc {
+    let mut doc = Doc::new(alloc);
+    assert!(rt; takes(rt, alloc, &mut doc, 1, UNDRAWN, b"ab"));
+    assert!(rt; takes(rt, alloc, &mut doc, 2, b"", b""));
+    doc
+}
+
 /// Whether a document has the two objects of `two`.
-fn are_two(doc: &Doc) -> Result<bool, Fail> {
+fn are_two(rt: &impl Abort, doc: &Doc) -> bool {
     match doc.as_slice() {
-        [first, last] => { Ok(is_made(first, 1, UNDRAWN, b"ab")? && is_made(last, 2, b"", b"")?) }
-        _ => Ok(false),
+        [first, last] => { is_made(rt, first, 1, UNDRAWN, b"ab") && is_made(rt, last, 2, b"", b"") }
+        _ => false,
     }
 }
 
-fn written(alloc: Global, tree: &Tree) -> Result<Vec<u8>, Fail> {
-    match write_file(alloc, tree) {
-        Ok(file) => Ok(file),
-        Err(_) => Err(Fail::from("refused")),
-    }
+/// Whether a tree is written as so many bytes, which hold a document.
+fn is_file(rt: &impl Abort, alloc: Global, tree: &Tree, size: usize) -> bool {
+    let file = write_file(alloc, tree).expect(rt, "a file");
+    let read = read_file(alloc, &file).expect(rt, "a tree");
+    file.len() == size && doc_told(alloc, read) == "read"
 }
 
 #[test]
-fn an_empty_document_is_a_file(rt: HostRuntime) -> Result<(), Fail> {
-    let tree = tree_of(rt.alloc(), Doc::new(rt.alloc()))?;
+fn an_empty_document_is_a_file(rt: HostRuntime) {
+    let tree = tree_of(&rt, rt.alloc(), Doc::new(rt.alloc()));
     assert!(rt; tree.root().children.len() == 1);
-    let file = written(rt.alloc(), &tree)?;
-    assert!(rt; file.len() == 2560);
-    assert!(rt; doc_told(rt.alloc(), read_file(rt.alloc(), &file)?) == "read");
-    Ok(())
+    assert!(rt; is_file(&rt, rt.alloc(), &tree, 2560));
 }
 
 #[test]
-fn a_document_is_read_again(rt: HostRuntime) -> Result<(), Fail> {
-    let mut doc = Doc::new(rt.alloc());
-    let first = object(rt.alloc(), 1, UNDRAWN, b"ab")?;
-    assert!(rt; pushed(&mut doc, first) == "pushed");
-    let last = object(rt.alloc(), 2, b"", b"")?;
-    assert!(rt; pushed(&mut doc, last) == "pushed");
-    let copy = doc.copy(rt.alloc())?;
-    assert!(rt; are_two(&copy)?);
-    let tree = tree_of(rt.alloc(), doc)?;
+fn a_document_is_read_again(rt: HostRuntime) {
+    let doc = two(&rt, rt.alloc());
+    let copy = doc.copy(rt.alloc()).expect(&rt, "memory");
+    assert!(rt; are_two(&rt, &copy));
+    let tree = tree_of(&rt, rt.alloc(), doc);
     assert!(rt; tree.root().children.len() == 3);
-    assert!(rt; are_two(&read_again(rt.alloc(), tree)?)?);
-    Ok(())
+    assert!(rt; are_two(&rt, &doc_of(&rt, rt.alloc(), tree)));
 }
 
 #[test]
-fn a_document_holds_what_fits(rt: HostRuntime) -> Result<(), Fail> {
+fn a_document_holds_what_fits(rt: HostRuntime) {
     let mut doc = Doc::new(rt.alloc());
     for row in PUSHES.split('\n') {
-        assert!(rt; is_pushed(rt.alloc(), &mut doc, row)?, "{row}");
+        assert!(rt; is_pushed(&rt, rt.alloc(), &mut doc, row), "{row}");
     }
     for _ in 1..64 {
-        assert!(rt; is_pushed(rt.alloc(), &mut doc, SMALL)?);
+        assert!(rt; is_pushed(&rt, rt.alloc(), &mut doc, SMALL));
     }
-    assert!(rt; is_pushed(rt.alloc(), &mut doc, ONE_TOO_MANY)?);
+    assert!(rt; is_pushed(&rt, rt.alloc(), &mut doc, ONE_TOO_MANY));
     assert!(rt; doc.len() == 64);
-    assert!(rt; doc_told(rt.alloc(), tree_of(rt.alloc(), doc)?) == "read");
-    Ok(())
+    assert!(rt; doc_told(rt.alloc(), tree_of(&rt, rt.alloc(), doc)) == "read");
 }
 
 #[test]
-fn trees_hold_documents_or_none(rt: HostRuntime) -> Result<(), Fail> {
+fn trees_hold_documents_or_none(rt: HostRuntime) {
     for row in TREES.split('\n') {
-        assert!(rt; is_told(rt.alloc(), row)?, "{row}");
+        assert!(rt; is_told(&rt, rt.alloc(), row), "{row}");
     }
-    assert!(rt; is_undrawn(&read_again(rt.alloc(), with_empty_picture(rt.alloc())?)?));
-    Ok(())
+    let undrawn = doc_of(&rt, rt.alloc(), with_empty_picture(&rt, rt.alloc()));
+    assert!(rt; is_undrawn(&undrawn));
 }

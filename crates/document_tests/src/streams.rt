@@ -1,14 +1,13 @@
 //! The OLE streams.
 
-use crate::calls::bytes;
+use crate::calls::{bytes, kind};
 use crate::texts::{spelled, word};
 use ole_streams::comp_obj::CompObj;
 use ole_streams::ole_stream::OleStream;
 use ole_streams::presentation::{Presentation, lines};
 use std::alloc::Global;
-use std::test::Fail;
+use std::process::Abort;
 use storage_tree::bytes::Bytes;
-use storage_tree::class_id::ClassId;
 
 /// Three words a stream: which, what it is to hold (a user type, lines), and its bytes, or none.
 const WRITTEN: &str = "ole . 01000002,00000000,00000000,00000000,00000000
@@ -65,38 +64,28 @@ picture 0c000000,4f6c65436f6e205465787400,04000000,01000000,00ffffff,02000000,00
 picture 0c000000,586c65436f6e205465787400,04000000,01000000,ffffffff,02000000,00000000,02000000,01000000,03000000,61620a other
 picture 0c000000,4f6c65436f6e205465787400,04000000,01000000,ffffffff,02000000,00000000,02000000,01000000,03000000,07620a other";
 
-fn kind_written(alloc: Global, user_type: &[u8]) -> Result<Bytes, Fail> {
-    let kind = CompObj {
-        user_type: bytes(alloc, user_type)?,
-    };
-    if kind.user_type.len() >= 0xffff_ffff {
-        return Err(Fail::from("too long"));
-    }
-    Ok(kind.write(alloc, ClassId::from_bytes([7; 16]))?)
-}
-
-fn picture_written(alloc: Global, lines: &[u8]) -> Result<Bytes, Fail> {
-    match Presentation::write(alloc, lines)? {
-        Some(picture) => Ok(picture),
-        None => Ok(Bytes::new(alloc)),
+fn picture_written(rt: &impl Abort, alloc: Global, lines: &[u8]) -> Bytes {
+    match Presentation::write(alloc, lines).expect(rt, "memory") {
+        Some(picture) => picture,
+        None => Bytes::new(alloc),
     }
 }
 
-fn written(alloc: Global, stream: &str, with: &[u8]) -> Result<Bytes, Fail> {
+fn written(rt: &impl Abort, alloc: Global, stream: &str, with: &[u8]) -> Bytes {
     match stream {
-        "ole" => bytes(alloc, &OleStream.write()),
-        "kind" => kind_written(alloc, with),
-        _ => picture_written(alloc, with),
+        "ole" => bytes(rt, alloc, &OleStream.write()),
+        "kind" => kind(rt, alloc, with),
+        _ => picture_written(rt, alloc, with),
     }
 }
 
 /// Whether a stream is written as a row says.
-fn is_written(alloc: Global, row: &str) -> Result<bool, Fail> {
+fn is_written(rt: &impl Abort, alloc: Global, row: &str) -> bool {
     let mut words = row.split_whitespace();
     let stream = word(&mut words);
-    let with = spelled(alloc, word(&mut words))?;
-    let made = written(alloc, stream, &with)?;
-    Ok(made.as_slice() == spelled(alloc, word(&mut words))?.as_slice())
+    let with = spelled(rt, alloc, word(&mut words));
+    let made = written(rt, alloc, stream, &with);
+    made.as_slice() == spelled(rt, alloc, word(&mut words)).as_slice()
 }
 
 fn ole_is(stream: &[u8], want: &str) -> bool {
@@ -109,37 +98,51 @@ fn ole_is(stream: &[u8], want: &str) -> bool {
 /// Whether the user type is as wanted, or the fault.
 fn kind_is(alloc: Global, stream: &[u8], want: &str) -> bool {
     match CompObj::read(alloc, stream) {
-        Ok(read) if want == "." => read.user_type.is_empty(),
-        Ok(read) => read.user_type.as_slice() == want.as_bytes(),
+        Ok(read) => is_user_type(read.user_type.as_slice(), want),
         Err(fault) => fault.name() == want,
     }
 }
 
-fn other_is(alloc: Global, behind: &[u8], want: &str) -> Result<bool, Fail> {
-    let mut stream = Vec::from_slice(alloc, &[5; 28])?;
-    stream.extend_from_slice(behind)?;
-    Ok(kind_is(alloc, &stream, want))
+fn is_user_type(found: &[u8], want: &str) -> bool {
+    if want == "." {
+        found.is_empty()
+    } else {
+        found == want.as_bytes()
+    }
+}
+
+fn other_is(rt: &impl Abort, alloc: Global, behind: &[u8], want: &str) -> bool {
+    let mut stream = Vec::from_slice(alloc, &[5; 28]).expect(rt, "memory");
+    stream.extend_from_slice(behind).expect(rt, "memory");
+    kind_is(alloc, &stream, want)
 }
 
 /// Whether a picture is the line `ab`, or kept as it is.
-fn picture_is(alloc: Global, stream: &[u8], want: &str) -> Result<bool, Fail> {
-    match Presentation::read(alloc, stream)? {
-        Presentation::Text(lines) => Ok(want == "text" && lines.as_slice() == b"ab\n".as_slice()),
-        Presentation::Other(bytes) => Ok(want == "other" && bytes.as_slice() == stream),
+fn picture_is(rt: &impl Abort, alloc: Global, stream: &[u8], want: &str) -> bool {
+    match Presentation::read(alloc, stream).expect(rt, "memory") {
+        Presentation::Text(lines) => want == "text" && lines.as_slice() == b"ab\n".as_slice(),
+        Presentation::Other(bytes) => want == "other" && bytes.as_slice() == stream,
     }
 }
 
 /// Whether what is told of a stream is what a row says.
-fn is_read(alloc: Global, row: &str) -> Result<bool, Fail> {
+fn is_read(rt: &impl Abort, alloc: Global, row: &str) -> bool {
     let mut words = row.split_whitespace();
     let which = word(&mut words);
-    let stream = spelled(alloc, word(&mut words))?;
+    let stream = spelled(rt, alloc, word(&mut words));
     let want = word(&mut words);
     match which {
-        "ole" => Ok(ole_is(&stream, want)),
-        "kind" => Ok(kind_is(alloc, &stream, want)),
-        "other" => other_is(alloc, &stream, want),
-        _ => picture_is(alloc, &stream, want),
+        "ole" => ole_is(&stream, want),
+        "kind" => kind_is(alloc, &stream, want),
+        "other" => other_is(rt, alloc, &stream, want),
+        _ => picture_is(rt, alloc, &stream, want),
+    }
+}
+
+/// Stops at a row of a table that isn't read as it says.
+fn are_read(rt: &impl Abort, alloc: Global, table: &str) {
+    for row in table.split('\n') {
+        assert!(rt; is_read(rt, alloc, row), "{row}");
     }
 }
 
@@ -152,20 +155,18 @@ fn has_lines(stream: &[u8]) -> bool {
 }
 
 #[test]
-fn streams_are_written(rt: HostRuntime) -> Result<(), Fail> {
+fn streams_are_written(rt: HostRuntime) {
     for row in WRITTEN.split('\n') {
-        assert!(rt; is_written(rt.alloc(), row)?, "{row}");
+        assert!(rt; is_written(&rt, rt.alloc(), row), "{row}");
     }
-    assert!(rt; has_lines(picture_written(rt.alloc(), b"ab\n")?.as_slice()));
-    Ok(())
+    let picture = picture_written(&rt, rt.alloc(), b"ab\n");
+    assert!(rt; has_lines(picture.as_slice()));
 }
 
 #[test]
-fn streams_are_read(rt: HostRuntime) -> Result<(), Fail> {
-    for table in [OLE_READ, KIND_READ, OTHERS_READ, PICTURE_READ] {
-        for row in table.split('\n') {
-            assert!(rt; is_read(rt.alloc(), row)?, "{row}");
-        }
-    }
-    Ok(())
+fn streams_are_read(rt: HostRuntime) {
+    are_read(&rt, rt.alloc(), OLE_READ);
+    are_read(&rt, rt.alloc(), KIND_READ);
+    are_read(&rt, rt.alloc(), OTHERS_READ);
+    are_read(&rt, rt.alloc(), PICTURE_READ);
 }

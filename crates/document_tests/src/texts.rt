@@ -1,8 +1,8 @@
 //! Tables as texts, a row a line: a text costs the same to prove however many rows it has.
 
 use std::alloc::Global;
+use std::process::Abort;
 use std::str::SplitWhitespace;
-use std::test::Fail;
 
 /// The next word of a row, and none at its end.
 pub(crate) fn word<'a>(words: &mut SplitWhitespace<'a>) -> &'a str {
@@ -10,26 +10,33 @@ pub(crate) fn word<'a>(words: &mut SplitWhitespace<'a>) -> &'a str {
 }
 
 /// Bytes in hexadecimal, with commas between parts. A point stands for none.
-pub(crate) fn spelled(alloc: Global, text: &str) -> Result<Vec<u8>, Fail> {
+pub(crate) fn spelled(rt: &impl Abort, alloc: Global, text: &str) -> Vec<u8> {
     let mut bytes = Vec::new(alloc);
     for part in text.split(',') {
-        push_digits(&mut bytes, part)?;
+        push_digits(rt, &mut bytes, part);
     }
-    Ok(bytes)
+    bytes
 }
 
-fn push_digits(bytes: &mut Vec<u8>, digits: &str) -> Result<(), Fail> {
+fn push_digits(rt: &impl Abort, bytes: &mut Vec<u8>, digits: &str) {
     let mut high = None;
     for digit in digits.as_bytes() {
         match high {
             None => high = Some(value(*digit)),
             Some(sixteens) => {
-                bytes.push(value(*digit).saturating_add(sixteens.saturating_mul(16)))?;
+                push(
+                    rt,
+                    bytes,
+                    value(*digit).saturating_add(sixteens.saturating_mul(16)),
+                );
                 high = None;
             }
         }
     }
-    Ok(())
+}
+
+fn push(rt: &impl Abort, bytes: &mut Vec<u8>, byte: u8) {
+    bytes.push(byte).expect(rt, "memory");
 }
 
 fn value(digit: u8) -> u8 {

@@ -3,7 +3,6 @@
 use crate::objects::drawing;
 use crate::steps::play;
 use embed_core::tally::Tally;
-use std::test::Fail;
 
 const ROWS: &str = "
 # edits change the shapes
@@ -79,7 +78,8 @@ picture => -- {36}+-$ {38}+-$< {40}$>{10} => Ok
 ";
 
 #[test]
-fn a_drawing_answers_its_calls(rt: HostRuntime) -> Result<(), Fail> {
-    let mut object = drawing(rt.alloc(), &Tally::new(rt.alloc())?)?;
-    play(&rt, rt.alloc(), &mut object, "Shapes", ROWS)
+fn a_drawing_answers_its_calls(rt: HostRuntime) {
+    let tally = Tally::new(rt.alloc()).expect(&rt, "memory");
+    let mut object = drawing(&rt, rt.alloc(), &tally);
+    play(&rt, rt.alloc(), &mut object, "Shapes", ROWS);
 }

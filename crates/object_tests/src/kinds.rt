@@ -1,11 +1,11 @@
 //! What the kinds are.
 
 use crate::objects::{drawing, note, table};
+use cfb_names::name::Name;
 use embed_core::embedded::Embedded;
 use embed_core::fault::EmbedFault;
 use embed_core::tally::Tally;
 use embed_core::{ClassId, Menus, classes, kind_menus, laws, stream_names};
-use std::test::Fail;
 
 /// The bytes of a class id behind the first, which is the kind's number.
 const CLASS: &[u8] = b"\x2a\x1d\x6f\x4b\x3c\x5f\x4e\x8a\x9b\x0c\x1d\x2e\x3f\x40\x51";
@@ -31,26 +31,60 @@ fn is_object(object: Box<dyn Embedded>, number: u8, menu: &str, left: u16, above
 }
 
 #[test]
-fn objects_have_their_classes_menus_and_borders(rt: HostRuntime) -> Result<(), Fail> {
-    let tally = Tally::new(rt.alloc())?;
-    assert!(rt; is_object(note(rt.alloc(), &tally)?, 1, "Note", 0, 1));
-    assert!(rt; is_object(table(rt.alloc(), &tally)?, 2, "Table", 2, 1));
-    assert!(rt; is_object(drawing(rt.alloc(), &tally)?, 3, "Draw", 3, 0));
-    Ok(())
+fn objects_have_their_classes_menus_and_borders(rt: HostRuntime) {
+    let tally = Tally::new(rt.alloc()).expect(&rt, "memory");
+    assert!(rt; is_object(note(&rt, rt.alloc(), &tally), 1, "Note", 0, 1));
+    assert!(rt; is_object(table(&rt, rt.alloc(), &tally), 2, "Table", 2, 1));
+    assert!(rt; is_object(drawing(&rt, rt.alloc(), &tally), 3, "Draw", 3, 0));
 }
 
-fn is_kind(class: ClassId, menus: &Menus, number: u8, menu: &str) -> bool {
-    is_class(class, number) && are_menus(menus, menu)
+/// Whether a kind has this number, this menu and this stream.
+fn is_kind(
+    class: ClassId,
+    menus: &Menus,
+    stream: &Name,
+    number: u8,
+    menu: &str,
+    name: &str,
+) -> bool {
+    is_class(class, number) && are_menus(menus, menu) && stream.as_bytes() == name.as_bytes()
 }
 
 #[test]
 fn kinds_have_their_classes_menus_and_streams(rt: HostRuntime) {
-    assert!(rt; is_kind(classes::note(), &kind_menus::note(), 1, "Note"));
-    assert!(rt; is_kind(classes::table(), &kind_menus::table(), 2, "Table"));
-    assert!(rt; is_kind(classes::drawing(), &kind_menus::drawing(), 3, "Draw"));
-    assert!(rt; stream_names::note().as_bytes() == b"Text".as_slice());
-    assert!(rt; stream_names::table().as_bytes() == b"Cells".as_slice());
-    assert!(rt; stream_names::drawing().as_bytes() == b"Shapes".as_slice());
+    let text = stream_names::note();
+    assert!(rt;
+        is_kind(
+            classes::note(),
+            &kind_menus::note(),
+            &text,
+            1,
+            "Note",
+            "Text"
+        )
+    );
+    let cells = stream_names::table();
+    assert!(rt;
+        is_kind(
+            classes::table(),
+            &kind_menus::table(),
+            &cells,
+            2,
+            "Table",
+            "Cells"
+        )
+    );
+    let shapes = stream_names::drawing();
+    assert!(rt;
+        is_kind(
+            classes::drawing(),
+            &kind_menus::drawing(),
+            &shapes,
+            3,
+            "Draw",
+            "Shapes"
+        )
+    );
 }
 
 #[test]

@@ -3,7 +3,6 @@
 use crate::objects::note;
 use crate::steps::play;
 use embed_core::tally::Tally;
-use std::test::Fail;
 
 const ROWS: &str = "
 # edits change the text
@@ -66,7 +65,8 @@ picture => <e$>{20} => Ok
 ";
 
 #[test]
-fn a_note_answers_its_calls(rt: HostRuntime) -> Result<(), Fail> {
-    let mut object = note(rt.alloc(), &Tally::new(rt.alloc())?)?;
-    play(&rt, rt.alloc(), &mut object, "Text", ROWS)
+fn a_note_answers_its_calls(rt: HostRuntime) {
+    let tally = Tally::new(rt.alloc()).expect(&rt, "memory");
+    let mut object = note(&rt, rt.alloc(), &tally);
+    play(&rt, rt.alloc(), &mut object, "Text", ROWS);
 }

@@ -6,16 +6,19 @@ use embed_drawing::drawing::Drawing;
 use embed_note::note::Note;
 use embed_table::table::Table;
 use std::alloc::Global;
-use std::test::Fail;
+use std::process::Abort;
 
-pub(crate) fn note(alloc: Global, tally: &Tally) -> Result<Box<dyn Embedded>, Fail> {
-    Ok(Box::new(alloc, Note::new(alloc, tally.share()?))?)
+pub(crate) fn note(rt: &impl Abort, alloc: Global, tally: &Tally) -> Box<dyn Embedded> {
+    let tally = tally.share().expect(rt, "memory");
+    Box::new(alloc, Note::new(alloc, tally)).expect(rt, "memory")
 }
 
-pub(crate) fn table(alloc: Global, tally: &Tally) -> Result<Box<dyn Embedded>, Fail> {
-    Ok(Box::new(alloc, Table::new(alloc, tally.share()?))?)
+pub(crate) fn table(rt: &impl Abort, alloc: Global, tally: &Tally) -> Box<dyn Embedded> {
+    let tally = tally.share().expect(rt, "memory");
+    Box::new(alloc, Table::new(alloc, tally)).expect(rt, "memory")
 }
 
-pub(crate) fn drawing(alloc: Global, tally: &Tally) -> Result<Box<dyn Embedded>, Fail> {
-    Ok(Box::new(alloc, Drawing::new(alloc, tally.share()?))?)
+pub(crate) fn drawing(rt: &impl Abort, alloc: Global, tally: &Tally) -> Box<dyn Embedded> {
+    let tally = tally.share().expect(rt, "memory");
+    Box::new(alloc, Drawing::new(alloc, tally)).expect(rt, "memory")
 }

@@ -6,7 +6,6 @@ use object_state::{
     are_printable, is_printable, laws,
 };
 use std::str::SplitWhitespace;
-use std::test::Fail;
 
 const STORAGES: &str = "Unset Normal NoScribble HandsOff";
 
@@ -40,13 +39,17 @@ Save5 5 true false
 HandsOff 5 false false
 Completed5 5 true true";
 
-/// Each verb's number, what it leads to, and its steps from each state of a window.
+/// Each verb's number, what it leads to, and its steps from each state of a window; and numbers of no verb.
 const VERBS: &str = "0 menus - ; - ; InPlace UiActivate ; UiActivate ; ; - ;
 -1 menus - ; - ; InPlace UiActivate ; UiActivate ; ; - ;
 -4 menus - ; - ; InPlace UiActivate ; UiActivate ; ; - ;
 -2 none - ; - ; OpenWindow ; InPlaceDeactivate OpenWindow ; UiDeactivate InPlaceDeactivate OpenWindow ; ;
 -3 none - ; - ; ; InPlaceDeactivate ; UiDeactivate InPlaceDeactivate ; InPlaceDeactivate ;
--5 none - ; - ; InPlace ; ; UiDeactivate ; - ;";
+-5 none - ; - ; InPlace ; ; UiDeactivate ; - ;
+1 !
+-6 !
+2147483647 !
+-2147483648 !";
 
 const CLOSES: &str =
     "SaveIfDirty - ; - ; SaveIfDirty ; InPlaceDeactivate SaveIfDirty ; UiDeactivate InPlaceDeactivate SaveIfDirty ; InPlaceDeactivate SaveIfDirty ;
@@ -175,15 +178,16 @@ fn is_at(persist: Persist, words: &mut SplitWhitespace<'_>) -> bool {
 }
 
 #[test]
-fn a_save_from_first_to_last(rt: HostRuntime) -> Result<(), Fail> {
+fn a_save_from_first_to_last(rt: HostRuntime) {
     let mut persist = Persist::new();
     assert!(rt; is_at(persist, &mut "none false false".split_whitespace()));
     for row in SAVE.split('\n') {
         let mut words = row.split_whitespace();
-        persist = persist.step(op(word(&mut words)))?;
+        persist = persist
+            .step(op(word(&mut words)))
+            .expect(&rt, "a step of a save");
         assert!(rt; is_at(persist, &mut words), "{row}");
     }
-    Ok(())
 }
 
 fn refuses(states: States, operation: &str, want: &str) -> bool {
@@ -194,32 +198,40 @@ fn refuses(states: States, operation: &str, want: &str) -> bool {
 }
 
 #[test]
-fn both_tables_are_kept(rt: HostRuntime) -> Result<(), Fail> {
-    let running = States::new().step(Op::Load)?;
-    assert!(rt; running.persist.state == storage("Normal") && running.object == window("Running"));
+fn both_tables_are_kept(rt: HostRuntime) {
+    let running = States::new().step(Op::Load).expect(&rt, "a load");
+    assert!(rt; running.persist.state == storage("Normal"));
+    assert!(rt; running.object == window("Running"));
     assert!(rt; refuses(running, "UiDeactivate", "-"));
     assert!(rt; refuses(running, "InitNew", "!AlreadyInitialized"));
-    Ok(())
 }
 
 /// Whether steps are these, up to the next `;`.
 fn are_steps(steps: Option<&[Step]>, words: &mut SplitWhitespace<'_>) -> bool {
-    let Some(steps) = steps else {
-        return word(words) == "-" && word(words) == ";";
+    let are_these = match steps {
+        Some(steps) => are_in_turn(steps, words),
+        None => word(words) == "-",
     };
+    are_these && word(words) == ";"
+}
+
+fn are_in_turn(steps: &[Step], words: &mut SplitWhitespace<'_>) -> bool {
     for step in steps {
-        let name = word(words);
-        if step_name(*step) != name || step.op(9) != op(name) {
+        if !is_step(*step, word(words)) {
             return false;
         }
     }
-    word(words) == ";"
+    true
+}
+
+fn is_step(step: Step, name: &str) -> bool {
+    step_name(step) == name && step.op(9) == op(name)
 }
 
 fn verb_has_its_steps(row: &str) -> bool {
     let mut words = row.split_whitespace();
     let Some(verb) = verb(word(&mut words)) else {
-        return false;
+        return word(&mut words) == "!";
     };
     if verb.activates_ui() != (word(&mut words) == "menus") {
         return false;
@@ -254,29 +266,27 @@ fn verbs_and_closes_have_their_steps(rt: HostRuntime) {
     for row in VERBS.split('\n') {
         assert!(rt; verb_has_its_steps(row), "{row}");
     }
-    for number in "1 -6 2147483647 -2147483648".split_whitespace() {
-        assert!(rt; verb(number).is_none(), "{number}");
-    }
     let (saving, dropping) = halves(CLOSES, "\n");
     assert!(rt; close_has_its_steps(CloseOption::SaveIfDirty, saving));
     assert!(rt; close_has_its_steps(CloseOption::NoSave, dropping));
 }
 
-/// Menus with `|` between their texts.
-const MENUS: &str = "Edit|Note|,sixteen letters.||~ ";
-
-const NO_MENUS: &str = "seventeen letters||,Edit|No\nte|Help,Edit|Note|\x7f";
+/// Whether texts with `|` between them are menus.
+const MENUS: &str =
+    "menus:Edit|Note|,menus:sixteen letters.||~ ,none:seventeen letters||,none:Edit|No\nte|Help,none:Edit|Note|\x7f";
 
 fn are_menus(row: &str) -> bool {
-    let (edit, rest) = halves(row, "|");
+    let (want, texts) = halves(row, ":");
+    let (edit, rest) = halves(texts, "|");
     let (object, help) = halves(rest, "|");
     match Menus::new(edit.as_bytes(), object.as_bytes(), help.as_bytes()) {
         Some(menus) => {
-            menus.edit.as_bytes() == edit.as_bytes()
+            want == "menus"
+                && menus.edit.as_bytes() == edit.as_bytes()
                 && menus.object.as_bytes() == object.as_bytes()
                 && menus.help.as_bytes() == help.as_bytes()
         }
-        None => false,
+        None => want == "none",
     }
 }
 
@@ -285,10 +295,9 @@ fn menus_are_short_and_printable(rt: HostRuntime) {
     for row in MENUS.split(',') {
         assert!(rt; are_menus(row), "{row}");
     }
-    for row in NO_MENUS.split(',') {
-        assert!(rt; !are_menus(row), "{row}");
-    }
-    assert!(rt; is_printable(b'~') && are_printable(b" ~") && !are_printable(b" \x7f"));
+    assert!(rt; is_printable(b'~'));
+    assert!(rt; are_printable(b" ~"));
+    assert!(rt; !are_printable(b" \x7f"));
 }
 
 #[test]

@@ -8,7 +8,6 @@ use embed_core::fault::EmbedFault;
 use embed_core::{Bytes, Streams};
 use std::alloc::Global;
 use std::process::Abort;
-use std::test::Fail;
 use storage_tree::streams::NamedStream;
 
 /// The object answers each call as its line says, and is stored in a stream of this name.
@@ -18,60 +17,59 @@ pub(crate) fn play(
     object: &mut Box<dyn Embedded>,
     name: &str,
     rows: &str,
-) -> Result<(), Fail> {
+) {
     for row in rows.split('\n') {
         if is_row(row) {
-            expect(rt, alloc, object, name, row)?;
+            assert!(rt; answers(rt, alloc, object, name, row), "{row}");
         }
     }
-    Ok(())
 }
 
 fn is_row(line: &str) -> bool {
     !line.is_empty() && !line.starts_with("#")
 }
 
-fn expect(
+fn answers(
     rt: &impl Abort,
     alloc: Global,
     object: &mut Box<dyn Embedded>,
     name: &str,
     row: &str,
-) -> Result<(), Fail> {
+) -> bool {
     let (step, wants) = halves(row, " => ");
     let (shows, answer) = halves(wants, " => ");
-    let told = carry_out(alloc, object, step)?;
-    assert!(rt; told == answer, "{row}: {told}");
-    let shown = shown(alloc, object, name, step)?;
-    assert!(rt; shown == spelled(alloc, shows)?, "{row}");
-    Ok(())
+    carry_out(rt, alloc, object, step) == answer && shows_as(rt, alloc, object, name, step, shows)
 }
 
-fn shown(
+fn shows_as(
+    rt: &impl Abort,
     alloc: Global,
     object: &Box<dyn Embedded>,
     name: &str,
     step: &str,
-) -> Result<Vec<u8>, Fail> {
+    shows: &str,
+) -> bool {
+    let want = spelled(rt, alloc, shows);
     if step == "picture" {
-        picture(alloc, object)
+        is_drawn(rt, alloc, object, &want)
     } else {
-        stored(alloc, object, name)
+        is_stored(rt, alloc, object, name, &want)
     }
 }
 
 /// Carries out a call: `init`, `edit BYTES` or `load NAME=BYTES;NAME=BYTES`.
 fn carry_out(
+    rt: &impl Abort,
     alloc: Global,
     object: &mut Box<dyn Embedded>,
     step: &str,
-) -> Result<&'static str, Fail> {
+) -> &'static str {
     let (call, rest) = halves(step, " ");
     match call.as_bytes() {
-        [b'e', ..] => edit(alloc, object, rest),
-        [b'l', ..] => load(alloc, object, rest),
-        [b'i', ..] => Ok(init(object)),
-        _ => Ok("Ok"),
+        [b'e', ..] => edit(rt, alloc, object, rest),
+        [b'l', ..] => load(rt, alloc, object, rest),
+        [b'i', ..] => init(object),
+        _ => "Ok",
     }
 }
 
@@ -80,14 +78,22 @@ fn init(object: &mut Box<dyn Embedded>) -> &'static str {
     "Ok"
 }
 
-fn edit(alloc: Global, object: &mut Box<dyn Embedded>, text: &str) -> Result<&'static str, Fail> {
-    let bytes = spelled(alloc, text)?;
-    Ok(told(object.edit(alloc, &bytes)))
+fn edit(
+    rt: &impl Abort,
+    alloc: Global,
+    object: &mut Box<dyn Embedded>,
+    text: &str,
+) -> &'static str {
+    told(object.edit(alloc, &spelled(rt, alloc, text)))
 }
 
-fn load(alloc: Global, object: &mut Box<dyn Embedded>, text: &str) -> Result<&'static str, Fail> {
-    let streams = streams_of(alloc, text)?;
-    Ok(told(object.load(alloc, &streams)))
+fn load(
+    rt: &impl Abort,
+    alloc: Global,
+    object: &mut Box<dyn Embedded>,
+    text: &str,
+) -> &'static str {
+    told(object.load(alloc, &streams_of(rt, alloc, text)))
 }
 
 /// `Ok`, or the fault's name.
@@ -98,35 +104,40 @@ fn told(answer: Result<(), EmbedFault>) -> &'static str {
     }
 }
 
-fn streams_of(alloc: Global, text: &str) -> Result<Streams, Fail> {
+fn streams_of(rt: &impl Abort, alloc: Global, text: &str) -> Streams {
     let mut streams = Streams::new(alloc);
     for stream in text.split(';') {
         if !stream.is_empty() {
-            push(alloc, &mut streams, stream)?;
+            push(rt, alloc, &mut streams, stream);
         }
     }
-    Ok(streams)
+    streams
 }
 
-fn push(alloc: Global, streams: &mut Streams, text: &str) -> Result<(), Fail> {
+fn push(rt: &impl Abort, alloc: Global, streams: &mut Streams, text: &str) {
     let (name, bytes) = halves(text, "=");
-    let name = Name::new(name.as_bytes())?;
-    let bytes = Bytes::from_vec(alloc, spelled(alloc, bytes)?)?;
-    streams.push(NamedStream { name, bytes })?;
-    Ok(())
+    let name = Name::new(name.as_bytes()).expect(rt, "a name");
+    let bytes = Bytes::from_vec(alloc, spelled(rt, alloc, bytes)).expect(rt, "memory");
+    streams
+        .push(NamedStream { name, bytes })
+        .expect(rt, "the next name");
 }
 
-fn picture(alloc: Global, object: &Box<dyn Embedded>) -> Result<Vec<u8>, Fail> {
-    Ok(object.render(alloc)?)
+fn is_drawn(rt: &impl Abort, alloc: Global, object: &Box<dyn Embedded>, want: &[u8]) -> bool {
+    object.render(alloc).expect(rt, "memory").as_slice() == want
 }
 
-/// The bytes of the one stream that an object is stored in, which is to be of this name.
-fn stored(alloc: Global, object: &Box<dyn Embedded>, name: &str) -> Result<Vec<u8>, Fail> {
-    let streams = object.save(alloc)?;
+/// Whether an object is stored in one stream, of this name and with these bytes.
+fn is_stored(
+    rt: &impl Abort,
+    alloc: Global,
+    object: &Box<dyn Embedded>,
+    name: &str,
+    want: &[u8],
+) -> bool {
+    let streams = object.save(alloc).expect(rt, "memory");
     match streams.as_slice() {
-        [stream] if stream.name.as_bytes() == name.as_bytes() => {
-            Ok(Vec::from_slice(alloc, stream.bytes.as_slice())?)
-        }
-        _ => Err(EmbedFault::BadContent.into()),
+        [stream] => { stream.name.as_bytes() == name.as_bytes() && stream.bytes.as_slice() == want }
+        _ => false,
     }
 }

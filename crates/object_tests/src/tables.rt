@@ -3,7 +3,6 @@
 use crate::objects::table;
 use crate::steps::play;
 use embed_core::tally::Tally;
-use std::test::Fail;
 
 const ROWS: &str = "
 # edits change cells
@@ -79,7 +78,8 @@ picture => A1=x$B1=x$C1=x$D1=x$E1=x$F1=x$G1=x$H1=x$I1=x$J1=x$K1=x$L1=x$M1=x$N1=x
 ";
 
 #[test]
-fn a_table_answers_its_calls(rt: HostRuntime) -> Result<(), Fail> {
-    let mut object = table(rt.alloc(), &Tally::new(rt.alloc())?)?;
-    play(&rt, rt.alloc(), &mut object, "Cells", ROWS)
+fn a_table_answers_its_calls(rt: HostRuntime) {
+    let tally = Tally::new(rt.alloc()).expect(&rt, "memory");
+    let mut object = table(&rt, rt.alloc(), &tally);
+    play(&rt, rt.alloc(), &mut object, "Cells", ROWS);
 }

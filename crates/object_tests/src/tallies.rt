@@ -5,7 +5,7 @@ use crate::texts::halves;
 use embed_core::embedded::Embedded;
 use embed_core::tally::Tally;
 use std::alloc::Global;
-use std::test::Fail;
+use std::process::Abort;
 
 /// Edits an object, and drops it where the edit is refused.
 fn edited(alloc: Global, mut object: Box<dyn Embedded>, edit: &[u8]) -> Option<Box<dyn Embedded>> {
@@ -42,38 +42,36 @@ const KINDS: &str = "note i 0 ab|d 0 2
 table s A1 x|c A1
 drawing b 0 0 3 2|r 1";
 
-fn object(alloc: Global, tally: &Tally, kind: &str) -> Result<Box<dyn Embedded>, Fail> {
+fn object(rt: &impl Abort, alloc: Global, tally: &Tally, kind: &str) -> Box<dyn Embedded> {
     match kind {
-        "note" => note(alloc, tally),
-        "table" => table(alloc, tally),
-        _ => drawing(alloc, tally),
+        "note" => note(rt, alloc, tally),
+        "table" => table(rt, alloc, tally),
+        _ => drawing(rt, alloc, tally),
     }
 }
 
-fn is_counted(alloc: Global, row: &str) -> Result<bool, Fail> {
+fn is_counted(rt: &impl Abort, alloc: Global, row: &str) -> bool {
     let (kind, edits) = halves(row, " ");
-    let tally = Tally::new(alloc)?;
-    let first = object(alloc, &tally, kind)?;
-    let second = object(alloc, &tally, kind)?;
-    Ok(are_counted(alloc, &tally, first, second, edits))
+    let tally = Tally::new(alloc).expect(rt, "memory");
+    let first = object(rt, alloc, &tally, kind);
+    let second = object(rt, alloc, &tally, kind);
+    are_counted(alloc, &tally, first, second, edits)
 }
 
 #[test]
-fn each_object_is_counted_once(rt: HostRuntime) -> Result<(), Fail> {
+fn each_object_is_counted_once(rt: HostRuntime) {
     for row in KINDS.split('\n') {
-        assert!(rt; is_counted(rt.alloc(), row)?, "{row}");
+        assert!(rt; is_counted(&rt, rt.alloc(), row), "{row}");
     }
-    Ok(())
 }
 
 #[test]
-fn a_tally_is_shared(rt: HostRuntime) -> Result<(), Fail> {
-    let tally = Tally::new(rt.alloc())?;
-    let other = tally.share()?;
+fn a_tally_is_shared(rt: HostRuntime) {
+    let tally = Tally::new(rt.alloc()).expect(&rt, "memory");
+    let other = tally.share().expect(&rt, "memory");
     assert!(rt; other.count() == 0);
     other.raise();
     tally.raise();
     drop(other);
     assert!(rt; tally.count() == 2);
-    Ok(())
 }

@@ -1,6 +1,7 @@
 //! How tests spell bytes: `$` for a line feed, `c{60}` for sixty times `c`, `<ab>{60}` for sixty times `ab`.
 
-use std::alloc::{AllocError, Global};
+use std::alloc::Global;
+use std::process::Abort;
 use std::str::SplitWhitespace;
 
 /// Bytes that are being spelled.
@@ -16,7 +17,7 @@ struct Spelling {
 }
 
 /// The bytes that a text spells.
-pub(crate) fn spelled(alloc: Global, text: &str) -> Result<Vec<u8>, AllocError> {
+pub(crate) fn spelled(rt: &impl Abort, alloc: Global, text: &str) -> Vec<u8> {
     let mut spelling = Spelling {
         bytes: Vec::new(alloc),
         group: 0,
@@ -24,41 +25,37 @@ pub(crate) fn spelled(alloc: Global, text: &str) -> Result<Vec<u8>, AllocError> 
         braces: None,
     };
     for c in text.as_bytes() {
-        spelling.take(alloc, *c)?;
+        spelling.take(rt, alloc, *c);
     }
-    Ok(spelling.bytes)
+    spelling.bytes
 }
 
 impl Spelling {
-    fn take(&mut self, alloc: Global, c: u8) -> Result<(), AllocError> {
+    fn take(&mut self, rt: &impl Abort, alloc: Global, c: u8) {
         match (self.braces, c) {
             (None, b'{') => self.braces = Some(0),
             (None, b'<') => self.group = self.bytes.len(),
             (None, b'>') => self.unit = self.group,
-            (None, c) => self.push(c)?,
-            (Some(count), b'}') => {
-                self.braces = None;
-                self.repeat(alloc, count)?;
-            }
+            (None, c) => self.push(rt, c),
+            (Some(count), b'}') => self.repeat(rt, alloc, count),
             (Some(count), digit) => self.braces = Some(with_digit(count, digit)),
         }
-        Ok(())
     }
 
-    fn push(&mut self, c: u8) -> Result<(), AllocError> {
+    fn push(&mut self, rt: &impl Abort, c: u8) {
         self.unit = self.bytes.len();
         let c = if c == b'$' { b'\n' } else { c };
-        self.bytes.push(c)?;
-        Ok(())
+        self.bytes.push(c).expect(rt, "memory");
     }
 
-    /// What stands last comes to stand there so often.
-    fn repeat(&mut self, alloc: Global, count: usize) -> Result<(), AllocError> {
-        let unit = Vec::from_slice(alloc, self.bytes.get(self.unit..).unwrap_or(&[]))?;
+    /// Braces end: what stands last comes to stand there so often.
+    fn repeat(&mut self, rt: &impl Abort, alloc: Global, count: usize) {
+        self.braces = None;
+        let last = self.bytes.get(self.unit..).unwrap_or(&[]);
+        let unit = Vec::from_slice(alloc, last).expect(rt, "memory");
         for _ in 1..count {
-            self.bytes.extend_from_slice(&unit)?;
+            self.bytes.extend_from_slice(&unit).expect(rt, "memory");
         }
-        Ok(())
     }
 }
 
