@@ -1,8 +1,9 @@
-//! What containers answer, as rows spell it: each word behind a space.
+//! What containers answer, as rows spell it.
 
-use container_model::answer::{Action, Answer, Committed};
+use crate::words::{names, word};
+use container_model::answer::{Action, Answer, Committed, Done};
 use container_model::fault::ContainerFault;
-use std::alloc::{AllocError, Global};
+use std::str::SplitWhitespace;
 use wire_msgs::message::Message;
 use wire_msgs::operation::Operation;
 
@@ -19,107 +20,100 @@ fn operation_name(operation: &Operation) -> &'static str {
     }
 }
 
-/// A call of activation 1 of server 1.
-fn message_text(alloc: Global, message: &Message) -> Result<String, AllocError> {
+/// Whether a message is this call of activation 1 of server 1.
+fn is_call(message: &Message, words: &mut SplitWhitespace<'_>) -> bool {
     match message {
         Message::Call {
             inc: 1,
             act: 1,
             n,
             operation,
-        } => {
-            let name = operation_name(operation);
-            format!(in alloc; " call {n} {name}")
-        }
-        _ => String::from_str(alloc, " another message"),
+        } => names(words, "call", *n) && word(words) == operation_name(operation),
+        _ => false,
     }
 }
 
-/// Calls that are sent once more.
-pub(crate) fn resent(alloc: Global, calls: &[Message]) -> Result<String, AllocError> {
-    let mut text = String::new(alloc);
+/// Whether these calls are sent once more.
+pub(crate) fn are_calls(calls: &[Message], words: &mut SplitWhitespace<'_>) -> bool {
     for call in calls {
-        let call = message_text(alloc, call)?;
-        text.push_str(&call)?;
+        if !is_call(call, words) {
+            return false;
+        }
     }
-    Ok(text)
+    true
 }
 
-fn action_text(alloc: Global, action: &Action) -> Result<String, AllocError> {
+fn is_action(action: &Action, words: &mut SplitWhitespace<'_>) -> bool {
     match action {
-        Action::Send(message) => message_text(alloc, message),
-        Action::Start(inc) => format!(in alloc; " start {inc}"),
-        Action::End(inc) => format!(in alloc; " end {inc}"),
-        Action::Commit(frame) => format!(in alloc; " commit {frame}"),
+        Action::Send(message) => is_call(message, words),
+        Action::Start(inc) => names(words, "start", *inc),
+        Action::End(inc) => names(words, "end", *inc),
+        Action::Commit(frame) => names(words, "commit", *frame),
     }
 }
 
-fn push_made(
-    alloc: Global,
-    text: &mut String,
-    made: &str,
-    n: Option<u32>,
-) -> Result<(), AllocError> {
-    if let Some(n) = n {
-        text.push_str(made)?;
-        text.push_str(&n.to_string(alloc)?)?;
+fn are_actions(actions: &[Action], words: &mut SplitWhitespace<'_>) -> bool {
+    for action in actions {
+        if !is_action(action, words) {
+            return false;
+        }
     }
-    Ok(())
+    true
 }
 
-/// What was made, and then what is to be done.
-fn answer_text(alloc: Global, answer: &Answer) -> Result<String, AllocError> {
-    let mut text = String::new(alloc);
-    push_made(alloc, &mut text, " frame ", answer.frame)?;
-    push_made(
-        alloc,
-        &mut text,
-        " object ",
-        answer.objects.as_slice().first().copied(),
-    )?;
-    push_made(alloc, &mut text, " server ", answer.server)?;
-    if answer.taken {
-        text.push_str(" taken")?;
+fn is_made(made: &str, n: Option<u32>, words: &mut SplitWhitespace<'_>) -> bool {
+    match n {
+        Some(n) => names(words, made, n),
+        None => true,
     }
-    for action in answer.actions.as_slice() {
-        let action = action_text(alloc, action)?;
-        text.push_str(&action)?;
-    }
-    Ok(text)
 }
 
-/// A fault's name.
-pub(crate) fn fault_text(alloc: Global, fault: ContainerFault) -> Result<String, AllocError> {
-    let name = fault.name();
-    format!(in alloc; " {name}")
+/// Whether this was made, and then is to be done.
+fn is_answer(answer: &Answer, words: &mut SplitWhitespace<'_>) -> bool {
+    let object = answer.objects.as_slice().first().copied();
+    is_made("frame", answer.frame, words)
+        && is_made("object", object, words)
+        && is_made("server", answer.server, words)
+        && (!answer.taken || word(words) == "taken")
+        && are_actions(answer.actions.as_slice(), words)
 }
 
-/// What a container answers.
-pub(crate) fn answered(
-    alloc: Global,
+/// Whether a fault has this name.
+pub(crate) fn is_fault(fault: ContainerFault, words: &mut SplitWhitespace<'_>) -> bool {
+    word(words) == fault.name()
+}
+
+/// Whether a container answers this.
+pub(crate) fn is_answered(
     answer: Result<Answer, ContainerFault>,
-) -> Result<String, AllocError> {
+    words: &mut SplitWhitespace<'_>,
+) -> bool {
     match answer {
-        Ok(answer) => answer_text(alloc, &answer),
-        Err(fault) => fault_text(alloc, fault),
+        Ok(answer) => is_answer(&answer, words),
+        Err(fault) => is_fault(fault, words),
     }
 }
 
-fn committed_text(alloc: Global, committed: &Committed) -> Result<String, AllocError> {
-    let mut text = answer_text(alloc, &committed.answer)?;
-    for done in committed.counted.as_slice() {
-        push_made(alloc, &mut text, " counted ", Some(done.object))?;
+fn are_counted(counted: &[Done], words: &mut SplitWhitespace<'_>) -> bool {
+    for done in counted {
+        if !names(words, "counted", done.object) {
+            return false;
+        }
     }
-    Ok(text)
+    true
 }
 
-/// What a commit that is done led to, and the objects that were counted.
-pub(crate) fn committed(
-    alloc: Global,
+fn leads_to(committed: &Committed, words: &mut SplitWhitespace<'_>) -> bool {
+    is_answer(&committed.answer, words) && are_counted(committed.counted.as_slice(), words)
+}
+
+/// Whether a commit that is done led to this, and these objects were counted.
+pub(crate) fn is_committed(
     outcome: Result<Committed, ContainerFault>,
-) -> Result<String, AllocError> {
+    words: &mut SplitWhitespace<'_>,
+) -> bool {
     match outcome {
-        Ok(committed) => committed_text(alloc, &committed),
-        Err(fault) => fault_text(alloc, fault),
+        Ok(committed) => leads_to(&committed, words),
+        Err(fault) => is_fault(fault, words),
     }
 }

@@ -1,12 +1,14 @@
 //! What happens to a container, as the program reads it.
 
-use crate::answers::{answered, committed};
+use crate::answers::{is_answered, is_committed};
 use container_core::container::ContainerCore;
 use container_model::answer::{Answer, Committed};
 use container_model::command::Command;
 use container_model::fault::ContainerFault;
 use event_texts::events::Events;
-use std::alloc::{AllocError, Global};
+use std::alloc::Global;
+use std::process::Abort;
+use std::str::SplitWhitespace;
 use texts::lines::Grammar;
 use world_model::event::Event;
 
@@ -27,20 +29,21 @@ fn commit(alloc: Global, core: &mut ContainerCore, f: u32) -> Result<Committed, 
 }
 
 /// The event that a row spells.
-pub(crate) fn event(alloc: Global, row: &str) -> Result<Option<Event>, AllocError> {
-    Events::parse(alloc, 1, row.as_bytes())
+pub(crate) fn event(rt: &impl Abort, alloc: Global, row: &str) -> Option<Event> {
+    Events::parse(alloc, 1, row.as_bytes()).expect(rt, "memory")
 }
 
-/// What a container answers to a command, the end of a server or a commit that is done.
-pub(crate) fn happened(
+/// Whether a container answers this to a command, the end of a server or a commit that is done.
+pub(crate) fn happens(
     alloc: Global,
     core: &mut ContainerCore,
     event: Event,
-) -> Result<String, AllocError> {
+    words: &mut SplitWhitespace<'_>,
+) -> bool {
     match event {
-        Event::Command(command) => answered(alloc, carry_out(alloc, core, command)),
-        Event::Reap(inc) => answered(alloc, reap(alloc, core, inc)),
-        Event::Done(f) => committed(alloc, commit(alloc, core, f)),
-        _ => String::from_str(alloc, " nothing"),
+        Event::Command(command) => is_answered(carry_out(alloc, core, command), words),
+        Event::Reap(inc) => is_answered(reap(alloc, core, inc), words),
+        Event::Done(f) => is_committed(commit(alloc, core, f), words),
+        _ => false,
     }
 }

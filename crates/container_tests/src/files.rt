@@ -1,24 +1,27 @@
 //! The documents of a container and their files, as rows spell them.
 
-use crate::answers::fault_text;
+use crate::answers::is_fault;
+use crate::words::counts;
 use container_core::container::ContainerCore;
 use container_model::answer::Part;
 use container_model::fault::ContainerFault;
-use std::alloc::{AllocError, Global};
+use std::alloc::Global;
+use std::str::SplitWhitespace;
 use wire_msgs::items::Items;
 
 fn parts(alloc: Global, core: &ContainerCore) -> Result<Items<Part>, ContainerFault> {
     core.document(alloc, 1)
 }
 
-/// How many objects the document of frame 1 has.
-pub(crate) fn document(alloc: Global, core: &ContainerCore) -> Result<String, AllocError> {
+/// Whether the document of frame 1 has so many objects.
+pub(crate) fn is_document(
+    alloc: Global,
+    core: &ContainerCore,
+    words: &mut SplitWhitespace<'_>,
+) -> bool {
     match parts(alloc, core) {
-        Ok(parts) => {
-            let count = parts.len();
-            format!(in alloc; " {count}")
-        }
-        Err(fault) => fault_text(alloc, fault),
+        Ok(parts) => counts(words, parts.len()),
+        Err(fault) => is_fault(fault, words),
     }
 }
 
@@ -40,13 +43,14 @@ fn is_image(alloc: Global, core: &ContainerCore, file: &[u8]) -> bool {
     }
 }
 
-/// How many objects a commit of frame 1 counts, and whether the file with them is the frame's image.
-pub(crate) fn file(alloc: Global, core: &ContainerCore) -> Result<String, AllocError> {
+/// Whether a commit of frame 1 counts so many objects, and the file with them is the frame's image.
+pub(crate) fn is_file(
+    alloc: Global,
+    core: &ContainerCore,
+    words: &mut SplitWhitespace<'_>,
+) -> bool {
     match commit_image(alloc, core) {
-        Ok((parts, file)) => {
-            let (count, same) = (parts.len(), is_image(alloc, core, &file));
-            format!(in alloc; " {count} {same}")
-        }
-        Err(fault) => fault_text(alloc, fault),
+        Ok((parts, file)) => counts(words, parts.len()) && is_image(alloc, core, &file),
+        Err(fault) => is_fault(fault, words),
     }
 }

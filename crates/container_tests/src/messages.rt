@@ -1,81 +1,81 @@
 //! Messages of a server, as rows spell them: also such as no server of the program sends.
 
-use crate::words::halves;
+use crate::words::{halves, number};
 use cfb_names::name::Name;
 use container_core::container::ContainerCore;
 use container_model::answer::Answer;
 use container_model::fault::ContainerFault;
-use embed_core::words::number;
 use object_parts::limits::MOST_BYTES;
 use std::alloc::Global;
-use std::test::Fail;
+use std::process::Abort;
 use storage_tree::bytes::Bytes;
 use storage_tree::stored::Stored;
 use storage_tree::streams::NamedStream;
 use wire_msgs::answer::Answer as Said;
 use wire_msgs::message::Message;
 
-fn bytes(alloc: Global, bytes: &[u8]) -> Result<Bytes, Fail> {
-    Ok(Bytes::from_slice(alloc, bytes)?)
+fn bytes(rt: &impl Abort, alloc: Global, bytes: &[u8]) -> Bytes {
+    Bytes::from_slice(alloc, bytes).expect(rt, "memory")
 }
 
-fn stream(alloc: Global, name: &[u8], content: &[u8]) -> Result<NamedStream, Fail> {
-    Ok(NamedStream {
-        name: Name::new(name)?,
-        bytes: bytes(alloc, content)?,
-    })
+fn push(rt: &impl Abort, alloc: Global, content: &mut Stored, name: &[u8], stream: &[u8]) {
+    let name = Name::new(name).expect(rt, "a name");
+    let bytes = bytes(rt, alloc, stream);
+    content
+        .streams
+        .push(NamedStream { name, bytes })
+        .expect(rt, "the next name");
 }
 
 /// A content of two streams and a picture.
-fn small(alloc: Global) -> Result<Stored, Fail> {
+fn small(rt: &impl Abort, alloc: Global) -> Stored {
     let mut content = Stored::new(alloc);
-    content.streams.push(stream(alloc, b"B", &[4])?)?;
-    content.streams.push(stream(alloc, b"AA", &[5, 6])?)?;
-    content.picture = bytes(alloc, &[7])?;
-    Ok(content)
+    push(rt, alloc, &mut content, b"B", &[4]);
+    push(rt, alloc, &mut content, b"AA", &[5, 6]);
+    content.picture = bytes(rt, alloc, &[7]);
+    content
 }
 
 /// A content of one byte more than may be stored.
-fn large(alloc: Global) -> Result<Stored, Fail> {
+fn large(rt: &impl Abort, alloc: Global) -> Stored {
     let mut content = Stored::new(alloc);
-    let mut bytes = Vec::new(alloc);
-    bytes.resize(MOST_BYTES + 1, 0)?;
-    content.picture = Bytes::from_vec(alloc, bytes)?;
-    Ok(content)
+    let bytes = vec![in alloc; 0; MOST_BYTES + 1].expect(rt, "memory");
+    content.picture = Bytes::from_vec(alloc, bytes).expect(rt, "memory");
+    content
 }
 
-fn content(alloc: Global, word: &str) -> Result<Stored, Fail> {
+fn content(rt: &impl Abort, alloc: Global, word: &str) -> Stored {
     match word.as_bytes() {
-        [b'l', ..] => large(alloc),
-        _ => small(alloc),
+        [b'l', ..] => large(rt, alloc),
+        _ => small(rt, alloc),
     }
 }
 
-fn said(alloc: Global, word: &str) -> Result<Said, Fail> {
+fn said(rt: &impl Abort, alloc: Global, word: &str) -> Said {
     match word.as_bytes() {
-        [b'd', ..] => Ok(Said::Done),
-        _ => Ok(Said::Content(content(alloc, word)?)),
+        [b'd', ..] => Said::Done,
+        _ => Said::Content(content(rt, alloc, word)),
     }
 }
 
 /// `reply N WORD` to call N: `done`, or a content that is `small` or `large`; `write S WORD` of a content under grant S, with S
 /// as its number. They are of activation 1 of server 1.
-fn message(alloc: Global, verb: &str, n: u32, word: &str) -> Result<Message, Fail> {
+fn message(rt: &impl Abort, alloc: Global, verb: &str, n: u32, word: &str) -> Message {
     let (inc, act) = (1, 1);
     match verb.as_bytes() {
-        [b'r', ..] => Ok(Message::Reply {
+        [b'r', ..] => Message::Reply {
             inc,
             act,
             n,
-            answer: said(alloc, word)?,
-        }),
-        _ => Ok(Message::Write {
+            answer: said(rt, alloc, word),
+        },
+        _ => Message::Write {
             inc,
             act,
             s: n,
             w: n,
-            content: content(alloc, word)?,
-        }),
+            content: content(rt, alloc, word),
+        },
     }
 }
 
@@ -90,14 +90,14 @@ fn told(
 
 /// What a container answers to a message on the link of a server.
 pub(crate) fn messaged(
+    rt: &impl Abort,
     alloc: Global,
     core: &mut ContainerCore,
     link: u32,
     row: &str,
-) -> Result<Result<Answer, ContainerFault>, Fail> {
+) -> Result<Answer, ContainerFault> {
     let (verb, rest) = halves(row, " ");
     let (n, word) = halves(rest, " ");
-    let n = number(n.as_bytes()).ok_or("a number")?;
-    let message = message(alloc, verb, n, word)?;
-    Ok(told(alloc, core, link, message))
+    let message = message(rt, alloc, verb, number(n), word);
+    told(alloc, core, link, message)
 }

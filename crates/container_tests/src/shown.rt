@@ -1,18 +1,21 @@
 //! What a container shows, as rows spell it.
 
-use crate::answers::{fault_text, resent};
+use crate::answers::{are_calls, is_fault};
+use crate::words::{counts, number, word};
 use container_core::container::ContainerCore;
 use container_model::fault::ContainerFault;
 use container_model::record::{Object, Phase};
 use grant_core::GrantState;
-use std::alloc::{AllocError, Global};
+use std::alloc::Global;
+use std::process::Abort;
+use std::str::SplitWhitespace;
 use wire_msgs::message::Message;
 
 fn object_text(object: &Object) -> &'static str {
     match (&object.link, object.work.streams.as_slice().len()) {
-        (Some(_), 0) => "active, empty",
+        (Some(_), 0) => "active-empty",
         (Some(_), _) => "active",
-        (None, 0) => "passive, empty",
+        (None, 0) => "passive-empty",
         (None, _) => "passive",
     }
 }
@@ -50,52 +53,60 @@ fn frame(core: &ContainerCore) -> (&'static str, &'static str) {
     }
 }
 
-/// How far the save of frame 1 is, whether an object has the frame, and what object 1 is.
-pub(crate) fn states(alloc: Global, core: &ContainerCore) -> Result<String, AllocError> {
+/// Whether the save of frame 1 is so far, an object has the frame or not, and object 1 is this.
+pub(crate) fn are_states(core: &ContainerCore, words: &mut SplitWhitespace<'_>) -> bool {
     let (phase, grant) = frame(core);
-    let object = object(core);
-    format!(in alloc; " {phase}, {grant}, {object}")
+    word(words) == phase && word(words) == grant && word(words) == object(core)
 }
 
-/// How many frames and objects there are, and the greatest number.
-pub(crate) fn sizes(alloc: Global, core: &ContainerCore) -> Result<String, AllocError> {
-    let (frames, objects) = (core.all_frames().len(), core.all_objects().len());
-    let numbers = core.numbers();
-    format!(in alloc; " {frames} {objects} {numbers}")
+/// Whether there are so many frames and objects, and this is the greatest number.
+pub(crate) fn are_sizes(core: &ContainerCore, words: &mut SplitWhitespace<'_>) -> bool {
+    counts(words, core.all_frames().len())
+        && counts(words, core.all_objects().len())
+        && number(word(words)) == core.numbers()
 }
 
-fn push_numbers(alloc: Global, text: &mut String, numbers: &[u32]) -> Result<(), AllocError> {
-    for number in numbers {
-        let number = format!(in alloc; " {number}")?;
-        text.push_str(&number)?;
+fn are(numbers: &[u32], words: &mut SplitWhitespace<'_>) -> bool {
+    for of in numbers {
+        if number(word(words)) != *of {
+            return false;
+        }
     }
-    Ok(())
+    true
 }
 
-fn frames(alloc: Global, core: &ContainerCore) -> Result<Vec<u32>, AllocError> {
-    core.frames(alloc)
+fn frames(rt: &impl Abort, alloc: Global, core: &ContainerCore) -> Vec<u32> {
+    core.frames(alloc).expect(rt, "memory")
 }
 
-fn objects(alloc: Global, core: &ContainerCore) -> Result<Vec<u32>, AllocError> {
-    core.objects(alloc)
+fn objects(rt: &impl Abort, alloc: Global, core: &ContainerCore) -> Vec<u32> {
+    core.objects(alloc).expect(rt, "memory")
 }
 
-/// The numbers of frames, and those of objects.
-pub(crate) fn numbers(alloc: Global, core: &ContainerCore) -> Result<String, AllocError> {
-    let mut text = String::new(alloc);
-    push_numbers(alloc, &mut text, &frames(alloc, core)?)?;
-    text.push_str(" of")?;
-    push_numbers(alloc, &mut text, &objects(alloc, core)?)?;
-    Ok(text)
+/// Whether these are the numbers of frames, and those of objects.
+pub(crate) fn are_numbers(
+    rt: &impl Abort,
+    alloc: Global,
+    core: &ContainerCore,
+    words: &mut SplitWhitespace<'_>,
+) -> bool {
+    are(&frames(rt, alloc, core), words)
+        && word(words) == "of"
+        && are(&objects(rt, alloc, core), words)
 }
 
-fn calls(alloc: Global, core: &ContainerCore) -> Result<Vec<Message>, AllocError> {
-    core.resend(alloc)
+fn calls(rt: &impl Abort, alloc: Global, core: &ContainerCore) -> Vec<Message> {
+    core.resend(alloc).expect(rt, "memory")
 }
 
-/// The calls that are pending.
-pub(crate) fn pending(alloc: Global, core: &ContainerCore) -> Result<String, AllocError> {
-    resent(alloc, &calls(alloc, core)?)
+/// Whether these calls are pending.
+pub(crate) fn are_pending(
+    rt: &impl Abort,
+    alloc: Global,
+    core: &ContainerCore,
+    words: &mut SplitWhitespace<'_>,
+) -> bool {
+    are_calls(&calls(rt, alloc, core), words)
 }
 
 fn drawn(alloc: Global, core: &ContainerCore, f: u32) -> Result<Vec<u8>, ContainerFault> {
@@ -106,11 +117,15 @@ fn drawn(alloc: Global, core: &ContainerCore, f: u32) -> Result<Vec<u8>, Contain
 const FRAME: &str =
     "File Container Window\n            \n +---+      \n +---+      \n            \n";
 
-/// Whether a frame shows this, or why it shows nothing.
-pub(crate) fn screen(alloc: Global, core: &ContainerCore, f: u32) -> Result<String, AllocError> {
+/// Whether a frame shows a note, or nothing for this fault.
+pub(crate) fn is_screen(
+    alloc: Global,
+    core: &ContainerCore,
+    f: u32,
+    words: &mut SplitWhitespace<'_>,
+) -> bool {
     match drawn(alloc, core, f) {
-        Ok(screen) if screen.as_slice() == FRAME.as_bytes() => String::from_str(alloc, " a note"),
-        Ok(_) => String::from_str(alloc, " another"),
-        Err(fault) => fault_text(alloc, fault),
+        Ok(screen) => word(words) == "note" && screen.as_slice() == FRAME.as_bytes(),
+        Err(fault) => is_fault(fault, words),
     }
 }

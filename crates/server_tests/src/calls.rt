@@ -5,24 +5,29 @@ use cfb_names::name::Name;
 use embed_core::{Bytes, Stored, Streams, classes};
 use object_state::CloseOption;
 use std::alloc::Global;
-use std::test::Fail;
+use std::process::Abort;
 use storage_tree::class_id::ClassId;
 use storage_tree::streams::NamedStream;
 use wire_msgs::message::Message;
 use wire_msgs::operation::Operation;
 
-fn bytes_of(alloc: Global, text: &str) -> Result<Bytes, Fail> {
-    Ok(Bytes::from_slice(alloc, text.as_bytes())?)
+fn bytes_of(rt: &impl Abort, alloc: Global, text: &str) -> Bytes {
+    Bytes::from_slice(alloc, text.as_bytes()).expect(rt, "memory")
+}
+
+fn push(rt: &impl Abort, streams: &mut Streams, bytes: Bytes) {
+    let name = Name::new(b"Text").expect(rt, "a name");
+    streams
+        .push(NamedStream { name, bytes })
+        .expect(rt, "the first stream");
 }
 
 /// A text as a note stores it, with a picture that isn't its own.
-fn stored(alloc: Global, text: &str) -> Result<Stored, Fail> {
-    let name = Name::new(b"Text")?;
-    let bytes = bytes_of(alloc, text)?;
+fn stored(rt: &impl Abort, alloc: Global, text: &str) -> Stored {
     let mut streams = Streams::new(alloc);
-    streams.push(NamedStream { name, bytes })?;
-    let picture = bytes_of(alloc, "no picture of it")?;
-    Ok(Stored { streams, picture })
+    push(rt, &mut streams, bytes_of(rt, alloc, text));
+    let picture = bytes_of(rt, alloc, "no picture of it");
+    Stored { streams, picture }
 }
 
 fn class(name: &str) -> ClassId {
@@ -33,25 +38,25 @@ fn class(name: &str) -> ClassId {
 }
 
 /// `init KIND`, `load TEXT`, `edit BYTES`, `save K`, `completed K` with a storage, `in_place`, `activate GRANT` or `close`.
-fn operation(alloc: Global, text: &str) -> Result<Operation, Fail> {
+fn operation(rt: &impl Abort, alloc: Global, text: &str) -> Operation {
     let (verb, rest) = halves(text, " ");
     match verb.as_bytes() {
-        [b'i', b'n', b'_', ..] => Ok(Operation::InPlace),
-        [b'i', ..] => Ok(Operation::InitNew(class(rest))),
-        [b'l', ..] => Ok(Operation::Load(classes::note(), stored(alloc, rest)?)),
-        [b'e', ..] => Ok(Operation::Edit(bytes_of(alloc, rest)?)),
-        [b's', ..] => Ok(Operation::Save(number(rest))),
-        [b'c', b'o', ..] => Ok(Operation::SaveCompleted {
+        [b'i', b'n', b'_', ..] => Operation::InPlace,
+        [b'i', ..] => Operation::InitNew(class(rest)),
+        [b'l', ..] => Operation::Load(classes::note(), stored(rt, alloc, rest)),
+        [b'e', ..] => Operation::Edit(bytes_of(rt, alloc, rest)),
+        [b's', ..] => Operation::Save(number(rest)),
+        [b'c', b'o', ..] => Operation::SaveCompleted {
             save: number(rest),
             storage: true,
-        }),
-        [b'a', ..] => Ok(Operation::UiActivate(number(rest))),
-        _ => Ok(Operation::Close(CloseOption::NoSave)),
+        },
+        [b'a', ..] => Operation::UiActivate(number(rest)),
+        _ => Operation::Close(CloseOption::NoSave),
     }
 }
 
 /// `INC ACT N HANDED OPERATION`: what is handed in, and the call.
-pub(crate) fn call<'a>(alloc: Global, row: &'a str) -> Result<(&'a str, Message), Fail> {
+pub(crate) fn call<'a>(rt: &impl Abort, alloc: Global, row: &'a str) -> (&'a str, Message) {
     let (inc, rest) = halves(row, " ");
     let (act, rest) = halves(rest, " ");
     let (n, rest) = halves(rest, " ");
@@ -60,7 +65,7 @@ pub(crate) fn call<'a>(alloc: Global, row: &'a str) -> Result<(&'a str, Message)
         inc: number(inc),
         act: number(act),
         n: number(n),
-        operation: operation(alloc, rest)?,
+        operation: operation(rt, alloc, rest),
     };
-    Ok((handed, call))
+    (handed, call)
 }

@@ -4,29 +4,31 @@ use embed_core::embedded::Embedded;
 use embed_core::tally::Tally;
 use embed_note::note::Note;
 use embed_table::table::Table;
-use std::alloc::{AllocError, Global};
+use std::alloc::Global;
+use std::process::Abort;
 
-fn note(alloc: Global, tally: &Tally) -> Result<Box<dyn Embedded>, AllocError> {
-    let note = Note::new(alloc, tally.share()?);
-    let boxed: Box<dyn Embedded> = Box::new(alloc, note)?;
-    Ok(boxed)
+fn share(rt: &impl Abort, tally: &Tally) -> Tally {
+    tally.share().expect(rt, "memory")
 }
 
-fn table(alloc: Global, tally: &Tally) -> Result<Box<dyn Embedded>, AllocError> {
-    let table = Table::new(alloc, tally.share()?);
-    let boxed: Box<dyn Embedded> = Box::new(alloc, table)?;
-    Ok(boxed)
+fn note(rt: &impl Abort, alloc: Global, tally: Tally) -> Box<dyn Embedded> {
+    Box::new(alloc, Note::new(alloc, tally)).expect(rt, "memory")
+}
+
+fn table(rt: &impl Abort, alloc: Global, tally: Tally) -> Box<dyn Embedded> {
+    Box::new(alloc, Table::new(alloc, tally)).expect(rt, "memory")
 }
 
 /// `note`, `table`, or `-` for none.
 pub(crate) fn handed(
+    rt: &impl Abort,
     alloc: Global,
     tally: &Tally,
     name: &str,
-) -> Result<Option<Box<dyn Embedded>>, AllocError> {
+) -> Option<Box<dyn Embedded>> {
     match name.as_bytes() {
-        [b'n', ..] => Ok(Some(note(alloc, tally)?)),
-        [b't', ..] => Ok(Some(table(alloc, tally)?)),
-        _ => Ok(None),
+        [b'n', ..] => Some(note(rt, alloc, share(rt, tally))),
+        [b't', ..] => Some(table(rt, alloc, share(rt, tally))),
+        _ => None,
     }
 }

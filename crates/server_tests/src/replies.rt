@@ -1,5 +1,6 @@
 //! What servers answer, as rows spell it.
 
+use crate::words::{are, number, word};
 use embed_core::tally::Tally;
 use embed_core::{Stored, classes};
 use object_state::ObjectState;
@@ -7,7 +8,7 @@ use server_core::refusal::{Reaction, Refusal};
 use server_model::activation_view::ActivationView;
 use server_model::counted::Counted;
 use server_model::hold::Hold;
-use std::alloc::{AllocError, Global};
+use std::str::SplitWhitespace;
 use storage_tree::class_id::ClassId;
 use wire_msgs::answer::Answer;
 use wire_msgs::message::Message;
@@ -30,49 +31,42 @@ fn is_abc(content: &Stored) -> bool {
     first(content) == b"abc".as_slice() && content.picture.as_slice() == PICTURE.as_slice()
 }
 
-fn answer_text(answer: &Answer) -> &'static str {
+fn answer_name(answer: &Answer) -> &'static str {
     match answer {
         Answer::Done => "Done",
         Answer::Refused(Why::BadContent) => "BadContent",
-        Answer::Content(content) if is_abc(content) => "Content abc",
-        Answer::Content(content) if content.picture.len() == 0 => "Content without a picture",
+        Answer::Content(content) if is_abc(content) => "Content-abc",
+        Answer::Content(content) if content.picture.len() == 0 => "Content-unpictured",
         Answer::Tools { .. } => "Tools",
         _ => "another answer",
     }
 }
 
-fn write_text(alloc: Global, s: u32, w: u32, content: &Stored) -> Result<String, AllocError> {
-    let text = if is_abc(content) {
-        "abc"
-    } else {
-        "another content"
-    };
-    format!(in alloc; "Write {s} {w} {text}")
-}
-
-/// What a server sends of its own accord: a write by its storage grant and its number, or what it asks.
-pub(crate) fn message_text(alloc: Global, message: &Message) -> Result<String, AllocError> {
+/// Whether a server sends this of its own accord: a write of `abc` by its storage grant and its number, or what it asks.
+pub(crate) fn is_sent(message: &Message, words: &mut SplitWhitespace<'_>) -> bool {
     match message {
-        Message::Write { s, w, content, .. } => write_text(alloc, *s, *w, content),
+        Message::Write { s, w, content, .. } => {
+            word(words) == "Write" && are(words, &[*s, *w]) && is_abc(content)
+        }
         Message::Ask {
             inc: 1,
             act: 5,
             g: 7,
-        } => String::from_str(alloc, "Ask 7"),
-        _ => String::from_str(alloc, "another message"),
+        } => word(words) == "Ask",
+        _ => false,
     }
 }
 
-fn reply_text(reply: &Message) -> &'static str {
+fn is_reply(reply: &Message, words: &mut SplitWhitespace<'_>) -> bool {
     match reply {
-        Message::Reply { answer, .. } => answer_text(answer),
-        _ => "another message",
+        Message::Reply { answer, .. } => word(words) == answer_name(answer),
+        _ => false,
     }
 }
 
-/// A reply by its numbers and its answer.
-pub(crate) fn last_text(alloc: Global, reply: Option<Message>) -> Result<String, AllocError> {
-    match reply {
+/// Whether a reply has these numbers and this answer.
+pub(crate) fn is_last(reply: Option<Message>, words: &mut SplitWhitespace<'_>) -> bool {
+    match &reply {
         Some(
             Message::Reply {
                 inc,
@@ -80,17 +74,14 @@ pub(crate) fn last_text(alloc: Global, reply: Option<Message>) -> Result<String,
                 n,
                 answer,
             },
-        ) => {
-            let text = answer_text(&answer);
-            format!(in alloc; "Reply {inc} {act} {n} {text}")
-        }
-        Some(_) => String::from_str(alloc, "another message"),
-        None => String::from_str(alloc, "none"),
+        ) => are(words, &[*inc, *act, *n]) && word(words) == answer_name(answer),
+        Some(_) => false,
+        None => word(words) == "none",
     }
 }
 
 /// A class, by the object that has it.
-pub(crate) fn class_text(class: Option<ClassId>) -> &'static str {
+pub(crate) fn class_name(class: Option<ClassId>) -> &'static str {
     match class {
         Some(class) if class == classes::note() => "note",
         Some(_) => "another class",
@@ -98,31 +89,23 @@ pub(crate) fn class_text(class: Option<ClassId>) -> &'static str {
     }
 }
 
-fn text_with(
-    alloc: Global,
-    text: &str,
-    counted: Option<Counted>,
-    back: bool,
-    tally: &Tally,
-) -> Result<String, AllocError> {
-    let mut text = String::from_str(alloc, text)?;
-    if let Some(counted) = counted {
-        let (act, k) = (counted.act, counted.k);
-        text.push_str(&format!(in alloc; ", counted {act} {k}")?)?;
+fn is_counted(counted: &Option<Counted>, words: &mut SplitWhitespace<'_>) -> bool {
+    match counted {
+        Some(counted) => word(words) == "counted" && are(words, &[counted.act, counted.k]),
+        None => true,
     }
-    if back {
-        let dropped = tally.count();
-        text.push_str(&format!(in alloc; ", back at {dropped}")?)?;
-    }
-    Ok(text)
 }
 
-/// What became of a call, what was counted, and whether the object came back: then how many were dropped by then.
-pub(crate) fn outcome_text(
-    alloc: Global,
-    outcome: Result<Reaction, Refusal>,
+fn is_back(back: bool, tally: &Tally, words: &mut SplitWhitespace<'_>) -> bool {
+    !back || (word(words) == "back" && number(word(words)) == tally.count())
+}
+
+/// Whether this became of a call, this was counted, and the object came back or not: then how many were dropped by then.
+pub(crate) fn is_outcome(
+    outcome: &Result<Reaction, Refusal>,
     tally: &Tally,
-) -> Result<String, AllocError> {
+    words: &mut SplitWhitespace<'_>,
+) -> bool {
     match outcome {
         Ok(
             Reaction {
@@ -130,42 +113,44 @@ pub(crate) fn outcome_text(
                 counted,
                 back,
             },
-        ) => text_with(alloc, reply_text(&reply), counted, back.is_some(), tally),
-        Err(Refusal { fault, back }) => text_with(alloc, fault.name(), None, back.is_some(), tally),
+        ) => {
+            is_reply(reply, words)
+                && is_counted(counted, words)
+                && is_back(back.is_some(), tally, words)
+        }
+        Err(Refusal { fault, back }) => {
+            word(words) == fault.name() && is_back(back.is_some(), tally, words)
+        }
     }
 }
 
-fn state_text(state: ObjectState) -> &'static str {
+fn state_name(state: ObjectState) -> &'static str {
     match state {
         ObjectState::UiActive => "UiActive",
         _ => "another",
     }
 }
 
-/// What is seen of an activation: its class, whether it is open, its state, the storage grant, its last call, the grant of its frame,
-/// and its last write.
-pub(crate) fn view_text(alloc: Global, view: Option<ActivationView>) -> Result<String, AllocError> {
+/// Whether this is seen of an activation: its class, that it is open, its state, the storage grant, its last call, the grant of
+/// its frame, and its last write.
+pub(crate) fn is_view(view: Option<ActivationView>, words: &mut SplitWhitespace<'_>) -> bool {
     match view {
         Some(view) => {
-            let class = class_text(Some(view.class));
-            let (opened, state) = (view.opened, state_text(view.states.object));
-            let (s, last, g, w) = (view.s, view.last, view.g.unwrap_or(0), view.w);
-            format!(in alloc; "{class} {opened} {state} {s} {last} {g} {w}")
+            view.opened
+                && word(words) == class_name(Some(view.class))
+                && word(words) == state_name(view.states.object)
+                && are(words, &[view.s, view.last, view.g.unwrap_or(0), view.w])
         }
-        None => String::from_str(alloc, "none"),
+        None => word(words) == "none",
     }
 }
 
-/// The activations that have a grant, each with it.
-pub(crate) fn holds_text(alloc: Global, holds: &[Hold]) -> Result<String, AllocError> {
-    let mut text = String::new(alloc);
+/// Whether these activations have a grant, each with it.
+pub(crate) fn are_holds(holds: &[Hold], words: &mut SplitWhitespace<'_>) -> bool {
     for hold in holds {
-        let (act, g) = (hold.act, hold.g);
-        text.push_str(&format!(in alloc; "{act} has {g}, ")?)?;
+        if !are(words, &[hold.act, hold.g]) {
+            return false;
+        }
     }
-    if text.is_empty() {
-        text.push_str("none ")?;
-    }
-    text.pop();
-    Ok(text)
+    true
 }

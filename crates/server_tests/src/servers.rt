@@ -1,18 +1,19 @@
 //! Servers: the calls that they take, and what they make of them. The table is a text, a line each: what a server is told
-//! or asked, and the answer behind ` => `; and the functions have no contracts: so the test is quick to prove.
+//! or asked, and the answer behind ` =>`; and the functions have no contracts: so the test is quick to prove.
 
 use crate::calls::call;
 use crate::objects::handed;
-use crate::replies::{class_text, holds_text, last_text, message_text, outcome_text, view_text};
-use crate::words::{halves, number};
+use crate::replies::{are_holds, class_name, is_last, is_outcome, is_sent, is_view};
+use crate::words::{halves, number, word};
 use embed_core::embedded::Embedded;
 use embed_core::tally::Tally;
 use server_core::refusal::{Reaction, Refusal};
 use server_core::server::ServerCore;
 use server_model::fault::ServerFault;
-use std::alloc::{AllocError, Global};
+use server_model::hold::Hold;
+use std::alloc::Global;
 use std::process::Abort;
-use std::test::Fail;
+use std::str::SplitWhitespace;
 use wire_msgs::message::Message;
 
 /// Calls by incarnation, activation and number, with the object that is handed in: the reply or the fault, and `back`
@@ -20,24 +21,24 @@ use wire_msgs::message::Message;
 /// `dropped`: how many objects were dropped so far, `end`: how many once the server is; then the next lines are of a new
 /// one.
 const ROWS: &str = "1 5 1 note init note => Done
-1 5 1 note init note => Done, back at 0
+1 5 1 note init note => Done back 0
 dropped => 1
 end => 2
 1 5 1 note load \x07 => BadContent
 dropped => 3
-1 5 1 note load \x07 => BadContent, back at 3
+1 5 1 note load \x07 => BadContent back 3
 1 5 2 - edit i 0 a => Ignored
 dropped => 4
 end => 4
 1 5 1 - load a => NeedObject
-1 5 1 table load a => WrongClass, back at 4
+1 5 1 table load a => WrongClass back 4
 2 5 1 - in_place => WrongIncarnation
 dropped => 5
 end => 5
 1 5 1 note init note => Done
 1 5 2 - edit i 0 abc => Done
-1 5 3 - save 8 => Content abc
-1 5 4 - completed 8 => Done, counted 5 8
+1 5 3 - save 8 => Content-abc
+1 5 4 - completed 8 => Done counted 5 8
 dropped => 5
 end => 6
 1 5 1 note init note => Done
@@ -46,33 +47,33 @@ end => 6
 dropped => 7
 end => 8
 1 1 1 note load abc => Done
-last 1 => Reply 1 1 1 Done
-scribble 1 => Write 1 1 abc
-scribble 1 => Write 1 2 abc
-1 1 2 - save 8 => Content abc
+last 1 => 1 1 1 Done
+scribble 1 => Write 1 1
+scribble 1 => Write 1 2
+1 1 2 - save 8 => Content-abc
 scribble 1 => Ignored
-1 1 3 - completed 8 => Done, counted 1 8
-scribble 1 => Write 2 3 abc
+1 1 3 - completed 8 => Done counted 1 8
+scribble 1 => Write 2 3
 1 1 4 - close => Done
 scribble 1 => Ignored
 end => 9
 1 5 1 note init note => Done
-1 5 2 - save 8 => Content without a picture
+1 5 2 - save 8 => Content-unpictured
 ask 5 => Ignored
 end => 10
 wants 1 5 1 - init note => note
 1 5 1 note init note => Done
-last 5 => Reply 1 5 1 Done
+last 5 => 1 5 1 Done
 1 5 2 - in_place => Done
-holds => none
+holds =>
 1 5 3 - activate 7 => Tools
-ask 5 => Ask 7
-holds => 5 has 7,
+ask 5 => Ask
+holds => 5 7
 1 3 1 note init note => Done
 1 3 2 - in_place => Done
 1 3 3 - activate 9 => Tools
-holds => 3 has 9, 5 has 7,
-view 5 => note true UiActive 1 3 7 0
+holds => 3 9 5 7
+view 5 => note UiActive 1 3 7 0
 view 6 => none
 last 6 => none
 wants 1 5 1 - init note => none
@@ -91,74 +92,90 @@ fn on_call(
     core.on_call(alloc, message, boxed)
 }
 
-fn called(alloc: Global, core: &mut ServerCore, tally: &Tally, row: &str) -> Result<String, Fail> {
-    let (object, message) = call(alloc, row)?;
-    let object = handed(alloc, tally, object)?;
-    Ok(outcome_text(alloc, on_call(core, alloc, message, object), tally)?)
-}
-
-fn sent(alloc: Global, message: Result<Message, ServerFault>) -> Result<String, AllocError> {
-    match message {
-        Ok(message) => message_text(alloc, &message),
-        Err(fault) => String::from_str(alloc, fault.name()),
-    }
-}
-
-fn last_reply(alloc: Global, core: &ServerCore, act: u32) -> Result<String, AllocError> {
-    last_text(alloc, core.last_reply(alloc, act)?)
-}
-
-fn holds(alloc: Global, core: &ServerCore) -> Result<String, AllocError> {
-    holds_text(alloc, core.holds(alloc)?.as_slice())
-}
-
-fn wanted(alloc: Global, core: &ServerCore, row: &str) -> Result<&'static str, Fail> {
-    let (_, message) = call(alloc, row)?;
-    Ok(class_text(core.wants(&message)))
-}
-
-fn asked(alloc: Global, core: &mut ServerCore, tally: &Tally, row: &str) -> Result<String, Fail> {
-    let (verb, rest) = halves(row, " ");
-    match verb.as_bytes() {
-        [b's', ..] => Ok(sent(alloc, core.scribble(alloc, number(rest)))?),
-        [b'a', ..] => Ok(sent(alloc, core.ask_deactivate(number(rest)))?),
-        [b'v', ..] => Ok(view_text(alloc, core.activation(number(rest)))?),
-        [b'l', ..] => Ok(last_reply(alloc, core, number(rest))?),
-        [b'w', ..] => Ok(String::from_str(alloc, wanted(alloc, core, rest)?)?),
-        [b'h', ..] => Ok(holds(alloc, core)?),
-        [b'd', ..] => Ok(tally.count().to_string(alloc)?),
-        _ => called(alloc, core, tally, row),
-    }
-}
-
-/// What a server answers; at `end` it is dropped, and there is a new one.
-fn told(alloc: Global, core: &mut ServerCore, tally: &Tally, row: &str) -> Result<String, Fail> {
-    if row != "end" {
-        return asked(alloc, core, tally, row);
-    }
-    *core = new_server(alloc);
-    Ok(tally.count().to_string(alloc)?)
-}
-
-fn expect(
+fn is_called(
     rt: &impl Abort,
     alloc: Global,
     core: &mut ServerCore,
     tally: &Tally,
     row: &str,
-) -> Result<(), Fail> {
-    let (row, want) = halves(row, " => ");
-    let answer = told(alloc, core, tally, row)?;
-    assert!(rt; answer.as_str() == want, "{row}: {answer}");
-    Ok(())
+    words: &mut SplitWhitespace<'_>,
+) -> bool {
+    let (object, message) = call(rt, alloc, row);
+    let object = handed(rt, alloc, tally, object);
+    is_outcome(&on_call(core, alloc, message, object), tally, words)
+}
+
+fn sends(message: Result<Message, ServerFault>, words: &mut SplitWhitespace<'_>) -> bool {
+    match message {
+        Ok(message) => is_sent(&message, words),
+        Err(fault) => word(words) == fault.name(),
+    }
+}
+
+fn last_reply(rt: &impl Abort, alloc: Global, core: &ServerCore, act: u32) -> Option<Message> {
+    core.last_reply(alloc, act).expect(rt, "memory")
+}
+
+fn holds(rt: &impl Abort, alloc: Global, core: &ServerCore) -> Vec<Hold> {
+    core.holds(alloc).expect(rt, "memory")
+}
+
+fn wanted(rt: &impl Abort, alloc: Global, core: &ServerCore, row: &str) -> &'static str {
+    let (_, message) = call(rt, alloc, row);
+    class_name(core.wants(&message))
+}
+
+fn is_asked(
+    rt: &impl Abort,
+    alloc: Global,
+    core: &mut ServerCore,
+    tally: &Tally,
+    row: &str,
+    words: &mut SplitWhitespace<'_>,
+) -> bool {
+    let (verb, rest) = halves(row, " ");
+    match verb.as_bytes() {
+        [b's', ..] => sends(core.scribble(alloc, number(rest)), words),
+        [b'a', ..] => sends(core.ask_deactivate(number(rest)), words),
+        [b'v', ..] => is_view(core.activation(number(rest)), words),
+        [b'l', ..] => is_last(last_reply(rt, alloc, core, number(rest)), words),
+        [b'w', ..] => word(words) == wanted(rt, alloc, core, rest),
+        [b'h', ..] => are_holds(&holds(rt, alloc, core), words),
+        [b'd', ..] => number(word(words)) == tally.count(),
+        [b'e', ..] => is_renewed(alloc, core, tally, words),
+        _ => is_called(rt, alloc, core, tally, row, words),
+    }
+}
+
+/// Drops a server, puts a new one in its place, and answers whether so many objects are dropped by then.
+fn is_renewed(
+    alloc: Global,
+    core: &mut ServerCore,
+    tally: &Tally,
+    words: &mut SplitWhitespace<'_>,
+) -> bool {
+    *core = new_server(alloc);
+    number(word(words)) == tally.count()
+}
+
+/// Whether a server answers what the row wants.
+fn answers(
+    rt: &impl Abort,
+    alloc: Global,
+    core: &mut ServerCore,
+    tally: &Tally,
+    row: &str,
+) -> bool {
+    let (row, want) = halves(row, " =>");
+    let mut words = want.split_whitespace();
+    is_asked(rt, alloc, core, tally, row, &mut words) && word(&mut words).is_empty()
 }
 
 #[test]
-fn servers_answer_what_they_are_told(rt: HostRuntime) -> Result<(), Fail> {
-    let tally = Tally::new(rt.alloc())?;
+fn servers_answer_what_they_are_told(rt: HostRuntime) {
+    let tally = Tally::new(rt.alloc()).expect(&rt, "memory");
     let mut core = new_server(rt.alloc());
     for row in ROWS.split('\n') {
-        expect(&rt, rt.alloc(), &mut core, &tally, row)?;
+        assert!(rt; answers(&rt, rt.alloc(), &mut core, &tally, row), "{row}");
     }
-    Ok(())
 }

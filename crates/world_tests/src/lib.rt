@@ -8,4 +8,6 @@ mod reports;
 #[cfg(test)]
 mod shown;
 #[cfg(test)]
+mod words;
+#[cfg(test)]
 mod worlds;

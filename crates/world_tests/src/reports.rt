@@ -29,13 +29,10 @@ fn told(alloc: Global, world: &World, text: &mut Vec<u8>) -> bool {
     write(alloc, world, text).is_ok() || write(alloc, world, text).is_ok()
 }
 
-/// A world's report, or nothing.
-pub(crate) fn report(alloc: Global, world: &World) -> Vec<u8> {
+/// Whether a world's report is this one.
+pub(crate) fn is_report(alloc: Global, world: &World, want: &str) -> bool {
     let mut text = Vec::new(alloc);
-    if !told(alloc, world, &mut text) {
-        text.clear();
-    }
-    text
+    told(alloc, world, &mut text) && text.as_slice() == want.as_bytes()
 }
 
 /// Whether a report is refused because writes fail.

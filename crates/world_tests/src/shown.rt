@@ -1,58 +1,86 @@
 //! What a world shows beside its report.
 
+use crate::words::{number, word};
 use container_model::answer::Done;
-use std::alloc::{AllocError, Global};
+use std::str::SplitWhitespace;
 use world_model::logs::{Document, EventAnswer, ServerDone, Taken};
 use world_run::world::World;
 
-/// How many events were taken, messages sent, and frames there are.
-fn sizes(alloc: Global, world: &World) -> Result<String, AllocError> {
-    let (taken, sent) = (world.events_taken(), world.sent().len());
-    let frames = world.container().all_frames().len();
-    format!(in alloc; "events {taken} sent {sent} frames {frames}")
+/// Whether the next two words are this name and this number.
+fn counts(words: &mut SplitWhitespace<'_>, name: &str, count: usize) -> bool {
+    word(words) == name && number(words) as usize == count
 }
 
-fn push_container(alloc: Global, text: &mut String, done: &Done) -> Result<(), AllocError> {
-    let (object, k) = (done.object, done.k);
-    text.push_str(&format!(in alloc; ", container {object} {k}")?)?;
-    Ok(())
-}
-
-fn push_server(alloc: Global, text: &mut String, done: &ServerDone) -> Result<(), AllocError> {
-    let (inc, object, k) = (done.inc, done.object, done.k);
-    text.push_str(&format!(in alloc; ", server {inc} {object} {k}")?)?;
-    Ok(())
-}
-
-fn push_taken(alloc: Global, text: &mut String, taken: &Taken) -> Result<(), AllocError> {
-    let (place, object, inc, act, s) = (taken.place, taken.object, taken.inc, taken.act, taken.s);
-    text.push_str(&format!(in alloc; ", taken {place} {object} {inc} {act} {s}")?)?;
-    Ok(())
-}
-
-fn push_document(alloc: Global, text: &mut String, document: &Document) -> Result<(), AllocError> {
-    let (k, parts) = (document.k, document.parts.len());
-    text.push_str(&format!(in alloc; ", counted {k} {parts}")?)?;
-    Ok(())
-}
-
-/// How many there are of all; then each content that was counted, by its object and save, each that was taken, by its place,
-/// object, server, activation and storage grant, and the document of frame 1, by its save and how many objects it has.
-pub(crate) fn shown(alloc: Global, world: &World) -> Result<String, AllocError> {
-    let mut text = sizes(alloc, world)?;
-    for done in world.container_done() {
-        push_container(alloc, &mut text, done)?;
+/// Whether the next words are this name and these numbers.
+fn tells(words: &mut SplitWhitespace<'_>, name: &str, numbers: &[u32]) -> bool {
+    if word(words) != name {
+        return false;
     }
-    for done in world.server_done() {
-        push_server(alloc, &mut text, done)?;
+    for of in numbers {
+        if number(words) != *of {
+            return false;
+        }
     }
-    for taken in world.taken() {
-        push_taken(alloc, &mut text, taken)?;
+    true
+}
+
+/// Whether so many events were taken, messages sent, and frames there are.
+fn are_counted(world: &World, words: &mut SplitWhitespace<'_>) -> bool {
+    counts(words, "events", world.events_taken())
+        && counts(words, "sent", world.sent().len())
+        && counts(words, "frames", world.container().all_frames().len())
+}
+
+fn are_container_done(done: &[Done], words: &mut SplitWhitespace<'_>) -> bool {
+    for done in done {
+        if !tells(words, "container", &[done.object, done.k]) {
+            return false;
+        }
     }
-    if let Some(document) = world.counted(1) {
-        push_document(alloc, &mut text, document)?;
+    true
+}
+
+fn are_server_done(done: &[ServerDone], words: &mut SplitWhitespace<'_>) -> bool {
+    for done in done {
+        if !tells(words, "server", &[done.inc, done.object, done.k]) {
+            return false;
+        }
     }
-    Ok(text)
+    true
+}
+
+fn is_taken(taken: &Taken, words: &mut SplitWhitespace<'_>) -> bool {
+    let place = [taken.place, taken.object, taken.inc, taken.act, taken.s];
+    tells(words, "taken", &place)
+}
+
+fn are_taken(taken: &[Taken], words: &mut SplitWhitespace<'_>) -> bool {
+    for taken in taken {
+        if !is_taken(taken, words) {
+            return false;
+        }
+    }
+    true
+}
+
+fn is_document(document: Option<&Document>, words: &mut SplitWhitespace<'_>) -> bool {
+    match document {
+        Some(document) => tells(words, "counted", &[document.k])
+            && number(words) as usize == document.parts.len(),
+        None => true,
+    }
+}
+
+/// Whether there are so many of all; then whether these are each content that was counted, by its object and save, each that was
+/// taken, by its place, object, server, activation and storage grant, and the document of frame 1, by its save and how many
+/// objects it has.
+pub(crate) fn is_shown(world: &World, words: &mut SplitWhitespace<'_>) -> bool {
+    are_counted(world, words)
+        && are_container_done(world.container_done(), words)
+        && are_server_done(world.server_done(), words)
+        && are_taken(world.taken(), words)
+        && is_document(world.counted(1), words)
+        && word(words).is_empty()
 }
 
 /// What an event was answered.

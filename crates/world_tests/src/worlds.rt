@@ -2,16 +2,15 @@
 //! are quick to prove.
 
 use crate::files::file;
-use crate::reports::{is_unwritten, report};
-use crate::shown::{answer, shown};
+use crate::reports::{is_report, is_unwritten};
+use crate::shown::{answer, is_shown};
+use crate::words::{number, word};
 use embed_core::embedded::Embedded;
 use embed_core::tally::Tally;
-use embed_core::words;
 use embed_note::note::Note;
 use event_texts::events::Events;
-use std::alloc::{AllocError, Global};
+use std::alloc::Global;
 use std::process::Abort;
-use std::test::Fail;
 use texts::lines::Grammar;
 use world_model::event::{Event, Stop};
 use world_run::container::Limits;
@@ -53,142 +52,104 @@ deliver 1";
 
 /// What is looked at, and what it is: how many events, messages and frames there are, and the contents that were counted or
 /// taken; the text of the note in a frame's file; what an event was answered.
-const NEW_SHOWS: &str = "shown => events 0 sent 0 frames 0
-file 1 => none";
+const NEW_SHOWS: &str = "shown events 0 sent 0 frames 0
+file 1 none";
 
-const SAVED_SHOWS: &str =
-    "shown => events 15 sent 8 frames 1, container 1 1, server 1 1 1, counted 1 1
-file 1 => aa
-file 2 => none";
+const SAVED_SHOWS: &str = "shown events 15 sent 8 frames 1 container 1 1 server 1 1 1 counted 1 1
+file 1 aa
+file 2 none";
 
 const CLOSED_SHOWS: &str =
-    "shown => events 25 sent 11 frames 2, container 1 1, server 1 1 1, taken 9 1 1 1 2, taken 11 1 1 1 2, counted 1 1
-file 2 => no object
-answer 1 => took
-answer 24 => refused
-answer 25 => dropped";
+    "shown events 25 sent 11 frames 2 container 1 1 server 1 1 1 taken 9 1 1 1 2 taken 11 1 1 1 2 counted 1 1
+file 2 empty
+answer 1 took
+answer 24 refused
+answer 25 dropped";
 
-fn boxed(alloc: Global, tally: &Tally) -> Result<Box<dyn Embedded>, AllocError> {
-    let boxed: Box<dyn Embedded> = Box::new(alloc, Note::new(alloc, tally.share()?))?;
-    Ok(boxed)
+fn boxed(rt: &impl Abort, alloc: Global) -> Box<dyn Embedded> {
+    let tally = Tally::new(alloc).expect(rt, "memory");
+    Box::new(alloc, Note::new(alloc, tally)).expect(rt, "memory")
 }
 
-/// One note in stock.
-fn stock(alloc: Global) -> Result<Stock, AllocError> {
-    let tally = Tally::new(alloc)?;
-    let mut stock = Stock::new(alloc);
-    match stock.add(boxed(alloc, &tally)?) {
-        Ok(()) => Ok(stock),
-        Err(_) => Err(AllocError),
-    }
+fn add(rt: &impl Abort, stock: &mut Stock, boxed: Box<dyn Embedded>) {
+    assert!(rt; stock.add(boxed).is_ok());
 }
 
 /// A world that gives numbers up to 1000, with one note in stock.
-fn world(alloc: Global) -> Result<World, AllocError> {
-    Ok(World::new(alloc, Limits { numbers: 1000 }, stock(alloc)?))
+fn world(rt: &impl Abort, alloc: Global) -> World {
+    let mut stock = Stock::new(alloc);
+    add(rt, &mut stock, boxed(rt, alloc));
+    World::new(alloc, Limits { numbers: 1000 }, stock)
 }
 
-fn event(alloc: Global, line: &str) -> Result<Option<Event>, AllocError> {
+fn event(rt: &impl Abort, alloc: Global, line: &str) -> Event {
     Events::parse(alloc, 1, line.as_bytes())
+        .expect(rt, "memory")
+        .expect(rt, "an event")
 }
 
-fn events(alloc: Global, lines: &str) -> Result<Vec<Event>, AllocError> {
+fn events(rt: &impl Abort, alloc: Global, lines: &str) -> Vec<Event> {
     let mut events = Vec::new(alloc);
     for line in lines.split('\n') {
-        if let Some(event) = event(alloc, line)? {
-            events.push(event)?;
-        }
+        events.push(event(rt, alloc, line)).expect(rt, "memory");
     }
-    Ok(events)
+    events
 }
 
-fn run(alloc: Global, world: &mut World, events: &[Event]) -> (usize, Option<Stop>) {
-    world.run(alloc, events)
+fn run(alloc: Global, world: &mut World, events: &[Event]) -> Option<Stop> {
+    world.run(alloc, events).1
 }
 
-fn run_all(alloc: Global, world: &mut World, lines: &str) -> Result<Option<Stop>, AllocError> {
-    Ok(run(alloc, world, &events(alloc, lines)?).1)
-}
-
-fn number(text: &str) -> u32 {
-    words::number(text.as_bytes()).unwrap_or(0)
-}
-
-fn halves<'a>(text: &'a str, mark: &str) -> (&'a str, &'a str) {
-    match text.split_once(mark) {
-        Some(halves) => halves,
-        None => (text, ""),
+/// `shown ..`, `file FRAME TEXT` or `answer EVENT NAME`: whether a world shows this.
+fn shows(rt: &impl Abort, alloc: Global, world: &World, row: &str) -> bool {
+    let mut words = row.split_whitespace();
+    match word(&mut words) {
+        "file" => file(rt, alloc, world, number(&mut words)) == word(&mut words),
+        "answer" => answer(world, number(&mut words)) == word(&mut words),
+        _ => is_shown(world, &mut words),
     }
 }
 
-/// `shown`, `file FRAME` or `answer EVENT`: what the world shows there.
-fn look(alloc: Global, world: &World, row: &str) -> Result<String, Fail> {
-    let (what, of) = halves(row, " ");
-    match what {
-        "file" => Ok(String::from_str(alloc, file(alloc, world, number(of))?)?),
-        "answer" => Ok(String::from_str(alloc, answer(world, number(of)))?),
-        _ => Ok(shown(alloc, world)?),
-    }
-}
-
-fn expect(rt: &impl Abort, alloc: Global, world: &World, rows: &str) -> Result<(), Fail> {
+fn expect(rt: &impl Abort, alloc: Global, world: &World, rows: &str) {
     for row in rows.split('\n') {
-        let (row, want) = halves(row, " => ");
-        let text = look(alloc, world, row)?;
-        assert!(rt; text.as_str() == want, "{row}: {text}");
+        assert!(rt; shows(rt, alloc, world, row), "{row}");
     }
-    Ok(())
 }
 
 /// Runs events, and then looks at what the world shows.
-fn play(
-    rt: &impl Abort,
-    alloc: Global,
-    world: &mut World,
-    lines: &str,
-    rows: &str,
-) -> Result<(), Fail> {
-    drop(run_all(alloc, world, lines)?);
-    expect(rt, alloc, world, rows)
+fn play(rt: &impl Abort, alloc: Global, world: &mut World, lines: &str, rows: &str) {
+    drop(run(alloc, world, &events(rt, alloc, lines)));
+    expect(rt, alloc, world, rows);
 }
 
 #[test]
-fn a_new_world_is_empty(rt: HostRuntime) -> Result<(), Fail> {
-    let world = world(rt.alloc())?;
+fn a_new_world_is_empty(rt: HostRuntime) {
+    let world = world(&rt, rt.alloc());
     assert!(rt; is_unwritten(rt.alloc(), &world));
-    expect(&rt, rt.alloc(), &world, NEW_SHOWS)
-}
-
-fn play_both(rt: &impl Abort, alloc: Global, world: &mut World) -> Result<(), Fail> {
-    play(rt, alloc, world, SAVED, SAVED_SHOWS)?;
-    play(rt, alloc, world, CLOSED, CLOSED_SHOWS)
+    expect(&rt, rt.alloc(), &world, NEW_SHOWS);
 }
 
 #[test]
-fn worlds_show_what_happened(rt: HostRuntime) -> Result<(), Fail> {
-    let mut world = world(rt.alloc())?;
-    play_both(&rt, rt.alloc(), &mut world)
+fn worlds_show_what_happened(rt: HostRuntime) {
+    let mut world = world(&rt, rt.alloc());
+    play(&rt, rt.alloc(), &mut world, SAVED, SAVED_SHOWS);
+    play(&rt, rt.alloc(), &mut world, CLOSED, CLOSED_SHOWS);
 }
 
 /// Runs events one after the other, and each again where memory ran out: whether all were taken.
 fn run_on(alloc: Global, world: &mut World, events: &[Event]) -> bool {
     for event in events.chunks(1) {
-        if run(alloc, world, event).1.is_some() && run(alloc, world, event).1.is_some() {
+        if run(alloc, world, event).is_some() && run(alloc, world, event).is_some() {
             return false;
         }
     }
     true
 }
 
-fn ran_on(alloc: Global, world: &mut World, lines: &str) -> Result<bool, AllocError> {
-    Ok(run_on(alloc, world, &events(alloc, lines)?))
-}
-
 /// Where any one allocation is refused, the run goes on to the same report.
 #[test]
-fn a_run_goes_on_where_memory_ran_out(rt: HostRuntime) -> Result<(), Fail> {
-    let mut world = world(rt.alloc())?;
-    assert!(rt; ran_on(rt.alloc(), &mut world, SAVED)?);
-    assert!(rt; report(rt.alloc(), &world).as_slice() == REPORT.as_bytes());
-    Ok(())
+fn a_run_goes_on_where_memory_ran_out(rt: HostRuntime) {
+    let mut world = world(&rt, rt.alloc());
+    assert!(rt; run_on(rt.alloc(), &mut world, &events(&rt, rt.alloc(), SAVED)));
+    assert!(rt; is_report(rt.alloc(), &world, REPORT));
 }
