@@ -1,29 +1,20 @@
-//! The commands, and whether each gave this, or this is printed where it is refused. The functions that only call
+//! The commands, and what is told of each: what it gave, or what is printed where it is refused. The functions that only call
 //! a command leave its contract behind, so that those above are quick to prove.
 
 use cfb_names::name::Name;
 use container_cli::fault::SimulateFault;
 use container_cli::simulation::{read_events, write_told};
-use embed_core::words::number;
 use file_commands::cleaning::clean_file;
 use file_commands::commands::{list_file, make_file};
 use file_commands::fault::{CleanFault, GetFault, ListFault, MakeFault};
 use file_commands::getting::get_file;
-use std::alloc::Global;
+use std::alloc::{AllocError, Global};
 use std::io::{Read, Write};
-use std::process::Abort;
 use texts::path::Path;
 use texts::report::Report;
 
-fn is_printed(rt: &impl Abort, alloc: Global, report: Report<'_>, want: &str) -> bool {
-    report.to_string(alloc).expect(rt, "memory").as_str() == want
-}
-
-fn is_count(count: usize, want: &str) -> bool {
-    match number(want.as_bytes()) {
-        Some(number) => number as usize == count,
-        None => false,
-    }
+fn printed(alloc: Global, report: Report<'_>) -> Result<String, AllocError> {
+    report.to_string(alloc)
 }
 
 fn made<R: Read, W: Write>(
@@ -35,15 +26,13 @@ fn made<R: Read, W: Write>(
 }
 
 pub(crate) fn make<R: Read, W: Write>(
-    rt: &impl Abort,
     alloc: Global,
     reader: &mut R,
     writer: &mut W,
-    want: &str,
-) -> bool {
+) -> Result<String, AllocError> {
     match made(alloc, reader, writer) {
-        Ok(count) => is_count(count, want),
-        Err(fault) => is_printed(rt, alloc, fault.report("a.ole"), want),
+        Ok(count) => count.to_string(alloc),
+        Err(fault) => printed(alloc, fault.report("a.ole")),
     }
 }
 
@@ -56,15 +45,13 @@ fn listed<R: Read, W: Write>(
 }
 
 pub(crate) fn list<R: Read, W: Write>(
-    rt: &impl Abort,
     alloc: Global,
     reader: &mut R,
     writer: &mut W,
-    want: &str,
-) -> bool {
+) -> Result<String, AllocError> {
     match listed(alloc, reader, writer) {
-        Ok(()) => want == "listed",
-        Err(fault) => is_printed(rt, alloc, fault.report("a.ole"), want),
+        Ok(()) => String::from_str(alloc, "listed"),
+        Err(fault) => printed(alloc, fault.report("a.ole")),
     }
 }
 
@@ -78,49 +65,31 @@ fn got<R: Read, W: Write>(
 }
 
 fn get_at<R: Read, W: Write>(
-    rt: &impl Abort,
     alloc: Global,
     reader: &mut R,
     path: &[Name],
     writer: &mut W,
-    want: &str,
-) -> bool {
+) -> Result<String, AllocError> {
     match got(alloc, reader, path, writer) {
-        Ok(()) => want == "written",
-        Err(fault) => is_printed(rt, alloc, fault.report("a.ole"), want),
+        Ok(()) => String::from_str(alloc, "written"),
+        Err(fault) => printed(alloc, fault.report("a.ole")),
     }
 }
 
-/// The stream `A`.
+/// The stream at a path that a word spells; a word that spells none is the root's.
 pub(crate) fn get<R: Read, W: Write>(
-    rt: &impl Abort,
     alloc: Global,
     reader: &mut R,
+    word: &str,
     writer: &mut W,
-    want: &str,
-) -> bool {
-    let path = Path::parse(alloc, b"A")
-        .expect(rt, "memory")
-        .expect(rt, "a path");
-    get_at(
-        rt,
-        alloc,
-        reader,
-        path.names().expect(rt, "names"),
-        writer,
-        want,
-    )
-}
-
-/// The root, which is no stream.
-pub(crate) fn get_root<R: Read, W: Write>(
-    rt: &impl Abort,
-    alloc: Global,
-    reader: &mut R,
-    writer: &mut W,
-    want: &str,
-) -> bool {
-    get_at(rt, alloc, reader, &[], writer, want)
+) -> Result<String, AllocError> {
+    match Path::parse(alloc, word.as_bytes())? {
+        Some(path) => match path.names() {
+            Ok(names) => get_at(alloc, reader, names, writer),
+            Err(fault) => String::from_str(alloc, fault.name()),
+        },
+        None => get_at(alloc, reader, &[], writer),
+    }
 }
 
 fn cleaned<R: Read, W: Write>(
@@ -132,15 +101,13 @@ fn cleaned<R: Read, W: Write>(
 }
 
 pub(crate) fn clean<R: Read, W: Write>(
-    rt: &impl Abort,
     alloc: Global,
     reader: &mut R,
     writer: &mut W,
-    want: &str,
-) -> bool {
+) -> Result<String, AllocError> {
     match cleaned(alloc, reader, writer) {
-        Ok(count) => is_count(count, want),
-        Err(fault) => is_printed(rt, alloc, fault.report("a.ole", "b.ole"), want),
+        Ok(count) => count.to_string(alloc),
+        Err(fault) => printed(alloc, fault.report("a.ole", "b.ole")),
     }
 }
 
@@ -156,15 +123,13 @@ fn simulated<R: Read, W: Write>(
 
 /// The two ends of a simulation: its events are read, and in the place of what they lead to this text is written.
 pub(crate) fn simulate<R: Read, W: Write>(
-    rt: &impl Abort,
     alloc: Global,
     reader: &mut R,
     writer: &mut W,
     told: &str,
-    want: &str,
-) -> bool {
+) -> Result<String, AllocError> {
     match simulated(alloc, reader, writer, told) {
-        Ok(()) => want == "run",
-        Err(fault) => is_printed(rt, alloc, fault.report("e"), want),
+        Ok(()) => String::from_str(alloc, "run"),
+        Err(fault) => printed(alloc, fault.report("e")),
     }
 }

@@ -2,12 +2,13 @@
 //! `unread` where the input's end isn't read, and what is told; and the functions have no contracts: so the test is quick to
 //! prove.
 
-use crate::commands::{clean, get, get_root, list, make, simulate};
+use crate::commands::{clean, get, list, make, simulate};
 use crate::ends::{Failing, Full};
 use embed_core::words::number;
-use std::alloc::Global;
+use std::alloc::{AllocError, Global};
 use std::io::{Read, Write};
 use std::process::Abort;
+use std::test::Fail;
 
 const ROWS: &str = "make unread => file -: Unreadable
 make 0 => file a.ole: Unwritable
@@ -55,69 +56,61 @@ fn input<'a>(command: &str, file: &'a [u8]) -> &'a [u8] {
     }
 }
 
-/// Whether this is told of a command.
-fn tells<R: Read, W: Write>(
-    rt: &impl Abort,
+/// What is told of a command.
+fn told<R: Read, W: Write>(
     alloc: Global,
     command: &str,
     reader: &mut R,
     writer: &mut W,
-    want: &str,
-) -> bool {
+) -> Result<String, AllocError> {
     match command.as_bytes() {
-        [b'm', ..] => make(rt, alloc, reader, writer, want),
-        [b'l', ..] => list(rt, alloc, reader, writer, want),
-        [b'g', ..] => get(rt, alloc, reader, writer, want),
-        [b'r', ..] => get_root(rt, alloc, reader, writer, want),
-        [b'c', ..] => clean(rt, alloc, reader, writer, want),
-        _ => simulate(rt, alloc, reader, writer, TOLD, want),
+        [b'm', ..] => make(alloc, reader, writer),
+        [b'l', ..] => list(alloc, reader, writer),
+        [b'g', ..] => get(alloc, reader, "A", writer),
+        [b'r', ..] => get(alloc, reader, "", writer),
+        [b'c', ..] => clean(alloc, reader, writer),
+        _ => simulate(alloc, reader, writer, TOLD),
     }
 }
 
-/// Whether this is told of a command whose input's end isn't read, and it wrote nothing.
-fn is_unread(rt: &impl Abort, alloc: Global, command: &str, rest: &[u8], want: &str) -> bool {
+/// What is told of a command whose input's end isn't read, or that it wrote.
+fn unread(alloc: Global, command: &str, rest: &[u8]) -> Result<String, AllocError> {
     let mut out = Vec::new(alloc);
-    tells(rt, alloc, command, &mut Failing { rest }, &mut out, want) && out.is_empty()
+    let told = told(alloc, command, &mut Failing { rest }, &mut out)?;
+    if out.is_empty() {
+        Ok(told)
+    } else {
+        String::from_str(alloc, "written")
+    }
 }
 
-/// Whether this is told of a command that may write so many bytes.
-fn is_full(
-    rt: &impl Abort,
-    alloc: Global,
-    command: &str,
-    mut input: &[u8],
-    room: u32,
-    want: &str,
-) -> bool {
-    let mut writer = Full {
-        room: room as usize,
-    };
-    tells(rt, alloc, command, &mut input, &mut writer, want)
+fn ends(alloc: Global, command: &str, end: &str, file: &[u8]) -> Result<String, AllocError> {
+    let mut rest = input(command, file);
+    match number(end.as_bytes()) {
+        Some(room) => {
+            let mut writer = Full {
+                room: room as usize,
+            };
+            told(alloc, command, &mut rest, &mut writer)
+        }
+        None => unread(alloc, command, rest),
+    }
 }
 
-fn ends(rt: &impl Abort, alloc: Global, row: &str, file: &[u8]) -> bool {
+fn expect(rt: &impl Abort, alloc: Global, row: &str, file: &[u8]) -> Result<(), Fail> {
     let (row, want) = halves(row, " => ");
     let (command, end) = halves(row, " ");
-    let input = input(command, file);
-    match number(end.as_bytes()) {
-        Some(room) => is_full(rt, alloc, command, input, room, want),
-        None => is_unread(rt, alloc, command, input, want),
-    }
+    let told = ends(alloc, command, end, file)?;
+    assert!(rt; told.as_str() == want, "{row}: {told}");
+    Ok(())
 }
 
 #[test]
-fn reads_and_writes_that_fail_are_told(rt: HostRuntime) {
+fn reads_and_writes_that_fail_are_told(rt: HostRuntime) -> Result<(), Fail> {
     let mut file = Vec::new(rt.alloc());
-    assert!(rt;
-        make(
-            &rt,
-            rt.alloc(),
-            &mut DESCRIPTION.as_bytes(),
-            &mut file,
-            "2560"
-        )
-    );
+    drop(make(rt.alloc(), &mut DESCRIPTION.as_bytes(), &mut file)?);
     for row in ROWS.split('\n') {
-        assert!(rt; ends(&rt, rt.alloc(), row, &file), "{row}");
+        expect(&rt, rt.alloc(), row, &file)?;
     }
+    Ok(())
 }
