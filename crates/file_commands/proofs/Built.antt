@@ -154,11 +154,6 @@ made-is k [] new h = absurd (search (rules))
 made-is k (name ∷ rest) new h =
     made-map (after k) (is_ok (look (name ∷ rest) (inner k.now))) (change (Add new) (name ∷ rest) (inner k.now)) (change (Put new) (name ∷ rest) (inner k.now)) (added_is_put name rest new (inner k.now))
 
--- the root stands at the empty path
-pub root-exists : (k : Kept) (path : List (List ℕ)) (new : List ℕ) → true ≡ (length path == 0) → stream_made new k path ≡ Err (line.Tree Exists)
-root-exists k [] new h = refl
-root-exists k (name ∷ rest) new h = absurd (grind (arith))
-
 free-from : (k x : Kept) (path : List (List ℕ)) (new : List ℕ) → stream_made new k path ≡ Ok x → is_ok (look path (inner k.now)) ≡ false
 free-from k x path new h =
     elim (is_ok (look path (inner k.now))) as (λ b. cond b (Err (line.Tree Exists)) (of_tree (put path new k)) ≡ Ok x → b ≡ false) [ true ↦ λ g. absurd (search (rules)) | false ↦ λ g. refl ] h
