@@ -7,14 +7,12 @@ use Rattle.wire_msgs.specs.declared.operation.Operation.{Operation}
 use Rattle.wire_msgs.specs.declared.operation.Operation.TheVariants.{UiActivate}
 use Rattle.grant_core.specs.Grants.{waiting}
 use Rattle.grant_core.specs.declared.grant_states.Claim.{Claim}
-use Rattle.container_model.specs.declared.record.Link.{Link}
 use Rattle.container_model.specs.declared.record.Object.{Object}
 use Rattle.container_model.specs.declared.record.Frame.{Frame}
 use Rattle.container_model.specs.declared.fault.ContainerFault.{ContainerFault}
 use Rattle.container_model.specs.declared.fault.ContainerFault.TheVariants.{NoSuch}
 use Rattle.container_model.specs.Grants.{grant_each, is_hosted, is_hosted_object, requested}
 use Rattle.container_model.specs.Record.{Record, Took, asked_link, is_alive, is_object, with_object}
-use Rattle.container_model.specs.Replies.{is_of}
 use Rattle.container_model.specs.Saves.{kept}
 use Rattle.container_model.specs.Messages.{on_reap, reap_made, reaped_grants, reaped_object}
 use Rattle.container_laws.specs.Laws.{ReapsEndTheirs, ReapsKeepOthers, StaysOrIsGranted}
@@ -106,10 +104,6 @@ reaped_get inc [] i o e = cc
 reaped_get inc (y ∷ ys) zero o e = let s : y ≡ o = cc in rw s refl
 reaped_get inc (y ∷ ys) (suc i) o e = reaped_get inc ys i o e
 
-same_of : (inc : ℕ) (link : Option Link) → is_of inc link ≡ is_hosted inc link
-same_of inc None = refl
-same_of inc (Some l) = refl
-
 reap_objects : (r : Record) (inc : ℕ) (t : Took) → on_reap r inc ≡ Ok t → t.rec.objects ≡ (reaped_grants r inc).rec.objects
 reap_objects r inc t e =
     let b = taken_if (is_alive r inc) (Ok (reap_made r inc)) NoSuch t e in
@@ -151,22 +145,22 @@ module _ (r : Record) (inc : ℕ) (s : Steady r) where
         told = e;
       })
 
-  pub others_stay : (i : ℕ) (o : Object) → slice_get r.objects i ≡ Some o → is_of inc o.link ≡ false → (later : Object) × (slice_get (reaped_grants r inc).rec.objects i ≡ Some later) × StaysOrIsGranted r o later
+  pub others_stay : (i : ℕ) (o : Object) → slice_get r.objects i ≡ Some o → is_hosted inc o.link ≡ false → (later : Object) × (slice_get (reaped_grants r inc).rec.objects i ≡ Some later) × StaysOrIsGranted r o later
   others_stay i o at other =
-      let here : slice_get (gone r inc s).objects i ≡ Some o = reaped_get inc r.objects i o at ∙ ap (λ (x : Object). Some x) (stays_object inc o o.link (sym (same_of inc o.link) ∙ other)) in
+      let here : slice_get (gone r inc s).objects i ≡ Some o = reaped_get inc r.objects i o at ∙ ap (λ (x : Object). Some x) (stays_object inc o o.link other) in
       let t = grants_tell (claims r inc s) (gone r inc s) i o apart in_order here in
       (t.0, t.1, is_told o t.0 i at t.2)
 
-  not_named : (o : Object) (i : ℕ) → slice_get r.objects i ≡ Some o → is_of inc o.link ≡ true → (c : Claim) → Granted c → c.object ≡ o.number → ⊥
+  not_named : (o : Object) (i : ℕ) → slice_get r.objects i ≡ Some o → is_hosted inc o.link ≡ true → (c : Claim) → Granted c → c.object ≡ o.number → ⊥
   not_named o i at theirs c g named =
-      let gone : Hosted inc r.objects c ≡ true = ap (λ (n : ℕ). is_hosted_object inc (find (is_object n) r.objects)) named ∙ (ap (is_hosted_object inc) (own i o at) ∙ (sym (same_of inc o.link) ∙ theirs)) in
+      let gone : Hosted inc r.objects c ≡ true = ap (λ (n : ℕ). is_hosted_object inc (find (is_object n) r.objects)) named ∙ (ap (is_hosted_object inc) (own i o at) ∙ theirs) in
       let no = sym gone ∙ g.passes.still in
       cc
 
-  pub theirs_end : (i : ℕ) (o : Object) → slice_get r.objects i ≡ Some o → is_of inc o.link ≡ true → slice_get (reaped_grants r inc).rec.objects i ≡ Some (record o { work = kept o; link = None })
+  pub theirs_end : (i : ℕ) (o : Object) → slice_get r.objects i ≡ Some o → is_hosted inc o.link ≡ true → slice_get (reaped_grants r inc).rec.objects i ≡ Some (record o { work = kept o; link = None })
   theirs_end i o at theirs =
       let ended : Object = record o { work = kept o; link = None } in
-      let here : slice_get (gone r inc s).objects i ≡ Some ended = reaped_get inc r.objects i o at ∙ ap (λ (x : Object). Some x) (gone_link inc o o.link (sym (same_of inc o.link) ∙ theirs)) in
+      let here : slice_get (gone r inc s).objects i ≡ Some ended = reaped_get inc r.objects i o at ∙ ap (λ (x : Object). Some x) (gone_link inc o o.link theirs) in
       unnamed_keeps (claims r inc s) (gone r inc s) i ended (each_weaker Granted (λ (c : Claim). c.object ≡ o.number → ⊥) (claims r inc s) (not_named o i at theirs) all_granted) here
 
 pub reaps-keep_others : ReapsKeepOthers

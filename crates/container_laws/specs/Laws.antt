@@ -15,10 +15,10 @@ use Rattle.container_model.specs.declared.record.Link.{Link}
 use Rattle.container_model.specs.declared.record.Object.{Object}
 use Rattle.container_model.specs.declared.record.Frame.{Frame}
 use Rattle.container_model.specs.declared.fault.ContainerFault.TheVariants.{Stale, WrongLink}
+use Rattle.container_model.specs.Grants.{is_hosted}
 use Rattle.container_model.specs.Record.{Record, Took, asked_link, is_alive, is_linked, is_object}
 use Rattle.container_model.specs.Saves.{kept}
 use Rattle.container_model.specs.Messages.{is_fit, is_held_by, is_open_to, on_message, on_reap}
-use Rattle.container_model.specs.Replies.{is_of}
 use Rattle.container_steady.specs.Steady.{Steady}
 
 -- the number of the call that an object is to answer, if it is to answer one
@@ -116,12 +116,12 @@ MessagesKeepOthers = (r : Record) (link : ℕ) (m : Message) (t : Took) → Stea
 
 -- the end of a server leaves the objects of other servers as they are, but for those that waited for their frames
 abbrev pub ReapsKeepOthers : Type 0
-ReapsKeepOthers = (r : Record) (inc : ℕ) (t : Took) → Steady r → on_reap r inc ≡ Ok t → (i : ℕ) (o : Object) → slice_get r.objects i ≡ Some o → is_of inc o.link ≡ false
+ReapsKeepOthers = (r : Record) (inc : ℕ) (t : Took) → Steady r → on_reap r inc ≡ Ok t → (i : ℕ) (o : Object) → slice_get r.objects i ≡ Some o → is_hosted inc o.link ≡ false
     → (later : Object) × (slice_get t.rec.objects i ≡ Some later) × StaysOrIsGranted r o later
 
 -- the objects of a server that has ended are passive, with the content that they answered in the present save, if any
 abbrev pub ReapsEndTheirs : Type 0
-ReapsEndTheirs = (r : Record) (inc : ℕ) (t : Took) → Steady r → on_reap r inc ≡ Ok t → (i : ℕ) (o : Object) → slice_get r.objects i ≡ Some o → is_of inc o.link ≡ true → slice_get t.rec.objects i ≡ Some (record o { work = kept o; link = None })
+ReapsEndTheirs = (r : Record) (inc : ℕ) (t : Took) → Steady r → on_reap r inc ≡ Ok t → (i : ℕ) (o : Object) → slice_get r.objects i ≡ Some o → is_hosted inc o.link ≡ true → slice_get t.rec.objects i ≡ Some (record o { work = kept o; link = None })
 
 -- A frame is given up by its holder's own answer alone, once it was told to: no other message changes who has the frame or
 -- is to get it.

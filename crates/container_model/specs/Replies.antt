@@ -1,5 +1,5 @@
 -- What a reply makes of a link, with what is sent next.
-use Rattle.std.specs.Prelude.{◌+◌, ◌==◌, ℕ, Bool, false, List, [], ◌∷◌, ◌++◌, Option, Some, None, Result, Ok, Err}
+use Rattle.std.specs.Prelude.{◌+◌, ℕ, List, [], ◌∷◌, ◌++◌, Option, Some, None, Result, Ok, Err}
 use Rattle.wire_msgs.specs.declared.refusal.Refusal.{Refusal}
 use Rattle.wire_msgs.specs.declared.message.Message.{Message}
 use Rattle.wire_msgs.specs.declared.message.Message.TheVariants.{Call}
@@ -29,11 +29,6 @@ resumed (Ok replied) = Ok (record { link = next_link replied.link; taken = repli
 abbrev pub first_call : Link → List Operation → Option Action
 first_call l [] = None
 first_call l (op ∷ ops) = Some (Send (Call l.inc l.act (l.last + 1) op))
-
--- an activation of this server
-abbrev pub is_of : ℕ → Option Link → Bool
-is_of inc None = false
-is_of inc (Some l) = l.inc == inc
 
 -- The calls that are pending, as they were first sent, by the objects' order.
 abbrev pub pending_at : Link → Option Operation → List Message

@@ -1,5 +1,5 @@
 -- What verbs and closes make of an object's frame, and of the object that has it.
-use Rattle.std.specs.Prelude.{ℕ, List, [], Option, Some, None, if◌then◌else◌}
+use Rattle.std.specs.Prelude.{ℕ, List, [], Option, Some, None, slice_set, if◌then◌else◌}
 use Rattle.wire_msgs.specs.Found.{find, put}
 use Rattle.wire_msgs.specs.declared.message.Message.{Message}
 use Rattle.wire_msgs.specs.declared.operation.Operation.TheVariants.{UiDeactivate}
@@ -27,6 +27,10 @@ told_in os (Some o) = put (is_object o.number) (record o { link = asked_link UiD
 abbrev pub told_objects : Option ℕ → List Object → List Object
 told_objects None os = os
 told_objects (Some n) os = told_in os (find (is_object n) os)
+
+-- the objects once the one at i is another, and the one at j is told to give the frame up
+abbrev pub both_told : List Object → ℕ → Object → ℕ → Object → List Object
+both_told os i o j holder = slice_set (slice_set os i o) j (record holder { link = asked_link UiDeactivate holder.link })
 
 abbrev pub told_one : Option Object → List Message
 told_one None = []

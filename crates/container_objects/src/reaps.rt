@@ -1,14 +1,14 @@
 //! Objects of a server that has ended.
 
 ghost use Rattle.std.specs.Prelude.{◌≡◌, map};
+ghost use Rattle.container_model.specs.Grants.{is_hosted};
 ghost use Rattle.container_model.specs.Messages.{reaped_object};
-ghost use Rattle.container_model.specs.Replies.{is_of};
 
 use container_model::record::{Link, Object};
 
 // Whether an activation is one of this server.
-fn is_of(inc: u32, link: &Option<Link>) -> bool
-    ensures { result ≡ is_of inc link.now }
+fn is_hosted(inc: u32, link: &Option<Link>) -> bool
+    ensures { result ≡ is_hosted inc link.now }
 {
     match link {
         Some(link) => link.inc == inc,
@@ -20,7 +20,7 @@ fn is_of(inc: u32, link: &Option<Link>) -> bool
 fn reap_object(inc: u32, object: &mut Object)
     ensures { object.new ≡ reaped_object inc object.old object.old.link }
 {
-    if !is_of(inc, &object.link) {
+    if !is_hosted(inc, &object.link) {
         return;
     }
     if let Some(link) = &mut object.link {

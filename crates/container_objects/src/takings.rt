@@ -3,12 +3,12 @@
 ghost use Rattle.std.specs.Prelude.{◌≡◌, ◌≢◌, ◌≤◌, ◌<◌, ◌++◌, All, IfOk, IfSome, OnErr, OnOk, Some, is_some, length, option_to_list, slice_get, slice_set, true};
 ghost use Rattle.container_links.specs.Asking.{HasNumber, stepped_by};
 ghost use Rattle.container_model.specs.Grants.{moved};
-ghost use Rattle.container_model.specs.Record.{asked_link, asked_sent, is_object, sends};
+ghost use Rattle.container_model.specs.Record.{asked_sent, is_object, sends};
 ghost use Rattle.container_model.specs.Verbs.{claim_of, stepped_link};
 ghost use Rattle.container_model.specs.Numbered.{IsObjectAt};
 ghost use Rattle.container_model.specs.declared.record.Link.{Link};
 ghost use Rattle.container_model.specs.declared.record.Object.{Object};
-ghost use Rattle.container_objects.specs.Stepping.{told_objects, told_sent};
+ghost use Rattle.container_objects.specs.Stepping.{both_told, told_objects, told_sent};
 ghost use Rattle.grant_core.specs.Grants.{Ask};
 ghost use Rattle.wire_msgs.specs.Found.{put};
 ghost use Rattle.wire_msgs.specs.declared.operation.Operation.TheVariants.{UiDeactivate};
@@ -130,7 +130,7 @@ fn ask_both(
     requires other_fits { j < length objects.old.items }
     requires apart { i ≢ j }
     requires linked { IfSome (slice_get objects.old.items i) (λ o. is_some o.link ≡ true) }
-    ensures asked { OnOk result ((o h : Object) (l : Link) → slice_get objects.old.items i ≡ Some o → slice_get objects.old.items j ≡ Some h → o.link ≡ Some l → objects.new.items ≡ slice_set (slice_set objects.old.items i (record o { link = Some (stepped_link g l steps.now).link })) j (record h { link = asked_link UiDeactivate h.link })) }
+    ensures asked { OnOk result ((o h : Object) (l : Link) → slice_get objects.old.items i ≡ Some o → slice_get objects.old.items j ≡ Some h → o.link ≡ Some l → objects.new.items ≡ both_told objects.old.items i (record o { link = Some (stepped_link g l steps.now).link }) j h) }
     ensures sent { IfOk result (λ a. (o h : Object) (l : Link) → slice_get objects.old.items i ≡ Some o → slice_get objects.old.items j ≡ Some h → o.link ≡ Some l → a ≡ sends (asked_sent UiDeactivate h.link) ++ sends (stepped_link g l steps.now).sent) }
     ensures few { IfOk result (λ a. length a ≤ 2) }
     ensures kept { OnErr result (objects.new.items ≡ objects.old.items) }

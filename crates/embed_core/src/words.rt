@@ -4,6 +4,7 @@ ghost use Rattle.embed_core.specs.Words.{digits_read, further, number_read, piec
 ghost use Rattle.std.specs.Option.{option_copied};
 ghost use Rattle.std.specs.Prelude.{◌≡◌, ◌<◌, [], ◌∷◌, length, IfSome, MatchOption};
 
+use memchr::memchr;
 use std::marker::Model;
 
 /// The bytes before the first such byte, and those behind it, where there is one.
@@ -11,12 +12,10 @@ pub fn cut(bytes: &[u8], at: u8) -> (&[u8], Option<&[u8]>)
     ensures pieces { pieces at bytes.now ≡ result.0.now ∷ further at (option_copied result.1) }
     ensures shorter { IfSome result.1 (λ rest. length rest.now < length bytes.now) }
 {
-    for (i, byte) in bytes.iter().enumerate() {
-        if *byte == at {
-            return (&bytes[..i], Some(&bytes[i + 1..]));
-        }
+    match memchr(at, bytes) {
+        Some(i) => (&bytes[..i], Some(&bytes[i + 1..])),
+        None => (bytes, None),
     }
-    (bytes, None)
 }
 
 /// The pieces of a text that is cut at each such byte, the first of them first.

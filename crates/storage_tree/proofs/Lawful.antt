@@ -10,7 +10,7 @@ use Rattle.storage_tree.specs.declared.storage.Edit.TheVariants.{Put, Add, Make,
 use Rattle.cfb_names.specs.Names.{key, key_cmp, key_eq}
 use Rattle.storage_tree.specs.Tree.{Children, none, stream, storage, tree}
 use Rattle.storage_tree.specs.Change.{child, Seen, bytes, inner, find, place, without, map_ok, on_ok, found, change, edited, putting, adding, making, removing, moving, renaming, look}
-use Rattle.storage_tree.specs.Laws.{Apart, beside, target, Stays, PutIsThere, MadeIsThere, RenamedIsThere}
+use Rattle.storage_tree.specs.Laws.{Apart, beside, target, Stays, AddedIsThere, PutIsThere, MadeIsThere, RenamedIsThere}
 use Rattle.storage_tree.proofs.Entries.{find-child, place-child, without-child, reflexive}
 
 pub err_ok : {A : Type 0} {P : Type 0} (f : TreeFault) (a : A) → ◌≡◌ {A = Result A TreeFault} (Err f) (Ok a) → P
@@ -124,6 +124,10 @@ put-here name new cs cs' None h = ap (λ x. on_ok (λ c. look [] c.1) (found (fi
 put-here name new cs cs' (Some (n, bytes b)) h = ap (λ x. on_ok (λ c. look [] c.1) (found (find (key name) x))) (sym (ok_is _ _ h)) ∙ ap (λ x. on_ok (λ c. look [] c.1) (found x)) (find-place (key name) (n, bytes new) cs)
 put-here name new cs cs' (Some (n, inner t)) h = err_ok WrongKind cs' h
 
+add-at : (name new : List ℕ) (cs cs' : Children) (o : Option (List ℕ × Seen)) → adding name new cs o ≡ Ok cs' → on_ok (λ c. look [] c.1) (found (find (key name) cs')) ≡ Ok (bytes new)
+add-at name new cs cs' None h = put-here name new cs cs' None h
+add-at name new cs cs' (Some c) h = err_ok Exists cs' h
+
 -- below one child that is another tree now
 module _ (n m : List ℕ) (q : List (List ℕ)) (cs : Children) (c : List ℕ × Seen) (s : Seen) (known : find (key n) cs ≡ Some c) (ih : look q s ≡ look q c.1) where
   abbrev go : Option (List ℕ × Seen) → Result Seen TreeFault
@@ -177,6 +181,18 @@ put_is_there (n ∷ x ∷ rest) new (inner (tree class state cs)) t h =
     let w = from_map _ (change (Put new) (x ∷ rest) u.0.1) t u.2 in
     ap (look (n ∷ x ∷ rest)) (sym w.2) ∙ ap (λ o. on_ok (λ c. look (x ∷ rest) c.1) (found o)) (find-place (key n) (u.0.0, w.0) cs)
     ∙ put_is_there (x ∷ rest) new u.0.1 w.0 w.1
+
+pub added_is_there : AddedIsThere
+added_is_there path new (bytes b) t h = err_ok WrongKind t h
+added_is_there [] new (inner s) t h = err_ok WrongKind t h
+added_is_there (n ∷ []) new (inner (tree class state cs)) t h =
+    let w = from_map _ (adding n new cs (find (key n) cs)) t h in
+    ap (look (n ∷ [])) (sym w.2) ∙ add-at n new cs w.0 (find (key n) cs) w.1
+added_is_there (n ∷ x ∷ rest) new (inner (tree class state cs)) t h =
+    let u = from_found _ (find (key n) cs) t h in
+    let w = from_map _ (change (Add new) (x ∷ rest) u.0.1) t u.2 in
+    ap (look (n ∷ x ∷ rest)) (sym w.2) ∙ ap (λ o. on_ok (λ c. look (x ∷ rest) c.1) (found o)) (find-place (key n) (u.0.0, w.0) cs)
+    ∙ added_is_there (x ∷ rest) new u.0.1 w.0 w.1
 
 -- below the root, a stream is made as it is put
 add-here : (class : List ℕ) (state : ℕ) (name new : List ℕ) (cs : Children) (o : Option (List ℕ × Seen)) → map_ok {A = Children} {B = Seen} (λ x. inner (tree class state x)) (adding name new cs o)

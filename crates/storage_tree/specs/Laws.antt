@@ -36,6 +36,10 @@ Stays = (e : Edit) (path q : List (List ℕ)) (s t : Seen) → change e path s �
 abbrev pub PutIsThere : Type 0
 PutIsThere = (path : List (List ℕ)) (new : List ℕ) (s t : Seen) → change (Put new) path s ≡ Ok t → look path t ≡ Ok (bytes new)
 
+-- a stream that was made where nothing stood is there
+abbrev pub AddedIsThere : Type 0
+AddedIsThere = (path : List (List ℕ)) (new : List ℕ) (s t : Seen) → change (Add new) path s ≡ Ok t → look path t ≡ Ok (bytes new)
+
 -- what was made is there
 abbrev pub MadeIsThere : Type 0
 MadeIsThere = (path : List (List ℕ)) (class : List ℕ) (state : ℕ) (fits : Bool) (s t : Seen)

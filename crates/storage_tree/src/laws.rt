@@ -1,6 +1,6 @@
 //! Laws of the changes of a tree.
 
-ghost use Rattle.storage_tree.specs.Laws.{ChangeKeeps, IsGone, MadeIsThere, PutIsThere, RenamedIsThere, Stays};
+ghost use Rattle.storage_tree.specs.Laws.{AddedIsThere, ChangeKeeps, IsGone, MadeIsThere, PutIsThere, RenamedIsThere, Stays};
 ghost use Rattle.storage_tree.specs.Transactions.{RevertGivesBack};
 
 /// A change leaves all paths that part from its own, and from the new one of a rename.
@@ -11,6 +11,11 @@ pub fn stays()
 /// What was put is there.
 pub fn put_is_there()
     ensures { PutIsThere }
+{}
+
+/// A stream that was made where nothing stood is there.
+pub fn added_is_there()
+    ensures { AddedIsThere }
 {}
 
 /// What was made is there.

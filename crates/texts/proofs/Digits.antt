@@ -1,9 +1,11 @@
 -- The table of hexadecimal digits.
-use Rattle.std.proofs.Common.{◌≡◌, ◌<◌, ◌≤◌, ◌+◌, ◌%◌, ℕ, zero, suc, List, [], ◌∷◌, Bool, true, false, cond, nat_eq, nat_lt, Option, Some, None, slice_index_or, length, refl, sym, ap, ◌∙◌, arith, rules}
+use Rattle.std.proofs.Common.{◌≡◌, ◌<◌, ◌≤◌, ◌++◌, ℕ, zero, suc, List, [], ◌∷◌, replicate, Bool, true, false, cond, nat_eq, nat_lt, Option, Some, None, slice_index_or, length, refl, ap, ◌∙◌, arith, rules}
 use Rattle.texts.specs.Words.{hex_digit}
 
 abbrev digits : List ℕ
-digits = 0 ∷ 1 ∷ 2 ∷ 3 ∷ 4 ∷ 5 ∷ 6 ∷ 7 ∷ 8 ∷ 9 ∷ 255 ∷ 255 ∷ 255 ∷ 255 ∷ 255 ∷ 255 ∷ 255 ∷ 10 ∷ 11 ∷ 12 ∷ 13 ∷ 14 ∷ 15 ∷ 255 ∷ 255 ∷ 255 ∷ 255 ∷ 255 ∷ 255 ∷ 255 ∷ 255 ∷ 255 ∷ 255 ∷ 255 ∷ 255 ∷ 255 ∷ 255 ∷ 255 ∷ 255 ∷ 255 ∷ 255 ∷ 255 ∷ 255 ∷ 255 ∷ 255 ∷ 255 ∷ 255 ∷ 255 ∷ 255 ∷ 10 ∷ 11 ∷ 12 ∷ 13 ∷ 14 ∷ 15 ∷ []
+digits =
+    replicate 48 255 ++ (0 ∷ 1 ∷ 2 ∷ 3 ∷ 4 ∷ 5 ∷ 6 ∷ 7 ∷ 8 ∷ 9 ∷ []) ++ replicate 7 255 ++ (10 ∷ 11 ∷ 12 ∷ 13 ∷ 14 ∷ 15 ∷ [])
+    ++ replicate 26 255 ++ (10 ∷ 11 ∷ 12 ∷ 13 ∷ 14 ∷ 15 ∷ []) ++ replicate 153 255
 
 lt-true : (a b : ℕ) → a < b → true ≡ nat_lt a b
 lt-true a b l = grind (arith, l)
@@ -49,7 +51,7 @@ every-is p (suc n) d h l = elim (p n) as (λ b. p n ≡ b → cond b (every p n)
 
 -- what the table tells of a byte
 abbrev tells : ℕ → Option ℕ
-tells d = cond (nat_lt ((d + 208) % 256) 55) (told (slice_index_or digits ((d + 208) % 256) 0)) None
+tells d = told (slice_index_or digits d 0)
 
 tells-is : (d : ℕ) → d < 256 → tells d ≡ hex_digit d
 tells-is d l = same-is (tells d) (hex_digit d) (every-is (λ x. same (tells x) (hex_digit x)) 256 d refl l)
@@ -60,10 +62,5 @@ at-any [] n d e l = absurd (omega (arith, l))
 at-any (x ∷ xs) zero d e l = refl
 at-any (x ∷ xs) (suc n) d e l = at-any xs n d e (omega (arith, l))
 
-lt-from : (a b : ℕ) → true ≡ nat_lt a b → a < b
-lt-from a b h = grind (arith, h)
-
-pub in_table : (d n value : ℕ) → d < 256 → n ≡ (d + 208) % 256 → true ≡ nat_lt n 55 → value ≡ slice_index_or digits n value → told value ≡ hex_digit d
-in_table d n value l at within is =
-    ap told (is ∙ at-any digits n value 0 (lt-from n 55 within)) ∙ ap (λ b. cond b (told (slice_index_or digits n 0)) None) within
-    ∙ ap (λ m. cond (nat_lt m 55) (told (slice_index_or digits m 0)) None) at ∙ tells-is d l
+pub in_table : (d n value : ℕ) → d < 256 → n ≡ d → value ≡ slice_index_or digits n value → told value ≡ hex_digit d
+in_table d n value l at is = ap told (is ∙ ap (λ m. slice_index_or digits m value) at ∙ at-any digits d value 0 l) ∙ tells-is d l

@@ -71,7 +71,7 @@ fn spelled(alloc: Global, word: &[u8]) -> Result<Option<Path>, AllocError>
         return Ok(None);
     }
     let mut buffer = Vec::with_capacity(alloc, word.len())?;
-    let mut names = Vec::new(alloc);
+    let mut names = Vec::with_capacity(alloc, 1)?;
     let mut parts = Pieces::new(word, b'/');
     while let Some(part) = parts.next_piece() {
         if !read_name(&mut buffer, part)? {

@@ -1,4 +1,4 @@
-use Rattle.std.proofs.Common.{sym, ◌∙◌}
+use Rattle.std.proofs.Common.{sym}
 use Rattle.container_objects.proofs.VerbsMade.{close_made}
 use Rattle.container_objects.proofs.closes.close_one.Goals as goal
 
