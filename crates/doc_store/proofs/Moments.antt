@@ -46,3 +46,8 @@ module _ {D : Type 0} (reads : D → Image) (may_leave : D → Image → Type 0)
     within = λ c now. so_far.within c (within c now);
     any_moment = goes_on moment left_since old mid new (may_leave old) (may_leave new) so_far.any_moment time (λ c now. so_far.within c (within c now));
   }
+
+  -- one call that changes no byte
+  pub once : (old new : D) → ((c : Image) → left_since old (moment old) c → may_leave old c) → reads new ≡ reads old → IsWithin (may_leave old) (may_leave new)
+      → Elapses (moment old) (moment new) (left_since old) (left_since new) (may_leave new) → Quiet reads may_leave moment left_since old new
+  once old new only_now same within time = quietly old old new (still old only_now) same within time
