@@ -1,7 +1,7 @@
 //! The simulation of a world: its events are read, happen, and are told.
 
 ghost use Rattle.event_texts.specs.Answers.{answer_lines};
-ghost use Rattle.container_cli.specs.Simulation.{IsSimulated, MayRefuseSimulate, Simulates, stop_text};
+ghost use Rattle.container_cli.specs.Simulation.{IsSimulated, MayRefuseSimulate, Simulates, world_text};
 ghost use Rattle.std.specs.Prelude.{◌≡◌, ◌≢◌, ◌≤◌, ◌<◌, ◌++◌, IfErr, IfOk, IfSome, OnOk, length, map};
 ghost use Rattle.world_model.specs.Report.{report};
 ghost use Rattle.world_run.specs.Shown.{shown};
@@ -77,7 +77,7 @@ fn push_told(
 ) -> Result<(), AllocError>
     requires few { length (shown (λ s. (⟦<dyn Embedded as Embedded>⟧ s.boxed.vtable).content s.boxed.value) world.now).answers ≤ MOST_EVENTS }
     requires before { IfSome stop (λ stop. taken < usize.MAX) }
-    ensures { OnOk result (out.new.items ≡ out.old.items ++ answer_lines 1 (shown (λ s. (⟦<dyn Embedded as Embedded>⟧ s.boxed.vtable).content s.boxed.value) world.now).answers ++ report (shown (λ s. (⟦<dyn Embedded as Embedded>⟧ s.boxed.vtable).content s.boxed.value) world.now) ++ stop_text taken stop) }
+    ensures { OnOk result (out.new.items ≡ out.old.items ++ world_text (shown (λ s. (⟦<dyn Embedded as Embedded>⟧ s.boxed.vtable).content s.boxed.value) world.now) taken stop) }
 {
     push_answers(alloc, out, world)?;
     push_report(alloc, out, world)?;
