@@ -1,13 +1,11 @@
 -- A run from the world in which nothing has happened, and what is written of it.
 use Rattle.std.proofs.Common.{◌≡◌, ◌++◌, ℕ, zero, suc, List, [], ◌∷◌, Option, Some, None, length, take, drop, slice_get, MatchOption, ap, ◌∙◌, subst, arith}
 use Rattle.embed_core.specs.Kinds.{Kind}
-use Rattle.world_model.specs.Report.{report}
 use Rattle.world_model.specs.Safe.{Safe}
 use Rattle.world_model.specs.World.{World, Run, StopsAt, empty_world}
 use Rattle.world_model.specs.declared.event.Event.{Event}
 use Rattle.world_model.specs.declared.event.Stop.{Stop}
-use Rattle.event_texts.specs.Answers.{answer_lines}
-use Rattle.container_cli.specs.Simulation.{Ends, IsSimulated, stop_text}
+use Rattle.container_cli.specs.Simulation.{Ends, IsSimulated, world_text}
 
 -- why a run that took so many of these events ended in this world
 abbrev Ended : World → List Event → ℕ → Option Stop → Type 0
@@ -31,11 +29,11 @@ ends : (w : World) (events : List Event) (taken : ℕ) (stop : Option Stop) → 
 ends w events taken None ended = ends-all w events taken ended
 ends w events taken (Some stop) ended = ends-before w events taken stop ended.0 ended.1 ended.2
 
-pub simulated : (numbers : ℕ) (stock : List Kind) (events : List Event) (taken : ℕ) (stop : Option Stop) (start w : World) (a b c d : List ℕ)
+pub simulated : (numbers : ℕ) (stock : List Kind) (events : List Event) (taken : ℕ) (stop : Option Stop) (start w : World) (before out : List ℕ)
     → start ≡ empty_world numbers stock → Run start (take taken events) w → Safe w
     → Ended w events taken stop
-    → a ≡ [] → b ≡ a ++ answer_lines 1 w.answers → c ≡ b ++ report w → d ≡ c ++ stop_text taken stop → IsSimulated numbers stock events stop d
-simulated numbers stock events taken stop start w a b c d new run safe ended empty answered reported told =
+    → before ≡ [] → out ≡ before ++ world_text w taken stop → IsSimulated numbers stock events stop out
+simulated numbers stock events taken stop start w before out new run safe ended empty told =
     let P : World → Type 0 = λ s. Run s (take taken events) w in
     record {
       taken = taken;
@@ -43,5 +41,5 @@ simulated numbers stock events taken stop start w a b c d new run safe ended emp
       runs = subst P new run;
       safe = safe;
       ends = ends w events taken stop ended;
-      told = told ∙ ap (λ t. t ++ stop_text taken stop) (reported ∙ ap (λ t. t ++ report w) (answered ∙ ap (λ t. t ++ answer_lines 1 w.answers) empty));
+      told = told ∙ ap (λ t. t ++ world_text w taken stop) empty;
     }

@@ -1,6 +1,7 @@
 use Rattle.std.proofs.Common.{length, ap, arith}
 use Rattle.world_model.proofs.Counted.{run-few}
-use Rattle.olecon.proofs.Reached.{from_nothing, safe_reached}
+use Rattle.container_cli.proofs.Ending.{simulated}
+use Rattle.olecon.proofs.Reached.{safe_reached}
 use Rattle.olecon.proofs.simulation.run.Goals as goal
 
 pub push_told-requires-clause-few : goal.push_told-requires-clause-few
@@ -9,7 +10,7 @@ push_told-requires-clause-few g c =
 
 pub returns : goal.returns
 returns g c =
-    from_nothing c.args.limits.numbers _ c.args.events.now c.run-taken.result.0 c.run-taken.result.1 _ _
+    simulated c.args.limits.numbers _ c.args.events.now c.run-taken.result.0 c.run-taken.result.1 _ _
     c.new-out.result.items c.push_told.new.out.items
     c.new-world.ensures.empty c.run-taken.ensures.taken (safe_reached _ _ _ _ _ c.new-world.ensures.empty c.run-taken.ensures.taken) c.run-taken.ensures.stop
     c.new-out.ensures.items c.in_ok-push_told.ensures
