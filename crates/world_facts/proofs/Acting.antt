@@ -23,9 +23,9 @@ use Rattle.world_facts.specs.Shapes.{IsFirst, IsChanged, Makes, ActsOn, again, n
 use Rattle.world_facts.proofs.Lookups.{among_join, among_old, among_new}
 use Rattle.world_facts.proofs.Issuing.{same_act, once_join, once_entries}
 
-module _ (links : Links) (acts after : Acts) (lives : Lives) (sent : List Message) (owners : List ℕ) (last : ℕ) (counted : List Done) (served : List ServerDone)
+module _ {hostile : List ℕ} (links : Links) (acts after : Acts) (lives : Lives) (sent : List Message) (owners : List ℕ) (last : ℕ) (counted : List Done) (served : List ServerDone)
     (inc act n : ℕ) (op : Operation) (a : Activation) (r : Answer) (told : Option Counted)
-    (f : Facts links acts lives sent owners last counted served) (ready : IsReady links) (honest : IsHonest inc)
+    (f : Facts hostile links acts lives sent owners last counted served) (ready : IsReady links) (honest : IsHonest hostile inc)
     (call : Among sent (Call inc act n op)) (runs : lives inc ≡ Some Running) (ch : IsChanged acts after inc act a) (how : ActsOn acts inc act n op a r told) where
   abbrev pub more : List Message
   more = sent ++ Reply inc act n r ∷ []
@@ -49,7 +49,7 @@ module _ (links : Links) (acts after : Acts) (lives : Lives) (sent : List Messag
         at = at;
         inc_is = ei;
         act_is = ea;
-        step = subst (λ x. InStep l (acts inc x)) ea (subst (λ x. InStep l (acts x l.act)) ei (f.in_step o l at honest));
+        step = subst (λ x. InStep l (acts inc x)) ea (subst (λ x. InStep l (acts x l.act)) ei (f.in_step o l at (subst (IsHonest hostile) (sym ei) honest)));
         bound = (f.calls.bounded o inc n op l at mine).1;
         pending = λ asked p e. f.calls.pending o inc op asked l at p (subst (λ x. Among sent (Call inc l.act x op)) e mine);
       }
@@ -101,7 +101,7 @@ module _ (links : Links) (acts after : Acts) (lives : Lives) (sent : List Messag
   step_here o l p (next b at en opened m) = step_next o l b p at en m
   step_here o l p (makes at en fo al ar d ec eg) = step_first o l p en al ar d _ at p.step
 
-  pub in_step : InSteps links after
+  pub in_step : InSteps hostile links after
   in_step o l e h = elim (same_act l.inc l.act inc act) [
     | inl s ↦ subst (λ x. InStep l (after x l.act)) (sym s.0) (subst (λ x. InStep l (after inc x)) (sym s.1) (subst (InStep l) (sym ch.here) (step_here o l (of_link o l e s.0 s.1) how)))
     | inr d ↦ subst (InStep l) (sym (ch.others l.inc l.act d)) (f.in_step o l e h)
@@ -144,7 +144,7 @@ module _ (links : Links) (acts after : Acts) (lives : Lives) (sent : List Messag
   known_here : ActsOn acts inc act n op a r told → IsLinked links inc act ⊎ (a.content ≡ None)
   known_here h = elim linked_or_closed [ inl g ↦ inl g | inr c ↦ inr (closed_here c h) ]
 
-  pub unlinked : UnlinkedClosed links after lives more
+  pub unlinked : UnlinkedClosed hostile links after lives more
   unlinked = record {
     called = λ i x m p h lv g. elim (f.unlinked.called i x m p h lv (old_call i x m p g)) [
       | inl k ↦ inl k
@@ -189,7 +189,7 @@ module _ (links : Links) (acts after : Acts) (lives : Lives) (sent : List Messag
   reply_here (next b at en opened k) = (let el : a.last ≡ n = k.last ∙ sym en in (omega arith, (λ e. sym k.reply), (el, k.reply)))
   reply_here (makes at en fo al ar d ec eg) = (let el : a.last ≡ n = al ∙ sym en in (omega arith, (λ e. sym ar), (el, ar)))
 
-  replies_kept_now : (i x m : ℕ) (q : Answer) → IsHonest i → Among sent (Reply i x m q) → (b : Activation) × (after i x ≡ Some b) × (m ≤ b.last) × (m ≡ b.last → q ≡ b.reply)
+  replies_kept_now : (i x m : ℕ) (q : Answer) → IsHonest hostile i → Among sent (Reply i x m q) → (b : Activation) × (after i x ≡ Some b) × (m ≤ b.last) × (m ≡ b.last → q ≡ b.reply)
   replies_kept_now i x m q h g = (let k = f.replies.replies_kept i x m q h g in elim (same_act i x inc act) [
     | inl s ↦ (let at : acts inc act ≡ Some k.0 = ap (acts inc) (sym s.1) ∙ (ap (λ y. acts y x) (sym s.0) ∙ k.1) in
         let c = come_before m q k.0 at k.2 k.3 how in
@@ -203,7 +203,7 @@ module _ (links : Links) (acts after : Acts) (lives : Lives) (sent : List Messag
   moved : (i x m : ℕ) (q : Answer) → (i ≡ inc) × (x ≡ act) × (m ≡ n) × (q ≡ r) → Among sent (Reply i x m q) → Among sent (Reply inc act n q)
   moved i x m q e g = subst (λ y. Among sent (Reply y act n q)) e.0 (subst (λ y. Among sent (Reply i y n q)) e.1 (subst (λ y. Among sent (Reply i x y q)) e.2 g))
 
-  pub replies : Replies after more
+  pub replies : Replies hostile after more
   replies = record {
     reply_numbered = λ i x b h e. elim (same_act i x inc act) [
       | inl s ↦ (let z : Some a ≡ Some b = sym ch.here ∙ (ap (after inc) (sym s.1) ∙ (ap (λ y. after y x) (sym s.0) ∙ e)) in
@@ -239,7 +239,7 @@ module _ (links : Links) (acts after : Acts) (lives : Lives) (sent : List Messag
   ]
   saved_here o l c p ls h (makes at en fo al ar d ec eg) = absurd (subst (HasSaved c) at h)
 
-  pub saved_same : SavedSame links after
+  pub saved_same : SavedSame hostile links after
   saved_same o l c e h ls = elim (same_act l.inc l.act inc act) [
     | inl s ↦ (let was : HasSaved c (acts inc act) = subst (λ y. HasSaved c (acts inc y)) s.1 (subst (λ y. HasSaved c (acts y l.act)) s.0 (f.saved_same o l c e h ls)) in
         let now : HasSaved c (after inc act) = subst (HasSaved c) (sym ch.here) (saved_here o l c (of_link o l e s.0 s.1) ls was how) in
@@ -364,7 +364,7 @@ module _ (links : Links) (acts after : Acts) (lives : Lives) (sent : List Messag
       let al : a.last ≡ n = b.3 in
       (act, n, c.storage, a, among_old sent (Reply inc act n r ∷ []) (Call e.inc act n (SaveCompleted e.k c.storage)) (subst (λ y. Among sent (Call y act n (SaveCompleted e.k c.storage))) (sym c.is_inc) c.told_of), c.owner, ap (λ y. after y act) c.is_inc ∙ ch.here, omega arith))
 
-  counts_now : Counts links after more owners counted (served ++ entries)
+  counts_now : Counts hostile links after more owners counted (served ++ entries)
   counts_now = record {
     completed_counted = λ i x m k s g. f.counts.completed_counted i x m k s (issued_old i x m (SaveCompleted k s) g);
     completed_once = λ i x m i' x' m' k o s s' g g' e e'. f.counts.completed_once i x m i' x' m' k o s s' (issued_old i x m (SaveCompleted k s) g) (issued_old i' x' m' (SaveCompleted k s') g') e e';
@@ -391,5 +391,5 @@ module _ (links : Links) (acts after : Acts) (lives : Lives) (sent : List Messag
     server_counted = λ e g h. elim (among_join served entries e g) [ inl old ↦ f.counts.server_counted e old h | inr new ↦ (counts_of e new).same ];
   }
 
-  pub acted : Facts links after lives more owners last counted (served ++ entries)
+  pub acted : Facts hostile links after lives more owners last counted (served ++ entries)
   acted = record { drawn = drawn; calls = calls; in_step = in_step; unlinked = unlinked; replies = replies; saved_same = saved_same; counts = counts_now }

@@ -115,15 +115,15 @@ closed_alike None y k h = absurd h
 closed_alike (Some a) None k h = absurd k
 closed_alike (Some a) (Some b) k h = k.closed h
 
-module _ (links : Links) (acts after : Acts) (lives now : Lives) (sent : List Message) (owners : List ℕ) (last : ℕ) (counted : List Done) (served : List ServerDone)
-    (same : (inc act : ℕ) → Alike (acts inc act) (after inc act)) (still : (inc : ℕ) → now inc ≡ lives inc) (f : Facts links acts lives sent owners last counted served) where
+module _ {hostile : List ℕ} (links : Links) (acts after : Acts) (lives now : Lives) (sent : List Message) (owners : List ℕ) (last : ℕ) (counted : List Done) (served : List ServerDone)
+    (same : (inc act : ℕ) → Alike (acts inc act) (after inc act)) (still : (inc : ℕ) → now inc ≡ lives inc) (f : Facts hostile links acts lives sent owners last counted served) where
   was : (inc act : ℕ) (b : Activation) → after inc act ≡ Some b → (a : Activation) × (acts inc act ≡ Some a) × IsAlike a b
   was inc act b e = before_of (acts inc act) b (subst (Alike (acts inc act)) e (same inc act))
 
   is : (inc act : ℕ) (a : Activation) → acts inc act ≡ Some a → (b : Activation) × (after inc act ≡ Some b) × IsAlike a b
   is inc act a e = after_of a (after inc act) (subst (λ x. Alike x (after inc act)) e (same inc act))
 
-  pub facts_alike : Facts links after now sent owners last counted served
+  pub facts_alike : Facts hostile links after now sent owners last counted served
   facts_alike = record {
     drawn = record {
       many = f.drawn.many;

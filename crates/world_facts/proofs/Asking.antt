@@ -49,8 +49,8 @@ pub record IsNewCall (Asks : ℕ → Operation → Type 0) (links after : Links)
   pub asks : Asks o op
   pub call : m ≡ Call link.inc link.act link.last op
 
-module _ (Asks : ℕ → Operation → Type 0) (links after : Links) (acts : Acts) (lives : Lives) (log more : List Message) (owners : List ℕ) (last : ℕ) (counted : List Done) (served : List ServerDone)
-    (h : AsksAll Asks links after more) (f : Facts links acts lives log owners last counted served) where
+module _ {hostile : List ℕ} (Asks : ℕ → Operation → Type 0) (links after : Links) (acts : Acts) (lives : Lives) (log more : List Message) (owners : List ℕ) (last : ℕ) (counted : List Done) (served : List ServerDone)
+    (h : AsksAll Asks links after more) (f : Facts hostile links acts lives log owners last counted served) where
   came : (k : ℕ) (l : Link) → after k ≡ Some l → (b : Link) × (links k ≡ Some b) × Came b l
   came k l e = at (h.each k)
     where
@@ -125,17 +125,17 @@ module _ (Asks : ℕ → Operation → Type 0) (links after : Links) (acts : Act
   step_at b l (kept s) x g = is_same_step b l s x g
   step_at b l (sent op c) x g = is_behind b l op c x g
 
-  in_step : (k : ℕ) (l : Link) → after k ≡ Some l → IsHonest l.inc → InStep l (acts l.inc l.act)
+  in_step : (k : ℕ) (l : Link) → after k ≡ Some l → IsHonest hostile l.inc → InStep l (acts l.inc l.act)
   in_step k l e honest = (let c = came k l e in
       let a = same_activation c.0 l c.2 in
-      subst (λ x. InStep l (acts x l.act)) (sym a.0) (subst (λ x. InStep l (acts c.0.inc x)) (sym a.1) (step_at c.0 l c.2 _ (f.in_step k c.0 c.1 honest))))
+      subst (λ x. InStep l (acts x l.act)) (sym a.0) (subst (λ x. InStep l (acts c.0.inc x)) (sym a.1) (step_at c.0 l c.2 _ (f.in_step k c.0 c.1 (subst (IsHonest hostile) a.0 honest)))))
 
   saves : (b l : Link) → Came b l → (l.saved ≡ b.saved) ⊎ (l.saved ≡ None)
   saves b l (kept s) = s.saved
   saves b l (sent op c) = c.saved
 
-  saved_same : (k : ℕ) (l : Link) (c : Stored) → after k ≡ Some l → IsHonest l.inc → l.saved ≡ Some c → HasSaved c (acts l.inc l.act)
-  saved_same k l c e honest g = (let m = came k l e in let a = same_activation m.0 l m.2 in saved_kept acts m.0 l c a.0 a.1 (saves m.0 l m.2) (f.saved_same k m.0 c m.1 honest) g)
+  saved_same : (k : ℕ) (l : Link) (c : Stored) → after k ≡ Some l → IsHonest hostile l.inc → l.saved ≡ Some c → HasSaved c (acts l.inc l.act)
+  saved_same k l c e honest g = (let m = came k l e in let a = same_activation m.0 l m.2 in saved_kept acts m.0 l c a.0 a.1 (saves m.0 l m.2) (f.saved_same k m.0 c m.1 (subst (IsHonest hostile) a.0 honest)) g)
 
   linked : (inc act : ℕ) → IsLinked links inc act → IsLinked after inc act
   linked inc act g = (let s = still g.0 g.1 g.2 in (g.0, s.0, s.1, s.2 ∙ g.3, s.3 ∙ g.4))
@@ -175,7 +175,7 @@ module _ (Asks : ℕ → Operation → Type 0) (links after : Links) (acts : Act
           let y : None ≡ Some op = ap (λ ys. slice_get ys i) (sym wm ∙ ap (λ (v : Link). v.waiting) q) ∙ at in cc)
 
   -- all but the counts, which come in two ways
-  pub asked_with : (counted' : List Done) → Counts after acts (log ++ more) owners counted' served → Facts after acts lives (log ++ more) owners last counted' served
+  pub asked_with : (counted' : List Done) → Counts hostile after acts (log ++ more) owners counted' served → Facts hostile after acts lives (log ++ more) owners last counted' served
   asked_with counted' cs = record {
     drawn = record {
       many = f.drawn.many;
@@ -219,5 +219,5 @@ module _ (Asks : ℕ → Operation → Type 0) (links after : Links) (acts : Act
   quiet_back : ((o : ℕ) (op : Operation) → Asks o op → IsQuiet op) → NoMoreEnds links after log (log ++ more)
   quiet_back quiet inc act n k s i = elim (issued_now inc act n (SaveCompleted k s) i) [ inl old ↦ old | inr new ↦ absurd (quiet new.o (SaveCompleted k s) new.asks k s refl) ]
 
-  pub asked_quietly : ((o : ℕ) (op : Operation) → Asks o op → IsQuiet op) → Facts after acts lives (log ++ more) owners last counted served
+  pub asked_quietly : ((o : ℕ) (op : Operation) → Asks o op → IsQuiet op) → Facts hostile after acts lives (log ++ more) owners last counted served
   asked_quietly quiet = asked_with counted (counts_kept links after acts log (log ++ more) owners counted served (quiet_back quiet) (λ m g. among_old log more m g) f.counts)

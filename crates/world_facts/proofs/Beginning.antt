@@ -23,7 +23,7 @@ use Rattle.world_facts.proofs.Sending.{only_calls}
 use Rattle.std.proofs.lemmas.Bool.Decides.{eqb_tells}
 
 -- more activations are made: what was counted stays
-pub counts_owned : (links : Links) (acts : Acts) (sent : List Message) (owners extra : List ℕ) (counted : List Done) (served : List ServerDone) → Counts links acts sent owners counted served → Counts links acts sent (owners ++ extra) counted served
+pub counts_owned : {hostile : List ℕ} (links : Links) (acts : Acts) (sent : List Message) (owners extra : List ℕ) (counted : List Done) (served : List ServerDone) → Counts hostile links acts sent owners counted served → Counts hostile links acts sent (owners ++ extra) counted served
 counts_owned links acts sent owners extra counted served h = record {
   completed_counted = λ inc act n k s i. (let c = h.completed_counted inc act n k s i in (c.0, c.1, nth_old owners extra act c.0.object c.2, c.3));
   completed_once = λ inc act n inc' act' n' k o s s' i j e e'. h.completed_once inc act n inc' act' n' k o s s' i j (owned inc act n k o s i e) (owned inc' act' n' k o s' j e');
@@ -38,8 +38,8 @@ counts_owned links acts sent owners extra counted served h = record {
         let z : Some c.0.object ≡ Some o = sym (nth_old owners extra act c.0.object c.2) ∙ e in
         let q : c.0.object ≡ o = cc in c.2 ∙ ap Some q)
 
-module _ (links after : Links) (acts : Acts) (lives : Lives) (sent more : List Message) (owners extra : List ℕ) (last : ℕ) (counted : List Done) (served : List ServerDone) (o : ℕ)
-    (h : Begins links after lives (owners ++ extra) last o more) (many : length (owners ++ extra) ≡ last + 1) (f : Facts links acts lives sent owners last counted served) where
+module _ {hostile : List ℕ} (links after : Links) (acts : Acts) (lives : Lives) (sent more : List Message) (owners extra : List ℕ) (last : ℕ) (counted : List Done) (served : List ServerDone) (o : ℕ)
+    (h : Begins links after lives (owners ++ extra) last o more) (many : length (owners ++ extra) ≡ last + 1) (f : Facts hostile links acts lives sent owners last counted served) where
   abbrev pub link : Link
   link = begun_link h.inc (last + 1) h.op
 
@@ -97,13 +97,13 @@ module _ (links after : Links) (acts : Acts) (lives : Lives) (sent more : List M
   absent None e = refl
   absent (Some a) e = (let le : last + 1 ≤ last = f.drawn.acts_drawn h.inc (last + 1) a e in absurd (omega arith))
 
-  in_step : (k : ℕ) (l : Link) → after k ≡ Some l → IsHonest l.inc → InStep l (acts l.inc l.act)
+  in_step : (k : ℕ) (l : Link) → after k ≡ Some l → IsHonest hostile l.inc → InStep l (acts l.inc l.act)
   in_step k l e honest = elim (find_link k l e) [
     | inl s ↦ subst (λ (x : Link). InStep x (acts x.inc x.act)) (sym s.1) (subst (InStep link) (sym (absent (acts h.inc (last + 1)) refl)) (not_begun h.op refl refl refl refl))
     | inr s ↦ f.in_step k l s.1 honest
   ]
 
-  saved_same : (k : ℕ) (l : Link) (c : Stored) → after k ≡ Some l → IsHonest l.inc → l.saved ≡ Some c → HasSaved c (acts l.inc l.act)
+  saved_same : (k : ℕ) (l : Link) (c : Stored) → after k ≡ Some l → IsHonest hostile l.inc → l.saved ≡ Some c → HasSaved c (acts l.inc l.act)
   saved_same k l c e honest g = elim (find_link k l e) [
     | inl s ↦ absurd (let z : None ≡ Some c = ap (λ (x : Link). x.saved) (sym s.1) ∙ g in cc)
     | inr s ↦ f.saved_same k l c s.1 honest g
@@ -128,7 +128,7 @@ module _ (links after : Links) (acts : Acts) (lives : Lives) (sent more : List M
   no_reply : (inc act n : ℕ) (r : Answer) → Among more (Reply inc act n r) → ⊥
   no_reply inc act n r g = (let q = is_new (Reply inc act n r) g in cc)
 
-  pub begun : Facts after acts lives (sent ++ more) (owners ++ extra) (last + 1) counted served
+  pub begun : Facts hostile after acts lives (sent ++ more) (owners ++ extra) (last + 1) counted served
   begun = record {
     drawn = record {
       many = many;

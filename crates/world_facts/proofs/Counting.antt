@@ -16,8 +16,8 @@ use Rattle.world_facts.specs.Shapes.{IsTold, CountsAll}
 use Rattle.world_facts.proofs.Lookups.{among_old, among_new}
 use Rattle.world_facts.proofs.Asking.{IsAsked, issued_now, asked_with}
 
-module _ (links after : Links) (acts : Acts) (lives : Lives) (log more : List Message) (owners : List ℕ) (last : ℕ) (counted fresh : List Done) (served : List ServerDone) (k : ℕ)
-    (h : CountsAll links after counted k fresh more) (f : Facts links acts lives log owners last counted served) where
+module _ {hostile : List ℕ} (links after : Links) (acts : Acts) (lives : Lives) (log more : List Message) (owners : List ℕ) (last : ℕ) (counted fresh : List Done) (served : List ServerDone) (k : ℕ)
+    (h : CountsAll links after counted k fresh more) (f : Facts hostile links acts lives log owners last counted served) where
   abbrev pub Asked : ℕ → ℕ → ℕ → Operation → Type 0
   Asked inc act n op = IsAsked (IsTold links k fresh) links inc act n op
 
@@ -54,18 +54,18 @@ module _ (links after : Links) (acts : Acts) (lives : Lives) (log more : List Me
       (sym a.inc_is ∙ (ap (λ (x : Link). x.inc) l ∙ b.inc_is), sym a.act_is ∙ (ap (λ (x : Link). x.act) l ∙ b.act_is), a.number ∙ (ap (λ (x : Link). x.last + 1 + length x.waiting) l ∙ sym b.number))
 
   -- the content that is counted is the one that the activation keeps
-  content_of : (inc act n j o : ℕ) (s : Bool) (x : Activation) → Asked inc act n (SaveCompleted j s) → IsHonest inc → acts inc act ≡ Some x → nth owners act ≡ Some o
+  content_of : (inc act n j o : ℕ) (s : Bool) (x : Activation) → Asked inc act n (SaveCompleted j s) → IsHonest hostile inc → acts inc act ≡ Some x → nth owners act ≡ Some o
       → (c : Stored) × (x.saved ≡ Some c) × Among fresh (record { object = o; k = j; content = c })
   content_of inc act n j o s x a honest at e =
       let t = a.asks.2 a.link a.was in
-      let kept : HasSaved t.0 (acts a.link.inc a.link.act) = f.saved_same a.o a.link t.0 a.was honest t.1 in
+      let kept : HasSaved t.0 (acts a.link.inc a.link.act) = f.saved_same a.o a.link t.0 a.was (subst (IsHonest hostile) (sym a.inc_is) honest) t.1 in
       let here : HasSaved t.0 (Some x) = subst (HasSaved t.0) at (subst (λ y. HasSaved t.0 (acts inc y)) a.act_is (subst (λ y. HasSaved t.0 (acts y a.link.act)) a.inc_is kept)) in
       let y : Some a.o ≡ Some o = sym (object_of inc act n j s a) ∙ e in
       let ao : a.o ≡ o = cc in
       let jk : k ≡ j = sym (save_of inc act n j s a) in
       (t.0, here, subst (λ v. Among fresh (record { object = o; k = v; content = t.0 })) jk (subst (λ v. Among fresh (record { object = v; k = k; content = t.0 })) ao t.2))
 
-  counts : Counts after acts (log ++ more) owners (counted ++ fresh) served
+  counts : Counts hostile after acts (log ++ more) owners (counted ++ fresh) served
   counts = record {
     completed_counted = λ inc act n j s i. elim (now inc act n j s i) [
       | inl old ↦ (let c = f.counts.completed_counted inc act n j s old in (c.0, among_old counted fresh c.0 c.1, c.2, c.3))
@@ -92,5 +92,5 @@ module _ (links after : Links) (acts : Acts) (lives : Lives) (log more : List Me
     server_counted = λ e g honest. among_old counted fresh _ (f.counts.server_counted e g honest);
   }
 
-  pub all_counted : Facts after acts lives (log ++ more) owners last (counted ++ fresh) served
+  pub all_counted : Facts hostile after acts lives (log ++ more) owners last (counted ++ fresh) served
   all_counted = asked_with (IsTold links k fresh) links after acts lives log more owners last counted served h.tells f (counted ++ fresh) counts

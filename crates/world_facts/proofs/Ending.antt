@@ -11,8 +11,8 @@ use Rattle.world_facts.specs.Facts.{Facts}
 use Rattle.world_facts.specs.Shapes.{EndsSome}
 use Rattle.world_facts.proofs.Issuing.{NoMoreEnds, counts_kept}
 
-module _ (links after : Links) (acts : Acts) (lives : Lives) (sent : List Message) (owners : List ℕ) (last : ℕ) (counted : List Done) (served : List ServerDone)
-    (h : EndsSome links after acts lives) (f : Facts links acts lives sent owners last counted served) where
+module _ {hostile : List ℕ} (links after : Links) (acts : Acts) (lives : Lives) (sent : List Message) (owners : List ℕ) (last : ℕ) (counted : List Done) (served : List ServerDone)
+    (h : EndsSome links after acts lives) (f : Facts hostile links acts lives sent owners last counted served) where
   old : (k : ℕ) (l : Link) → after k ≡ Some l → links k ≡ Some l
   old k l e = elim (h.each k) [ inl s ↦ sym s ∙ e | inr g ↦ absurd (let z : None ≡ Some l = sym g.0 ∙ e in cc) ]
 
@@ -33,7 +33,7 @@ module _ (links after : Links) (acts : Acts) (lives : Lives) (sent : List Messag
   ends_back inc act n k s (called g) = called g
   ends_back inc act n k s (waits x l i e ei ea at en) = waits x l i (old x l e) ei ea at en
 
-  pub some_ended : Facts after acts lives sent owners last counted served
+  pub some_ended : Facts hostile after acts lives sent owners last counted served
   some_ended = record {
     drawn = record {
       many = f.drawn.many;

@@ -18,8 +18,8 @@ use Rattle.world_facts.proofs.Lookups.{among_join}
 abbrev pub NoMoreEnds : Links → Links → List Message → List Message → Type 0
 NoMoreEnds links after sent more = (inc act n k : ℕ) (storage : Bool) → Issued after more inc act n (SaveCompleted k storage) → Issued links sent inc act n (SaveCompleted k storage)
 
-pub counts_kept : (links after : Links) (acts : Acts) (sent more : List Message) (owners : List ℕ) (counted : List Done) (served : List ServerDone)
-    → NoMoreEnds links after sent more → ((m : Message) → Among sent m → Among more m) → Counts links acts sent owners counted served → Counts after acts more owners counted served
+pub counts_kept : {hostile : List ℕ} (links after : Links) (acts : Acts) (sent more : List Message) (owners : List ℕ) (counted : List Done) (served : List ServerDone)
+    → NoMoreEnds links after sent more → ((m : Message) → Among sent m → Among more m) → Counts hostile links acts sent owners counted served → Counts hostile after acts more owners counted served
 counts_kept links after acts sent more owners counted served back forth h = record {
   completed_counted = λ inc act n k s i. h.completed_counted inc act n k s (back inc act n k s i);
   completed_once = λ inc act n inc' act' n' k o s s' i j. h.completed_once inc act n inc' act' n' k o s s' (back inc act n k s i) (back inc' act' n' k s' j);

@@ -30,13 +30,13 @@ seen_as before after l m a b g e el er h = record {
   grant = h.grant ∙ sym e.s;
 }
 
-pub views_kept : (links now : Links) (acts after : Acts) (log longer : List Sent) → LeavesCloses links now acts after → Grows log longer → Views links acts log → Views now after longer
-views_kept links now acts after log longer leaves grows v = record {
+pub views_kept : {hostile : List ℕ} (links now : Links) (acts after : Acts) (log longer : List Sent) → LeavesCloses hostile links now acts after → Grows log longer → Views hostile links acts log → Views hostile now after longer
+views_kept {hostile = hostile} links now acts after log longer leaves grows v = record {
   writes_sent = λ x h. elim (grows.new x h) [ inl old ↦ v.writes_sent x old | inr new ↦ new ];
   closes_sent = λ o l a option e honest k p el. (let b = leaves o l a option e honest k p el in
       let n : b.activation.last ≡ b.link.last = sym b.last ∙ (el ∙ b.same.last) in
       seen_as log longer b.link l b.activation a grows b.same b.last b.reply
-      (v.closes_sent o b.link b.activation option b.linked (subst IsHonest b.same.inc honest) b.known (sym b.same.pending ∙ p) n));
+      (v.closes_sent o b.link b.activation option b.linked (subst (IsHonest hostile) b.same.inc honest) b.known (sym b.same.pending ∙ p) n));
 }
 
 -- logs
@@ -107,51 +107,51 @@ not_answered b l op a c _ e (level y g n v) el = (let z : Some y ≡ Some a = e 
 not_answered b l op a c _ e (behind y p g n v) el = (let z : None ≡ Some p = sym c.free ∙ g in cc)
 not_answered b l op a c _ e (ahead y p g n v) el = (let z : None ≡ Some p = sym c.free ∙ g in cc)
 
-called_answered : (links : Links) (acts : Acts) (o : ℕ) (b l : Link) (op : Operation) (a : Activation) → InSteps links acts → links o ≡ Some b → IsCalled b l op → IsHonest l.inc → acts l.inc l.act ≡ Some a → a.last ≡ l.last → ⊥
-called_answered links acts o b l op a steps e c honest k el =
-    not_answered b l op a c (acts b.inc b.act) (ap (λ x. acts x b.act) (sym c.inc) ∙ (ap (acts l.inc) (sym c.act) ∙ k)) (steps o b e (subst IsHonest c.inc honest)) el
+called_answered : (hostile : List ℕ) (links : Links) (acts : Acts) (o : ℕ) (b l : Link) (op : Operation) (a : Activation) → InSteps hostile links acts → links o ≡ Some b → IsCalled b l op → IsHonest hostile l.inc → acts l.inc l.act ≡ Some a → a.last ≡ l.last → ⊥
+called_answered hostile links acts o b l op a steps e c honest k el =
+    not_answered b l op a c (acts b.inc b.act) (ap (λ x. acts x b.act) (sym c.inc) ∙ (ap (acts l.inc) (sym c.act) ∙ k)) (steps o b e (subst (IsHonest hostile) c.inc honest)) el
 
 -- each shape
-pub asks_leave : (Asks : ℕ → Operation → Type 0) (links after : Links) (acts : Acts) (more : List Message) → AsksAll Asks links after more → InSteps links acts → LeavesCloses links after acts acts
-asks_leave Asks links after acts more h steps o l a option e honest k p el = at (h.each o)
+pub asks_leave : (hostile : List ℕ) (Asks : ℕ → Operation → Type 0) (links after : Links) (acts : Acts) (more : List Message) → AsksAll Asks links after more → InSteps hostile links acts → LeavesCloses hostile links after acts acts
+asks_leave hostile Asks links after acts more h steps o l a option e honest k p el = at (h.each o)
   where
     at : AskedAt (Asks o) (links o) (after o) (h.news o) → WasAnswered links acts o l a
     at (none w i n) = absurd (let z : None ≡ Some l = sym i ∙ e in cc)
     at (stays b m w i s wt n) = (let z : Some m ≡ Some l = sym i ∙ e in let q : m ≡ l = cc in was_same links acts o b l a w k (subst (IsSame b) q s))
     at (queues b m op x w i s pe wt ak n) = (let z : Some m ≡ Some l = sym i ∙ e in let q : m ≡ l = cc in was_same links acts o b l a w k (subst (IsSame b) q s))
     at (sends b m op w i c wb wm ak n) = (let z : Some m ≡ Some l = sym i ∙ e in let q : m ≡ l = cc in
-        absurd (called_answered links acts o b l op a steps w (subst (λ x. IsCalled b x op) q c) honest k el))
+        absurd (called_answered hostile links acts o b l op a steps w (subst (λ x. IsCalled b x op) q c) honest k el))
 
-pub settles_leave : (links after : Links) (acts : Acts) (o : ℕ) → Settles links after acts o → LeavesCloses links after acts acts
-settles_leave links after acts o h n l a option e honest k p el = elim (which links after o n h.link l h.is h.others e) [
+pub settles_leave : (hostile : List ℕ) (links after : Links) (acts : Acts) (o : ℕ) → Settles links after acts o → LeavesCloses hostile links after acts acts
+settles_leave hostile links after acts o h n l a option e honest k p el = elim (which links after o n h.link l h.is h.others e) [
   | inl s ↦ absurd (let z : None ≡ Some (Close option) = sym h.pending ∙ (ap (λ (x : Link). x.pending) (sym s.1) ∙ p) in cc)
   | inr s ↦ was_same links acts n l l a s.1 k (same_link l)
 ]
 
-pub next_leaves : (links after : Links) (acts : Acts) (o : ℕ) (more : List Message) → SendsNext links after o more → InSteps links acts → LeavesCloses links after acts acts
-next_leaves links after acts o more h steps n l a option e honest k p el = elim (which links after o n h.link l h.is h.others e) [
-  | inl s ↦ absurd (called_answered links acts o h.before l h.op a steps h.was (subst (λ x. IsCalled h.before x h.op) (sym s.1) h.called) honest k el)
+pub next_leaves : (hostile : List ℕ) (links after : Links) (acts : Acts) (o : ℕ) (more : List Message) → SendsNext links after o more → InSteps hostile links acts → LeavesCloses hostile links after acts acts
+next_leaves hostile links after acts o more h steps n l a option e honest k p el = elim (which links after o n h.link l h.is h.others e) [
+  | inl s ↦ absurd (called_answered hostile links acts o h.before l h.op a steps h.was (subst (λ x. IsCalled h.before x h.op) (sym s.1) h.called) honest k el)
   | inr s ↦ was_same links acts n l l a s.1 k (same_link l)
 ]
 
-pub begins_leave : (links after : Links) (acts : Acts) (lives : Lives) (owners : List ℕ) (last o : ℕ) (more : List Message) → Begins links after lives owners last o more
-    → ((inc act : ℕ) (a : Activation) → acts inc act ≡ Some a → act ≤ last) → LeavesCloses links after acts acts
-begins_leave links after acts lives owners last o more h drawn n l a option e honest k p el = elim (which links after o n _ l h.is h.others e) [
+pub begins_leave : (hostile : List ℕ) (links after : Links) (acts : Acts) (lives : Lives) (owners : List ℕ) (last o : ℕ) (more : List Message) → Begins links after lives owners last o more
+    → ((inc act : ℕ) (a : Activation) → acts inc act ≡ Some a → act ≤ last) → LeavesCloses hostile links after acts acts
+begins_leave hostile links after acts lives owners last o more h drawn n l a option e honest k p el = elim (which links after o n _ l h.is h.others e) [
   | inl s ↦ (let ea : l.act ≡ last + 1 = ap (λ (x : Link). x.act) s.1 in let le : l.act ≤ last = drawn l.inc l.act a k in absurd (omega arith))
   | inr s ↦ was_same links acts n l l a s.1 k (same_link l)
 ]
 
-pub ends_leave : (links after : Links) (acts : Acts) (lives : Lives) → EndsSome links after acts lives → LeavesCloses links after acts acts
-ends_leave links after acts lives h o l a option e honest k p el = elim (h.each o) [
+pub ends_leave : (hostile : List ℕ) (links after : Links) (acts : Acts) (lives : Lives) → EndsSome links after acts lives → LeavesCloses hostile links after acts acts
+ends_leave hostile links after acts lives h o l a option e honest k p el = elim (h.each o) [
   | inl s ↦ was_same links acts o l l a (sym s ∙ e) k (same_link l)
   | inr g ↦ absurd (let z : None ≡ Some l = sym g.0 ∙ e in cc)
 ]
 
-pub starts_leave : (links : Links) (acts after : Acts) (lives now : Lives) → StartsOrEnds acts after lives now → LeavesCloses links links acts after
-starts_leave links acts after lives now h o l a option e honest k p el =
+pub starts_leave : (hostile : List ℕ) (links : Links) (acts after : Acts) (lives now : Lives) → StartsOrEnds acts after lives now → LeavesCloses hostile links links acts after
+starts_leave hostile links acts after lives now h o l a option e honest k p el =
     record { link = l; activation = a; linked = e; known = sym (h.same l.inc l.act) ∙ k; same = same_link l; last = refl; reply = refl }
 
-pub tells_leave : (links : Links) (acts after : Acts) → Tells acts after → LeavesCloses links links acts after
-tells_leave links acts after h o l a option e honest k p el = (let b = before_of (acts l.inc l.act) a (subst (Alike (acts l.inc l.act)) k (h l.inc l.act)) in
+pub tells_leave : (hostile : List ℕ) (links : Links) (acts after : Acts) → Tells acts after → LeavesCloses hostile links links acts after
+tells_leave hostile links acts after h o l a option e honest k p el = (let b = before_of (acts l.inc l.act) a (subst (Alike (acts l.inc l.act)) k (h l.inc l.act)) in
     let same = b.2 in
     record { link = l; activation = b.0; linked = e; known = b.1; same = same_link l; last = same.last; reply = same.reply })

@@ -35,7 +35,7 @@ saved_kept acts b m c ei ea k h g = elim k [
 ]
 
 -- replies stay where only calls are sent
-pub only_calls : (acts : Acts) (sent more : List Message) → ((inc act n : ℕ) (r : Answer) → Among more (Reply inc act n r) → ⊥) → Replies acts sent → Replies acts (sent ++ more)
+pub only_calls : {hostile : List ℕ} (acts : Acts) (sent more : List Message) → ((inc act n : ℕ) (r : Answer) → Among more (Reply inc act n r) → ⊥) → Replies hostile acts sent → Replies hostile acts (sent ++ more)
 only_calls acts sent more no_reply h = record {
   reply_numbered = λ inc act a honest e. among_old sent more (Reply inc act a.last a.reply) (h.reply_numbered inc act a honest e);
   replies_kept = λ inc act n r honest g. h.replies_kept inc act n r honest (old inc act n r g);
@@ -45,8 +45,8 @@ only_calls acts sent more no_reply h = record {
     old : (inc act n : ℕ) (r : Answer) → Among (sent ++ more) (Reply inc act n r) → Among sent (Reply inc act n r)
     old inc act n r g = elim (among_join sent more (Reply inc act n r) g) [ inl x ↦ x | inr x ↦ absurd (no_reply inc act n r x) ]
 
-module _ (links after : Links) (acts : Acts) (lives : Lives) (sent more : List Message) (owners : List ℕ) (last : ℕ) (counted : List Done) (served : List ServerDone) (o : ℕ)
-    (h : SendsNext links after o more) (f : Facts links acts lives sent owners last counted served) where
+module _ {hostile : List ℕ} (links after : Links) (acts : Acts) (lives : Lives) (sent more : List Message) (owners : List ℕ) (last : ℕ) (counted : List Done) (served : List ServerDone) (o : ℕ)
+    (h : SendsNext links after o more) (f : Facts hostile links acts lives sent owners last counted served) where
   find_link : (k : ℕ) (l : Link) → after k ≡ Some l → ((k ≡ o) × (l ≡ h.link)) ⊎ ((k ≢ o) × (links k ≡ Some l))
   find_link k l e = which links after o k h.link l h.is h.others e
 
@@ -107,18 +107,18 @@ module _ (links after : Links) (acts : Acts) (lives : Lives) (sent more : List M
     ])
   ]
 
-  in_step : (k : ℕ) (l : Link) → after k ≡ Some l → IsHonest l.inc → InStep l (acts l.inc l.act)
+  in_step : (k : ℕ) (l : Link) → after k ≡ Some l → IsHonest hostile l.inc → InStep l (acts l.inc l.act)
   in_step k l e honest = elim (find_link k l e) [
-    | inl s ↦ (let was : InStep h.before (acts h.before.inc h.before.act) = f.in_step o h.before h.was honest in
+    | inl s ↦ (let was : InStep h.before (acts h.before.inc h.before.act) = f.in_step o h.before h.was (subst (IsHonest hostile) (ap (λ (x : Link). x.inc) s.1 ∙ h.called.inc) honest) in
         let now : InStep h.link (acts h.before.inc h.before.act) = is_behind h.before h.link h.op h.called _ was in
         subst (λ (x : Link). InStep x (acts x.inc x.act)) (sym s.1) (subst (λ x. InStep h.link (acts x h.link.act)) (sym h.called.inc) (subst (λ x. InStep h.link (acts h.before.inc x)) (sym h.called.act) now)))
     | inr s ↦ f.in_step k l s.1 honest
   ]
 
-  saved_same : (k : ℕ) (l : Link) (c : Stored) → after k ≡ Some l → IsHonest l.inc → l.saved ≡ Some c → HasSaved c (acts l.inc l.act)
+  saved_same : (k : ℕ) (l : Link) (c : Stored) → after k ≡ Some l → IsHonest hostile l.inc → l.saved ≡ Some c → HasSaved c (acts l.inc l.act)
   saved_same k l c e honest g = elim (find_link k l e) [
     | inl s ↦ saved_kept acts h.before l c (ap (λ (x : Link). x.inc) s.1 ∙ h.called.inc) (ap (λ (x : Link). x.act) s.1 ∙ h.called.act)
-        (elim h.called.saved [ inl q ↦ inl (ap (λ (x : Link). x.saved) s.1 ∙ q) | inr q ↦ inr (ap (λ (x : Link). x.saved) s.1 ∙ q) ]) (f.saved_same o h.before c h.was honest) g
+        (elim h.called.saved [ inl q ↦ inl (ap (λ (x : Link). x.saved) s.1 ∙ q) | inr q ↦ inr (ap (λ (x : Link). x.saved) s.1 ∙ q) ]) (f.saved_same o h.before c h.was (subst (IsHonest hostile) (ap (λ (x : Link). x.inc) s.1 ∙ h.called.inc) honest)) g
     | inr s ↦ f.saved_same k l c s.1 honest g
   ]
 
@@ -148,7 +148,7 @@ module _ (links after : Links) (acts : Acts) (lives : Lives) (sent more : List M
   no_reply : (inc act n : ℕ) (r : Answer) → Among more (Reply inc act n r) → ⊥
   no_reply inc act n r g = (let q = is_new (Reply inc act n r) g in cc)
 
-  pub sent_next : Facts after acts lives (sent ++ more) owners last counted served
+  pub sent_next : Facts hostile after acts lives (sent ++ more) owners last counted served
   sent_next = record {
     drawn = record {
       many = f.drawn.many;

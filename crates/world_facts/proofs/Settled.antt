@@ -15,8 +15,8 @@ use Rattle.world_facts.specs.Facts.{InStep, HasSaved, Facts}
 use Rattle.world_facts.specs.Shapes.{Settles}
 use Rattle.world_facts.proofs.Issuing.{NoMoreEnds, counts_kept, which, linked_kept}
 
-module _ (links after : Links) (acts : Acts) (lives : Lives) (sent : List Message) (owners : List ℕ) (last : ℕ) (counted : List Done) (served : List ServerDone) (o : ℕ)
-    (h : Settles links after acts o) (f : Facts links acts lives sent owners last counted served) where
+module _ {hostile : List ℕ} (links after : Links) (acts : Acts) (lives : Lives) (sent : List Message) (owners : List ℕ) (last : ℕ) (counted : List Done) (served : List ServerDone) (o : ℕ)
+    (h : Settles links after acts o) (f : Facts hostile links acts lives sent owners last counted served) where
   find_link : (k : ℕ) (l : Link) → after k ≡ Some l → ((k ≡ o) × (l ≡ h.link)) ⊎ ((k ≢ o) × (links k ≡ Some l))
   find_link k l e = which links after o k h.link l h.is h.others e
 
@@ -47,13 +47,13 @@ module _ (links after : Links) (acts : Acts) (lives : Lives) (sent : List Messag
     | inr s ↦ f.calls.pending k inc op asked l s.1 p g
   ]
 
-  in_step : (k : ℕ) (l : Link) → after k ≡ Some l → IsHonest l.inc → InStep l (acts l.inc l.act)
+  in_step : (k : ℕ) (l : Link) → after k ≡ Some l → IsHonest hostile l.inc → InStep l (acts l.inc l.act)
   in_step k l e honest = elim (find_link k l e) [
     | inl s ↦ subst (λ (x : Link). InStep x (acts x.inc x.act)) (sym s.1) h.in_step
     | inr s ↦ f.in_step k l s.1 honest
   ]
 
-  saved_same : (k : ℕ) (l : Link) (c : Stored) → after k ≡ Some l → IsHonest l.inc → l.saved ≡ Some c → HasSaved c (acts l.inc l.act)
+  saved_same : (k : ℕ) (l : Link) (c : Stored) → after k ≡ Some l → IsHonest hostile l.inc → l.saved ≡ Some c → HasSaved c (acts l.inc l.act)
   saved_same k l c e honest g = elim (find_link k l e) [
     | inl s ↦ subst (λ (x : Link). HasSaved c (acts x.inc x.act)) (sym s.1) (h.saved c (ap (λ (x : Link). x.saved) (sym s.1) ∙ g))
     | inr s ↦ f.saved_same k l c s.1 honest g
@@ -71,7 +71,7 @@ module _ (links after : Links) (acts : Acts) (lives : Lives) (sent : List Messag
     | inr z ↦ waits x l i z.1 ei ea at en
   ]
 
-  pub settled : Facts after acts lives sent owners last counted served
+  pub settled : Facts hostile after acts lives sent owners last counted served
   settled = record {
     drawn = record { many = f.drawn.many; acts_drawn = f.drawn.acts_drawn; acts_called = f.drawn.acts_called; calls_drawn = f.drawn.calls_drawn; calls_named = named; servers_told = told; calls_told = f.drawn.calls_told };
     calls = record { bounded = bounded; pending = pending };

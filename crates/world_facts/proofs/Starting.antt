@@ -7,9 +7,9 @@ use Rattle.world_facts.specs.Words.{Links, Acts, Lives, IsClosed}
 use Rattle.world_facts.specs.Facts.{InStep, HasSaved, Facts}
 use Rattle.world_facts.specs.Shapes.{StartsOrEnds}
 
-module _ (links : Links) (acts after : Acts) (lives now : Lives) (sent : List Message) (owners : List ℕ) (last : ℕ) (counted : List Done) (served : List ServerDone)
-    (h : StartsOrEnds acts after lives now) (f : Facts links acts lives sent owners last counted served) where
-  pub started : Facts links after now sent owners last counted served
+module _ {hostile : List ℕ} (links : Links) (acts after : Acts) (lives now : Lives) (sent : List Message) (owners : List ℕ) (last : ℕ) (counted : List Done) (served : List ServerDone)
+    (h : StartsOrEnds acts after lives now) (f : Facts hostile links acts lives sent owners last counted served) where
+  pub started : Facts hostile links after now sent owners last counted served
   started = record {
     drawn = record {
       many = f.drawn.many;

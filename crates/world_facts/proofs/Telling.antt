@@ -16,8 +16,8 @@ use Rattle.world_facts.proofs.Sending.{only_calls}
 use Rattle.world_facts.proofs.Alike.{facts_alike}
 
 -- messages are sent that are neither calls nor replies
-module _ (links : Links) (acts : Acts) (lives : Lives) (sent more : List Message) (owners : List ℕ) (last : ℕ) (counted : List Done) (served : List ServerDone)
-    (own : (m : Message) → Among more m → IsOwn m) (f : Facts links acts lives sent owners last counted served) where
+module _ {hostile : List ℕ} (links : Links) (acts : Acts) (lives : Lives) (sent more : List Message) (owners : List ℕ) (last : ℕ) (counted : List Done) (served : List ServerDone)
+    (own : (m : Message) → Among more m → IsOwn m) (f : Facts hostile links acts lives sent owners last counted served) where
   old : (inc act n : ℕ) (op : Operation) → Among (sent ++ more) (Call inc act n op) → Among sent (Call inc act n op)
   old inc act n op g = elim (among_join sent more (Call inc act n op) g) [ inl x ↦ x | inr x ↦ absurd (own (Call inc act n op) x) ]
 
@@ -25,7 +25,7 @@ module _ (links : Links) (acts : Acts) (lives : Lives) (sent more : List Message
   ends_back inc act n k s (called g) = called (old inc act n (SaveCompleted k s) g)
   ends_back inc act n k s (waits x l i e ei ea at en) = waits x l i e ei ea at en
 
-  pub sent_own : Facts links acts lives (sent ++ more) owners last counted served
+  pub sent_own : Facts hostile links acts lives (sent ++ more) owners last counted served
   sent_own = record {
     drawn = record {
       many = f.drawn.many;
@@ -48,7 +48,7 @@ module _ (links : Links) (acts : Acts) (lives : Lives) (sent more : List Message
   }
 
 -- and the activation is as it was, but for the number of its last content
-pub told_all : (links : Links) (acts after : Acts) (lives now : Lives) (sent more : List Message) (owners : List ℕ) (last : ℕ) (counted : List Done) (served : List ServerDone)
-    → Tells acts after → ((inc : ℕ) → now inc ≡ lives inc) → ((m : Message) → Among more m → IsOwn m) → Facts links acts lives sent owners last counted served → Facts links after now (sent ++ more) owners last counted served
+pub told_all : {hostile : List ℕ} (links : Links) (acts after : Acts) (lives now : Lives) (sent more : List Message) (owners : List ℕ) (last : ℕ) (counted : List Done) (served : List ServerDone)
+    → Tells acts after → ((inc : ℕ) → now inc ≡ lives inc) → ((m : Message) → Among more m → IsOwn m) → Facts hostile links acts lives sent owners last counted served → Facts hostile links after now (sent ++ more) owners last counted served
 told_all links acts after lives now sent more owners last counted served h still own f =
     sent_own links after now sent more owners last counted served own (facts_alike links acts after lives now sent owners last counted served h still f)

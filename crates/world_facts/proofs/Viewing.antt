@@ -27,10 +27,10 @@ use Rattle.world_facts.proofs.Acting.{IsPending, of_link, IsNextOf, next_of}
 is_opened : (b : Activation) → IsOpen b → is_some b.content ≡ true
 is_opened b h = ap is_some h.1
 
-module _ (links : Links) (acts after : Acts) (lives : Lives) (sent : List Message) (owners : List ℕ) (last : ℕ) (counted : List Done) (served : List ServerDone)
+module _ {hostile : List ℕ} (links : Links) (acts after : Acts) (lives : Lives) (sent : List Message) (owners : List ℕ) (last : ℕ) (counted : List Done) (served : List ServerDone)
     (inc act n : ℕ) (op : Operation) (a : Activation) (r : Answer) (told : Option Counted)
-    (f : Facts links acts lives sent owners last counted served) (ready : IsReady links) (honest : IsHonest inc)
-    (call : Among sent (Call inc act n op)) (runs : lives inc ≡ Some Running) (ch : IsChanged acts after inc act a) (how : ActsOn acts inc act n op a r told) (log : List Sent) (v : Views links acts log) where
+    (f : Facts hostile links acts lives sent owners last counted served) (ready : IsReady links) (honest : IsHonest hostile inc)
+    (call : Among sent (Call inc act n op)) (runs : lives inc ≡ Some Running) (ch : IsChanged acts after inc act a) (how : ActsOn acts inc act n op a r told) (log : List Sent) (v : Views hostile links acts log) where
   -- the reply, with the activation's state before the call
   abbrev pub reply : Sent
   reply = record { message = Reply inc act n r; view = option_map view_of (acts inc act) }
@@ -52,7 +52,7 @@ module _ (links : Links) (acts after : Acts) (lives : Lives) (sent : List Messag
   seen_now o l option e ei ea p el (again at en er ec) =
       let k : acts l.inc l.act ≡ Some a = ap (λ x. acts x l.act) ei ∙ (ap (acts inc) ea ∙ at) in
       seen_old inc act a.last a.reply l (subst (λ x. IsSeen log x act a.last a.reply l.states l.s) ei (subst (λ x. IsSeen log l.inc x a.last a.reply l.states l.s) ea
-      (v.closes_sent o l a option e (subst IsHonest (sym ei) honest) k p el)))
+      (v.closes_sent o l a option e (subst (IsHonest hostile) (sym ei) honest) k p el)))
   seen_now o l option e ei ea p el (next b at en opened m) =
       let pb = pending_of o l e ei ea in
       let x : IsNextOf links acts after lives sent owners last counted served inc act n op a r told f ready honest call runs ch how l b =
@@ -68,7 +68,7 @@ module _ (links : Links) (acts after : Acts) (lives : Lives) (sent : List Messag
       let oc : op ≡ Close option = pb.pending (Close option) p (en ∙ sym l1) in
       absurd (subst IsFirst oc fo)
 
-  closes_now : (o : ℕ) (l : Link) (b : Activation) (option : CloseOption) → links o ≡ Some l → IsHonest l.inc → after l.inc l.act ≡ Some b → l.pending ≡ Some (Close option) → b.last ≡ l.last
+  closes_now : (o : ℕ) (l : Link) (b : Activation) (option : CloseOption) → links o ≡ Some l → IsHonest hostile l.inc → after l.inc l.act ≡ Some b → l.pending ≡ Some (Close option) → b.last ≡ l.last
       → IsSeen (log ++ reply ∷ []) l.inc l.act b.last b.reply l.states l.s
   closes_now o l b option e h k p el = elim (same_act l.inc l.act inc act) [
     | inl s ↦ (let z : Some a ≡ Some b = sym ch.here ∙ (ap (after inc) (sym s.1) ∙ (ap (λ y. after y l.act) (sym s.0) ∙ k)) in
@@ -80,7 +80,7 @@ module _ (links : Links) (acts after : Acts) (lives : Lives) (sent : List Messag
     | inr d ↦ seen_old l.inc l.act b.last b.reply l (v.closes_sent o l b option e h (sym (ch.others l.inc l.act d) ∙ k) p el)
   ]
 
-  pub views_acted : Views links after (log ++ reply ∷ [])
+  pub views_acted : Views hostile links after (log ++ reply ∷ [])
   views_acted = record {
     writes_sent = λ x h. elim ((grows_one log reply tt).new x h) [ inl old ↦ v.writes_sent x old | inr new ↦ new ];
     closes_sent = closes_now;

@@ -85,52 +85,52 @@ pub data InStep (l : Link) : Option Activation → Type 0 where
   behind : (a : Activation) (op : Operation) → l.pending ≡ Some op → a.last + 1 ≡ l.last → IsEven l.states l.s a → InStep l (Some a)
   ahead : (a : Activation) (op : Operation) → l.pending ≡ Some op → a.last ≡ l.last → Did l.states l.s op a a.reply → InStep l (Some a)
 
-abbrev pub InSteps : Links → Acts → Type 0
-InSteps links acts = (o : ℕ) (l : Link) → links o ≡ Some l → IsHonest l.inc → InStep l (acts l.inc l.act)
+abbrev pub InSteps : List ℕ → Links → Acts → Type 0
+InSteps hostile links acts = (o : ℕ) (l : Link) → links o ≡ Some l → IsHonest hostile l.inc → InStep l (acts l.inc l.act)
 
 -- At an honest server that runs, an activation that it knows, or that it was called with, and that no link has, is closed
 -- for good; so no call acts after its activation's end.
-pub record UnlinkedClosed (links : Links) (acts : Acts) (lives : Lives) (sent : List Message) : Type 0 where
-  pub called : (inc act n : ℕ) (op : Operation) → IsHonest inc → lives inc ≡ Some Running → Among sent (Call inc act n op) → IsLinked links inc act ⊎ IsClosed (acts inc act)
-  pub known : (inc act : ℕ) (a : Activation) → IsHonest inc → lives inc ≡ Some Running → acts inc act ≡ Some a → IsLinked links inc act ⊎ (a.content ≡ None)
+pub record UnlinkedClosed (hostile : List ℕ) (links : Links) (acts : Acts) (lives : Lives) (sent : List Message) : Type 0 where
+  pub called : (inc act n : ℕ) (op : Operation) → IsHonest hostile inc → lives inc ≡ Some Running → Among sent (Call inc act n op) → IsLinked links inc act ⊎ IsClosed (acts inc act)
+  pub known : (inc act : ℕ) (a : Activation) → IsHonest hostile inc → lives inc ≡ Some Running → acts inc act ≡ Some a → IsLinked links inc act ⊎ (a.content ≡ None)
 
 -- Replies of honest servers: the kept one was sent as the reply to the last call, a reply is of an activation that came so
 -- far, and no call has two.
-pub record Replies (acts : Acts) (sent : List Message) : Type 0 where
-  pub reply_numbered : (inc act : ℕ) (a : Activation) → IsHonest inc → acts inc act ≡ Some a → Among sent (Reply inc act a.last a.reply)
-  pub replies_kept : (inc act n : ℕ) (r : Answer) → IsHonest inc → Among sent (Reply inc act n r)
+pub record Replies (hostile : List ℕ) (acts : Acts) (sent : List Message) : Type 0 where
+  pub reply_numbered : (inc act : ℕ) (a : Activation) → IsHonest hostile inc → acts inc act ≡ Some a → Among sent (Reply inc act a.last a.reply)
+  pub replies_kept : (inc act n : ℕ) (r : Answer) → IsHonest hostile inc → Among sent (Reply inc act n r)
       → (a : Activation) × (acts inc act ≡ Some a) × (n ≤ a.last) × (n ≡ a.last → r ≡ a.reply)
-  pub one_reply : (inc act n : ℕ) (r q : Answer) → IsHonest inc → Among sent (Reply inc act n r) → Among sent (Reply inc act n q) → r ≡ q
+  pub one_reply : (inc act n : ℕ) (r q : Answer) → IsHonest hostile inc → Among sent (Reply inc act n r) → Among sent (Reply inc act n q) → r ≡ q
 
 -- the content that an object's save was answered is the one that its activation keeps
 abbrev pub HasSaved : Stored → Option Activation → Type 0
 HasSaved c None = ⊥
 HasSaved c (Some a) = a.saved ≡ Some c
 
-abbrev pub SavedSame : Links → Acts → Type 0
-SavedSame links acts = (o : ℕ) (l : Link) (c : Stored) → links o ≡ Some l → IsHonest l.inc → l.saved ≡ Some c → HasSaved c (acts l.inc l.act)
+abbrev pub SavedSame : List ℕ → Links → Acts → Type 0
+SavedSame hostile links acts = (o : ℕ) (l : Link) (c : Stored) → links o ≡ Some l → IsHonest hostile l.inc → l.saved ≡ Some c → HasSaved c (acts l.inc l.act)
 
 -- The counts of saves on both sides. What an activation is told of as completed, or will be, the container counted; it is
 -- told once; and until the activation takes it, it keeps the content that was counted.
-pub record Counts (links : Links) (acts : Acts) (sent : List Message) (owners : List ℕ) (counted : List Done) (served : List ServerDone) : Type 0 where
+pub record Counts (hostile : List ℕ) (links : Links) (acts : Acts) (sent : List Message) (owners : List ℕ) (counted : List Done) (served : List ServerDone) : Type 0 where
   pub completed_counted : (inc act n k : ℕ) (storage : Bool) → Issued links sent inc act n (SaveCompleted k storage)
       → (d : Done) × Among counted d × (nth owners act ≡ Some d.object) × (d.k ≡ k)
   pub completed_once : (inc act n inc' act' n' k o : ℕ) (storage storage' : Bool) → Issued links sent inc act n (SaveCompleted k storage) → Issued links sent inc' act' n' (SaveCompleted k storage')
       → nth owners act ≡ Some o → nth owners act' ≡ Some o → (inc ≡ inc') × (act ≡ act') × (n ≡ n')
-  pub completed_content : (inc act n k o : ℕ) (storage : Bool) (a : Activation) → Issued links sent inc act n (SaveCompleted k storage) → IsHonest inc → acts inc act ≡ Some a → IsOpen a → a.last < n → nth owners act ≡ Some o
+  pub completed_content : (inc act n k o : ℕ) (storage : Bool) (a : Activation) → Issued links sent inc act n (SaveCompleted k storage) → IsHonest hostile inc → acts inc act ≡ Some a → IsOpen a → a.last < n → nth owners act ≡ Some o
       → (c : Stored) × (a.saved ≡ Some c) × Among counted (record { object = o; k = k; content = c })
   -- what a server counts it was called for, and the container counted it with the same content
   pub server_called : (e : ServerDone) → Among served e
       → (act n : ℕ) × (storage : Bool) × (a : Activation) × Among sent (Call e.inc act n (SaveCompleted e.k storage)) × (nth owners act ≡ Some e.object) × (acts e.inc act ≡ Some a) × (n ≤ a.last)
   pub server_once : ServedOnce served
-  pub server_counted : (e : ServerDone) → Among served e → IsHonest e.inc → Among counted (record { object = e.object; k = e.k; content = e.content })
+  pub server_counted : (e : ServerDone) → Among served e → IsHonest hostile e.inc → Among counted (record { object = e.object; k = e.k; content = e.content })
 
 -- All of them together.
-pub record Facts (links : Links) (acts : Acts) (lives : Lives) (sent : List Message) (owners : List ℕ) (last_act : ℕ) (counted : List Done) (served : List ServerDone) : Type 0 where
+pub record Facts (hostile : List ℕ) (links : Links) (acts : Acts) (lives : Lives) (sent : List Message) (owners : List ℕ) (last_act : ℕ) (counted : List Done) (served : List ServerDone) : Type 0 where
   pub drawn : Drawn links acts lives sent owners last_act
   pub calls : CallsBounded links sent
-  pub in_step : InSteps links acts
-  pub unlinked : UnlinkedClosed links acts lives sent
-  pub replies : Replies acts sent
-  pub saved_same : SavedSame links acts
-  pub counts : Counts links acts sent owners counted served
+  pub in_step : InSteps hostile links acts
+  pub unlinked : UnlinkedClosed hostile links acts lives sent
+  pub replies : Replies hostile acts sent
+  pub saved_same : SavedSame hostile links acts
+  pub counts : Counts hostile links acts sent owners counted served

@@ -19,59 +19,59 @@ use Rattle.world_facts.specs.Views.{Views, Grows, LeavesCloses}
 
 -- the pending operation of one object was answered
 abbrev pub SettlingKeeps : Type 0
-SettlingKeeps = (links after : Links) (acts : Acts) (lives : Lives) (sent : List Message) (owners : List ℕ) (last : ℕ) (counted : List Done) (served : List ServerDone) (o : ℕ)
-    → Settles links after acts o → Facts links acts lives sent owners last counted served → Facts after acts lives sent owners last counted served
+SettlingKeeps = (hostile : List ℕ) (links after : Links) (acts : Acts) (lives : Lives) (sent : List Message) (owners : List ℕ) (last : ℕ) (counted : List Done) (served : List ServerDone) (o : ℕ)
+    → Settles links after acts o → Facts hostile links acts lives sent owners last counted served → Facts hostile after acts lives sent owners last counted served
 
 -- the first operation that waits is sent
 abbrev pub SendingNextKeeps : Type 0
-SendingNextKeeps = (links after : Links) (acts : Acts) (lives : Lives) (sent more : List Message) (owners : List ℕ) (last : ℕ) (counted : List Done) (served : List ServerDone) (o : ℕ)
-    → SendsNext links after o more → Facts links acts lives sent owners last counted served → Facts after acts lives (sent ++ more) owners last counted served
+SendingNextKeeps = (hostile : List ℕ) (links after : Links) (acts : Acts) (lives : Lives) (sent more : List Message) (owners : List ℕ) (last : ℕ) (counted : List Done) (served : List ServerDone) (o : ℕ)
+    → SendsNext links after o more → Facts hostile links acts lives sent owners last counted served → Facts hostile after acts lives (sent ++ more) owners last counted served
 
 -- of each object an operation is asked or none, but no end of a save
 abbrev pub AskingKeeps : Type 0
-AskingKeeps = (links after : Links) (acts : Acts) (lives : Lives) (sent more : List Message) (owners : List ℕ) (last : ℕ) (counted : List Done) (served : List ServerDone)
-    → AsksAll (λ o op. IsQuiet op) links after more → Facts links acts lives sent owners last counted served → Facts after acts lives (sent ++ more) owners last counted served
+AskingKeeps = (hostile : List ℕ) (links after : Links) (acts : Acts) (lives : Lives) (sent more : List Message) (owners : List ℕ) (last : ℕ) (counted : List Done) (served : List ServerDone)
+    → AsksAll (λ o op. IsQuiet op) links after more → Facts hostile links acts lives sent owners last counted served → Facts hostile after acts lives (sent ++ more) owners last counted served
 
 -- a save is counted, and activations are told of it
 abbrev pub CountingKeeps : Type 0
-CountingKeeps = (links after : Links) (acts : Acts) (lives : Lives) (sent more : List Message) (owners : List ℕ) (last : ℕ) (counted fresh : List Done) (served : List ServerDone) (k : ℕ)
-    → CountsAll links after counted k fresh more → Facts links acts lives sent owners last counted served → Facts after acts lives (sent ++ more) owners last (counted ++ fresh) served
+CountingKeeps = (hostile : List ℕ) (links after : Links) (acts : Acts) (lives : Lives) (sent more : List Message) (owners : List ℕ) (last : ℕ) (counted fresh : List Done) (served : List ServerDone) (k : ℕ)
+    → CountsAll links after counted k fresh more → Facts hostile links acts lives sent owners last counted served → Facts hostile after acts lives (sent ++ more) owners last (counted ++ fresh) served
 
 -- an object gets a link, with a number that was drawn now
 abbrev pub BeginningKeeps : Type 0
-BeginningKeeps = (links after : Links) (acts : Acts) (lives : Lives) (sent more : List Message) (owners extra : List ℕ) (last : ℕ) (counted : List Done) (served : List ServerDone) (o : ℕ)
-    → Begins links after lives (owners ++ extra) last o more → length (owners ++ extra) ≡ last + 1 → Facts links acts lives sent owners last counted served
-    → Facts after acts lives (sent ++ more) (owners ++ extra) (last + 1) counted served
+BeginningKeeps = (hostile : List ℕ) (links after : Links) (acts : Acts) (lives : Lives) (sent more : List Message) (owners extra : List ℕ) (last : ℕ) (counted : List Done) (served : List ServerDone) (o : ℕ)
+    → Begins links after lives (owners ++ extra) last o more → length (owners ++ extra) ≡ last + 1 → Facts hostile links acts lives sent owners last counted served
+    → Facts hostile after acts lives (sent ++ more) (owners ++ extra) (last + 1) counted served
 
 -- links go whose activation is closed or whose server doesn't run
 abbrev pub EndingKeeps : Type 0
-EndingKeeps = (links after : Links) (acts : Acts) (lives : Lives) (sent : List Message) (owners : List ℕ) (last : ℕ) (counted : List Done) (served : List ServerDone)
-    → EndsSome links after acts lives → Facts links acts lives sent owners last counted served → Facts after acts lives sent owners last counted served
+EndingKeeps = (hostile : List ℕ) (links after : Links) (acts : Acts) (lives : Lives) (sent : List Message) (owners : List ℕ) (last : ℕ) (counted : List Done) (served : List ServerDone)
+    → EndsSome links after acts lives → Facts hostile links acts lives sent owners last counted served → Facts hostile after acts lives sent owners last counted served
 
 -- a server starts or ends
 abbrev pub StartingKeeps : Type 0
-StartingKeeps = (links : Links) (acts after : Acts) (lives now : Lives) (sent : List Message) (owners : List ℕ) (last : ℕ) (counted : List Done) (served : List ServerDone)
-    → StartsOrEnds acts after lives now → Facts links acts lives sent owners last counted served → Facts links after now sent owners last counted served
+StartingKeeps = (hostile : List ℕ) (links : Links) (acts after : Acts) (lives now : Lives) (sent : List Message) (owners : List ℕ) (last : ℕ) (counted : List Done) (served : List ServerDone)
+    → StartsOrEnds acts after lives now → Facts hostile links acts lives sent owners last counted served → Facts hostile links after now sent owners last counted served
 
 -- a server that runs takes a call that was sent: it acts, or answers again
 abbrev pub ActingKeeps : Type 0
-ActingKeeps = (links : Links) (acts after : Acts) (lives : Lives) (sent : List Message) (owners : List ℕ) (last : ℕ) (counted : List Done) (served : List ServerDone)
+ActingKeeps = (hostile : List ℕ) (links : Links) (acts after : Acts) (lives : Lives) (sent : List Message) (owners : List ℕ) (last : ℕ) (counted : List Done) (served : List ServerDone)
     (inc act n : ℕ) (op : Operation) (a : Activation) (r : Answer) (told : Option Counted)
-    → Facts links acts lives sent owners last counted served → IsReady links → IsHonest inc → Among sent (Call inc act n op) → lives inc ≡ Some Running → IsChanged acts after inc act a → ActsOn acts inc act n op a r told
-    → Facts links after lives (sent ++ Reply inc act n r ∷ []) owners last counted (served ++ entries_of inc act owners told)
+    → Facts hostile links acts lives sent owners last counted served → IsReady links → IsHonest hostile inc → Among sent (Call inc act n op) → lives inc ≡ Some Running → IsChanged acts after inc act a → ActsOn acts inc act n op a r told
+    → Facts hostile links after lives (sent ++ Reply inc act n r ∷ []) owners last counted (served ++ entries_of inc act owners told)
 
 -- an activation wrote or asked
 abbrev pub TellingKeeps : Type 0
-TellingKeeps = (links : Links) (acts after : Acts) (lives now : Lives) (sent more : List Message) (owners : List ℕ) (last : ℕ) (counted : List Done) (served : List ServerDone)
-    → Tells acts after → ((inc : ℕ) → now inc ≡ lives inc) → ((m : Message) → Among more m → IsOwn m) → Facts links acts lives sent owners last counted served → Facts links after now (sent ++ more) owners last counted served
+TellingKeeps = (hostile : List ℕ) (links : Links) (acts after : Acts) (lives now : Lives) (sent more : List Message) (owners : List ℕ) (last : ℕ) (counted : List Done) (served : List ServerDone)
+    → Tells acts after → ((inc : ℕ) → now inc ≡ lives inc) → ((m : Message) → Among more m → IsOwn m) → Facts hostile links acts lives sent owners last counted served → Facts hostile links after now (sent ++ more) owners last counted served
 
 -- What senders saw stays where no other close is answered, and nothing is written but under its grant;
 abbrev pub LeavingKeepsViews : Type 0
-LeavingKeepsViews = (links now : Links) (acts after : Acts) (log longer : List Sent) → LeavesCloses links now acts after → Grows log longer → Views links acts log → Views now after longer
+LeavingKeepsViews = (hostile : List ℕ) (links now : Links) (acts after : Acts) (log longer : List Sent) → LeavesCloses hostile links now acts after → Grows log longer → Views hostile links acts log → Views hostile now after longer
 
 -- and where a server takes a call.
 abbrev pub ActingKeepsViews : Type 0
-ActingKeepsViews = (links : Links) (acts after : Acts) (lives : Lives) (sent : List Message) (owners : List ℕ) (last : ℕ) (counted : List Done) (served : List ServerDone)
+ActingKeepsViews = (hostile : List ℕ) (links : Links) (acts after : Acts) (lives : Lives) (sent : List Message) (owners : List ℕ) (last : ℕ) (counted : List Done) (served : List ServerDone)
     (inc act n : ℕ) (op : Operation) (a : Activation) (r : Answer) (told : Option Counted)
-    → Facts links acts lives sent owners last counted served → IsReady links → IsHonest inc → Among sent (Call inc act n op) → lives inc ≡ Some Running → IsChanged acts after inc act a → ActsOn acts inc act n op a r told
-    → (log : List Sent) → Views links acts log → Views links after (log ++ record { message = Reply inc act n r; view = option_map view_of (acts inc act) } ∷ [])
+    → Facts hostile links acts lives sent owners last counted served → IsReady links → IsHonest hostile inc → Among sent (Call inc act n op) → lives inc ≡ Some Running → IsChanged acts after inc act a → ActsOn acts inc act n op a r told
+    → (log : List Sent) → Views hostile links acts log → Views hostile links after (log ++ record { message = Reply inc act n r; view = option_map view_of (acts inc act) } ∷ [])

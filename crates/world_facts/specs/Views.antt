@@ -37,10 +37,10 @@ pub record IsSeen (sent : List Sent) (inc act n : ℕ) (answer : Answer) (v : St
   pub states : view.states ≡ v
   pub grant : view.s ≡ s
 
-pub record Views (links : Links) (acts : Acts) (sent : List Sent) : Type 0 where
+pub record Views (hostile : List ℕ) (links : Links) (acts : Acts) (sent : List Sent) : Type 0 where
   pub writes_sent : (x : Sent) → Among sent x → IsSentOpen x.message x.view
   -- an answer to a close that is pending was sent at the link's states and grant
-  pub closes_sent : (o : ℕ) (l : Link) (a : Activation) (option : CloseOption) → links o ≡ Some l → IsHonest l.inc → acts l.inc l.act ≡ Some a → l.pending ≡ Some (Close option) → a.last ≡ l.last
+  pub closes_sent : (o : ℕ) (l : Link) (a : Activation) (option : CloseOption) → links o ≡ Some l → IsHonest hostile l.inc → acts l.inc l.act ≡ Some a → l.pending ≡ Some (Close option) → a.last ≡ l.last
       → IsSeen sent l.inc l.act a.last a.reply l.states l.s
 
 -- the log of messages grew, by writes that were sent under their grants and by other messages
@@ -58,6 +58,6 @@ pub record WasAnswered (links : Links) (acts : Acts) (o : ℕ) (l : Link) (a : A
   pub last : a.last ≡ activation.last
   pub reply : a.reply ≡ activation.reply
 
-abbrev pub LeavesCloses : Links → Links → Acts → Acts → Type 0
-LeavesCloses links now acts after = (o : ℕ) (l : Link) (a : Activation) (option : CloseOption) → now o ≡ Some l → IsHonest l.inc → after l.inc l.act ≡ Some a → l.pending ≡ Some (Close option) → a.last ≡ l.last
+abbrev pub LeavesCloses : List ℕ → Links → Links → Acts → Acts → Type 0
+LeavesCloses hostile links now acts after = (o : ℕ) (l : Link) (a : Activation) (option : CloseOption) → now o ≡ Some l → IsHonest hostile l.inc → after l.inc l.act ≡ Some a → l.pending ≡ Some (Close option) → a.last ≡ l.last
     → WasAnswered links acts o l a

@@ -1,6 +1,6 @@
 -- The words of the invariant: a world by lookups, and the operations that were issued. No reader has to believe them; what
 -- they are for stands in Safe.
-use Rattle.std.specs.Prelude.{◌≡◌, ◌+◌, ℕ, List, Option, Some, None, slice_get, ⊤}
+use Rattle.std.specs.Prelude.{◌≡◌, ◌+◌, ℕ, List, Option, Some, None, slice_get}
 use Rattle.wire_msgs.specs.Found.{nth}
 use Rattle.wire_msgs.specs.declared.message.Message.{Message}
 use Rattle.wire_msgs.specs.declared.message.Message.TheVariants.{Call}
@@ -10,6 +10,7 @@ use Rattle.container_model.specs.declared.record.Link.{Link}
 use Rattle.world_model.specs.declared.life.Life.{Life}
 use Rattle.world_model.specs.World.{Instance}
 use Rattle.world_model.specs.Safe.{Among}
+pub use Rattle.world_model.specs.Safe.{IsHonest}
 
 -- links by the numbers of their objects, activations by incarnation and number, lives by incarnation
 abbrev pub Links : Type 0
@@ -27,10 +28,6 @@ life_at (Some i) = Some i.life
 
 abbrev pub lives_of : List Instance → Lives
 lives_of is inc = life_at (nth is inc)
-
--- A server that does what the server's step says. Today each does; one whose messages are forged won't.
-abbrev pub IsHonest : ℕ → Type 0
-IsHonest inc = ⊤
 
 -- An operation that an activation was called with, or that waits for it, by the number that its call has or will have.
 -- Sending what waits leaves it as it is.

@@ -126,11 +126,11 @@ took before a (Close NoSave) (told.Refused why) = λ nf g m d has. absurd d
 took before a (Close NoSave) (told.Content c) = λ nf g m d has. absurd d
 took before a (Close NoSave) (told.Tools menus border) = λ nf g m d has. absurd d
 
-module _ (links : Links) (acts after : Acts) (lives : Lives) (sent : List Message) (owners : List ℕ) (last : ℕ) (counted : List Done) (served : List ServerDone)
+module _ {hostile : List ℕ} (links : Links) (acts after : Acts) (lives : Lives) (sent : List Message) (owners : List ℕ) (last : ℕ) (counted : List Done) (served : List ServerDone)
     (inc act n : ℕ) (op : Operation) (a : Activation) (r : Answer) (told : Option Counted)
-    (f : Facts links acts lives sent owners last counted served) (ready : IsReady links) (honest : IsHonest inc)
+    (f : Facts hostile links acts lives sent owners last counted served) (ready : IsReady links) (honest : IsHonest hostile inc)
     (call : Among sent (Call inc act n op)) (runs : lives inc ≡ Some Runs) (ch : IsChanged acts after inc act a) (how : ActsOn acts inc act n op a r told)
-    (roles : Roles) (getting : (o g : ℕ) (l : Link) → links o ≡ Some l → l.pending ≡ Some (UiActivate g) → roles o ≡ Getting g) (h : Grants links roles acts sent) where
+    (roles : Roles) (getting : (o g : ℕ) (l : Link) → links o ≡ Some l → l.pending ≡ Some (UiActivate g) → roles o ≡ Getting g) (h : Grants hostile links roles acts sent) where
   -- the next call of an open activation, which is linked
   record IsNext (before : Activation) : Type 0 where
     object : ℕ
@@ -161,18 +161,18 @@ module _ (links : Links) (acts after : Acts) (lives : Lives) (sent : List Messag
   ui_here g has (makes at en fo al ar d ec eg) = absurd (let z : None ≡ Some g = sym eg ∙ has in cc)
 
   named_here : (o g : ℕ) (l : Link) → links o ≡ Some l → l.inc ≡ inc → l.act ≡ act → a.g ≡ Some g → ActsOn acts inc act n op a r told → Names (roles o) g
-  named_here o g l e ei ea has (again at en er ec) = h.holder_named o g l a e (subst IsHonest (sym ei) honest) (ap (λ x. acts x l.act) ei ∙ (ap (acts inc) ea ∙ at)) has
+  named_here o g l e ei ea has (again at en er ec) = h.holder_named o g l a e (subst (IsHonest hostile) (sym ei) honest) (ap (λ x. acts x l.act) ei ∙ (ap (acts inc) ea ∙ at)) has
   named_here o g l e ei ea has (next before at en opened m) =
       let x = next_linked before at en opened m in
       elim (x.took g has) [
         | inl k ↦ (let p = of_link links acts after lives sent owners last counted served inc act n op a r told f ready honest call runs ch how o l e ei ea in
             let y = next_of links acts after lives sent owners last counted served inc act n op a r told f ready honest call runs ch how o l before p en _ at p.step in
             subst (λ z. Names z g) (sym (getting o g l e (y.asked ∙ ap Some k.0))) refl)
-        | inr k ↦ h.holder_named o g l before e (subst IsHonest (sym ei) honest) (ap (λ z. acts z l.act) ei ∙ (ap (acts inc) ea ∙ at)) k.0
+        | inr k ↦ h.holder_named o g l before e (subst (IsHonest hostile) (sym ei) honest) (ap (λ z. acts z l.act) ei ∙ (ap (acts inc) ea ∙ at)) k.0
       ]
   named_here o g l e ei ea has (makes at en fo al ar d ec eg) = absurd (let z : None ≡ Some g = sym eg ∙ has in cc)
 
-  called_now : (i x m : ℕ) (q : Answer) → IsHonest i → Among (sent ++ Reply inc act n r ∷ []) (Reply i x m q) → (p : Operation) × Among (sent ++ Reply inc act n r ∷ []) (Call i x m p)
+  called_now : (i x m : ℕ) (q : Answer) → IsHonest hostile i → Among (sent ++ Reply inc act n r ∷ []) (Reply i x m q) → (p : Operation) × Among (sent ++ Reply inc act n r ∷ []) (Call i x m p)
   called_now i x m q hon k = elim (among_join sent (Reply inc act n r ∷ []) _ k) [
     | inl old ↦ (let c = h.replied_called i x m q hon old in (c.0, among_old sent (Reply inc act n r ∷ []) _ c.1))
     | inr new ↦ elim new [
@@ -185,7 +185,7 @@ module _ (links : Links) (acts after : Acts) (lives : Lives) (sent : List Messag
     ]
   ]
 
-  pub grants_acted : Grants links roles after (sent ++ Reply inc act n r ∷ [])
+  pub grants_acted : Grants hostile links roles after (sent ++ Reply inc act n r ∷ [])
   grants_acted = record {
     g_is_ui = λ i x g b hon e has. elim (same_act i x inc act) [
       | inl s ↦ (let z : Some a ≡ Some b = sym ch.here ∙ (ap (after inc) (sym s.1) ∙ (ap (λ y. after y x) (sym s.0) ∙ e)) in let is : a ≡ b = cc in

@@ -11,7 +11,7 @@ use Rattle.world_facts.proofs.Lookups.{among_join, among_old}
 use Rattle.world_grants.specs.Grants.{Roles, Grants}
 use Rattle.world_grants.proofs.Stepping.{told_more}
 
-pub grants_told : (links : Links) (roles : Roles) (acts after : Acts) (sent more : List Message) → Tells acts after → ((m : Message) → Among more m → IsOwn m) → Grants links roles acts sent → Grants links roles after (sent ++ more)
+pub grants_told : {hostile : List ℕ} (links : Links) (roles : Roles) (acts after : Acts) (sent more : List Message) → Tells acts after → ((m : Message) → Among more m → IsOwn m) → Grants hostile links roles acts sent → Grants hostile links roles after (sent ++ more)
 grants_told links roles acts after sent more same own h = record {
   g_is_ui = λ inc act g b hon e has. (let a = before_of (acts inc act) b (subst (Alike (acts inc act)) e (same inc act)) in
       let k = a.2 in
@@ -27,10 +27,10 @@ grants_told links roles acts after sent more same own h = record {
   held_told = λ o g tools l e hon k. told_more sent more l.inc l.act g tools (h.held_told o g tools l e hon k);
 }
 
-pub grants_alike : (links : Links) (roles : Roles) (acts after : Acts) (sent : List Message) → Tells acts after → Grants links roles acts sent → Grants links roles after sent
-grants_alike links roles acts after sent same h = subst (λ s. Grants links roles after s) (append-nil sent) (grants_told links roles acts after sent [] same (λ m z. absurd z) h)
+pub grants_alike : {hostile : List ℕ} (links : Links) (roles : Roles) (acts after : Acts) (sent : List Message) → Tells acts after → Grants hostile links roles acts sent → Grants hostile links roles after sent
+grants_alike {hostile = hostile} links roles acts after sent same h = subst (λ s. Grants hostile links roles after s) (append-nil sent) (grants_told links roles acts after sent [] same (λ m z. absurd z) h)
 
-pub grants_same : (links : Links) (roles : Roles) (acts after : Acts) (sent : List Message) → ((inc act : ℕ) → after inc act ≡ acts inc act) → Grants links roles acts sent → Grants links roles after sent
+pub grants_same : {hostile : List ℕ} (links : Links) (roles : Roles) (acts after : Acts) (sent : List Message) → ((inc act : ℕ) → after inc act ≡ acts inc act) → Grants hostile links roles acts sent → Grants hostile links roles after sent
 grants_same links roles acts after sent same h = record {
   g_is_ui = λ inc act g a hon e. h.g_is_ui inc act g a hon (sym (same inc act) ∙ e);
   holder_named = λ o g l a e hon at. h.holder_named o g l a e hon (sym (same l.inc l.act) ∙ at);

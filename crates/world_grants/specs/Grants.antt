@@ -56,15 +56,15 @@ pub record WasTold (sent : List Message) (inc act g : ℕ) (tools : Tools) : Typ
 abbrev pub IsUi : Activation → Type 0
 IsUi a = IsOpen a × (a.states.object ≡ UiActive)
 
-pub record Grants (links : Links) (roles : Roles) (acts : Acts) (sent : List Message) : Type 0 where
+pub record Grants (hostile : List ℕ) (links : Links) (roles : Roles) (acts : Acts) (sent : List Message) : Type 0 where
   -- an activation that has a grant is open, with its menus and border
-  pub g_is_ui : (inc act g : ℕ) (a : Activation) → IsHonest inc → acts inc act ≡ Some a → a.g ≡ Some g → IsUi a
+  pub g_is_ui : (inc act g : ℕ) (a : Activation) → IsHonest hostile inc → acts inc act ≡ Some a → a.g ≡ Some g → IsUi a
   -- and its frame names it
-  pub holder_named : (o g : ℕ) (l : Link) (a : Activation) → links o ≡ Some l → IsHonest l.inc → acts l.inc l.act ≡ Some a → a.g ≡ Some g → Names (roles o) g
+  pub holder_named : (o g : ℕ) (l : Link) (a : Activation) → links o ≡ Some l → IsHonest hostile l.inc → acts l.inc l.act ≡ Some a → a.g ≡ Some g → Names (roles o) g
   -- what was replied was called; so whatever is pending was sent once it is answered
-  pub replied_called : (inc act n : ℕ) (r : Answer) → IsHonest inc → Among sent (Reply inc act n r) → (op : Operation) × Among sent (Call inc act n op)
+  pub replied_called : (inc act n : ℕ) (r : Answer) → IsHonest hostile inc → Among sent (Reply inc act n r) → (op : Operation) × Among sent (Call inc act n op)
   -- whoever holds its frame answered the tools that it holds it with
-  pub held_told : (o g : ℕ) (tools : Tools) (l : Link) → links o ≡ Some l → IsHonest l.inc → roles o ≡ Holding g tools → WasTold sent l.inc l.act g tools
+  pub held_told : (o g : ℕ) (tools : Tools) (l : Link) → links o ≡ Some l → IsHonest hostile l.inc → roles o ≡ Holding g tools → WasTold sent l.inc l.act g tools
 
 -- a grant is asked of whoever is to get its frame; and only linked objects hold one
 pub record IsReadyFor (links : Links) (roles : Roles) : Type 0 where

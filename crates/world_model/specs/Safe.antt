@@ -1,5 +1,5 @@
 -- What holds of every world, whatever happened in it.
-use Rattle.std.specs.Prelude.{◌≡◌, ◌≢◌, ◌⊎◌, ◌≤◌, ◌==◌, ℕ, true, false, List, [], ◌∷◌, map, Option, Some, None, Ok, if◌then◌else◌, ⊤}
+use Rattle.std.specs.Prelude.{◌≡◌, ◌≢◌, ◌⊎◌, ◌≤◌, ◌==◌, ℕ, Bool, true, false, List, [], ◌∷◌, map, Option, Some, None, Ok, if◌then◌else◌, ⊤}
 use Rattle.std.specs.List.{flat_map}
 use Rattle.wire_msgs.specs.Found.{find, nth}
 use Rattle.wire_msgs.specs.declared.message.Message.{Message}
@@ -18,7 +18,7 @@ use Rattle.object_state.specs.declared.persist_states.PersistState.TheVariants.{
 use Rattle.storage_tree.specs.declared.stored.Stored.{Stored}
 use Rattle.file_model.specs.Denotes.{Denotes}
 use Rattle.server_model.specs.Server.{Activation, is_act}
-use Rattle.container_model.specs.Record.{is_object}
+use Rattle.container_model.specs.Record.{is_doubtful, is_object}
 use Rattle.container_model.specs.Saves.{document_tree}
 use Rattle.container_model.specs.declared.answer.Part.{Part}
 use Rattle.container_model.specs.declared.record.Link.{Link}
@@ -32,6 +32,14 @@ use Rattle.container_model.specs.declared.answer.Done.{Done}
 use Rattle.world_model.specs.declared.logs.ServerDone.{ServerDone}
 use Rattle.world_model.specs.declared.logs.Document.{Document}
 use Rattle.world_model.specs.World.{World, Instance, counted_document, delivered, done_entry, frame_file, owner}
+
+-- A server of which no message was forged: it sends what the server's step says, and nothing else.
+abbrev pub is_hostile : List ℕ → ℕ → Bool
+is_hostile [] inc = false
+is_hostile (h ∷ hostile) inc = if h == inc then true else is_hostile hostile inc
+
+abbrev pub IsHonest : List ℕ → ℕ → Type 0
+IsHonest hostile inc = is_hostile hostile inc ≡ false
 
 -- x stands in the list
 abbrev pub Among : {A : Type 0} → List A → A → Type 0
@@ -181,21 +189,21 @@ pub record Safe (w : World) : Type 0 where
   pub one_reply : (inc act n : ℕ) (r q : Answer) → WasSent w (Reply inc act n r) → WasSent w (Reply inc act n q) → r ≡ q
   -- the reply that an activation keeps is the reply to the call of that number
   pub kept_reply : (inc act : ℕ) (a : Activation) (r : Answer) → acts_of w.instances inc act ≡ Some a → WasSent w (Reply inc act a.last r) → r ≡ a.reply
-  -- the content that an object's save was answered is the one that its activation keeps for it
-  pub answered : (n : ℕ) (l : Link) (content : Stored) → links_of w.rec.objects n ≡ Some l → l.saved ≡ Some content
+  -- the content that an object's save was answered by an honest server is the one that its activation keeps for it
+  pub answered : (n : ℕ) (l : Link) (content : Stored) → links_of w.rec.objects n ≡ Some l → IsHonest w.hostile l.inc → l.saved ≡ Some content
       → (a : Activation) × (acts_of w.instances l.inc l.act ≡ Some a) × (a.saved ≡ Some content)
-  -- at most one activation of a server that runs holds a frame, and the frame names it
-  pub one_holder : (f inc act g inc' act' g' : ℕ) → HoldsFrame w inc act g f → HoldsFrame w inc' act' g' f → (inc ≡ inc') × (act ≡ act') × (g ≡ g')
-  pub holder : (f inc act g : ℕ) → HoldsFrame w inc act g f → IsHolder w inc act g f
-  -- every content that was taken was sent under the storage grant that the record then held open
-  pub writes : (t : Taken) → Among w.taken t → IsGranted w t
-  -- no save is counted twice, and what a server counts the container has counted, with the same content
+  -- at most one activation of honest servers that run holds a frame, and the frame names it
+  pub one_holder : (f inc act g inc' act' g' : ℕ) → IsHonest w.hostile inc → IsHonest w.hostile inc' → HoldsFrame w inc act g f → HoldsFrame w inc' act' g' f → (inc ≡ inc') × (act ≡ act') × (g ≡ g')
+  pub holder : (f inc act g : ℕ) → IsHonest w.hostile inc → HoldsFrame w inc act g f → IsHolder w inc act g f
+  -- every content that was taken of an honest server was sent under the storage grant that the record then held open
+  pub writes : (t : Taken) → Among w.taken t → IsHonest w.hostile t.inc → IsGranted w t
+  -- no save is counted twice, and what an honest server counts the container has counted, with the same content
   pub container_once : CountedOnce w.container_done
   pub server_once : ServedOnce w.server_done
-  pub agreed : (e : ServerDone) → Among w.server_done e → Among w.container_done (record { object = e.object; k = e.k; content = e.content })
+  pub agreed : (e : ServerDone) → Among w.server_done e → IsHonest w.hostile e.inc → Among w.container_done (record { object = e.object; k = e.k; content = e.content })
   -- every number of a message is at most the limit of the world's numbers
   pub numbered : (m : Message) → WasSent w m → IsWithin w.rec.numbers m
   -- the container counts by commits alone
   pub commits : (commits : List Commit) × IsCounted w commits
-  -- the file of each frame with a counted commit
-  pub files : (f : ℕ) (document : Document) → nth w.counted f ≡ Some (Some document) → IsKept w f document
+  -- the file of each frame with a counted commit, unless it is in doubt whether a later one was done
+  pub files : (f : ℕ) (frame : Frame) (document : Document) → nth w.rec.frames f ≡ Some frame → is_doubtful frame.phase ≡ false → nth w.counted f ≡ Some (Some document) → IsKept w f document

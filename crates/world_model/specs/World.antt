@@ -52,7 +52,8 @@ pub record Instance : Type 0 where
 -- A world. Servers stand by their incarnations, from 1, and stay after their end. The kinds of the objects in stock. All
 -- messages that were ever sent, by their places, from 1. The object of each activation that was ever made, by its
 -- number, from 1. What each event was answered. The contents that the container took as work contents. What each side
--- counted; and of each frame the document of its last counted commit.
+-- counted; and of each frame the document of its last counted commit. The servers, by their incarnations, that may have
+-- sent what no server's step sends: none of them has yet.
 pub record World : Type 0 where
   pub rec : Record
   pub instances : List Instance
@@ -65,9 +66,10 @@ pub record World : Type 0 where
   pub container_done : List Done
   pub server_done : List ServerDone
   pub counted : List (Option Document)
+  pub hostile : List ℕ
 
 abbrev pub empty_world : ℕ → List Kind → World
-empty_world numbers stock = record { rec = empty numbers; instances = []; files = []; stock = stock; sent = []; owners = []; answers = []; taken = []; container_done = []; server_done = []; counted = [] }
+empty_world numbers stock = record { rec = empty numbers; instances = []; files = []; stock = stock; sent = []; owners = []; answers = []; taken = []; container_done = []; server_done = []; counted = []; hostile = [] }
 
 -- What is asked of the world by an answer's actions.
 abbrev pub messages_of : List Action → List Message

@@ -50,6 +50,7 @@ use Rattle.world_steps.proofs.Replying.{reply_answers}
 use Rattle.world_steps.proofs.Taking.{write_asks}
 use Rattle.world_steps.proofs.Reaping.{reap_ends}
 use Rattle.world_steps.proofs.Committing.{commit_counts, commit_plain}
+use Rattle.world_safety.proofs.Honest.{all_honest}
 use Rattle.world_safety.specs.Holding.{Agrees, AgreesIn}
 use Rattle.world_safety.proofs.Joining.{plain_joined, asked_views, joined_grants, turned_joined, asks_turned, answered_joined, reaped_joined, run_joined, start_joined, stopped_agrees, kill_joined}
 use Rattle.world_safety.proofs.Serving.{agrees_called}
@@ -61,7 +62,7 @@ ok_is x y e = cc
 
 -- commands
 plain_owners : (w : World) (t : Took) → AgreesIn (joined w t) → AgreesIn (record (joined w t) { owners = w.owners ++ [] })
-plain_owners w t h = subst (λ o. Agrees t.rec (ended_by t.answer.actions w.instances ++ started_by t.rec.numbers t.answer.actions) (w.sent ++ map of_container (messages_of t.answer.actions)) o w.container_done w.server_done) (sym (append-nil w.owners)) h
+plain_owners w t h = subst (λ o. Agrees w.hostile t.rec (ended_by t.answer.actions w.instances ++ started_by t.rec.numbers t.answer.actions) (w.sent ++ map of_container (messages_of t.answer.actions)) o w.container_done w.server_done) (sym (append-nil w.owners)) h
 
 turned_command : (w : World) (c : Command) (t : Took) → AgreesIn w → on_command w.rec c ≡ Ok t → IsTurned w.rec t → AgreesIn (record (joined w t) { owners = w.owners ++ [] })
 turned_command w c t h e m = plain_owners w t (turned_joined w t [] h (on_command_keeps w.rec c t h.steady e) (command_moves w.rec c t h.steady e) (λ x z. absurd z) m)
@@ -105,7 +106,7 @@ agrees_replied : (w : World) (inc act n : ℕ) (answer : _) (t : Took) → Agree
 agrees_replied w inc act n answer t h g e =
     let m = Reply inc act n answer in
     answered_joined w t (m ∷ []) h (on_message_keeps w.rec inc m t h.steady e) (message_moves w.rec inc m t h.steady e) (sent_one (messages w.sent) m g)
-    (reply_answers w.rec (acts_of w.instances) (lives_of w.instances) (messages w.sent) w.owners w.rec.last_act w.container_done w.server_done inc act n answer h.steady h.facts tt g t e)
+    (reply_answers w.rec (acts_of w.instances) (lives_of w.instances) (messages w.sent) w.owners w.rec.last_act w.container_done w.server_done inc act n answer h.steady h.facts (all_honest w.hostile h.none_hostile inc) g t e)
 
 -- a message that asks, or nothing
 agrees_asked : (w : World) (inc : ℕ) (m : Message) (t : Took) → AgreesIn w → Among (messages w.sent) m → on_message w.rec inc m ≡ Ok t → IsTurned w.rec t → AgreesIn (joined w t)
@@ -177,7 +178,7 @@ module _ (w : World) (k : Files w) (h : AgreesIn w) (f : ℕ) (frame : Frame) (a
       (commit_counts w.rec f frame h.steady at committing w.container_done apart).tells
 
   pub commit_agrees : Steady (commit_made w.rec f frame).rec
-      → Agrees (commit_made w.rec f frame).rec (ended_by (commit_made w.rec f frame).answer.actions w.instances ++ started_by (commit_made w.rec f frame).rec.numbers (commit_made w.rec f frame).answer.actions)
+      → Agrees w.hostile (commit_made w.rec f frame).rec (ended_by (commit_made w.rec f frame).answer.actions w.instances ++ started_by (commit_made w.rec f frame).rec.numbers (commit_made w.rec f frame).answer.actions)
       (w.sent ++ map of_container (messages_of (commit_made w.rec f frame).answer.actions)) w.owners (w.container_done ++ map (done_entry frame.k) (parts_in f w.rec.objects)) w.server_done
   commit_agrees steady = (let counts = commit_counts w.rec f frame h.steady at committing w.container_done apart in plain_joined w made (w.container_done ++ fresh) h steady (commit_plain w.rec f frame h.steady at committing)
       (all_counted (links_of w.rec.objects) (links_of made.rec.objects) (acts_of w.instances) (lives_of w.instances) (messages w.sent) (messages_of made.answer.actions) w.owners w.rec.last_act w.container_done fresh w.server_done frame.k

@@ -34,7 +34,7 @@ use Rattle.world_model.specs.declared.life.Life.TheVariants.{Running, Ended, Rea
 use Rattle.world_model.specs.declared.logs.Sent.{Sent}
 use Rattle.world_model.specs.declared.logs.Taken.{Taken}
 use Rattle.world_model.specs.World.{World, Instance, messages_of, of_container, took, commanded, view_in, served, is_of, stocked, called_wanting, called_in, called, delivered, taken_link, taken_of, taken_by, taken_at, with_taken, deliver, spoken_by, spoken, scribble, ask, crashed, crash, ended, reap, done_taken, done_imaged, done_in, happened}
-use Rattle.world_model.specs.Safe.{Among, WasSent, link_at, links_of, acts_of, messages, Brings, IsGranted}
+use Rattle.world_model.specs.Safe.{Among, WasSent, link_at, links_of, acts_of, messages, Brings, IsGranted, IsHonest}
 use Rattle.world_facts.specs.Words.{lives_of}
 use Rattle.world_facts.specs.Views.{IsSentOpen}
 use Rattle.world_facts.proofs.Lookups.{among_join, among_map, among_old, nth_old, find_passes}
@@ -51,25 +51,26 @@ pub record Grew (w v : World) : Type 0 where
   pub more : List Sent
   pub sent : v.sent ≡ w.sent ++ more
   pub taken : v.taken ≡ w.taken
+  pub hostile : v.hostile ≡ w.hostile
 
-stays : (w v : World) → v.sent ≡ w.sent → v.taken ≡ w.taken → Grew w v
-stays w v s t = record { more = []; sent = s ∙ sym (append-nil w.sent); taken = t }
+stays : (w v : World) → v.sent ≡ w.sent → v.taken ≡ w.taken → v.hostile ≡ w.hostile → Grew w v
+stays w v s t h = record { more = []; sent = s ∙ sym (append-nil w.sent); taken = t; hostile = h }
 
 grew_took : (w : World) (told : Result Took ContainerFault) → Grew w (took w told)
-grew_took w (Err fault) = stays w _ refl refl
-grew_took w (Ok t) = record { more = map of_container (messages_of t.answer.actions); sent = refl; taken = refl }
+grew_took w (Err fault) = stays w _ refl refl refl
+grew_took w (Ok t) = record { more = map of_container (messages_of t.answer.actions); sent = refl; taken = refl; hostile = refl }
 
 grew_commanded : (w : World) (c : Command) (told : Result Took ContainerFault) → Grew w (commanded w c told)
-grew_commanded w c (Err fault) = stays w _ refl refl
-grew_commanded w c (Ok t) = record { more = map of_container (messages_of t.answer.actions); sent = refl; taken = refl }
+grew_commanded w c (Err fault) = stays w _ refl refl refl
+grew_commanded w c (Ok t) = record { more = map of_container (messages_of t.answer.actions); sent = refl; taken = refl; hostile = refl }
 
 ok_is : (x y : World) → ◌≡◌ {A = Result World Stop} (Ok x) (Ok y) → x ≡ y
 ok_is x y e = cc
 
 module _ (w : World) (inc act n : ℕ) (op : Operation) where
   grew_served : (i : Instance) (stock : List Kind) (told : Result Served ServerFault) → Grew w (served w inc act n i stock told)
-  grew_served i stock (Err fault) = stays w _ refl refl
-  grew_served i stock (Ok v) = record { more = record { message = Reply inc act n v.answer; view = view_in i.core act } ∷ []; sent = refl; taken = refl }
+  grew_served i stock (Err fault) = stays w _ refl refl refl
+  grew_served i stock (Ok v) = record { more = record { message = Reply inc act n v.answer; view = view_in i.core act } ∷ []; sent = refl; taken = refl; hostile = refl }
 
   grew_stocked : (i : Instance) (class : List ℕ) (kind : Option Kind) (v : World) → stocked w inc act n op i class kind ≡ Ok v → Grew w v
   grew_stocked i class None v e = cc
@@ -81,11 +82,11 @@ module _ (w : World) (inc act n : ℕ) (op : Operation) where
 
   grew_called_in : (i : Instance) (life : Life) (v : World) → called_in w inc act n op i life ≡ Ok v → Grew w v
   grew_called_in i Running v e = grew_wanting i (wanted i.core (Call inc act n op)) v e
-  grew_called_in i Ended v e = subst (Grew w) (ok_is _ v e) (stays w _ refl refl)
-  grew_called_in i Reaped v e = subst (Grew w) (ok_is _ v e) (stays w _ refl refl)
+  grew_called_in i Ended v e = subst (Grew w) (ok_is _ v e) (stays w _ refl refl refl)
+  grew_called_in i Reaped v e = subst (Grew w) (ok_is _ v e) (stays w _ refl refl refl)
 
   grew_called : (i : Option Instance) (v : World) → called w inc act n op i ≡ Ok v → Grew w v
-  grew_called None v e = subst (Grew w) (ok_is _ v e) (stays w _ refl refl)
+  grew_called None v e = subst (Grew w) (ok_is _ v e) (stays w _ refl refl refl)
   grew_called (Some i) v e = grew_called_in i i.life v e
 
 grew_delivered : (w : World) (m : Message) (v : World) → delivered w m ≡ Ok v → Grew w v
@@ -95,7 +96,7 @@ grew_delivered w (Write inc act s n content) v e = subst (Grew w) (ok_is _ v e) 
 grew_delivered w (Ask inc act g) v e = subst (Grew w) (ok_is _ v e) (grew_took w (on_message w.rec inc (Ask inc act g)))
 
 grew_crashed : (w : World) (inc : ℕ) (i : Instance) (life : Life) (v : World) → crashed w inc i life ≡ Ok v → Grew w v
-grew_crashed w inc i Running v e = subst (Grew w) (ok_is _ v e) (stays w _ refl refl)
+grew_crashed w inc i Running v e = subst (Grew w) (ok_is _ v e) (stays w _ refl refl refl)
 grew_crashed w inc i Ended v e = cc
 grew_crashed w inc i Reaped v e = cc
 
@@ -107,7 +108,7 @@ grew_ended : (w : World) (inc : ℕ) (i : Instance) (life : Life) (v : World) �
 grew_ended w inc i Running v e = cc
 grew_ended w inc i Ended v e = (let u : World = record w { instances = set_nth w.instances inc (record i { life = Reaped }) } in
     let g = grew_took u (on_reap w.rec inc) in
-    subst (Grew w) (ok_is _ v e) (record { more = g.more; sent = g.sent; taken = g.taken }))
+    subst (Grew w) (ok_is _ v e) (record { more = g.more; sent = g.sent; taken = g.taken; hostile = g.hostile }))
 grew_ended w inc i Reaped v e = cc
 
 grew_reap : (w : World) (inc : ℕ) (i : Option Instance) (v : World) → reap w inc i ≡ Ok v → Grew w v
@@ -115,8 +116,8 @@ grew_reap w inc None v e = cc
 grew_reap w inc (Some i) v e = grew_ended w inc i i.life v e
 
 grew_spoken_by : (w : World) (inc act : ℕ) (i : Instance) (told : Result Told ServerFault) → Grew w (spoken_by w inc act i told)
-grew_spoken_by w inc act i (Err fault) = stays w _ refl refl
-grew_spoken_by w inc act i (Ok t) = record { more = record { message = t.message; view = view_in i.core act } ∷ []; sent = refl; taken = refl }
+grew_spoken_by w inc act i (Err fault) = stays w _ refl refl refl
+grew_spoken_by w inc act i (Ok t) = record { more = record { message = t.message; view = view_in i.core act } ∷ []; sent = refl; taken = refl; hostile = refl }
 
 grew_spoken : (w : World) (inc act : ℕ) (i : Instance) (told : Result Told ServerFault) (life : Life) (v : World) → spoken w inc act i life told ≡ Ok v → Grew w v
 grew_spoken w inc act i told Running v e = subst (Grew w) (ok_is _ v e) (grew_spoken_by w inc act i told)
@@ -134,7 +135,7 @@ grew_ask w inc act (Some i) v e = grew_spoken w inc act i (server.ask_deactivate
 module _ (w : World) (f : ℕ) (bytes : List ℕ) where
   grew_done_taken : (frame : Frame) (parts : List Part) (told : Result Took ContainerFault) (v : World) → done_taken w f bytes frame parts told ≡ Ok v → Grew w v
   grew_done_taken frame parts (Err fault) v e = cc
-  grew_done_taken frame parts (Ok t) v e = subst (Grew w) (ok_is _ v e) (record { more = map of_container (messages_of t.answer.actions); sent = refl; taken = refl })
+  grew_done_taken frame parts (Ok t) v e = subst (Grew w) (ok_is _ v e) (record { more = map of_container (messages_of t.answer.actions); sent = refl; taken = refl; hostile = refl })
 
   grew_imaged : (frame : Frame) (told : Result (List Part) ContainerFault) (v : World) → done_imaged w f bytes frame told ≡ Ok v → Grew w v
   grew_imaged frame (Err fault) v e = cc
@@ -227,6 +228,16 @@ module _ (w : World) (h : AgreesIn w) (p : ℕ) (x : Sent) (at : nth w.sent p �
   named_by : (inc act : ℕ) (o : Object) (l : Link) → find (is_linked inc act) w.rec.objects ≡ Some o → o.link ≡ Some l → (l.inc ≡ inc) × (l.act ≡ act)
   named_by inc act o l f q = linked_is inc act o.link l q (find_passes (is_linked inc act) w.rec.objects o f)
 
+  -- what is taken is of the server whose message it is
+  taken_inc : (inc act : ℕ) (t : Taken) (found : Option Object) → find (is_linked inc act) w.rec.objects ≡ found → Among (taken_of p found) t → t.inc ≡ inc
+  taken_inc inc act t None f g = absurd g
+  taken_inc inc act t (Some o) f g = at_link o.link refl g
+    where
+      at_link : (link : Option Link) → o.link ≡ link → Among (taken_link p o.number link) t → t.inc ≡ inc
+      at_link None q g = absurd g
+      at_link (Some l) q (inl is) = ap (λ (z : Taken). z.inc) is ∙ (named_by inc act o l f q).0
+      at_link (Some l) q (inr z) = absurd z
+
   message_at : (m : Message) → x.message ≡ m → nth (messages w.sent) p ≡ Some m
   message_at m e = (nth_message w.sent p x at).0 ∙ ap Some e
 
@@ -251,50 +262,52 @@ module _ (w : World) (h : AgreesIn w) (p : ℕ) (x : Sent) (at : nth w.sent p �
       })
 
   -- and the close was sent that was answered
-  close_called : (inc act n : ℕ) (answer : Answer) (there : Among (messages w.sent) (Reply inc act n answer))
-      → IsClosing w.rec (acts_of w.instances) (lives_of w.instances) (messages w.sent) w.owners w.rec.last_act w.container_done w.server_done inc act n answer h.steady h.facts tt there w.sent → WasSent w (Call inc act n (Close SaveIfDirty))
-  close_called inc act n answer there c =
+  close_called : (inc act n : ℕ) (answer : Answer) (honest : IsHonest w.hostile inc) (there : Among (messages w.sent) (Reply inc act n answer))
+      → IsClosing w.rec (acts_of w.instances) (lives_of w.instances) (messages w.sent) w.owners w.rec.last_act w.container_done w.server_done inc act n answer h.steady h.facts honest there w.sent → WasSent w (Call inc act n (Close SaveIfDirty))
+  close_called inc act n answer honest there c =
       let l = c.link in
       let at_l : links_of w.rec.objects c.object.number ≡ Some l = ap link_at (found_by_number (is_linked inc act) w.rec.objects c.object h.steady.order c.found) ∙ c.linked in
       let replied : Among (messages w.sent) (Reply l.inc l.act l.last answer) = subst (λ i. Among (messages w.sent) (Reply i l.act l.last answer)) (sym c.inc_is)
       (subst (λ a. Among (messages w.sent) (Reply inc a l.last answer)) (sym c.act_is) (subst (λ k. Among (messages w.sent) (Reply inc act k answer)) c.number there)) in
       subst (λ i. WasSent w (Call i act n (Close SaveIfDirty))) c.inc_is (subst (λ a. WasSent w (Call l.inc a n (Close SaveIfDirty))) c.act_is (subst (λ k. WasSent w (Call l.inc l.act k (Close SaveIfDirty))) (sym c.number)
-      (pending_called (links_of w.rec.objects) (acts_of w.instances) (lives_of w.instances) (messages w.sent) w.owners w.rec.last_act w.container_done w.server_done h.facts c.object.number l (Close SaveIfDirty) (roles_of w.rec) answer h.grants at_l tt c.pending replied)))
+      (pending_called (links_of w.rec.objects) (acts_of w.instances) (lives_of w.instances) (messages w.sent) w.owners w.rec.last_act w.container_done w.server_done h.facts c.object.number l (Close SaveIfDirty) (roles_of w.rec) answer h.grants at_l (subst (IsHonest w.hostile) (sym c.inc_is) honest) c.pending replied)))
 
-  close_granted : (inc act n : ℕ) (answer : Answer) (t : Taken) → x.message ≡ Reply inc act n answer → Among (taken_by w.rec p inc act (on_message w.rec inc (Reply inc act n answer))) t → IsGranted w t
-  close_granted inc act n answer t e g =
+  close_granted : (inc act n : ℕ) (answer : Answer) (t : Taken) → x.message ≡ Reply inc act n answer → Among (taken_by w.rec p inc act (on_message w.rec inc (Reply inc act n answer))) t → IsHonest w.hostile t.inc → IsGranted w t
+  close_granted inc act n answer t e g honest_taken =
       let k = took_some w.rec p inc act (on_message w.rec inc (Reply inc act n answer)) t g in
       let there : Among (messages w.sent) (Reply inc act n answer) = subst (Among (messages w.sent)) e (message_among w.sent x (nth_message w.sent p x at).1) in
-      let c = reply_closes w.rec (acts_of w.instances) (lives_of w.instances) (messages w.sent) w.owners w.rec.last_act w.container_done w.server_done inc act n answer h.steady h.facts tt there w.sent k.0 k.1 k.2 h.views in
+      let honest : IsHonest w.hostile inc = subst (IsHonest w.hostile) (taken_inc inc act t (find (is_linked inc act) w.rec.objects) refl k.3) honest_taken in
+      let c = reply_closes w.rec (acts_of w.instances) (lives_of w.instances) (messages w.sent) w.owners w.rec.last_act w.container_done w.server_done inc act n answer h.steady h.facts honest there w.sent k.0 k.1 k.2 h.views in
       let m : Message = Reply inc act n (Content c.content) in
       let same : Reply inc act n answer ≡ m = ap (Reply inc act n) c.brings in
       let normal = normal_of c.link.states.persist.state c.held.storage in
       subst (IsGranted w) (sym (taken_is p (find (is_linked inc act) w.rec.objects) c.object c.link t c.found c.linked k.3)) (record {
         message = m;
         delivered = message_at m (e ∙ same);
-        brings = (sym c.inc_is, sym c.act_is, close_called inc act n answer there c);
+        brings = (sym c.inc_is, sym c.act_is, close_called inc act n answer honest there c);
         sent = (c.seen.view, subst (λ y. Among w.sent (record { message = y; view = Some c.seen.view })) same c.seen.among, c.seen.opened, ap (λ v. v.persist.state) c.seen.states ∙ normal, c.seen.grant);
         held_open = normal;
         unasked = c.held.unasked;
       })
 
-  granted_at : (m : Message) (t : Taken) → x.message ≡ m → Among (taken_at w.rec p m) t → IsGranted w t
-  granted_at (Call inc act n op) t e g = absurd g
-  granted_at (Reply inc act n answer) t e g = close_granted inc act n answer t e g
-  granted_at (Write inc act s n content) t e g = write_granted inc act s n content t e g
-  granted_at (Ask inc act j) t e g = (let k = took_some w.rec p inc act (on_message w.rec inc (Ask inc act j)) t g in let z : false ≡ true = sym (untaken w.rec act j k.0 inc inc k.1) ∙ k.2 in cc)
+  granted_at : (m : Message) (t : Taken) → x.message ≡ m → Among (taken_at w.rec p m) t → IsHonest w.hostile t.inc → IsGranted w t
+  granted_at (Call inc act n op) t e g honest = absurd g
+  granted_at (Reply inc act n answer) t e g honest = close_granted inc act n answer t e g honest
+  granted_at (Write inc act s n content) t e g honest = write_granted inc act s n content t e g
+  granted_at (Ask inc act j) t e g honest = (let k = took_some w.rec p inc act (on_message w.rec inc (Ask inc act j)) t g in let z : false ≡ true = sym (untaken w.rec act j k.0 inc inc k.1) ∙ k.2 in cc)
 
 -- what was taken after an event
 abbrev AreGranted : World → Type 0
-AreGranted w = (t : Taken) → Among w.taken t → IsGranted w t
+AreGranted w = (t : Taken) → Among w.taken t → IsHonest w.hostile t.inc → IsGranted w t
 
 granted_grew : (w v : World) → Grew w v → AreGranted w → AreGranted v
-granted_grew w v g h t a = granted_more w v g.more t g.sent (h t (subst (λ xs. Among xs t) g.taken a))
+granted_grew w v g h t a honest = granted_more w v g.more t g.sent (h t (subst (λ xs. Among xs t) g.taken a) (subst (λ hs. IsHonest hs t.inc) g.hostile honest))
 
-granted_logged : (w : World) (more : List Taken) (told : Result World Stop) (v : World) → ((t : Taken) → Among more t → IsGranted w t) → ((u : World) → told ≡ Ok u → Grew w u) → AreGranted w → with_taken w more told ≡ Ok v → AreGranted v
+granted_logged : (w : World) (more : List Taken) (told : Result World Stop) (v : World) → ((t : Taken) → Among more t → IsHonest w.hostile t.inc → IsGranted w t) → ((u : World) → told ≡ Ok u → Grew w u) → AreGranted w → with_taken w more told ≡ Ok v → AreGranted v
 granted_logged w more (Err stop) v new grew h e = cc
 granted_logged w more (Ok u) v new grew h e = (let g = grew u refl in
-    subst AreGranted (ok_is _ v e) (λ t a. granted_more w _ g.more t g.sent (elim (among_join w.taken more t a) [ inl old ↦ h t old | inr now ↦ new t now ])))
+    subst AreGranted (ok_is _ v e) (λ t a honest. (let still : IsHonest w.hostile t.inc = subst (λ hs. IsHonest hs t.inc) g.hostile honest in
+        granted_more w _ g.more t g.sent (elim (among_join w.taken more t a) [ inl old ↦ h t old still | inr now ↦ new t now still ]))))
 
 granted_deliver : (w : World) (p : ℕ) (sent : Option Sent) (v : World) → AgreesIn w → nth w.sent p ≡ sent → AreGranted w → deliver w p sent ≡ Ok v → AreGranted v
 granted_deliver w p None v k at h e = cc

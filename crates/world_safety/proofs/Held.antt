@@ -13,6 +13,7 @@ use Rattle.wire_msgs.specs.declared.operation.Operation.TheVariants.{SaveComplet
 use Rattle.world_facts.specs.Words.{Issued, called, waits}
 use Rattle.world_facts.specs.Facts.{HasSaved}
 use Rattle.world_files.proofs.Kept.{empty_files, files_happened, limited_ok, commits_kept, files_kept}
+use Rattle.world_safety.proofs.Honest.{all_honest}
 use Rattle.world_safety.specs.Holding.{AgreesIn, Holds}
 use Rattle.world_safety.proofs.Events.{agrees_happened}
 use Rattle.world_safety.proofs.Granting.{granted_happened}
@@ -27,20 +28,20 @@ has_saved (Some b) c h = (b, refl, h)
 pub safe_held : (w : World) → Holds w → Safe w
 safe_held w h = (let f = h.agrees.facts in record {
   acts_once = λ inc act n op r next g e. once_answered w inc act n op r h.agrees g next e;
-  one_reply = λ inc act n r q g k. f.replies.one_reply inc act n r q tt g k;
-  kept_reply = λ inc act a r e g. (let k = f.replies.replies_kept inc act a.last r tt g in
+  one_reply = λ inc act n r q g k. f.replies.one_reply inc act n r q (all_honest w.hostile h.agrees.none_hostile inc) g k;
+  kept_reply = λ inc act a r e g. (let k = f.replies.replies_kept inc act a.last r (all_honest w.hostile h.agrees.none_hostile inc) g in
       let is : a ≡ k.0 = (let z : Some a ≡ Some k.0 = sym e ∙ k.1 in cc) in
       k.3 (ap (λ (x : Activation). x.last) is) ∙ ap (λ (x : Activation). x.reply) (sym is));
-  answered = λ n l content e s. has_saved (acts_of w.instances l.inc l.act) content (f.saved_same n l content e tt s);
+  answered = λ n l content e honest s. has_saved (acts_of w.instances l.inc l.act) content (f.saved_same n l content e honest s);
   one_holder = one_holder w h.agrees;
   holder = holder w h.agrees;
   writes = h.taken_held;
   container_once = h.files.counted_bounded.counted_once;
   server_once = f.counts.server_once;
-  agreed = λ e g. f.counts.server_counted e g tt;
+  agreed = λ e g honest. f.counts.server_counted e g honest;
   numbered = h.numbers.sent;
   commits = commits_kept w h.files;
-  files = files_kept w h.files;
+  files = λ f frame document at sure. files_kept w h.files f document;
 })
 
 -- the world in which nothing has happened
@@ -60,6 +61,7 @@ none_issued inc act n op (waits o l i e ei ea at en) = no_link o l e
 
 empty_agrees : (numbers : ℕ) (stock : List Kind) → AgreesIn (empty_world numbers stock)
 empty_agrees numbers stock = record {
+  none_hostile = refl;
   steady = empty_steady numbers;
   servers = refl;
   facts = record {

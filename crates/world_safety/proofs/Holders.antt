@@ -15,7 +15,7 @@ use Rattle.container_steps.specs.Roles.{Holding, IsClaim, role_in}
 use Rattle.container_steps.proofs.SteadyRecords.{if_at}
 use Rattle.world_model.specs.declared.life.Life.TheVariants.{Running}
 use Rattle.world_model.specs.World.{World, nth_or_zero, owner}
-use Rattle.world_model.specs.Safe.{link_at, links_of, act_at, acts_of, messages, HoldsFrame, IsHolder, WasAnswered}
+use Rattle.world_model.specs.Safe.{link_at, links_of, act_at, acts_of, messages, IsHonest, HoldsFrame, IsHolder, WasAnswered}
 use Rattle.world_facts.specs.Words.{life_at, lives_of, IsLinked, IsOpen}
 use Rattle.world_grants.specs.Grants.{Names, WasTold, roles_of}
 use Rattle.world_grants.proofs.Moving.{IsIn, in_frame}
@@ -98,51 +98,51 @@ module _ (w : World) (h : AgreesIn w) where
       let c = named_is frame.ui.state o g (subst (λ r. Names r g) role names) in
       named_at inc act g f o l frame c.0 owned e ei ea there role c.1 c.2 c.3
 
-  named_linked : (inc act g f : ℕ) (a : Activation) (x : Object) → acts_of w.instances inc act ≡ Some a → a.g ≡ Some g → find (is_object (owner w act)) w.rec.objects ≡ Some x → x.frame ≡ f → IsLinked (links_of w.rec.objects) inc act → IsNamed inc act g f
-  named_linked inc act g f a x at has found inside k = of_link k.0 k.1 k.2 k.3 k.4
+  named_linked : (inc act g f : ℕ) (a : Activation) (x : Object) → IsHonest w.hostile inc → acts_of w.instances inc act ≡ Some a → a.g ≡ Some g → find (is_object (owner w act)) w.rec.objects ≡ Some x → x.frame ≡ f → IsLinked (links_of w.rec.objects) inc act → IsNamed inc act g f
+  named_linked inc act g f a x honest at has found inside k = of_link k.0 k.1 k.2 k.3 k.4
     where
       of_link : (o : ℕ) (l : Link) → links_of w.rec.objects o ≡ Some l → l.inc ≡ inc → l.act ≡ act → IsNamed inc act g f
       of_link o l e ei ea =
           let owned : owner w act ≡ o = ap nth_or_zero (subst (λ a. nth w.owners a ≡ Some o) ea (h.facts.drawn.calls_named o l e)) in
-          let names : Names (roles_of w.rec o) g = h.grants.holder_named o g l a e tt (ap (λ i. acts_of w.instances i l.act) ei ∙ (ap (acts_of w.instances inc) ea ∙ at)) has in
+          let names : Names (roles_of w.rec o) g = h.grants.holder_named o g l a e (subst (IsHonest w.hostile) (sym ei) honest) (ap (λ i. acts_of w.instances i l.act) ei ∙ (ap (acts_of w.instances inc) ea ∙ at)) has in
           let p = framed o f x (ap (λ n. find (is_object n) w.rec.objects) (sym owned) ∙ found) inside in
           named_by inc act g f o l p.0 owned e ei ea p.1 p.2 names
 
   -- an open activation of a server that runs is linked
-  linked_open : (inc act : ℕ) (a : Activation) → acts_of w.instances inc act ≡ Some a → lives_of w.instances inc ≡ Some Running → IsOpen a → IsLinked (links_of w.rec.objects) inc act
-  linked_open inc act a at runs opened = elim (h.facts.unlinked.known inc act a tt runs at) [
+  linked_open : (inc act : ℕ) (a : Activation) → IsHonest w.hostile inc → acts_of w.instances inc act ≡ Some a → lives_of w.instances inc ≡ Some Running → IsOpen a → IsLinked (links_of w.rec.objects) inc act
+  linked_open inc act a honest at runs opened = elim (h.facts.unlinked.known inc act a honest runs at) [
     | inl k ↦ k
     | inr c ↦ absurd (let z : None ≡ Some opened.0 = sym c ∙ opened.1 in cc)
   ]
 
-  named_in : (inc act g f : ℕ) → HoldsFrame w inc act g f → IsNamed inc act g f
-  named_in inc act g f x =
+  named_in : (inc act g f : ℕ) → IsHonest w.hostile inc → HoldsFrame w inc act g f → IsNamed inc act g f
+  named_in inc act g f honest x =
       let at : acts_of w.instances inc act ≡ Some x.activation = ap (act_at act) x.hosted ∙ x.known in
       let runs : lives_of w.instances inc ≡ Some Running = ap life_at x.hosted ∙ ap Some x.runs in
-      named_linked inc act g f x.activation x.object at x.has_grant x.owned x.inside (linked_open inc act x.activation at runs (h.grants.g_is_ui inc act g x.activation tt at x.has_grant).0)
+      named_linked inc act g f x.activation x.object honest at x.has_grant x.owned x.inside (linked_open inc act x.activation honest at runs (h.grants.g_is_ui inc act g x.activation honest at x.has_grant).0)
 
-  answered : (inc act g f : ℕ) (n : IsNamed inc act g f) (holder : Claim) (tools : Tools) → n.frame.ui.state ≡ Held holder tools → WasAnswered w inc act g tools
-  answered inc act g f n holder tools e =
+  answered : (inc act g f : ℕ) (honest : IsHonest w.hostile inc) (n : IsNamed inc act g f) (holder : Claim) (tools : Tools) → n.frame.ui.state ≡ Held holder tools → WasAnswered w inc act g tools
+  answered inc act g f honest n holder tools e =
       let hc : holder ≡ n.claim = (let z : Some holder ≡ Some n.claim = ap who (sym e) ∙ n.named in cc) in
       let role : roles_of w.rec n.number ≡ Holding g tools = n.role ∙ (ap (λ s. role_in s n.number) (e ∙ ap (λ c. Held c tools) hc) ∙ (ap (role_in (Held n.claim tools)) (sym n.object_is) ∙ (is_holding n.claim tools ∙ ap (λ x. Holding x tools) n.g_is))) in
-      let t : WasTold (messages w.sent) inc act g tools = subst (λ i. WasTold (messages w.sent) i act g tools) n.inc_is (subst (λ a. WasTold (messages w.sent) n.link.inc a g tools) n.act_is (h.grants.held_told n.number g tools n.link n.linked tt role)) in
+      let t : WasTold (messages w.sent) inc act g tools = subst (λ i. WasTold (messages w.sent) i act g tools) n.inc_is (subst (λ a. WasTold (messages w.sent) n.link.inc a g tools) n.act_is (h.grants.held_told n.number g tools n.link n.linked (subst (IsHonest w.hostile) (sym n.inc_is) honest) role)) in
       record { n = t.n; called = t.called; replied = t.replied }
 
-  pub holder : (f inc act g : ℕ) → HoldsFrame w inc act g f → IsHolder w inc act g f
-  holder f inc act g x =
-      let n = named_in inc act g f x in
+  pub holder : (f inc act g : ℕ) → IsHonest w.hostile inc → HoldsFrame w inc act g f → IsHolder w inc act g f
+  holder f inc act g honest x =
+      let n = named_in inc act g f honest x in
       record {
         frame = n.frame;
         there = n.there;
         named = n.named ∙ ap Some (claim_is n.claim (owner w act) act g (n.object_is ∙ sym n.owned) n.claimed n.g_is);
         unwaiting = λ claim e q. waits_apart n.frame.ui.state n.claim claim (h.steady.grants f n.frame n.there).apart n.named e (q ∙ sym n.claimed);
-        told = λ holder tools e. answered inc act g f n holder tools e;
+        told = λ holder tools e. answered inc act g f honest n holder tools e;
       }
 
-  pub one_holder : (f inc act g inc' act' g' : ℕ) → HoldsFrame w inc act g f → HoldsFrame w inc' act' g' f → (inc ≡ inc') × (act ≡ act') × (g ≡ g')
-  one_holder f inc act g inc' act' g' x y =
-      let n = named_in inc act g f x in
-      let m = named_in inc' act' g' f y in
+  pub one_holder : (f inc act g inc' act' g' : ℕ) → IsHonest w.hostile inc → IsHonest w.hostile inc' → HoldsFrame w inc act g f → HoldsFrame w inc' act' g' f → (inc ≡ inc') × (act ≡ act') × (g ≡ g')
+  one_holder f inc act g inc' act' g' honest honest' x y =
+      let n = named_in inc act g f honest x in
+      let m = named_in inc' act' g' f honest' y in
       let frames : n.frame ≡ m.frame = (let z : Some n.frame ≡ Some m.frame = sym n.there ∙ m.there in cc) in
       let claims : n.claim ≡ m.claim = (let z : Some n.claim ≡ Some m.claim = sym n.named ∙ (ap (λ (k : Frame). who k.ui.state) frames ∙ m.named) in cc) in
       let numbers : n.number ≡ m.number = sym n.object_is ∙ (ap (λ (c : Claim). c.object) claims ∙ m.object_is) in

@@ -47,46 +47,47 @@ use Rattle.world_safety.proofs.Shaping.{IsFollowed, one_turn, turned_followed, r
 module _ (w : World) (t : Took) (h : AgreesIn w) (steady : Steady t.rec) (servers : length t.rec.servers ≡ length w.rec.servers) (starts : (numbers : ℕ) → started_by numbers t.answer.actions ≡ [])
     (ends : (is : List Instance) → ended_by t.answer.actions is ≡ is) where
   pub joined_agrees : (owners : List ℕ) (counted : List Done)
-      → Facts (links_of t.rec.objects) (acts_of w.instances) (lives_of w.instances) (messages w.sent ++ messages_of t.answer.actions) owners t.rec.last_act counted w.server_done
-      → Views (links_of t.rec.objects) (acts_of w.instances) (w.sent ++ map of_container (messages_of t.answer.actions))
-      → Grants (links_of t.rec.objects) (roles_of t.rec) (acts_of w.instances) (messages w.sent ++ messages_of t.answer.actions)
-      → Agrees t.rec (ended_by t.answer.actions w.instances ++ started_by t.rec.numbers t.answer.actions) (w.sent ++ map of_container (messages_of t.answer.actions)) owners counted w.server_done
+      → Facts w.hostile (links_of t.rec.objects) (acts_of w.instances) (lives_of w.instances) (messages w.sent ++ messages_of t.answer.actions) owners t.rec.last_act counted w.server_done
+      → Views w.hostile (links_of t.rec.objects) (acts_of w.instances) (w.sent ++ map of_container (messages_of t.answer.actions))
+      → Grants w.hostile (links_of t.rec.objects) (roles_of t.rec) (acts_of w.instances) (messages w.sent ++ messages_of t.answer.actions)
+      → Agrees w.hostile t.rec (ended_by t.answer.actions w.instances ++ started_by t.rec.numbers t.answer.actions) (w.sent ++ map of_container (messages_of t.answer.actions)) owners counted w.server_done
   joined_agrees owners counted f views grants =
       let more = messages_of t.answer.actions in
       let ms : messages (w.sent ++ map of_container more) ≡ messages w.sent ++ more = messages_of_log w.sent (map of_container more) ∙ ap (λ v. messages w.sent ++ v) (messages_told more) in
       let same : ended_by t.answer.actions w.instances ++ started_by t.rec.numbers t.answer.actions ≡ w.instances =
       ap (λ v. ended_by t.answer.actions w.instances ++ v) (starts t.rec.numbers) ∙ (append-nil (ended_by t.answer.actions w.instances) ∙ ends w.instances) in
-      let base : Agrees t.rec w.instances (w.sent ++ map of_container more) owners counted w.server_done = record {
+      let base : Agrees w.hostile t.rec w.instances (w.sent ++ map of_container more) owners counted w.server_done = record {
+        none_hostile = h.none_hostile;
         steady = steady;
         servers = servers ∙ h.servers;
-        facts = subst (λ s. Facts (links_of t.rec.objects) (acts_of w.instances) (lives_of w.instances) s owners t.rec.last_act counted w.server_done) (sym ms) f;
+        facts = subst (λ s. Facts w.hostile (links_of t.rec.objects) (acts_of w.instances) (lives_of w.instances) s owners t.rec.last_act counted w.server_done) (sym ms) f;
         views = views;
-        grants = subst (λ s. Grants (links_of t.rec.objects) (roles_of t.rec) (acts_of w.instances) s) (sym ms) grants;
+        grants = subst (λ s. Grants w.hostile (links_of t.rec.objects) (roles_of t.rec) (acts_of w.instances) s) (sym ms) grants;
       } in
-      subst (λ v. Agrees t.rec v (w.sent ++ map of_container more) owners counted w.server_done) (sym same) base
+      subst (λ v. Agrees w.hostile t.rec v (w.sent ++ map of_container more) owners counted w.server_done) (sym same) base
 
 -- one that makes no activation either
 pub plain_joined : (w : World) (t : Took) (counted : List Done) → AgreesIn w → Steady t.rec → IsPlain w.rec t
-    → Facts (links_of t.rec.objects) (acts_of w.instances) (lives_of w.instances) (messages w.sent ++ messages_of t.answer.actions) w.owners w.rec.last_act counted w.server_done
-    → Views (links_of t.rec.objects) (acts_of w.instances) (w.sent ++ map of_container (messages_of t.answer.actions))
-    → Grants (links_of t.rec.objects) (roles_of t.rec) (acts_of w.instances) (messages w.sent ++ messages_of t.answer.actions)
-    → Agrees t.rec (ended_by t.answer.actions w.instances ++ started_by t.rec.numbers t.answer.actions) (w.sent ++ map of_container (messages_of t.answer.actions)) w.owners counted w.server_done
+    → Facts w.hostile (links_of t.rec.objects) (acts_of w.instances) (lives_of w.instances) (messages w.sent ++ messages_of t.answer.actions) w.owners w.rec.last_act counted w.server_done
+    → Views w.hostile (links_of t.rec.objects) (acts_of w.instances) (w.sent ++ map of_container (messages_of t.answer.actions))
+    → Grants w.hostile (links_of t.rec.objects) (roles_of t.rec) (acts_of w.instances) (messages w.sent ++ messages_of t.answer.actions)
+    → Agrees w.hostile t.rec (ended_by t.answer.actions w.instances ++ started_by t.rec.numbers t.answer.actions) (w.sent ++ map of_container (messages_of t.answer.actions)) w.owners counted w.server_done
 plain_joined w t counted h steady p f views grants = joined_agrees w t h steady p.servers p.starts p.ends w.owners counted
-    (subst (λ n. Facts (links_of t.rec.objects) (acts_of w.instances) (lives_of w.instances) (messages w.sent ++ messages_of t.answer.actions) w.owners n counted w.server_done) (sym p.last_act) f) views grants
+    (subst (λ n. Facts w.hostile (links_of t.rec.objects) (acts_of w.instances) (lives_of w.instances) (messages w.sent ++ messages_of t.answer.actions) w.owners n counted w.server_done) (sym p.last_act) f) views grants
 
 -- operations are asked
 pub asked_views : (Asks : ℕ → Operation → Type 0) (w : World) (t : Took) → AgreesIn w → AsksAll Asks (links_of w.rec.objects) (links_of t.rec.objects) (messages_of t.answer.actions)
-    → Views (links_of t.rec.objects) (acts_of w.instances) (w.sent ++ map of_container (messages_of t.answer.actions))
+    → Views w.hostile (links_of t.rec.objects) (acts_of w.instances) (w.sent ++ map of_container (messages_of t.answer.actions))
 asked_views Asks w t h m =
     let links = links_of w.rec.objects in
     let after = links_of t.rec.objects in
     let acts = acts_of w.instances in
     let more = messages_of t.answer.actions in
-    views_kept links after acts acts w.sent (w.sent ++ map of_container more) (asks_leave Asks links after acts more m h.facts.in_step) (grows_calls w.sent more (asks_calls Asks links after more m)) h.views
+    views_kept links after acts acts w.sent (w.sent ++ map of_container more) (asks_leave w.hostile Asks links after acts more m h.facts.in_step) (grows_calls w.sent more (asks_calls Asks links after more m)) h.views
 
 -- who has frames, after a step whose links follow those before
 pub joined_grants : (w : World) (t : Took) (taken : List Message) → AgreesIn w → MovesBy w.rec t.rec taken → ((m : Message) → Among taken m → Among (messages w.sent) m) → IsFollowed (links_of w.rec.objects) (links_of t.rec.objects) (messages_of t.answer.actions)
-    → Grants (links_of t.rec.objects) (roles_of t.rec) (acts_of w.instances) (messages w.sent ++ messages_of t.answer.actions)
+    → Grants w.hostile (links_of t.rec.objects) (roles_of t.rec) (acts_of w.instances) (messages w.sent ++ messages_of t.answer.actions)
 joined_grants w t taken h moves sends k =
     followed (links_of w.rec.objects) (links_of t.rec.objects) (acts_of w.instances) (lives_of w.instances) (messages w.sent) (messages_of t.answer.actions) w.owners w.rec.last_act w.container_done w.server_done (roles_of w.rec) (roles_of t.rec) taken
     h.facts h.grants (ready_for w.rec h.steady).linked moves sends k.calls k.follows
@@ -94,20 +95,20 @@ joined_grants w t taken h moves sends k =
 -- a step that is a list of shapes
 kept_joined : (w : World) (t : Took) (taken : List Message) → AgreesIn w → Steady t.rec → IsPlain w.rec t → MovesBy w.rec t.rec taken → ((m : Message) → Among taken m → Among (messages w.sent) m)
     → IsFollowed (links_of w.rec.objects) (links_of t.rec.objects) (messages_of t.answer.actions)
-    → AreKept (acts_of w.instances) (lives_of w.instances) w.owners w.rec.last_act w.container_done w.server_done (links_of t.rec.objects) (longer w.sent (messages_of t.answer.actions)) → AgreesIn (joined w t)
+    → AreKept w.hostile (acts_of w.instances) (lives_of w.instances) w.owners w.rec.last_act w.container_done w.server_done (links_of t.rec.objects) (longer w.sent (messages_of t.answer.actions)) → AgreesIn (joined w t)
 kept_joined w t taken h steady p moves sends k now =
     let more = messages_of t.answer.actions in
     plain_joined w t w.container_done h steady p
-    (subst (λ s. Facts (links_of t.rec.objects) (acts_of w.instances) (lives_of w.instances) s w.owners w.rec.last_act w.container_done w.server_done) (messages_longer w.sent more) now.facts) now.views
+    (subst (λ s. Facts w.hostile (links_of t.rec.objects) (acts_of w.instances) (lives_of w.instances) s w.owners w.rec.last_act w.container_done w.server_done) (messages_longer w.sent more) now.facts) now.views
     (joined_grants w t taken h moves sends k)
 
-kept_before : (w : World) → AgreesIn w → AreKept (acts_of w.instances) (lives_of w.instances) w.owners w.rec.last_act w.container_done w.server_done (links_of w.rec.objects) w.sent
+kept_before : (w : World) → AgreesIn w → AreKept w.hostile (acts_of w.instances) (lives_of w.instances) w.owners w.rec.last_act w.container_done w.server_done (links_of w.rec.objects) w.sent
 kept_before w h = record { facts = h.facts; views = h.views }
 
 -- operations are asked, in turn
 pub turned_joined : (w : World) (t : Took) (taken : List Message) → AgreesIn w → Steady t.rec → MovesBy w.rec t.rec taken → ((m : Message) → Among taken m → Among (messages w.sent) m) → IsTurned w.rec t → AgreesIn (joined w t)
 turned_joined w t taken h steady moves sends m = kept_joined w t taken h steady m.1 moves sends (turned_followed (links_of w.rec.objects) (links_of t.rec.objects) (messages_of t.answer.actions) m.0)
-    (turned_kept (acts_of w.instances) (lives_of w.instances) w.owners w.rec.last_act w.container_done w.server_done (links_of w.rec.objects) (links_of t.rec.objects) w.sent (messages_of t.answer.actions) m.0 (kept_before w h))
+    (turned_kept w.hostile (acts_of w.instances) (lives_of w.instances) w.owners w.rec.last_act w.container_done w.server_done (links_of w.rec.objects) (links_of t.rec.objects) w.sent (messages_of t.answer.actions) m.0 (kept_before w h))
 
 -- at once
 pub asks_turned : (r : Record) (t : Took) → AsksAll (λ o op. IsQuiet op) (links_of r.objects) (links_of t.rec.objects) (messages_of t.answer.actions) × IsPlain r t → IsTurned r t
@@ -118,14 +119,14 @@ pub answered_joined : (w : World) (t : Took) (taken : List Message) → AgreesIn
     → IsReplied (links_of w.rec.objects) (links_of t.rec.objects) (acts_of w.instances) (lives_of w.instances) (messages_of t.answer.actions) × IsPlain w.rec t → AgreesIn (joined w t)
 answered_joined w t taken h steady moves sends m =
     kept_joined w t taken h steady m.1 moves sends (replied_followed (links_of w.rec.objects) (links_of t.rec.objects) (acts_of w.instances) (lives_of w.instances) (messages_of t.answer.actions) m.0)
-    (replied_kept (acts_of w.instances) (lives_of w.instances) w.owners w.rec.last_act w.container_done w.server_done (links_of w.rec.objects) (links_of t.rec.objects) w.sent (messages_of t.answer.actions) m.0 (kept_before w h))
+    (replied_kept w.hostile (acts_of w.instances) (lives_of w.instances) w.owners w.rec.last_act w.container_done w.server_done (links_of w.rec.objects) (links_of t.rec.objects) w.sent (messages_of t.answer.actions) m.0 (kept_before w h))
 
 -- the end of a server
 pub reaped_joined : (w : World) (t : Took) → AgreesIn w → Steady t.rec → MovesBy w.rec t.rec []
     → IsReaped (links_of w.rec.objects) (links_of t.rec.objects) (acts_of w.instances) (lives_of w.instances) (messages_of t.answer.actions) × IsPlain w.rec t → AgreesIn (joined w t)
 reaped_joined w t h steady moves m =
     kept_joined w t [] h steady m.1 moves (λ x z. absurd z) (reaped_followed (links_of w.rec.objects) (links_of t.rec.objects) (acts_of w.instances) (lives_of w.instances) (messages_of t.answer.actions) m.0)
-    (reaped_kept (acts_of w.instances) (lives_of w.instances) w.owners w.rec.last_act w.container_done w.server_done (links_of w.rec.objects) (links_of t.rec.objects) w.sent (messages_of t.answer.actions) m.0 (kept_before w h))
+    (reaped_kept w.hostile (acts_of w.instances) (lives_of w.instances) w.owners w.rec.last_act w.container_done w.server_done (links_of w.rec.objects) (links_of t.rec.objects) w.sent (messages_of t.answer.actions) m.0 (kept_before w h))
 
 -- an activation is made for an object
 owner_new : (owners : List ℕ) (last o : ℕ) → length owners ≡ last → nth (owners ++ o ∷ []) (last + 1) ≡ Some o
@@ -154,9 +155,9 @@ run_joined w o inc t h e =
     let more = messages_of t.answer.actions in
     let calls : AreCalls more = begins_calls (links_of r.objects) (links_of t.rec.objects) (lives_of w.instances) (w.owners ++ o ∷ []) r.last_act o more b.begins in
     joined_agrees w t h (on_command_keeps r (command.Run o inc) t h.steady e) b.servers b.starts b.ends (w.owners ++ o ∷ []) w.container_done
-    (subst (λ n. Facts (links_of t.rec.objects) (acts_of w.instances) (lives_of w.instances) (messages w.sent ++ messages_of t.answer.actions) (w.owners ++ o ∷ []) n w.container_done w.server_done) (sym b.last_act) f)
+    (subst (λ n. Facts w.hostile (links_of t.rec.objects) (acts_of w.instances) (lives_of w.instances) (messages w.sent ++ messages_of t.answer.actions) (w.owners ++ o ∷ []) n w.container_done w.server_done) (sym b.last_act) f)
     (views_kept (links_of r.objects) (links_of t.rec.objects) (acts_of w.instances) (acts_of w.instances) w.sent (w.sent ++ map of_container more)
-    (begins_leave (links_of r.objects) (links_of t.rec.objects) (acts_of w.instances) (lives_of w.instances) (w.owners ++ o ∷ []) r.last_act o more b.begins h.facts.drawn.acts_drawn)
+    (begins_leave w.hostile (links_of r.objects) (links_of t.rec.objects) (acts_of w.instances) (lives_of w.instances) (w.owners ++ o ∷ []) r.last_act o more b.begins h.facts.drawn.acts_drawn)
     (grows_calls w.sent more calls) h.views)
     (starting.begun (links_of r.objects) (links_of t.rec.objects) (acts_of w.instances) (lives_of w.instances) (messages w.sent) more w.owners (o ∷ []) r.last_act o w.container_done w.server_done (roles_of r) (roles_of t.rec)
     h.facts h.grants (ready_for r h.steady).linked (command_moves r (command.Run o inc) t h.steady e) calls b.begins)
@@ -208,14 +209,15 @@ start_joined w t h e =
     let steady : Steady (start_made r).rec = subst (λ (v : Took). Steady v.rec) (sym is) (on_command_keeps r command.Start t h.steady e) in
     let begins : StartsOrEnds (acts_of w.instances) (acts_of (w.instances ++ new ∷ [])) (lives_of w.instances) (lives_of (w.instances ++ new ∷ [])) =
     subst (λ i. StartsOrEnds (acts_of w.instances) (acts_of (w.instances ++ i ∷ [])) (lives_of w.instances) (lives_of (w.instances ++ i ∷ []))) one (server_starts w.instances r.numbers) in
-    let made : Agrees (start_made r).rec (w.instances ++ new ∷ []) w.sent w.owners w.container_done w.server_done = record {
+    let made : Agrees w.hostile (start_made r).rec (w.instances ++ new ∷ []) w.sent w.owners w.container_done w.server_done = record {
+      none_hostile = h.none_hostile;
       steady = steady;
       servers = length_more r.servers false ∙ (ap suc h.servers ∙ sym (length_more w.instances new));
       facts = started (links_of r.objects) (acts_of w.instances) (acts_of (w.instances ++ new ∷ [])) (lives_of w.instances) (lives_of (w.instances ++ new ∷ [])) (messages w.sent) w.owners r.last_act w.container_done w.server_done begins h.facts;
-      views = views_kept (links_of r.objects) (links_of r.objects) (acts_of w.instances) (acts_of (w.instances ++ new ∷ [])) w.sent w.sent (starts_leave (links_of r.objects) (acts_of w.instances) (acts_of (w.instances ++ new ∷ [])) (lives_of w.instances) (lives_of (w.instances ++ new ∷ [])) begins) (grows_none w.sent) h.views;
+      views = views_kept (links_of r.objects) (links_of r.objects) (acts_of w.instances) (acts_of (w.instances ++ new ∷ [])) w.sent w.sent (starts_leave w.hostile (links_of r.objects) (acts_of w.instances) (acts_of (w.instances ++ new ∷ [])) (lives_of w.instances) (lives_of (w.instances ++ new ∷ [])) begins) (grows_none w.sent) h.views;
       grants = grants_same (links_of r.objects) (roles_of r) (acts_of w.instances) (acts_of (w.instances ++ new ∷ [])) (messages w.sent) begins.same h.grants;
     } in
-    subst (λ (v : Took). AgreesIn (joined w v)) is (subst (λ s. Agrees (start_made r).rec (w.instances ++ new ∷ []) s w.owners w.container_done w.server_done) (sym (append-nil w.sent)) made)
+    subst (λ (v : Took). AgreesIn (joined w v)) is (subst (λ s. Agrees w.hostile (start_made r).rec (w.instances ++ new ∷ []) s w.owners w.container_done w.server_done) (sym (append-nil w.sent)) made)
 
 -- a server that runs no more
 module _ (is : List Instance) (inc : ℕ) (i : Instance) (life : Life) (at : nth is inc ≡ Some i) (over : life ≢ Running) where
@@ -245,10 +247,11 @@ pub stopped_agrees : (w : World) (inc : ℕ) (i : Instance) (life : Life) → nt
 stopped_agrees w inc i life at over h =
     let js = set_nth w.instances inc (record i { life = life }) in
     record {
+      none_hostile = h.none_hostile;
       steady = h.steady;
       servers = h.servers ∙ sym (length_set_nth w.instances inc (record i { life = life }));
       facts = started (links_of w.rec.objects) (acts_of w.instances) (acts_of js) (lives_of w.instances) (lives_of js) (messages w.sent) w.owners w.rec.last_act w.container_done w.server_done (server_ends w.instances inc i life at over) h.facts;
-      views = views_kept (links_of w.rec.objects) (links_of w.rec.objects) (acts_of w.instances) (acts_of js) w.sent w.sent (starts_leave (links_of w.rec.objects) (acts_of w.instances) (acts_of js) (lives_of w.instances) (lives_of js) (server_ends w.instances inc i life at over)) (grows_none w.sent) h.views;
+      views = views_kept (links_of w.rec.objects) (links_of w.rec.objects) (acts_of w.instances) (acts_of js) w.sent w.sent (starts_leave w.hostile (links_of w.rec.objects) (acts_of w.instances) (acts_of js) (lives_of w.instances) (lives_of js) (server_ends w.instances inc i life at over)) (grows_none w.sent) h.views;
       grants = grants_same (links_of w.rec.objects) (roles_of w.rec) (acts_of w.instances) (acts_of js) (messages w.sent) (server_ends w.instances inc i life at over).same h.grants;
     }
 
@@ -266,8 +269,8 @@ pub kill_joined : (w : World) (inc : ℕ) (t : Took) → AgreesIn w → kill w.r
 kill_joined w inc t h e =
     let made : Took = counts_none w.rec (acts (End inc ∷ [])) in
     let js = ended_at inc w.instances (nth w.instances inc) in
-    let here : Agrees w.rec js w.sent w.owners w.container_done w.server_done = ended_agrees w inc (nth w.instances inc) refl h in
-    let more : Agrees w.rec (js ++ []) (w.sent ++ []) w.owners w.container_done w.server_done =
-    subst (λ is. Agrees w.rec is (w.sent ++ []) w.owners w.container_done w.server_done) (sym (append-nil js))
-    (subst (λ s. Agrees w.rec js s w.owners w.container_done w.server_done) (sym (append-nil w.sent)) here) in
+    let here : Agrees w.hostile w.rec js w.sent w.owners w.container_done w.server_done = ended_agrees w inc (nth w.instances inc) refl h in
+    let more : Agrees w.hostile w.rec (js ++ []) (w.sent ++ []) w.owners w.container_done w.server_done =
+    subst (λ is. Agrees w.hostile w.rec is (w.sent ++ []) w.owners w.container_done w.server_done) (sym (append-nil js))
+    (subst (λ s. Agrees w.hostile w.rec js s w.owners w.container_done w.server_done) (sym (append-nil w.sent)) here) in
     subst (λ (v : Took). AgreesIn (joined w v)) (kill_ends w.rec inc t e) more

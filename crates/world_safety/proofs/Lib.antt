@@ -1,3 +1,4 @@
+pub mod Honest
 pub mod Shaping
 pub mod Joining
 pub mod Serving

@@ -61,6 +61,7 @@ use Rattle.world_steps.proofs.Relieving.{ask_asks}
 use Rattle.world_steps.proofs.Replying.{reply_answers}
 use Rattle.world_steps.proofs.Taking.{write_asks}
 use Rattle.world_steps.proofs.Verbing.{verb_asks}
+use Rattle.world_safety.proofs.Honest.{all_honest}
 use Rattle.world_safety.specs.Holding.{AgreesIn}
 use Rattle.world_safety.proofs.Events.{among_place, commit_pending}
 use Rattle.world_safety.proofs.Joining.{asks_turned, run_begun}
@@ -109,7 +110,7 @@ module _ (limit : ℕ) (w : World) (h : AgreesIn w) (k : Numbers limit w) where
   reply_taken inc act n answer t g e =
       let acts = acts_of w.instances in
       let lives = lives_of w.instances in
-      let m = reply_answers w.rec acts lives (messages w.sent) w.owners w.rec.last_act w.container_done w.server_done inc act n answer h.steady h.facts tt g t e in
+      let m = reply_answers w.rec acts lives (messages w.sent) w.owners w.rec.last_act w.container_done w.server_done inc act n answer h.steady h.facts (all_honest w.hostile h.none_hostile inc) g t e in
       plain_taken limit t (message_numbered inc (Reply inc act n answer) t e) (replied_pending (links_of w.rec.objects) (links_of t.rec.objects) acts lives (messages_of t.answer.actions) m.0) m.1.starts
 
   write_taken : (inc act s n : ℕ) (content : _) (t : Took) → on_message w.rec inc (Write inc act s n content) ≡ Ok t → IsTaken limit t

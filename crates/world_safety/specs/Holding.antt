@@ -1,5 +1,5 @@
 -- What every world keeps, so that it is safe. No reader has to believe it.
-use Rattle.std.specs.Prelude.{◌≡◌, ℕ, List, length}
+use Rattle.std.specs.Prelude.{◌≡◌, ℕ, List, [], length}
 use Rattle.container_model.specs.Record.{Record}
 use Rattle.container_model.specs.declared.answer.Done.{Done}
 use Rattle.container_steps.specs.Steady.{Steady}
@@ -7,7 +7,7 @@ use Rattle.world_model.specs.declared.logs.Sent.{Sent}
 use Rattle.world_model.specs.declared.logs.ServerDone.{ServerDone}
 use Rattle.world_model.specs.declared.logs.Taken.{Taken}
 use Rattle.world_model.specs.World.{World, Instance}
-use Rattle.world_model.specs.Safe.{Among, acts_of, links_of, messages, IsGranted}
+use Rattle.world_model.specs.Safe.{Among, acts_of, links_of, messages, IsGranted, IsHonest}
 use Rattle.world_facts.specs.Words.{lives_of}
 use Rattle.world_facts.specs.Facts.{Facts}
 use Rattle.world_facts.specs.Views.{Views}
@@ -17,19 +17,21 @@ use Rattle.world_numbers.specs.Numbers.{Numbers}
 
 -- The container's record, the servers, the messages and the logs agree: the record is steady by itself, the servers are
 -- those that it started, and the facts hold of what is looked up, of what senders saw, and of who has frames.
-pub record Agrees (rec : Record) (instances : List Instance) (sent : List Sent) (owners : List ℕ) (counted : List Done) (served : List ServerDone) : Type 0 where
+pub record Agrees (hostile : List ℕ) (rec : Record) (instances : List Instance) (sent : List Sent) (owners : List ℕ) (counted : List Done) (served : List ServerDone) : Type 0 where
+  -- no message was forged yet
+  pub none_hostile : hostile ≡ []
   pub steady : Steady rec
   pub servers : length rec.servers ≡ length instances
-  pub facts : Facts (links_of rec.objects) (acts_of instances) (lives_of instances) (messages sent) owners rec.last_act counted served
-  pub views : Views (links_of rec.objects) (acts_of instances) sent
-  pub grants : Grants (links_of rec.objects) (roles_of rec) (acts_of instances) (messages sent)
+  pub facts : Facts hostile (links_of rec.objects) (acts_of instances) (lives_of instances) (messages sent) owners rec.last_act counted served
+  pub views : Views hostile (links_of rec.objects) (acts_of instances) sent
+  pub grants : Grants hostile (links_of rec.objects) (roles_of rec) (acts_of instances) (messages sent)
 
 abbrev pub AgreesIn : World → Type 0
-AgreesIn w = Agrees w.rec w.instances w.sent w.owners w.container_done w.server_done
+AgreesIn w = Agrees w.hostile w.rec w.instances w.sent w.owners w.container_done w.server_done
 
 pub record Holds (w : World) : Type 0 where
   pub agrees : AgreesIn w
   pub files : Files w
   pub numbers : Numbers w.rec.numbers w
-  -- the contents that were taken
-  pub taken_held : (t : Taken) → Among w.taken t → IsGranted w t
+  -- the contents that were taken of honest servers
+  pub taken_held : (t : Taken) → Among w.taken t → IsHonest w.hostile t.inc → IsGranted w t

@@ -33,35 +33,35 @@ longer_none log more e = sym (ap (longer log) e ∙ append-nil log)
 longer_joined : (log : List Sent) (first rest more : List Message) → more ≡ first ++ rest → longer (longer log first) rest ≡ longer log more
 longer_joined log first rest more e = append_assoc log (map of_container first) (map of_container rest) ∙ (ap (λ v. log ++ v) (sym (map-append of_container first rest)) ∙ ap (longer log) (sym e))
 
-module _ (acts : Acts) (lives : Lives) (owners : List ℕ) (last : ℕ) (counted : List Done) (served : List ServerDone) where
+module _ (hostile : List ℕ) (acts : Acts) (lives : Lives) (owners : List ℕ) (last : ℕ) (counted : List Done) (served : List ServerDone) where
   pub record AreKept (links : Links) (log : List Sent) : Type 0 where
-    pub facts : Facts links acts lives (messages log) owners last counted served
-    pub views : Views links acts log
+    pub facts : Facts hostile links acts lives (messages log) owners last counted served
+    pub views : Views hostile links acts log
 
   -- one shape
   pub asked_kept : (links after : Links) (log : List Sent) (more : List Message) → AsksAll (λ o op. IsQuiet op) links after more → AreKept links log → AreKept after (longer log more)
   asked_kept links after log more m k = record {
-    facts = subst (λ s. Facts after acts lives s owners last counted served) (sym (messages_longer log more))
+    facts = subst (λ s. Facts hostile after acts lives s owners last counted served) (sym (messages_longer log more))
         (asked_quietly (λ o op. IsQuiet op) links after acts lives (messages log) more owners last counted served m k.facts (λ o op q. q));
-    views = views_kept links after acts acts log (longer log more) (asks_leave (λ o op. IsQuiet op) links after acts more m k.facts.in_step) (grows_calls log more (asks_calls (λ o op. IsQuiet op) links after more m)) k.views;
+    views = views_kept links after acts acts log (longer log more) (asks_leave hostile (λ o op. IsQuiet op) links after acts more m k.facts.in_step) (grows_calls log more (asks_calls (λ o op. IsQuiet op) links after more m)) k.views;
   }
 
   settled_kept : (links after : Links) (log : List Sent) (o : ℕ) → Settles links after acts o → AreKept links log → AreKept after log
   settled_kept links after log o s k = record {
     facts = settling.settled links after acts lives (messages log) owners last counted served o s k.facts;
-    views = views_kept links after acts acts log log (settles_leave links after acts o s) (grows_none log) k.views;
+    views = views_kept links after acts acts log log (settles_leave hostile links after acts o s) (grows_none log) k.views;
   }
 
   next_kept : (links after : Links) (log : List Sent) (o : ℕ) (more : List Message) → SendsNext links after o more → AreKept links log → AreKept after (longer log more)
   next_kept links after log o more n k = record {
-    facts = subst (λ s. Facts after acts lives s owners last counted served) (sym (messages_longer log more)) (sent_next links after acts lives (messages log) more owners last counted served o n k.facts);
-    views = views_kept links after acts acts log (longer log more) (next_leaves links after acts o more n k.facts.in_step) (grows_calls log more (next_calls links after o more n)) k.views;
+    facts = subst (λ s. Facts hostile after acts lives s owners last counted served) (sym (messages_longer log more)) (sent_next links after acts lives (messages log) more owners last counted served o n k.facts);
+    views = views_kept links after acts acts log (longer log more) (next_leaves hostile links after acts o more n k.facts.in_step) (grows_calls log more (next_calls links after o more n)) k.views;
   }
 
   ended_kept : (links after : Links) (log : List Sent) → EndsSome links after acts lives → AreKept links log → AreKept after log
   ended_kept links after log e k = record {
     facts = some_ended links after acts lives (messages log) owners last counted served e k.facts;
-    views = views_kept links after acts acts log log (ends_leave links after acts lives e) (grows_none log) k.views;
+    views = views_kept links after acts acts log log (ends_leave hostile links after acts lives e) (grows_none log) k.views;
   }
 
   -- lists of them

@@ -70,8 +70,8 @@ linked_is inc act (Some y) l e h = (let is : y ≡ l = cc in at (y.inc == inc) (
     at true false p q h is = cc
     at false b p q h is = cc
 
-module _ (r : Record) (acts : Acts) (lives : Lives) (sent : List Message) (owners : List ℕ) (last : ℕ) (counted : List Done) (served : List ServerDone) (inc act n : ℕ) (answer : Answer)
-    (s : Steady r) (f : Facts (links_of r.objects) acts lives sent owners last counted served) (honest : IsHonest inc) (told : Among sent (Reply inc act n answer)) where
+module _ {hostile : List ℕ} (r : Record) (acts : Acts) (lives : Lives) (sent : List Message) (owners : List ℕ) (last : ℕ) (counted : List Done) (served : List ServerDone) (inc act n : ℕ) (answer : Answer)
+    (s : Steady r) (f : Facts hostile (links_of r.objects) acts lives sent owners last counted served) (honest : IsHonest hostile inc) (told : Among sent (Reply inc act n answer)) where
   module _ (x : Object) (p : Replied) (h : IsAnswer inc act n answer x p) (found : find (is_linked inc act) r.objects ≡ Some x) where
     abbrev l : Link
     l = h.l
@@ -85,8 +85,8 @@ module _ (r : Record) (acts : Acts) (lives : Lives) (sent : List Message) (owner
     named : (h.l.inc ≡ inc) × (h.l.act ≡ act)
     named = linked_is inc act x.link h.l h.is (find_passes (is_linked inc act) r.objects x found)
 
-    honest_link : IsHonest h.l.inc
-    honest_link = subst IsHonest (sym named.0) honest
+    honest_link : IsHonest hostile h.l.inc
+    honest_link = subst (IsHonest hostile) (sym named.0) honest
 
     -- the activation is ahead by this very answer
     ahead_by : (b : Activation) → n ≤ b.last → (n ≡ b.last → answer ≡ b.reply) → (y : Option Activation) → y ≡ Some b → InStep h.l y → (b.last ≡ h.l.last) × Did h.l.states h.l.s h.op b answer
@@ -214,7 +214,7 @@ module _ (r : Record) (acts : Acts) (lives : Lives) (sent : List Message) (owner
     ]
 
     -- what was answered to a close was sent at the link's states and grant
-    pub close_seen : (log : List Sent) (option : CloseOption) → Views (links_of r.objects) acts log → h.l.pending ≡ Some (Close option) → IsSeen log inc act n answer h.l.states h.l.s
+    pub close_seen : (log : List Sent) (option : CloseOption) → Views hostile (links_of r.objects) acts log → h.l.pending ≡ Some (Close option) → IsSeen log inc act n answer h.l.states h.l.s
     close_seen log option v e =
         let w = is_ahead in
         let a = w.0 in
@@ -239,7 +239,7 @@ module _ (r : Record) (acts : Acts) (lives : Lives) (sent : List Message) (owner
     pub seen : IsSeen log inc act n answer link.states link.s
     pub held : IsOpenWhileClosing link
 
-  closing_of : (log : List Sent) (x : Object) (p : Replied) (h : IsAnswer inc act n answer x p) → find (is_linked inc act) r.objects ≡ Some x → is_some p.taken ≡ true → Views (links_of r.objects) acts log → IsClosing log
+  closing_of : (log : List Sent) (x : Object) (p : Replied) (h : IsAnswer inc act n answer x p) → find (is_linked inc act) r.objects ≡ Some x → is_some p.taken ≡ true → Views hostile (links_of r.objects) acts log → IsClosing log
   closing_of log x p h found taken v =
       let b = brought h.l h.op answer p h.told taken in
       let closes : h.l.pending ≡ Some (Close SaveIfDirty) = h.pending ∙ ap Some b.1 in
@@ -259,17 +259,17 @@ module _ (r : Record) (acts : Acts) (lives : Lives) (sent : List Message) (owner
         held = closes-are_open r (is_linked inc act) x h.l SaveIfDirty s found h.is closes;
       }
 
-  closing_taken : (log : List Sent) (x : Object) (q : Result Replied ContainerFault) (t : Took) → find (is_linked inc act) r.objects ≡ Some x → reply_link n answer x.link ≡ q → reply_taken r inc act x q ≡ Ok t → t.answer.taken ≡ true → Views (links_of r.objects) acts log → IsClosing log
+  closing_taken : (log : List Sent) (x : Object) (q : Result Replied ContainerFault) (t : Took) → find (is_linked inc act) r.objects ≡ Some x → reply_link n answer x.link ≡ q → reply_taken r inc act x q ≡ Ok t → t.answer.taken ≡ true → Views hostile (links_of r.objects) acts log → IsClosing log
   closing_taken log x (Err fault) t found g e taken v = cc
   closing_taken log x (Ok p) t found g e taken v =
       let is : reply_made r inc act x p ≡ t = ok_took (reply_made r inc act x p) t e in
       closing_of log x p (answer_link inc act n x.link answer x p refl g) found (ap (λ (z : Took). z.answer.taken) is ∙ taken) v
 
-  closing_found : (log : List Sent) (x : Option Object) (t : Took) → find (is_linked inc act) r.objects ≡ x → reply_found r inc act n answer x ≡ Ok t → t.answer.taken ≡ true → Views (links_of r.objects) acts log → IsClosing log
+  closing_found : (log : List Sent) (x : Option Object) (t : Took) → find (is_linked inc act) r.objects ≡ x → reply_found r inc act n answer x ≡ Ok t → t.answer.taken ≡ true → Views hostile (links_of r.objects) acts log → IsClosing log
   closing_found log None t found e taken v = cc
   closing_found log (Some x) t found e taken v = closing_taken log x (reply_link n answer x.link) t found refl e taken v
 
-  pub reply_closes : (log : List Sent) (t : Took) → on_message r inc (Reply inc act n answer) ≡ Ok t → t.answer.taken ≡ true → Views (links_of r.objects) acts log → IsClosing log
+  pub reply_closes : (log : List Sent) (t : Took) → on_message r inc (Reply inc act n answer) ≡ Ok t → t.answer.taken ≡ true → Views hostile (links_of r.objects) acts log → IsClosing log
   reply_closes log t e taken v = at (inc == inc) (is_alive r inc) e
     where
       at : (a b : Bool) → ◌≡◌ {A = Result Took ContainerFault} (if a then (if b then reply_found r inc act n answer (find (is_linked inc act) r.objects) else Err Stale) else Err WrongLink) (Ok t) → IsClosing log

@@ -2,4 +2,4 @@ use Rattle.world_facts.proofs.Settled.{settled}
 use Rattle.world_facts.proofs.laws.settling_keeps.Goals as goal
 
 pub returns : goal.returns
-returns c = settled
+returns c = λ hostile. settled {hostile = hostile}

@@ -2,4 +2,4 @@ use Rattle.world_facts.proofs.Starting.{started}
 use Rattle.world_facts.proofs.laws.starting_keeps.Goals as goal
 
 pub returns : goal.returns
-returns c = started
+returns c = λ hostile. started {hostile = hostile}
