@@ -35,7 +35,7 @@ use Rattle.world_model.specs.declared.event.Event.{Event}
 use Rattle.world_model.specs.declared.event.Event.TheVariants as event
 use Rattle.world_model.specs.declared.event.Stop.{Stop}
 use Rattle.world_model.specs.declared.event.Stop.TheVariants.{EventLimit}
-use Rattle.world_model.specs.World.{World, Instance, document_in, empty_world, joined, took, commanded, served, stocked, called_wanting, called_in, called, delivered, taken_at, with_taken, deliver, spoken_by, spoken, scribble, ask, crashed, crash, ended, reap, kept_commit, done_taken, done_imaged, done_in, happened, limited, IsImage, is_of, frame_file_in, MOST_EVENTS}
+use Rattle.world_model.specs.World.{World, Instance, document_in, empty_world, joined, took, commanded, served, stocked, called_wanting, called_in, called, delivered, taken_at, with_taken, deliver, spoken_by, spoken, scribble, ask, crashed, crash, ended, reap, kept_commit, done_taken, done_imaged, done_in, happened, limited, IsImage, is_of, frame_file_in, MOST_EVENTS, Choice}
 use Rattle.world_model.specs.Safe.{Commit, IsCounted, IsKept}
 use Rattle.container_steady.specs.Steady.{Steady}
 use Rattle.container_steady.proofs.SteadyRecords.{unless_ok}
@@ -301,14 +301,14 @@ files_done_in : (w : World) (f : ℕ) (bytes : List ℕ) (frame : Option Frame) 
 files_done_in w f bytes None v s k at den e = cc
 files_done_in w f bytes (Some frame) v s k at den e = files_imaged w f bytes frame (image w.rec f) v s k at refl den e
 
-pub files_happened : (w : World) (bytes : List ℕ) (e : Event) (v : World) → Steady w.rec → Files w → IsImage w bytes e → happened w bytes e ≡ Ok v → Files v
-files_happened w bytes (event.Command c) v s k im e = subst Files (ok_is _ v e) (files_commanded w c (on_command w.rec c) k (λ t g. files_command w c t s k g))
-files_happened w bytes (event.Deliver p) v s k im e = files_deliver w p (nth w.sent p) v k e
-files_happened w bytes (event.Crash inc) v s k im e = files_crash w inc (nth w.instances inc) v k e
-files_happened w bytes (event.Reap inc) v s k im e = files_reap w inc (nth w.instances inc) v k e
-files_happened w bytes (event.Scribble inc act) v s k im e = files_scribble w inc act (nth w.instances inc) v k e
-files_happened w bytes (event.Ask inc act) v s k im e = files_ask w inc act (nth w.instances inc) v k e
-files_happened w bytes (event.Done f) v s k im e = files_done_in w f bytes (nth w.rec.frames f) v s k refl im e
+pub files_happened : (w : World) (choice : Choice) (e : Event) (v : World) → Steady w.rec → Files w → IsImage w choice e → happened w choice e ≡ Ok v → Files v
+files_happened w choice (event.Command c) v s k im e = subst Files (ok_is _ v e) (files_commanded w c (on_command w.rec c) k (λ t g. files_command w c t s k g))
+files_happened w choice (event.Deliver p) v s k im e = files_deliver w p (nth w.sent p) v k e
+files_happened w choice (event.Crash inc) v s k im e = files_crash w inc (nth w.instances inc) v k e
+files_happened w choice (event.Reap inc) v s k im e = files_reap w inc (nth w.instances inc) v k e
+files_happened w choice (event.Scribble inc act) v s k im e = files_scribble w inc act (nth w.instances inc) v k e
+files_happened w choice (event.Ask inc act) v s k im e = files_ask w inc act (nth w.instances inc) v k e
+files_happened w choice (event.Done f) v s k im e = files_done_in w f choice.file (nth w.rec.frames f) v s k refl im e
 
 pub limited_ok : (w : World) (told : Result World Stop) (v : World) → limited w told ≡ Ok v → told ≡ Ok v
 limited_ok w (Err stop) v e = cc

@@ -5,7 +5,7 @@ ghost use Rattle.wire_msgs.specs.Found.{nth, set_nth, find};
 ghost use Rattle.container_model.specs.Saves.{commit_done, image, document_tree, name_after};
 ghost use Rattle.container_model.specs.declared.record.Phase.TheVariants as phase;
 ghost use Rattle.file_model.specs.Denotes.{Denotes};
-ghost use Rattle.world_model.specs.World.{IsImage, Refuses, done, frame_file, is_file, kept_commit, limited, put_file};
+ghost use Rattle.world_model.specs.World.{IsImage, Refuses, done, frame_file, is_file, kept_commit, limited, put_file, making};
 ghost use Rattle.world_model.specs.declared.event.Event.TheVariants as event;
 ghost use Rattle.world_host.specs.Files.{IsFileAt, IsNoFile, is_committing_in};
 ghost use Rattle.world_host.specs.Rooms.{most};
@@ -126,7 +126,7 @@ impl Host {
     /// Refused: `NotEnabled` where the commit isn't asked for; then `EventLimit`; then `NoMemory`. Then nothing changes.
     pub fn done(&mut self, alloc: Global, f: u32, room: bool) -> Result<Servers, Stop>
         ensures room { OnOk result (room ≡ true) }
-        ensures taken { IfOk result (λ s. (bytes : List ℕ) × IsImage (bare self.old) bytes (event.Done f) × (limited (bare self.old) (done (bare self.old) f bytes) ≡ Ok (started (bare self.new) self.new.core.numbers s.starts.items))) }
+        ensures taken { IfOk result (λ s. (bytes : List ℕ) × IsImage (bare self.old) (making bytes) (event.Done f) × (limited (bare self.old) (done (bare self.old) f bytes) ≡ Ok (started (bare self.new) self.new.core.numbers s.starts.items))) }
         ensures ends { IfOk result (λ s. s.ends.items ≡ ends_in (commit_done self.old.core f)) }
         ensures few { IfOk result (λ s. vec_len s.starts ≤ most self.old.core) }
         ensures refused { IfErr result (λ stop. (bytes : List ℕ) → Refuses (limited (bare self.old) (done (bare self.old) f bytes)) stop) }

@@ -17,7 +17,7 @@ use Rattle.container_model.specs.declared.answer.Part.{Part}
 use Rattle.container_model.specs.declared.command.Command.{Command}
 use Rattle.container_model.specs.declared.fault.ContainerFault.{ContainerFault}
 use Rattle.container_model.specs.declared.record.Frame.{Frame}
-use Rattle.world_model.specs.World.{World, Instance, took, commanded, served, stocked, called_wanting, called_in, called, delivered, taken_at, with_taken, deliver, spoken_by, spoken, scribble, ask, crashed, crash, ended, reap, done_taken, done_imaged, done_in, happened, limited, Run, MOST_EVENTS, is_of}
+use Rattle.world_model.specs.World.{World, Instance, took, commanded, served, stocked, called_wanting, called_in, called, delivered, taken_at, with_taken, deliver, spoken_by, spoken, scribble, ask, crashed, crash, ended, reap, done_taken, done_imaged, done_in, happened, limited, Run, MOST_EVENTS, is_of, Choice}
 use Rattle.world_model.specs.declared.event.Event.{Event}
 use Rattle.world_model.specs.declared.event.Event.TheVariants as event
 use Rattle.world_model.specs.declared.event.Stop.{Stop}
@@ -129,14 +129,14 @@ done_in-taken : (w : World) (f : ℕ) (bytes : List ℕ) (frame : Option Frame) 
 done_in-taken w f bytes None = tt
 done_in-taken w f bytes (Some frame) = done_imaged-taken w f bytes frame (image w.rec f)
 
-happened-taken : (w : World) (bytes : List ℕ) (e : Event) → IfTaken w (happened w bytes e)
-happened-taken w bytes (event.Command c) = commanded-more w c (on_command w.rec c)
-happened-taken w bytes (event.Deliver p) = deliver-taken w p (nth w.sent p)
-happened-taken w bytes (event.Crash inc) = crash-taken w inc (nth w.instances inc)
-happened-taken w bytes (event.Reap inc) = reap-taken w inc (nth w.instances inc)
-happened-taken w bytes (event.Done f) = done_in-taken w f bytes (nth w.rec.frames f)
-happened-taken w bytes (event.Ask inc act) = ask-taken w inc act (nth w.instances inc)
-happened-taken w bytes (event.Scribble inc act) = scribble-taken w inc act (nth w.instances inc)
+happened-taken : (w : World) (choice : Choice) (e : Event) → IfTaken w (happened w choice e)
+happened-taken w choice (event.Command c) = commanded-more w c (on_command w.rec c)
+happened-taken w choice (event.Deliver p) = deliver-taken w p (nth w.sent p)
+happened-taken w choice (event.Crash inc) = crash-taken w inc (nth w.instances inc)
+happened-taken w choice (event.Reap inc) = reap-taken w inc (nth w.instances inc)
+happened-taken w choice (event.Done f) = done_in-taken w f choice.file (nth w.rec.frames f)
+happened-taken w choice (event.Ask inc act) = ask-taken w inc act (nth w.instances inc)
+happened-taken w choice (event.Scribble inc act) = scribble-taken w inc act (nth w.instances inc)
 
 limited-few : (w next : World) (r : Result World Stop) → IfTaken w r → limited w r ≡ Ok next → length next.answers ≤ MOST_EVENTS
 limited-few w next (Err stop) one is = absurd (cc)

@@ -20,14 +20,14 @@ use Rattle.world_model.specs.declared.logs.EventAnswer.{EventAnswer}
 use Rattle.wire_msgs.specs.declared.refusal.Refusal.TheVariants.{BadEdit}
 use Rattle.world_model.specs.declared.logs.EventAnswer.TheVariants.{Took, Refused, Dropped}
 use Rattle.world_model.specs.StopNames.{stop_name}
-use Rattle.world_model.specs.World.{World, empty_world, frame_file_in, quiet_outcome, step}
+use Rattle.world_model.specs.World.{World, empty_world, frame_file_in, quiet_outcome, step, no_choice}
 use Rattle.world_model.specs.Report.{report, frame_line, content_text}
 
 -- the world after these events, where each commit that is done makes no bytes the file
 abbrev pub ran : Result World Stop → List Event → Result World Stop
 ran told [] = told
 ran (Err stop) (e ∷ es) = Err stop
-ran (Ok w) (e ∷ es) = ran (step w [] e) es
+ran (Ok w) (e ∷ es) = ran (step w no_choice e) es
 
 abbrev pub reported : Result World Stop → List ℕ
 reported (Err stop) = stop_name stop

@@ -324,15 +324,26 @@ done_in w f bytes (Some frame) = done_imaged w f bytes frame (image w.rec f)
 abbrev pub done : World → ℕ → List ℕ → Result World Stop
 done w f bytes = done_in w f bytes (nth w.rec.frames f)
 
--- What an event makes of the world, where a commit that is done makes these bytes the file.
-abbrev pub happened : World → List ℕ → Event → Result World Stop
-happened w bytes (event.Command c) = Ok (commanded w c (on_command w.rec c))
-happened w bytes (event.Deliver p) = deliver w p (nth w.sent p)
-happened w bytes (event.Crash inc) = crash w inc (nth w.instances inc)
-happened w bytes (event.Reap inc) = reap w inc (nth w.instances inc)
-happened w bytes (event.Done f) = done w f bytes
-happened w bytes (event.Scribble inc act) = scribble w inc act (nth w.instances inc)
-happened w bytes (event.Ask inc act) = ask w inc act (nth w.instances inc)
+-- What the definitions leave open in a step: of a commit that is done, the bytes that it makes the file.
+pub record Choice : Type 0 where
+  pub file : List ℕ
+
+abbrev pub making : List ℕ → Choice
+making bytes = record { file = bytes }
+
+-- for the events that leave nothing open
+abbrev pub no_choice : Choice
+no_choice = making []
+
+-- What an event makes of the world, with this choice.
+abbrev pub happened : World → Choice → Event → Result World Stop
+happened w choice (event.Command c) = Ok (commanded w c (on_command w.rec c))
+happened w choice (event.Deliver p) = deliver w p (nth w.sent p)
+happened w choice (event.Crash inc) = crash w inc (nth w.instances inc)
+happened w choice (event.Reap inc) = reap w inc (nth w.instances inc)
+happened w choice (event.Done f) = done w f choice.file
+happened w choice (event.Scribble inc act) = scribble w inc act (nth w.instances inc)
+happened w choice (event.Ask inc act) = ask w inc act (nth w.instances inc)
 
 -- no more events than these are taken
 abbrev pub MOST_EVENTS : ℕ
@@ -342,23 +353,23 @@ abbrev pub limited : World → Result World Stop → Result World Stop
 limited w (Err stop) = Err stop
 limited w (Ok after) = if nat_le MOST_EVENTS (length w.answers) then Err EventLimit else Ok after
 
-abbrev pub step : World → List ℕ → Event → Result World Stop
-step w bytes e = limited w (happened w bytes e)
+abbrev pub step : World → Choice → Event → Result World Stop
+step w choice e = limited w (happened w choice e)
 
--- the bytes that a commit makes the file denote the document
-abbrev pub IsImage : World → List ℕ → Event → Type 0
-IsImage w bytes (event.Command c) = ⊤
-IsImage w bytes (event.Deliver p) = ⊤
-IsImage w bytes (event.Crash inc) = ⊤
-IsImage w bytes (event.Reap inc) = ⊤
-IsImage w bytes (event.Scribble inc act) = ⊤
-IsImage w bytes (event.Ask inc act) = ⊤
-IsImage w bytes (event.Done f) = (parts : List Part) → image w.rec f ≡ Ok parts → ∥ Denotes bytes (document_tree parts) ∥₁
+-- What may be chosen: the bytes that a commit makes the file denote the document.
+abbrev pub IsImage : World → Choice → Event → Type 0
+IsImage w choice (event.Command c) = ⊤
+IsImage w choice (event.Deliver p) = ⊤
+IsImage w choice (event.Crash inc) = ⊤
+IsImage w choice (event.Reap inc) = ⊤
+IsImage w choice (event.Scribble inc act) = ⊤
+IsImage w choice (event.Ask inc act) = ⊤
+IsImage w choice (event.Done f) = (parts : List Part) → image w.rec f ≡ Ok parts → ∥ Denotes choice.file (document_tree parts) ∥₁
 
 -- The worlds that these events reach; they differ in the bytes of files alone.
 abbrev pub Run : World → List Event → World → Type 0
 Run w [] after = after ≡ w
-Run w (e ∷ es) after = (bytes : List ℕ) × (next : World) × IsImage w bytes e × (step w bytes e ≡ Ok next) × Run next es after
+Run w (e ∷ es) after = (choice : Choice) × (next : World) × IsImage w choice e × (step w choice e ≡ Ok next) × Run next es after
 
 -- A run stops before an event that can't be taken, or for want of memory before one that could.
 abbrev pub Refuses : Result World Stop → Stop → Type 0
@@ -366,7 +377,7 @@ Refuses told NoMemory = IsOk told
 Refuses told stop = told ≡ Err stop
 
 abbrev pub StopsAt : World → Event → Stop → Type 0
-StopsAt w e stop = (bytes : List ℕ) → Refuses (step w bytes e) stop
+StopsAt w e stop = (choice : Choice) → Refuses (step w choice e) stop
 
 -- The file of a frame, where it is known which: not while it is in doubt whether its last commit was done.
 abbrev pub file_bytes : Option File → Option (List ℕ)

@@ -10,7 +10,7 @@ use Rattle.container_model.specs.declared.record.Frame.{Frame}
 use Rattle.container_model.specs.declared.fault.ContainerFault.{ContainerFault}
 use Rattle.world_model.specs.declared.event.Stop.{Stop}
 use Rattle.world_model.specs.declared.event.Stop.TheVariants.{NotEnabled, OutOfStock, EventLimit, NoMemory}
-use Rattle.world_model.specs.World.{World, Refuses, limited, done, done_in, done_imaged, done_taken, MOST_EVENTS}
+use Rattle.world_model.specs.World.{World, Refuses, limited, done, done_in, done_imaged, done_taken, MOST_EVENTS, Choice}
 
 abbrev pub emptied : World → World
 emptied w = record w { instances = []; stock = [] }
@@ -37,5 +37,5 @@ in_same : (w : World) (f : ℕ) (bytes : List ℕ) (frame : Option Frame) (stop 
 in_same w f bytes None stop h = h
 in_same w f bytes (Some frame) stop h = imaged_same w f bytes frame (image w.rec f) stop h
 
-pub done_refused : (w : World) (f : ℕ) (stop : Stop) → ((bytes : List ℕ) → Refuses (limited (emptied w) (done (emptied w) f bytes)) stop) → (bytes : List ℕ) → Refuses (limited w (done w f bytes)) stop
-done_refused w f stop h bytes = in_same w f bytes (nth w.rec.frames f) stop (h bytes)
+pub done_refused : (w : World) (f : ℕ) (stop : Stop) → ((bytes : List ℕ) → Refuses (limited (emptied w) (done (emptied w) f bytes)) stop) → (choice : Choice) → Refuses (limited w (done w f choice.file)) stop
+done_refused w f stop h choice = in_same w f choice.file (nth w.rec.frames f) stop (h choice.file)

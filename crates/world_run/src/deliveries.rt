@@ -6,7 +6,7 @@ ghost use Rattle.embed_core.specs.Kinds.{kind_of};
 ghost use Rattle.world_run.specs.declared.plan.Plan.TheVariants as plan;
 ghost use Rattle.world_run.specs.Plans.{Fits, IsCallOf, carried, carry, carry_call, stock_with};
 ghost use Rattle.world_run.specs.View.{seen, seen_stocked};
-ghost use Rattle.world_model.specs.World.{Refuses, delivered, step};
+ghost use Rattle.world_model.specs.World.{Refuses, delivered, step, no_choice};
 ghost use Rattle.world_model.specs.declared.event.Event.TheVariants as event;
 
 use crate::instance::Stocked;
@@ -228,8 +228,8 @@ impl State {
 
     // A message that was sent is delivered.
     pub(crate) fn deliver(&mut self, alloc: Global, p: u32) -> Result<(), Stop>
-        ensures taken { OnOk result (step (seen (λ s. content s.boxed) self.old) [] (event.Deliver p) ≡ Ok (seen (λ s. content s.boxed) self.new)) }
-        ensures refused { IfErr result (Refuses (step (seen (λ s. content s.boxed) self.old) [] (event.Deliver p))) }
+        ensures taken { OnOk result (step (seen (λ s. content s.boxed) self.old) no_choice (event.Deliver p) ≡ Ok (seen (λ s. content s.boxed) self.new)) }
+        ensures refused { IfErr result (Refuses (step (seen (λ s. content s.boxed) self.old) no_choice (event.Deliver p))) }
         ensures kept { OnErr result (seen (λ s. content s.boxed) self.new ≡ seen (λ s. content s.boxed) self.old) }
     {
         let Some(i) = place(&self.host.sent, p) else {

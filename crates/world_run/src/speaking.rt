@@ -4,7 +4,7 @@ ghost use Rattle.std.specs.Prelude.{◌≡◌, [], IfErr, OnErr, OnOk, Ok, slice
 ghost use Rattle.container_model.specs.Numbered.{IsNth};
 ghost use Rattle.world_run.specs.Plans.{asking, scribbling};
 ghost use Rattle.world_run.specs.View.{seen};
-ghost use Rattle.world_model.specs.World.{Refuses, limited, step};
+ghost use Rattle.world_model.specs.World.{Refuses, limited, step, no_choice};
 ghost use Rattle.world_model.specs.declared.event.Event.TheVariants as event;
 
 use crate::state::State;
@@ -44,8 +44,8 @@ impl State {
 
     // An activation of a server that runs writes.
     pub(crate) fn scribble(&mut self, alloc: Global, inc: u32, act: u32) -> Result<(), Stop>
-        ensures taken { OnOk result (step (seen (λ s. content s.boxed) self.old) [] (event.Scribble inc act) ≡ Ok (seen (λ s. content s.boxed) self.new)) }
-        ensures refused { IfErr result (Refuses (step (seen (λ s. content s.boxed) self.old) [] (event.Scribble inc act))) }
+        ensures taken { OnOk result (step (seen (λ s. content s.boxed) self.old) no_choice (event.Scribble inc act) ≡ Ok (seen (λ s. content s.boxed) self.new)) }
+        ensures refused { IfErr result (Refuses (step (seen (λ s. content s.boxed) self.old) no_choice (event.Scribble inc act))) }
         ensures kept { OnErr result (seen (λ s. content s.boxed) self.new ≡ seen (λ s. content s.boxed) self.old) }
     {
         let Some((i, life)) = self.life(inc) else {
@@ -84,8 +84,8 @@ impl State {
 
     // An activation of a server that runs asks to be relieved of its frame.
     pub(crate) fn ask(&mut self, alloc: Global, inc: u32, act: u32) -> Result<(), Stop>
-        ensures taken { OnOk result (step (seen (λ s. content s.boxed) self.old) [] (event.Ask inc act) ≡ Ok (seen (λ s. content s.boxed) self.new)) }
-        ensures refused { IfErr result (Refuses (step (seen (λ s. content s.boxed) self.old) [] (event.Ask inc act))) }
+        ensures taken { OnOk result (step (seen (λ s. content s.boxed) self.old) no_choice (event.Ask inc act) ≡ Ok (seen (λ s. content s.boxed) self.new)) }
+        ensures refused { IfErr result (Refuses (step (seen (λ s. content s.boxed) self.old) no_choice (event.Ask inc act))) }
         ensures kept { OnErr result (seen (λ s. content s.boxed) self.new ≡ seen (λ s. content s.boxed) self.old) }
     {
         let Some((i, life)) = self.life(inc) else {

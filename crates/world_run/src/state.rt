@@ -8,7 +8,7 @@ ghost use Rattle.world_host.specs.Servers.{ends_by};
 ghost use Rattle.world_run.specs.Lives.{Lives};
 ghost use Rattle.world_run.specs.Plans.{tell};
 ghost use Rattle.world_run.specs.View.{seen, seen_instance, seen_stocked};
-ghost use Rattle.world_model.specs.World.{IsImage, Refuses, Run, StopsAt, empty_world, ended_at, fresh, step, view_in};
+ghost use Rattle.world_model.specs.World.{IsImage, Refuses, Run, StopsAt, empty_world, ended_at, fresh, step, view_in, no_choice, Choice};
 ghost use Rattle.world_model.specs.declared.event.Event.TheVariants as event;
 
 use crate::instance::{Instance, end_of};
@@ -77,8 +77,8 @@ impl State {
 
     // A command of a user.
     fn command(&mut self, alloc: Global, command: &Command) -> Result<(), Stop>
-        ensures taken { OnOk result (step (seen (λ s. content s.boxed) self.old) [] (event.Command command.now) ≡ Ok (seen (λ s. content s.boxed) self.new)) }
-        ensures refused { IfErr result (Refuses (step (seen (λ s. content s.boxed) self.old) [] (event.Command command.now))) }
+        ensures taken { OnOk result (step (seen (λ s. content s.boxed) self.old) no_choice (event.Command command.now) ≡ Ok (seen (λ s. content s.boxed) self.new)) }
+        ensures refused { IfErr result (Refuses (step (seen (λ s. content s.boxed) self.old) no_choice (event.Command command.now))) }
         ensures kept { OnErr result (seen (λ s. content s.boxed) self.new ≡ seen (λ s. content s.boxed) self.old) }
     {
         self.host.open()?;
@@ -169,8 +169,8 @@ impl State {
 
     // A server crashes.
     fn crash(&mut self, alloc: Global, inc: u32) -> Result<(), Stop>
-        ensures taken { OnOk result (step (seen (λ s. content s.boxed) self.old) [] (event.Crash inc) ≡ Ok (seen (λ s. content s.boxed) self.new)) }
-        ensures refused { IfErr result (Refuses (step (seen (λ s. content s.boxed) self.old) [] (event.Crash inc))) }
+        ensures taken { OnOk result (step (seen (λ s. content s.boxed) self.old) no_choice (event.Crash inc) ≡ Ok (seen (λ s. content s.boxed) self.new)) }
+        ensures refused { IfErr result (Refuses (step (seen (λ s. content s.boxed) self.old) no_choice (event.Crash inc))) }
         ensures kept { OnErr result (seen (λ s. content s.boxed) self.new ≡ seen (λ s. content s.boxed) self.old) }
     {
         let Some((i, life)) = self.life(inc) else {
@@ -188,8 +188,8 @@ impl State {
 
     // The end of a server is told.
     fn reap(&mut self, alloc: Global, inc: u32) -> Result<(), Stop>
-        ensures taken { OnOk result (step (seen (λ s. content s.boxed) self.old) [] (event.Reap inc) ≡ Ok (seen (λ s. content s.boxed) self.new)) }
-        ensures refused { IfErr result (Refuses (step (seen (λ s. content s.boxed) self.old) [] (event.Reap inc))) }
+        ensures taken { OnOk result (step (seen (λ s. content s.boxed) self.old) no_choice (event.Reap inc) ≡ Ok (seen (λ s. content s.boxed) self.new)) }
+        ensures refused { IfErr result (Refuses (step (seen (λ s. content s.boxed) self.old) no_choice (event.Reap inc))) }
         ensures kept { OnErr result (seen (λ s. content s.boxed) self.new ≡ seen (λ s. content s.boxed) self.old) }
     {
         let Some((i, life)) = self.life(inc) else {
@@ -215,7 +215,7 @@ impl State {
 
     // The commit of a frame's file is done.
     fn done(&mut self, alloc: Global, f: u32) -> Result<(), Stop>
-        ensures taken { OnOk result ((bytes : List ℕ) × IsImage (seen (λ s. content s.boxed) self.old) bytes (event.Done f) × (step (seen (λ s. content s.boxed) self.old) bytes (event.Done f) ≡ Ok (seen (λ s. content s.boxed) self.new))) }
+        ensures taken { OnOk result ((choice : Choice) × IsImage (seen (λ s. content s.boxed) self.old) choice (event.Done f) × (step (seen (λ s. content s.boxed) self.old) choice (event.Done f) ≡ Ok (seen (λ s. content s.boxed) self.new))) }
         ensures refused { IfErr result (StopsAt (seen (λ s. content s.boxed) self.old) (event.Done f)) }
         ensures kept { OnErr result (seen (λ s. content s.boxed) self.new ≡ seen (λ s. content s.boxed) self.old) }
     {
@@ -246,7 +246,7 @@ impl State {
 
     // An event happens.
     fn step(&mut self, alloc: Global, event: &Event) -> Result<(), Stop>
-        ensures taken { OnOk result ((bytes : List ℕ) × IsImage (seen (λ s. content s.boxed) self.old) bytes event.now × (step (seen (λ s. content s.boxed) self.old) bytes event.now ≡ Ok (seen (λ s. content s.boxed) self.new))) }
+        ensures taken { OnOk result ((choice : Choice) × IsImage (seen (λ s. content s.boxed) self.old) choice event.now × (step (seen (λ s. content s.boxed) self.old) choice event.now ≡ Ok (seen (λ s. content s.boxed) self.new))) }
         ensures refused { IfErr result (StopsAt (seen (λ s. content s.boxed) self.old) event.now) }
         ensures kept { OnErr result (seen (λ s. content s.boxed) self.new ≡ seen (λ s. content s.boxed) self.old) }
     {

@@ -27,7 +27,7 @@ use Rattle.world_model.specs.declared.life.Life.TheVariants.{Running, Ended, Rea
 use Rattle.world_model.specs.declared.event.Event.{Event}
 use Rattle.world_model.specs.declared.event.Event.TheVariants as event
 use Rattle.world_model.specs.declared.event.Stop.{Stop}
-use Rattle.world_model.specs.World.{World, Instance, messages_of, of_container, started_by, ended_by, joined, took, commanded, owners_by, delivered, taken_at, with_taken, deliver, crashed, crash, ended, reap, kept_commit, done_taken, done_imaged, done_in, happened}
+use Rattle.world_model.specs.World.{World, Instance, messages_of, of_container, started_by, ended_by, joined, took, commanded, owners_by, delivered, taken_at, with_taken, deliver, crashed, crash, ended, reap, kept_commit, done_taken, done_imaged, done_in, happened, Choice}
 use Rattle.world_model.specs.Safe.{Among, links_of, acts_of, messages}
 use Rattle.world_facts.specs.Words.{life_at, lives_of}
 use Rattle.world_facts.specs.Shapes.{IsTold}
@@ -208,11 +208,11 @@ agrees_done_in : (w : World) (f : ℕ) (bytes : List ℕ) (frame : Option Frame)
 agrees_done_in w f bytes None v k h at e = cc
 agrees_done_in w f bytes (Some frame) v k h at e = agrees_imaged w f bytes frame (image w.rec f) v k h at refl e
 
-pub agrees_happened : (w : World) (bytes : List ℕ) (e : Event) (v : World) → Files w → AgreesIn w → happened w bytes e ≡ Ok v → AgreesIn v
-agrees_happened w bytes (event.Command c) v k h e = subst AgreesIn (ok_is _ v e) (agrees_commanded w c (on_command w.rec c) h refl)
-agrees_happened w bytes (event.Deliver p) v k h e = agrees_deliver w p (nth w.sent p) v h refl e
-agrees_happened w bytes (event.Crash inc) v k h e = agrees_crash w inc (nth w.instances inc) v h refl e
-agrees_happened w bytes (event.Reap inc) v k h e = agrees_reap w inc (nth w.instances inc) v h refl e
-agrees_happened w bytes (event.Scribble inc act) v k h e = agrees_scribble w inc act (nth w.instances inc) v h refl e
-agrees_happened w bytes (event.Ask inc act) v k h e = agrees_ask w inc act (nth w.instances inc) v h refl e
-agrees_happened w bytes (event.Done f) v k h e = agrees_done_in w f bytes (nth w.rec.frames f) v k h refl e
+pub agrees_happened : (w : World) (choice : Choice) (e : Event) (v : World) → Files w → AgreesIn w → happened w choice e ≡ Ok v → AgreesIn v
+agrees_happened w choice (event.Command c) v k h e = subst AgreesIn (ok_is _ v e) (agrees_commanded w c (on_command w.rec c) h refl)
+agrees_happened w choice (event.Deliver p) v k h e = agrees_deliver w p (nth w.sent p) v h refl e
+agrees_happened w choice (event.Crash inc) v k h e = agrees_crash w inc (nth w.instances inc) v h refl e
+agrees_happened w choice (event.Reap inc) v k h e = agrees_reap w inc (nth w.instances inc) v h refl e
+agrees_happened w choice (event.Scribble inc act) v k h e = agrees_scribble w inc act (nth w.instances inc) v h refl e
+agrees_happened w choice (event.Ask inc act) v k h e = agrees_ask w inc act (nth w.instances inc) v h refl e
+agrees_happened w choice (event.Done f) v k h e = agrees_done_in w f choice.file (nth w.rec.frames f) v k h refl e

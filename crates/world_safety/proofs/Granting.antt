@@ -33,7 +33,7 @@ use Rattle.world_model.specs.declared.life.Life.{Life}
 use Rattle.world_model.specs.declared.life.Life.TheVariants.{Running, Ended, Reaped}
 use Rattle.world_model.specs.declared.logs.Sent.{Sent}
 use Rattle.world_model.specs.declared.logs.Taken.{Taken}
-use Rattle.world_model.specs.World.{World, Instance, messages_of, of_container, took, commanded, view_in, served, is_of, stocked, called_wanting, called_in, called, delivered, taken_link, taken_of, taken_by, taken_at, with_taken, deliver, spoken_by, spoken, scribble, ask, crashed, crash, ended, reap, done_taken, done_imaged, done_in, happened}
+use Rattle.world_model.specs.World.{World, Instance, messages_of, of_container, took, commanded, view_in, served, is_of, stocked, called_wanting, called_in, called, delivered, taken_link, taken_of, taken_by, taken_at, with_taken, deliver, spoken_by, spoken, scribble, ask, crashed, crash, ended, reap, done_taken, done_imaged, done_in, happened, Choice}
 use Rattle.world_model.specs.Safe.{Among, WasSent, link_at, links_of, acts_of, messages, Brings, IsGranted, IsHonest}
 use Rattle.world_facts.specs.Words.{lives_of}
 use Rattle.world_facts.specs.Views.{IsSentOpen}
@@ -313,11 +313,11 @@ granted_deliver : (w : World) (p : ℕ) (sent : Option Sent) (v : World) → Agr
 granted_deliver w p None v k at h e = cc
 granted_deliver w p (Some x) v k at h e = granted_logged w (taken_at w.rec p x.message) (delivered w x.message) v (λ t g. granted_at w k p x at x.message t refl g) (λ u g. grew_delivered w x.message u g) h e
 
-pub granted_happened : (w : World) (bytes : List ℕ) (e : Event) (v : World) → AgreesIn w → AreGranted w → happened w bytes e ≡ Ok v → AreGranted v
-granted_happened w bytes (event.Command c) v k h e = granted_grew w v (subst (Grew w) (ok_is _ v e) (grew_commanded w c (on_command w.rec c))) h
-granted_happened w bytes (event.Deliver p) v k h e = granted_deliver w p (nth w.sent p) v k refl h e
-granted_happened w bytes (event.Crash inc) v k h e = granted_grew w v (grew_crash w inc (nth w.instances inc) v e) h
-granted_happened w bytes (event.Reap inc) v k h e = granted_grew w v (grew_reap w inc (nth w.instances inc) v e) h
-granted_happened w bytes (event.Scribble inc act) v k h e = granted_grew w v (grew_scribble w inc act (nth w.instances inc) v e) h
-granted_happened w bytes (event.Ask inc act) v k h e = granted_grew w v (grew_ask w inc act (nth w.instances inc) v e) h
-granted_happened w bytes (event.Done f) v k h e = granted_grew w v (grew_done w f bytes (nth w.rec.frames f) v e) h
+pub granted_happened : (w : World) (choice : Choice) (e : Event) (v : World) → AgreesIn w → AreGranted w → happened w choice e ≡ Ok v → AreGranted v
+granted_happened w choice (event.Command c) v k h e = granted_grew w v (subst (Grew w) (ok_is _ v e) (grew_commanded w c (on_command w.rec c))) h
+granted_happened w choice (event.Deliver p) v k h e = granted_deliver w p (nth w.sent p) v k refl h e
+granted_happened w choice (event.Crash inc) v k h e = granted_grew w v (grew_crash w inc (nth w.instances inc) v e) h
+granted_happened w choice (event.Reap inc) v k h e = granted_grew w v (grew_reap w inc (nth w.instances inc) v e) h
+granted_happened w choice (event.Scribble inc act) v k h e = granted_grew w v (grew_scribble w inc act (nth w.instances inc) v e) h
+granted_happened w choice (event.Ask inc act) v k h e = granted_grew w v (grew_ask w inc act (nth w.instances inc) v e) h
+granted_happened w choice (event.Done f) v k h e = granted_grew w v (grew_done w f choice.file (nth w.rec.frames f) v e) h

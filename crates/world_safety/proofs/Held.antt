@@ -6,7 +6,7 @@ use Rattle.server_model.specs.Server.{Activation}
 use Rattle.container_model.specs.declared.record.Link.{Link}
 use Rattle.container_steps.proofs.SteadyRecords.{empty_steady}
 use Rattle.world_model.specs.declared.event.Event.{Event}
-use Rattle.world_model.specs.World.{World, empty_world, happened, IsImage, Run}
+use Rattle.world_model.specs.World.{World, empty_world, happened, IsImage, Run, Choice}
 use Rattle.world_model.specs.Safe.{Safe, acts_of, links_of}
 use Rattle.wire_msgs.specs.declared.operation.Operation.{Operation}
 use Rattle.wire_msgs.specs.declared.operation.Operation.TheVariants.{SaveCompleted}
@@ -100,11 +100,11 @@ empty_agrees numbers stock = record {
 pub empty_held : (numbers : ℕ) (stock : List Kind) → Holds (empty_world numbers stock)
 empty_held numbers stock = record { agrees = empty_agrees numbers stock; files = empty_files numbers stock; numbers = empty_numbers numbers stock; taken_held = λ t h. absurd h }
 
-held_happened : (w : World) (bytes : List ℕ) (e : Event) (v : World) → Holds w → IsImage w bytes e → happened w bytes e ≡ Ok v → Holds v
-held_happened w bytes e v h im ok =
-    let agrees = agrees_happened w bytes e v h.files h.agrees ok in
-    let files = files_happened w bytes e v h.agrees.steady h.files im ok in
-    record { agrees = agrees; files = files; numbers = numbers_happened w bytes e v h.agrees h.files h.numbers agrees files ok; taken_held = granted_happened w bytes e v h.agrees h.taken_held ok }
+held_happened : (w : World) (choice : Choice) (e : Event) (v : World) → Holds w → IsImage w choice e → happened w choice e ≡ Ok v → Holds v
+held_happened w choice e v h im ok =
+    let agrees = agrees_happened w choice e v h.files h.agrees ok in
+    let files = files_happened w choice e v h.agrees.steady h.files im ok in
+    record { agrees = agrees; files = files; numbers = numbers_happened w choice e v h.agrees h.files h.numbers agrees files ok; taken_held = granted_happened w choice e v h.agrees h.taken_held ok }
 
 pub held_run : (w : World) (es : List Event) (after : World) → Holds w → Run w es after → Holds after
 held_run w [] after h r = subst Holds (sym r) h

@@ -38,7 +38,7 @@ use Rattle.world_model.specs.declared.life.Life.{Life}
 use Rattle.world_model.specs.declared.life.Life.TheVariants.{Running, Ended, Reaped}
 use Rattle.world_model.specs.declared.logs.Sent.{Sent}
 use Rattle.world_model.specs.declared.logs.Taken.{Taken}
-use Rattle.world_model.specs.World.{World, Instance, called, called_in, called_wanting, commanded, crash, crashed, deliver, delivered, done_imaged, done_in, done_taken, empty_world, ended, happened, is_of, joined, kept_commit, messages_of, reap, served, spoken, spoken_by, scribble, ask, started_by, stocked, taken_at, took, view_in, with_taken}
+use Rattle.world_model.specs.World.{World, Instance, called, called_in, called_wanting, commanded, crash, crashed, deliver, delivered, done_imaged, done_in, done_taken, empty_world, ended, happened, is_of, joined, kept_commit, messages_of, reap, served, spoken, spoken_by, scribble, ask, started_by, stocked, taken_at, took, view_in, with_taken, Choice}
 use Rattle.world_model.specs.Safe.{Among, IsWithin, WasSent, acts_of, links_of, messages}
 use Rattle.world_facts.specs.Words.{called as was_called, life_at, lives_of}
 use Rattle.world_facts.proofs.Lookups.{among_map, find_among}
@@ -255,14 +255,14 @@ module _ (limit : ℕ) (w : World) (h : AgreesIn w) (k : Numbers limit w) where
     done_follows None v at e = cc
     done_follows (Some frame) v at e = imaged_follows frame (image w.rec f) v at e
 
-  follows : (bytes : List ℕ) (e : Event) (v : World) → Files w → happened w bytes e ≡ Ok v → Follow limit v
-  follows bytes (event.Command c) v files e = subst (Follow limit) (ok_is _ v e) (commanded_follows c (on_command w.rec c) refl)
-  follows bytes (event.Deliver p) v files e = deliver_follows p (nth w.sent p) v refl e
-  follows bytes (event.Crash inc) v files e = crash_follows inc (nth w.instances inc) v refl e
-  follows bytes (event.Reap inc) v files e = reap_follows inc (nth w.instances inc) v refl e
-  follows bytes (event.Scribble inc act) v files e = scribble_follows inc act (nth w.instances inc) v refl e
-  follows bytes (event.Ask inc act) v files e = ask_follows inc act (nth w.instances inc) v refl e
-  follows bytes (event.Done f) v files e = done_follows files f bytes (nth w.rec.frames f) v refl e
+  follows : (choice : Choice) (e : Event) (v : World) → Files w → happened w choice e ≡ Ok v → Follow limit v
+  follows choice (event.Command c) v files e = subst (Follow limit) (ok_is _ v e) (commanded_follows c (on_command w.rec c) refl)
+  follows choice (event.Deliver p) v files e = deliver_follows p (nth w.sent p) v refl e
+  follows choice (event.Crash inc) v files e = crash_follows inc (nth w.instances inc) v refl e
+  follows choice (event.Reap inc) v files e = reap_follows inc (nth w.instances inc) v refl e
+  follows choice (event.Scribble inc act) v files e = scribble_follows inc act (nth w.instances inc) v refl e
+  follows choice (event.Ask inc act) v files e = ask_follows inc act (nth w.instances inc) v refl e
+  follows choice (event.Done f) v files e = done_follows files f choice.file (nth w.rec.frames f) v refl e
 
 -- ---- what is sent of pending calls
 module _ (limit : ℕ) (w : World) (h : AgreesIn w) (files : Files w) (numbers : IsNumbered limit w.rec) (m : Message) (p : IsPending (links_of w.rec.objects) m) (sent : WasSent w m) where
@@ -287,9 +287,9 @@ module _ (limit : ℕ) (w : World) (h : AgreesIn w) (files : Files w) (numbers :
   pending_within : IsWithin limit m
   pending_within = subst (IsWithin limit) (sym p.call) (call_within limit w.rec h.steady numbers p.object p.link p.operation held p.pending completed)
 
-pub numbers_happened : (w : World) (bytes : List ℕ) (e : Event) (v : World) → AgreesIn w → Files w → Numbers w.rec.numbers w → AgreesIn v → Files v → happened w bytes e ≡ Ok v → Numbers v.rec.numbers v
-numbers_happened w bytes e v h files k after after_files ok =
-    let n : Numbers w.rec.numbers v = follows w.rec.numbers w h k bytes e v files ok (λ m numbers p g. pending_within w.rec.numbers v after after_files numbers m p g) in
+pub numbers_happened : (w : World) (choice : Choice) (e : Event) (v : World) → AgreesIn w → Files w → Numbers w.rec.numbers w → AgreesIn v → Files v → happened w choice e ≡ Ok v → Numbers v.rec.numbers v
+numbers_happened w choice e v h files k after after_files ok =
+    let n : Numbers w.rec.numbers v = follows w.rec.numbers w h k choice e v files ok (λ m numbers p g. pending_within w.rec.numbers v after after_files numbers m p g) in
     subst (λ limit. Numbers limit v) (sym n.recorded.limit) n
 
 -- the world in which nothing has happened
