@@ -307,7 +307,7 @@ granted_logged : (w : World) (more : List Taken) (told : Result World Stop) (v :
 granted_logged w more (Err stop) v new grew h e = cc
 granted_logged w more (Ok u) v new grew h e = (let g = grew u refl in
     subst AreGranted (ok_is _ v e) (λ t a honest. (let still : IsHonest w.hostile t.inc = subst (λ hs. IsHonest hs t.inc) g.hostile honest in
-        granted_more w _ g.more t g.sent (elim (among_join w.taken more t a) [ inl old ↦ h t old still | inr now ↦ new t now still ]))))
+    granted_more w _ g.more t g.sent (elim (among_join w.taken more t a) [ inl old ↦ h t old still | inr now ↦ new t now still ]))))
 
 granted_deliver : (w : World) (p : ℕ) (sent : Option Sent) (v : World) → AgreesIn w → nth w.sent p ≡ sent → AreGranted w → deliver w p sent ≡ Ok v → AreGranted v
 granted_deliver w p None v k at h e = cc
