@@ -1,4 +1,5 @@
 pub mod Held
+pub mod Choices
 pub mod Alike
 pub mod Servers
 pub mod Lifts
