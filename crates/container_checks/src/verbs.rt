@@ -4,11 +4,12 @@ ghost use Rattle.std.specs.Prelude.{◌+◌, ◌≡◌, ◌≤◌, All, IfErr, I
 ghost use Rattle.container_checks.specs.Went.{verb_went};
 ghost use Rattle.container_model.specs.Record.{Record, Refuses};
 ghost use Rattle.container_model.specs.Room.{IfLinked};
-ghost use Rattle.container_model.specs.Verbs.{before_taking, holder_has_numbers, holder_of, steps_now, steps_of, takes, verb_in, verb_linked, wants_ui};
+ghost use Rattle.container_model.specs.Verbs.{before_taking, holder_has_numbers, holder_of, steps_now, steps_of, takes, verb_framed, verb_linked, wants_ui};
 ghost use Rattle.container_model.specs.declared.record.Frame.{Frame};
+ghost use Rattle.container_model.specs.declared.record.Object.{Object};
 ghost use Rattle.object_state.specs.Verbs.{verb_of};
 
-use crate::checks::{has_numbers, is_busy, is_doubtful, is_moving, is_saving, link_has_numbers};
+use crate::checks::{has_numbers, is_moving, link_has_numbers};
 use crate::lookups::place_object;
 use container_model::fault::ContainerFault;
 use container_model::record::{Frame, Object};
@@ -108,24 +109,14 @@ pub fn holder_has_numbers(numbers: u32, objects: &[Object], holder: Option<u32>)
     }
 }
 
-/// Whether an object may do a verb now.
+/// Whether a verb may be done while its frame's menus and border are as they are.
 ///
-/// Refused: `InDoubt`; `Busy` where its frame is saving, it has a pending call or waits for the frame, or the verb leads to
-/// menus and border while these pass from object to object.
-pub fn may_do(frame: &Frame, object: &Object, verb: Option<Verb>) -> Result<(), ContainerFault>
-    ensures may { OnOk result ((r : Record) → verb_in r object.now verb (Some frame.now) ≡ verb_linked r frame.now object.now verb object.now.link) }
-    ensures refused { IfErr result (λ e. (r : Record) → Refuses (verb_in r object.now verb (Some frame.now)) e) }
+/// Refused: `Busy` where it leads to menus and border while these pass from object to object.
+pub fn may_move(frame: &Frame, verb: Option<Verb>) -> Result<(), ContainerFault>
+    ensures may { OnOk result ((r : Record) (o : Object) → verb_framed r verb o frame.now ≡ verb_linked r frame.now o verb o.link) }
+    ensures refused { IfErr result (λ e. (r : Record) (o : Object) → Refuses (verb_framed r verb o frame.now) e) }
 {
-    if is_doubtful(frame.phase) {
-        return Err(ContainerFault::InDoubt);
-    }
     let state = frame.ui.state();
-    if is_saving(frame.phase) {
-        return Err(ContainerFault::Busy);
-    }
-    if is_busy(&state, object) {
-        return Err(ContainerFault::Busy);
-    }
     if wants_ui(verb) && is_moving(&state) {
         return Err(ContainerFault::Busy);
     }

@@ -1,7 +1,7 @@
 -- The record after a reply.
-use Rattle.std.proofs.Common.{◌≡◌, ℕ, Bool, true, false, List, [], ◌++◌, map, Some, None, Result, Ok, Err, refl, ap, sym, ◌∙◌}
+use Rattle.std.proofs.Common.{◌≡◌, ℕ, Bool, true, false, List, [], ◌++◌, map, Option, Some, None, Result, Ok, Err, refl, ap, sym, ◌∙◌}
 use Rattle.std.proofs.lemmas.List.{map-append}
-use Rattle.std.specs.Prelude.{IsOk}
+use Rattle.std.specs.Prelude.{IsOk, is_some}
 use Rattle.wire_msgs.specs.Found.{find, nth, put}
 use Rattle.wire_msgs.specs.declared.answer.Answer.{Answer}
 use Rattle.grant_core.specs.declared.grant_states.Claim.{Claim}
@@ -18,8 +18,8 @@ use Rattle.container_model.specs.Record.{Record, Refuses, Took, is_linked, quiet
 use Rattle.container_model.specs.Saves.{settle, settle_actions, settled_actions, settled_frames}
 use Rattle.container_grants.specs.Granted.{actions_of, claims_if, installed_each, ready, told_frames, told_space_in}
 use Rattle.container_objects.specs.Told.{ToldObject, told_of}
-use Rattle.container_core.proofs.GrantsEach.{Agrees, Differ, actions_are, granted_objects, granted_sent, installed_each_is}
-use Rattle.container_core.proofs.GrantsTold.{claims_are, regranted_is}
+use Rattle.container_grants.proofs.GrantsEach.{Agrees, Differ, actions_are, granted_objects, granted_sent, installed_each_is}
+use Rattle.container_grants.proofs.GrantsTold.{claims_are, regranted_is}
 
 -- what a reply gives of which this is told
 abbrev told_grants : Record → ℕ → ToldObject → List Object → List Claim → Record
@@ -52,7 +52,7 @@ taken_found r inc act o (Ok x) t e =
     ap {A = Took} Ok (made_is r inc act o x)
     ∙ ap (λ (u : ToldObject). Ok (made r o.frame (put (is_linked inc act) u.object r.objects) (claims_if (gives_up (Ok x)) (nth r.frames o.frame)) u)) (ap (told_in t) e)
 
-taken_fine : (r : Record) (inc act : ℕ) (o : Object) (R : Result Replied ContainerFault) → gives_up R ≡ true → IsOk (reply_taken r inc act o R)
+taken_fine : (r : Record) (inc act : ℕ) (o : Object) (R : Result Replied ContainerFault) → is_some (gives_up R) ≡ true → IsOk (reply_taken r inc act o R)
 taken_fine r inc act o (Err fault) h = absurd (cc)
 taken_fine r inc act o (Ok x) h = refl
 
@@ -80,7 +80,7 @@ pub reply_refused : (r : Record) (inc act n : ℕ) (answer : Answer) (o : Object
 reply_refused r inc act n answer o fault found h = rw found (taken_refused r inc act o (reply_link n answer o.link) fault h)
 
 -- what a reply makes of the record
-module _ (r : Record) (inc act n : ℕ) (answer : Answer) (o : Object) (t : ToldObject) (os : List Object) (gives : Bool)
+module _ (r : Record) (inc act n : ℕ) (answer : Answer) (o : Object) (t : ToldObject) (os : List Object) (gives : Option ℕ)
     (found : find (is_linked inc act) r.objects ≡ Some o)
     (given : gives ≡ gives_up (reply_link n answer o.link)) where
   abbrev claims : List Claim
@@ -107,5 +107,5 @@ module _ (r : Record) (inc act n : ℕ) (answer : Answer) (o : Object) (t : Told
       ∙ ap (λ b. Ok (made r o.frame os (claims_if b (nth r.frames o.frame)) t)) (sym given)) in
       rw (found, whole, answered, asked, settled, sent, sends_is, spaced, moved, granted) refl
 
-  pub reply_fine : gives ≡ true → IsOk (reply_found r inc act n answer (find (is_linked inc act) r.objects))
-  reply_fine e = rw found (taken_fine r inc act o (reply_link n answer o.link) (sym given ∙ e))
+  pub reply_fine : is_some gives ≡ true → IsOk (reply_found r inc act n answer (find (is_linked inc act) r.objects))
+  reply_fine e = rw found (taken_fine r inc act o (reply_link n answer o.link) (sym (ap is_some given) ∙ e))

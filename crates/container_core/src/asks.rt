@@ -7,20 +7,14 @@ ghost use Rattle.container_model.specs.Room.{IsSound};
 ghost use Rattle.wire_msgs.specs.Found.{find, IsPlace};
 
 use crate::state::State;
+use container_checks::lookups::{place, place_linked};
 use container_grants::grants::{ask_number, is_held_by};
 use container_model::answer::Answer;
 use container_model::fault::ContainerFault;
-use container_objects::lookups::{place, place_linked};
 use std::alloc::Global;
 use wire_msgs::operation::Operation;
 
 impl State {
-    ghost use Rattle.std.specs.Prelude.{◌≡◌, ◌≤◌, IfErr, IfOk, Ok, OnErr, length};
-    ghost use Rattle.container_model.specs.Messages.{ask_found, on_ask};
-    ghost use Rattle.container_model.specs.Record.{Refuses, counts_none, is_linked};
-    ghost use Rattle.container_model.specs.Room.{IsSound};
-    ghost use Rattle.wire_msgs.specs.Found.{find, IsPlace};
-
     // An object asks, by its activation and its grant, to be relieved of its frame.
     pub(crate) fn on_ask(
         &mut self,

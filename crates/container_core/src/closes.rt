@@ -14,12 +14,6 @@ use object_state::CloseOption;
 use std::alloc::Global;
 
 impl State {
-    ghost use Rattle.std.specs.Prelude.{◌≡◌, ◌≤◌, IfErr, IfOk, IfSome, Ok, OnErr, length, slice_get};
-    ghost use Rattle.container_model.specs.Numbered.{IsNth, IsObjectAt};
-    ghost use Rattle.container_model.specs.Record.{Refuses, counts_none};
-    ghost use Rattle.container_model.specs.Room.{IsSound};
-    ghost use Rattle.container_model.specs.Verbs.{close, close_linked};
-
     // An object that isn't passive is asked to close.
     pub(crate) fn close(
         &mut self,

@@ -1,7 +1,7 @@
 //! What a container does with a command of a user.
 
 ghost use Rattle.std.specs.Prelude.{◌+◌, ◌≡◌, ◌≤◌, IfErr, IfOk, Ok, OnErr, length};
-ghost use Rattle.container_steps.specs.Steady.{Steady};
+ghost use Rattle.container_steady.specs.Steady.{Steady};
 ghost use Rattle.container_model.specs.Commands.{on_command};
 ghost use Rattle.container_model.specs.Record.{Refuses, counts_none};
 ghost use Rattle.container_model.specs.Room.{IsSound};
@@ -13,12 +13,6 @@ use container_model::fault::ContainerFault;
 use std::alloc::Global;
 
 impl State {
-    ghost use Rattle.std.specs.Prelude.{◌+◌, ◌≡◌, ◌≤◌, IfErr, IfOk, Ok, OnErr, length};
-    ghost use Rattle.container_steps.specs.Steady.{Steady};
-    ghost use Rattle.container_model.specs.Commands.{on_command};
-    ghost use Rattle.container_model.specs.Record.{Refuses, counts_none};
-    ghost use Rattle.container_model.specs.Room.{IsSound};
-
     /// A command of a user.
     pub(crate) fn command(
         &mut self,

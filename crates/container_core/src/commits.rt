@@ -5,28 +5,20 @@ ghost use Rattle.container_model.specs.Record.{Refuses};
 ghost use Rattle.wire_msgs.specs.Found.{nth};
 ghost use Rattle.container_model.specs.Numbered.{IsNth};
 ghost use Rattle.container_model.specs.Room.{IsSound};
-ghost use Rattle.container_model.specs.Saves.{commit_done, commit_made, is_committing};
+ghost use Rattle.container_model.specs.Saves.{commit_done, commit_made, counted_of, is_committing};
 ghost use Rattle.container_model.specs.declared.record.Frame as declared;
 
 use crate::state::State;
+use container_checks::checks::is_committing;
+use container_checks::lookups::place;
 use container_links::asking::prepare;
-use container_model::answer::{Answer, Committed};
+use container_model::answer::Answer;
 use container_model::fault::ContainerFault;
-use container_objects::checks::is_committing;
-use container_objects::commits::{commit_frame, complete_objects, completion, entries};
-use container_objects::lookups::place;
+use container_objects::commits::{commit_frame, complete_objects, completion};
 use std::alloc::Global;
 use wire_msgs::items::Items;
 
 impl State {
-    ghost use Rattle.std.specs.Prelude.{◌≡◌, ◌≤◌, ◌+◌, IfErr, IfOk, OnErr, OnOk, Ok, Some, length, true};
-    ghost use Rattle.container_model.specs.Record.{Refuses};
-    ghost use Rattle.wire_msgs.specs.Found.{nth};
-    ghost use Rattle.container_model.specs.Numbered.{IsNth};
-    ghost use Rattle.container_model.specs.Room.{IsSound};
-    ghost use Rattle.container_model.specs.Saves.{commit_done, commit_made, is_committing};
-    ghost use Rattle.container_model.specs.declared.record.Frame as declared;
-
     /// Where the frame stands whose commit may be done.
     ///
     /// Refused: as `commit_done`, but for `NoMemory`.
@@ -46,11 +38,10 @@ impl State {
     }
 
     /// The file of a frame was committed.
-    pub(crate) fn commit_done(&mut self, alloc: Global, f: u32) -> Result<Committed, ContainerFault>
+    pub(crate) fn commit_done(&mut self, alloc: Global, f: u32) -> Result<Answer, ContainerFault>
         requires { IsSound self.old }
-        ensures taken { IfOk result (λ a. commit_done self.old f ≡ Ok (record { rec = self.new; answer = a.answer; counted = a.counted })) }
-        ensures few { IfOk result (λ a. length a.answer.actions ≤ length self.old.objects + length self.old.frames + 1) }
-        ensures counted_few { IfOk result (λ a. length a.counted ≤ length self.old.objects) }
+        ensures taken { IfOk result (λ a. commit_done self.old f ≡ Ok (record { rec = self.new; answer = a; counted = counted_of self.old f })) }
+        ensures few { IfOk result (λ a. length a.actions ≤ length self.old.objects + length self.old.frames + 1) }
         ensures refused { IfErr result (Refuses (commit_done self.old f)) }
         ensures kept { OnErr result (self.new ≡ self.old) }
     {
@@ -59,17 +50,8 @@ impl State {
         let Ok(asking) = prepare(alloc, f, &operation, self.objects.as_slice()) else {
             return Err(ContainerFault::NoMemory);
         };
-        let k = self.frames[place].k;
-        let Ok(counted) = entries(alloc, f, k, self.objects.as_slice()) else {
-            return Err(ContainerFault::NoMemory);
-        };
         commit_frame(&mut self.frames[place]);
         complete_objects(f, &mut self.objects, asking.takes);
-        let mut answer = Answer::quiet(alloc);
-        answer.actions = Items::from_vec(asking.actions);
-        Ok(Committed {
-            answer,
-            counted: Items::from_vec(counted),
-        })
+        Ok(Answer::acts(alloc, Items::from_vec(asking.actions)))
     }
 }

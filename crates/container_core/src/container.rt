@@ -1,32 +1,15 @@
 //! The container.
 
-ghost use Rattle.std.specs.Prelude.{◌≡◌, ◌≤◌, ◌+◌, IfErr, IfOk, List, Ok, OnErr, length, map, option_copied};
-ghost use Rattle.std.specs.List.{range_with_len};
-ghost use Rattle.container_steps.specs.Steady.{Steady};
-ghost use Rattle.container_model.specs.Commands.{on_command};
-ghost use Rattle.container_model.specs.Messages.{on_message, on_reap};
-ghost use Rattle.container_model.specs.Record.{Record, Refuses, counts_none, empty, is_object};
-ghost use Rattle.container_model.specs.Replies.{pending_calls};
-ghost use Rattle.container_model.specs.Room.{IsSound};
-ghost use Rattle.container_model.specs.Saves.{commit_done, document_tree, image};
-ghost use Rattle.container_model.specs.declared.answer.Part.{Part};
-ghost use Rattle.container_screen.specs.Screen.{shown};
-ghost use Rattle.file_model.specs.Denotes.{Denotes};
-ghost use Rattle.wire_msgs.specs.Found.{find, nth};
-
 use crate::state::State;
-use container_model::answer::{Answer, Committed, Part};
+use container_checks::lookups::{frame_numbers, object_numbers};
+use container_links::resending::pending_calls;
+use container_model::answer::{Answer, Part};
 use container_model::command::Command;
 use container_model::fault::ContainerFault;
 use container_model::record::{Frame, Object};
-use container_numbers::sound_laws::{
-    sound_after_commands, sound_after_commits, sound_after_messages, sound_after_reaps,
-};
-use container_objects::lookups::{frame_numbers, object_numbers};
+use container_numbers::sound_laws::sound_after;
 use container_screen::screen::screen;
-use container_steps::steady_laws::{
-    steady_after_commands, steady_after_commits, steady_after_messages, steady_after_reaps,
-};
+use container_steps::steady_laws::steady_after;
 use std::alloc::{AllocError, Global};
 use std::marker::Model;
 use wire_msgs::items::Items;
@@ -47,7 +30,7 @@ pub struct ContainerCore {
 }
 
 impl Model for ContainerCore {
-    ghost use Rattle.container_steps.specs.Steady.{Steady};
+    ghost use Rattle.container_steady.specs.Steady.{Steady};
     ghost use Rattle.container_model.specs.Record.{Record};
     ghost use Rattle.container_model.specs.Room.{IsSound};
 
@@ -61,13 +44,13 @@ impl Model for ContainerCore {
 impl ContainerCore {
     ghost use Rattle.std.specs.Prelude.{◌≡◌, ◌≤◌, ◌+◌, IfErr, IfOk, List, Ok, OnErr, length, map, option_copied};
     ghost use Rattle.std.specs.List.{range_with_len};
-    ghost use Rattle.container_steps.specs.Steady.{Steady};
+    ghost use Rattle.container_steady.specs.Steady.{Steady};
     ghost use Rattle.container_model.specs.Commands.{on_command};
     ghost use Rattle.container_model.specs.Messages.{on_message, on_reap};
     ghost use Rattle.container_model.specs.Record.{Refuses, counts_none, empty, is_object};
     ghost use Rattle.container_model.specs.Replies.{pending_calls};
     ghost use Rattle.container_model.specs.Room.{IsSound};
-    ghost use Rattle.container_model.specs.Saves.{commit_done, document_tree, image};
+    ghost use Rattle.container_model.specs.Saves.{commit_done, counted_of, document_tree, image};
     ghost use Rattle.container_model.specs.declared.answer.Part.{Part};
     ghost use Rattle.container_screen.specs.Screen.{shown};
     ghost use Rattle.file_model.specs.Denotes.{Denotes};
@@ -177,8 +160,8 @@ impl ContainerCore {
         ensures steady { Steady self.new }
         ensures sound { IsSound self.new }
     {
-        steady_after_commands();
-        sound_after_commands();
+        steady_after();
+        sound_after();
         self.state.command(alloc, command)
     }
 
@@ -206,8 +189,8 @@ impl ContainerCore {
         ensures steady { Steady self.new }
         ensures sound { IsSound self.new }
     {
-        steady_after_messages();
-        sound_after_messages();
+        steady_after();
+        sound_after();
         self.state.on_message(alloc, link, message)
     }
 
@@ -224,27 +207,26 @@ impl ContainerCore {
         ensures steady { Steady self.new }
         ensures sound { IsSound self.new }
     {
-        steady_after_reaps();
-        sound_after_reaps();
+        steady_after();
+        sound_after();
         self.state.on_reap(alloc, inc)
     }
 
-    /// The file of a frame was committed. The contents that it holds are counted, each once, and are the objects' work
+    /// The file of a frame was committed. The contents of its document are counted, each once, and are the objects' work
     /// contents; the asked name is the frame's, and each object that isn't passive is told that the save is counted.
     ///
     /// Refused: `NoSuch` where there is no such frame; `WrongState` where its commit isn't asked for; `Full` where no
     /// file holds its document; then `NoMemory`. A refusal changes nothing.
-    pub fn commit_done(&mut self, alloc: Global, f: u32) -> Result<Committed, ContainerFault>
-        ensures taken { IfOk result (λ a. commit_done self.old f ≡ Ok (record { rec = self.new; answer = a.answer; counted = a.counted })) }
-        ensures few { IfOk result (λ a. length a.answer.actions ≤ length self.old.objects + length self.old.frames + 1) }
-        ensures counted_few { IfOk result (λ a. length a.counted ≤ length self.old.objects) }
+    pub fn commit_done(&mut self, alloc: Global, f: u32) -> Result<Answer, ContainerFault>
+        ensures taken { IfOk result (λ a. commit_done self.old f ≡ Ok (record { rec = self.new; answer = a; counted = counted_of self.old f })) }
+        ensures few { IfOk result (λ a. length a.actions ≤ length self.old.objects + length self.old.frames + 1) }
         ensures refused { IfErr result (Refuses (commit_done self.old f)) }
         ensures kept { OnErr result (self.new ≡ self.old) }
         ensures steady { Steady self.new }
         ensures sound { IsSound self.new }
     {
-        steady_after_commits();
-        sound_after_commits();
+        steady_after();
+        sound_after();
         self.state.commit_done(alloc, f)
     }
 
@@ -254,7 +236,7 @@ impl ContainerCore {
     pub fn resend(&self, alloc: Global) -> Result<Vec<Message>, AllocError>
         ensures { IfOk result (λ v. v.items ≡ pending_calls self.now.objects) }
     {
-        self.state.resend(alloc)
+        pending_calls(alloc, self.state.objects())
     }
 
     /// The document of a frame whose commit is asked for or in doubt: its objects in order, each with the content that

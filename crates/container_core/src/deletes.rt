@@ -12,12 +12,6 @@ use container_model::fault::ContainerFault;
 use std::alloc::Global;
 
 impl State {
-    ghost use Rattle.std.specs.Prelude.{◌≡◌, ◌≤◌, IfErr, IfOk, IfSome, Ok, OnErr, is_some, length, slice_get};
-    ghost use Rattle.container_model.specs.Commands.{delete, delete_made};
-    ghost use Rattle.container_model.specs.Record.{Refuses, counts_none, unless};
-    ghost use Rattle.container_model.specs.Numbered.{IsObjectAt};
-    ghost use Rattle.container_model.specs.declared.fault.ContainerFault.TheVariants.{WrongState};
-
     // A passive object goes.
     pub(crate) fn delete(&mut self, alloc: Global, object: u32) -> Result<Answer, ContainerFault>
         ensures taken { IfOk result (λ a. delete self.old object ≡ Ok (counts_none self.new a)) }

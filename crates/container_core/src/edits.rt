@@ -14,12 +14,6 @@ use std::alloc::Global;
 use storage_tree::bytes::Bytes;
 
 impl State {
-    ghost use Rattle.std.specs.Prelude.{◌≡◌, ◌≤◌, IfErr, IfOk, IfSome, Ok, OnErr, length, slice_get};
-    ghost use Rattle.container_model.specs.Commands.{edit, edit_linked};
-    ghost use Rattle.container_model.specs.Record.{Refuses, counts_none};
-    ghost use Rattle.container_model.specs.Numbered.{IsObjectAt};
-    ghost use Rattle.container_model.specs.Room.{IsSound};
-
     // A running object is asked for an edit.
     pub(crate) fn edit(
         &mut self,

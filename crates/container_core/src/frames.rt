@@ -5,10 +5,10 @@ ghost use Rattle.container_model.specs.Commands.{new};
 ghost use Rattle.container_model.specs.Record.{Refuses, counts_none};
 
 use crate::state::State;
+use container_checks::checks;
 use container_model::answer::Answer;
 use container_model::fault::ContainerFault;
 use container_model::record::{Frame, Phase};
-use container_objects::checks;
 use grant_core::FrameUi;
 use std::alloc::Global;
 use storage_tree::bytes::Bytes;
@@ -17,10 +17,6 @@ use storage_tree::bytes::Bytes;
 const MOST_FRAMES: usize = 8;
 
 impl State {
-    ghost use Rattle.std.specs.Prelude.{◌≡◌, ◌≤◌, IfErr, IfOk, Ok, OnErr, length};
-    ghost use Rattle.container_model.specs.Commands.{new};
-    ghost use Rattle.container_model.specs.Record.{Refuses, counts_none};
-
     // A new frame.
     pub(crate) fn new_frame(
         &mut self,

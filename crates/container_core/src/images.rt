@@ -7,21 +7,15 @@ ghost use Rattle.container_model.specs.declared.answer.Part.{Part};
 ghost use Rattle.file_model.specs.Denotes.{Denotes};
 
 use crate::state::State;
+use container_checks::checks::has_image;
+use container_checks::lookups::place;
 use container_documents::documents::{file_of, fits, parts_in};
 use container_model::answer::Part;
 use container_model::fault::ContainerFault;
-use container_objects::checks::has_image;
-use container_objects::lookups::place;
 use std::alloc::Global;
 use wire_msgs::items::Items;
 
 impl State {
-    ghost use Rattle.std.specs.Prelude.{◌≡◌, IfErr, IfOk, List, Ok, OnOk};
-    ghost use Rattle.container_model.specs.Record.{Refuses};
-    ghost use Rattle.container_model.specs.Saves.{document_tree, image, parts_in};
-    ghost use Rattle.container_model.specs.declared.answer.Part.{Part};
-    ghost use Rattle.file_model.specs.Denotes.{Denotes};
-
     /// Whether a frame has a document whose file is to be committed. It takes no memory.
     ///
     /// Refused: as `document`, but for `NoMemory`.

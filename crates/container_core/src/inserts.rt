@@ -6,13 +6,13 @@ ghost use Rattle.container_model.specs.Record.{Record, Refuses, counts_none, qui
 ghost use Rattle.container_model.specs.declared.command.ObjectKind.{ObjectKind};
 
 use crate::state::State;
+use container_checks::checks;
+use container_checks::lookups::place;
 use container_model::answer::Answer;
 use container_model::command::ObjectKind;
 use container_model::fault::ContainerFault;
 use container_model::record::Frame;
 use container_objects::activations::new_object;
-use container_objects::checks;
-use container_objects::lookups::place;
 use object_parts::area::Area;
 use std::alloc::{AllocError, Global};
 
@@ -48,10 +48,6 @@ fn made(alloc: Global, number: u32) -> Result<Answer, AllocError>
 }
 
 impl State {
-    ghost use Rattle.std.specs.Prelude.{◌≡◌, ◌+◌, ◌≤◌, IfErr, IfOk, Ok, OnErr, length};
-    ghost use Rattle.container_model.specs.Commands.{insert, insert_into, insert_made, kind_of};
-    ghost use Rattle.container_model.specs.Record.{Refuses, counts_none};
-
     // A new passive object without content.
     pub(crate) fn insert(
         &mut self,

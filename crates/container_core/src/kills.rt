@@ -10,10 +10,6 @@ use container_model::fault::ContainerFault;
 use std::alloc::Global;
 
 impl State {
-    ghost use Rattle.std.specs.Prelude.{◌≡◌, ◌≤◌, IfErr, IfOk, Ok, OnErr, length};
-    ghost use Rattle.container_model.specs.Commands.{kill};
-    ghost use Rattle.container_model.specs.Record.{Refuses, counts_none};
-
     // A server is to be ended.
     pub(crate) fn kill(&mut self, alloc: Global, inc: u32) -> Result<Answer, ContainerFault>
         ensures taken { IfOk result (λ a. kill self.old inc ≡ Ok (counts_none self.new a)) }

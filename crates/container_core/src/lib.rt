@@ -21,5 +21,5 @@ mod starts;
 mod state;
 mod verbs;
 
+pub use container_checks::lookups;
 pub use container_links::writes;
-pub use container_objects::lookups;

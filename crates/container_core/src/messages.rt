@@ -1,24 +1,22 @@
 //! What a container does with a message.
 
 ghost use Rattle.std.specs.Prelude.{◌+◌, ◌≡◌, ◌≤◌, IfErr, IfOk, Ok, OnErr, length, true};
-ghost use Rattle.container_steps.specs.Steady.{Steady};
+ghost use Rattle.container_steady.specs.Steady.{Steady};
 ghost use Rattle.container_model.specs.Record.{Refuses, counts_none, is_linked, quiet_answer};
 ghost use Rattle.container_model.specs.Messages.{on_message, on_reply, on_write, reply_found, write_found};
-ghost use Rattle.container_model.specs.Replies.{pending_calls};
 ghost use Rattle.container_model.specs.Room.{IsSound};
 ghost use Rattle.wire_msgs.specs.Found.{find, IsPlace};
 
 use crate::state::State;
+use container_checks::lookups::place_linked;
 use container_grants::grants::{prepare_waiting, take_grants, tell_frame};
 use container_links::replies::gives_up;
-use container_links::resending::pending_calls;
 use container_links::settling::settle_into;
 use container_model::answer::Answer;
 use container_model::fault::ContainerFault;
-use container_objects::lookups::place_linked;
 use container_objects::replies::{Told, answered, told_object};
 use container_objects::writes::write_one;
-use std::alloc::{AllocError, Global};
+use std::alloc::Global;
 use storage_tree::stored::Stored;
 use wire_msgs::answer as reply;
 use wire_msgs::message::Message;
@@ -33,14 +31,6 @@ fn content_taken(alloc: Global) -> Answer
 }
 
 impl State {
-    ghost use Rattle.std.specs.Prelude.{◌+◌, ◌≡◌, ◌≤◌, IfErr, IfOk, Ok, OnErr, length};
-    ghost use Rattle.container_steps.specs.Steady.{Steady};
-    ghost use Rattle.container_model.specs.Record.{Refuses, counts_none, is_linked};
-    ghost use Rattle.container_model.specs.Messages.{on_message, on_reply, on_write, reply_found, write_found};
-    ghost use Rattle.container_model.specs.Replies.{pending_calls};
-    ghost use Rattle.container_model.specs.Room.{IsSound};
-    ghost use Rattle.wire_msgs.specs.Found.{find, IsPlace};
-
     /// A message on the link of a server.
     pub(crate) fn on_message(
         &mut self,
@@ -155,13 +145,6 @@ impl State {
         take_grants(&mut self.objects, &mut actions, grants);
         settle_into(&mut actions, &mut self.frames, &self.objects);
         Ok(answered(alloc, taken, refused, no_tools, actions))
-    }
-
-    /// The pending calls, by their objects.
-    pub(crate) fn resend(&self, alloc: Global) -> Result<Vec<Message>, AllocError>
-        ensures { IfOk result (λ v. v.items ≡ pending_calls self.now.objects) }
-    {
-        pending_calls(alloc, self.objects.as_slice())
     }
 
     // A write of a server.

@@ -1,7 +1,7 @@
 //! Where an object and its frame stand, for the steps that are asked of them.
 
 ghost use Rattle.std.specs.Prelude.{◌≡◌, IfErr, IfOk, IfSome, IsSomeAnd, OnOk, Result, slice_get};
-ghost use Rattle.container_steps.specs.Located.{located, ready};
+ghost use Rattle.container_model.specs.Located.{located, ready};
 ghost use Rattle.container_model.specs.Numbered.{IsNth, IsObjectAt};
 ghost use Rattle.container_model.specs.Record.{Refuses, Took};
 ghost use Rattle.container_model.specs.declared.fault.ContainerFault.{ContainerFault};
@@ -9,10 +9,10 @@ ghost use Rattle.container_model.specs.declared.record.Frame.{Frame};
 ghost use Rattle.container_model.specs.declared.record.Object.{Object};
 
 use crate::state::State;
+use container_checks::checks;
+use container_checks::lookups::{place, place_object};
 use container_model::fault::ContainerFault;
 use container_model::record::{Frame, Object};
-use container_objects::checks;
-use container_objects::lookups::{place, place_object};
 
 // Whether an object may be asked for something, in its frame.
 //
@@ -35,14 +35,6 @@ fn may_ask(frame: &Frame, object: &Object) -> Result<(), ContainerFault>
 }
 
 impl State {
-    ghost use Rattle.std.specs.Prelude.{◌≡◌, IfErr, IfOk, IfSome, IsSomeAnd, Result, slice_get};
-    ghost use Rattle.container_steps.specs.Located.{located, ready};
-    ghost use Rattle.container_model.specs.Numbered.{IsNth, IsObjectAt};
-    ghost use Rattle.container_model.specs.Record.{Refuses, Took};
-    ghost use Rattle.container_model.specs.declared.fault.ContainerFault.{ContainerFault};
-    ghost use Rattle.container_model.specs.declared.record.Frame.{Frame};
-    ghost use Rattle.container_model.specs.declared.record.Object.{Object};
-
     /// Where the object of this number stands, and its frame.
     ///
     /// Refused: `NoSuch`.

@@ -1,7 +1,7 @@
 //! What a container does at the end of a server.
 
 ghost use Rattle.std.specs.Prelude.{◌+◌, ◌≡◌, ◌≤◌, IfErr, IfOk, Ok, OnErr, length};
-ghost use Rattle.container_steps.specs.Steady.{Steady};
+ghost use Rattle.container_steady.specs.Steady.{Steady};
 ghost use Rattle.container_model.specs.Record.{Refuses, counts_none};
 ghost use Rattle.container_model.specs.Messages.{on_reap};
 ghost use Rattle.container_model.specs.Room.{IsSound};
@@ -16,12 +16,6 @@ use std::alloc::Global;
 use wire_msgs::items::Items;
 
 impl State {
-    ghost use Rattle.std.specs.Prelude.{◌+◌, ◌≡◌, ◌≤◌, IfErr, IfOk, Ok, OnErr, length};
-    ghost use Rattle.container_steps.specs.Steady.{Steady};
-    ghost use Rattle.container_model.specs.Record.{Refuses, counts_none};
-    ghost use Rattle.container_model.specs.Messages.{on_reap};
-    ghost use Rattle.container_model.specs.Room.{IsSound};
-
     /// The end of a server.
     pub(crate) fn on_reap(&mut self, alloc: Global, inc: u32) -> Result<Answer, ContainerFault>
         requires steady { Steady self.old }

@@ -6,18 +6,13 @@ ghost use Rattle.container_model.specs.Record.{Refuses, counts_none};
 ghost use Rattle.container_model.specs.Numbered.{IsObjectAt};
 
 use crate::state::State;
+use container_checks::checks;
 use container_model::answer::Answer;
 use container_model::fault::ContainerFault;
 use container_objects::activations::{begin, begun};
-use container_objects::checks;
 use std::alloc::Global;
 
 impl State {
-    ghost use Rattle.std.specs.Prelude.{◌≡◌, ◌≤◌, IfErr, IfOk, IfSome, Ok, OnErr, length, slice_get};
-    ghost use Rattle.container_model.specs.Commands.{run, run_object};
-    ghost use Rattle.container_model.specs.Record.{Refuses, counts_none};
-    ghost use Rattle.container_model.specs.Numbered.{IsObjectAt};
-
     // A new activation of a passive object.
     pub(crate) fn run(
         &mut self,

@@ -7,13 +7,13 @@ ghost use Rattle.container_model.specs.Numbered.{IsNth};
 ghost use Rattle.container_model.specs.Room.{IsSound};
 
 use crate::state::State;
+use container_checks::checks;
+use container_checks::lookups::place;
 use container_links::asking::take_up;
 use container_links::settling::settle_into;
 use container_model::answer::Answer;
 use container_model::fault::ContainerFault;
 use container_model::record::{Frame, Object};
-use container_objects::checks;
-use container_objects::lookups::place;
 use container_objects::saves::{begin_save, prepare_save};
 use std::alloc::Global;
 use wire_msgs::items::Items;
@@ -42,12 +42,6 @@ fn may_save(number: u32, frame: &Frame, objects: &[Object]) -> Result<(), Contai
 }
 
 impl State {
-    ghost use Rattle.std.specs.Prelude.{◌+◌, ◌≡◌, ◌≤◌, IfErr, IfOk, IfSome, Ok, OnErr, length, slice_get};
-    ghost use Rattle.container_model.specs.Commands.{save, save_numbered};
-    ghost use Rattle.container_model.specs.Record.{Refuses, counts_none};
-    ghost use Rattle.container_model.specs.Numbered.{IsNth};
-    ghost use Rattle.container_model.specs.Room.{IsSound};
-
     // The objects of a frame are asked for their contents.
     pub(crate) fn save(&mut self, alloc: Global, frame: u32) -> Result<Answer, ContainerFault>
         requires { IsSound self.old }

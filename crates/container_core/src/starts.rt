@@ -24,10 +24,6 @@ fn started(alloc: Global, inc: u32) -> Result<Answer, AllocError>
 }
 
 impl State {
-    ghost use Rattle.std.specs.Prelude.{◌≡◌, ◌≤◌, IfErr, IfOk, Ok, OnErr, length};
-    ghost use Rattle.container_model.specs.Commands.{start};
-    ghost use Rattle.container_model.specs.Record.{Refuses, counts_none};
-
     // A new server.
     pub(crate) fn start(&mut self, alloc: Global) -> Result<Answer, ContainerFault>
         ensures taken { IfOk result (λ a. start self.old ≡ Ok (counts_none self.new a)) }

@@ -4,9 +4,9 @@ ghost use Rattle.std.specs.Prelude.{◌≡◌, ◌≤◌, Some, None, option_cop
 ghost use Rattle.container_model.specs.Record.{Record, empty, is_object};
 ghost use Rattle.wire_msgs.specs.Found.{find, nth};
 
+use container_checks::lookups::{place, place_object};
+use container_checks::servers::Servers;
 use container_model::record::{Frame, Object};
-use container_objects::lookups::{place, place_object};
-use container_objects::servers::Servers;
 use std::alloc::Global;
 use std::marker::Model;
 

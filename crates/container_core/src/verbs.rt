@@ -1,38 +1,27 @@
 //! Objects that do a verb.
 
 ghost use Rattle.std.specs.Prelude.{◌≡◌, ◌≢◌, ◌≤◌, ◌<◌, IfErr, IfOk, IfSome, Ok, OnErr, Some, is_some, length, slice_get, true};
-ghost use Rattle.container_steps.specs.Steady.{Steady};
+ghost use Rattle.container_steady.specs.Steady.{Steady};
 ghost use Rattle.container_model.specs.Numbered.{IsNth, IsObjectAt};
 ghost use Rattle.container_model.specs.Record.{Refuses, counts_none};
 ghost use Rattle.container_model.specs.Room.{IsSound};
-ghost use Rattle.container_model.specs.Verbs.{holder_of, leaving_made, taking, taking_made, verb, verb_linked};
+ghost use Rattle.container_model.specs.Verbs.{holder_of, leaving_made, taking, taking_made, verb, verb_framed, verb_linked};
 ghost use Rattle.container_model.specs.declared.record.Frame.{Frame};
 ghost use Rattle.container_model.specs.declared.record.Link.{Link};
 ghost use Rattle.container_model.specs.declared.record.Object.{Object};
 
 use crate::state::State;
+use container_checks::verbs::{
+    holder_has_numbers, holder_of, may_move, steps_now, takes, verb_of, verb_steps,
+};
 use container_model::answer::Answer;
 use container_model::fault::ContainerFault;
 use container_objects::leaving::leave_object;
-use container_objects::lookups::{place, place_object};
 use container_objects::takings::{ask_taking, claim_frame, claim_of};
-use container_objects::verbs::{
-    holder_has_numbers, holder_of, may_do, steps_now, takes, verb_of, verb_steps,
-};
 use object_state::{Step, Verb};
 use std::alloc::Global;
 
 impl State {
-    ghost use Rattle.std.specs.Prelude.{◌≡◌, ◌≢◌, ◌≤◌, ◌<◌, IfErr, IfOk, IfSome, Ok, OnErr, Some, is_some, length, slice_get, true};
-    ghost use Rattle.container_steps.specs.Steady.{Steady};
-    ghost use Rattle.container_model.specs.Numbered.{IsNth, IsObjectAt};
-    ghost use Rattle.container_model.specs.Record.{Refuses, counts_none};
-    ghost use Rattle.container_model.specs.Room.{IsSound};
-    ghost use Rattle.container_model.specs.Verbs.{holder_of, leaving_made, taking, taking_made, verb, verb_linked};
-    ghost use Rattle.container_model.specs.declared.record.Frame.{Frame};
-    ghost use Rattle.container_model.specs.declared.record.Link.{Link};
-    ghost use Rattle.container_model.specs.declared.record.Object.{Object};
-
     // An object does the verb of this number.
     pub(crate) fn verb(
         &mut self,
@@ -48,18 +37,34 @@ impl State {
         ensures refused { IfErr result (Refuses (verb self.old object number)) }
         ensures kept { OnErr result (self.new ≡ self.old) }
     {
-        let Some(i) = place_object(self.objects.as_slice(), object) else {
-            return Err(ContainerFault::NoSuch);
-        };
-        let Some(at) = place(self.frames.as_slice(), self.objects[i].frame) else {
-            return Err(ContainerFault::NoSuch);
-        };
         let verb = verb_of(number);
-        match may_do(&self.frames[at], &self.objects[i], verb) {
-            Ok(()) => {}
-            Err(fault) => return Err(fault),
+        match self.place_ready(object) {
+            Ok((i, at)) => self.verb_ready(alloc, i, at, verb),
+            Err(fault) => Err(fault),
         }
-        self.verb_object(alloc, i, at, verb)
+    }
+
+    // The same of an object that may be asked for something, and stands there.
+    fn verb_ready(
+        &mut self,
+        alloc: Global,
+        i: usize,
+        at: usize,
+        verb: Option<Verb>,
+    ) -> Result<Answer, ContainerFault>
+        requires steady { Steady self.old }
+        requires sound { IsSound self.old }
+        requires place { IsObjectAt self.old.objects i }
+        requires frame { IfSome (slice_get self.old.objects i) (λ o. IsNth o.frame self.old.frames at) }
+        ensures taken { IfOk result (λ a. IfSome (slice_get self.old.objects i) (λ o. IfSome (slice_get self.old.frames at) (λ frame. verb_framed self.old verb o frame ≡ Ok (counts_none self.new a)))) }
+        ensures few { IfOk result (λ a. length a.actions ≤ 2) }
+        ensures refused { IfErr result (λ e. IfSome (slice_get self.old.objects i) (λ o. IfSome (slice_get self.old.frames at) (λ frame. Refuses (verb_framed self.old verb o frame) e))) }
+        ensures kept { OnErr result (self.new ≡ self.old) }
+    {
+        match may_move(&self.frames[at], verb) {
+            Ok(()) => self.verb_object(alloc, i, at, verb),
+            Err(fault) => Err(fault),
+        }
     }
 
     // The object that stands there, in the frame that stands there, does a verb.

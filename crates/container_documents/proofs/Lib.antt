@@ -1,3 +1,4 @@
 pub mod DocumentSums
 pub mod DocumentsRoom
+pub mod Fitting
 pub mod RoomSteps

@@ -1,7 +1,7 @@
 //! The document of a frame: its objects, each with the content that a save counts, and the file that holds them.
 
-ghost use Rattle.std.specs.Prelude.{◌≡◌, IfOk, is_ok, length};
-ghost use Rattle.container_model.specs.Saves.{are_objects, document, document_tree, fitting, held_part, part_of, parts_in};
+ghost use Rattle.std.specs.Prelude.{◌≡◌, IfOk, Ok, is_ok, length, true};
+ghost use Rattle.container_model.specs.Saves.{are_objects, document, document_tree, fitting, held_part, is_document, part_of, parts_in};
 ghost use Rattle.document_model.specs.DocOf.{DocOf, is_object};
 ghost use Rattle.file_model.specs.Denotes.{Denotes};
 
@@ -9,8 +9,10 @@ use crate::room::has_room;
 use container_checks::contents::kept;
 use container_model::answer::Part;
 use container_model::record::Object;
+use file_model::fault::WriteFault;
 use file_writer::write::write_file;
 use object_parts::limits::is_within;
+use ole_parts::fault::OleFault;
 use ole_streams::doc::{Doc, DocObject, MOST_OBJECTS};
 use ole_streams::document_tree::document_tree;
 use ole_streams::laws::document_is_read_again;
@@ -99,26 +101,38 @@ fn held(alloc: Global, part: &Part) -> Result<DocObject, AllocError>
     })
 }
 
-/// The document of these parts.
+// Nothing is left but want of memory.
+fn lacking(fault: OleFault) -> AllocError
+    requires { fault ≡ OleFault.NoMemory }
+{
+    match fault {
+        OleFault::NoMemory => AllocError,
+        _ => unreachable!(),
+    }
+}
+
+/// The document of these parts, which a document can hold.
 ///
-/// Refused for want of memory, and where a document can't hold them.
+/// Refused for want of memory alone.
 fn document(alloc: Global, parts: &[Part]) -> Result<Doc, AllocError>
+    requires { is_document (document parts.now) ≡ true }
     ensures { IfOk result (λ d. d ≡ document parts.now) }
 {
     let mut doc = Doc::new(alloc);
     for part in parts {
         match doc.push(held(alloc, part)?) {
             Ok(()) => {}
-            Err(_) => return Err(AllocError),
+            Err(fault) => return Err(lacking(fault)),
         }
     }
     Ok(doc)
 }
 
-/// The file of a document, which denotes its tree (MS-CFB 2); that tree holds the document.
+/// The file of a document that a file can hold: it denotes the document's tree (MS-CFB 2), which holds the document.
 ///
-/// Refused for want of memory, and where no file holds the document.
+/// Refused for want of memory alone.
 pub fn file_of(alloc: Global, parts: &[Part]) -> Result<Vec<u8>, AllocError>
+    requires { fitting parts.now ≡ Ok parts.now }
     ensures denotes { IfOk result (λ v. ∥ Denotes v.items (document_tree parts.now) ∥₁) }
     ensures holds { IfOk result (λ v. DocOf (document_tree parts.now) (document parts.now)) }
 {
@@ -128,6 +142,7 @@ pub fn file_of(alloc: Global, parts: &[Part]) -> Result<Vec<u8>, AllocError>
     let tree = document_tree(alloc, doc)?;
     match write_file(alloc, &tree) {
         Ok(file) => Ok(file),
-        Err(_) => Err(AllocError),
+        Err(WriteFault::NoMemory) => Err(AllocError),
+        Err(WriteFault::TooBig) => unreachable!(),
     }
 }

@@ -6,7 +6,8 @@ use Rattle.wire_msgs.specs.declared.operation.Operation.{Operation}
 use Rattle.wire_msgs.specs.declared.operation.Operation.TheVariants.{UiActivate}
 use Rattle.grant_core.specs.declared.grant_states.Claim.{Claim}
 use Rattle.grant_core.specs.Frames.{answer}
-use Rattle.grant_core.specs.Grants.{waiting}
+use Rattle.grant_core.specs.Grants.{Event, waiting, who}
+use Rattle.grant_core.specs.declared.grant_states.GrantState.{GrantState}
 use Rattle.container_links.specs.Asking.{called, installed, prepared_link}
 use Rattle.container_links.specs.declared.asking.Prepared.{Prepared}
 use Rattle.container_links.specs.declared.asking.Prepared.TheVariants.{Nothing}
@@ -14,7 +15,7 @@ use Rattle.container_model.specs.declared.answer.Action.{Action}
 use Rattle.container_model.specs.declared.grants.Tells.{Tells}
 use Rattle.container_model.specs.declared.record.Frame.{Frame}
 use Rattle.container_model.specs.declared.record.Object.{Object}
-use Rattle.container_model.specs.Grants.{event_of, lacks_space, moved}
+use Rattle.container_model.specs.Grants.{event_of, is_by, lacks_space, moved}
 use Rattle.container_model.specs.Record.{asked_link, asked_sent, is_object}
 use Rattle.container_grants.specs.declared.grants.Granted.{Granted}
 
@@ -58,8 +59,16 @@ actions_of [] = []
 actions_of (q ∷ qs) = option_to_list q.action ++ actions_of qs
 
 -- a frame after what an answer told of its grant, and whether an object got it without border space
+abbrev pub moved_by : Frame → Option Event → Frame
+moved_by frame None = frame
+moved_by frame (Some e) = moved frame e
+
+abbrev pub lacks_by : Frame → Option Event → Bool
+lacks_by frame None = false
+lacks_by frame (Some e) = lacks_space (answer frame.ui e)
+
 abbrev pub told_frame : Tells → Frame → Frame
-told_frame told frame = moved frame (event_of frame.ui.state told)
+told_frame told frame = moved_by frame (event_of frame.ui.state told)
 
 abbrev pub told_frames_in : ℕ → Tells → List Frame → Option Frame → List Frame
 told_frames_in f told frames None = frames
@@ -70,17 +79,21 @@ told_frames f None frames = frames
 told_frames f (Some told) frames = told_frames_in f told frames (nth frames f)
 
 abbrev pub told_space : Tells → Frame → Bool
-told_space told frame = lacks_space (answer frame.ui (event_of frame.ui.state told))
+told_space told frame = lacks_by frame (event_of frame.ui.state told)
 
 abbrev pub told_space_in : Option Tells → Option Frame → Bool
 told_space_in None frame = false
 told_space_in (Some told) None = false
 told_space_in (Some told) (Some frame) = told_space told frame
 
--- who gets the frame once an answer gives it up
-abbrev pub claims_in : Option Frame → List Claim
-claims_in None = []
-claims_in (Some frame) = option_to_list (waiting frame.ui.state)
+-- who gets the frame once an activation gives it up, if one does
+abbrev pub claims_of : ℕ → GrantState → List Claim
+claims_of act state = if is_by act (who state) then option_to_list (waiting state) else []
 
-abbrev pub claims_if : Bool → Option Frame → List Claim
-claims_if gives frame = if gives then claims_in frame else []
+abbrev pub claims_by : ℕ → Option Frame → List Claim
+claims_by act None = []
+claims_by act (Some frame) = claims_of act frame.ui.state
+
+abbrev pub claims_if : Option ℕ → Option Frame → List Claim
+claims_if None frame = []
+claims_if (Some act) frame = claims_by act frame

@@ -1,9 +1,9 @@
 //! How a frame's menus and border pass from object to object: what is told of a frame, who is told of a grant, and which grants
 //! the end of a server frees.
 
-ghost use Rattle.std.specs.Prelude.{◌≡◌, ◌+◌, ◌≤◌, ◌<◌, ◌++◌, All, IfOk, OnErr, OnOk, true, length, map, option_to_list, vec_capacity, vec_len};
+ghost use Rattle.std.specs.Prelude.{◌≡◌, ◌+◌, ◌≤◌, ◌<◌, ◌++◌, All, IfOk, OnErr, OnOk, is_some, true, length, map, option_to_list, vec_capacity, vec_len};
 ghost use Rattle.container_links.specs.Asking.{HasNumber};
-ghost use Rattle.container_model.specs.Grants.{freed, freed_claims, freed_frame, is_hosted, is_hosted_object, lacks_space, lost_by, number_of, passed_to, unwaited};
+ghost use Rattle.container_model.specs.Grants.{freed, freed_claims, freed_frame, is_by, is_hosted, is_hosted_object, lacks_space, lost_by, number_of, passed_to, unwaited};
 ghost use Rattle.container_model.specs.Messages.{is_held_by};
 ghost use Rattle.container_model.specs.Record.{is_object, sends};
 ghost use Rattle.container_grants.specs.Granted.{actions_of, asked_by, claims_if, installed_by, installed_each, ready, sent_by, told_frame, told_frames, told_space, told_space_in};
@@ -51,6 +51,16 @@ fn number_of(claim: Option<Claim>) -> u32
     }
 }
 
+// Whether whoever has a frame, or is to get it, has it by this activation.
+fn is_by(act: u32, who: Option<Claim>) -> bool
+    ensures { result ≡ is_by act who }
+{
+    match who {
+        Some(claim) => claim.act == act,
+        None => false,
+    }
+}
+
 // What an answer tells of a frame's grant moves it. Whether an object got the frame without border space.
 fn tell(frame: &mut Frame, told: Tells) -> bool
     ensures frame { frame.new ≡ told_frame told frame.old }
@@ -58,9 +68,12 @@ fn tell(frame: &mut Frame, told: Tells) -> bool
 {
     match told {
         Tells::Gets(g, tools) => lacks_space(frame.ui.granted(g, tools.menus, tools.border)),
-        Tells::GivesUp => {
-            let g = number_of(frame.ui.state().who());
-            lacks_space(frame.ui.revoked(g))
+        Tells::GivesUp(act) => {
+            let who = frame.ui.state().who();
+            if !is_by(act, who) {
+                return false;
+            }
+            lacks_space(frame.ui.revoked(number_of(who)))
         }
     }
 }
@@ -107,12 +120,12 @@ fn prepare_grant(alloc: Global, claim: Claim, objects: &[Object]) -> Result<Gran
     }
 }
 
-/// Takes the memory to tell whoever waits for a frame of its grant, where the frame is given up.
+/// Takes the memory to tell whoever waits for a frame of its grant, where an activation gives the frame up that has it.
 ///
-/// Refused for want of memory alone, and only where the frame is given up.
+/// Refused for want of memory alone, and only where an activation gives the frame up.
 pub fn prepare_waiting(
     alloc: Global,
-    gives: bool,
+    gives: Option<u32>,
     f: u32,
     frames: &[Frame],
     objects: &[Object],
@@ -120,16 +133,20 @@ pub fn prepare_waiting(
     requires { All HasNumber objects.now }
     ensures ready { IfOk result (λ v. v.items ≡ map (ready objects.now) (claims_if gives (nth frames.now f))) }
     ensures few { IfOk result (λ v. vec_len v ≤ 1) }
-    ensures refused { OnErr result (gives ≡ true) }
+    ensures refused { OnErr result (is_some gives ≡ true) }
 {
     let mut grants = Vec::new(alloc);
-    if !gives {
+    let Some(act) = gives else {
         return Ok(grants);
-    }
+    };
     let Some(at) = place(frames, f) else {
         return Ok(grants);
     };
-    let Some(claim) = frames[at].ui.state().waiting() else {
+    let state = frames[at].ui.state();
+    if !is_by(act, state.who()) {
+        return Ok(grants);
+    }
+    let Some(claim) = state.waiting() else {
         return Ok(grants);
     };
     grants.push(prepare_grant(alloc, claim, objects)?)?;

@@ -1,5 +1,5 @@
 -- A frame is given up by its holder's own answer alone.
-use Rattle.std.proofs.Common.{◌≡◌, ◌⊎◌, inl, inr, ℕ, ◌+◌, ◌==◌, true, false, List, [], ◌∷◌, Option, Some, None, Result, Ok, Err, refl, sym, ap, ◌∙◌, subst}
+use Rattle.std.proofs.Common.{◌≡◌, ◌⊎◌, inl, inr, ℕ, ◌+◌, ◌==◌, Bool, true, false, List, [], ◌∷◌, Option, Some, None, Result, Ok, Err, refl, sym, ap, ◌∙◌, subst, if◌then◌else◌}
 use Rattle.std.proofs.lemmas.Bool.{eqb-true, eqb-false}
 use Rattle.wire_msgs.specs.Found.{find, nth, set_nth}
 use Rattle.wire_msgs.specs.Operations.{op_of}
@@ -19,6 +19,7 @@ use Rattle.grant_core.specs.Grants.{Event, Granted, Lost, Revoked, who}
 use Rattle.grant_core.specs.Laws.{IsRevoking}
 use Rattle.grant_core.specs.declared.grant_states.Claim.{Claim}
 use Rattle.grant_core.specs.declared.grant_states.Tools.{Tools as GrantTools}
+use Rattle.grant_core.specs.declared.grant_states.GrantState.{GrantState}
 use Rattle.grant_core.specs.declared.grant_states.GrantState.TheVariants as state
 use Rattle.grant_core.proofs.Table.{freed-by_holder}
 use Rattle.container_model.specs.declared.grants.Tells.{Tells}
@@ -28,7 +29,7 @@ use Rattle.container_model.specs.declared.record.Object.{Object}
 use Rattle.container_model.specs.declared.record.Frame.{Frame}
 use Rattle.container_model.specs.declared.fault.ContainerFault.{ContainerFault}
 use Rattle.container_model.specs.declared.fault.ContainerFault.TheVariants.{Stale, WrongLink}
-use Rattle.container_model.specs.Grants.{event_of, grant_each, grant_of, moved, passed_to, regranted, regranted_in, requested}
+use Rattle.container_model.specs.Grants.{event_of, grant_each, grant_of, is_by, moved, passed_to, regranted, regranted_by, regranted_in, requested}
 use Rattle.container_model.specs.Record.{Record, Took, is_alive, is_linked, is_object}
 use Rattle.container_model.specs.Saves.{settled_frame, settled_frames}
 use Rattle.container_model.specs.Messages.{Replied, ask_found, ask_framed, closed_with, done_link, granted_link, is_held_by, on_ask, on_reply, relieved, replied, replied_fitting, replied_grant, replied_record, reply_found, reply_link, reply_pending, reply_made, reply_taken, saved_link}
@@ -52,15 +53,15 @@ use Rattle.container_laws.proofs.WriteLaws.{taken_if, write_taken}
 -- only the answer to UiDeactivate tells that a frame was given up
 abbrev GivesOnly : Operation → Answer → Result Replied ContainerFault → Type 0
 GivesOnly op answer (Err fault) = Unit {0}
-GivesOnly op answer (Ok re) = re.grant ≡ Some TellsGivenUp → (op ≡ UiDeactivate) × (answer ≡ Done)
+GivesOnly op answer (Ok re) = (act : ℕ) → re.grant ≡ Some (TellsGivenUp act) → (op ≡ UiDeactivate) × (answer ≡ Done)
 
 done_only : (op : Operation) (answer : Answer) (l : Link) (s : ℕ) (R : Result States StateFault) → GivesOnly op answer (done_link l s R)
 done_only op answer l s (Err fault) = tt
-done_only op answer l s (Ok v) = λ e. cc
+done_only op answer l s (Ok v) = λ act e. cc
 
 closed_only : (op : Operation) (answer : Answer) (content : Option Stored) (R : Result States StateFault) → GivesOnly op answer (closed_with content R)
 closed_only op answer content (Err fault) = tt
-closed_only op answer content (Ok v) = λ e. cc
+closed_only op answer content (Ok v) = λ act e. cc
 
 saved_only : (op : Operation) (answer : Answer) (content : Stored) (R : Result Replied ContainerFault) → GivesOnly op answer R → GivesOnly op answer (saved_link content R)
 saved_only op answer content (Err fault) h = tt
@@ -68,31 +69,31 @@ saved_only op answer content (Ok re) h = h
 
 gets_only : (op : Operation) (answer : Answer) (g : ℕ) (tools : GrantTools) (R : Result Replied ContainerFault) → GivesOnly op answer (granted_link (Gets g tools) R)
 gets_only op answer g tools (Err fault) = tt
-gets_only op answer g tools (Ok re) = λ e. cc
+gets_only op answer g tools (Ok re) = λ act e. cc
 
-gives_itself : (R : Result Replied ContainerFault) → GivesOnly UiDeactivate Done (granted_link TellsGivenUp R)
-gives_itself (Err fault) = tt
-gives_itself (Ok re) = λ e. (refl, refl)
+gives_itself : (act : ℕ) (R : Result Replied ContainerFault) → GivesOnly UiDeactivate Done (granted_link (TellsGivenUp act) R)
+gives_itself act (Err fault) = tt
+gives_itself act (Ok re) = λ given e. (refl, refl)
 
 gives_only : (l : Link) (op : Operation) (answer : Answer) → GivesOnly op answer (replied l op answer)
 gives_only l (InitNew class) Done = done_only (InitNew class) Done l 1 (both.step l.states (op_of (InitNew class)))
-gives_only l (InitNew class) (Refused why) = λ e. cc
+gives_only l (InitNew class) (Refused why) = λ act e. cc
 gives_only l (InitNew class) _ = tt
 gives_only l (Load class content) Done = done_only (Load class content) Done l 1 (both.step l.states (op_of (Load class content)))
-gives_only l (Load class content) (Refused why) = λ e. cc
+gives_only l (Load class content) (Refused why) = λ act e. cc
 gives_only l (Load class content) _ = tt
 gives_only l InPlace Done = done_only InPlace Done l l.s (both.step l.states (op_of InPlace))
 gives_only l InPlace _ = tt
 gives_only l (UiActivate g) (Tools menus border) = gets_only (UiActivate g) (Tools menus border) g (record { menus = menus; border = border }) (done_link l l.s (both.step l.states (op_of (UiActivate g))))
 gives_only l (UiActivate g) _ = tt
-gives_only l UiDeactivate Done = gives_itself (done_link l l.s (both.step l.states (op_of UiDeactivate)))
+gives_only l UiDeactivate Done = gives_itself l.act (done_link l l.s (both.step l.states (op_of UiDeactivate)))
 gives_only l UiDeactivate _ = tt
 gives_only l InPlaceDeactivate Done = done_only InPlaceDeactivate Done l l.s (both.step l.states (op_of InPlaceDeactivate))
 gives_only l InPlaceDeactivate _ = tt
 gives_only l OpenWindow Done = done_only OpenWindow Done l l.s (both.step l.states (op_of OpenWindow))
 gives_only l OpenWindow _ = tt
 gives_only l (Edit bytes) Done = done_only (Edit bytes) Done l l.s (both.step l.states (op_of (Edit bytes)))
-gives_only l (Edit bytes) (Refused why) = λ e. cc
+gives_only l (Edit bytes) (Refused why) = λ act e. cc
 gives_only l (Edit bytes) _ = tt
 gives_only l (Save k) (Content content) = saved_only (Save k) (Content content) content (done_link l l.s (both.step l.states (op_of (Save k)))) (done_only (Save k) (Content content) l l.s (both.step l.states (op_of (Save k))))
 gives_only l (Save k) _ = tt
@@ -111,17 +112,17 @@ record GaveUp (link : Option Link) (n : ℕ) (answer : Answer) : Type 0 where
   pending : l.pending ≡ Some UiDeactivate
   answered : answer ≡ Done
 
-given_pending : (l : Link) (n : ℕ) (answer : Answer) (p : Option Operation) (re : Replied) → l.pending ≡ p → reply_pending l n answer p ≡ Ok re → re.grant ≡ Some TellsGivenUp → GaveUp (Some l) n answer
-given_pending l n answer None re is e g = cc
-given_pending l n answer (Some op) re is e g =
+given_pending : (l : Link) (n : ℕ) (answer : Answer) (p : Option Operation) (re : Replied) (act : ℕ) → l.pending ≡ p → reply_pending l n answer p ≡ Ok re → re.grant ≡ Some (TellsGivenUp act) → GaveUp (Some l) n answer
+given_pending l n answer None re act is e g = cc
+given_pending l n answer (Some op) re act is e g =
     let b = taken_if (n == l.last) (replied_fitting l op answer) Stale re e in
     let f = fit_replied l op answer re b.1 in
-    let only = subst (GivesOnly op answer) f.1 (gives_only l op answer) g in
+    let only = subst (GivesOnly op answer) f.1 (gives_only l op answer) act g in
     record { l = l; is = refl; pending = is ∙ ap Some only.0; answered = only.1 }
 
-given_link : (n : ℕ) (answer : Answer) (link : Option Link) (re : Replied) → reply_link n answer link ≡ Ok re → re.grant ≡ Some TellsGivenUp → GaveUp link n answer
-given_link n answer None re e g = cc
-given_link n answer (Some l) re e g = given_pending l n answer l.pending re refl e g
+given_link : (n : ℕ) (answer : Answer) (link : Option Link) (re : Replied) (act : ℕ) → reply_link n answer link ≡ Ok re → re.grant ≡ Some (TellsGivenUp act) → GaveUp link n answer
+given_link n answer None re act e g = cc
+given_link n answer (Some l) re act e g = given_pending l n answer l.pending re act refl e g
 
 -- who has a frame still has it
 abbrev Kept : List Frame → ℕ → Claim → Type 0
@@ -141,6 +142,10 @@ granted_frames (c ∷ cs) v =
     granted_frames cs (requested v (UiActivate c.g) z).rec ∙ requested_frames v (UiActivate c.g) z
 
 -- an event of the grant of one frame
+given_event : (s : GrantState) (b : Bool) (event : Event) → (if b then Some (Revoked (grant_of s)) else None) ≡ Some event → Revoked (grant_of s) ≡ event
+given_event s true event e = cc
+given_event s false event e = cc
+
 granted_not_lost : (g act : ℕ) (tools : GrantTools) → Granted g tools ≡ Lost act → ⊥
 granted_not_lost g act tools e = cc
 
@@ -176,8 +181,8 @@ module _ (r : Record) (link inc act n : ℕ) (answer : Answer) (f : ℕ) (frame 
   abbrev Freed : List Frame → Type 0
   Freed frames = Kept frames f holder ⊎ GivesUp r (Reply inc act n answer) frame holder
 
-  gives_it_up : re.grant ≡ Some TellsGivenUp → o.frame ≡ f → IsRevoking frame.ui.state → GivesUp r (Reply inc act n answer) frame holder
-  gives_it_up told inside revoking =
+  gives_it_up : (given : ℕ) → re.grant ≡ Some (TellsGivenUp given) → o.frame ≡ f → IsRevoking frame.ui.state → GivesUp r (Reply inc act n answer) frame holder
+  gives_it_up given told inside revoking =
       let h = each_found (SteadyObject r) (is_linked inc act) r.objects o s.objects found in
       let a = some_and (Held r o.number o.link) (nth r.frames o.frame) h.linked in
       let both = sym a.1 ∙ (ap (nth r.frames) inside ∙ at) in
@@ -191,7 +196,7 @@ module _ (r : Record) (link inc act n : ℕ) (answer : Answer) (f : ℕ) (frame 
       let there = found_by_number (is_linked inc act) r.objects o s.order found in
       let is : a.0.ui.state ≡ state.Revoking holder g.next = g.is ∙ ap (λ (c : Claim). state.Revoking c g.next) whose in
       let claim : IsClaim r o.frame holder = (subst (SteadyGrant r o.frame) is (s.grants o.frame a.0 a.1)).holder in
-      let up = given_link n answer o.link re goes told in
+      let up = given_link n answer o.link re given goes told in
       let mine = linked_by inc act o.link (find_passes (is_linked inc act) r.objects o found) in
       let links = sym up.is ∙ mine.1 in
       let one : up.l ≡ mine.0 = cc in
@@ -208,27 +213,31 @@ module _ (r : Record) (link inc act n : ℕ) (answer : Answer) (f : ℕ) (frame 
         pending = up.pending;
       }
 
-  told_at : (told : Tells) (fr : Frame) → re.grant ≡ Some told → nth r.frames o.frame ≡ Some fr → Freed (set_nth r.frames o.frame (moved fr (event_of fr.ui.state told)))
-  told_at (Gets g tools) fr e there = elim (moved_has r.frames f o.frame frame fr holder (Granted g tools) at has there) [
-    | inl still ↦ inl still
-    | inr gone ↦ elim gone.2 [ inl lost ↦ absurd (granted_not_lost g holder.act tools lost) | inr bad ↦ absurd (granted_not_revoked g holder.g tools bad.1) ]
-  ]
-  told_at TellsGivenUp fr e there = elim (moved_has r.frames f o.frame frame fr holder (Revoked (grant_of fr.ui.state)) at has there) [
-    | inl still ↦ inl still
-    | inr gone ↦ elim gone.2 [ inl lost ↦ absurd (revoked_not_lost (grant_of fr.ui.state) holder.act lost) | inr up ↦ inr (gives_it_up e gone.0 up.0) ]
-  ]
+  told_at : (told : Tells) (fr : Frame) (event : Event) → re.grant ≡ Some told → nth r.frames o.frame ≡ Some fr → event_of fr.ui.state told ≡ Some event → Freed (set_nth r.frames o.frame (moved fr event))
+  told_at (Gets g tools) fr event e there is =
+      let same : Granted g tools ≡ event = cc in
+      subst (λ (x : Event). Freed (set_nth r.frames o.frame (moved fr x))) same (elim (moved_has r.frames f o.frame frame fr holder (Granted g tools) at has there) [
+        | inl still ↦ inl still
+        | inr gone ↦ elim gone.2 [ inl lost ↦ absurd (granted_not_lost g holder.act tools lost) | inr bad ↦ absurd (granted_not_revoked g holder.g tools bad.1) ]
+      ])
+  told_at (TellsGivenUp given) fr event e there is =
+      let same : Revoked (grant_of fr.ui.state) ≡ event = given_event fr.ui.state (is_by given (who fr.ui.state)) event is in
+      subst (λ (x : Event). Freed (set_nth r.frames o.frame (moved fr x))) same (elim (moved_has r.frames f o.frame frame fr holder (Revoked (grant_of fr.ui.state)) at has there) [
+        | inl still ↦ inl still
+        | inr gone ↦ elim gone.2 [ inl lost ↦ absurd (revoked_not_lost (grant_of fr.ui.state) holder.act lost) | inr up ↦ inr (gives_it_up given e gone.0 up.0) ]
+      ])
 
-  regranted_frames : (told : Tells) (fr : Frame) → nth r.frames o.frame ≡ Some fr → (regranted (replied_record r inc act o re) o.frame (Some told)).rec.frames ≡ set_nth r.frames o.frame (moved fr (event_of fr.ui.state told))
-  regranted_frames told fr there =
-      ap (λ (z : Option Frame). (regranted_in (replied_record r inc act o re) o.frame told z).rec.frames) there
-      ∙ granted_frames (passed_to fr.ui.state (after fr.ui (event_of fr.ui.state told)).state) (record (replied_record r inc act o re) { frames = set_nth r.frames o.frame (moved fr (event_of fr.ui.state told)) })
+  freed_by : (told : Tells) (fr : Frame) (event : Option Event) → re.grant ≡ Some told → nth r.frames o.frame ≡ Some fr → event_of fr.ui.state told ≡ event → Freed (regranted_by (replied_record r inc act o re) o.frame fr event).rec.frames
+  freed_by told fr None e there is = inl (frame, at, has)
+  freed_by told fr (Some event) e there is =
+      subst Freed (sym (granted_frames (passed_to fr.ui.state (after fr.ui event).state) (record (replied_record r inc act o re) { frames = set_nth r.frames o.frame (moved fr event) }))) (told_at told fr event e there is)
 
   freed_as : (g : Option Tells) → re.grant ≡ g → Freed (regranted (replied_record r inc act o re) o.frame g).rec.frames
   freed_as None e = inl (frame, at, has)
   freed_as (Some told) e =
       let h = each_found (SteadyObject r) (is_linked inc act) r.objects o s.objects found in
       let a = some_and (Held r o.number o.link) (nth r.frames o.frame) h.linked in
-      subst Freed (sym (regranted_frames told a.0 a.1)) (told_at told a.0 e a.1)
+      subst (λ (z : Option Frame). Freed (regranted_in (replied_record r inc act o re) o.frame told z).rec.frames) (sym a.1) (freed_by told a.0 (event_of a.0.ui.state told) e a.1 refl)
 
   pub reply_freed : (t : Took) → reply_made r inc act o re ≡ t → Freed t.rec.frames
   reply_freed t e = subst (λ (u : Took). Freed u.rec.frames) e (elim (freed_as re.grant refl) [

@@ -7,7 +7,7 @@ use Rattle.wire_msgs.specs.declared.message.Message.TheVariants.{Call, Reply, Wr
 use Rattle.wire_msgs.specs.declared.operation.Operation.TheVariants.{UiDeactivate}
 use Rattle.grant_core.specs.Frames.{after, kept}
 use Rattle.grant_core.specs.Grants as grant
-use Rattle.grant_core.specs.Grants.{passed_on, table, waiting}
+use Rattle.grant_core.specs.Grants.{Event, Revoked, passed_on, table, waiting, who}
 use Rattle.grant_core.specs.declared.faults.GrantFault.TheVariants.{NotHolder}
 use Rattle.grant_core.specs.declared.grant_states.Claim.{Claim}
 use Rattle.grant_core.specs.declared.grant_states.GrantState.{GrantState}
@@ -17,7 +17,7 @@ use Rattle.container_model.specs.declared.grants.Tells.TheVariants.{Gets, GivesU
 use Rattle.container_model.specs.declared.record.Object.{Object}
 use Rattle.container_model.specs.declared.record.Frame.{Frame}
 use Rattle.container_model.specs.declared.fault.ContainerFault.TheVariants.{Stale, WrongLink}
-use Rattle.container_model.specs.Grants.{event_of, grant_each, moved, passed_to, regranted, regranted_in}
+use Rattle.container_model.specs.Grants.{event_of, grant_each, grant_of, is_by, moved, passed_to, regranted, regranted_by, regranted_in}
 use Rattle.container_model.specs.Record.{Record, Took, is_alive, is_linked, is_object}
 use Rattle.container_model.specs.Messages.{Replied, ask_found, ask_framed, is_held_by, on_ask, on_message, on_reply, relieved, replied_object, replied_record, reply_found, reply_link, reply_taken, written_object}
 use Rattle.container_laws.specs.Laws.{StaysOrIsGranted, is_about}
@@ -40,13 +40,29 @@ passed_on_waits c None b d e = cc
 passed_on_waits c (Some w) true d e = (let same : w ≡ d = cc in ap (λ (z : Claim). Some z) same)
 passed_on_waits c (Some w) false d e = cc
 
-passed_waits : (s : GrantState) (told : Tells) (d : Claim) → passed_to s (kept s (table s (event_of s told))) ≡ d ∷ [] → waiting s ≡ Some d
-passed_waits state.Free told d e = cc
-passed_waits (state.Granting c) told d e = cc
-passed_waits (state.Held c tools) told d e = cc
-passed_waits (state.Revoking c None) told d e = cc
+-- whom an event of a frame's grant passes it to
+revoked_waits : (s : GrantState) (d : Claim) → passed_to s (kept s (table s (Revoked (grant_of s)))) ≡ d ∷ [] → waiting s ≡ Some d
+revoked_waits state.Free d e = cc
+revoked_waits (state.Granting c) d e = cc
+revoked_waits (state.Held c tools) d e = cc
+revoked_waits (state.Revoking c None) d e = cc
+revoked_waits (state.Revoking c (Some w)) d e = passed_on_waits c (Some w) (c.g == c.g) d e
+
+abbrev passed_by : GrantState → Option Event → List Claim
+passed_by s None = []
+passed_by s (Some e) = passed_to s (kept s (table s e))
+
+given_waits : (s : GrantState) (b : Bool) (d : Claim) → passed_by s (if b then Some (Revoked (grant_of s)) else None) ≡ d ∷ [] → waiting s ≡ Some d
+given_waits s true d e = revoked_waits s d e
+given_waits s false d e = cc
+
+passed_waits : (s : GrantState) (told : Tells) (d : Claim) → passed_by s (event_of s told) ≡ d ∷ [] → waiting s ≡ Some d
+passed_waits state.Free (Gets g tools) d e = cc
+passed_waits (state.Granting c) (Gets g tools) d e = cc
+passed_waits (state.Held c tools) (Gets g had) d e = cc
+passed_waits (state.Revoking c None) (Gets g tools) d e = cc
 passed_waits (state.Revoking c (Some w)) (Gets g tools) d e = cc
-passed_waits (state.Revoking c (Some w)) GivesUp d e = passed_on_waits c (Some w) (c.g == c.g) d e
+passed_waits s (GivesUp act) d e = given_waits s (is_by act (who s)) d e
 
 abbrev Later : Record → List Object → ℕ → Object → Type 0
 Later r os i o = (later : Object) × (slice_get os i ≡ Some later) × StaysOrIsGranted r o later
@@ -93,17 +109,20 @@ module _ (r : Record) (s : Steady r) (i : ℕ) (o : Object) (at : slice_get r.ob
             told = e;
           })
 
-      granted : (told : Tells) → Later r (regranted (replied_record r inc act p re) p.frame (Some told)).rec.objects i o
-      granted told =
-          let event = event_of frame.ui.state told in
+      granted_by : (told : Tells) (event : Option Event) → event_of frame.ui.state told ≡ event → Later r (regranted_by (replied_record r inc act p re) p.frame frame event).rec.objects i o
+      granted_by told None is = (o, stays, inl refl)
+      granted_by told (Some event) is =
           let v : Record = record (replied_record r inc act p re) { frames = set_nth r.frames p.frame (moved frame event) } in
           let cs = passed_to frame.ui.state (after frame.ui event).state in
-          let made : Later r (grant_each v cs).rec.objects i o = elim (passed_few frame.ui.state (after frame.ui event).state) [
+          elim (passed_few frame.ui.state (after frame.ui event).state) [
             | inl none ↦ subst (λ (ds : List Claim). Later r (grant_each v ds).rec.objects i o) (sym none) (o, stays, inl refl)
             | inr one ↦ (let t = grants_tell (one.0 ∷ []) v i o (tt, tt) ordered stays in
-                subst (λ (ds : List Claim). Later r (grant_each v ds).rec.objects i o) (sym one.1) (t.0, t.1, is_told one.0 t.0 (passed_waits frame.ui.state told one.0 one.1) t.2))
-          ] in
-          subst (λ (z : Option Frame). Later r (regranted_in (replied_record r inc act p re) p.frame told z).rec.objects i o) (sym inside) made
+                let waits : waiting frame.ui.state ≡ Some one.0 = passed_waits frame.ui.state told one.0 (ap (passed_by frame.ui.state) is ∙ one.1) in
+                subst (λ (ds : List Claim). Later r (grant_each v ds).rec.objects i o) (sym one.1) (t.0, t.1, is_told one.0 t.0 waits t.2))
+          ]
+
+      granted : (told : Tells) → Later r (regranted (replied_record r inc act p re) p.frame (Some told)).rec.objects i o
+      granted told = subst (λ (z : Option Frame). Later r (regranted_in (replied_record r inc act p re) p.frame told z).rec.objects i o) (sym inside) (granted_by told (event_of frame.ui.state told) refl)
 
       answered : (g : Option Tells) → Later r (regranted (replied_record r inc act p re) p.frame g).rec.objects i o
       answered None = (o, stays, inl refl)

@@ -57,7 +57,7 @@ reply_as n answer is link e f a = fit_reply n answer link e f ∙ ap (answered l
 -- what each kind of answer makes of an activation, by what it means for the operation
 abbrev by_done : Link → Op → WhenDone → Result Replied ContainerFault
 by_done l o (Continues s) = done_link l s (both.step l.states o)
-by_done l o GivesUp = granted_link tells.GivesUp (done_link l l.s (both.step l.states o))
+by_done l o GivesUp = granted_link (tells.GivesUp l.act) (done_link l l.s (both.step l.states o))
 by_done l o Ends = closed_with None (both.step l.states o)
 by_done l o Undone = Err BadAnswer
 

@@ -293,9 +293,10 @@ fn done_told(alloc: Global, link: &mut Option<Link>, more: usize) -> Result<Repl
     };
     let op = operation.op();
     let states = l.states;
+    let act = l.act;
     match when_done(operation, l.s) {
         WhenDone::Continues(s) => done(alloc, l, op, s, more),
-        WhenDone::GivesUp => granted(alloc, l, op, Tells::GivesUp, more),
+        WhenDone::GivesUp => granted(alloc, l, op, Tells::GivesUp(act), more),
         WhenDone::Ends => closed(alloc, link, states, op, None, more),
         WhenDone::Undone => Err(ContainerFault::BadAnswer),
     }
@@ -421,23 +422,26 @@ pub fn told(
     }
 }
 
-/// Whether an answer to the call of this number is one by which the object gives its frame up, as it was asked. It changes
+/// The activation that gives its frame up by an answer to the call of this number, as it was asked, if it does. It changes
 /// nothing.
-pub fn gives_up(link: &Option<Link>, n: u32, answer: &Answer) -> bool
+pub fn gives_up(link: &Option<Link>, n: u32, answer: &Answer) -> Option<u32>
     ensures told { result ≡ gives_up (reply_link n answer.now link.now) }
-    ensures asked { result ≡ true → IfSome link.now (λ l. l.pending ≡ Some UiDeactivate) }
+    ensures asked { IfSome result (λ act. IfSome link.now (λ l. l.pending ≡ Some UiDeactivate)) }
 {
     let Some(link) = link else {
-        return false;
+        return None;
     };
     let Some(operation) = &link.pending else {
-        return false;
+        return None;
     };
     if n != link.last {
-        return false;
+        return None;
     }
     match (operation, answer) {
-        (Operation::UiDeactivate, Answer::Done) => link.states.step(Op::UiDeactivate).is_ok(),
-        _ => false,
+        (Operation::UiDeactivate, Answer::Done) => match link.states.step(Op::UiDeactivate) {
+            Ok(_) => Some(link.act),
+            Err(_) => None,
+        },
+        _ => None,
     }
 }

@@ -24,6 +24,7 @@ use Rattle.container_model.specs.declared.answer.Action.TheVariants.{Start, End}
 use Rattle.container_model.specs.declared.fault.ContainerFault.{ContainerFault}
 use Rattle.container_model.specs.declared.fault.ContainerFault.TheVariants.{NoSuch, Busy, NotRunning, InDoubt, Full, NumbersSpent, WrongState, UnknownClass}
 use Rattle.container_model.specs.Record.{Record, Took, MOST_FRAMES, MOST_OBJECTS, MOST_SERVERS, MARGIN, quiet_answer, acts, sends, is_object, is_alive, is_busy, is_moving, is_saving, is_doubtful, count_alive, count_objects, counts_none, without_first, has_numbers, link_has_numbers, asked_link, asked_sent, asked_object, asked_all, unless, with_object}
+use Rattle.container_model.specs.Located.{located, ready}
 use Rattle.container_model.specs.Saves.{settle, settle_actions}
 use Rattle.container_model.specs.Verbs.{close, verb}
 
@@ -142,20 +143,8 @@ run_object r o inc =
     (unless (nat_lt r.numbers MARGIN || nat_le r.numbers r.last_act) NumbersSpent
     (Ok (run_made r o inc))))
 
-abbrev pub run_in : Record → Object → ℕ → Option Frame → Result Took ContainerFault
-run_in r o inc None = Err NoSuch
-run_in r o inc (Some frame) =
-    unless (not (is_alive r inc)) NoSuch
-    (unless (is_doubtful frame.phase) InDoubt
-    (unless (is_saving frame.phase || is_busy frame.ui.state o) Busy
-    (run_object r o inc)))
-
-abbrev pub run_at : Record → ℕ → Option Object → Result Took ContainerFault
-run_at r inc None = Err NoSuch
-run_at r inc (Some o) = run_in r o inc (nth r.frames o.frame)
-
 abbrev pub run : Record → ℕ → ℕ → Result Took ContainerFault
-run r o inc = run_at r inc (find (is_object o) r.objects)
+run r n inc = unless (not (is_alive r inc)) NoSuch (located r n (ready (λ o frame. run_object r o inc)))
 
 -- Edit: a running object is asked for it.
 abbrev pub MOST_EDIT : ℕ
@@ -183,19 +172,8 @@ edit_unless r o bytes None = Ok (edit_made r o bytes)
 abbrev pub edit_linked : Record → Object → List ℕ → Option Link → Result Took ContainerFault
 edit_linked r o bytes link = edit_unless r o bytes (edit_fault r.numbers (length bytes) link)
 
-abbrev pub edit_in : Record → Object → List ℕ → Option Frame → Result Took ContainerFault
-edit_in r o bytes None = Err NoSuch
-edit_in r o bytes (Some frame) =
-    unless (is_doubtful frame.phase) InDoubt
-    (unless (is_saving frame.phase || is_busy frame.ui.state o) Busy
-    (edit_linked r o bytes o.link))
-
-abbrev pub edit_at : Record → List ℕ → Option Object → Result Took ContainerFault
-edit_at r bytes None = Err NoSuch
-edit_at r bytes (Some o) = edit_in r o bytes (nth r.frames o.frame)
-
 abbrev pub edit : Record → ℕ → List ℕ → Result Took ContainerFault
-edit r o bytes = edit_at r bytes (find (is_object o) r.objects)
+edit r n bytes = located r n (ready (λ o frame. edit_linked r o bytes o.link))
 
 -- Save: each object of the frame that isn't passive is asked for its content.
 abbrev pub any_busy : ℕ → GrantState → List Object → Bool
@@ -238,20 +216,11 @@ save r f = save_at r f (nth r.frames f)
 abbrev pub delete_made : Record → Object → Took
 delete_made r o = counts_none (record r { objects = without_first (is_object o.number) r.objects }) quiet_answer
 
-abbrev pub delete_in : Record → Object → Option Frame → Result Took ContainerFault
-delete_in r o None = Err NoSuch
-delete_in r o (Some frame) =
-    unless (is_doubtful frame.phase) InDoubt
-    (unless (is_saving frame.phase || is_busy frame.ui.state o) Busy
-    (unless (is_some o.link) WrongState
-    (Ok (delete_made r o))))
-
-abbrev pub delete_at : Record → Option Object → Result Took ContainerFault
-delete_at r None = Err NoSuch
-delete_at r (Some o) = delete_in r o (nth r.frames o.frame)
+abbrev pub delete_object : Record → Object → Result Took ContainerFault
+delete_object r o = unless (is_some o.link) WrongState (Ok (delete_made r o))
 
 abbrev pub delete : Record → ℕ → Result Took ContainerFault
-delete r o = delete_at r (find (is_object o) r.objects)
+delete r n = located r n (ready (λ o frame. delete_object r o))
 
 -- Kill: a server that isn't reaped is to be ended.
 abbrev pub kill : Record → ℕ → Result Took ContainerFault

@@ -59,10 +59,15 @@ grant_each r (claim ∷ claims) = further (request r claim.object (UiActivate cl
 abbrev pub regrant : Record → ℕ → Frame → Event → Requested
 regrant r f frame e = grant_each (with_frame r f (moved frame e)) (passed_to frame.ui.state (after frame.ui e).state)
 
--- What an answer tells of the frame's grant moves it: the object has the frame from now on, or it has given the frame up.
-abbrev pub event_of : GrantState → Tells → Event
-event_of state (Gets g tools) = Granted g tools
-event_of state GivesUp = Revoked (grant_of state)
+-- What an answer tells of the frame's grant moves it: the object has the frame from now on, or it has given the frame up. Only
+-- the activation that has the frame, or is to get it, gives it up: told by another, nothing happens to the frame.
+abbrev pub is_by : ℕ → Option Claim → Bool
+is_by act None = false
+is_by act (Some claim) = claim.act == act
+
+abbrev pub event_of : GrantState → Tells → Option Event
+event_of state (Gets g tools) = Some (Granted g tools)
+event_of state (GivesUp act) = if is_by act (who state) then Some (Revoked (grant_of state)) else None
 
 -- an object gets the frame without border space
 abbrev pub lacks_space : Result Unit GrantFault → Bool
@@ -76,15 +81,19 @@ pub record Regranted : Type 0 where
   pub sent : List Message
   pub no_tools : Bool
 
-abbrev pub regranted_by : Record → ℕ → Frame → Event → Regranted
-regranted_by r f frame e = record { rec = (regrant r f frame e).rec; sent = (regrant r f frame e).sent; no_tools = lacks_space (answer frame.ui e) }
+abbrev pub as_it_was : Record → Regranted
+as_it_was r = record { rec = r; sent = []; no_tools = false }
+
+abbrev pub regranted_by : Record → ℕ → Frame → Option Event → Regranted
+regranted_by r f frame None = as_it_was r
+regranted_by r f frame (Some e) = record { rec = (regrant r f frame e).rec; sent = (regrant r f frame e).sent; no_tools = lacks_space (answer frame.ui e) }
 
 abbrev pub regranted_in : Record → ℕ → Tells → Option Frame → Regranted
-regranted_in r f told None = record { rec = r; sent = []; no_tools = false }
+regranted_in r f told None = as_it_was r
 regranted_in r f told (Some frame) = regranted_by r f frame (event_of frame.ui.state told)
 
 abbrev pub regranted : Record → ℕ → Option Tells → Regranted
-regranted r f None = record { rec = r; sent = []; no_tools = false }
+regranted r f None = as_it_was r
 regranted r f (Some told) = regranted_in r f told (nth r.frames f)
 
 -- The end of a server: whoever of its objects waits for a frame waits no more, and what they have or are to get is free.

@@ -8,3 +8,5 @@ pub mod FaultNames
 pub mod Room
 pub mod Replies
 pub mod Numbered
+pub mod Located
+pub mod Inputs

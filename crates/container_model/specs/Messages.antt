@@ -87,7 +87,7 @@ replied l (Load class content) told.Done = done l (Load class content)
 replied l (Load class content) (told.Refused why) = lost why
 replied l InPlace told.Done = done l InPlace
 replied l (UiActivate g) (told.Tools menus border) = granted_link (Gets g (record { menus = menus; border = border })) (done l (UiActivate g))
-replied l UiDeactivate told.Done = granted_link GivesUp (done l UiDeactivate)
+replied l UiDeactivate told.Done = granted_link (GivesUp l.act) (done l UiDeactivate)
 replied l InPlaceDeactivate told.Done = done l InPlaceDeactivate
 replied l OpenWindow told.Done = done l OpenWindow
 replied l (Edit bytes) told.Done = done l (Edit bytes)

@@ -174,3 +174,11 @@ commit_at r f (Some frame) = if is_committing frame.phase then commit_fitting r 
 
 abbrev pub commit_done : Record → ℕ → Result Took ContainerFault
 commit_done r f = commit_at r f (nth r.frames f)
+
+-- what a commit of the frame counts: the contents of its document, under the number of its save
+abbrev pub counted_at : Record → ℕ → Option Frame → List Done
+counted_at r f None = []
+counted_at r f (Some frame) = map (done_entry frame.k) (parts_in f r.objects)
+
+abbrev pub counted_of : Record → ℕ → List Done
+counted_of r f = counted_at r f (nth r.frames f)

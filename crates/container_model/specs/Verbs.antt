@@ -19,6 +19,7 @@ use Rattle.container_model.specs.declared.record.Frame.{Frame}
 use Rattle.container_model.specs.declared.fault.ContainerFault.{ContainerFault}
 use Rattle.container_model.specs.declared.fault.ContainerFault.TheVariants.{NoSuch, Busy, NotRunning, InDoubt, NumbersSpent, WrongState}
 use Rattle.container_model.specs.Record.{Record, Took, Asked, ask_each, acts, counts_none, has_numbers, is_busy, is_doubtful, is_moving, is_object, is_saving, link_has_numbers, quiet_answer, sends, unless, with_frame, with_object}
+use Rattle.container_model.specs.Located.{located, ready}
 use Rattle.container_model.specs.Grants.{Requested, grant_of, moved, request}
 
 -- the operation of a step, under a grant where it takes one
@@ -129,19 +130,11 @@ abbrev pub wants_ui : Option Verb → Bool
 wants_ui None = false
 wants_ui (Some v) = activates_ui v
 
-abbrev pub verb_in : Record → Object → Option Verb → Option Frame → Result Took ContainerFault
-verb_in r o v None = Err NoSuch
-verb_in r o v (Some frame) =
-    unless (is_doubtful frame.phase) InDoubt
-    (unless (is_saving frame.phase || is_busy frame.ui.state o || (wants_ui v && is_moving frame.ui.state)) Busy
-    (verb_linked r frame o v o.link))
-
-abbrev pub verb_at : Record → Option Verb → Option Object → Result Took ContainerFault
-verb_at r v None = Err NoSuch
-verb_at r v (Some o) = verb_in r o v (nth r.frames o.frame)
+abbrev pub verb_framed : Record → Option Verb → Object → Frame → Result Took ContainerFault
+verb_framed r v o frame = unless (wants_ui v && is_moving frame.ui.state) Busy (verb_linked r frame o v o.link)
 
 abbrev pub verb : Record → ℕ → ℤ → Result Took ContainerFault
-verb r o number = verb_at r (verb_of number) (find (is_object o) r.objects)
+verb r n number = located r n (ready (verb_framed r (verb_of number)))
 
 -- Close: an object that isn't passive takes the steps that hide it, and then ends.
 abbrev pub close_steps_made : Record → Frame → Object → Link → Option (List Step) → Result Took ContainerFault
@@ -154,16 +147,5 @@ close_linked r frame o option (Some l) =
     unless (not (has_numbers r.numbers l)) NumbersSpent
     (close_steps_made r frame o l (close_steps option l.states.object))
 
-abbrev pub close_in : Record → Object → CloseOption → Option Frame → Result Took ContainerFault
-close_in r o option None = Err NoSuch
-close_in r o option (Some frame) =
-    unless (is_doubtful frame.phase) InDoubt
-    (unless (is_saving frame.phase || is_busy frame.ui.state o) Busy
-    (close_linked r frame o option o.link))
-
-abbrev pub close_at : Record → CloseOption → Option Object → Result Took ContainerFault
-close_at r option None = Err NoSuch
-close_at r option (Some o) = close_in r o option (nth r.frames o.frame)
-
 abbrev pub close : Record → ℕ → CloseOption → Result Took ContainerFault
-close r o option = close_at r option (find (is_object o) r.objects)
+close r n option = located r n (ready (λ o frame. close_linked r frame o option o.link))

@@ -79,15 +79,6 @@ pub struct Done {
     pub content: Stored,
 }
 
-/// What a commit that is done led to.
-#[derive(Drop)]
-pub struct Committed {
-    /// What is to be done.
-    pub answer: Answer,
-    /// What was counted.
-    pub counted: Items<Done>,
-}
-
 /// An object of a document.
 #[derive(Drop)]
 pub struct Part {

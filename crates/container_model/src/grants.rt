@@ -7,6 +7,6 @@ use grant_core::Tools;
 pub enum Tells {
     /// The object has the frame from now on, under this grant, with these menus and this border.
     Gets(u32, Tools),
-    /// The object has given the frame up.
-    GivesUp,
+    /// The activation of this number has given the frame up.
+    GivesUp(u32),
 }

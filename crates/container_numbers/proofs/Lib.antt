@@ -8,3 +8,4 @@ pub mod SoundReplies
 pub mod SoundRooms
 pub mod SoundSaves
 pub mod SoundVerbs
+pub mod SoundInputs

@@ -13,11 +13,7 @@ use Rattle.container_model.specs.declared.record.Link.{Link}
 use Rattle.container_model.specs.declared.record.Object.{Object}
 use Rattle.container_model.specs.declared.record.Frame.{Frame}
 use Rattle.container_model.specs.declared.command.Command.{Command}
-use Rattle.container_model.specs.declared.command.Command.TheVariants as command
-use Rattle.container_model.specs.declared.answer.Action.TheVariants.{End}
-use Rattle.container_model.specs.declared.fault.ContainerFault.{ContainerFault}
-use Rattle.container_model.specs.declared.fault.ContainerFault.TheVariants.{NoSuch, Busy, InDoubt as Doubtful, Full, NumbersSpent, WrongState, UnknownClass}
-use Rattle.container_model.specs.Record.{Record, Took, MOST_FRAMES, MOST_OBJECTS, MOST_SERVERS, MARGIN, acts, asked_link, asked_object, count_alive, count_objects, counts_none, has_numbers, is_alive, is_busy, is_doubtful, is_moving, is_object, is_saving, link_has_numbers, without_first}
+use Rattle.container_model.specs.Record.{Record, Took, MOST_FRAMES, MOST_OBJECTS, MOST_SERVERS, MARGIN, acts, asked_link, asked_object, count_alive, count_objects, counts_none, has_numbers, is_alive, is_busy, is_doubtful, is_moving, is_object, is_saving, link_has_numbers, with_object, without_first}
 use Rattle.container_model.specs.Room.{HasNumbers, IfLinked, IsRoomy, debt_in}
 use Rattle.container_model.specs.Commands
 use Rattle.container_steady.specs.Steady.{Steady}
@@ -25,12 +21,13 @@ use Rattle.container_steady.proofs.SteadyCounts.{each_without}
 use Rattle.container_steady.proofs.SteadyLookups.{each_append, each_set, each_weaker, nth-set_other, pairs_map}
 use Rattle.container_steady.proofs.SteadyTells.{if_told, or_false, unless_ok}
 use Rattle.container_steady.proofs.SteadyTests.{found_numbered, not_false}
-use Rattle.container_numbers.specs.Sound.{SoundAfterCommands, NumbersAfterCommands}
+use Rattle.container_steady.specs.Taken.{IsTakenAs, as_close, as_delete, as_edit, as_insert, as_kill, as_new, as_run, as_save, as_start, as_verb, edited}
+use Rattle.container_steady.proofs.Taken.{command_taken}
 use Rattle.container_model.specs.Commands.{on_command}
 use Rattle.container_numbers.proofs.SoundAsking.{debts_few, link_checked, one_asked}
 use Rattle.container_numbers.proofs.SoundRooms.{Differs, IsSaved, Owing, Within, all_of, debts, each_of, length-set_nth, owes_less, put_within, sound_of, within_of}
 use Rattle.container_numbers.proofs.SoundSaves.{settled_sound}
-use Rattle.container_numbers.proofs.SoundVerbs.{close_sound, verb_sound}
+use Rattle.container_numbers.proofs.SoundVerbs.{closed_sound, stepped_sound}
 
 -- ---- a new frame: nobody owes anything for it
 get_more : (n : ℕ) (frames : List Frame) (frame : Frame) (i : ℕ) → debt_in n (Some frame) ≡ 0 → debt_in n (slice_get (frames ++ frame ∷ []) i) ≡ debt_in n (slice_get frames i)
@@ -58,16 +55,6 @@ frame_sound r frame h lt k none =
       grants = h.grants;
     }
 
-new_sound : {Greatest : ℕ → Type 0} (r : Record) (name : List ℕ) (w h : ℕ) (t : Took) → HasNumbers Greatest r → Commands.new r name w h ≡ Ok t → HasNumbers Greatest t.rec
-new_sound {Greatest} r name w h t s e =
-    let a = unless_ok (Commands.is_named name r.frames) Busy _ t e in
-    let b = unless_ok (not (Commands.is_size w h)) WrongState _ t a.1 in
-    let c = unless_ok (nat_le MOST_FRAMES (length r.frames)) Full _ t b.1 in
-    let d = unless_ok (nat_le r.numbers (length r.frames)) NumbersSpent _ t c.1 in
-    let made = d.1 in
-    let at : Commands.new_made r name w h ≡ t = cc in
-    subst (λ (z : Took). HasNumbers Greatest z.rec) at (frame_sound r (Commands.new_frame name w h) s (leb-false r.numbers (length r.frames) d.0) (omega arith) (λ n. refl))
-
 -- ---- a new object has no activation
 object_sound : {Greatest : ℕ → Type 0} (r : Record) (a : Object) → HasNumbers Greatest r → a.link ≡ None → r.last_object < r.numbers → HasNumbers Greatest (record r { objects = r.objects ++ a ∷ []; last_object = r.last_object + 1 })
 object_sound r a h none lt = record {
@@ -82,18 +69,6 @@ object_sound r a h none lt = record {
   grants = h.grants;
 }
 
-insert_at_sound : {Greatest : ℕ → Type 0} (r : Record) (f : ℕ) (kind : Kind) (area : Area) (found : Option Frame) (t : Took) → HasNumbers Greatest r → Commands.insert_at r f kind area found ≡ Ok t → HasNumbers Greatest t.rec
-insert_at_sound r f kind area None t s e = cc
-insert_at_sound {Greatest} r f kind area (Some frame) t s e =
-    let a = unless_ok (is_doubtful frame.phase) Doubtful _ t e in
-    let b = unless_ok (is_saving frame.phase) Busy _ t a.1 in
-    let c = unless_ok (Commands.is_empty_area area) WrongState _ t b.1 in
-    let d = unless_ok (nat_le MOST_OBJECTS (count_objects f r.objects)) Full _ t c.1 in
-    let n = unless_ok (nat_le r.numbers r.last_object) NumbersSpent _ t d.1 in
-    let made = n.1 in
-    let at : Commands.insert_made r f kind area ≡ t = cc in
-    subst (λ (z : Took). HasNumbers Greatest z.rec) at (object_sound r (Commands.new_object (r.last_object + 1) f kind area) s refl (leb-false r.numbers r.last_object n.0))
-
 -- ---- a new server
 server_sound : {Greatest : ℕ → Type 0} (r : Record) → HasNumbers Greatest r → length r.servers < r.numbers → HasNumbers Greatest (record r { servers = r.servers ++ false ∷ [] })
 server_sound r h lt = record {
@@ -106,14 +81,6 @@ server_sound r h lt = record {
   acts = h.acts;
   grants = h.grants;
 }
-
-start_sound : {Greatest : ℕ → Type 0} (r : Record) (t : Took) → HasNumbers Greatest r → Commands.start r ≡ Ok t → HasNumbers Greatest t.rec
-start_sound {Greatest} r t s e =
-    let a = unless_ok (nat_le MOST_SERVERS (count_alive r.servers)) Full _ t e in
-    let b = unless_ok (nat_le r.numbers (length r.servers)) NumbersSpent _ t a.1 in
-    let made = b.1 in
-    let at : Commands.start_made r ≡ t = cc in
-    subst (λ (z : Took). HasNumbers Greatest z.rec) at (server_sound r s (leb-false r.numbers (length r.servers) b.0))
 
 -- ---- a new activation has the margin before it
 margin_left : (numbers : ℕ) → nat_lt numbers MARGIN ≡ false → 8 ≤ numbers
@@ -131,46 +98,11 @@ run_made_sound {Greatest} r o inc s h found margin lt =
     let k : HasNumbers Greatest u = sound_of u w in
     record { limit = k.limit; room = k.room; saves = k.saves; frames = k.frames; servers = k.servers; objects = k.objects; acts = omega arith; grants = k.grants }
 
-run_in_sound : {Greatest : ℕ → Type 0} (r : Record) (o : Object) (inc : ℕ) (f : Option Frame) (t : Took) → Steady r → HasNumbers Greatest r → find (is_object o.number) r.objects ≡ Some o → Commands.run_in r o inc f ≡ Ok t → HasNumbers Greatest t.rec
-run_in_sound r o inc None t s h found e = cc
-run_in_sound {Greatest} r o inc (Some frame) t s h found e =
-    let a = unless_ok (not (is_alive r inc)) NoSuch _ t e in
-    let b = unless_ok (is_doubtful frame.phase) Doubtful _ t a.1 in
-    let c = unless_ok (is_saving frame.phase || is_busy frame.ui.state o) Busy _ t b.1 in
-    let d = unless_ok (is_some o.link) WrongState _ t c.1 in
-    let k = unless_ok (not (Commands.is_known_class o.class)) UnknownClass _ t d.1 in
-    let n = unless_ok (nat_lt r.numbers MARGIN || nat_le r.numbers r.last_act) NumbersSpent _ t k.1 in
-    let both = or_false (nat_lt r.numbers MARGIN) (nat_le r.numbers r.last_act) n.0 in
-    let made = n.1 in
-    let same : Commands.run_made r o inc ≡ t = cc in
-    subst (λ (z : Took). HasNumbers Greatest z.rec) same (run_made_sound r o inc s h found both.0 (leb-false r.numbers r.last_act both.1))
-
-run_at_sound : {Greatest : ℕ → Type 0} (r : Record) (n inc : ℕ) (o : Option Object) (t : Took) → Steady r → HasNumbers Greatest r → find (is_object n) r.objects ≡ o → Commands.run_at r inc o ≡ Ok t → HasNumbers Greatest t.rec
-run_at_sound r n inc None t s h found e = cc
-run_at_sound r n inc (Some o) t s h found e = run_in_sound r o inc (nth r.frames o.frame) t s h (found_numbered n r.objects o found) e
-
 -- ---- an edit is asked after a check
-edit_unless_sound : {Greatest : ℕ → Type 0} (r : Record) (o : Object) (bytes : List ℕ) (a b : Bool) (t : Took) → (b ≡ true → HasNumbers Greatest (Commands.edit_made r o bytes).rec)
-    → Commands.edit_unless r o bytes (if a then Some WrongState else if b then None else Some NumbersSpent) ≡ Ok t → HasNumbers Greatest t.rec
-edit_unless_sound r o bytes true b t k e = cc
-edit_unless_sound {Greatest} r o bytes false true t k e = (let same : Commands.edit_made r o bytes ≡ t = cc in subst (λ (z : Took). HasNumbers Greatest z.rec) same (k refl))
-edit_unless_sound r o bytes false false t k e = cc
-
-edit_linked_sound : {Greatest : ℕ → Type 0} (r : Record) (o : Object) (bytes : List ℕ) (link : Option Link) (t : Took) → Steady r → HasNumbers Greatest r → find (is_object o.number) r.objects ≡ Some o → o.link ≡ link → Commands.edit_linked r o bytes link ≡ Ok t → HasNumbers Greatest t.rec
-edit_linked_sound r o bytes None t s h found is e = cc
-edit_linked_sound r o bytes (Some l) t s h found is e = edit_unless_sound r o bytes (nat_lt Commands.MOST_EDIT (length bytes)) (has_numbers r.numbers l) t
-    (λ has. sound_of (Commands.edit_made r o bytes).rec (one_asked r (debts r.frames) o (Edit bytes) (within_of r s h) found (ap (link_has_numbers r.numbers) is ∙ has) (debts_few r.frames o.number o.frame))) e
-
-edit_in_sound : {Greatest : ℕ → Type 0} (r : Record) (o : Object) (bytes : List ℕ) (f : Option Frame) (t : Took) → Steady r → HasNumbers Greatest r → find (is_object o.number) r.objects ≡ Some o → Commands.edit_in r o bytes f ≡ Ok t → HasNumbers Greatest t.rec
-edit_in_sound r o bytes None t s h found e = cc
-edit_in_sound r o bytes (Some frame) t s h found e =
-    let a = unless_ok (is_doubtful frame.phase) Doubtful _ t e in
-    let b = unless_ok (is_saving frame.phase || is_busy frame.ui.state o) Busy _ t a.1 in
-    edit_linked_sound r o bytes o.link t s h found refl b.1
-
-edit_at_sound : {Greatest : ℕ → Type 0} (r : Record) (n : ℕ) (bytes : List ℕ) (o : Option Object) (t : Took) → Steady r → HasNumbers Greatest r → find (is_object n) r.objects ≡ o → Commands.edit_at r bytes o ≡ Ok t → HasNumbers Greatest t.rec
-edit_at_sound r n bytes None t s h found e = cc
-edit_at_sound r n bytes (Some o) t s h found e = edit_in_sound r o bytes (nth r.frames o.frame) t s h (found_numbered n r.objects o found) e
+edited_sound : {Greatest : ℕ → Type 0} (r : Record) (o : Object) (l : Link) (bytes : List ℕ) → Steady r → HasNumbers Greatest r → find (is_object o.number) r.objects ≡ Some o → o.link ≡ Some l → has_numbers r.numbers l ≡ true → HasNumbers Greatest (edited r o l bytes).rec
+edited_sound {Greatest} r o l bytes s h found is has =
+    subst (λ (z : Option Link). HasNumbers Greatest (with_object r (record o { link = asked_link (Edit bytes) z }))) is
+    (sound_of (Commands.edit_made r o bytes).rec (one_asked r (debts r.frames) o (Edit bytes) (within_of r s h) found (ap (link_has_numbers r.numbers) is ∙ has) (debts_few r.frames o.number o.frame)))
 
 -- ---- a save asks each object of its frame after a check
 have_one : (b has rest : Bool) → (if b then (if has then rest else false) else rest) ≡ true → b ≡ true → has ≡ true
@@ -218,18 +150,6 @@ saving_within r f frame h lt has =
       apart = pairs_map Differs (asked_object f op) r.objects (λ x y k q. k (sym (asked_number f op x) ∙ (q ∙ asked_number f op y))) h.apart;
     }
 
-save_at_sound : {Greatest : ℕ → Type 0} (r : Record) (f : ℕ) (found : Option Frame) (t : Took) → Steady r → HasNumbers Greatest r → Commands.save_at r f found ≡ Ok t → HasNumbers Greatest t.rec
-save_at_sound r f None t s h e = cc
-save_at_sound {Greatest} r f (Some frame) t s h e =
-    let a = unless_ok (is_doubtful frame.phase) Doubtful _ t e in
-    let b = unless_ok (is_saving frame.phase || is_moving frame.ui.state || Commands.any_busy f frame.ui.state r.objects) Busy _ t a.1 in
-    let c = unless_ok (nat_le r.numbers frame.k || not (Commands.all_have_numbers f r.numbers r.objects)) NumbersSpent _ t b.1 in
-    let both = or_false (nat_le r.numbers frame.k) (not (Commands.all_have_numbers f r.numbers r.objects)) c.0 in
-    let made = c.1 in
-    let same : Commands.save_made r f frame ≡ t = cc in
-    subst (λ (z : Took). HasNumbers Greatest z.rec) same (settled_sound (Commands.saving r f frame)
-    (saving_within r f frame (within_of r s h) (leb-false r.numbers frame.k both.0) (not_false (Commands.all_have_numbers f r.numbers r.objects) both.1)))
-
 -- ---- an object goes
 deleted_sound : {Greatest : ℕ → Type 0} (r : Record) (o : Object) → HasNumbers Greatest r → HasNumbers Greatest (record r { objects = without_first (is_object o.number) r.objects })
 deleted_sound r o h = record {
@@ -244,41 +164,20 @@ deleted_sound r o h = record {
   grants = h.grants;
 }
 
-delete_in_sound : {Greatest : ℕ → Type 0} (r : Record) (o : Object) (f : Option Frame) (t : Took) → HasNumbers Greatest r → Commands.delete_in r o f ≡ Ok t → HasNumbers Greatest t.rec
-delete_in_sound r o None t h e = cc
-delete_in_sound {Greatest} r o (Some frame) t h e =
-    let a = unless_ok (is_doubtful frame.phase) Doubtful _ t e in
-    let b = unless_ok (is_saving frame.phase || is_busy frame.ui.state o) Busy _ t a.1 in
-    let c = unless_ok (is_some o.link) WrongState _ t b.1 in
-    let made = c.1 in
-    let same : Commands.delete_made r o ≡ t = cc in
-    subst (λ (z : Took). HasNumbers Greatest z.rec) same (deleted_sound r o h)
-
-delete_at_sound : {Greatest : ℕ → Type 0} (r : Record) (o : Option Object) (t : Took) → HasNumbers Greatest r → Commands.delete_at r o ≡ Ok t → HasNumbers Greatest t.rec
-delete_at_sound r None t h e = cc
-delete_at_sound r (Some o) t h e = delete_in_sound r o (nth r.frames o.frame) t h e
-
--- ---- a server is to be ended
-kill_sound : {Greatest : ℕ → Type 0} (r : Record) (inc : ℕ) (t : Took) → HasNumbers Greatest r → Commands.kill r inc ≡ Ok t → HasNumbers Greatest t.rec
-kill_sound {Greatest} r inc t h e = if_told (λ (z : Result Took ContainerFault). z ≡ Ok t → HasNumbers Greatest t.rec) (is_alive r inc) (Ok (counts_none r (acts (End inc ∷ [])))) (Err NoSuch)
-    (λ a g. let same : counts_none r (acts (End inc ∷ [])) ≡ t = cc in subst (λ (z : Took). HasNumbers Greatest z.rec) same h)
-    (λ a g. cc) e
-
 -- ---- each command leaves a record sound
-commands_keep : {Greatest : ℕ → Type 0} (r : Record) (c : Command) (t : Took) → Steady r → HasNumbers Greatest r → on_command r c ≡ Ok t → HasNumbers Greatest t.rec
-commands_keep r (command.New name w h) t s k e = new_sound r name w h t k e
-commands_keep r (command.Insert f kind area) t s k e = insert_at_sound r f (Commands.kind_of kind) area (nth r.frames f) t k e
-commands_keep r command.Start t s k e = start_sound r t k e
-commands_keep r (command.Run o inc) t s k e = run_at_sound r o inc (find (is_object o) r.objects) t s k refl e
-commands_keep r (command.Edit o bytes) t s k e = edit_at_sound r o bytes (find (is_object o) r.objects) t s k refl e
-commands_keep r (command.Save f) t s k e = save_at_sound r f (nth r.frames f) t s k e
-commands_keep r (command.Delete o) t s k e = delete_at_sound r (find (is_object o) r.objects) t k e
-commands_keep r (command.Kill inc) t s k e = kill_sound r inc t k e
-commands_keep r (command.Close o option) t s k e = close_sound r o option t s k e
-commands_keep r (command.Verb o number) t s k e = verb_sound r o number t s k e
+taken_sound : {Greatest : ℕ → Type 0} (r : Record) (c : Command) (t : Took) → Steady r → HasNumbers Greatest r → IsTakenAs r t c → HasNumbers Greatest t.rec
+taken_sound {Greatest} r _ t s h (as_new name w k new made) = subst (λ (z : Took). HasNumbers Greatest z.rec) made (frame_sound r (Commands.new_frame name w k) h new.numbers (omega arith) (λ n. refl))
+taken_sound {Greatest} r _ t s h (as_insert f kind area at made) = subst (λ (z : Took). HasNumbers Greatest z.rec) made
+    (object_sound r (Commands.new_object (r.last_object + 1) f (Commands.kind_of kind) area) h refl at.numbers)
+taken_sound {Greatest} r _ t s h (as_start started made) = subst (λ (z : Took). HasNumbers Greatest z.rec) made (server_sound r h started.numbers)
+taken_sound {Greatest} r _ t s h (as_run n inc at run made) = subst (λ (z : Took). HasNumbers Greatest z.rec) made (run_made_sound r at.object inc s h at.own run.margin run.numbers)
+taken_sound {Greatest} r _ t s h (as_edit n bytes go small has made) = subst (λ (z : Took). HasNumbers Greatest z.rec) made (edited_sound r go.at.object go.link bytes s h go.at.own go.linked has)
+taken_sound {Greatest} r _ t s h (as_save f at made) = subst (λ (z : Took). HasNumbers Greatest z.rec) made (settled_sound (Commands.saving r f at.frame) (saving_within r f at.frame (within_of r s h) at.numbers at.calls))
+taken_sound {Greatest} r _ t s h (as_delete n at passive made) = subst (λ (z : Took). HasNumbers Greatest z.rec) made (deleted_sound r at.object h)
+taken_sound {Greatest} r _ t s h (as_kill inc alive made) = subst (λ (z : Took). HasNumbers Greatest z.rec) made h
+taken_sound {Greatest} r _ t s h (as_close n option go ts has row made) = subst (λ (z : Took). HasNumbers Greatest z.rec) made
+    (closed_sound r go.at.object go.at.frame go.link (within_of r s h) go.at.own go.at.inside go.linked has option ts row)
+taken_sound r _ t s h (as_verb n number go verb) = stepped_sound r go.at.object go.at.frame go.link s h go.at.own go.at.inside go.linked verb.verb verb.ts t verb.row verb.stepped
 
-pub sound_commands : SoundAfterCommands
-sound_commands r c t s h e = commands_keep r c t s h e
-
-pub numbers_commands : NumbersAfterCommands
-numbers_commands limit r c t s h e = commands_keep r c t s h e
+pub commands_keep : {Greatest : ℕ → Type 0} (r : Record) (c : Command) (t : Took) → Steady r → HasNumbers Greatest r → on_command r c ≡ Ok t → HasNumbers Greatest t.rec
+commands_keep r c t s h e = taken_sound r c t s h (command_taken r c t e)

@@ -1,6 +1,7 @@
 -- Messages leave a record sound.
 use Rattle.std.proofs.Common.{◌≡◌, ◌≤◌, ◌+◌, ◌==◌, ℕ, true, false, List, Option, Some, None, Result, Ok, Err, refl, sym, ◌∙◌, ap, subst, arith, if◌then◌else◌, cond}
 use Rattle.std.proofs.lemmas.Bool.{eqb-true}
+use Rattle.std.specs.Prelude.{IfSome}
 use Rattle.wire_msgs.specs.Found.{find, nth, set_nth}
 use Rattle.wire_msgs.specs.declared.operation.Operation.TheVariants.{UiDeactivate}
 use Rattle.wire_msgs.specs.declared.answer.Answer.{Answer}
@@ -10,7 +11,7 @@ use Rattle.object_parts.specs.Limits.{is_within}
 use Rattle.storage_tree.specs.declared.stored.Stored.{Stored}
 use Rattle.grant_core.specs.Frames.{after}
 use Rattle.grant_core.specs.Grants as grant
-use Rattle.grant_core.specs.Grants.{Event}
+use Rattle.grant_core.specs.Grants.{Event, Revoked, who}
 use Rattle.grant_core.specs.declared.grant_states.Claim.{Claim}
 use Rattle.grant_core.specs.declared.grant_states.Tools.{Tools}
 use Rattle.grant_core.specs.declared.grant_states.GrantState.{GrantState}
@@ -22,14 +23,13 @@ use Rattle.container_model.specs.declared.record.Object.{Object}
 use Rattle.container_model.specs.declared.record.Frame.{Frame}
 use Rattle.container_model.specs.declared.fault.ContainerFault.{ContainerFault}
 use Rattle.container_model.specs.declared.fault.ContainerFault.TheVariants.{WrongLink, Stale, BadAnswer}
-use Rattle.container_model.specs.Grants.{event_of, grant_each, moved, passed_to, regranted, regranted_in, request}
+use Rattle.container_model.specs.Grants.{event_of, grant_each, grant_of, is_by, moved, passed_to, regranted, regranted_by, regranted_in, request}
 use Rattle.container_model.specs.Record.{Record, Took, is_alive, is_linked, is_object, with_frame, is_link}
 use Rattle.container_model.specs.Room.{IfLinked, IsRoomy, IsSound, grant_debt, HasNumbers}
 use Rattle.container_model.specs.Saves.{settle}
 use Rattle.container_model.specs.Messages.{Replied, ask_found, ask_framed, is_held_by, is_open_to, on_ask, on_reply, on_write, relieved, replied_grant, replied_object, replied_record, reply_found, reply_link, reply_taken, write_found, write_link, write_made, written_object, on_message}
 use Rattle.container_steady.specs.Roles.{IsClaim, SteadyGrant}
 use Rattle.container_steady.specs.Steady.{Steady}
-use Rattle.container_numbers.specs.Sound.{SoundAfterMessages, NumbersAfterMessages}
 use Rattle.container_steady.proofs.SteadyFinds.{acts_differ, found_by_number}
 use Rattle.container_steady.proofs.SteadyLookups.{each_both, each_found, each_nth, each_weaker}
 use Rattle.container_steady.proofs.SteadyHolders.{asked_state, held_by, linked_by}
@@ -57,9 +57,9 @@ found_less r D E s h le = record {
 }
 
 -- ---- a reply
-event_told : (s : GrantState) (t : Tells) → IsToldOf (event_of s t)
+event_told : (s : GrantState) (t : Tells) → IfSome (event_of s t) IsToldOf
 event_told s (Gets g tools) = tt
-event_told s GivesUp = tt
+event_told s (GivesUp act) = elim (is_by act (who s)) as (λ b. IfSome (if b then Some (Revoked (grant_of s)) else None) IsToldOf) [ true ↦ tt | false ↦ tt ]
 
 module _ {Greatest : ℕ → Type 0} (r : Record) (inc act n : ℕ) (answer : Answer) (o : Object) (re : Replied) (s : Steady r) (h : HasNumbers Greatest r) (found : find (is_linked inc act) r.objects ≡ Some o) (is : reply_link n answer o.link ≡ Ok re) where
   -- whatever it owes, it owes on
@@ -101,9 +101,13 @@ module _ {Greatest : ℕ → Type 0} (r : Record) (inc act n : ℕ) (answer : An
     regrants : HasNumbers Greatest (settle (grant_each u cs).rec)
     regrants = settled_sound (grant_each u cs).rec (subst (λ (fs : List Frame). Within Greatest (debts fs) (grant_each u cs).rec) (sym (granted_frames cs u)) (granted_pays cs u (debts frames) framed))
 
+  moved_as : (frame : Frame) (e : Option Event) → nth r.frames o.frame ≡ Some frame → IfSome e IsToldOf → HasNumbers Greatest (settle (regranted_by (replied_record r inc act o re) o.frame frame e).rec)
+  moved_as frame None at told = unmoved
+  moved_as frame (Some e) at told = regrants frame e at told
+
   moved_in : (t : Tells) (f : Option Frame) → nth r.frames o.frame ≡ f → HasNumbers Greatest (settle (regranted_in (replied_record r inc act o re) o.frame t f).rec)
   moved_in t None at = unmoved
-  moved_in t (Some frame) at = regrants frame (event_of frame.ui.state t) at (event_told frame.ui.state t)
+  moved_in t (Some frame) at = moved_as frame (event_of frame.ui.state t) at (event_told frame.ui.state t)
 
   moved_by : (t : Option Tells) → HasNumbers Greatest (settle (regranted (replied_record r inc act o re) o.frame t).rec)
   moved_by None = unmoved
@@ -205,7 +209,7 @@ ask_sound {Greatest} r inc act g t s h e = if_told (λ (z : Result Took Containe
     (λ a q. cc) e
 
 -- each message leaves a record sound
-messages_keep : {Greatest : ℕ → Type 0} (r : Record) (link : ℕ) (m : Message) (t : Took) → Steady r → HasNumbers Greatest r → on_message r link m ≡ Ok t → HasNumbers Greatest t.rec
+pub messages_keep : {Greatest : ℕ → Type 0} (r : Record) (link : ℕ) (m : Message) (t : Took) → Steady r → HasNumbers Greatest r → on_message r link m ≡ Ok t → HasNumbers Greatest t.rec
 messages_keep r link (Call inc act n op) t s h e = cc
 messages_keep {Greatest} r link (Reply inc act n answer) t s h e = if_told (λ (z : Result Took ContainerFault). z ≡ Ok t → HasNumbers Greatest t.rec) (inc == link) (on_reply r inc act n answer) (Err WrongLink)
     (λ a g. reply_sound r inc act n answer t s h g)
@@ -216,9 +220,3 @@ messages_keep {Greatest} r link (Write inc act n w content) t s h e = if_told (�
 messages_keep {Greatest} r link (Ask inc act g) t s h e = if_told (λ (z : Result Took ContainerFault). z ≡ Ok t → HasNumbers Greatest t.rec) (inc == link) (on_ask r inc act g) (Err WrongLink)
     (λ a q. ask_sound r inc act g t s h q)
     (λ a q. cc) e
-
-pub sound_messages : SoundAfterMessages
-sound_messages r link m t s h e = messages_keep r link m t s h e
-
-pub numbers_messages : NumbersAfterMessages
-numbers_messages limit r link m t s h e = messages_keep r link m t s h e

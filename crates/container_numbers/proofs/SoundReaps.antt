@@ -19,7 +19,6 @@ use Rattle.container_model.specs.Messages.{on_reap, reap_made, reaped, reaped_gr
 use Rattle.container_model.specs.Room.{HasNumbers, debt_in, grant_debt}
 use Rattle.container_model.specs.Saves.{kept}
 use Rattle.container_steady.specs.Steady.{Steady}
-use Rattle.container_numbers.specs.Sound.{SoundAfterReaps, NumbersAfterReaps}
 use Rattle.container_steady.proofs.SteadyLookups.{each_both, each_map, pairs_map}
 use Rattle.container_steady.proofs.SteadyTells.{if_told}
 use Rattle.container_numbers.proofs.SoundGrants.{Pays, pays_stays, pays_told, told, told-append, told_waits}
@@ -138,13 +137,7 @@ module _ (r : Record) (inc : ℕ) (s : Steady r) where
   reap_sound {Greatest} h = settled_sound (reaped_grants r inc).rec
       (subst (λ (frames : List Frame). Within Greatest (debts frames) (reaped_grants r inc).rec) (sym (granted_frames claims gone)) (granted_pays claims gone (debts freed_frames) (gone_within (within_of r s h))))
 
-reaps_keep : {Greatest : ℕ → Type 0} (r : Record) (inc : ℕ) (t : Took) → Steady r → HasNumbers Greatest r → on_reap r inc ≡ Ok t → HasNumbers Greatest t.rec
+pub reaps_keep : {Greatest : ℕ → Type 0} (r : Record) (inc : ℕ) (t : Took) → Steady r → HasNumbers Greatest r → on_reap r inc ≡ Ok t → HasNumbers Greatest t.rec
 reaps_keep {Greatest} r inc t s h e = if_told (λ (z : Result Took ContainerFault). z ≡ Ok t → HasNumbers Greatest t.rec) (is_alive r inc) (Ok (reap_made r inc)) (Err NoSuch)
     (λ a g. let same : reap_made r inc ≡ t = cc in subst (λ (z : Took). HasNumbers Greatest z.rec) same (reap_sound r inc s h))
     (λ a g. cc) e
-
-pub sound_reaps : SoundAfterReaps
-sound_reaps r inc t s h e = reaps_keep r inc t s h e
-
-pub numbers_reaps : NumbersAfterReaps
-numbers_reaps limit r inc t s h e = reaps_keep r inc t s h e

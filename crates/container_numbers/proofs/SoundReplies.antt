@@ -62,7 +62,7 @@ replied_fine l operation.InPlace told.Done = done_fine l operation.InPlace (omeg
 replied_fine l operation.InPlace _ = tt
 replied_fine l (operation.UiActivate g) (told.Tools menus border) = granted_fine l (Gets g (record { menus = menus; border = border })) (done l (operation.UiActivate g)) (done_fine l (operation.UiActivate g) (omega arith))
 replied_fine l (operation.UiActivate g) _ = tt
-replied_fine l operation.UiDeactivate told.Done = granted_fine l GivesUp (done l operation.UiDeactivate) (done_fine l operation.UiDeactivate (omega arith))
+replied_fine l operation.UiDeactivate told.Done = granted_fine l (GivesUp l.act) (done l operation.UiDeactivate) (done_fine l operation.UiDeactivate (omega arith))
 replied_fine l operation.UiDeactivate _ = tt
 replied_fine l operation.InPlaceDeactivate told.Done = done_fine l operation.InPlaceDeactivate (omega arith)
 replied_fine l operation.InPlaceDeactivate _ = tt

@@ -13,9 +13,8 @@ use Rattle.container_model.specs.declared.record.Phase.{Phase}
 use Rattle.container_model.specs.declared.record.Phase.TheVariants.{Idle, Saving, HandingOff, Committing, InDoubt}
 use Rattle.container_model.specs.Record.{Record, Took, asked_link}
 use Rattle.container_model.specs.Room.{HasNumbers, IfLinked, IsRoomy, debt, debt_in, grant_debt}
-use Rattle.container_model.specs.Saves.{awaits, cleared, commit_at, commit_fitting, commit_made, committed_frame, completed, completion, image, is_committing, is_ready, is_ready_at, settle, settled_frame, settled_frames}
+use Rattle.container_model.specs.Saves.{commit_done, awaits, cleared, commit_at, commit_fitting, commit_made, committed_frame, completed, completion, image, is_committing, is_ready, is_ready_at, settle, settled_frame, settled_frames}
 use Rattle.container_model.proofs.Completing.{completed_in, completed_out}
-use Rattle.container_numbers.specs.Sound.{SoundAfterCommits, NumbersAfterCommits}
 use Rattle.container_steady.proofs.SteadyLookups.{each_map, each_nth, each_set, each_settled, each_weaker, nth-set_other, nth-set_same}
 use Rattle.container_steady.proofs.SteadyTells.{if_told}
 use Rattle.container_numbers.proofs.SoundRooms.{IsSaved, Owing, Within, all_of, asked_linked, debts, each_of, length-set_nth, owes_less, within_of}
@@ -118,8 +117,5 @@ commit_keeps {Greatest} r f (Some frame) t at h e = if_told (λ (z : Result Took
     (λ c g. fitting_keeps r f frame (image r f) t at (committing_from frame.phase c) h g)
     (λ c g. cc) e
 
-pub sound_commits : SoundAfterCommits
-sound_commits r f t s h e = commit_keeps r f (nth r.frames f) t refl h e
-
-pub numbers_commits : NumbersAfterCommits
-numbers_commits limit r f t s h e = commit_keeps r f (nth r.frames f) t refl h e
+pub commits_keep : {Greatest : ℕ → Type 0} (r : Record) (f : ℕ) (t : Took) → HasNumbers Greatest r → commit_done r f ≡ Ok t → HasNumbers Greatest t.rec
+commits_keep r f t h e = commit_keeps r f (nth r.frames f) t refl h e

@@ -26,6 +26,7 @@ use Rattle.container_model.specs.Room.{HasNumbers, IfLinked, IsRoomy}
 use Rattle.container_model.specs.Verbs as verbs
 use Rattle.container_model.specs.Verbs.{before_taking, claim_of, claimed, gives_up, holder_has_numbers, holder_of, leaving_made, object_has_numbers, operation_of, revoked, revoked_at, stepped_link, steps_now, takes, taking_made}
 use Rattle.container_steady.specs.Steady.{Steady}
+use Rattle.container_steady.specs.Taken.{IsStepped, steps_leave, steps_nothing, steps_take}
 use Rattle.container_steady.proofs.SteadyFinds.{find-put_other, find-put_same}
 use Rattle.container_steady.proofs.SteadyLookups.{each_found, each_nth}
 use Rattle.container_steady.proofs.SteadyTells.{if_told, or_false, unless_ok}
@@ -172,64 +173,13 @@ module _ {Greatest : ℕ → Type 0} (r : Record) (o : Object) (frame : Frame) (
       let fewer = fewer_now frame.ui.state ts in
       put_left (revoked r frame o l).rec (stepped_link (r.last_g + 1) l (steps_now frame.ui.state ts)).link (revoked_left (holder_of frame.ui.state) lt c) (stepped after (r.last_g + 1) (steps_now frame.ui.state ts) (omega arith))
 
-  stepping_sound : (ts : List Step) (t : Took) → length ts ≤ 3 → verbs.stepping r frame o l ts ≡ Ok t → HasNumbers Greatest t.rec
-  stepping_sound ts t few g = if_told (λ (z : Result Took ContainerFault). z ≡ Ok t → HasNumbers Greatest t.rec) (takes ts) (verbs.taking r frame o l ts) (Ok (leaving_made r frame o l ts))
-      (λ b q.
-      let tests = unless_ok (nat_le r.numbers r.last_g || not (holder_has_numbers r (holder_of frame.ui.state))) NumbersSpent _ t q in
-      let made = tests.1 in
-      let both = or_false (nat_le r.numbers r.last_g) (not (holder_has_numbers r (holder_of frame.ui.state))) tests.0 in
-      let same : taking_made r frame o l ts ≡ t = cc in
-      subst (λ (z : Took). HasNumbers Greatest z.rec) same (taking_sound ts few (leb-false r.numbers r.last_g both.0) (not_false (holder_has_numbers r (holder_of frame.ui.state)) both.1)))
-      (λ b q. let same : leaving_made r frame o l ts ≡ t = cc in subst (λ (z : Took). HasNumbers Greatest z.rec) same (leaving_sound ts few)) g
-
-  pub closing_sound : (row : Option (List Step)) (t : Took) → IsFew row → verbs.close_steps_made r frame o l row ≡ Ok t → HasNumbers Greatest t.rec
-  closing_sound None t few g = cc
-  closing_sound (Some ts) t few g = (let same : leaving_made r frame o l ts ≡ t = cc in subst (λ (z : Took). HasNumbers Greatest z.rec) same (leaving_sound ts few))
+  pub closed_sound : (option : CloseOption) (ts : List Step) → close_steps option l.states.object ≡ Some ts → HasNumbers Greatest (leaving_made r frame o l ts).rec
+  closed_sound option ts row = leaving_sound ts (subst IsFew row (few_closes option l.states.object))
 
 -- ---- what a verb asks for
-verb_stepped : {Greatest : ℕ → Type 0} (r : Record) (o : Object) (frame : Frame) (l : Link) (row : Option (List Step)) (t : Took) → Steady r → HasNumbers Greatest r → find (is_object o.number) r.objects ≡ Some o → nth r.frames o.frame ≡ Some frame → o.link ≡ Some l → IsFew row → verbs.verb_steps r frame o l row ≡ Ok t → HasNumbers Greatest t.rec
-verb_stepped r o frame l None t s h found at is few g = cc
-verb_stepped {Greatest} r o frame l (Some []) t s h found at is few g = (let same : counts_none r quiet_answer ≡ t = cc in subst (λ (z : Took). HasNumbers Greatest z.rec) same h)
-verb_stepped r o frame l (Some (x ∷ xs)) t s h found at is few g =
-    let a = unless_ok (not (has_numbers r.numbers l)) NumbersSpent _ t g in
-    stepping_sound r o frame l (within_of r s h) found at is (not_false (has_numbers r.numbers l) a.0) (x ∷ xs) t few a.1
-
-verb_numbered : {Greatest : ℕ → Type 0} (r : Record) (o : Object) (frame : Frame) (v : Option Verb) (link : Option Link) (t : Took) → Steady r → HasNumbers Greatest r → find (is_object o.number) r.objects ≡ Some o → nth r.frames o.frame ≡ Some frame → o.link ≡ link → verbs.verb_linked r frame o v link ≡ Ok t → HasNumbers Greatest t.rec
-verb_numbered r o frame v None t s h found at is e = cc
-verb_numbered r o frame None (Some l) t s h found at is e = cc
-verb_numbered r o frame (Some v) (Some l) t s h found at is e = verb_stepped r o frame l (steps v l.states.object) t s h found at is (few_steps v l.states.object) e
-
-verb_in_sound : {Greatest : ℕ → Type 0} (r : Record) (o : Object) (v : Option Verb) (f : Option Frame) (t : Took) → Steady r → HasNumbers Greatest r → find (is_object o.number) r.objects ≡ Some o → nth r.frames o.frame ≡ f → verbs.verb_in r o v f ≡ Ok t → HasNumbers Greatest t.rec
-verb_in_sound r o v None t s h found at e = cc
-verb_in_sound r o v (Some frame) t s h found at e =
-    let a = unless_ok (is_doubtful frame.phase) Doubtful _ t e in
-    let b = unless_ok (is_saving frame.phase || is_busy frame.ui.state o || (verbs.wants_ui v && is_moving frame.ui.state)) Busy _ t a.1 in
-    verb_numbered r o frame v o.link t s h found at refl b.1
-
-verb_at_sound : {Greatest : ℕ → Type 0} (r : Record) (n : ℕ) (v : Option Verb) (o : Option Object) (t : Took) → Steady r → HasNumbers Greatest r → find (is_object n) r.objects ≡ o → verbs.verb_at r v o ≡ Ok t → HasNumbers Greatest t.rec
-verb_at_sound r n v None t s h found e = cc
-verb_at_sound r n v (Some o) t s h found e = verb_in_sound r o v (nth r.frames o.frame) t s h (found_numbered n r.objects o found) refl e
-
-pub verb_sound : {Greatest : ℕ → Type 0} (r : Record) (n : ℕ) (number : ℤ) (t : Took) → Steady r → HasNumbers Greatest r → verbs.verb r n number ≡ Ok t → HasNumbers Greatest t.rec
-verb_sound r n number t s h e = verb_at_sound r n (verb_of number) (find (is_object n) r.objects) t s h refl e
-
--- ---- what a close asks for
-close_numbered : {Greatest : ℕ → Type 0} (r : Record) (o : Object) (frame : Frame) (option : CloseOption) (link : Option Link) (t : Took) → Steady r → HasNumbers Greatest r → find (is_object o.number) r.objects ≡ Some o → nth r.frames o.frame ≡ Some frame → o.link ≡ link → verbs.close_linked r frame o option link ≡ Ok t → HasNumbers Greatest t.rec
-close_numbered r o frame option None t s h found at is e = cc
-close_numbered r o frame option (Some l) t s h found at is e =
-    let a = unless_ok (not (has_numbers r.numbers l)) NumbersSpent _ t e in
-    closing_sound r o frame l (within_of r s h) found at is (not_false (has_numbers r.numbers l) a.0) (close_steps option l.states.object) t (few_closes option l.states.object) a.1
-
-close_in_sound : {Greatest : ℕ → Type 0} (r : Record) (o : Object) (option : CloseOption) (f : Option Frame) (t : Took) → Steady r → HasNumbers Greatest r → find (is_object o.number) r.objects ≡ Some o → nth r.frames o.frame ≡ f → verbs.close_in r o option f ≡ Ok t → HasNumbers Greatest t.rec
-close_in_sound r o option None t s h found at e = cc
-close_in_sound r o option (Some frame) t s h found at e =
-    let a = unless_ok (is_doubtful frame.phase) Doubtful _ t e in
-    let b = unless_ok (is_saving frame.phase || is_busy frame.ui.state o) Busy _ t a.1 in
-    close_numbered r o frame option o.link t s h found at refl b.1
-
-close_at_sound : {Greatest : ℕ → Type 0} (r : Record) (n : ℕ) (option : CloseOption) (o : Option Object) (t : Took) → Steady r → HasNumbers Greatest r → find (is_object n) r.objects ≡ o → verbs.close_at r option o ≡ Ok t → HasNumbers Greatest t.rec
-close_at_sound r n option None t s h found e = cc
-close_at_sound r n option (Some o) t s h found e = close_in_sound r o option (nth r.frames o.frame) t s h (found_numbered n r.objects o found) refl e
-
-pub close_sound : {Greatest : ℕ → Type 0} (r : Record) (n : ℕ) (option : CloseOption) (t : Took) → Steady r → HasNumbers Greatest r → verbs.close r n option ≡ Ok t → HasNumbers Greatest t.rec
-close_sound r n option t s h e = close_at_sound r n option (find (is_object n) r.objects) t s h refl e
+pub stepped_sound : {Greatest : ℕ → Type 0} (r : Record) (o : Object) (frame : Frame) (l : Link) → Steady r → HasNumbers Greatest r → find (is_object o.number) r.objects ≡ Some o → nth r.frames o.frame ≡ Some frame → o.link ≡ Some l → (v : Verb) (ts : List Step) (t : Took) → steps v l.states.object ≡ Some ts → IsStepped r frame o l ts t → HasNumbers Greatest t.rec
+stepped_sound {Greatest} r o frame l s h found at is v ts t row (steps_nothing none made) = subst (λ (z : Took). HasNumbers Greatest z.rec) made h
+stepped_sound {Greatest} r o frame l s h found at is v ts t row (steps_leave has leaves made) = subst (λ (z : Took). HasNumbers Greatest z.rec) made
+    (leaving_sound r o frame l (within_of r s h) found at is has ts (subst IsFew row (few_steps v l.states.object)))
+stepped_sound {Greatest} r o frame l s h found at is v ts t row (steps_take has takes lt holder made) = subst (λ (z : Took). HasNumbers Greatest z.rec) made
+    (taking_sound r o frame l (within_of r s h) found at is has ts (subst IsFew row (few_steps v l.states.object)) lt holder)

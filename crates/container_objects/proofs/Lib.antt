@@ -2,4 +2,4 @@ pub mod CommitsObjects
 pub mod RepliesTold
 pub mod VerbsMade
 pub mod VerbsTake
-pub use Rattle.container_checks.proofs.LookupPlaces
+pub mod VerbsTaken

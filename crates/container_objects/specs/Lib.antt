@@ -1,3 +1,2 @@
 pub mod Stepping
 pub mod Told
-pub use Rattle.container_checks.specs.Went

@@ -1,15 +1,12 @@
-//! Commits that are done: what they make of a frame and of its objects, and what they count.
+//! Commits that are done: what they make of a frame and of its objects.
 
-ghost use Rattle.std.specs.Prelude.{◌≡◌, ◌≤◌, IfOk, length, map, vec_len};
+ghost use Rattle.std.specs.Prelude.{◌≡◌, length, map, vec_len};
 ghost use Rattle.container_links.specs.Asking.{prepared};
-ghost use Rattle.container_model.specs.Saves.{committed_frame, completed, completion, counted_object, done_entry, part_of, parts_in};
+ghost use Rattle.container_model.specs.Saves.{committed_frame, completed, completion, counted_object};
 ghost use Rattle.container_model.specs.declared.record.Frame as declared;
 
-use container_checks::contents::kept;
 use container_links::asking::{Prepared, take_up};
-use container_model::answer::Done;
 use container_model::record::{Frame, Object, Phase};
-use std::alloc::{AllocError, Global};
 use wire_msgs::operation::Operation;
 
 /// What the objects of a frame are told once its save is counted.
@@ -70,31 +67,4 @@ pub fn complete_objects(f: u32, objects: &mut Vec<Object>, takes: Vec<Prepared>)
 {
     count_all(f, objects);
     take_up(objects, takes);
-}
-
-/// What is counted of an object.
-fn entry(alloc: Global, k: u32, object: &Object) -> Result<Done, AllocError>
-    ensures { IfOk result (λ d. d ≡ done_entry k (part_of object.now)) }
-{
-    Ok(Done {
-        object: object.number,
-        k,
-        content: kept(object).copy(alloc)?,
-    })
-}
-
-/// What the save of number `k` counts of the objects of a frame, in order.
-///
-/// Refused for want of memory alone.
-pub fn entries(alloc: Global, f: u32, k: u32, objects: &[Object]) -> Result<Vec<Done>, AllocError>
-    ensures counted { IfOk result (λ v. v.items ≡ map (done_entry k) (parts_in f objects.now)) }
-    ensures few { IfOk result (λ v. vec_len v ≤ length objects.now) }
-{
-    let mut done = Vec::new(alloc);
-    for object in objects {
-        if object.frame == f {
-            done.push(entry(alloc, k, object)?)?;
-        }
-    }
-    Ok(done)
 }

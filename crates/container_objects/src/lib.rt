@@ -11,5 +11,3 @@ pub mod replies;
 pub mod saves;
 pub mod takings;
 pub mod writes;
-
-pub use container_checks::{checks, lookups, servers, verbs};

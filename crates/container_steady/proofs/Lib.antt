@@ -1,4 +1,4 @@
-pub mod EditsTaken
+pub mod Taken
 pub mod SteadyClaims
 pub mod SteadyCloses
 pub mod SteadyContents

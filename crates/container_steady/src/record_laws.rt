@@ -1,6 +1,7 @@
 //! Laws of a steady record. Each function is empty: its contract is the law, which is proved.
 
 ghost use Rattle.container_steady.specs.Steady.{ClosesAreOpen, CommitsAnsweredContents, DocumentsHold, FullByTheFileAlone, OneObjectAnActivation, SteadyFromTheStart};
+ghost use Rattle.container_steady.specs.Taken.{CommandsAreTakenSo};
 
 /// A container without frames, objects and servers has a steady record.
 pub fn steady_from_the_start()
@@ -31,4 +32,9 @@ pub fn documents_hold()
 /// Where a record is steady, there is no room for a frame's document only where its tree is past what a file holds.
 pub fn full_by_the_file_alone()
     ensures { FullByTheFileAlone }
+{}
+
+/// Each command that is taken has its object and its frame, and makes what its case says.
+pub fn commands_are_taken_so()
+    ensures { CommandsAreTakenSo }
 {}

@@ -11,7 +11,8 @@ use Rattle.container_model.specs.declared.fault.ContainerFault.TheVariants.{Busy
 use Rattle.container_model.specs.declared.record.Frame.{Frame}
 use Rattle.container_model.specs.declared.record.Link.{Link}
 use Rattle.container_model.specs.declared.record.Object.{Object}
-use Rattle.container_model.specs.Commands.{begun_link, delete_made, first_operation, is_known_class, run_at, run_in, run_made, run_object}
+use Rattle.container_model.specs.Commands.{begun_link, delete_made, first_operation, is_known_class, run, run_made, run_object}
+use Rattle.container_model.specs.Located.{located, ready}
 use Rattle.container_model.specs.Numbered.{IsObjectAt}
 use Rattle.container_model.specs.Record.{MARGIN, Record, acts, counts_none, is_alive, is_busy, is_doubtful, is_object, is_saving, quiet_answer, sends, unless, without_first}
 use Rattle.container_steps.proofs.VerbsPlaced.{object_here, own_here}
@@ -49,14 +50,11 @@ pub not_spent : (r s : Record) → s ≡ r → MARGIN ≤ s.numbers → s.last_a
 not_spent r s e many left = subst (λ (t : Record). spent t ≡ false) e (some_left s.numbers s.last_act many left)
 
 -- the server isn't there
-dead_in : (r : Record) (o : Object) (inc : ℕ) → is_alive r inc ≡ false → (frame : Option Frame) → run_in r o inc frame ≡ Err NoSuch
-dead_in r o inc e None = refl
-dead_in r o inc e (Some f) =
-    ap (λ b. unless (not b) NoSuch (unless (is_doubtful f.phase) InDoubt (unless (is_saving f.phase || is_busy f.ui.state o) Busy (run_object r o inc)))) e
+pub run_dead : (r : Record) (n inc : ℕ) → is_alive r inc ≡ false → run r n inc ≡ Err NoSuch
+run_dead r n inc e = ap (λ b. unless (not b) NoSuch (located r n (ready (λ o frame. run_object r o inc)))) e
 
-pub run_dead : (r : Record) (inc : ℕ) → is_alive r inc ≡ false → (found : Option Object) → run_at r inc found ≡ Err NoSuch
-run_dead r inc e None = refl
-run_dead r inc e (Some o) = dead_in r o inc e (nth r.frames o.frame)
+pub run_alive : (r : Record) (n inc : ℕ) → is_alive r inc ≡ true → run r n inc ≡ located r n (ready (λ o frame. run_object r o inc))
+run_alive r n inc e = ap (λ b. unless (not b) NoSuch (located r n (ready (λ o frame. run_object r o inc)))) e
 
 pub run_linked : (r : Record) (x : Object) (inc : ℕ) → is_some x.link ≡ true → run_object r x inc ≡ Err WrongState
 run_linked r x inc linked =

@@ -3,14 +3,13 @@ use Rattle.std.proofs.Common.{◌≡◌, ℕ, List, map, Some, get_or, set, sym,
 use Rattle.std.proofs.lemmas.List.{get_or_default}
 use Rattle.std.proofs.lemmas.Option.{slice_get-get_or}
 use Rattle.wire_msgs.specs.Found.{nth, set_nth}
-use Rattle.container_model.specs.declared.answer.Action.{Action}
 use Rattle.container_model.specs.declared.answer.Answer.{Answer}
 use Rattle.container_model.specs.declared.answer.Done.{Done}
 use Rattle.container_model.specs.declared.record.Frame.{Frame}
 use Rattle.container_model.specs.declared.record.Object.{Object}
 use Rattle.container_model.specs.Numbered.{IsNth}
-use Rattle.container_model.specs.Record.{Record, Took, acts, quiet_answer}
-use Rattle.container_model.specs.Saves.{commit_made, committed_frame, completed, done_entry, parts_in}
+use Rattle.container_model.specs.Record.{Record, Took}
+use Rattle.container_model.specs.Saves.{commit_made, committed_frame, completed}
 
 module _ (r : Record) (f : ℕ) (a : Frame) where
   -- a frame that stands at its place
@@ -25,19 +24,7 @@ module _ (r : Record) (f : ℕ) (a : Frame) where
       let frames : set r.frames i new ≡ set_nth r.frames f (committed_frame a) = ap (set r.frames i) (n ∙ ap committed_frame same) ∙ sym (at.puts (committed_frame a)) in
       λ t. record r { frames = frames t; objects = o t }
 
--- the answer
-pub answer_is : (q : Answer) (actions : List Action) (ms : List Action) → q ≡ quiet_answer → actions ≡ ms → ◌≡◌ {A = Answer} (acts ms) (record q { actions = actions })
-answer_is q actions ms e h = λ t. record (sym e t) { actions = sym h t }
-
--- what is counted
-pub counted_is : (r : Record) (f i : ℕ) (a b : Frame) (os : List Object) (counted told : List Done) → IsNth f r.frames i → a ≡ get_or r.frames i a → b ≡ get_or r.frames i b
-    → os ≡ r.objects → counted ≡ map (done_entry b.k) (parts_in f os) → told ≡ counted → map (done_entry a.k) (parts_in f r.objects) ≡ told
-counted_is r f i a b os counted told at e g o h is =
-    let same : b ≡ a = g ∙ get_or_default r.frames i b a at.fits ∙ sym e in
-    let all : map (done_entry b.k) (parts_in f os) ≡ map (done_entry a.k) (parts_in f r.objects) =
-    ap (λ (x : Frame). map (done_entry x.k) (parts_in f os)) same ∙ ap (λ (xs : List Object). map (done_entry a.k) (parts_in f xs)) o in
-    sym all ∙ (sym h ∙ sym is)
-
+-- what it gives
 pub took_is : (rec : Record) (t : Took) (answer : Answer) (counted : List Done) → rec ≡ t.rec → t.answer ≡ answer → t.counted ≡ counted
     → ◌≡◌ {A = Took} t (record { rec = rec; answer = answer; counted = counted })
 took_is rec t answer counted e h g = λ i. record { rec = sym e i; answer = h i; counted = g i }

@@ -14,9 +14,6 @@ pub mod CommandsEdit
 pub mod CommandsSave
 pub mod VerbsApart
 pub mod VerbsPlaced
-pub use Rattle.container_steady.proofs.SteadyFinds
-pub use Rattle.container_steady.proofs.SteadyLookups
-pub use Rattle.container_steady.proofs.SteadyRecords
 pub mod LocatedSteps
 pub mod SavesMade
 pub mod InsertsMade

@@ -8,7 +8,7 @@ use Rattle.container_model.specs.declared.record.Object.{Object}
 use Rattle.container_model.specs.Numbered.{IsNth}
 use Rattle.container_model.specs.Record.{Record, Took, is_busy, is_doubtful, is_object, is_saving, unless}
 use Rattle.container_steps.proofs.VerbsPlaced.{frame_here, in_frame, object_here}
-use Rattle.container_steps.specs.Located.{located, located_at, located_in, ready}
+use Rattle.container_model.specs.Located.{located, located_at, located_in, ready}
 
 -- what stands at a place
 item_at : {A : Type 0} (xs : List A) (i : ℕ) → i < length xs → (x : A) × (slice_get xs i ≡ Some x)
@@ -98,14 +98,3 @@ module _ (P : Object → Frame → Type 0) (s r : Record) (i at : ℕ) (x : Obje
 
   pub to_there : P x y → IsSomeAnd (slice_get r.objects i) (λ o. IsSomeAnd (slice_get r.frames at) (λ f. P o f))
   to_there p = both_and P (slice_get r.objects i) (slice_get r.frames at) x y here there p
-
--- a step of the model is taken of both
-within_is : (step : Object → Frame → Result Took ContainerFault) (within : Option Frame → Result Took ContainerFault) (o : Object) → within None ≡ Err NoSuch → ((f : Frame) → within (Some f) ≡ step o f) → (frame : Option Frame) → within frame ≡ located_in step o frame
-within_is step within o none some None = none
-within_is step within o none some (Some f) = some f
-
-pub located_by : (step : Object → Frame → Result Took ContainerFault) (fs : List Frame) (within : Object → Option Frame → Result Took ContainerFault) (at : Option Object → Result Took ContainerFault)
-    → ((o : Object) → within o None ≡ Err NoSuch) → ((o : Object) (f : Frame) → within o (Some f) ≡ step o f) → at None ≡ Err NoSuch → ((o : Object) → at (Some o) ≡ within o (nth fs o.frame))
-    → (found : Option Object) → at found ≡ located_at step fs found
-located_by step fs within at nowhere both none some None = none
-located_by step fs within at nowhere both none some (Some o) = some o ∙ within_is step (within o) o (nowhere o) (both o) (nth fs o.frame)

@@ -1,5 +1,5 @@
 -- Answers keep an activation under its number.
-use Rattle.std.proofs.Common.{◌≡◌, true, List, [], ◌∷◌, Option, Some, None, Result, Ok, Err, refl, sym, ap, ◌∙◌, subst}
+use Rattle.std.proofs.Common.{◌≡◌, ◌+◌, ℕ, true, List, [], ◌∷◌, Option, Some, None, Result, Ok, Err, refl, sym, ap, ◌∙◌, subst}
 use Rattle.wire_msgs.specs.declared.operation.Operation.{Operation}
 use Rattle.wire_msgs.specs.declared.operation.Operation.TheVariants.{InitNew, Load, InPlace, UiActivate, UiDeactivate, InPlaceDeactivate, OpenWindow, Edit, Save, SaveCompleted, Close}
 use Rattle.wire_msgs.specs.declared.answer.Answer.{Answer}
@@ -10,12 +10,13 @@ use Rattle.object_state.specs.declared.faults.StateFault.{StateFault}
 use Rattle.object_state.specs.declared.operations.CloseOption.TheVariants.{SaveIfDirty, NoSave}
 use Rattle.wire_msgs.specs.Operations.{op_of}
 use Rattle.storage_tree.specs.declared.stored.Stored.{Stored}
+use Rattle.grant_core.specs.declared.grant_states.Tools.{Tools as GrantTools}
 use Rattle.container_model.specs.declared.grants.Tells.{Tells}
 use Rattle.container_model.specs.declared.grants.Tells.TheVariants.{Gets, GivesUp}
 use Rattle.container_model.specs.declared.record.Link.{Link}
 use Rattle.container_model.specs.declared.fault.ContainerFault.{ContainerFault}
 use Rattle.container_model.specs.declared.fault.ContainerFault.TheVariants.{BadAnswer}
-use Rattle.container_model.specs.Messages.{Replied, next_at, next_link, closed_with, done, granted_link, is_fit, next_s, saved_link, replied, replied_fitting}
+use Rattle.container_model.specs.Messages.{Replied, next_at, next_link, closed_with, done, done_link, granted_link, is_fit, next_s, saved_link, replied, replied_fitting}
 use Rattle.container_steady.proofs.SteadyClaims.{LinkStays}
 use Rattle.container_steady.proofs.SteadyRecords.{if_told, Follows}
 
@@ -75,7 +76,7 @@ replied_keeps l InPlace Done = done_keeps l InPlace
 replied_keeps l InPlace _ = tt
 replied_keeps l (UiActivate g) (Tools menus border) = granted_keeps l (Gets g (record { menus = menus; border = border })) (done l (UiActivate g)) (done_keeps l (UiActivate g))
 replied_keeps l (UiActivate g) _ = tt
-replied_keeps l UiDeactivate Done = granted_keeps l GivesUp (done l UiDeactivate) (done_keeps l UiDeactivate)
+replied_keeps l UiDeactivate Done = granted_keeps l (GivesUp l.act) (done l UiDeactivate) (done_keeps l UiDeactivate)
 replied_keeps l UiDeactivate _ = tt
 replied_keeps l InPlaceDeactivate Done = done_keeps l InPlaceDeactivate
 replied_keeps l InPlaceDeactivate _ = tt
@@ -93,6 +94,66 @@ replied_keeps l (Close SaveIfDirty) _ = tt
 replied_keeps l (Close NoSave) Done = closed_keeps l None (both.step l.states (op_of (Close NoSave)))
 replied_keeps l (Close NoSave) _ = tt
 replied_keeps l _ _ = tt
+
+-- whatever gives a frame up is the activation that was answered for
+abbrev pub GivesItsOwn : Link → Option Tells → Type 0
+GivesItsOwn l None = Unit {0}
+GivesItsOwn l (Some (Gets g tools)) = Unit {0}
+GivesItsOwn l (Some (GivesUp act)) = act ≡ l.act
+
+abbrev pub OwnGiven : Link → Result Replied ContainerFault → Type 0
+OwnGiven l (Err fault) = Unit {0}
+OwnGiven l (Ok re) = GivesItsOwn l re.grant
+
+done_own : (l : Link) (s : ℕ) (r : Result States StateFault) → OwnGiven l (done_link l s r)
+done_own l s (Err fault) = tt
+done_own l s (Ok v) = tt
+
+saved_own : (l : Link) (content : Stored) (s : ℕ) (r : Result States StateFault) → OwnGiven l (saved_link content (done_link l s r))
+saved_own l content s (Err fault) = tt
+saved_own l content s (Ok v) = tt
+
+gets_own : (l : Link) (g : ℕ) (tools : GrantTools) (s : ℕ) (r : Result States StateFault) → OwnGiven l (granted_link (Gets g tools) (done_link l s r))
+gets_own l g tools s (Err fault) = tt
+gets_own l g tools s (Ok v) = tt
+
+gives_own : (l : Link) (s : ℕ) (r : Result States StateFault) → OwnGiven l (granted_link (GivesUp l.act) (done_link l s r))
+gives_own l s (Err fault) = tt
+gives_own l s (Ok v) = refl
+
+closed_own : (l : Link) (content : Option Stored) (r : Result States StateFault) → OwnGiven l (closed_with content r)
+closed_own l content (Err fault) = tt
+closed_own l content (Ok v) = tt
+
+pub replied_own : (l : Link) (op : Operation) (answer : Answer) → OwnGiven l (replied l op answer)
+replied_own l (InitNew class) Done = done_own l 1 (both.step l.states (op_of (InitNew class)))
+replied_own l (InitNew class) (Refused why) = tt
+replied_own l (InitNew class) _ = tt
+replied_own l (Load class content) Done = done_own l 1 (both.step l.states (op_of (Load class content)))
+replied_own l (Load class content) (Refused why) = tt
+replied_own l (Load class content) _ = tt
+replied_own l InPlace Done = done_own l l.s (both.step l.states (op_of InPlace))
+replied_own l InPlace _ = tt
+replied_own l (UiActivate g) (Tools menus border) = gets_own l g (record { menus = menus; border = border }) l.s (both.step l.states (op_of (UiActivate g)))
+replied_own l (UiActivate g) _ = tt
+replied_own l UiDeactivate Done = gives_own l l.s (both.step l.states (op_of UiDeactivate))
+replied_own l UiDeactivate _ = tt
+replied_own l InPlaceDeactivate Done = done_own l l.s (both.step l.states (op_of InPlaceDeactivate))
+replied_own l InPlaceDeactivate _ = tt
+replied_own l OpenWindow Done = done_own l l.s (both.step l.states (op_of OpenWindow))
+replied_own l OpenWindow _ = tt
+replied_own l (Edit bytes) Done = done_own l l.s (both.step l.states (op_of (Edit bytes)))
+replied_own l (Edit bytes) (Refused why) = tt
+replied_own l (Edit bytes) _ = tt
+replied_own l (Save k) (Content content) = saved_own l content l.s (both.step l.states (op_of (Save k)))
+replied_own l (Save k) _ = tt
+replied_own l (SaveCompleted k storage) Done = done_own l (l.s + 1) (both.step l.states (op_of (SaveCompleted k storage)))
+replied_own l (SaveCompleted k storage) _ = tt
+replied_own l (Close SaveIfDirty) (Content content) = closed_own l (Some content) (both.step l.states (op_of (Close SaveIfDirty)))
+replied_own l (Close SaveIfDirty) _ = tt
+replied_own l (Close NoSave) Done = closed_own l None (both.step l.states (op_of (Close NoSave)))
+replied_own l (Close NoSave) _ = tt
+replied_own l _ _ = tt
 
 -- an answer is replied to where it has no content past what may be stored
 pub fit_replied : (l : Link) (op : Operation) (answer : Answer) (re : Replied) → replied_fitting l op answer ≡ Ok re → (is_fit answer ≡ true) × (replied l op answer ≡ Ok re)

@@ -1,20 +1,16 @@
 -- Objects of idle frames that have nothing to do: edits of them keep a record steady.
 use Rattle.std.proofs.Common.{◌≡◌, inl, ℕ, false, List, Option, Some, None, Ok, refl, sym, ap, ◌∙◌, subst}
-use Rattle.std.specs.Prelude.{◌||◌}
 use Rattle.wire_msgs.specs.Found.{find, nth}
 use Rattle.wire_msgs.specs.declared.operation.Operation.TheVariants.{Edit}
-use Rattle.grant_core.specs.Grants.{waiting}
 use Rattle.container_model.specs.declared.record.Link.{Link}
 use Rattle.container_model.specs.declared.record.Object.{Object}
 use Rattle.container_model.specs.declared.record.Frame.{Frame}
 use Rattle.container_model.specs.declared.record.Phase.{Phase}
 use Rattle.container_model.specs.declared.record.Phase.TheVariants.{Idle}
-use Rattle.container_model.specs.declared.fault.ContainerFault.TheVariants.{Busy, InDoubt as Doubtful}
 use Rattle.container_model.specs.Record.{Record, Took, is_object, is_asked, is_busy, is_claim, is_saving, is_doubtful, with_object, ask}
-use Rattle.container_model.specs.Commands
 use Rattle.container_steady.specs.Roles.{Role, role_in}
 use Rattle.container_steady.specs.Steady.{SteadyLink, SteadyObject, Steady}
-use Rattle.container_steady.proofs.EditsTaken.{edited, edit_taken}
+use Rattle.container_steady.specs.Taken.{edited}
 use Rattle.container_steady.proofs.SteadyLookups.{each_found}
 use Rattle.container_steady.proofs.SteadyLinks.{asked_once, edit_asked}
 use Rattle.container_steady.proofs.SteadyRecords.{unless_ok, or_false, and_some, at_some, if_at, Held, put_steady}
@@ -50,23 +46,6 @@ module _ (r : Record) (o : Object) (frame : Frame) (l : Link) (s : Steady r) (fo
             (subst (λ (p : Phase). SteadyLink r.servers r.last_act p frame.k part m) (sym idle) h);
       })
 
-edit_linked_keeps : (r : Record) (o : Object) (bytes : List ℕ) (frame : Frame) (link : Option Link) (t : Took) → Steady r → find (is_object o.number) r.objects ≡ Some o → nth r.frames o.frame ≡ Some frame → frame.phase ≡ Idle → is_asked o.link ≡ false → o.link ≡ link → Commands.edit_linked r o bytes link ≡ Ok t → Steady t.rec
-edit_linked_keeps r o bytes frame None t s found at idle quiet is e = cc
-edit_linked_keeps r o bytes frame (Some l) t s found at idle quiet is e =
-    let same : edited r o l bytes ≡ t = edit_taken r o bytes l t is e in
-    let h = held_idle r o frame l s found at idle quiet is in
-    subst (λ (z : Took). Steady z.rec) same (linked_keeps r o frame l s found at idle quiet is (ask l (Edit bytes)).link (asked_once l (Edit bytes) h.waits_behind).act
-    (edit_asked r.servers r.last_act frame.k (role_in frame.ui.state o.number) l h (free r o frame l s found at idle quiet is) bytes))
-
-edit_in_keeps : (r : Record) (o : Object) (bytes : List ℕ) (f : Option Frame) (t : Took) → Steady r → find (is_object o.number) r.objects ≡ Some o → nth r.frames o.frame ≡ f → Commands.edit_in r o bytes f ≡ Ok t → Steady t.rec
-edit_in_keeps r o bytes None t s found at e = cc
-edit_in_keeps r o bytes (Some frame) t s found at e =
-    let a = unless_ok (is_doubtful frame.phase) Doubtful _ t e in
-    let b = unless_ok (is_saving frame.phase || is_busy frame.ui.state o) Busy _ t a.1 in
-    let quiet = or_false (is_saving frame.phase) (is_busy frame.ui.state o) b.0 in
-    let still = or_false (is_asked o.link) (is_claim o.number (waiting frame.ui.state)) quiet.1 in
-    edit_linked_keeps r o bytes frame o.link t s found at (idle_of frame.phase a.0 quiet.0) still.0 refl b.1
-
-pub edit_at_keeps : (r : Record) (n : ℕ) (bytes : List ℕ) (o : Option Object) (t : Took) → Steady r → find (is_object n) r.objects ≡ o → Commands.edit_at r bytes o ≡ Ok t → Steady t.rec
-edit_at_keeps r n bytes None t s found e = cc
-edit_at_keeps r n bytes (Some o) t s found e = edit_in_keeps r o bytes (nth r.frames o.frame) t s (found_numbered n r.objects o found) refl e
+  pub edit_keeps : (bytes : List ℕ) → Steady (edited r o l bytes).rec
+  edit_keeps bytes = linked_keeps (ask l (Edit bytes)).link (asked_once l (Edit bytes) held_idle.waits_behind).act
+      (edit_asked r.servers r.last_act frame.k part l held_idle free bytes)

@@ -19,16 +19,12 @@ use Rattle.container_model.specs.declared.record.Object.{Object}
 use Rattle.container_model.specs.declared.record.Frame.{Frame}
 use Rattle.container_model.specs.declared.record.Phase.{Phase}
 use Rattle.container_model.specs.declared.record.Phase.TheVariants.{Idle, Saving}
-use Rattle.container_model.specs.declared.command.Command.TheVariants as command
-use Rattle.container_model.specs.declared.answer.Action.TheVariants.{End}
-use Rattle.container_model.specs.declared.fault.ContainerFault.{ContainerFault}
-use Rattle.container_model.specs.declared.fault.ContainerFault.TheVariants.{NoSuch, Busy, InDoubt as Doubtful, Full, NumbersSpent, WrongState, UnknownClass}
+use Rattle.container_model.specs.declared.command.Command.{Command}
 use Rattle.container_model.specs.Record.{Record, Took, MOST_FRAMES, MOST_OBJECTS, MOST_SERVERS, MARGIN, is_object, is_alive, is_asked, is_busy, is_claim, is_moving, is_saving, is_doubtful, count_alive, count_objects, is_unreaped, acts, counts_none, without_first, asked_link, asked_object}
 use Rattle.grant_core.specs.Grants.{waiting}
 use Rattle.container_model.specs.Commands
 use Rattle.container_steady.specs.Roles.{IsClaim, IsPlain, Other, Role, SteadyGrant, role_in}
 use Rattle.container_steady.specs.Steady.{SteadyLink, SteadyObject, SteadyFrame, InOrder, Steady, IsBeginning, IsTimely, EndsWell, ended}
-use Rattle.container_steps.specs.Steps.{SteadyAfterCommands}
 use Rattle.container_steady.proofs.SteadyLookups.{each_found, each_weaker, each_both, each_put, each_map, each_append, each_set, each_nth, pairs_put, pairs_map, pairs_append, nth_append, none_busy}
 use Rattle.container_steady.proofs.SteadyCounts.{count_put, count_map, count_more, count_without, each_without, pairs_without}
 use Rattle.container_steady.proofs.SteadyLinks.{link_moved, save_asked}
@@ -36,8 +32,10 @@ use Rattle.container_steady.proofs.SteadyRecords.{if_told, unless_ok, or_false, 
 use Rattle.container_steady.proofs.SteadyTests.{idle_of, not_false, none_of, found_numbered, asked_follows, link_asked}
 use Rattle.container_steady.proofs.SteadyMoves.{set_object, unset_object}
 use Rattle.container_steady.proofs.SteadyClaims.{KeepsLink, LinkStays, append_back, claim_kept, grant_kept, keeps_append, keeps_map, keeps_put, keeps_refl, keeps_without, set_back}
-use Rattle.container_steps.proofs.SteadyAsks.{edit_at_keeps}
-use Rattle.container_steps.proofs.SteadyVerbs.{close_keeps, verb_keeps}
+use Rattle.container_steady.specs.Taken.{IsTakenAs, as_close, as_delete, as_edit, as_insert, as_kill, as_new, as_run, as_save, as_start, as_verb}
+use Rattle.container_steady.proofs.Taken.{command_taken}
+use Rattle.container_steps.proofs.SteadyAsks.{edit_keeps}
+use Rattle.container_steps.proofs.SteadyVerbs.{closing_keeps, stepped_keeps}
 
 -- a new frame
 framed : (r : Record) (frame : Frame) (o : Object) → SteadyObject r o → SteadyObject (record r { frames = r.frames ++ frame ∷ [] }) o
@@ -63,16 +61,6 @@ frame_steady r frame h f free = record {
   ];
 }
 
-new_keeps : (r : Record) (name : List ℕ) (w h : ℕ) (t : Took) → Steady r → Commands.new r name w h ≡ Ok t → Steady t.rec
-new_keeps r name w h t s e =
-    let a = unless_ok (Commands.is_named name r.frames) Busy _ t e in
-    let b = unless_ok (not (Commands.is_size w h)) WrongState _ t a.1 in
-    let c = unless_ok (nat_le MOST_FRAMES (length r.frames)) Full _ t b.1 in
-    let d = unless_ok (nat_le r.numbers (length r.frames)) NumbersSpent _ t c.1 in
-    let made = d.1 in
-    let at : Commands.new_made r name w h ≡ t = cc in
-    subst (λ (z : Took). Steady z.rec) at (frame_steady r (Commands.new_frame name w h) s (record { asked = refl; phase = tt }) refl)
-
 -- a new object
 drawn_more : (r : Record) (o a : Object) → SteadyObject r o → SteadyObject (record r { objects = r.objects ++ a ∷ []; last_object = r.last_object + 1 }) o
 drawn_more r o a h = record { drawn = (let d = h.drawn in omega arith); within = h.within; user_type = h.user_type; linked = h.linked }
@@ -95,18 +83,6 @@ user_type_fits : (kind : Kind) → nat_lt (length (Commands.user_type kind)) PAS
 user_type_fits Note = refl
 user_type_fits Table = refl
 user_type_fits Drawing = refl
-
-insert_at_keeps : (r : Record) (f : ℕ) (kind : Kind) (area : Area) (found : Option Frame) (t : Took) → nth r.frames f ≡ found → Steady r → Commands.insert_at r f kind area found ≡ Ok t → Steady t.rec
-insert_at_keeps r f kind area None t g s e = cc
-insert_at_keeps r f kind area (Some frame) t g s e =
-    let a = unless_ok (is_doubtful frame.phase) Doubtful _ t e in
-    let b = unless_ok (is_saving frame.phase) Busy _ t a.1 in
-    let c = unless_ok (Commands.is_empty_area area) WrongState _ t b.1 in
-    let d = unless_ok (nat_le MOST_OBJECTS (count_objects f r.objects)) Full _ t c.1 in
-    let n = unless_ok (nat_le r.numbers r.last_object) NumbersSpent _ t d.1 in
-    let made = n.1 in
-    let at : Commands.insert_made r f kind area ≡ t = cc in
-    subst (λ (z : Took). Steady z.rec) at (object_steady r (Commands.new_object (r.last_object + 1) f kind area) frame s refl refl g refl (user_type_fits kind) (leb-false MOST_OBJECTS (count_objects f r.objects) d.0))
 
 -- a new server
 get_unreaped : (servers : List Bool) (i : ℕ) → is_unreaped (slice_get servers i) ≡ true → is_unreaped (slice_get (servers ++ false ∷ []) i) ≡ true
@@ -143,14 +119,6 @@ start_steady r s =
       count = s.count;
       grants = λ f x e. same_grants r after f x.ui.state refl (omega arith) (s.grants f x e);
     }
-
-start_keeps : (r : Record) (t : Took) → Steady r → Commands.start r ≡ Ok t → Steady t.rec
-start_keeps r t s e =
-    let a = unless_ok (nat_le MOST_SERVERS (count_alive r.servers)) Full _ t e in
-    let b = unless_ok (nat_le r.numbers (length r.servers)) NumbersSpent _ t a.1 in
-    let made = b.1 in
-    let at : Commands.start_made r ≡ t = cc in
-    subst (λ (z : Took). Steady z.rec) at (start_steady r s)
 
 -- a passive object has no part in its frame's grant
 unclaimed : (r : Record) (f : ℕ) (c : Claim) (x : Object) → IsClaim r f c → find (is_object x.number) r.objects ≡ Some x → x.link ≡ None → c.object ≡ x.number → ⊥
@@ -237,24 +205,6 @@ module _ (r : Record) (o : Object) (inc : ℕ) (op : Operation) (frame : Frame) 
     grants = λ f x e. grant_kept r after f x.ui.state (λ c names k. claim_kept r after f c (keeps_put r.objects o.number c.object o begun found refl refl (λ l q. (let was : None ≡ Some l = sym passive ∙ q in cc))) (omega arith) k) (s.grants f x e);
   }
 
-run_in_keeps : (r : Record) (o : Object) (inc : ℕ) (f : Option Frame) (t : Took) → Steady r → find (is_object o.number) r.objects ≡ Some o → nth r.frames o.frame ≡ f → Commands.run_in r o inc f ≡ Ok t → Steady t.rec
-run_in_keeps r o inc None t s found at e = cc
-run_in_keeps r o inc (Some frame) t s found at e =
-    let a = unless_ok (not (is_alive r inc)) NoSuch _ t e in
-    let b = unless_ok (is_doubtful frame.phase) Doubtful _ t a.1 in
-    let c = unless_ok (is_saving frame.phase || is_busy frame.ui.state o) Busy _ t b.1 in
-    let d = unless_ok (is_some o.link) WrongState _ t c.1 in
-    let k = unless_ok (not (Commands.is_known_class o.class)) UnknownClass _ t d.1 in
-    let n = unless_ok (nat_lt r.numbers MARGIN || nat_le r.numbers r.last_act) NumbersSpent _ t k.1 in
-    let quiet = or_false (is_saving frame.phase) (is_busy frame.ui.state o) c.0 in
-    let made = n.1 in
-    let same : Commands.run_made r o inc ≡ t = cc in
-    subst (λ (z : Took). Steady z.rec) same (run_steady r o inc (Commands.first_operation o o.work.streams) frame s found (not_false (is_alive r inc) a.0) (first_begins o o.work.streams) at (idle_of frame.phase b.0 quiet.0) (none_of o.link d.0))
-
-run_at_keeps : (r : Record) (n inc : ℕ) (o : Option Object) (t : Took) → Steady r → find (is_object n) r.objects ≡ o → Commands.run_at r inc o ≡ Ok t → Steady t.rec
-run_at_keeps r n inc None t s found e = cc
-run_at_keeps r n inc (Some o) t s found e = run_in_keeps r o inc (nth r.frames o.frame) t s (found_numbered n r.objects o found) refl e
-
 -- a save begins
 asked_object_frame : (f : ℕ) (op : Operation) (o : Object) → (asked_object f op o).frame ≡ o.frame
 asked_object_frame f op o = if_told (λ (z : Object). z.frame ≡ o.frame) (o.frame == f) (record o { link = asked_link op o.link }) o (λ e. refl) (λ e. refl)
@@ -300,18 +250,6 @@ module _ (r : Record) (f : ℕ) (frame : Frame) (s : Steady r) (at : nth r.frame
     ];
   }
 
-save_at_keeps : (r : Record) (f : ℕ) (found : Option Frame) (t : Took) → Steady r → nth r.frames f ≡ found → Commands.save_at r f found ≡ Ok t → Steady t.rec
-save_at_keeps r f None t s at e = cc
-save_at_keeps r f (Some frame) t s at e =
-    let a = unless_ok (is_doubtful frame.phase) Doubtful _ t e in
-    let b = unless_ok (is_saving frame.phase || is_moving frame.ui.state || Commands.any_busy f frame.ui.state r.objects) Busy _ t a.1 in
-    let c = unless_ok (nat_le r.numbers frame.k || not (Commands.all_have_numbers f r.numbers r.objects)) NumbersSpent _ t b.1 in
-    let quiet = or_false (is_saving frame.phase || is_moving frame.ui.state) (Commands.any_busy f frame.ui.state r.objects) b.0 in
-    let still = or_false (is_saving frame.phase) (is_moving frame.ui.state) quiet.0 in
-    let made = c.1 in
-    let same : Commands.save_made r f frame ≡ t = cc in
-    subst (λ (z : Took). Steady z.rec) same (settle_steady (Commands.saving r f frame) (saving_steady r f frame s at (idle_of frame.phase a.0 still.0) frame.ui.state quiet.1))
-
 -- a passive object goes
 deleted_steady : (r : Record) (o : Object) → Steady r → find (is_object o.number) r.objects ≡ Some o → o.link ≡ None → Steady (record r { objects = without_first (is_object o.number) r.objects })
 deleted_steady r o s found passive =
@@ -324,35 +262,21 @@ deleted_steady r o s found passive =
       grants = λ f x e. grant_kept r after f x.ui.state (λ c names k. claim_kept r after f c (keeps_without r.objects o.number c.object (λ q. unclaimed r f c o k found passive (sym q))) (omega arith) k) (s.grants f x e);
     }
 
-delete_in_keeps : (r : Record) (o : Object) (f : Option Frame) (t : Took) → Steady r → find (is_object o.number) r.objects ≡ Some o → Commands.delete_in r o f ≡ Ok t → Steady t.rec
-delete_in_keeps r o None t s found e = cc
-delete_in_keeps r o (Some frame) t s found e =
-    let a = unless_ok (is_doubtful frame.phase) Doubtful _ t e in
-    let b = unless_ok (is_saving frame.phase || is_busy frame.ui.state o) Busy _ t a.1 in
-    let c = unless_ok (is_some o.link) WrongState _ t b.1 in
-    let made = c.1 in
-    let same : Commands.delete_made r o ≡ t = cc in
-    subst (λ (z : Took). Steady z.rec) same (deleted_steady r o s found (none_of o.link c.0))
-
-delete_at_keeps : (r : Record) (n : ℕ) (o : Option Object) (t : Took) → Steady r → find (is_object n) r.objects ≡ o → Commands.delete_at r o ≡ Ok t → Steady t.rec
-delete_at_keeps r n None t s found e = cc
-delete_at_keeps r n (Some o) t s found e = delete_in_keeps r o (nth r.frames o.frame) t s (found_numbered n r.objects o found) e
-
--- a server is to be ended
-kill_keeps : (r : Record) (inc : ℕ) (t : Took) → Steady r → Commands.kill r inc ≡ Ok t → Steady t.rec
-kill_keeps r inc t s e = if_told (λ (z : Result Took ContainerFault). z ≡ Ok t → Steady t.rec) (is_alive r inc) (Ok (counts_none r (acts (End inc ∷ [])))) (Err NoSuch)
-    (λ a g. let same : counts_none r (acts (End inc ∷ [])) ≡ t = cc in subst (λ (z : Took). Steady z.rec) same s)
-    (λ a g. cc) e
-
 -- each command keeps a record steady
-pub on_command_keeps : SteadyAfterCommands
-on_command_keeps r (command.New name w h) t s e = new_keeps r name w h t s e
-on_command_keeps r (command.Insert f kind area) t s e = insert_at_keeps r f (Commands.kind_of kind) area (nth r.frames f) t refl s e
-on_command_keeps r command.Start t s e = start_keeps r t s e
-on_command_keeps r (command.Run o inc) t s e = run_at_keeps r o inc (find (is_object o) r.objects) t s refl e
-on_command_keeps r (command.Edit o bytes) t s e = edit_at_keeps r o bytes (find (is_object o) r.objects) t s refl e
-on_command_keeps r (command.Save f) t s e = save_at_keeps r f (nth r.frames f) t s refl e
-on_command_keeps r (command.Delete o) t s e = delete_at_keeps r o (find (is_object o) r.objects) t s refl e
-on_command_keeps r (command.Kill inc) t s e = kill_keeps r inc t s e
-on_command_keeps r (command.Close o option) t s e = close_keeps r o option t s e
-on_command_keeps r (command.Verb o number) t s e = verb_keeps r o number t s e
+taken_keeps : (r : Record) (c : Command) (t : Took) → Steady r → IsTakenAs r t c → Steady t.rec
+taken_keeps r _ t s (as_new name w h new made) = subst (λ (z : Took). Steady z.rec) made (frame_steady r (Commands.new_frame name w h) s (record { asked = refl; phase = tt }) refl)
+taken_keeps r _ t s (as_insert f kind area at made) = subst (λ (z : Took). Steady z.rec) made
+    (object_steady r (Commands.new_object (r.last_object + 1) f (Commands.kind_of kind) area) at.frame s refl refl at.there refl (user_type_fits (Commands.kind_of kind)) at.few)
+taken_keeps r _ t s (as_start started made) = subst (λ (z : Took). Steady z.rec) made (start_steady r s)
+taken_keeps r _ t s (as_run n inc at run made) = subst (λ (z : Took). Steady z.rec) made
+    (run_steady r at.object inc (Commands.first_operation at.object at.object.work.streams) at.frame s at.own run.alive (first_begins at.object at.object.work.streams) at.inside at.idle run.passive)
+taken_keeps r _ t s (as_edit n bytes go small has made) = subst (λ (z : Took). Steady z.rec) made (edit_keeps r go.at.object go.at.frame go.link s go.at.own go.at.inside go.at.idle go.at.quiet go.linked bytes)
+taken_keeps r _ t s (as_save f at made) = subst (λ (z : Took). Steady z.rec) made (settle_steady (Commands.saving r f at.frame) (saving_steady r f at.frame s at.there at.idle at.frame.ui.state at.quiet))
+taken_keeps r _ t s (as_delete n at passive made) = subst (λ (z : Took). Steady z.rec) made (deleted_steady r at.object s at.own passive)
+taken_keeps r _ t s (as_kill inc alive made) = subst (λ (z : Took). Steady z.rec) made s
+taken_keeps r _ t s (as_close n option go ts has row made) = subst (λ (z : Took). Steady z.rec) made
+    (closing_keeps r go.at.object go.at.frame go.link s go.at.own go.at.inside go.at.idle go.at.quiet go.linked go.at.unclaimed option ts row)
+taken_keeps r _ t s (as_verb n number go verb) = stepped_keeps r go.at.object go.at.frame go.link s go.at.own go.at.inside go.at.idle go.at.quiet go.linked go.at.unclaimed verb.verb verb.ts t verb.still verb.row verb.stepped
+
+pub on_command_keeps : (r : Record) (c : Command) (t : Took) → Steady r → Commands.on_command r c ≡ Ok t → Steady t.rec
+on_command_keeps r c t s e = taken_keeps r c t s (command_taken r c t e)

@@ -13,11 +13,10 @@ use Rattle.container_model.specs.declared.record.Phase.TheVariants.{Idle, Commit
 use Rattle.container_model.specs.declared.fault.ContainerFault.{ContainerFault}
 use Rattle.container_model.specs.declared.fault.ContainerFault.TheVariants.{WrongState}
 use Rattle.container_model.specs.Record.{Record, Took, MOST_OBJECTS, asked_link}
-use Rattle.container_model.specs.Saves.{kept, cleared, completion, completed, committed_frame, is_some_name, commit_made, is_committing, commit_fitting, commit_at, image}
+use Rattle.container_model.specs.Saves.{commit_done, kept, cleared, completion, completed, committed_frame, is_some_name, commit_made, is_committing, commit_fitting, commit_at, image}
 use Rattle.grant_core.specs.declared.grant_states.GrantState.{GrantState}
 use Rattle.container_steady.specs.Roles.{Role, SteadyGrant, role_in}
 use Rattle.container_steady.specs.Steady.{SteadyLink, SteadyObject, SteadyFrame, InOrder, Steady}
-use Rattle.container_steps.specs.Steps.{SteadyAfterCommits}
 use Rattle.container_steady.proofs.SteadyLookups.{each_map, each_set, pairs_map}
 use Rattle.container_steady.proofs.SteadyContents.{completed_if}
 use Rattle.container_steady.proofs.SteadyCounts.{count_map}
@@ -90,5 +89,5 @@ commit_at_keeps r f (Some frame) t s at e = if_told (λ (z : Result Took Contain
     (λ b g. cc) e
 
 -- a commit that is done keeps a record steady
-pub commit_done_keeps : SteadyAfterCommits
+pub commit_done_keeps : (r : Record) (f : ℕ) (t : Took) → Steady r → commit_done r f ≡ Ok t → Steady t.rec
 commit_done_keeps r f t s e = commit_at_keeps r f (nth r.frames f) t s refl e

@@ -6,12 +6,13 @@ use Rattle.wire_msgs.specs.Found.{find, nth, put, set_nth}
 use Rattle.wire_msgs.specs.declared.operation.Operation.{Operation}
 use Rattle.wire_msgs.specs.declared.operation.Operation.TheVariants.{UiActivate, UiDeactivate}
 use Rattle.wire_msgs.specs.declared.answer.Answer.{Answer}
+use Rattle.wire_msgs.specs.declared.message.Message.{Message}
 use Rattle.wire_msgs.specs.declared.message.Message.TheVariants.{Call, Reply, Write, Ask}
 use Rattle.object_parts.specs.Limits.{is_within}
 use Rattle.storage_tree.specs.declared.stored.Stored.{Stored}
 use Rattle.grant_core.specs.Frames.{Ui, after, kept}
 use Rattle.grant_core.specs.Grants as grant
-use Rattle.grant_core.specs.Grants.{Event, Granted, Revoked, passed_on, table}
+use Rattle.grant_core.specs.Grants.{Event, Granted, Revoked, passed_on, table, who}
 use Rattle.grant_core.specs.declared.grant_states.Claim.{Claim}
 use Rattle.grant_core.specs.declared.grant_states.Tools.{Tools}
 use Rattle.grant_core.specs.declared.grant_states.GrantState.{GrantState}
@@ -24,14 +25,14 @@ use Rattle.container_model.specs.declared.record.Frame.{Frame}
 use Rattle.container_model.specs.declared.record.Phase.{Phase}
 use Rattle.container_model.specs.declared.fault.ContainerFault.{ContainerFault}
 use Rattle.container_model.specs.declared.fault.ContainerFault.TheVariants.{WrongLink, Stale, BadAnswer}
-use Rattle.container_model.specs.Grants.{grant_each, grant_of, moved, passed_to, regranted, regranted_in, requested}
+use Rattle.container_model.specs.Grants.{event_of, grant_each, grant_of, is_by, moved, passed_to, regranted, regranted_by, regranted_in, requested}
 use Rattle.container_model.specs.Record.{Record, Took, asked_link, is_alive, is_link, is_linked, is_object, is_unreaped, with_object}
 use Rattle.container_model.specs.Saves.{settle}
-use Rattle.container_model.specs.Messages.{Replied, ask_found, ask_framed, is_held_by, is_open_to, next_link, on_ask, on_write, relieved, replied, replied_fitting, replied_grant, replied_object, write_found, write_link, write_made, written_object, replied_record, reply_pending, reply_link, reply_taken, reply_found, on_reply}
+use Rattle.container_model.specs.Messages.{Replied, ask_found, ask_framed, is_held_by, is_open_to, next_link, on_ask, on_write, relieved, replied, replied_fitting, replied_grant, replied_object, write_found, write_link, write_made, written_object, replied_record, reply_pending, reply_link, reply_taken, reply_found, on_reply, on_message}
 use Rattle.container_steady.specs.Roles.{IsClaim, Getting, Giving, Holding, Other, Role, SteadyGrant, Waiting, role_in}
 use Rattle.container_steady.specs.Steady.{SteadyLink, SteadyObject, Steady}
-use Rattle.container_steps.specs.Steps.{SteadyAfterMessages, FittingAnswersTaken}
-use Rattle.container_steps.proofs.SteadyAnswers.{Keeps, fit_replied, next_follows, next_stays, replied_keeps}
+use Rattle.container_steps.specs.Steps.{FittingAnswersTaken}
+use Rattle.container_steps.proofs.SteadyAnswers.{GivesItsOwn, Keeps, OwnGiven, fit_replied, next_follows, next_stays, replied_keeps, replied_own}
 use Rattle.container_steady.proofs.SteadyClaims.{LinkStays}
 use Rattle.container_steady.proofs.SteadyFinds.{acts_differ, find-put_other, found_by_number, put_by_number}
 use Rattle.container_steady.proofs.SteadyHolders.{asked_state, held_by, linked_by}
@@ -54,12 +55,13 @@ module _ (r : Record) (frame : Frame) (n : ℕ) where
   pub record AnswersSteadily (before : Option Link) (re : Replied) : Type 0 where
     pub stays : Stays r.servers r.last_act frame.phase frame.k role re
     pub follows : Follows re.link before
+    pub own : IfSome before (λ (l : Link). GivesItsOwn l re.grant)
 
   pending_goes : (l : Link) (number : ℕ) (answer : Answer) (p : Option Operation) (re : Replied) → SteadyLink r.servers r.last_act frame.phase frame.k role l → l.pending ≡ p → reply_pending l number answer p ≡ Ok re → AnswersSteadily (Some l) re
   pending_goes l number answer None re h e g = cc
   pending_goes l number answer (Some op) re h e g = if_told (λ (z : Result Replied ContainerFault). z ≡ Ok re → AnswersSteadily (Some l) re) (number == l.last) (replied_fitting l op answer) (Err Stale)
       (λ t q. let f = fit_replied l op answer re q in
-      record { stays = replied_goes r.servers r.last_act frame.phase frame.k role l h op answer re e f.0 f.1; follows = subst (Keeps l) f.1 (replied_keeps l op answer) })
+      record { stays = replied_goes r.servers r.last_act frame.phase frame.k role l h op answer re e f.0 f.1; follows = subst (Keeps l) f.1 (replied_keeps l op answer); own = subst (OwnGiven l) f.1 (replied_own l op answer) })
       (λ t q. cc) g
 
   pub link_goes : (number : ℕ) (answer : Answer) (link : Option Link) (re : Replied) → Held r n link frame → reply_link number answer link ≡ Ok re → AnswersSteadily link re
@@ -154,8 +156,20 @@ module _ (r : Record) (inc act : ℕ) (o : Object) (re : Replied) (frame : Frame
       let made = all_steady _ (moved_steady ui (Gets g tools) e [] (λ q. let no = sym was_part ∙ q in cc) now but) in
       subst (λ (z : GrantState). Steady (later (Granted g tools) (passed_to z ui.state))) (sym h.is) (by_number (Granted g tools) [] made)
 
-  has_given : (h : AtRevoking frame.ui.state o.number) (next : Option Claim) → h.next ≡ next → re.grant ≡ Some GivesUp → Steady (later (Revoked (grant_of frame.ui.state)) (passed_to frame.ui.state (after frame.ui (Revoked (grant_of frame.ui.state))).state))
-  has_given h None e told =
+  -- whoever gives the frame up has it
+  holder_gives : (given : ℕ) (h : AtRevoking frame.ui.state o.number) → re.grant ≡ Some (GivesUp given) → event_of frame.ui.state (GivesUp given) ≡ Some (Revoked (grant_of frame.ui.state))
+  holder_gives given h told =
+      let claims : SteadyGrant r o.frame (state.Revoking h.holder h.next) = subst (SteadyGrant r o.frame) h.is (s.grants o.frame frame at) in
+      let both = sym claims.holder.found ∙ (ap (λ (n : ℕ). find (is_object n) r.objects) h.named ∙ there) in
+      let same : claims.holder.object ≡ o = cc in
+      let linked : o.link ≡ Some claims.holder.link = ap (λ (z : Object). z.link) (sym same) ∙ claims.holder.linked in
+      let own : GivesItsOwn claims.holder.link re.grant = if_at (λ (l : Link). GivesItsOwn l re.grant) o.link claims.holder.link linked goes.own in
+      let mine : given ≡ claims.holder.link.act = subst (GivesItsOwn claims.holder.link) told own in
+      let by : is_by given (who frame.ui.state) ≡ true = ap (λ (z : GrantState). is_by given (who z)) h.is ∙ eq-eqb h.holder.act given (sym (mine ∙ claims.holder.act)) in
+      ap (λ (b : Bool). if b then Some (Revoked (grant_of frame.ui.state)) else None) by
+
+  has_given : (act : ℕ) (h : AtRevoking frame.ui.state o.number) (next : Option Claim) → h.next ≡ next → re.grant ≡ Some (GivesUp act) → Steady (later (Revoked (grant_of frame.ui.state)) (passed_to frame.ui.state (after frame.ui (Revoked (grant_of frame.ui.state))).state))
+  has_given act h None e told =
       let event = Revoked (grant_of frame.ui.state) in
       let ui = after frame.ui event in
       let is : frame.ui.state ≡ state.Revoking h.holder None = h.is ∙ ap (state.Revoking h.holder) e in
@@ -164,9 +178,9 @@ module _ (r : Record) (inc act : ℕ) (o : Object) (re : Replied) (frame : Frame
       let but = move_but r o.frame frame ui r.last_g (o.number ∷ []) s at (omega arith) grant (freed_parts frame.ui.state ui.state h.holder o.number is to h.named) in
       let was_part : role_in frame.ui.state o.number ≡ Giving h.holder.g = ap (λ (z : GrantState). role_in z o.number) is ∙ gives_it h.holder None o.number h.named in
       let now : role_in ui.state o.number ≡ Other = ap (λ (z : GrantState). role_in z o.number) to in
-      let made = all_steady _ (moved_steady ui GivesUp told [] (λ q. let no = sym was_part ∙ q in cc) now but) in
+      let made = all_steady _ (moved_steady ui (GivesUp act) told [] (λ q. let no = sym was_part ∙ q in cc) now but) in
       subst (λ (z : GrantState). Steady (later event (passed_to z ui.state))) (sym is) (by_number event [] made)
-  has_given h (Some c) e told =
+  has_given act h (Some c) e told =
       let event = Revoked (grant_of frame.ui.state) in
       let ui = after frame.ui event in
       let is : frame.ui.state ≡ state.Revoking h.holder (Some c) = h.is ∙ ap (state.Revoking h.holder) e in
@@ -180,7 +194,7 @@ module _ (r : Record) (inc act : ℕ) (o : Object) (re : Replied) (frame : Frame
       let was_part : role_in frame.ui.state o.number ≡ Giving h.holder.g = ap (λ (z : GrantState). role_in z o.number) is ∙ gives_it h.holder (Some c) o.number h.named in
       let now : role_in ui.state o.number ≡ Other = ap (λ (z : GrantState). role_in z o.number) to ∙ rw (ne_eqb c.object o.number (λ q. apart (sym q))) refl in
       let v : Record = record (moved_to r o.frame frame ui r.last_g) { objects = put (is_object o.number) x r.objects } in
-      let less : SteadyBut (y.number ∷ []) v = moved_steady ui GivesUp told (y.number ∷ []) (λ q. let no = sym was_part ∙ q in cc) now but in
+      let less : SteadyBut (y.number ∷ []) v = moved_steady ui (GivesUp act) told (y.number ∷ []) (λ q. let no = sym was_part ∙ q in cc) now but in
       let asked : Object = record y { link = asked_link (UiActivate c.g) y.link } in
       let waits : role_in frame.ui.state y.number ≡ Waiting c.g = ap (λ (z : GrantState). role_in z y.number) is ∙ waits_for_it h.holder c y.number named (λ q. claims.apart.0 (named ∙ sym q)) in
       let gets : role_in ui.state y.number ≡ Getting c.g = ap (λ (z : GrantState). role_in z y.number) to ∙ gets_it c y.number named in
@@ -199,10 +213,11 @@ module _ (r : Record) (inc act : ℕ) (o : Object) (re : Replied) (frame : Frame
   told_by (Some (Gets g tools)) e =
       let tells : role_in frame.ui.state o.number ≡ Getting g = subst (λ (z : Option Tells). IsToldBy z (role_in frame.ui.state o.number)) e goes.stays.tells in
       subst (λ (z : Option Frame). Steady (regranted_in (replied_record r inc act o re) o.frame (Gets g tools) z).rec) (sym at) (has_got g tools e (getting_at frame.ui.state o.number g tells))
-  told_by (Some GivesUp) e =
+  told_by (Some (GivesUp given)) e =
       let tells = subst (λ (z : Option Tells). IsToldBy z (role_in frame.ui.state o.number)) e goes.stays.tells in
       let h = giving_at frame.ui.state o.number tells.0 tells.1 in
-      subst (λ (z : Option Frame). Steady (regranted_in (replied_record r inc act o re) o.frame GivesUp z).rec) (sym at) (has_given h h.next refl e)
+      subst (λ (z : Option Frame). Steady (regranted_in (replied_record r inc act o re) o.frame (GivesUp given) z).rec) (sym at)
+      (subst (λ (z : Option Event). Steady (regranted_by (replied_record r inc act o re) o.frame frame z).rec) (sym (holder_gives given h e)) (has_given given h h.next refl e))
 
 taken_keeps : (r : Record) (inc act n : ℕ) (answer : Answer) (o : Object) (res : Result Replied ContainerFault) (t : Took) → Steady r → find (is_linked inc act) r.objects ≡ Some o → reply_link n answer o.link ≡ res → reply_taken r inc act o res ≡ Ok t → Steady t.rec
 taken_keeps r inc act n answer o (Err fault) t s found g e = cc
@@ -308,7 +323,7 @@ ask_keeps r inc act g t s e = if_told (λ (z : Result Took ContainerFault). z �
     (λ a q. cc) e
 
 -- each message keeps a record steady
-pub on_message_keeps : SteadyAfterMessages
+pub on_message_keeps : (r : Record) (link : ℕ) (m : Message) (t : Took) → Steady r → on_message r link m ≡ Ok t → Steady t.rec
 on_message_keeps r link (Call inc act n op) t s e = cc
 on_message_keeps r link (Reply inc act n answer) t s e = if_told (λ (z : Result Took ContainerFault). z ≡ Ok t → Steady t.rec) (inc == link) (on_reply r inc act n answer) (Err WrongLink)
     (λ a g. reply_keeps r inc act n answer t s g)

@@ -16,10 +16,9 @@ use Rattle.container_model.specs.declared.fault.ContainerFault.TheVariants.{NoSu
 use Rattle.container_model.specs.Grants.{freed, freed_claims, freed_frame, grant_each, is_hosted, is_hosted_object, passed_to, requested, unwaited}
 use Rattle.container_model.specs.Record.{Record, Took, MOST_OBJECTS, asked_link, is_alive, is_object, is_unreaped, with_object}
 use Rattle.container_model.specs.Saves.{kept}
-use Rattle.container_model.specs.Messages.{reaped, reaped_grants, reaped_object}
+use Rattle.container_model.specs.Messages.{on_reap, reaped, reaped_grants, reaped_object}
 use Rattle.container_steady.specs.Roles.{IsClaim, Getting, Role, SteadyGrant, Waiting, role_in}
 use Rattle.container_steady.specs.Steady.{SteadyFrame, SteadyLink, SteadyObject, InOrder, EachPair, Steady}
-use Rattle.container_steps.specs.Steps.{SteadyAfterReaps}
 use Rattle.container_steps.proofs.SteadyAnswers.{none_follows}
 use Rattle.container_steady.proofs.SteadyClaims.{claim_kept, keeps_map}
 use Rattle.container_steady.proofs.SteadyCounts.{count_map}
@@ -295,7 +294,7 @@ module _ (r : Record) (inc : ℕ) (s : Steady r) where
       (freed_pairs r inc 1 r.objects r.frames (λ i frame c at e. (let same : suc i ≡ 1 + i = omega arith in subst (λ (n : ℕ). IsClaim r n c) same (waits_claim (suc i) frame c at (passing (suc i) frame c at e)))))
       (freed_all inc r.objects (IsReady gone) r.frames (λ i frame c at e. ready (suc i) frame c at e))
 
-pub on_reap_keeps : SteadyAfterReaps
+pub on_reap_keeps : (r : Record) (inc : ℕ) (t : Took) → Steady r → on_reap r inc ≡ Ok t → Steady t.rec
 on_reap_keeps r inc t s e = if_told (λ (z : Result Took ContainerFault). z ≡ Ok t → Steady t.rec) (is_alive r inc) _ (Err NoSuch)
     (λ a g. let same = ok_rec _ t g in subst Steady same (settle_steady (reaped_grants r inc).rec (server_gone r inc s)))
     (λ a g. cc) e

@@ -52,12 +52,12 @@ module _ (servers : List Bool) (last_act : ℕ) (phase : Phase) (k : ℕ) (role 
 abbrev pub role_after : Option Tells → Role → Role
 role_after None role = role
 role_after (Some (Gets g tools)) role = Holding g tools
-role_after (Some GivesUp) role = Other
+role_after (Some (GivesUp act)) role = Other
 
 abbrev pub IsToldBy : Option Tells → Role → Type 0
 IsToldBy None role = Unit {0}
 IsToldBy (Some (Gets g tools)) role = role ≡ Getting g
-IsToldBy (Some GivesUp) role = (g : ℕ) × (role ≡ Giving g)
+IsToldBy (Some (GivesUp act)) role = (g : ℕ) × (role ≡ Giving g)
 
 -- what is there of an activation after an answer: whoever is lost had no part in the grant
 abbrev pub EndsOther : Option Link → Role → Type 0
@@ -138,11 +138,11 @@ module _ (servers : List Bool) (last_act : ℕ) (phase : Phase) (k : ℕ) (role 
   not_ui : (s : ObjectState) → s ≡ InPlaceActive → s ≡ UiActive → ⊥
   not_ui s e q = cc
 
-  gives_goes : (re : Replied) → l.pending ≡ Some UiDeactivate → granted_link GivesUp (done l UiDeactivate) ≡ Ok re → StaysSteady re
+  gives_goes : (re : Replied) → l.pending ≡ Some UiDeactivate → granted_link (GivesUp l.act) (done l UiDeactivate) ≡ Ok re → StaysSteady re
   gives_goes re e q =
       let t = taken (EndsWell phase k role) l.states UiDeactivate l.waiting (runs UiDeactivate e) in
-      let is = sym (ap (granted_link GivesUp) (done_is UiDeactivate t.0 t.1)) ∙ q in
-      let at : record { link = Some (record l { pending = None; states = t.0; s = l.s }); taken = None; refused = None; grant = Some GivesUp } ≡ re = cc in
+      let is = sym (ap (granted_link (GivesUp l.act)) (done_is UiDeactivate t.0 t.1)) ∙ q in
+      let at : record { link = Some (record l { pending = None; states = t.0; s = l.s }); taken = None; refused = None; grant = Some (GivesUp l.act) } ≡ re = cc in
       let part = giving_role role l.waiting (plays_as UiDeactivate e) in
       subst StaysSteady at (record {
         held = goes UiDeactivate t.0 Other tt e t.1
@@ -278,7 +278,7 @@ module _ (servers : List Bool) (last_act : ℕ) (phase : Phase) (k : ℕ) (role 
   fitting_taken InPlace _ e f = absurd f
   fitting_taken (UiActivate g) (told.Tools menus border) e f = granted_taken (Gets g (record { menus = menus; border = border })) (done l (UiActivate g)) (done_taken (UiActivate g) e)
   fitting_taken (UiActivate g) _ e f = absurd f
-  fitting_taken UiDeactivate Done e f = granted_taken GivesUp (done l UiDeactivate) (done_taken UiDeactivate e)
+  fitting_taken UiDeactivate Done e f = granted_taken (GivesUp l.act) (done l UiDeactivate) (done_taken UiDeactivate e)
   fitting_taken UiDeactivate _ e f = absurd f
   fitting_taken InPlaceDeactivate Done e f = done_taken InPlaceDeactivate e
   fitting_taken InPlaceDeactivate _ e f = absurd f

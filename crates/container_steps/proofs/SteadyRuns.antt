@@ -2,14 +2,16 @@
 use Rattle.std.proofs.Common.{◌≡◌, List, [], ◌∷◌, Ok, subst}
 use Rattle.container_model.specs.Record.{Record, Took, empty}
 use Rattle.container_steady.specs.Steady.{Steady}
-use Rattle.container_steps.specs.Steps.{Input, on_input, Leads, SteadyAlways}
+use Rattle.container_model.specs.Inputs.{Input, on_input, Leads}
+use Rattle.container_steps.specs.Steps.{SteadyAfter, SteadyAlways}
 use Rattle.container_steady.proofs.SteadyRecords.{empty_steady}
 use Rattle.container_steps.proofs.SteadyCommands.{on_command_keeps}
 use Rattle.container_steps.proofs.SteadyMessages.{on_message_keeps}
 use Rattle.container_steps.proofs.SteadyReaps.{on_reap_keeps}
 use Rattle.container_steps.proofs.SteadyCommits.{commit_done_keeps}
 
-on_input_keeps : (r : Record) (x : Input) (t : Took) → Steady r → on_input r x ≡ Ok t → Steady t.rec
+-- whatever it is given
+pub on_input_keeps : SteadyAfter
 on_input_keeps r (Input.Ordered c) t s e = on_command_keeps r c t s e
 on_input_keeps r (Input.Told link m) t s e = on_message_keeps r link m t s e
 on_input_keeps r (Input.Reaped inc) t s e = on_reap_keeps r inc t s e

@@ -36,6 +36,7 @@ use Rattle.container_model.specs.Verbs as verbs
 use Rattle.container_model.specs.Verbs.{claim_of, gives_up, leaving_made, operation_of, stepped_link, takes, taking_made}
 use Rattle.container_steady.specs.Roles.{IsClaim, IsPlain, IsShown, Other, Giving, Role, SteadyGrant, role_in}
 use Rattle.container_steady.specs.Steady.{ended, EndsAs, EndsWell, SteadyLink, Steady}
+use Rattle.container_steady.specs.Taken.{IsStepped, steps_leave, steps_nothing, steps_take}
 use Rattle.container_steps.proofs.SteadyAsks.{held_idle, free, linked_keeps, was}
 use Rattle.container_steady.proofs.SteadyLinks.{asked_each, quiet_asked, quiet_ends, quiet_plays}
 use Rattle.container_steady.proofs.SteadyMoves.{But, SteadyBut, all_steady, gives_it, has_it, move_but, moved_to, parts_ended, put_but, set_object}
@@ -166,71 +167,10 @@ module _ (r : Record) (o : Object) (frame : Frame) (l : Link) (s : Steady r) (fo
   takes_ui v a ts (hidden e) = e
   takes_ui v a ts (placed e) = e
 
-  stepping_keeps : (v : Verb) (ts : List Step) (t : Took) → (activates_ui v && is_moving frame.ui.state) ≡ false → steps v l.states.object ≡ Some ts → verbs.stepping r frame o l ts ≡ Ok t → Steady t.rec
-  stepping_keeps v ts t moves e g = if_told (λ (z : Result Took ContainerFault). z ≡ Ok t → Steady t.rec) (takes ts) (verbs.taking r frame o l ts) (Ok (leaving_made r frame o l ts))
-      (λ b q.
-      let made = (unless_ok (nat_le r.numbers r.last_g || not (verbs.holder_has_numbers r (verbs.holder_of frame.ui.state))) NumbersSpent _ t q).1 in
-      let same : taking_made r frame o l ts ≡ t = cc in
-      let from = taking_from v l.states.object ts e b in
+  pub stepped_keeps : (v : Verb) (ts : List Step) (t : Took) → (activates_ui v && is_moving frame.ui.state) ≡ false → steps v l.states.object ≡ Some ts → IsStepped r frame o l ts t → Steady t.rec
+  stepped_keeps v ts t moves e (steps_nothing none made) = subst (λ (z : Took). Steady z.rec) made s
+  stepped_keeps v ts t moves e (steps_leave has leaves made) = subst (λ (z : Took). Steady z.rec) made (leaving_keeps v ts e leaves)
+  stepped_keeps v ts t moves e (steps_take has takes lt holder made) =
+      let from = taking_from v l.states.object ts e takes in
       let rest : is_moving frame.ui.state ≡ false = subst (λ (z : Bool). (z && is_moving frame.ui.state) ≡ false) (takes_ui v l.states.object ts from) moves in
-      subst (λ (z : Took). Steady z.rec) same (taking_keeps r o frame l s found at idle quiet is unclaimed v l.states.object ts refl from (still_at frame.ui.state rest)))
-      (λ b q. let same : leaving_made r frame o l ts ≡ t = cc in subst (λ (z : Took). Steady z.rec) same (leaving_keeps v ts e b)) g
-
-  verb_steps_keep : (v : Verb) (row : Option (List Step)) (t : Took) → (activates_ui v && is_moving frame.ui.state) ≡ false → steps v l.states.object ≡ row → verbs.verb_steps r frame o l row ≡ Ok t → Steady t.rec
-  verb_steps_keep v None t moves e g = cc
-  verb_steps_keep v (Some []) t moves e g = (let same : counts_none r quiet_answer ≡ t = cc in subst (λ (z : Took). Steady z.rec) same s)
-  verb_steps_keep v (Some (x ∷ xs)) t moves e g = stepping_keeps v (x ∷ xs) t moves e (unless_ok (not (has_numbers r.numbers l)) NumbersSpent _ t g).1
-
-  close_steps_keep : (option : CloseOption) (row : Option (List Step)) (t : Took) → close_steps option l.states.object ≡ row → verbs.close_steps_made r frame o l row ≡ Ok t → Steady t.rec
-  close_steps_keep option None t e g = cc
-  close_steps_keep option (Some ts) t e g = (let same : leaving_made r frame o l ts ≡ t = cc in subst (λ (z : Took). Steady z.rec) same (closing_keeps option ts e))
-
-  pub verb_linked_keeps : (v : Option Verb) (t : Took) → (verbs.wants_ui v && is_moving frame.ui.state) ≡ false → verbs.verb_linked r frame o v (Some l) ≡ Ok t → Steady t.rec
-  verb_linked_keeps None t moves g = cc
-  verb_linked_keeps (Some v) t moves g = verb_steps_keep v (steps v l.states.object) t moves refl g
-
-  pub close_linked_keeps : (option : CloseOption) (t : Took) → verbs.close_linked r frame o option (Some l) ≡ Ok t → Steady t.rec
-  close_linked_keeps option t g = close_steps_keep option (close_steps option l.states.object) t refl (unless_ok (not (has_numbers r.numbers l)) NumbersSpent _ t g).1
-
-verb_link_keeps : (r : Record) (o : Object) (frame : Frame) (v : Option Verb) (link : Option Link) (t : Took) → Steady r → find (is_object o.number) r.objects ≡ Some o → nth r.frames o.frame ≡ Some frame → frame.phase ≡ Idle → is_asked o.link ≡ false → is_claim o.number (waiting frame.ui.state) ≡ false
-    → (verbs.wants_ui v && is_moving frame.ui.state) ≡ false → o.link ≡ link → verbs.verb_linked r frame o v link ≡ Ok t → Steady t.rec
-verb_link_keeps r o frame v None t s found at idle quiet unclaimed moves is e = cc
-verb_link_keeps r o frame v (Some l) t s found at idle quiet unclaimed moves is e = verb_linked_keeps r o frame l s found at idle quiet is unclaimed v t moves e
-
-verb_in_keeps : (r : Record) (o : Object) (v : Option Verb) (f : Option Frame) (t : Took) → Steady r → find (is_object o.number) r.objects ≡ Some o → nth r.frames o.frame ≡ f → verbs.verb_in r o v f ≡ Ok t → Steady t.rec
-verb_in_keeps r o v None t s found at e = cc
-verb_in_keeps r o v (Some frame) t s found at e =
-    let a = unless_ok (is_doubtful frame.phase) Doubtful _ t e in
-    let b = unless_ok (is_saving frame.phase || is_busy frame.ui.state o || (verbs.wants_ui v && is_moving frame.ui.state)) Busy _ t a.1 in
-    let c = or_false (is_saving frame.phase || is_busy frame.ui.state o) (verbs.wants_ui v && is_moving frame.ui.state) b.0 in
-    let quiet = or_false (is_saving frame.phase) (is_busy frame.ui.state o) c.0 in
-    let still = or_false (is_asked o.link) (is_claim o.number (waiting frame.ui.state)) quiet.1 in
-    verb_link_keeps r o frame v o.link t s found at (idle_of frame.phase a.0 quiet.0) still.0 still.1 c.1 refl b.1
-
-verb_at_keeps : (r : Record) (n : ℕ) (v : Option Verb) (o : Option Object) (t : Took) → Steady r → find (is_object n) r.objects ≡ o → verbs.verb_at r v o ≡ Ok t → Steady t.rec
-verb_at_keeps r n v None t s found e = cc
-verb_at_keeps r n v (Some o) t s found e = verb_in_keeps r o v (nth r.frames o.frame) t s (found_numbered n r.objects o found) refl e
-
-pub verb_keeps : (r : Record) (n : ℕ) (number : ℤ) (t : Took) → Steady r → verbs.verb r n number ≡ Ok t → Steady t.rec
-verb_keeps r n number t s e = verb_at_keeps r n (verb_of number) (find (is_object n) r.objects) t s refl e
-
-close_link_keeps : (r : Record) (o : Object) (frame : Frame) (option : CloseOption) (link : Option Link) (t : Took) → Steady r → find (is_object o.number) r.objects ≡ Some o → nth r.frames o.frame ≡ Some frame → frame.phase ≡ Idle → is_asked o.link ≡ false → is_claim o.number (waiting frame.ui.state) ≡ false
-    → o.link ≡ link → verbs.close_linked r frame o option link ≡ Ok t → Steady t.rec
-close_link_keeps r o frame option None t s found at idle quiet unclaimed is e = cc
-close_link_keeps r o frame option (Some l) t s found at idle quiet unclaimed is e = close_linked_keeps r o frame l s found at idle quiet is unclaimed option t e
-
-close_in_keeps : (r : Record) (o : Object) (option : CloseOption) (f : Option Frame) (t : Took) → Steady r → find (is_object o.number) r.objects ≡ Some o → nth r.frames o.frame ≡ f → verbs.close_in r o option f ≡ Ok t → Steady t.rec
-close_in_keeps r o option None t s found at e = cc
-close_in_keeps r o option (Some frame) t s found at e =
-    let a = unless_ok (is_doubtful frame.phase) Doubtful _ t e in
-    let b = unless_ok (is_saving frame.phase || is_busy frame.ui.state o) Busy _ t a.1 in
-    let quiet = or_false (is_saving frame.phase) (is_busy frame.ui.state o) b.0 in
-    let still = or_false (is_asked o.link) (is_claim o.number (waiting frame.ui.state)) quiet.1 in
-    close_link_keeps r o frame option o.link t s found at (idle_of frame.phase a.0 quiet.0) still.0 still.1 refl b.1
-
-close_at_keeps : (r : Record) (n : ℕ) (option : CloseOption) (o : Option Object) (t : Took) → Steady r → find (is_object n) r.objects ≡ o → verbs.close_at r option o ≡ Ok t → Steady t.rec
-close_at_keeps r n option None t s found e = cc
-close_at_keeps r n option (Some o) t s found e = close_in_keeps r o option (nth r.frames o.frame) t s (found_numbered n r.objects o found) refl e
-
-pub close_keeps : (r : Record) (n : ℕ) (option : CloseOption) (t : Took) → Steady r → verbs.close r n option ≡ Ok t → Steady t.rec
-close_keeps r n option t s e = close_at_keeps r n option (find (is_object n) r.objects) t s refl e
+      subst (λ (z : Took). Steady z.rec) made (taking_keeps r o frame l s found at idle quiet is unclaimed v l.states.object ts refl from (still_at frame.ui.state rest))

@@ -11,8 +11,8 @@ use Rattle.grant_core.specs.declared.grant_states.Claim.{Claim}
 use Rattle.grant_core.specs.declared.grant_states.Tools.{Tools}
 use Rattle.grant_core.specs.declared.grant_states.GrantState.{GrantState}
 use Rattle.grant_core.specs.declared.grant_states.GrantState.TheVariants as state
-use Rattle.container_steps.specs.Roles.{Holding, IsShown, Other, role_in}
-use Rattle.container_steps.specs.Steady.{Steady, SteadyLink, SteadyObject}
+use Rattle.container_steady.specs.Roles.{Holding, IsShown, Other, role_in}
+use Rattle.container_steady.specs.Steady.{Steady, SteadyLink, SteadyObject}
 use Rattle.container_model.specs.declared.record.Frame.{Frame}
 use Rattle.container_model.specs.declared.record.Link.{Link}
 use Rattle.container_model.specs.declared.record.Object.{Object}

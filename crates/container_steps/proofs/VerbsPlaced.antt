@@ -1,5 +1,5 @@
 -- An object and its frame, where they stand in their container.
-use Rattle.std.proofs.Common.{◌≡◌, ◌<◌, ℕ, ℤ, length, Result, Option, Some, Ok, get_or, set, refl, sym, ◌∙◌, ap, subst, IfSome, slice_get}
+use Rattle.std.proofs.Common.{◌≡◌, ◌<◌, ℕ, length, Result, Option, Some, None, Ok, get_or, set, refl, sym, ◌∙◌, ap, subst, IfSome, slice_get}
 use Rattle.std.proofs.lemmas.Option.{slice_get_read}
 use Rattle.wire_msgs.specs.Found.{IsPlace, nth, put, set_nth}
 use Rattle.container_model.specs.declared.answer.Answer.{Answer}
@@ -7,9 +7,6 @@ use Rattle.container_model.specs.declared.fault.ContainerFault.{ContainerFault}
 use Rattle.container_model.specs.declared.record.Frame.{Frame}
 use Rattle.container_model.specs.declared.record.Object.{Object}
 use Rattle.container_model.specs.Numbered.{IsNth, IsObjectAt}
-use Rattle.container_model.specs.Verbs.{verb, verb_at, verb_in}
-use Rattle.object_state.specs.Verbs.{verb_of}
-use Rattle.object_state.specs.declared.verbs.Verb.{Verb}
 use Rattle.container_model.specs.Record.{Record, Took, counts_none, is_object, with_frame, with_object}
 
 -- the object and the frame that stand there
@@ -45,8 +42,7 @@ both_taken told q u a b e is same = e ∙ (ap (λ t. Ok (counts_none t a)) is �
 pub at_both : (P : Object → Frame → Type 0) (r : Record) (i at : ℕ) (x : Object) (y : Frame) → slice_get r.objects i ≡ Some x → slice_get r.frames at ≡ Some y → IfSome (slice_get r.objects i) (λ o. IfSome (slice_get r.frames at) (λ f. P o f)) → P x y
 at_both P r i at x y ex ey h = subst (λ t. IfSome t (P x)) ey (subst (λ t. IfSome t (λ o. IfSome (slice_get r.frames at) (λ f. P o f))) ex h)
 
--- the verb of a number, at the object and the frame that stand there
-pub verb_is : (r : Record) (object : ℕ) (number : ℤ) (v : Option Verb) (i : ℕ) (x : Object) (y : Frame) → v ≡ verb_of number → IsPlace (is_object object) r.objects i → slice_get r.objects i ≡ Some x → nth r.frames x.frame ≡ Some y
-    → verb r object number ≡ verb_in r x v (Some y)
-verb_is r object number v i x y named p e there =
-    ap (verb_at r (verb_of number)) (p.found ∙ e) ∙ (ap (verb_in r x (verb_of number)) there ∙ ap (λ w. verb_in r x w (Some y)) (sym named))
+-- what holds of the object and the frame that stand there gives what holds of them
+pub each_both : (P Q : Object → Frame → Type 0) (xo : Option Object) (xf : Option Frame) (y : Frame) → xf ≡ Some y → ((o : Object) → P o y → Q o y) → IfSome xo (λ o. IfSome xf (λ f. P o f)) → IfSome xo (λ o. IfSome xf (λ f. Q o f))
+each_both P Q None xf y e k h = tt
+each_both P Q (Some o) xf y e k h = subst (λ (z : Option Frame). IfSome z (λ f. Q o f)) (sym e) (k o (subst (λ (z : Option Frame). IfSome z (λ f. P o f)) e h))

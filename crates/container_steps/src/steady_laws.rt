@@ -1,25 +1,11 @@
 //! Laws of a container's steps on a steady record. Each function is empty: its contract is the law, which is proved.
 
-ghost use Rattle.container_steps.specs.Steps.{FittingAnswersTaken, SteadyAfterCommands, SteadyAfterCommits, SteadyAfterMessages, SteadyAfterReaps, SteadyAlways};
+ghost use Rattle.container_steps.specs.Steps.{FittingAnswersTaken, SteadyAfter, SteadyAlways};
 
-/// A command that is taken leaves a steady record steady.
-pub fn steady_after_commands()
-    ensures { SteadyAfterCommands }
-{}
-
-/// A message that is taken leaves a steady record steady, whatever it answers.
-pub fn steady_after_messages()
-    ensures { SteadyAfterMessages }
-{}
-
-/// The end of a server leaves a steady record steady.
-pub fn steady_after_reaps()
-    ensures { SteadyAfterReaps }
-{}
-
-/// A commit that is done leaves a steady record steady.
-pub fn steady_after_commits()
-    ensures { SteadyAfterCommits }
+/// Whatever a container is given and takes, a command, a message, the end of a server or of a commit, leaves a steady
+/// record steady.
+pub fn steady_after()
+    ensures { SteadyAfter }
 {}
 
 /// Whatever is done with a container from the start on, its record is steady.

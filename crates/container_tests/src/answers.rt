@@ -1,7 +1,7 @@
 //! What containers answer, as rows spell it.
 
 use crate::words::{names, word};
-use container_model::answer::{Action, Answer, Committed, Done};
+use container_model::answer::{Action, Answer};
 use container_model::fault::ContainerFault;
 use std::str::SplitWhitespace;
 use wire_msgs::message::Message;
@@ -90,30 +90,6 @@ pub(crate) fn is_answered(
 ) -> bool {
     match answer {
         Ok(answer) => is_answer(&answer, words),
-        Err(fault) => is_fault(fault, words),
-    }
-}
-
-fn are_counted(counted: &[Done], words: &mut SplitWhitespace<'_>) -> bool {
-    for done in counted {
-        if !names(words, "counted", done.object) {
-            return false;
-        }
-    }
-    true
-}
-
-fn leads_to(committed: &Committed, words: &mut SplitWhitespace<'_>) -> bool {
-    is_answer(&committed.answer, words) && are_counted(committed.counted.as_slice(), words)
-}
-
-/// Whether a commit that is done led to this, and these objects were counted.
-pub(crate) fn is_committed(
-    outcome: Result<Committed, ContainerFault>,
-    words: &mut SplitWhitespace<'_>,
-) -> bool {
-    match outcome {
-        Ok(committed) => leads_to(&committed, words),
         Err(fault) => is_fault(fault, words),
     }
 }

@@ -1,8 +1,8 @@
 //! What happens to a container, as the program reads it.
 
-use crate::answers::{is_answered, is_committed};
+use crate::answers::is_answered;
 use container_core::container::ContainerCore;
-use container_model::answer::{Answer, Committed};
+use container_model::answer::Answer;
 use container_model::command::Command;
 use container_model::fault::ContainerFault;
 use event_texts::events::Events;
@@ -24,7 +24,7 @@ fn reap(alloc: Global, core: &mut ContainerCore, inc: u32) -> Result<Answer, Con
     core.on_reap(alloc, inc)
 }
 
-fn commit(alloc: Global, core: &mut ContainerCore, f: u32) -> Result<Committed, ContainerFault> {
+fn commit(alloc: Global, core: &mut ContainerCore, f: u32) -> Result<Answer, ContainerFault> {
     core.commit_done(alloc, f)
 }
 
@@ -43,7 +43,7 @@ pub(crate) fn happens(
     match event {
         Event::Command(command) => is_answered(carry_out(alloc, core, command), words),
         Event::Reap(inc) => is_answered(reap(alloc, core, inc), words),
-        Event::Done(f) => is_committed(commit(alloc, core, f), words),
+        Event::Done(f) => is_answered(commit(alloc, core, f), words),
         _ => false,
     }
 }

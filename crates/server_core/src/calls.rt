@@ -1,6 +1,6 @@
 //! What a server does with calls.
 
-ghost use Rattle.std.specs.Prelude.{◌≡◌, ◌++◌, ◌∷◌, [], Some, None, Option, true, IfErr, IfOk, OnErr, Ok, option_map, is_some, vec_capacity, vec_len, ◌<◌};
+ghost use Rattle.std.specs.Prelude.{◌≡◌, ◌≢◌, ◌++◌, ◌∷◌, [], Some, None, Option, true, IfErr, IfOk, OnErr, Ok, option_map, is_some, vec_capacity, vec_len, ◌<◌};
 ghost use Rattle.wire_msgs.specs.Found.{IsPlace, find};
 ghost use Rattle.embed_core.specs.Kinds.{Kind, kind_of};
 ghost use Rattle.server_model.specs.Server.{Refuses, Takes, after_begun, begins, begun_class, begun_content, begun_states, called, answers, fresh, offered, is_act, on_call, unknown_call, unless_wanted, wanted, wanted_unknown};
@@ -92,6 +92,7 @@ impl ServerCore {
         ensures begun { IfOk result (λ a. after_begun (seen (λ s. content s.boxed) self.old) (begins act class operation.now (begun_content (kind_of (content boxed)) operation.now)) ≡ Ok (record { server = seen (λ s. content s.boxed) self.new; answer = a; counted = None; used = true })) }
         ensures refused { IfErr result (λ r. r.fault ≡ ServerFault.NoMemory) }
         ensures handed_back { IfErr result (λ r. option_map (λ b. content b) r.back ≡ Some (content boxed)) }
+        ensures same { IfErr result (λ r. r.fault ≢ ServerFault.NoMemory → r.back ≡ Some boxed) }
         ensures kept { OnErr result (seen (λ s. content s.boxed) self.new ≡ seen (λ s. content s.boxed) self.old) }
     {
         if self.acts.reserve(1).is_err() {
@@ -128,6 +129,7 @@ impl ServerCore {
         ensures back { IfOk result (λ r. r.back ≡ unless_wanted (wanted_unknown (seen (λ s. content s.boxed) self.old) (begun_class n operation) (find (is_act act) (seen (λ s. content s.boxed) self.old).acts)) boxed) }
         ensures refused { IfErr result (λ r. Refuses (called (seen (λ s. content s.boxed) self.old) act n operation (option_map (λ b. kind_of (content b)) boxed) (find (is_act act) (seen (λ s. content s.boxed) self.old).acts)) r.fault) }
         ensures handed_back { IfErr result (λ r. option_map (λ b. content b) r.back ≡ option_map (λ b. content b) boxed) }
+        ensures same { IfErr result (λ r. r.fault ≢ ServerFault.NoMemory → r.back ≡ boxed) }
         ensures kept { OnErr result (seen (λ s. content s.boxed) self.new ≡ seen (λ s. content s.boxed) self.old) }
     {
         let inc = self.inc;
@@ -171,6 +173,7 @@ impl ServerCore {
         ensures acted { IfOk result (λ a. offered (seen (λ s. content s.boxed) self.old) act class operation.now (option_map (λ b. kind_of (content b)) boxed) ≡ Ok (record { server = seen (λ s. content s.boxed) self.new; answer = a; counted = None; used = true })) }
         ensures refused { IfErr result (λ r. Refuses (offered (seen (λ s. content s.boxed) self.old) act class operation.now (option_map (λ b. kind_of (content b)) boxed)) r.fault) }
         ensures handed_back { IfErr result (λ r. option_map (λ b. content b) r.back ≡ option_map (λ b. content b) boxed) }
+        ensures same { IfErr result (λ r. r.fault ≢ ServerFault.NoMemory → r.back ≡ boxed) }
         ensures kept { OnErr result (seen (λ s. content s.boxed) self.new ≡ seen (λ s. content s.boxed) self.old) }
     {
         let Some(boxed) = boxed else {
@@ -201,6 +204,7 @@ impl ServerCore {
         ensures back { IfOk result (λ r. r.back ≡ unless_wanted (wanted_unknown (seen (λ s. content s.boxed) self.old) (begun_class n operation) None) boxed) }
         ensures refused { IfErr result (λ r. Refuses (called (seen (λ s. content s.boxed) self.old) act n operation (option_map (λ b. kind_of (content b)) boxed) None) r.fault) }
         ensures handed_back { IfErr result (λ r. option_map (λ b. content b) r.back ≡ option_map (λ b. content b) boxed) }
+        ensures same { IfErr result (λ r. r.fault ≢ ServerFault.NoMemory → r.back ≡ boxed) }
         ensures kept { OnErr result (seen (λ s. content s.boxed) self.new ≡ seen (λ s. content s.boxed) self.old) }
     {
         let class = match self.first_class(n, &operation) {
@@ -252,7 +256,8 @@ impl ServerCore {
     /// activation but for a first InitNew or Load, a call of a known one that is neither the last nor the next, or the
     /// next of a closed one; `NumbersSpent` where the server has as many activations as it may have; `NeedObject`
     /// where there is none to make the activation with; `WrongClass` where it is of another class; then `NoMemory`.
-    /// Then nothing changes, and the object comes back with its content.
+    /// Then nothing changes, and the object comes back: the very one that was handed in, and after `NoMemory` one with its
+    /// content.
     pub fn on_call(
         &mut self,
         alloc: Global,
@@ -263,6 +268,7 @@ impl ServerCore {
         ensures back { IfOk result (λ r. r.back ≡ unless_wanted (wanted (seen (λ s. content s.boxed) self.old) message) boxed) }
         ensures refused { IfErr result (λ r. Refuses (on_call (seen (λ s. content s.boxed) self.old) message (option_map (λ b. kind_of (content b)) boxed)) r.fault) }
         ensures handed_back { IfErr result (λ r. option_map (λ b. content b) r.back ≡ option_map (λ b. content b) boxed) }
+        ensures same { IfErr result (λ r. r.fault ≢ ServerFault.NoMemory → r.back ≡ boxed) }
         ensures kept { OnErr result (seen (λ s. content s.boxed) self.new ≡ seen (λ s. content s.boxed) self.old) }
     {
         let Message::Call {

@@ -15,7 +15,7 @@ use Rattle.server_model.specs.declared.fault.ServerFault.{ServerFault}
 use Rattle.container_model.specs.Record.{Record, Took, MOST_FRAMES, MOST_OBJECTS, is_doubtful, is_saving, is_busy, is_object, count_objects, without_first}
 use Rattle.container_model.specs.Saves.{image, image_at, has_image, fitting, fitting_in, is_document, document, parts_in, document_tree, commit_done, commit_at, commit_fitting, commit_made, committed_frame, completed, completion, counted_object, is_committing, cleared, kept}
 use Rattle.container_model.specs.Messages.{on_message, on_reap}
-use Rattle.container_model.specs.Commands.{on_command, new, new_made, new_frame, insert_at, insert_made, is_named, is_size, is_empty_area, kind_of, delete_at, delete_in, delete_made}
+use Rattle.container_model.specs.Commands.{on_command, new_frame}
 use Rattle.container_model.specs.declared.command.Command.{Command}
 use Rattle.container_model.specs.declared.command.Command.TheVariants as command
 use Rattle.object_parts.specs.declared.area.Area.{Area}
@@ -42,7 +42,9 @@ use Rattle.container_steady.proofs.SteadyRecords.{unless_ok}
 use Rattle.world_files.specs.Files.{id_of, CountedBounded, FilesCounted, HasCommits, Files}
 use Rattle.world_facts.proofs.Lookups.{map_map_same, nth_aligned}
 use Rattle.world_files.proofs.Numbering.{numbered}
-use Rattle.world_files.proofs.Quiet.{IsQuiet, start_quiet, run_quiet, edit_quiet, save_quiet, close_quiet, verb_quiet, kill_quiet, message_quiet, reap_quiet, id_asked}
+use Rattle.world_files.proofs.Quiet.{IsQuiet, command_quiet, message_quiet, reap_quiet, id_asked}
+use Rattle.container_steady.specs.Taken.{IsTakenAs, as_close, as_delete, as_edit, as_insert, as_kill, as_new, as_run, as_save, as_start, as_verb}
+use Rattle.container_steady.proofs.Taken.{command_taken}
 use Rattle.world_files.proofs.Bounding.{bounded_same, bounded_framed, bounded_object, bounded_fewer, bounded_committed, among_without}
 use Rattle.world_files.proofs.Commits.{counted_framed, counted_committed}
 use Rattle.world_files.proofs.Filing.{stored_same, stored_framed, stored_committed}
@@ -82,72 +84,44 @@ files_commanded : (w : World) (c : Command) (told : Result Took ContainerFault) 
 files_commanded w c (Err fault) k q = record { counted_bounded = k.counted_bounded; filed = k.filed; commits = k.commits }
 files_commanded w c (Ok t) k q = (let h = q t refl in record { counted_bounded = h.counted_bounded; filed = h.filed; commits = h.commits })
 
--- New
-files_new : (w : World) (name : List ℕ) (x y : ℕ) (t : Took) → Steady w.rec → Files w → new w.rec name x y ≡ Ok t → Files (joined w t)
-files_new w name x y t s k e =
-    let r = w.rec in
-    let a = unless_ok (is_named name r.frames) Busy _ t e in
-    let b = (unless_ok (not (is_size x y)) WrongState _ t a.1).1 in
-    let c = (unless_ok (nat_le MOST_FRAMES (length r.frames)) Full _ t b).1 in
-    let d : Ok (new_made r name x y) ≡ Ok t = (unless_ok (nat_le r.numbers (length r.frames)) NumbersSpent _ t c).1 in
-    let at : new_made r name x y ≡ t = cc in
-    subst (λ (v : Took). Files (joined w v)) at (record {
-      counted_bounded = bounded_framed r.frames (new_frame name x y) (map id_of r.objects) r.last_object w.container_done (numbered r s) k.counted_bounded;
-      filed = stored_framed r.frames name x y w.files w.counted w.container_done a.0 k.filed;
-      commits = counted_framed w.counted w.container_done k.commits;
-    })
-
--- Insert
+-- a command
 map_one : {A B : Type 0} (f : A → B) (xs : List A) (x : A) → map f (xs ++ x ∷ []) ≡ map f xs ++ f x ∷ []
 map_one f [] x = refl
 map_one f (y ∷ ys) x = ap (λ vs. f y ∷ vs) (map_one f ys x)
 
-insert_framed : (w : World) (f : ℕ) (kind : Kind) (area : Area) (frame : Option Frame) (t : Took) → Files w → nth w.rec.frames f ≡ frame → insert_at w.rec f kind area frame ≡ Ok t → Files (joined w t)
-insert_framed w f kind area None t k at e = cc
-insert_framed w f kind area (Some frame) t k at e =
+files_taken : (w : World) (c : Command) (t : Took) → Steady w.rec → Files w → IsTakenAs w.rec t c → Files (joined w t)
+files_taken w _ t s k (as_new name x y new made) =
     let r = w.rec in
-    let a = (unless_ok (is_doubtful frame.phase) Doubtful _ t e).1 in
-    let b = (unless_ok (is_saving frame.phase) Busy _ t a).1 in
-    let c = (unless_ok (is_empty_area area) WrongState _ t b).1 in
-    let d = (unless_ok (nat_le MOST_OBJECTS (count_objects f r.objects)) Full _ t c).1 in
-    let g : Ok (insert_made r f kind area) ≡ Ok t = (unless_ok (nat_le r.numbers r.last_object) NumbersSpent _ t d).1 in
-    let is : insert_made r f kind area ≡ t = cc in
-    subst (λ (v : Took). Files (joined w v)) is (record {
+    subst (λ (v : Took). Files (joined w v)) made (record {
+      counted_bounded = bounded_framed r.frames (new_frame name x y) (map id_of r.objects) r.last_object w.container_done (numbered r s) k.counted_bounded;
+      filed = stored_framed r.frames name x y w.files w.counted w.container_done new.unnamed k.filed;
+      commits = counted_framed w.counted w.container_done k.commits;
+    })
+files_taken w _ t s k (as_insert f kind area at made) =
+    let r = w.rec in
+    subst (λ (v : Took). Files (joined w v)) made (record {
       counted_bounded = subst (λ ids. CountedBounded r.frames ids (r.last_object + 1) w.container_done) (sym (map_one id_of r.objects _)) (bounded_object r.frames (map id_of r.objects) r.last_object f w.container_done k.counted_bounded);
       filed = subst (λ cs. FilesCounted r.frames w.files cs w.container_done) (sym (append-nil w.counted)) k.filed;
       commits = subst (λ cs. HasCommits cs w.container_done) (sym (append-nil w.counted)) k.commits;
     })
-
--- Delete
-delete_framed : (w : World) (x : Object) (frame : Option Frame) (t : Took) → Files w → delete_in w.rec x frame ≡ Ok t → Files (joined w t)
-delete_framed w x None t k e = cc
-delete_framed w x (Some frame) t k e =
+files_taken w _ t s k (as_delete n at passive made) =
     let r = w.rec in
-    let a = (unless_ok (is_doubtful frame.phase) Doubtful _ t e).1 in
-    let b = (unless_ok (is_saving frame.phase || is_busy frame.ui.state x) Busy _ t a).1 in
-    let c : Ok (delete_made r x) ≡ Ok t = (unless_ok (is_some x.link) WrongState _ t b).1 in
-    let is : delete_made r x ≡ t = cc in
-    subst (λ (v : Took). Files (joined w v)) is (record {
+    let x = at.object in
+    subst (λ (v : Took). Files (joined w v)) made (record {
       counted_bounded = bounded_fewer r.frames (map id_of r.objects) (map id_of (without_first (is_object x.number) r.objects)) r.last_object w.container_done (among_without id_of (is_object x.number) r.objects) k.counted_bounded;
       filed = subst (λ cs. FilesCounted r.frames w.files cs w.container_done) (sym (append-nil w.counted)) k.filed;
       commits = subst (λ cs. HasCommits cs w.container_done) (sym (append-nil w.counted)) k.commits;
     })
-
-files_delete : (w : World) (x : Option Object) (t : Took) → Files w → delete_at w.rec x ≡ Ok t → Files (joined w t)
-files_delete w None t k e = cc
-files_delete w (Some x) t k e = delete_framed w x (nth w.rec.frames x.frame) t k e
+files_taken w _ t s k (as_start started made) = files_quiet w t k (command_quiet w.rec _ t tt (as_start started made))
+files_taken w _ t s k (as_run n inc at run made) = files_quiet w t k (command_quiet w.rec _ t tt (as_run n inc at run made))
+files_taken w _ t s k (as_edit n bytes go small has made) = files_quiet w t k (command_quiet w.rec _ t tt (as_edit n bytes go small has made))
+files_taken w _ t s k (as_save f at made) = files_quiet w t k (command_quiet w.rec _ t tt (as_save f at made))
+files_taken w _ t s k (as_kill inc alive made) = files_quiet w t k (command_quiet w.rec _ t tt (as_kill inc alive made))
+files_taken w _ t s k (as_close n option go ts has row made) = files_quiet w t k (command_quiet w.rec _ t tt (as_close n option go ts has row made))
+files_taken w _ t s k (as_verb n number go verb) = files_quiet w t k (command_quiet w.rec _ t tt (as_verb n number go verb))
 
 files_command : (w : World) (c : Command) (t : Took) → Steady w.rec → Files w → on_command w.rec c ≡ Ok t → Files (joined w t)
-files_command w (command.New name x y) t s k e = files_new w name x y t s k e
-files_command w (command.Insert f kind area) t s k e = insert_framed w f (kind_of kind) area (nth w.rec.frames f) t k refl e
-files_command w command.Start t s k e = files_quiet w t k (start_quiet w.rec t e)
-files_command w (command.Run o inc) t s k e = files_quiet w t k (run_quiet w.rec o inc t e)
-files_command w (command.Edit o bytes) t s k e = files_quiet w t k (edit_quiet w.rec o bytes t e)
-files_command w (command.Save f) t s k e = files_quiet w t k (save_quiet w.rec f t e)
-files_command w (command.Delete o) t s k e = files_delete w (find (is_object o) w.rec.objects) t k e
-files_command w (command.Kill inc) t s k e = files_quiet w t k (kill_quiet w.rec inc t e)
-files_command w (command.Close o option) t s k e = files_quiet w t k (close_quiet w.rec o option t e)
-files_command w (command.Verb o number) t s k e = files_quiet w t k (verb_quiet w.rec o number t e)
+files_command w c t s k e = files_taken w c t s k (command_taken w.rec c t e)
 
 -- deliveries
 files_served : (w : World) (inc act n : ℕ) (i : Instance) (stock : List Kind) (told : Result Served ServerFault) → Files w → Files (served w inc act n i stock told)

@@ -73,8 +73,9 @@ grants_moved [] r = unmoved r
 grants_moved (c ∷ cs) r = (let v = (request r c.object (UiActivate c.g)).rec in moved_after r v (grant_each v cs).rec (request_moved r c.object (UiActivate c.g)) (grants_moved cs v))
 
 -- what is told of a frame's grant
-event_moved : (r : Record) (f : ℕ) (frame : Frame) (e : Event) → nth r.frames f ≡ Some frame → IsMoved r (regranted_by r f frame e).rec
-event_moved r f frame e at =
+event_moved : (r : Record) (f : ℕ) (frame : Frame) (e : Option Event) → nth r.frames f ≡ Some frame → IsMoved r (regranted_by r f frame e).rec
+event_moved r f frame None at = unmoved r
+event_moved r f frame (Some e) at =
     let v = with_frame r f (moved frame e) in
     let claims = passed_to frame.ui.state (after frame.ui e).state in
     moved_after r v (grant_each v claims).rec (frame_moved r f frame e at) (grants_moved claims v)

@@ -21,14 +21,15 @@ use Rattle.container_model.specs.declared.record.Object.{Object}
 use Rattle.container_model.specs.declared.record.Frame.{Frame}
 use Rattle.container_model.specs.declared.fault.ContainerFault.{ContainerFault}
 use Rattle.container_model.specs.declared.fault.ContainerFault.TheVariants.{WrongLink, Stale, BadAnswer, NoSuch, Busy, InDoubt, Full, NumbersSpent, WrongState, UnknownClass}
-use Rattle.container_steady.proofs.EditsTaken.{edit_taken}
-use Rattle.container_steady.proofs.SteadyRecords.{unless_ok}
+use Rattle.container_model.specs.declared.command.Command.{Command}
+use Rattle.container_model.specs.declared.command.Command.TheVariants as command
+use Rattle.container_steady.specs.Taken.{IsStepped, IsTakenAs, as_close, as_delete, as_edit, as_insert, as_kill, as_new, as_run, as_save, as_start, as_verb, steps_leave, steps_nothing, steps_take}
 use Rattle.container_model.specs.Record.{Record, Took, MOST_SERVERS, MARGIN, quiet_answer, counts_none, acts, sends, has_numbers, with_frame, count_alive, is_doubtful, is_saving, is_busy, is_moving, is_object, is_linked, is_alive, asked_link, asked_object}
 use Rattle.container_model.specs.Saves.{settled_frames, kept}
 use Rattle.container_model.specs.Grants.{grant_of, moved, request}
-use Rattle.container_model.specs.Verbs.{claim_of, takes, gives_up, left, stepped_link, leaving_made, holder_of, holder_has_numbers, revoked_at, claimed, revoked, steps_now, taking_made, taking, stepping, verb_steps, steps_of, verb_linked, wants_ui, verb_in, verb_at, verb, close, close_at, close_in, close_linked, close_steps_made}
+use Rattle.container_model.specs.Verbs.{claim_of, gives_up, left, stepped_link, leaving_made, holder_of, revoked_at, claimed, revoked, steps_now, taking_made}
 use Rattle.container_model.specs.Messages.{Replied, reply_link, reply_found, reply_taken, reply_made, replied_object, replied_record, replied_grant, on_reply, is_held_by, relieved, ask_framed, ask_found, on_ask, is_open_to, written_object, write_made, write_link, write_found, on_write, on_message, on_reap, reaped, reaped_object, reaped_grants, reap_made}
-use Rattle.container_model.specs.Commands.{is_known_class, any_busy, all_have_numbers, start, start_made, run, run_at, run_in, run_made, edit, edit_at, edit_in, edit_linked, save, save_at, save_made, saving, saving_frame, kill}
+use Rattle.container_model.specs.Commands.{save_made, saving, saving_frame}
 use Rattle.world_files.specs.Files.{id_of, AreSameFrames}
 use Rattle.world_facts.proofs.Lookups.{map_put, map_map_same}
 use Rattle.world_files.proofs.Moving.{IsMoved, unmoved, moved_after, moved_settled, frame_moved, ids_linked, object_moved, request_moved, regranted_moved, freed_moved}
@@ -40,71 +41,19 @@ pub record IsQuiet (r : Record) (t : Took) : Type 0 where
   pub last : t.rec.last_object ≡ r.last_object
   pub frame : t.answer.frame ≡ None
 
-pub start_quiet : (r : Record) (t : Took) → start r ≡ Ok t → IsQuiet r t
-start_quiet r t e =
-    let a = (unless_ok (nat_le MOST_SERVERS (count_alive r.servers)) Full _ t e).1 in
-    let b : Ok (start_made r) ≡ Ok t = (unless_ok (nat_le r.numbers (length r.servers)) NumbersSpent _ t a).1 in
-    let at : start_made r ≡ t = cc in
-    subst (IsQuiet r) at (record { frames = same_frames r.frames; ids = refl; last = refl; frame = refl })
-
-run_framed : (r : Record) (n inc : ℕ) (x : Object) (frame : Option Frame) (t : Took) → find (is_object n) r.objects ≡ Some x → run_in r x inc frame ≡ Ok t → IsQuiet r t
-run_framed r n inc x None t f e = cc
-run_framed r n inc x (Some frame) t f e =
-    let a1 = (unless_ok (not (is_alive r inc)) NoSuch _ t e).1 in
-    let a2 = (unless_ok (is_doubtful frame.phase) InDoubt _ t a1).1 in
-    let a3 = (unless_ok (is_saving frame.phase || is_busy frame.ui.state x) Busy _ t a2).1 in
-    let a4 = (unless_ok (is_some x.link) WrongState _ t a3).1 in
-    let a5 = (unless_ok (not (is_known_class x.class)) UnknownClass _ t a4).1 in
-    let a6 : Ok (run_made r x inc) ≡ Ok t = (unless_ok (nat_lt r.numbers MARGIN || nat_le r.numbers r.last_act) NumbersSpent _ t a5).1 in
-    let at : run_made r x inc ≡ t = cc in
-    subst (IsQuiet r) at (record { frames = same_frames r.frames; ids = ids_linked r n x _ f refl; last = refl; frame = refl })
-
-run_found : (r : Record) (n inc : ℕ) (x : Option Object) (t : Took) → find (is_object n) r.objects ≡ x → run_at r inc x ≡ Ok t → IsQuiet r t
-run_found r n inc None t f e = cc
-run_found r n inc (Some x) t f e = run_framed r n inc x (nth r.frames x.frame) t f e
-
-pub run_quiet : (r : Record) (n inc : ℕ) (t : Took) → run r n inc ≡ Ok t → IsQuiet r t
-run_quiet r n inc t e = run_found r n inc (find (is_object n) r.objects) t refl e
-
-edit_quiet_linked : (r : Record) (n : ℕ) (bytes : List ℕ) (x : Object) (l : Option Link) (t : Took) → find (is_object n) r.objects ≡ Some x → x.link ≡ l → edit_linked r x bytes l ≡ Ok t → IsQuiet r t
-edit_quiet_linked r n bytes x None t f xl e = cc
-edit_quiet_linked r n bytes x (Some l) t f xl e = subst (IsQuiet r) (edit_taken r x bytes l t xl e) (record { frames = same_frames r.frames; ids = ids_linked r n x _ f refl; last = refl; frame = refl })
-
-edit_framed : (r : Record) (n : ℕ) (bytes : List ℕ) (x : Object) (frame : Option Frame) (t : Took) → find (is_object n) r.objects ≡ Some x → edit_in r x bytes frame ≡ Ok t → IsQuiet r t
-edit_framed r n bytes x None t f e = cc
-edit_framed r n bytes x (Some frame) t f e =
-    let a = (unless_ok (is_doubtful frame.phase) InDoubt _ t e).1 in
-    let b = (unless_ok (is_saving frame.phase || is_busy frame.ui.state x) Busy _ t a).1 in
-    edit_quiet_linked r n bytes x x.link t f refl b
-
-edit_found : (r : Record) (n : ℕ) (bytes : List ℕ) (x : Option Object) (t : Took) → find (is_object n) r.objects ≡ x → edit_at r bytes x ≡ Ok t → IsQuiet r t
-edit_found r n bytes None t f e = cc
-edit_found r n bytes (Some x) t f e = edit_framed r n bytes x (nth r.frames x.frame) t f e
-
-pub edit_quiet : (r : Record) (n : ℕ) (bytes : List ℕ) (t : Took) → edit r n bytes ≡ Ok t → IsQuiet r t
-edit_quiet r n bytes t e = edit_found r n bytes (find (is_object n) r.objects) t refl e
-
 -- an object that is asked keeps its number and frame
 pub id_asked : (f : ℕ) (op : Operation) (o : Object) → id_of (asked_object f op o) ≡ id_of o
 id_asked f op o = elim (o.frame == f) as (λ b. id_of (if b then record o { link = asked_link op o.link } else o) ≡ id_of o) [ true ↦ refl | false ↦ refl ]
 
-save_framed : (r : Record) (f : ℕ) (frame : Option Frame) (t : Took) → nth r.frames f ≡ frame → save_at r f frame ≡ Ok t → IsQuiet r t
-save_framed r f None t at e = cc
-save_framed r f (Some frame) t at e =
-    let a = (unless_ok (is_doubtful frame.phase) InDoubt _ t e).1 in
-    let b = (unless_ok (is_saving frame.phase || is_moving frame.ui.state || any_busy f frame.ui.state r.objects) Busy _ t a).1 in
-    let c : Ok (save_made r f frame) ≡ Ok t = (unless_ok (nat_le r.numbers frame.k || not (all_have_numbers f r.numbers r.objects)) NumbersSpent _ t b).1 in
-    let is : save_made r f frame ≡ t = cc in
+save_quiet : (r : Record) (f : ℕ) (frame : Frame) → nth r.frames f ≡ Some frame → IsQuiet r (save_made r f frame)
+save_quiet r f frame at =
     let v = saving r f frame in
-    subst (IsQuiet r) is (record {
+    record {
       frames = same_frames_after r.frames v.frames (settled_frames 1 v.objects v.frames) (set_same r.frames f frame (saving_frame frame) at (saving_same frame)) (settled_same 1 v.objects v.frames);
       ids = map_map_same id_of (asked_object f (Save (frame.k + 1))) r.objects (id_asked f (Save (frame.k + 1)));
       last = refl;
       frame = refl;
-    })
-
-pub save_quiet : (r : Record) (f : ℕ) (t : Took) → save r f ≡ Ok t → IsQuiet r t
-save_quiet r f t e = save_framed r f (nth r.frames f) t refl e
+    }
 
 if_ok : {A : Type 0} (b : Bool) (next : Result A ContainerFault) (fault : ContainerFault) (t : A) → (if b then next else Err fault) ≡ Ok t → next ≡ Ok t
 if_ok true next fault t e = e
@@ -142,65 +91,29 @@ taking_quiet r n frame o l ss f at = moved_quiet r (taking_made r frame o l ss)
     (object_moved r (revoked r frame o l).rec n o (record o { link = Some (stepped_link (r.last_g + 1) l (steps_now frame.ui.state ss)).link }) (revoked_moved r frame o l (holder_of frame.ui.state) at) f refl) refl
 
 -- a verb
-stepping_quiet : (r : Record) (n : ℕ) (frame : Frame) (o : Object) (l : Link) (ss : List Step) (t : Took) → find (is_object n) r.objects ≡ Some o → nth r.frames o.frame ≡ Some frame → stepping r frame o l ss ≡ Ok t → IsQuiet r t
-stepping_quiet r n frame o l ss t f at e = elim (takes ss) as (λ b. ◌≡◌ {A = Result Took ContainerFault} (if b then taking r frame o l ss else Ok (leaving_made r frame o l ss)) (Ok t) → IsQuiet r t) [
-  | true ↦ (λ g. subst (IsQuiet r) (ok_took _ t (unless_ok (nat_le r.numbers r.last_g || not (holder_has_numbers r (holder_of frame.ui.state))) NumbersSpent _ t g).1) (taking_quiet r n frame o l ss f at))
-  | false ↦ (λ g. subst (IsQuiet r) (ok_took _ t g) (leaving_quiet r n frame o l ss f at))
-] e
+stepped_quiet : (r : Record) (n : ℕ) (frame : Frame) (o : Object) (l : Link) (ts : List Step) (t : Took) → find (is_object n) r.objects ≡ Some o → nth r.frames o.frame ≡ Some frame → IsStepped r frame o l ts t → IsQuiet r t
+stepped_quiet r n frame o l ts t f at (steps_nothing none made) = subst (IsQuiet r) made (moved_quiet r (counts_none r quiet_answer) (unmoved r) refl)
+stepped_quiet r n frame o l ts t f at (steps_leave has leaves made) = subst (IsQuiet r) made (leaving_quiet r n frame o l ts f at)
+stepped_quiet r n frame o l ts t f at (steps_take has takes lt holder made) = subst (IsQuiet r) made (taking_quiet r n frame o l ts f at)
 
-verb_quiet_steps : (r : Record) (n : ℕ) (frame : Frame) (o : Object) (l : Link) (steps : Option (List Step)) (t : Took) → find (is_object n) r.objects ≡ Some o → nth r.frames o.frame ≡ Some frame → verb_steps r frame o l steps ≡ Ok t → IsQuiet r t
-verb_quiet_steps r n frame o l None t f at e = cc
-verb_quiet_steps r n frame o l (Some []) t f at e = subst (IsQuiet r) (ok_took _ t e) (moved_quiet r (counts_none r quiet_answer) (unmoved r) refl)
-verb_quiet_steps r n frame o l (Some (s ∷ ss)) t f at e = stepping_quiet r n frame o l (s ∷ ss) t f at (unless_ok (not (has_numbers r.numbers l)) NumbersSpent _ t e).1
+-- a command that makes no frame, and neither makes nor deletes an object
+abbrev pub IsCalm : Command → Type 0
+IsCalm (command.New name w h) = ⊥
+IsCalm (command.Insert f kind area) = ⊥
+IsCalm (command.Delete n) = ⊥
+IsCalm c = Unit {0}
 
-verb_quiet_linked : (r : Record) (n : ℕ) (v : Option Verb) (frame : Frame) (o : Object) (link : Option Link) (t : Took) → find (is_object n) r.objects ≡ Some o → nth r.frames o.frame ≡ Some frame → verb_linked r frame o v link ≡ Ok t → IsQuiet r t
-verb_quiet_linked r n v frame o None t f at e = cc
-verb_quiet_linked r n v frame o (Some l) t f at e = verb_quiet_steps r n frame o l (steps_of v l.states.object) t f at e
-
-verb_framed : (r : Record) (n : ℕ) (v : Option Verb) (o : Object) (frame : Option Frame) (t : Took) → find (is_object n) r.objects ≡ Some o → nth r.frames o.frame ≡ frame → verb_in r o v frame ≡ Ok t → IsQuiet r t
-verb_framed r n v o None t f at e = cc
-verb_framed r n v o (Some frame) t f at e =
-    let a = (unless_ok (is_doubtful frame.phase) InDoubt _ t e).1 in
-    let b = (unless_ok (is_saving frame.phase || is_busy frame.ui.state o || (wants_ui v && is_moving frame.ui.state)) Busy _ t a).1 in
-    verb_quiet_linked r n v frame o o.link t f at b
-
-verb_found : (r : Record) (n : ℕ) (v : Option Verb) (o : Option Object) (t : Took) → find (is_object n) r.objects ≡ o → verb_at r v o ≡ Ok t → IsQuiet r t
-verb_found r n v None t f e = cc
-verb_found r n v (Some o) t f e = verb_framed r n v o (nth r.frames o.frame) t f refl e
-
-pub verb_quiet : (r : Record) (n : ℕ) (number : ℤ) (t : Took) → verb r n number ≡ Ok t → IsQuiet r t
-verb_quiet r n number t e = verb_found r n (verb_of number) (find (is_object n) r.objects) t refl e
-
--- a close
-close_quiet_steps : (r : Record) (n : ℕ) (frame : Frame) (x : Object) (l : Link) (steps : Option (List Step)) (t : Took) → find (is_object n) r.objects ≡ Some x → nth r.frames x.frame ≡ Some frame → close_steps_made r frame x l steps ≡ Ok t → IsQuiet r t
-close_quiet_steps r n frame x l None t f at e = cc
-close_quiet_steps r n frame x l (Some steps) t f at e = subst (IsQuiet r) (ok_took _ t e) (leaving_quiet r n frame x l steps f at)
-
-close_quiet_linked : (r : Record) (n : ℕ) (option : CloseOption) (frame : Frame) (x : Object) (l : Option Link) (t : Took) → find (is_object n) r.objects ≡ Some x → nth r.frames x.frame ≡ Some frame → close_linked r frame x option l ≡ Ok t → IsQuiet r t
-close_quiet_linked r n option frame x None t f at e = cc
-close_quiet_linked r n option frame x (Some l) t f at e = (let a = (unless_ok (not (has_numbers r.numbers l)) NumbersSpent _ t e).1 in close_quiet_steps r n frame x l (close_steps option l.states.object) t f at a)
-
-close_framed : (r : Record) (n : ℕ) (option : CloseOption) (x : Object) (frame : Option Frame) (t : Took) → find (is_object n) r.objects ≡ Some x → nth r.frames x.frame ≡ frame → close_in r x option frame ≡ Ok t → IsQuiet r t
-close_framed r n option x None t f at e = cc
-close_framed r n option x (Some frame) t f at e =
-    let a = (unless_ok (is_doubtful frame.phase) InDoubt _ t e).1 in
-    let b = (unless_ok (is_saving frame.phase || is_busy frame.ui.state x) Busy _ t a).1 in
-    close_quiet_linked r n option frame x x.link t f at b
-
-close_found : (r : Record) (n : ℕ) (option : CloseOption) (x : Option Object) (t : Took) → find (is_object n) r.objects ≡ x → close_at r option x ≡ Ok t → IsQuiet r t
-close_found r n option None t f e = cc
-close_found r n option (Some x) t f e = close_framed r n option x (nth r.frames x.frame) t f refl e
-
-pub close_quiet : (r : Record) (n : ℕ) (option : CloseOption) (t : Took) → close r n option ≡ Ok t → IsQuiet r t
-close_quiet r n option t e = close_found r n option (find (is_object n) r.objects) t refl e
-
--- a kill
-pub kill_quiet : (r : Record) (inc : ℕ) (t : Took) → kill r inc ≡ Ok t → IsQuiet r t
-kill_quiet r inc t e =
-    let made : Took = counts_none r (acts (End inc ∷ [])) in
-    let a : Ok made ≡ Ok t = if_ok (is_alive r inc) (Ok made) NoSuch t e in
-    let at : made ≡ t = cc in
-    subst (IsQuiet r) at (record { frames = same_frames r.frames; ids = refl; last = refl; frame = refl })
+pub command_quiet : (r : Record) (c : Command) (t : Took) → IsCalm c → IsTakenAs r t c → IsQuiet r t
+command_quiet r _ t calm (as_new name w h new made) = absurd calm
+command_quiet r _ t calm (as_insert f kind area at made) = absurd calm
+command_quiet r _ t calm (as_start started made) = subst (IsQuiet r) made (record { frames = same_frames r.frames; ids = refl; last = refl; frame = refl })
+command_quiet r _ t calm (as_run n inc at run made) = subst (IsQuiet r) made (record { frames = same_frames r.frames; ids = ids_linked r n at.object _ at.found refl; last = refl; frame = refl })
+command_quiet r _ t calm (as_edit n bytes go small has made) = subst (IsQuiet r) made (record { frames = same_frames r.frames; ids = ids_linked r n go.at.object _ go.at.found refl; last = refl; frame = refl })
+command_quiet r _ t calm (as_save f at made) = subst (IsQuiet r) made (save_quiet r f at.frame at.there)
+command_quiet r _ t calm (as_delete n at passive made) = absurd calm
+command_quiet r _ t calm (as_kill inc alive made) = subst (IsQuiet r) made (record { frames = same_frames r.frames; ids = refl; last = refl; frame = refl })
+command_quiet r _ t calm (as_close n option go ts has row made) = subst (IsQuiet r) made (leaving_quiet r n go.at.frame go.at.object go.link ts go.at.found go.at.inside)
+command_quiet r _ t calm (as_verb n number go verb) = stepped_quiet r n go.at.frame go.at.object go.link verb.ts t go.at.found go.at.inside verb.stepped
 
 -- a reply
 reply_quiet_taken : (r : Record) (inc act : ℕ) (x : Object) (p : Result Replied ContainerFault) (t : Took) → find (is_linked inc act) r.objects ≡ Some x → reply_taken r inc act x p ≡ Ok t → IsQuiet r t

@@ -11,7 +11,7 @@ use Rattle.wire_msgs.specs.declared.answer.Answer.TheVariants as told
 use Rattle.grant_core.specs.declared.grant_states.Claim.{Claim}
 use Rattle.grant_core.specs.declared.grant_states.Tools.{Tools}
 use Rattle.grant_core.specs.declared.grant_states.GrantState.TheVariants.{Granting, Revoking}
-use Rattle.grant_core.specs.Grants.{Event, Granted, Revoked}
+use Rattle.grant_core.specs.Grants.{Event, Granted, Revoked, who}
 use Rattle.container_model.specs.declared.grants.Tells.{Tells}
 use Rattle.container_model.specs.declared.grants.Tells.TheVariants.{Gets, GivesUp}
 use Rattle.container_model.specs.declared.record.Link.{Link}
@@ -19,7 +19,7 @@ use Rattle.container_model.specs.declared.record.Object.{Object}
 use Rattle.container_model.specs.declared.record.Frame.{Frame}
 use Rattle.container_model.specs.Record.{Record, Took, is_object, is_linked, with_frame}
 use Rattle.container_model.specs.Saves.{settle}
-use Rattle.container_model.specs.Grants.{moved, regrant, regranted, regranted_in, event_of, grant_of, passed_to}
+use Rattle.container_model.specs.Grants.{moved, regrant, regranted, regranted_by, regranted_in, event_of, grant_of, is_by, passed_to}
 use Rattle.container_model.specs.Messages.{replied_object, replied_record, replied_grant}
 use Rattle.container_steady.specs.Roles.{Role, Other, Getting, Holding, Giving, Waiting, Plays, waits_as, role_in, queue_of}
 use Rattle.container_steady.specs.Steady.{SteadyLink, Steady}
@@ -120,7 +120,11 @@ regranted_kept u f (Some told) = at (nth u.frames f)
   where
     at : (frame : Option Frame) → AreKept u.objects (regranted_in u f told frame).rec.objects
     at None = all_kept u.objects
-    at (Some frame) = regrant_kept u f frame (event_of frame.ui.state told)
+    at (Some frame) = by_event frame (event_of frame.ui.state told)
+      where
+        by_event : (frame : Frame) (e : Option Event) → AreKept u.objects (regranted_by u f frame e).rec.objects
+        by_event frame None = all_kept u.objects
+        by_event frame (Some e) = regrant_kept u f frame e
 
 module _ (r : Record) (s : Steady r) (inc act n : ℕ) (answer : Answer) (t : Took) (h : IsReply r inc act n answer t) where
   abbrev x : Object
@@ -153,8 +157,11 @@ module _ (r : Record) (s : Steady r) (inc act n : ℕ) (answer : Answer) (t : To
   end_stays = kept_stay r.objects end.objects (kept_further r.objects middle.objects end.objects replied_kept (regranted_kept middle x.frame h.replied.grant))
 
   -- its frame's grant moves so
-  frames_by : (told : Tells) → h.replied.grant ≡ Some told → end.frames ≡ set_nth r.frames x.frame (moved it.frame (event_of it.frame.ui.state told))
-  frames_by told e = ap (λ g. (regranted middle x.frame g).rec.frames) e ∙ (ap (λ f. (regranted_in middle x.frame told f).rec.frames) inside ∙ regrant_frames middle x.frame it.frame (event_of it.frame.ui.state told))
+  event_frames : (told : Tells) → h.replied.grant ≡ Some told → end.frames ≡ (regranted_by middle x.frame it.frame (event_of it.frame.ui.state told)).rec.frames
+  event_frames told e = ap (λ g. (regranted middle x.frame g).rec.frames) e ∙ ap (λ f. (regranted_in middle x.frame told f).rec.frames) inside
+
+  frames_by : (told : Tells) (event : Event) → h.replied.grant ≡ Some told → event_of it.frame.ui.state told ≡ Some event → end.frames ≡ set_nth r.frames x.frame (moved it.frame event)
+  frames_by told event e is = event_frames told e ∙ (ap (λ v. (regranted_by middle x.frame it.frame v).rec.frames) is ∙ regrant_frames middle x.frame it.frame event)
 
   made_is : (settle end ≡ t.rec)
   made_is = ap (λ (v : Took). v.rec) h.made
@@ -176,7 +183,7 @@ module _ (r : Record) (s : Steady r) (inc act n : ℕ) (answer : Answer) (t : To
       let New : Claim → Tools → Type 0 = IsGetting state g tools in
       let getting : role_in state x.number ≡ Getting g = sym it.role ∙ (ready_for r s).getting x.number g h.link at_x (h.pending ∙ ap Some eo) in
       let moves : AllMove NoClaim (IsGetting state g tools) r.frames (settle end).frames = settled_move NoClaim (IsGetting state g tools) end.objects r.frames end.frames
-      (subst (AllMove NoClaim (IsGetting state g tools) r.frames) (sym (frames_by (Gets g tools) e))
+      (subst (AllMove NoClaim (IsGetting state g tools) r.frames) (sym (frames_by (Gets g tools) (Granted g tools) e refl))
       (one_moves NoClaim (IsGetting state g tools) r.frames x.frame it.frame (moved it.frame (Granted g tools)) inside (granted state g tools))) in
       record {
         named = λ o k m em nm. elim (named_by r (settle end) NoClaim (IsGetting state g tools) s end_stays moves o k m em nm) [ inl y ↦ inl y | inr z ↦ absurd z.3 ];
@@ -194,13 +201,22 @@ module _ (r : Record) (s : Steady r) (inc act n : ℕ) (answer : Answer) (t : To
         ];
       }
 
-  gives_moves : h.op ≡ UiDeactivate → answer ≡ told.Done → h.replied.grant ≡ Some GivesUp → Moved (settle end)
-  gives_moves eo ea e =
+  -- an activation that doesn't have the frame leaves it to whoever has it
+  given_moves : (act : ℕ) (b : Bool) → is_by act (who it.frame.ui.state) ≡ b → h.replied.grant ≡ Some (GivesUp act) → AllMove (IsGiving it.frame.ui.state) NoTools r.frames end.frames
+  given_moves act true by e =
+      let state = it.frame.ui.state in
+      subst (AllMove (IsGiving state) NoTools r.frames) (sym (frames_by (GivesUp act) (Revoked (grant_of state)) e (ap (λ b. if b then Some (Revoked (grant_of state)) else None) by)))
+      (one_moves (IsGiving state) NoTools r.frames x.frame it.frame (moved it.frame (Revoked (grant_of state))) inside (revoked state (grant_of state)))
+  given_moves act false by e =
+      let state = it.frame.ui.state in
+      let stays : end.frames ≡ r.frames = event_frames (GivesUp act) e ∙ ap (λ b. (regranted_by middle x.frame it.frame (if b then Some (Revoked (grant_of state)) else None)).rec.frames) by in
+      subst (AllMove (IsGiving state) NoTools r.frames) (sym stays) (none_move (IsGiving state) NoTools r.frames)
+
+  gives_moves : (act : ℕ) → h.op ≡ UiDeactivate → answer ≡ told.Done → h.replied.grant ≡ Some (GivesUp act) → Moved (settle end)
+  gives_moves act eo ea e =
       let state = it.frame.ui.state in
       let giving = plays_giving (role_in state x.number) h.link.waiting (subst (λ q. Plays (role_in state x.number) (queue_of q h.link.waiting)) (h.pending ∙ ap Some eo) it.plays) in
-      let moves : AllMove (IsGiving state) NoTools r.frames (settle end).frames = settled_move (IsGiving state) NoTools end.objects r.frames end.frames
-      (subst (AllMove (IsGiving state) NoTools r.frames) (sym (frames_by GivesUp e))
-      (one_moves (IsGiving state) NoTools r.frames x.frame it.frame (moved it.frame (Revoked (grant_of state))) inside (revoked state (grant_of state)))) in
+      let moves : AllMove (IsGiving state) NoTools r.frames (settle end).frames = settled_move (IsGiving state) NoTools end.objects r.frames end.frames (given_moves act (is_by act (who state)) refl e) in
       record {
         named = λ o k m em nm. elim (named_by r (settle end) (IsGiving state) NoTools s end_stays moves o k m em nm) [
           | inl y ↦ inl y
@@ -219,7 +235,7 @@ module _ (r : Record) (s : Steady r) (inc act n : ℕ) (answer : Answer) (t : To
   told_moves : Told h.op answer h.replied → Moved (settle end)
   told_moves (tells_none e) = quiet_moves e
   told_moves (tells_gets g tools eo ea e) = gets_moves g tools eo ea e
-  told_moves (tells_gives eo ea e) = gives_moves eo ea e
+  told_moves (tells_gives act eo ea e) = gives_moves act eo ea e
 
   pub reply_moves : RolesMove (links_of r.objects) (links_of t.rec.objects) (roles_of r) (roles_of t.rec) (Reply inc act n answer ∷ [])
   reply_moves = subst Moved made_is (told_moves h.told)

@@ -28,7 +28,7 @@ use Rattle.world_facts.proofs.Lookups.{find_passes}
 pub data Told (op : Operation) (answer : Answer) (p : Replied) : Type 0 where
   tells_none : p.grant ≡ None → Told op answer p
   tells_gets : (g : ℕ) (tools : Tools) → op ≡ UiActivate g → answer ≡ told.Tools tools.menus tools.border → p.grant ≡ Some (Gets g tools) → Told op answer p
-  tells_gives : op ≡ UiDeactivate → answer ≡ told.Done → p.grant ≡ Some GivesUp → Told op answer p
+  tells_gives : (act : ℕ) → op ≡ UiDeactivate → answer ≡ told.Done → p.grant ≡ Some (GivesUp act) → Told op answer p
 
 done_none : (l : Link) (s : ℕ) (x : Result States StateFault) (p : Replied) → done_link l s x ≡ Ok p → p.grant ≡ None
 done_none l s (Err fault) p e = cc
@@ -64,7 +64,7 @@ what_told l (UiActivate h) told.Done p e = cc
 what_told l (UiActivate h) (told.Refused why) p e = cc
 what_told l (UiActivate h) (told.Content c) p e = cc
 what_told l (UiActivate h) (told.Tools menus border) p e = tells_gets h (record { menus = menus; border = border }) refl refl (granted_some (Gets h (record { menus = menus; border = border })) l (next_s (UiActivate h) l.s) (both.step l.states (op_of (UiActivate h))) p e)
-what_told l UiDeactivate told.Done p e = tells_gives refl refl (granted_some GivesUp l (next_s UiDeactivate l.s) (both.step l.states (op_of UiDeactivate)) p e)
+what_told l UiDeactivate told.Done p e = tells_gives l.act refl refl (granted_some (GivesUp l.act) l (next_s UiDeactivate l.s) (both.step l.states (op_of UiDeactivate)) p e)
 what_told l UiDeactivate (told.Refused why) p e = cc
 what_told l UiDeactivate (told.Content c) p e = cc
 what_told l UiDeactivate (told.Tools menus border) p e = cc

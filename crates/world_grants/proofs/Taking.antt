@@ -23,8 +23,8 @@ use Rattle.world_grants.specs.Grants.{RolesMove, NoClaim, NoTools, roles_of}
 use Rattle.world_grants.proofs.Objects.{Keeps, put_kept, kept_stay}
 use Rattle.world_grants.proofs.Frames.{none_move}
 use Rattle.world_grants.proofs.Moving.{plain_move}
-use Rattle.world_grants.proofs.Commands.{Leaves, new_leaves, insert_leaves_in, start_leaves, run_leaves, edit_leaves, save_leaves, delete_leaves, kill_leaves, commit_leaves}
-use Rattle.world_grants.proofs.Verbs.{verb_leaves, close_leaves, ask_leaves}
+use Rattle.world_grants.proofs.Commands.{Leaves, commit_leaves}
+use Rattle.world_grants.proofs.Verbs.{command_leaves, ask_leaves}
 use Rattle.world_grants.proofs.Replies.{reply_is}
 use Rattle.world_grants.proofs.Answering.{move_more, reply_moves}
 
@@ -33,18 +33,6 @@ MovesBy r u taken = RolesMove (links_of r.objects) (links_of u.objects) (roles_o
 
 left_moves : (r u : Record) → Steady r → Leaves r u → MovesBy r u []
 left_moves r u s h = plain_move r u s h.0 h.1
-
-command_leaves : (r : Record) (c : Command) (t : Took) → Steady r → on_command r c ≡ Ok t → Leaves r t.rec
-command_leaves r (command.New name w h) t s e = new_leaves r name w h t e
-command_leaves r (command.Insert f kind area) t s e = insert_leaves_in r f (kind_of kind) area (nth r.frames f) t e
-command_leaves r command.Start t s e = start_leaves r t e
-command_leaves r (command.Run o inc) t s e = run_leaves r o inc (find (is_object o) r.objects) t refl e
-command_leaves r (command.Edit o bytes) t s e = edit_leaves r o bytes (find (is_object o) r.objects) t refl e
-command_leaves r (command.Save f) t s e = save_leaves r f (nth r.frames f) t refl e
-command_leaves r (command.Delete o) t s e = delete_leaves r (find (is_object o) r.objects) t s e
-command_leaves r (command.Kill inc) t s e = kill_leaves r inc t e
-command_leaves r (command.Close o option) t s e = close_leaves r o option (find (is_object o) r.objects) t refl e
-command_leaves r (command.Verb o number) t s e = verb_leaves r o (verb_of number) (find (is_object o) r.objects) t refl e
 
 pub command_moves : (r : Record) (c : Command) (t : Took) → Steady r → on_command r c ≡ Ok t → MovesBy r t.rec []
 command_moves r c t s e = left_moves r t.rec s (command_leaves r c t s e)

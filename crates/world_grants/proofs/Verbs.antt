@@ -11,17 +11,21 @@ use Rattle.grant_core.specs.Grants as grant
 use Rattle.container_model.specs.declared.record.Link.{Link}
 use Rattle.container_model.specs.declared.record.Object.{Object}
 use Rattle.container_model.specs.declared.record.Frame.{Frame}
-use Rattle.container_model.specs.declared.fault.ContainerFault.TheVariants.{Busy, InDoubt, NumbersSpent, Stale}
+use Rattle.container_model.specs.declared.fault.ContainerFault.TheVariants.{Stale}
+use Rattle.container_model.specs.declared.command.Command.{Command}
+use Rattle.container_model.specs.Commands.{kind_of, new_object, on_command, start_made}
+use Rattle.container_steady.specs.Steady.{Steady}
+use Rattle.container_steady.specs.Taken.{IsStepped, IsTakenAs, as_close, as_delete, as_edit, as_insert, as_kill, as_new, as_run, as_save, as_start, as_verb, steps_leave, steps_nothing, steps_take}
+use Rattle.container_steady.proofs.Taken.{command_taken}
 use Rattle.container_model.specs.Record.{Record, Took, is_object, is_linked, is_alive, is_busy, is_moving, is_saving, is_doubtful, has_numbers, counts_none, quiet_answer, with_frame, acts, sends}
 use Rattle.container_model.specs.Grants.{moved, grant_of}
-use Rattle.container_model.specs.Verbs.{gives_up, takes, left, claim_of, leaving_made, holder_of, revoked_at, claimed, revoked, taking_made, taking, holder_has_numbers, verb_steps, steps_of, verb_linked, wants_ui, verb_in, verb_at, close_steps_made, close_linked, close_in, close_at}
+use Rattle.container_model.specs.Verbs.{gives_up, left, claim_of, leaving_made, holder_of, revoked_at, claimed, revoked, taking_made}
 use Rattle.container_model.specs.Messages.{is_held_by, relieved, ask_framed, ask_found, on_ask}
-use Rattle.container_steady.proofs.SteadyRecords.{unless_ok}
 use Rattle.world_grants.specs.Grants.{NoClaim, NoTools}
 use Rattle.world_grants.proofs.States.{asked}
-use Rattle.world_grants.proofs.Objects.{AreKept, all_kept, with_found, request_kept, request_frames, kept_stay}
-use Rattle.world_grants.proofs.Frames.{AllMove, none_move, one_moves}
-use Rattle.world_grants.proofs.Commands.{Leaves, leaves_all}
+use Rattle.world_grants.proofs.Objects.{AreKept, all_kept, with_found, request_kept, request_frames, kept_stay, more_stay, without_stay}
+use Rattle.world_grants.proofs.Frames.{AllMove, none_move, one_moves, more_move}
+use Rattle.world_grants.proofs.Commands.{Leaves, leaves_all, linked_leaves, save_leaves}
 
 -- a frame's grant is asked for
 pub asked_moves : (r : Record) (f : ℕ) (frame : Frame) (claim : Claim) → nth r.frames f ≡ Some frame → AllMove NoClaim NoTools r.frames (set_nth r.frames f (moved frame (grant.Ask claim)))
@@ -52,52 +56,26 @@ taking_leaves r n frame o l steps f at =
       subst (AllMove NoClaim NoTools r.frames) (sym h.1) (asked_moves r o.frame frame (claim_of o l (r.last_g + 1)) at),
     )
 
-module _ (r : Record) (n : ℕ) (frame : Frame) (o : Object) (f : find (is_object n) r.objects ≡ Some o) (at : nth r.frames o.frame ≡ Some frame) (t : Took) where
-  stepping_leaves : (l : Link) (steps : List Step) (b : Bool) → (if b then taking r frame o l steps else Ok (leaving_made r frame o l steps)) ≡ Ok t → Leaves r t.rec
-  stepping_leaves l steps true e =
-      let g : Ok (taking_made r frame o l steps) ≡ Ok t = (unless_ok (nat_le r.numbers r.last_g || not (holder_has_numbers r (holder_of frame.ui.state))) NumbersSpent _ t e).1 in
-      let is : taking_made r frame o l steps ≡ t = cc in
-      subst (λ (v : Took). Leaves r v.rec) is (taking_leaves r n frame o l steps f at)
-  stepping_leaves l steps false e = (let is : leaving_made r frame o l steps ≡ t = cc in subst (λ (v : Took). Leaves r v.rec) is (leaving_leaves r n frame o l steps f at))
+stepped_leaves : (r : Record) (n : ℕ) (frame : Frame) (o : Object) (l : Link) (ts : List Step) (t : Took) → find (is_object n) r.objects ≡ Some o → nth r.frames o.frame ≡ Some frame → IsStepped r frame o l ts t → Leaves r t.rec
+stepped_leaves r n frame o l ts t f at (steps_nothing none made) = subst (λ (v : Took). Leaves r v.rec) made (leaves_all r r refl refl)
+stepped_leaves r n frame o l ts t f at (steps_leave has leaves made) = subst (λ (v : Took). Leaves r v.rec) made (leaving_leaves r n frame o l ts f at)
+stepped_leaves r n frame o l ts t f at (steps_take has takes lt holder made) = subst (λ (v : Took). Leaves r v.rec) made (taking_leaves r n frame o l ts f at)
 
-  verb_leaves_steps : (l : Link) (steps : Option (List Step)) → verb_steps r frame o l steps ≡ Ok t → Leaves r t.rec
-  verb_leaves_steps l None e = cc
-  verb_leaves_steps l (Some []) e = (let is : counts_none r quiet_answer ≡ t = cc in subst (λ (v : Took). Leaves r v.rec) is (leaves_all r r refl refl))
-  verb_leaves_steps l (Some (s ∷ ss)) e = stepping_leaves l (s ∷ ss) (takes (s ∷ ss)) (unless_ok (not (has_numbers r.numbers l)) NumbersSpent _ t e).1
+-- each command leaves frames to whoever has them
+taken_leaves : (r : Record) (c : Command) (t : Took) → Steady r → IsTakenAs r t c → Leaves r t.rec
+taken_leaves r _ t s (as_new name w h new made) = subst (λ (v : Took). Leaves r v.rec) made (kept_stay r.objects r.objects (all_kept r.objects), more_move NoClaim NoTools r.frames _)
+taken_leaves r _ t s (as_insert f kind area at made) = subst (λ (v : Took). Leaves r v.rec) made (more_stay r.objects (new_object (r.last_object + 1) f (kind_of kind) area) refl, none_move NoClaim NoTools r.frames)
+taken_leaves r _ t s (as_start started made) = subst (λ (v : Took). Leaves r v.rec) made (leaves_all r (start_made r).rec refl refl)
+taken_leaves r _ t s (as_run n inc at run made) = subst (λ (v : Took). Leaves r v.rec) made (linked_leaves r n at.object _ at.found (record { number = refl; frame = refl }), none_move NoClaim NoTools r.frames)
+taken_leaves r _ t s (as_edit n bytes go small has made) = subst (λ (v : Took). Leaves r v.rec) made (linked_leaves r n go.at.object _ go.at.found (record { number = refl; frame = refl }), none_move NoClaim NoTools r.frames)
+taken_leaves r _ t s (as_save f at made) = subst (λ (v : Took). Leaves r v.rec) made (save_leaves r f at.frame at.there)
+taken_leaves r _ t s (as_delete n at passive made) = subst (λ (v : Took). Leaves r v.rec) made (without_stay r.objects at.object.number s.order, none_move NoClaim NoTools r.frames)
+taken_leaves r _ t s (as_kill inc alive made) = subst (λ (v : Took). Leaves r v.rec) made (leaves_all r r refl refl)
+taken_leaves r _ t s (as_close n option go ts has row made) = subst (λ (v : Took). Leaves r v.rec) made (leaving_leaves r n go.at.frame go.at.object go.link ts go.at.found go.at.inside)
+taken_leaves r _ t s (as_verb n number go verb) = stepped_leaves r n go.at.frame go.at.object go.link verb.ts t go.at.found go.at.inside verb.stepped
 
-  verb_leaves_linked : (v : Option Verb) (l : Option Link) → verb_linked r frame o v l ≡ Ok t → Leaves r t.rec
-  verb_leaves_linked v None e = cc
-  verb_leaves_linked v (Some l) e = verb_leaves_steps l (steps_of v l.states.object) e
-
-  close_leaves_steps : (l : Link) (steps : Option (List Step)) → close_steps_made r frame o l steps ≡ Ok t → Leaves r t.rec
-  close_leaves_steps l None e = cc
-  close_leaves_steps l (Some steps) e = (let is : leaving_made r frame o l steps ≡ t = cc in subst (λ (v : Took). Leaves r v.rec) is (leaving_leaves r n frame o l steps f at))
-
-  close_leaves_linked : (option : CloseOption) (l : Option Link) → close_linked r frame o option l ≡ Ok t → Leaves r t.rec
-  close_leaves_linked option None e = cc
-  close_leaves_linked option (Some l) e = close_leaves_steps l (close_steps option l.states.object) (unless_ok (not (has_numbers r.numbers l)) NumbersSpent _ t e).1
-
-verb_leaves_in : (r : Record) (n : ℕ) (o : Object) (v : Option Verb) (frame : Option Frame) (t : Took) → find (is_object n) r.objects ≡ Some o → nth r.frames o.frame ≡ frame → verb_in r o v frame ≡ Ok t → Leaves r t.rec
-verb_leaves_in r n o v None t f at e = cc
-verb_leaves_in r n o v (Some frame) t f at e =
-    let a = unless_ok (is_doubtful frame.phase) InDoubt _ t e in
-    let b = unless_ok (is_saving frame.phase || is_busy frame.ui.state o || (wants_ui v && is_moving frame.ui.state)) Busy _ t a.1 in
-    verb_leaves_linked r n frame o f at t v o.link b.1
-
-pub verb_leaves : (r : Record) (n : ℕ) (v : Option Verb) (o : Option Object) (t : Took) → find (is_object n) r.objects ≡ o → verb_at r v o ≡ Ok t → Leaves r t.rec
-verb_leaves r n v None t f e = cc
-verb_leaves r n v (Some o) t f e = verb_leaves_in r n o v (nth r.frames o.frame) t f refl e
-
-close_leaves_in : (r : Record) (n : ℕ) (o : Object) (option : CloseOption) (frame : Option Frame) (t : Took) → find (is_object n) r.objects ≡ Some o → nth r.frames o.frame ≡ frame → close_in r o option frame ≡ Ok t → Leaves r t.rec
-close_leaves_in r n o option None t f at e = cc
-close_leaves_in r n o option (Some frame) t f at e =
-    let a = unless_ok (is_doubtful frame.phase) InDoubt _ t e in
-    let b = unless_ok (is_saving frame.phase || is_busy frame.ui.state o) Busy _ t a.1 in
-    close_leaves_linked r n frame o f at t option o.link b.1
-
-pub close_leaves : (r : Record) (n : ℕ) (option : CloseOption) (o : Option Object) (t : Took) → find (is_object n) r.objects ≡ o → close_at r option o ≡ Ok t → Leaves r t.rec
-close_leaves r n option None t f e = cc
-close_leaves r n option (Some o) t f e = close_leaves_in r n o option (nth r.frames o.frame) t f refl e
+pub command_leaves : (r : Record) (c : Command) (t : Took) → Steady r → on_command r c ≡ Ok t → Leaves r t.rec
+command_leaves r c t s e = taken_leaves r c t s (command_taken r c t e)
 
 -- the holder asks to be relieved of its frame
 relieved_leaves : (r : Record) (o : Object) (act g : ℕ) (frame : Frame) → nth r.frames o.frame ≡ Some frame → Leaves r (relieved r o act g frame).rec

@@ -1,3 +1,4 @@
+pub mod Counting
 pub mod NumberedRanges
 pub mod Joins
 pub mod Filed

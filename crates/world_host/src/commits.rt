@@ -2,7 +2,7 @@
 
 ghost use Rattle.std.specs.Prelude.{◌++◌, ◌∷◌, [], ◌+◌, ◌<◌, ◌≤◌, ◌≡◌, IfOk, IfErr, IfSome, MatchOption, length, true, OnErr, OnOk, Ok, Some, None, List, ℕ, map, option_copied, vec_len, vec_capacity};
 ghost use Rattle.wire_msgs.specs.Found.{nth, set_nth, find};
-ghost use Rattle.container_model.specs.Saves.{commit_done, image, document_tree, name_after};
+ghost use Rattle.container_model.specs.Saves.{commit_done, counted_of, done_entry, image, document_tree, name_after};
 ghost use Rattle.container_model.specs.declared.record.Phase.TheVariants as phase;
 ghost use Rattle.file_model.specs.Denotes.{Denotes};
 ghost use Rattle.world_model.specs.World.{IsImage, Refuses, done, frame_file, is_file, kept_commit, limited, put_file, making};
@@ -13,7 +13,7 @@ ghost use Rattle.world_host.specs.Servers.{ends_in};
 ghost use Rattle.world_host.specs.View.{bare, started};
 
 use crate::host::{Host, Room, Servers, add, add_all};
-use container_model::answer::{Committed, Part};
+use container_model::answer::{Done, Part};
 use container_model::fault::ContainerFault;
 use container_model::record::{Frame, Phase};
 use std::alloc::{AllocError, Global};
@@ -71,6 +71,38 @@ fn set_counted(counted: &mut Vec<Option<Document>>, frame: u32, document: Docume
     }
 }
 
+// What a commit counts of an object, under the number of the save.
+fn entry(alloc: Global, k: u32, part: &Part) -> Result<Done, AllocError>
+    ensures { IfOk result (λ d. d ≡ done_entry k part.now) }
+{
+    Ok(Done {
+        object: part.object,
+        k,
+        content: part.content.copy(alloc)?,
+    })
+}
+
+// What a commit counts of a document, in order.
+fn entries(alloc: Global, k: u32, parts: &[Part]) -> Result<Vec<Done>, AllocError>
+    ensures { IfOk result (λ v. v.items ≡ map (done_entry k) parts.now) }
+{
+    let mut done = Vec::new(alloc);
+    for part in parts {
+        done.push(entry(alloc, k, part)?)?;
+    }
+    Ok(done)
+}
+
+// Nothing is left but want of memory.
+fn lacking(fault: ContainerFault) -> AllocError
+    requires { fault ≡ ContainerFault.NoMemory }
+{
+    match fault {
+        ContainerFault::NoMemory => AllocError,
+        _ => unreachable!(),
+    }
+}
+
 impl Host {
     // Whether a commit of the frame is asked for.
     fn is_committing(&self, f: u32) -> bool
@@ -85,6 +117,20 @@ impl Host {
         }
     }
 
+    // What a commit of the frame counts: the contents of its document, under the number of its save. That number, too.
+    fn counted(&self, alloc: Global, f: u32, parts: &[Part]) -> Result<(u32, Vec<Done>), AllocError>
+        requires { image self.now.core f ≡ Ok parts.now }
+        ensures number { IfOk result (λ c. IfSome (nth self.now.core.frames f) (λ frame. c.0 ≡ frame.k)) }
+        ensures counted { IfOk result (λ c. c.1.items ≡ counted_of self.now.core f) }
+    {
+        let Some(frame) = self.core.frame(f) else {
+            unreachable!()
+        };
+        let k = frame.k;
+        let counted = entries(alloc, k, parts)?;
+        Ok((k, counted))
+    }
+
     // What a commit that is done leaves: the file, what is counted, and what the container asks for.
     fn commit(
         &mut self,
@@ -94,29 +140,29 @@ impl Host {
         bytes: Vec<u8>,
     ) -> Result<Servers, AllocError>
         requires image { image self.old.core f ≡ Ok parts }
+        requires committing { is_committing_in (nth self.old.core.frames f) ≡ true }
         ensures taken { IfOk result (λ s. done (bare self.old) f bytes.items ≡ Ok (started (bare self.new) self.new.core.numbers s.starts.items)) }
         ensures ends { IfOk result (λ s. s.ends.items ≡ ends_in (commit_done self.old.core f)) }
         ensures few { IfOk result (λ s. vec_len s.starts ≤ most self.old.core) }
         ensures kept { OnErr result (bare self.new ≡ bare self.old) }
     {
         let Some(frame) = self.core.frame(f) else {
-            return Err(AllocError);
+            unreachable!()
         };
-        let k = frame.k;
         let name = name_after(alloc, frame)?;
+        let (k, counted) = self.counted(alloc, f, parts.as_slice())?;
         let bytes = Bytes::from_vec(alloc, bytes)?;
         let room = self.make_room(alloc)?;
         self.files.reserve(1)?;
-        self.container_done.reserve(self.core.all_objects().len())?;
+        self.container_done.reserve(counted.len())?;
         match self.core.commit_done(alloc, f) {
-            Ok(committed) => {
-                let Committed { answer, counted } = committed;
+            Ok(answer) => {
                 put_file(&mut self.files, name, bytes);
-                add_all(&mut self.container_done, counted.into_vec());
+                add_all(&mut self.container_done, counted);
                 set_counted(&mut self.counted, f, Document { k, parts });
                 Ok(self.join(answer, room))
             }
-            Err(_) => Err(AllocError),
+            Err(fault) => Err(lacking(fault)),
         }
     }
 

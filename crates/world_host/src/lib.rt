@@ -6,4 +6,5 @@ pub mod host;
 mod replying;
 mod taking;
 
-pub use container_core::{container, lookups};
+pub use container_checks::lookups;
+pub use container_core::container;

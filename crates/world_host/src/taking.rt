@@ -7,8 +7,8 @@ ghost use Rattle.world_model.specs.World.{taken_link, taken_of};
 ghost use Rattle.world_host.specs.Logging.{brought, if_taken, listed};
 
 use crate::host::add;
-use container_core::lookups::place_linked;
-use container_core::writes::awaits_save;
+use container_checks::lookups::place_linked;
+use container_links::writes::awaits_save;
 use container_model::record::Object;
 use wire_msgs::message::Message;
 use world_model::logs::Taken;

@@ -15,7 +15,7 @@ use Rattle.container_model.specs.declared.record.Phase.TheVariants.{Idle, Commit
 use Rattle.container_model.specs.declared.answer.Part.{Part}
 use Rattle.container_model.specs.declared.answer.Done.{Done}
 use Rattle.container_model.specs.declared.fault.ContainerFault.{ContainerFault}
-use Rattle.container_steps.specs.Steady.{Steady}
+use Rattle.container_steady.specs.Steady.{Steady}
 use Rattle.container_steps.proofs.SteadyCommands.{on_command_keeps}
 use Rattle.container_steps.proofs.SteadyCommits.{committing_by, commit_done_keeps}
 use Rattle.container_steps.proofs.SteadyMessages.{on_message_keeps}

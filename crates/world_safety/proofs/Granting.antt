@@ -39,7 +39,7 @@ use Rattle.world_facts.specs.Words.{lives_of}
 use Rattle.world_facts.specs.Views.{IsSentOpen}
 use Rattle.world_facts.proofs.Lookups.{among_join, among_map, among_old, nth_old, find_passes}
 use Rattle.world_steps.proofs.Objects.{messages_of_log}
-use Rattle.container_steps.proofs.SteadyFinds.{found_by_number}
+use Rattle.container_steady.proofs.SteadyFinds.{found_by_number}
 use Rattle.world_grants.specs.Grants.{roles_of}
 use Rattle.world_grants.proofs.Stepping.{pending_called}
 use Rattle.world_steps.proofs.Replying.{linked_is, IsClosing, reply_closes}

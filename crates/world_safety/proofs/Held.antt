@@ -4,7 +4,7 @@ use Rattle.embed_core.specs.Kinds.{Kind}
 use Rattle.storage_tree.specs.declared.stored.Stored.{Stored}
 use Rattle.server_model.specs.Server.{Activation}
 use Rattle.container_model.specs.declared.record.Link.{Link}
-use Rattle.container_steps.proofs.SteadyRecords.{empty_steady}
+use Rattle.container_steady.proofs.SteadyRecords.{empty_steady}
 use Rattle.world_model.specs.declared.event.Event.{Event}
 use Rattle.world_model.specs.World.{World, empty_world, happened, IsImage, Run, Choice}
 use Rattle.world_model.specs.Safe.{Safe, acts_of, links_of}

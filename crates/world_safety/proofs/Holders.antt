@@ -11,8 +11,8 @@ use Rattle.container_model.specs.declared.record.Link.{Link}
 use Rattle.container_model.specs.declared.record.Object.{Object}
 use Rattle.container_model.specs.declared.record.Frame.{Frame}
 use Rattle.container_model.specs.Record.{is_object}
-use Rattle.container_steps.specs.Roles.{Holding, IsClaim, role_in}
-use Rattle.container_steps.proofs.SteadyRecords.{if_at}
+use Rattle.container_steady.specs.Roles.{Holding, IsClaim, role_in}
+use Rattle.container_steady.proofs.SteadyRecords.{if_at}
 use Rattle.world_model.specs.declared.life.Life.TheVariants.{Running}
 use Rattle.world_model.specs.World.{World, nth_or_zero, owner}
 use Rattle.world_model.specs.Safe.{link_at, links_of, act_at, acts_of, messages, IsHonest, HoldsFrame, IsHolder, WasAnswered}

@@ -12,8 +12,8 @@ use Rattle.container_model.specs.declared.command.Command.TheVariants as command
 use Rattle.container_model.specs.declared.fault.ContainerFault.TheVariants.{Full, NumbersSpent}
 use Rattle.container_model.specs.declared.answer.Action.TheVariants.{End}
 use Rattle.container_model.specs.declared.answer.Done.{Done}
-use Rattle.container_steps.specs.Steady.{Steady}
-use Rattle.container_steps.proofs.SteadyRecords.{unless_ok}
+use Rattle.container_steady.specs.Steady.{Steady}
+use Rattle.container_steady.proofs.SteadyRecords.{unless_ok}
 use Rattle.container_steps.proofs.SteadyCommands.{on_command_keeps}
 use Rattle.world_model.specs.declared.life.Life.{Life}
 use Rattle.world_model.specs.declared.life.Life.TheVariants.{Running, Ended, Reaped}

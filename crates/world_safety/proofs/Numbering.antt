@@ -24,13 +24,11 @@ use Rattle.container_model.specs.declared.answer.Part.{Part}
 use Rattle.container_model.specs.declared.fault.ContainerFault.{ContainerFault}
 use Rattle.container_model.specs.declared.fault.ContainerFault.TheVariants.{Full, NumbersSpent}
 use Rattle.container_steps.proofs.SteadyCommits.{committing_by}
-use Rattle.container_steps.proofs.SteadyRecords.{unless_ok}
+use Rattle.container_steady.proofs.SteadyRecords.{unless_ok}
 use Rattle.container_numbers.specs.Sound.{IsNumbered}
-use Rattle.container_numbers.proofs.SoundCommands.{numbers_commands}
-use Rattle.container_numbers.proofs.SoundMessages.{numbers_messages}
-use Rattle.container_numbers.proofs.SoundReaps.{numbers_reaps}
+use Rattle.container_model.specs.Inputs.{Input}
+use Rattle.container_numbers.proofs.SoundInputs.{numbers_after}
 use Rattle.container_numbers.proofs.SoundRooms.{IsSaved, all_of}
-use Rattle.container_numbers.proofs.SoundSaves.{numbers_commits}
 use Rattle.world_model.specs.declared.event.Event.{Event}
 use Rattle.world_model.specs.declared.event.Event.TheVariants as event
 use Rattle.world_model.specs.declared.event.Stop.{Stop}
@@ -88,7 +86,7 @@ module _ (limit : ℕ) (w : World) (h : AgreesIn w) (k : Numbers limit w) where
       subst (IsTaken limit) is (record { recorded = new; pending = none_pending (links_of w.rec.objects) [] refl; starts = (fresh_within limit (start_made w.rec).rec (length w.rec.servers + 1) new le, tt) })
 
   numbered : (c : Command) (t : Took) → on_command w.rec c ≡ Ok t → IsNumbered limit t.rec
-  numbered c t e = numbers_commands limit w.rec c t h.steady k.recorded e
+  numbered c t e = numbers_after limit w.rec (Input.Ordered c) t h.steady k.recorded e
 
   command_taken : (c : Command) (t : Took) → on_command w.rec c ≡ Ok t → IsTaken limit t
   command_taken (command.New name x y) t e = turned_taken t (numbered (command.New name x y) t e) (asks_turned w.rec t (new_asks w.rec name x y t e))
@@ -104,7 +102,7 @@ module _ (limit : ℕ) (w : World) (h : AgreesIn w) (k : Numbers limit w) where
   command_taken (command.Verb o number) t e = turned_taken t (numbered (command.Verb o number) t e) (verb_asks w.rec o number t h.steady e)
 
   message_numbered : (inc : ℕ) (m : Message) (t : Took) → on_message w.rec inc m ≡ Ok t → IsNumbered limit t.rec
-  message_numbered inc m t e = numbers_messages limit w.rec inc m t h.steady k.recorded e
+  message_numbered inc m t e = numbers_after limit w.rec (Input.Told inc m) t h.steady k.recorded e
 
   reply_taken : (inc act n : ℕ) (answer : _) (t : Took) → WasSent w (Reply inc act n answer) → on_message w.rec inc (Reply inc act n answer) ≡ Ok t → IsTaken limit t
   reply_taken inc act n answer t g e =
@@ -122,13 +120,13 @@ module _ (limit : ℕ) (w : World) (h : AgreesIn w) (k : Numbers limit w) where
   reap_taken : (is : List Instance) (inc : ℕ) (t : Took) → (lives_of is inc ≡ Some Running → ⊥) → on_reap w.rec inc ≡ Ok t → IsTaken limit t
   reap_taken is inc t over e =
       let m = reap_ends w.rec (acts_of is) (lives_of is) inc h.steady over t e in
-      plain_taken limit t (numbers_reaps limit w.rec inc t h.steady k.recorded e) (reaped_pending (links_of w.rec.objects) (links_of t.rec.objects) (acts_of is) (lives_of is) (messages_of t.answer.actions) m.0) m.1.starts
+      plain_taken limit t (numbers_after limit w.rec (Input.Reaped inc) t h.steady k.recorded e) (reaped_pending (links_of w.rec.objects) (links_of t.rec.objects) (acts_of is) (lives_of is) (messages_of t.answer.actions) m.0) m.1.starts
 
   commit_taken : (f : ℕ) (frame : Frame) (t : Took) → Files w → nth w.rec.frames f ≡ Some frame → commit_done w.rec f ≡ Ok t → IsTaken limit t
   commit_taken f frame t files at e =
       let c = commit_is_at w.rec f frame t (ap (commit_at w.rec f) (sym at) ∙ e) in
       let committing = committing_by frame.phase c.0 in
-      let new : IsNumbered limit (commit_made w.rec f frame).rec = subst (λ (v : Took). IsNumbered limit v.rec) (sym c.1) (numbers_commits limit w.rec f t h.steady k.recorded e) in
+      let new : IsNumbered limit (commit_made w.rec f frame).rec = subst (λ (v : Took). IsNumbered limit v.rec) (sym c.1) (numbers_after limit w.rec (Input.Committed f) t h.steady k.recorded e) in
       subst (IsTaken limit) c.1 (plain_taken limit (commit_made w.rec f frame) new (commit_pending w files h f frame at committing) (commit_plain w.rec f frame h.steady at committing).starts)
 
 -- ---- what the world is then

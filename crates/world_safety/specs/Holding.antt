@@ -2,7 +2,7 @@
 use Rattle.std.specs.Prelude.{◌≡◌, ℕ, List, [], length}
 use Rattle.container_model.specs.Record.{Record}
 use Rattle.container_model.specs.declared.answer.Done.{Done}
-use Rattle.container_steps.specs.Steady.{Steady}
+use Rattle.container_steady.specs.Steady.{Steady}
 use Rattle.world_model.specs.declared.logs.Sent.{Sent}
 use Rattle.world_model.specs.declared.logs.ServerDone.{ServerDone}
 use Rattle.world_model.specs.declared.logs.Taken.{Taken}

@@ -99,7 +99,7 @@ reply_outcome l (UiActivate g) told.Done a p e h = cc
 reply_outcome l (UiActivate g) (told.Refused why) a p e h = cc
 reply_outcome l (UiActivate g) (told.Content c) a p e h = cc
 reply_outcome l (UiActivate g) (told.Tools x y) a p e h = granted_settles l (UiActivate g) (Gets g (record { menus = x; border = y })) a p h.0 e
-reply_outcome l UiDeactivate told.Done a p e h = granted_settles l UiDeactivate GivesUp a p h.0 e
+reply_outcome l UiDeactivate told.Done a p e h = granted_settles l UiDeactivate (GivesUp l.act) a p h.0 e
 reply_outcome l UiDeactivate (told.Refused why) a p e h = cc
 reply_outcome l UiDeactivate (told.Content c) a p e h = cc
 reply_outcome l UiDeactivate (told.Tools x y) a p e h = cc

@@ -13,9 +13,10 @@ use Rattle.container_model.specs.declared.record.Frame.{Frame}
 use Rattle.container_model.specs.declared.fault.ContainerFault.TheVariants.{Busy, InDoubt as Doubtful, Full, NumbersSpent, WrongState}
 use Rattle.container_model.specs.Record.{Record, Took, MOST_FRAMES, MOST_OBJECTS, is_object, is_busy, is_saving, is_moving, is_doubtful, count_objects, ask, ask_at, asked_link, asked_sent, asked_object, asked_all}
 use Rattle.container_model.specs.Saves.{settle_actions}
-use Rattle.container_model.specs.Commands.{new, new_made, insert, insert_at, insert_made, new_object, is_named, is_size, is_empty_area, any_busy, all_have_numbers, edit, edit_at, edit_in, edit_linked, save, save_at, save_made, saving}
+use Rattle.container_model.specs.Commands.{new, new_made, insert, insert_at, insert_made, new_object, is_named, is_size, is_empty_area, any_busy, all_have_numbers, edit, edit_linked, save, save_at, save_made, saving}
 use Rattle.container_steady.specs.Steady.{WaitsBehind, Steady}
-use Rattle.container_steady.proofs.EditsTaken.{edited, edit_taken}
+use Rattle.container_steady.specs.Taken.{edited}
+use Rattle.container_steady.proofs.Taken.{edited_by, ready_at}
 use Rattle.std.proofs.lemmas.Bool.{eqb-true, eqb-false}
 use Rattle.container_steady.proofs.SteadyRecords.{if_told, unless_ok}
 use Rattle.container_steady.proofs.SteadyTests.{found_numbered}
@@ -135,7 +136,7 @@ edit_asks_linked : (r : Record) (n : ℕ) (bytes : List ℕ) (x : Object) (link 
     → AsksAll (λ o op. IsQuiet op) (links_of r.objects) (links_of t.rec.objects) (messages_of t.answer.actions) × IsPlain r t
 edit_asks_linked r n bytes x None t s f xl e = cc
 edit_asks_linked r n bytes x (Some l) t s f xl e =
-    let is : edited r x l bytes ≡ t = edit_taken r x bytes l t xl e in
+    let is : edited r x l bytes ≡ t = edited_by r x bytes l t xl e in
     let a : Object = record x { link = Some (ask l (Edit bytes)).link } in
     let ms = (ask l (Edit bytes)).sent in
     subst (λ (v : Took). AsksAll (λ o op. IsQuiet op) (links_of r.objects) (links_of v.rec.objects) (messages_of v.answer.actions) × IsPlain r v) is (
@@ -143,21 +144,8 @@ edit_asks_linked r n bytes x (Some l) t s f xl e =
       record { last_act = refl; servers = refl; starts = λ numbers. no_start_sent numbers ms; ends = no_end_sent ms },
     )
 
-edit_asks_in : (r : Record) (n : ℕ) (bytes : List ℕ) (x : Object) (frame : Option Frame) (t : Took) → Steady r → find (is_object n) r.objects ≡ Some x → edit_in r x bytes frame ≡ Ok t
-    → AsksAll (λ o op. IsQuiet op) (links_of r.objects) (links_of t.rec.objects) (messages_of t.answer.actions) × IsPlain r t
-edit_asks_in r n bytes x None t s f e = cc
-edit_asks_in r n bytes x (Some frame) t s f e =
-    let a = unless_ok (is_doubtful frame.phase) Doubtful _ t e in
-    let b = unless_ok (is_saving frame.phase || is_busy frame.ui.state x) Busy _ t a.1 in
-    edit_asks_linked r n bytes x x.link t s f refl b.1
-
-edit_asks_at : (r : Record) (n : ℕ) (bytes : List ℕ) (x : Option Object) (t : Took) → Steady r → find (is_object n) r.objects ≡ x → edit_at r bytes x ≡ Ok t
-    → AsksAll (λ o op. IsQuiet op) (links_of r.objects) (links_of t.rec.objects) (messages_of t.answer.actions) × IsPlain r t
-edit_asks_at r n bytes None t s f e = cc
-edit_asks_at r n bytes (Some x) t s f e = edit_asks_in r n bytes x (nth r.frames x.frame) t s f e
-
 pub edit_asks : (r : Record) (n : ℕ) (bytes : List ℕ) (t : Took) → Steady r → edit r n bytes ≡ Ok t → AsksAll (λ o op. IsQuiet op) (links_of r.objects) (links_of t.rec.objects) (messages_of t.answer.actions) × IsPlain r t
-edit_asks r n bytes t s e = edit_asks_at r n bytes (find (is_object n) r.objects) t s refl e
+edit_asks r n bytes t s e = (let at = ready_at r n (λ o frame. edit_linked r o bytes o.link) t e in edit_asks_linked r n bytes at.0.object at.0.object.link t s at.0.found refl at.1)
 
 -- Save
 save_quiet : (k : ℕ) → IsQuiet (Save k)

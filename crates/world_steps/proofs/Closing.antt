@@ -13,10 +13,11 @@ use Rattle.container_model.specs.declared.answer.Action.TheVariants.{End}
 use Rattle.container_model.specs.declared.fault.ContainerFault.{ContainerFault}
 use Rattle.container_model.specs.declared.fault.ContainerFault.TheVariants.{Busy, InDoubt as Doubtful, NoSuch, NumbersSpent, WrongState}
 use Rattle.container_model.specs.Record.{Record, Took, acts, counts_none, has_numbers, is_object, is_alive, is_busy, is_saving, is_doubtful, without_first}
-use Rattle.container_model.specs.Commands.{delete, delete_at, delete_in, delete_made, kill}
-use Rattle.container_model.specs.Verbs.{close, close_at, close_in, close_linked, close_steps_made}
+use Rattle.container_model.specs.Commands.{delete, delete_made, delete_object, kill}
+use Rattle.container_model.specs.Verbs.{close, close_linked, close_steps_made}
 use Rattle.container_steady.specs.Steady.{EachPair, InOrder, Steady}
 use Rattle.container_steady.proofs.SteadyRecords.{unless_ok}
+use Rattle.container_steady.proofs.Taken.{ready_at}
 use Rattle.container_steady.proofs.SteadyTests.{found_numbered, none_of}
 use Rattle.world_model.specs.World.{messages_of}
 use Rattle.world_model.specs.Safe.{link_at, links_of}
@@ -47,13 +48,12 @@ without_links (o ∷ os) m k order e =
       ])
     ] refl e
 
-delete_asks_in : (r : Record) (n : ℕ) (x : Object) (frame : Option Frame) (t : Took) → Steady r → find (is_object n) r.objects ≡ Some x → delete_in r x frame ≡ Ok t
-    → AsksAll (λ o op. IsQuiet op) (links_of r.objects) (links_of t.rec.objects) (messages_of t.answer.actions) × IsPlain r t
-delete_asks_in r n x None t s f e = cc
-delete_asks_in r n x (Some frame) t s f e =
-    let a = unless_ok (is_doubtful frame.phase) Doubtful _ t e in
-    let b = unless_ok (is_saving frame.phase || is_busy frame.ui.state x) Busy _ t a.1 in
-    let c = unless_ok (is_some x.link) WrongState _ t b.1 in
+pub delete_asks : (r : Record) (n : ℕ) (t : Took) → Steady r → delete r n ≡ Ok t → AsksAll (λ o op. IsQuiet op) (links_of r.objects) (links_of t.rec.objects) (messages_of t.answer.actions) × IsPlain r t
+delete_asks r n t s e =
+    let at = ready_at r n (λ o frame. delete_object r o) t e in
+    let x : Object = at.0.object in
+    let f : find (is_object n) r.objects ≡ Some x = at.0.found in
+    let c = unless_ok (is_some x.link) WrongState _ t at.1 in
     let g : Ok (delete_made r x) ≡ Ok t = c.1 in
     let is : delete_made r x ≡ t = cc in
     let passive : links_of r.objects x.number ≡ None = ap link_at (found_numbered n r.objects x f) ∙ none_of x.link c.0 in
@@ -61,14 +61,6 @@ delete_asks_in r n x (Some frame) t s f e =
       none_asked (links_of r.objects) (links_of (without_first (is_object x.number) r.objects)) (λ k. without_links r.objects x.number k s.order passive),
       record { last_act = refl; servers = refl; starts = λ numbers. refl; ends = λ is. refl },
     )
-
-delete_asks_at : (r : Record) (n : ℕ) (x : Option Object) (t : Took) → Steady r → find (is_object n) r.objects ≡ x → delete_at r x ≡ Ok t
-    → AsksAll (λ o op. IsQuiet op) (links_of r.objects) (links_of t.rec.objects) (messages_of t.answer.actions) × IsPlain r t
-delete_asks_at r n None t s f e = cc
-delete_asks_at r n (Some x) t s f e = delete_asks_in r n x (nth r.frames x.frame) t s f e
-
-pub delete_asks : (r : Record) (n : ℕ) (t : Took) → Steady r → delete r n ≡ Ok t → AsksAll (λ o op. IsQuiet op) (links_of r.objects) (links_of t.rec.objects) (messages_of t.answer.actions) × IsPlain r t
-delete_asks r n t s e = delete_asks_at r n (find (is_object n) r.objects) t s refl e
 
 -- Kill: the record stays, and the server is to be ended
 pub kill_ends : (r : Record) (inc : ℕ) (t : Took) → kill r inc ≡ Ok t → counts_none r (acts (End inc ∷ [])) ≡ t
@@ -87,16 +79,5 @@ close_linked_turned : (r : Record) (n : ℕ) (option : CloseOption) (frame : Fra
 close_linked_turned r n option frame x None t s f xl e = cc
 close_linked_turned r n option frame x (Some l) t s f xl e = close_steps_turned r n frame x l (close_steps option l.states.object) t s f xl (unless_ok (not (has_numbers r.numbers l)) NumbersSpent _ t e).1
 
-close_in_turned : (r : Record) (n : ℕ) (option : CloseOption) (x : Object) (frame : Option Frame) (t : Took) → Steady r → find (is_object n) r.objects ≡ Some x → close_in r x option frame ≡ Ok t → IsTurned r t
-close_in_turned r n option x None t s f e = cc
-close_in_turned r n option x (Some frame) t s f e =
-    let a = unless_ok (is_doubtful frame.phase) Doubtful _ t e in
-    let b = unless_ok (is_saving frame.phase || is_busy frame.ui.state x) Busy _ t a.1 in
-    close_linked_turned r n option frame x x.link t s f refl b.1
-
-close_at_turned : (r : Record) (n : ℕ) (option : CloseOption) (x : Option Object) (t : Took) → Steady r → find (is_object n) r.objects ≡ x → close_at r option x ≡ Ok t → IsTurned r t
-close_at_turned r n option None t s f e = cc
-close_at_turned r n option (Some x) t s f e = close_in_turned r n option x (nth r.frames x.frame) t s f e
-
 pub close_asks : (r : Record) (n : ℕ) (option : CloseOption) (t : Took) → Steady r → close r n option ≡ Ok t → AsksInTurn (links_of r.objects) (links_of t.rec.objects) (messages_of t.answer.actions) × IsPlain r t
-close_asks r n option t s e = close_at_turned r n option (find (is_object n) r.objects) t s refl e
+close_asks r n option t s e = (let at = ready_at r n (λ o frame. close_linked r frame o option o.link) t e in close_linked_turned r n option at.0.frame at.0.object at.0.object.link t s at.0.found refl at.1)

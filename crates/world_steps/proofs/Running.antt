@@ -4,12 +4,12 @@ use Rattle.wire_msgs.specs.Found.{find, put, nth}
 use Rattle.wire_msgs.specs.declared.operation.Operation.{Operation}
 use Rattle.storage_tree.specs.declared.streams.NamedStream.{NamedStream}
 use Rattle.container_model.specs.declared.record.Object.{Object}
-use Rattle.container_model.specs.declared.record.Frame.{Frame}
-use Rattle.container_model.specs.declared.fault.ContainerFault.TheVariants.{NoSuch, Busy, InDoubt as Doubtful, NumbersSpent, WrongState, UnknownClass}
-use Rattle.container_model.specs.Record.{Record, Took, MARGIN, is_object, is_alive, is_busy, is_saving, is_doubtful}
-use Rattle.container_model.specs.Commands.{is_known_class, run, run_at, run_in, run_made, first_operation, begun_link}
+use Rattle.container_model.specs.declared.fault.ContainerFault.TheVariants.{NoSuch, NumbersSpent, WrongState, UnknownClass}
+use Rattle.container_model.specs.Record.{Record, Took, MARGIN, is_object, is_alive}
+use Rattle.container_model.specs.Commands.{is_known_class, run, run_made, run_object, first_operation, begun_link}
 use Rattle.container_steady.specs.Steady.{Steady}
 use Rattle.container_steady.proofs.SteadyRecords.{unless_ok}
+use Rattle.container_steady.proofs.Taken.{ready_at}
 use Rattle.container_steady.proofs.SteadyTests.{not_false, none_of, found_numbered}
 use Rattle.world_model.specs.declared.life.Life.{Life}
 use Rattle.world_model.specs.World.{messages_of}
@@ -23,14 +23,14 @@ first_quiet : (o : Object) (ss : List NamedStream) → IsQuiet (first_operation 
 first_quiet o [] = λ k storage e. cc
 first_quiet o (s ∷ ss) = λ k storage e. cc
 
-run_begins_in : (r : Record) (lives : Lives) (owners : List ℕ) (n inc : ℕ) (x : Object) (frame : Option Frame) (t : Took) → Steady r → find (is_object n) r.objects ≡ Some x → run_in r x inc frame ≡ Ok t
+pub run_begins : (r : Record) (lives : Lives) (owners : List ℕ) (n inc : ℕ) (t : Took) → Steady r → run r n inc ≡ Ok t
     → nth owners (r.last_act + 1) ≡ Some n → (is_alive r inc ≡ true → (life : Life) × (lives inc ≡ Some life)) → IsBegun r lives owners n t
-run_begins_in r lives owners n inc x None t s f e ow ho = cc
-run_begins_in r lives owners n inc x (Some frame) t s f e ow ho =
+run_begins r lives owners n inc t s e ow ho =
     let a1 = unless_ok (not (is_alive r inc)) NoSuch _ t e in
-    let a2 = unless_ok (is_doubtful frame.phase) Doubtful _ t a1.1 in
-    let a3 = unless_ok (is_saving frame.phase || is_busy frame.ui.state x) Busy _ t a2.1 in
-    let a4 = unless_ok (is_some x.link) WrongState _ t a3.1 in
+    let at = ready_at r n (λ o frame. run_object r o inc) t a1.1 in
+    let x : Object = at.0.object in
+    let f : find (is_object n) r.objects ≡ Some x = at.0.found in
+    let a4 = unless_ok (is_some x.link) WrongState _ t at.1 in
     let a5 = unless_ok (not (is_known_class x.class)) UnknownClass _ t a4.1 in
     let a6 : Ok (run_made r x inc) ≡ Ok t = (unless_ok (nat_lt r.numbers MARGIN || nat_le r.numbers r.last_act) NumbersSpent _ t a5.1).1 in
     let is : run_made r x inc ≡ t = cc in
@@ -58,12 +58,3 @@ run_begins_in r lives owners n inc x (Some frame) t s f e ow ho =
       starts = λ numbers. refl;
       ends = λ is. refl;
     })
-
-run_begins_at : (r : Record) (lives : Lives) (owners : List ℕ) (n inc : ℕ) (x : Option Object) (t : Took) → Steady r → find (is_object n) r.objects ≡ x → run_at r inc x ≡ Ok t
-    → nth owners (r.last_act + 1) ≡ Some n → (is_alive r inc ≡ true → (life : Life) × (lives inc ≡ Some life)) → IsBegun r lives owners n t
-run_begins_at r lives owners n inc None t s f e ow ho = cc
-run_begins_at r lives owners n inc (Some x) t s f e ow ho = run_begins_in r lives owners n inc x (nth r.frames x.frame) t s f e ow ho
-
-pub run_begins : (r : Record) (lives : Lives) (owners : List ℕ) (n inc : ℕ) (t : Took) → Steady r → run r n inc ≡ Ok t
-    → nth owners (r.last_act + 1) ≡ Some n → (is_alive r inc ≡ true → (life : Life) × (lives inc ≡ Some life)) → IsBegun r lives owners n t
-run_begins r lives owners n inc t s e ow ho = run_begins_at r lives owners n inc (find (is_object n) r.objects) t s refl e ow ho

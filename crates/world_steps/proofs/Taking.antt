@@ -88,7 +88,7 @@ brought l (UiActivate g) told.Done p e = cc
 brought l (UiActivate g) (told.Refused why) p e = cc
 brought l (UiActivate g) (told.Content c) p e = cc
 brought l (UiActivate g) (told.Tools menus border) p e = granted_brought l (UiActivate g) (Gets g (record { menus = menus; border = border })) (told.Tools menus border) p e
-brought l UiDeactivate told.Done p e = granted_brought l UiDeactivate GivesUp told.Done p e
+brought l UiDeactivate told.Done p e = granted_brought l UiDeactivate (GivesUp l.act) told.Done p e
 brought l UiDeactivate (told.Refused why) p e = cc
 brought l UiDeactivate (told.Content c) p e = cc
 brought l UiDeactivate (told.Tools menus border) p e = cc

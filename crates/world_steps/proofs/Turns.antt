@@ -196,8 +196,9 @@ module _ (r : Record) (f : ℕ) (waits : Waits (links_of r.objects)) where
   nothing_regranted : IsRegranted (record { rec = r; sent = []; no_tools = false })
   nothing_regranted = record { asked = asks_none (links_of r.objects) (links_of r.objects) [] (λ o. refl) refl; servers = refl; last_act = refl }
 
-  regranted_by_event : (frame : Frame) (e : Event) → IsRegranted (regranted_by r f frame e)
-  regranted_by_event frame e =
+  regranted_by_event : (frame : Frame) (e : Option Event) → IsRegranted (regranted_by r f frame e)
+  regranted_by_event frame None = nothing_regranted
+  regranted_by_event frame (Some e) =
       let v = with_frame r f (moved frame e) in
       let claims = passed_to frame.ui.state (after frame.ui e).state in
       let rest = grants_keep claims v in

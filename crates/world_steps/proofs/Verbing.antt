@@ -21,9 +21,10 @@ use Rattle.container_model.specs.declared.fault.ContainerFault.{ContainerFault}
 use Rattle.container_model.specs.declared.fault.ContainerFault.TheVariants.{Busy, InDoubt as Doubtful, NumbersSpent}
 use Rattle.container_model.specs.Record.{Record, Took, acts, counts_none, quiet_answer, sends, with_frame, with_object, has_numbers, is_busy, is_doubtful, is_moving, is_object, is_saving}
 use Rattle.container_model.specs.Grants.{Requested, grant_of, moved, request}
-use Rattle.container_model.specs.Verbs.{operation_of, claim_of, takes, gives_up, stepped_link, leaving_made, holder_of, holder_has_numbers, revoked_at, claimed, steps_now, taking_made, taking, stepping, verb_steps, steps_of, verb_linked, wants_ui, verb_in, verb_at, verb}
+use Rattle.container_model.specs.Verbs.{operation_of, claim_of, takes, gives_up, stepped_link, leaving_made, holder_of, holder_has_numbers, revoked_at, claimed, steps_now, taking_made, taking, stepping, verb_steps, steps_of, verb_linked, wants_ui, verb_framed, verb}
 use Rattle.container_steady.specs.Roles.{Holding, Other, IsShown, role_in}
 use Rattle.container_steady.specs.Steady.{WaitsBehind, Steady}
+use Rattle.container_steady.proofs.Taken.{ready_at}
 use Rattle.container_steady.proofs.SteadyRecords.{if_told, unless_ok}
 use Rattle.container_steady.proofs.SteadyTests.{found_numbered}
 use Rattle.world_model.specs.World.{messages_of}
@@ -170,16 +171,8 @@ verb_linked_turned : (r : Record) (n : ℕ) (v : Option Verb) (frame : Frame) (o
 verb_linked_turned r n v frame o None t s f framed linked e = cc
 verb_linked_turned r n v frame o (Some l) t s f framed linked e = steps_turned r n o l s f linked frame v (steps_of v l.states.object) t framed refl e
 
-verb_in_turned : (r : Record) (n : ℕ) (v : Option Verb) (o : Object) (frame : Option Frame) (t : Took) → Steady r → find (is_object n) r.objects ≡ Some o → nth r.frames o.frame ≡ frame → verb_in r o v frame ≡ Ok t → IsTurned r t
-verb_in_turned r n v o None t s f framed e = cc
-verb_in_turned r n v o (Some frame) t s f framed e =
-    let a = unless_ok (is_doubtful frame.phase) Doubtful _ t e in
-    let b = unless_ok (is_saving frame.phase || is_busy frame.ui.state o || (wants_ui v && is_moving frame.ui.state)) Busy _ t a.1 in
-    verb_linked_turned r n v frame o o.link t s f framed refl b.1
-
-verb_at_turned : (r : Record) (n : ℕ) (v : Option Verb) (o : Option Object) (t : Took) → Steady r → find (is_object n) r.objects ≡ o → verb_at r v o ≡ Ok t → IsTurned r t
-verb_at_turned r n v None t s f e = cc
-verb_at_turned r n v (Some o) t s f e = verb_in_turned r n v o (nth r.frames o.frame) t s f refl e
-
 pub verb_asks : (r : Record) (n : ℕ) (number : ℤ) (t : Took) → Steady r → verb r n number ≡ Ok t → AsksInTurn (links_of r.objects) (links_of t.rec.objects) (messages_of t.answer.actions) × IsPlain r t
-verb_asks r n number t s e = verb_at_turned r n (verb_of number) (find (is_object n) r.objects) t s refl e
+verb_asks r n number t s e =
+    let at = ready_at r n (verb_framed r (verb_of number)) t e in
+    let still = unless_ok (wants_ui (verb_of number) && is_moving at.0.frame.ui.state) Busy _ t at.1 in
+    verb_linked_turned r n (verb_of number) at.0.frame at.0.object at.0.object.link t s at.0.found at.0.inside refl still.1

@@ -1,32 +1,27 @@
-use Rattle.std.proofs.Common.{◌≡◌, Ok, Result, refl, subst, sym}
+use Rattle.std.proofs.Common.{◌≡◌, Ok, Result, refl}
 use Rattle.std.proofs.lemmas.Result.{IfErr-weaker, IfOk-weaker}
-use Rattle.wire_msgs.specs.Found.{find}
-use Rattle.container_model.specs.Verbs.{close, close_at, close_in, close_linked}
-use Rattle.container_model.specs.Record.{Record, Refuses, Took, counts_none, is_object}
+use Rattle.container_model.specs.Verbs.{close, close_linked}
+use Rattle.container_model.specs.Record.{Record, Refuses, Took, counts_none}
 use Rattle.container_model.specs.declared.fault.ContainerFault.{ContainerFault}
 use Rattle.container_model.specs.declared.record.Frame.{Frame}
 use Rattle.container_model.specs.declared.record.Object.{Object}
-use Rattle.container_steps.specs.Located.{located, ready}
-use Rattle.container_steps.proofs.LocatedSteps.{by_both, located_by, stood}
+use Rattle.container_steps.proofs.LocatedSteps.{by_both, stood}
 use Rattle.container_core.proofs.state.State.close.Goals as goal
 
 pub returns-in-Ok-clause-taken : goal.returns-in-Ok-clause-taken
 returns-in-Ok-clause-taken c =
     let r : Record = c.args.self.now in
     let step : Object → Frame → Result Took ContainerFault = λ o f. close_linked r f o c.args.option o.link in
-    let is : close r c.args.object c.args.option ≡ located r c.args.object (ready step) = located_by (ready step) r.frames (λ o. close_in r o c.args.option) (close_at r c.args.option) (λ o. refl) (λ o f. refl) refl (λ o. refl) (find (is_object c.args.object) r.objects) in
-    IfOk-weaker c.close_object.result _ _ (λ a made. by_both (λ t. t ≡ Ok (counts_none c.close_object.new.self a)) (close r c.args.object c.args.option) step _ _ (stood r c.args.object c.in-Ok.i c.in-Ok.at step (close r c.args.object c.args.option) is c.in-Ok.ensures.step) made) c.close_object.ensures.taken
+    IfOk-weaker c.close_object.result _ _ (λ a made. by_both (λ t. t ≡ Ok (counts_none c.close_object.new.self a)) (close r c.args.object c.args.option) step _ _ (stood r c.args.object c.in-Ok.i c.in-Ok.at step (close r c.args.object c.args.option) refl c.in-Ok.ensures.step) made) c.close_object.ensures.taken
 
 pub returns-in-Ok-clause-refused : goal.returns-in-Ok-clause-refused
 returns-in-Ok-clause-refused c =
     let r : Record = c.args.self.now in
     let step : Object → Frame → Result Took ContainerFault = λ o f. close_linked r f o c.args.option o.link in
-    let is : close r c.args.object c.args.option ≡ located r c.args.object (ready step) = located_by (ready step) r.frames (λ o. close_in r o c.args.option) (close_at r c.args.option) (λ o. refl) (λ o f. refl) refl (λ o. refl) (find (is_object c.args.object) r.objects) in
-    IfErr-weaker c.close_object.result _ _ (λ e told. by_both (λ t. Refuses t e) (close r c.args.object c.args.option) step _ _ (stood r c.args.object c.in-Ok.i c.in-Ok.at step (close r c.args.object c.args.option) is c.in-Ok.ensures.step) told) c.close_object.ensures.refused
+    IfErr-weaker c.close_object.result _ _ (λ e told. by_both (λ t. Refuses t e) (close r c.args.object c.args.option) step _ _ (stood r c.args.object c.in-Ok.i c.in-Ok.at step (close r c.args.object c.args.option) refl c.in-Ok.ensures.step) told) c.close_object.ensures.refused
 
 pub returns-in-Err-clause-refused : goal.returns-in-Err-clause-refused
 returns-in-Err-clause-refused c =
     let r : Record = c.args.self.now in
     let step : Object → Frame → Result Took ContainerFault = λ o f. close_linked r f o c.args.option o.link in
-    let is : close r c.args.object c.args.option ≡ located r c.args.object (ready step) = located_by (ready step) r.frames (λ o. close_in r o c.args.option) (close_at r c.args.option) (λ o. refl) (λ o f. refl) refl (λ o. refl) (find (is_object c.args.object) r.objects) in
-    subst (λ t. Refuses t c.in-Err.fault) (sym is) (c.in-Err.ensures.refused step)
+    c.in-Err.ensures.refused step

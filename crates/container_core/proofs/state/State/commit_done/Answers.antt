@@ -3,12 +3,12 @@ use Rattle.wire_msgs.specs.Found.{nth}
 use Rattle.wire_msgs.specs.declared.operation.Operation.{Operation}
 use Rattle.container_links.specs.Asking.{IsAsking}
 use Rattle.container_model.specs.Numbered.{IsNth}
-use Rattle.container_model.specs.Record.{Record, Took, asked_all, sends}
-use Rattle.container_model.specs.Saves.{commit_made, completed, completion}
+use Rattle.container_model.specs.Record.{Record, Took, acts, asked_all, sends}
+use Rattle.container_model.specs.Saves.{commit_made, completed, completion, counted_at, counted_of}
 use Rattle.container_model.specs.declared.fault.ContainerFault.{ContainerFault}
 use Rattle.container_model.specs.declared.record.Frame.{Frame}
 use Rattle.container_model.specs.declared.record.Object.{Object}
-use Rattle.container_steps.proofs.CommitsDone.{after_is, answer_is, counted_is, frame_here, took_is}
+use Rattle.container_steps.proofs.CommitsDone.{after_is, frame_here, took_is}
 use Rattle.container_core.proofs.state.State.commit_done.Goals as goal
 
 pub returns-clause-taken : goal.returns-clause-taken
@@ -26,7 +26,8 @@ returns-clause-taken c =
     let objects : c.complete_objects.new.objects.items ≡ map (completed f frame) r.objects = c.complete_objects.ensures frame asking.takes in
     let after : _ = after_is r f frame c.in_ok-place.place c.index_mut.result.now c.commit_frame.new.frame c.complete_objects.new.objects.items place c.index.ensures c.index_mut.ensures.value c.commit_frame.ensures objects in
     let ok : Took → Result Took ContainerFault = λ t. Ok t in
+    let answer : acts (sends (asked_all f (completion frame) r.objects)) ≡ c.acts.result = sym (c.acts.ensures ∙ ap acts (c.from_vec.ensures ∙ asking.sent)) in
+    let counted : (commit_made r f frame).counted ≡ counted_of c.args.self.now f = ap (counted_at r f) (sym here) ∙ ap (λ (x : Record). counted_of x f) view in
     (c.in_ok-place.ensures.told frame there).1
     ∙ ap (λ (x : Record). ok (commit_made x f frame)) (sym view)
-    ∙ ap ok (took_is _ (commit_made r f frame) _ _ after (answer_is c.quiet-answer.result c.from_vec.result (sends (asked_all f (completion frame) r.objects)) c.quiet-answer.ensures (c.from_vec.ensures ∙ asking.sent))
-    (counted_is r f c.in_ok-place.place frame c.index-2.result.now c.as_slice-2.result.now c.in-Ok-entries.counted.items c.from_vec-2.result place c.index.ensures c.index-2.ensures c.as_slice-2.ensures.value c.in-Ok-entries.ensures.counted c.from_vec-2.ensures))
+    ∙ ap ok (took_is _ (commit_made r f frame) _ _ after answer counted)

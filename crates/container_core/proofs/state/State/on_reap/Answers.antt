@@ -5,9 +5,9 @@ use Rattle.container_model.specs.Record.{Record, acts, is_alive}
 use Rattle.container_model.specs.declared.record.Frame.{Frame}
 use Rattle.container_model.specs.declared.record.Object.{Object}
 use Rattle.container_grants.specs.Granted.{actions_of, installed_each, ready}
-use Rattle.container_steps.specs.Steady.{Steady}
-use Rattle.container_core.proofs.GrantsWaiting.{freed_all, freed_few}
-use Rattle.container_core.proofs.ReapsMade.{reap_is}
+use Rattle.container_steady.specs.Steady.{Steady}
+use Rattle.container_grants.proofs.GrantsWaiting.{freed_all, freed_few}
+use Rattle.container_grants.proofs.ReapsMade.{reap_is}
 use Rattle.container_core.proofs.state.State.on_reap.Goals as goal
 
 pub returns-clause-taken : goal.returns-clause-taken

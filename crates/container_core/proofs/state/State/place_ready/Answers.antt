@@ -3,7 +3,7 @@ use Rattle.container_model.specs.Record.{Record, Refuses, Took}
 use Rattle.container_model.specs.declared.fault.ContainerFault.{ContainerFault}
 use Rattle.container_model.specs.declared.record.Frame.{Frame}
 use Rattle.container_model.specs.declared.record.Object.{Object}
-use Rattle.container_steps.specs.Located.{located, ready}
+use Rattle.container_model.specs.Located.{located, ready}
 use Rattle.container_steps.proofs.LocatedSteps.{at_there, to_there}
 use Rattle.container_core.proofs.state.State.place_ready.Goals as goal
 

@@ -1,4 +1,4 @@
-use Rattle.std.proofs.Common.{◌≡◌, ◌++◌, ℕ, Bool, true, List, Some, IfSome, slice_get, slice_set, ap, subst, sym, ◌∙◌, map}
+use Rattle.std.proofs.Common.{◌≡◌, ◌++◌, ℕ, List, Option, Some, IfSome, slice_get, slice_set, ap, subst, sym, ◌∙◌, map}
 use Rattle.std.proofs.lemmas.List.{get_or_default}
 use Rattle.std.proofs.lemmas.Option.{slice_get-get_or}
 use Rattle.wire_msgs.specs.Found.{find, nth, put, IsPlace}
@@ -10,9 +10,9 @@ use Rattle.container_model.specs.declared.record.Object.{Object}
 use Rattle.wire_msgs.specs.declared.operation.Operation.TheVariants.{UiDeactivate}
 use Rattle.container_grants.specs.Granted.{actions_of, claims_if, installed_each, ready, told_frames, told_space_in}
 use Rattle.container_objects.specs.Told.{ToldObject}
-use Rattle.container_steps.specs.Steady.{Steady}
-use Rattle.container_core.proofs.GrantsEach.{Agrees}
-use Rattle.container_core.proofs.GrantsWaiting.{reply_agrees, reply_differs}
+use Rattle.container_steady.specs.Steady.{Steady}
+use Rattle.container_grants.proofs.GrantsEach.{Agrees}
+use Rattle.container_grants.proofs.GrantsWaiting.{reply_agrees, reply_differs}
 use Rattle.container_core.proofs.RepliesMade.{reply_is, reply_refused}
 use Rattle.container_core.proofs.state.State.reply_at.Goals as goal
 
@@ -35,9 +35,9 @@ returns-clause-taken c =
     let before : c.index-2.result.now ≡ o = c.index-2.ensures ∙ (get_or_default r.objects c.args.place c.index-2.result.now o p.fits ∙ sym c.index_mut.ensures.value) in
     let at : c.index.result.now.frame ≡ o.frame = ap (λ (x : Object). x.frame) (c.index.ensures ∙ (get_or_default r.objects c.args.place c.index.result.now o p.fits ∙ sym c.index_mut.ensures.value)) in
     let w : ToldObject = record { object = c.told_object.new.object; taken = c.in-Ok-told_object.replied.taken; refused = c.in-Ok-told_object.replied.refused; grant = c.in-Ok-told_object.replied.grant; actions = c.in-Ok-told_object.replied.actions.items } in
-    let gives : Bool = c.gives_up-gives.result in
+    let gives : Option ℕ = c.gives_up-gives.result in
     let given : gives ≡ gives_up (reply_link c.args.n c.args.answer o.link) = c.gives_up-gives.ensures.told ∙ ap (λ (x : Object). gives_up (reply_link c.args.n c.args.answer x.link)) before in
-    let asked : gives ≡ true → IfSome o.link (λ l. l.pending ≡ Some UiDeactivate) = λ e. subst (λ (x : Object). IfSome x.link (λ l. l.pending ≡ Some UiDeactivate)) before (c.gives_up-gives.ensures.asked e) in
+    let asked : IfSome gives (λ act. IfSome o.link (λ l. l.pending ≡ Some UiDeactivate)) = subst (λ (x : Object). IfSome gives (λ act. IfSome x.link (λ l. l.pending ≡ Some UiDeactivate))) before c.gives_up-gives.ensures.asked in
     let ready_is : c.in-Ok.grants.items ≡ map (ready r.objects) (claims_if gives (nth r.frames o.frame)) =
     c.in-Ok.ensures.ready
     ∙ (ap (λ (os : List Object). map (ready os) (claims_if gives (nth c.as_slice-frames.result.now c.index.result.now.frame))) c.as_slice.ensures.value

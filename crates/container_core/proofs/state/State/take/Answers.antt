@@ -4,7 +4,7 @@ use Rattle.container_model.specs.declared.fault.ContainerFault.{ContainerFault}
 use Rattle.container_model.specs.declared.record.Frame.{Frame}
 use Rattle.container_model.specs.Record.{Record, Refuses}
 use Rattle.container_model.specs.Verbs.{holder_has_numbers, holder_of, taking}
-use Rattle.container_core.proofs.VerbsTaken.{past_last, read_as, taking_by}
+use Rattle.container_objects.proofs.VerbsTaken.{past_last, read_as, taking_by}
 use Rattle.container_core.proofs.state.State.take.Goals as goal
 
 pub returns-clause-taken : goal.returns-clause-taken

@@ -8,10 +8,10 @@ use Rattle.container_model.specs.Numbered.{IsNth}
 use Rattle.container_model.specs.Record.{Record, Refuses, counts_none, quiet_answer}
 use Rattle.container_model.specs.Verbs.{holder_of, steps_of, verb_linked}
 use Rattle.container_objects.proofs.VerbsTake.{item_at}
-use Rattle.container_objects.specs.Went.{verb_went}
+use Rattle.container_checks.specs.Went.{verb_went}
 use Rattle.container_steps.proofs.VerbsApart.{apart}
 use Rattle.container_steps.proofs.VerbsPlaced.{both_here, both_taken, in_frame, object_here}
-use Rattle.container_core.proofs.VerbsTaken.{no_items, some_and, some_items, went_leaving, went_quiet, went_taking}
+use Rattle.container_objects.proofs.VerbsTaken.{no_items, some_and, some_items, went_leaving, went_quiet, went_taking}
 use Rattle.container_core.proofs.state.State.verb_object.Goals as goal
 
 pub returns-in-Err-clause-refused : goal.returns-in-Err-clause-refused

@@ -1,5 +1,0 @@
-use Rattle.std.proofs.Common.{rules}
-use Rattle.container_checks.proofs.verbs.may_do.Goals as goal
-
-pub returns-clause-may : goal.returns-clause-may
-returns-clause-may c = search rules

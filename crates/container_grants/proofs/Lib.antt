@@ -1,0 +1,4 @@
+pub mod GrantsEach
+pub mod GrantsTold
+pub mod GrantsWaiting
+pub mod ReapsMade

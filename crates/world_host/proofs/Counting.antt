@@ -1,0 +1,58 @@
+-- What the commit of a frame counts, and why it is refused for want of memory alone.
+use Rattle.std.proofs.Common.{◌≡◌, ℕ, Bool, true, false, List, map, Option, Some, None, Result, Ok, Err, refl, sym, ap, ◌∙◌, subst, if◌then◌else◌}
+use Rattle.std.specs.Prelude.{IsOk}
+use Rattle.wire_msgs.specs.Found.{nth}
+use Rattle.file_model.specs.Refusals.{writable}
+use Rattle.file_model.specs.declared.fault.WriteFault.{WriteFault}
+use Rattle.container_model.specs.declared.answer.Part.{Part}
+use Rattle.container_model.specs.declared.fault.ContainerFault.{ContainerFault}
+use Rattle.container_model.specs.declared.fault.ContainerFault.TheVariants.{NoSuch, Busy, NotRunning, InDoubt, WrongLink, Stale, Full, NumbersSpent, WrongState, BadFile, BadAnswer, UnknownClass, NoMemory}
+use Rattle.container_model.specs.declared.record.Frame.{Frame}
+use Rattle.container_model.specs.Record.{Record, Refuses, Took}
+use Rattle.container_model.specs.Saves.{commit_at, commit_done, commit_fitting, commit_made, counted_at, counted_of, document, document_tree, done_entry, fitting, fitting_in, has_image, image, image_at, is_committing, is_document, parts_in}
+use Rattle.world_host.specs.Files.{is_committing_in}
+
+fits_by : (ps parts : List Part) (b : Bool) (told : Result (Unit {0}) WriteFault) → ◌≡◌ {A = Result (List Part) ContainerFault} (if b then fitting_in ps told else Err Full) (Ok parts) → ps ≡ parts
+fits_by ps parts true (Ok t) e = cc
+fits_by ps parts true (Err fault) e = cc
+fits_by ps parts false told e = cc
+
+image_by : (ps parts : List Part) (b : Bool) → ◌≡◌ {A = Result (List Part) ContainerFault} (if b then fitting ps else Err WrongState) (Ok parts) → ps ≡ parts
+image_by ps parts true e = fits_by ps parts (is_document (document ps)) (writable (document_tree ps)) e
+image_by ps parts false e = cc
+
+-- a frame whose document is there is there
+pub no_image : (r : Record) (f : ℕ) (parts : List Part) → nth r.frames f ≡ None → image r f ≡ Ok parts → ⊥
+no_image r f parts none e = (let no : ◌≡◌ {A = Result (List Part) ContainerFault} (Err NoSuch) (Ok parts) = subst (λ (z : Option Frame). image_at r f z ≡ Ok parts) none e in cc)
+
+pub counted_is : (r : Record) (f : ℕ) (frame : Frame) (parts : List Part) → nth r.frames f ≡ Some frame → image r f ≡ Ok parts → map (done_entry frame.k) parts ≡ counted_of r f
+counted_is r f frame parts there e =
+    let at : image_at r f (Some frame) ≡ Ok parts = subst (λ (z : Option Frame). image_at r f z ≡ Ok parts) there e in
+    let same : parts_in f r.objects ≡ parts = image_by (parts_in f r.objects) parts (has_image frame.phase) at in
+    ap (map (done_entry frame.k)) (sym same) ∙ ap (counted_at r f) (sym there)
+
+commits_by : (r : Record) (f : ℕ) (frame : Option Frame) (parts : List Part) → is_committing_in frame ≡ true → image r f ≡ Ok parts → IsOk (commit_at r f frame)
+commits_by r f None parts c e = cc
+commits_by r f (Some frame) parts c e = rw (c, e) refl
+
+not_refused : (told : Result Took ContainerFault) (fault : ContainerFault) → IsOk told → told ≡ Err fault → ⊥
+not_refused told fault ok e = (let no : ◌≡◌ {A = Bool} false true = subst (λ (z : Result Took ContainerFault). IsOk z) e ok in cc)
+
+only_memory : (told : Result Took ContainerFault) (fault : ContainerFault) → IsOk told → Refuses told fault → fault ≡ NoMemory
+only_memory told NoMemory ok h = refl
+only_memory told NoSuch ok h = absurd (not_refused told NoSuch ok h)
+only_memory told Busy ok h = absurd (not_refused told Busy ok h)
+only_memory told NotRunning ok h = absurd (not_refused told NotRunning ok h)
+only_memory told InDoubt ok h = absurd (not_refused told InDoubt ok h)
+only_memory told WrongLink ok h = absurd (not_refused told WrongLink ok h)
+only_memory told Stale ok h = absurd (not_refused told Stale ok h)
+only_memory told Full ok h = absurd (not_refused told Full ok h)
+only_memory told NumbersSpent ok h = absurd (not_refused told NumbersSpent ok h)
+only_memory told WrongState ok h = absurd (not_refused told WrongState ok h)
+only_memory told BadFile ok h = absurd (not_refused told BadFile ok h)
+only_memory told BadAnswer ok h = absurd (not_refused told BadAnswer ok h)
+only_memory told UnknownClass ok h = absurd (not_refused told UnknownClass ok h)
+
+-- so a commit that is asked for lacks nothing but memory
+pub lacks_memory : (r : Record) (f : ℕ) (parts : List Part) (fault : ContainerFault) → is_committing_in (nth r.frames f) ≡ true → image r f ≡ Ok parts → Refuses (commit_done r f) fault → fault ≡ NoMemory
+lacks_memory r f parts fault c e h = only_memory (commit_done r f) fault (commits_by r f (nth r.frames f) parts c e) h
