@@ -1,11 +1,12 @@
 -- The lines of a text of events and the events that they spell.
-use Rattle.std.specs.Prelude.{◌&&◌, ℕ, ℤ, pos, negsuc, zero, suc, Bool, not, List, [], ◌∷◌, length, nat_le, nat_eq, cond, codes, if◌then◌else◌, Option, Some, None, option_map, Result}
+use Rattle.std.specs.Prelude.{◌&&◌, ℕ, ℤ, pos, negsuc, zero, suc, Bool, true, false, not, List, [], ◌∷◌, length, nat_le, nat_eq, cond, codes, if◌then◌else◌, Option, Some, None, option_map, Result}
 use Rattle.std.specs.List.{ends_with, join_with_byte, list_all}
 use Rattle.std.specs.Str.{bytes_eq}
 use Rattle.embed_core.specs.Words.{words, number_read}
 use Rattle.object_parts.specs.declared.area.Area.{Area}
 use Rattle.object_state.specs.declared.operations.CloseOption.{CloseOption}
 use Rattle.object_state.specs.declared.operations.CloseOption.TheVariants.{SaveIfDirty, NoSave}
+use Rattle.container_model.specs.declared.command.Command.{Command}
 use Rattle.container_model.specs.declared.command.Command.TheVariants as command
 use Rattle.container_model.specs.declared.command.ObjectKind.{ObjectKind}
 use Rattle.container_model.specs.declared.command.ObjectKind.TheVariants.{Note, Table, Drawing}
@@ -183,3 +184,29 @@ line_read n line = event_read line
 -- the events of a text, or the first line that spells none
 abbrev pub events_read : List ℕ → Result (List Event) (ℕ × SyntaxFault)
 events_read text = text_read line_read text
+
+-- Memory is taken for the name of a new frame, and for the bytes of an edit.
+abbrev pub command_takes_memory : Command → Bool
+command_takes_memory (command.New name w h) = true
+command_takes_memory (command.Edit o bytes) = true
+command_takes_memory (command.Insert f kind area) = false
+command_takes_memory command.Start = false
+command_takes_memory (command.Run o inc) = false
+command_takes_memory (command.Save f) = false
+command_takes_memory (command.Delete o) = false
+command_takes_memory (command.Kill inc) = false
+command_takes_memory (command.Close o option) = false
+command_takes_memory (command.Verb o number) = false
+
+abbrev pub event_takes_memory : Event → Bool
+event_takes_memory (event.Command c) = command_takes_memory c
+event_takes_memory (event.Deliver p) = false
+event_takes_memory (event.Crash inc) = false
+event_takes_memory (event.Reap inc) = false
+event_takes_memory (event.Done f) = false
+event_takes_memory (event.Scribble inc act) = false
+event_takes_memory (event.Ask inc act) = false
+
+abbrev pub takes_memory : Option Event → Bool
+takes_memory None = false
+takes_memory (Some e) = event_takes_memory e

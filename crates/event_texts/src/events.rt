@@ -1,9 +1,9 @@
 //! Texts of events.
 
-ghost use Rattle.event_texts.specs.Events.{area_of, close_read, edit_read, end_named, event_named, event_read, insert_read, is_file_name, kind_read, new_read, numbers_named, object_named, option_read, pair_read, short_read, signed_read, sole_number, verb_read};
+ghost use Rattle.event_texts.specs.Events.{area_of, close_read, edit_read, end_named, event_named, event_read, insert_read, is_file_name, kind_read, new_read, numbers_named, object_named, option_read, pair_read, short_read, signed_read, sole_number, takes_memory, verb_read};
 ghost use Rattle.embed_core.specs.Words.{words};
 ghost use Rattle.std.specs.List.{list_all};
-ghost use Rattle.std.specs.Prelude.{◌≡◌, [], IfErr, IfOk, IsSome};
+ghost use Rattle.std.specs.Prelude.{◌≡◌, [], IfErr, IfOk, IsTrue};
 ghost use Rattle.texts.specs.Words.{is_visible};
 
 use container_model::command::{Command, ObjectKind};
@@ -29,16 +29,19 @@ impl Grammar for Events {
 
     ghost read = { line_read };
 
+    #[tactic(auto, using(crate::proofs::Memory::spells_one))]
     fn parse(alloc: Global, _number: usize, line: &[u8]) -> Result<Option<Event>, AllocError> {
         let event = parse(alloc, line)?;
         Ok(event)
     }
 }
 
-/// The event that a line spells. Memory is taken for a line that spells one.
-fn parse(alloc: Global, line: &[u8]) -> Result<Option<Event>, AllocError>
+/// The event that a line spells.
+///
+/// Refused for want of memory alone, which is taken for a new frame and for an edit.
+pub fn parse(alloc: Global, line: &[u8]) -> Result<Option<Event>, AllocError>
     ensures read { IfOk result (λ event. event ≡ event_read line.now) }
-    ensures within { IfErr result (λ _. IsSome (event_read line.now)) }
+    ensures within { IfErr result (λ _. IsTrue (takes_memory (event_read line.now))) }
 {
     match cut(line, b' ') {
         (name, Some(rest)) => parse_with(alloc, name, rest),
@@ -61,7 +64,7 @@ fn parse_alone(name: &[u8]) -> Option<Event>
 #[tactic(auto, using(crate::proofs::Behind::readings))]
 fn parse_with(alloc: Global, name: &[u8], rest: &[u8]) -> Result<Option<Event>, AllocError>
     ensures read { IfOk result (λ event. event ≡ event_named name.now (words rest.now)) }
-    ensures within { IfErr result (λ _. IsSome (event_named name.now (words rest.now))) }
+    ensures within { IfErr result (λ _. IsTrue (takes_memory (event_named name.now (words rest.now)))) }
 {
     if name == b"start".as_slice() {
         Ok(None)
@@ -194,7 +197,7 @@ fn is_file_name(name: &[u8]) -> bool
 /// The frame that what stands behind `new` spells.
 fn new_frame(alloc: Global, rest: &[u8]) -> Result<Option<Event>, AllocError>
     ensures read { IfOk result (λ event. event ≡ new_read (words rest.now)) }
-    ensures within { IfErr result (λ _. IsSome (new_read (words rest.now))) }
+    ensures within { IfErr result (λ _. IsTrue (takes_memory (new_read (words rest.now)))) }
 {
     let mut words = Pieces::new(rest, b' ');
     let (Some(name), Some(width), Some(height), None) = (
@@ -314,7 +317,7 @@ fn verb(rest: &[u8]) -> Option<Event>
 #[tactic(auto, using(crate::proofs::Behind::readings))]
 fn edit(alloc: Global, rest: &[u8]) -> Result<Option<Event>, AllocError>
     ensures read { IfOk result (λ event. event ≡ edit_read (words rest.now)) }
-    ensures within { IfErr result (λ _. IsSome (edit_read (words rest.now))) }
+    ensures within { IfErr result (λ _. IsTrue (takes_memory (edit_read (words rest.now)))) }
 {
     let (object, Some(bytes)) = cut(rest, b' ') else {
         return Ok(None);

@@ -1,0 +1,60 @@
+-- What is printed of a command.
+use Rattle.std.specs.Prelude.{◌++◌, ℕ, List, [], ◌∷◌, Option, Some, None, Result, Ok, Err, codes}
+use Rattle.std.specs.Fmt.{decimal}
+use Rattle.container_model.specs.FaultNames.{fault_name}
+use Rattle.container_model.specs.Record.{Took}
+use Rattle.container_model.specs.declared.answer.Answer.{Answer}
+use Rattle.container_model.specs.declared.fault.ContainerFault.{ContainerFault}
+use Rattle.wire_msgs.specs.Refusals.{code_of}
+use Rattle.wire_msgs.specs.declared.refusal.Refusal.{Refusal}
+use Rattle.script_model.specs.declared.answer.Told.{Told}
+use Rattle.script_model.specs.declared.answer.Told.TheVariants as told
+
+abbrev pub told_text : Told → List ℕ
+told_text (told.Frame f) = codes "frame " ++ decimal f
+told_text (told.Object o) = codes "object " ++ decimal o
+told_text (told.Server inc) = codes "server " ++ decimal inc
+told_text (told.Refused refusal) = codes "refused " ++ decimal (code_of refusal)
+told_text told.Done = codes "ok"
+told_text (told.Fault fault) = fault_name fault
+
+-- a command's line
+abbrev pub told_line : Told → List ℕ
+told_line t = told_text t ++ 10 ∷ []
+
+-- the lines of what a frame shows come before its answer
+abbrev pub screen_text : List ℕ → List ℕ
+screen_text shown = shown ++ told_line told.Done
+
+-- what a step made, or that it was done
+abbrev pub made_server : Option ℕ → Told
+made_server (Some inc) = told.Server inc
+made_server None = told.Done
+
+abbrev pub made_object : List ℕ → Option ℕ → Told
+made_object (o ∷ os) server = told.Object o
+made_object [] server = made_server server
+
+abbrev pub made_frame : Option ℕ → List ℕ → Option ℕ → Told
+made_frame (Some f) objects server = told.Frame f
+made_frame None objects server = made_object objects server
+
+abbrev pub made_by : Answer → Told
+made_by a = made_frame a.frame a.objects a.server
+
+abbrev pub told_by : Result Took ContainerFault → Told
+told_by (Ok took) = made_by took.answer
+told_by (Err fault) = told.Fault fault
+
+-- A command that made nothing tells the first refusal that an object answered meanwhile.
+abbrev pub refused_by : Option Refusal → Told
+refused_by (Some refusal) = told.Refused refusal
+refused_by None = told.Done
+
+abbrev pub further : Told → Option Refusal → Told
+further told.Done refused = refused_by refused
+further (told.Frame f) refused = told.Frame f
+further (told.Object o) refused = told.Object o
+further (told.Server inc) refused = told.Server inc
+further (told.Refused refusal) refused = told.Refused refusal
+further (told.Fault fault) refused = told.Fault fault

@@ -1,0 +1,47 @@
+-- The container of a history: what it was given, in order, and nothing else, moves it.
+use Rattle.std.specs.Prelude.{ℕ, List, [], ◌∷◌, Result, Ok, Err}
+use Rattle.container_model.specs.Record.{Record, Took, empty}
+use Rattle.container_model.specs.Commands.{on_command}
+use Rattle.container_model.specs.Messages.{on_message, on_reap}
+use Rattle.container_model.specs.declared.fault.ContainerFault.{ContainerFault}
+use Rattle.script_model.specs.declared.step.Step.{Step}
+use Rattle.script_model.specs.declared.step.Step.TheVariants as step
+use Rattle.script_model.specs.Events.{Event, Started, Connected, Sent, Heard, Ended, Stepped}
+
+-- the greatest number that a script's container draws
+abbrev pub MOST_NUMBERS : ℕ
+MOST_NUMBERS = 1000000
+
+-- a record after a step, which stays where that is refused
+abbrev pub moved : Record → Result Took ContainerFault → Record
+moved r (Ok took) = took.rec
+moved r (Err fault) = r
+
+-- A container's record now, and before what it was given last.
+pub record Given : Type 0 where
+  pub before : Record
+  pub now : Record
+
+abbrev pub gives : Given → Result Took ContainerFault → Given
+gives g told = record { before = g.now; now = moved g.now told }
+
+abbrev pub given : Given → Step → Given
+given g (step.Begins n) = g
+given g (step.Command c) = gives g (on_command g.now c)
+given g (step.Message inc m) = gives g (on_message g.now inc m)
+given g (step.Reap inc) = gives g (on_reap g.now inc)
+given g step.NoMemory = record { before = g.before; now = g.before }
+
+abbrev pub given_by : List Event → Given
+given_by [] = record { before = empty MOST_NUMBERS; now = empty MOST_NUMBERS }
+given_by (Stepped step ∷ es) = given (given_by es) step
+given_by (Started inc ok ∷ es) = given_by es
+given_by (Connected inc ok ∷ es) = given_by es
+given_by (Sent inc bytes ok ∷ es) = given_by es
+given_by (Heard inc bytes ok ∷ es) = given_by es
+given_by (Ended inc ∷ es) = given_by es
+
+-- the container's record: its step applied to the commands, to the messages, each with the link that it came on, and to the
+-- ends of servers, in their order, from a container without frames, objects and servers
+abbrev pub record_of : List Event → Record
+record_of es = (given_by es).now

@@ -1,0 +1,5 @@
+pub mod Events
+pub mod Containers
+pub mod Turns
+pub mod Answers
+pub mod Histories

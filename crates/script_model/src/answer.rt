@@ -1,0 +1,21 @@
+//! What is printed of a command.
+
+use container_model::fault::ContainerFault;
+use wire_msgs::refusal::Refusal;
+
+/// What is printed of a command.
+#[derive(Clone, Copy, PartialEq, Eq)]
+pub enum Told {
+    /// This frame was made.
+    Frame(u32),
+    /// This object was made.
+    Object(u32),
+    /// This server was started.
+    Server(u32),
+    /// An object refused a call.
+    Refused(Refusal),
+    /// It was done.
+    Done,
+    /// The container refused it.
+    Fault(ContainerFault),
+}

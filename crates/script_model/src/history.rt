@@ -1,0 +1,88 @@
+//! What a host was asked and answered, which only clauses read.
+
+ghost use Rattle.script_model.specs.Events.{Connected, Ended, Heard, Sent, Started, Stepped};
+ghost use Rattle.script_model.specs.Histories.{told_in};
+ghost use Rattle.std.specs.Prelude.{◌≡◌, [], ◌∷◌};
+
+use crate::step::Step;
+use histories::calls::Calls;
+use histories::values::Values;
+
+/// What a host was asked and answered, and what the container was given meanwhile. It takes no memory.
+#[derive(Drop)]
+pub struct History {
+    pub(crate) calls: Calls,
+    pub(crate) steps: Values<Step, ()>,
+}
+
+/// The numbers of the calls.
+const STARTED: u64 = 0;
+
+const CONNECTED: u64 = 1;
+
+const SENT: u64 = 2;
+
+const HEARD: u64 = 3;
+
+const ENDED: u64 = 4;
+
+const STEPPED: u64 = 5;
+
+impl History {
+    /// Nothing was asked.
+    pub fn new() -> History
+        ensures { told_in result ≡ [] }
+    {
+        History {
+            calls: Calls::new(),
+            steps: Values::new(),
+        }
+    }
+
+    /// A server was started, or it wasn't.
+    pub fn started(&mut self, inc: u32, ok: bool)
+        ensures { told_in self.new ≡ Started inc ok ∷ told_in self.old }
+    {
+        self.calls
+            .note(&[STARTED, u64::from(inc), u64::from(ok)], &[]);
+    }
+
+    /// A link was made anew, or it wasn't.
+    pub fn connected(&mut self, inc: u32, ok: bool)
+        ensures { told_in self.new ≡ Connected inc ok ∷ told_in self.old }
+    {
+        self.calls
+            .note(&[CONNECTED, u64::from(inc), u64::from(ok)], &[]);
+    }
+
+    /// Bytes were sent, or they weren't.
+    pub fn sent(&mut self, inc: u32, bytes: &[u8], ok: bool)
+        ensures { told_in self.new ≡ Sent inc bytes.now ok ∷ told_in self.old }
+    {
+        self.calls
+            .note(&[SENT, u64::from(inc), u64::from(ok)], bytes);
+    }
+
+    /// Bytes came, or the read failed.
+    pub fn heard(&mut self, inc: u32, bytes: &[u8], ok: bool)
+        ensures { told_in self.new ≡ Heard inc bytes.now ok ∷ told_in self.old }
+    {
+        self.calls
+            .note(&[HEARD, u64::from(inc), u64::from(ok)], bytes);
+    }
+
+    /// A server was ended and awaited.
+    pub fn ended(&mut self, inc: u32)
+        ensures { told_in self.new ≡ Ended inc ∷ told_in self.old }
+    {
+        self.calls.note(&[ENDED, u64::from(inc), 1], &[]);
+    }
+
+    /// Something happened to the container.
+    pub fn stepped(&mut self, step: &Step)
+        ensures { told_in self.new ≡ Stepped step.now ∷ told_in self.old }
+    {
+        self.calls.note(&[STEPPED, 0, 1], &[]);
+        self.steps = self.steps.and(step, &());
+    }
+}

@@ -1,0 +1,49 @@
+//! A host: it starts servers, carries bytes to and from them, and ends them.
+
+ghost use Rattle.script_model.specs.Events.{Event, Connected, Ended, Heard, Sent, Started, Stepped};
+ghost use Rattle.std.specs.Prelude.{◌≡◌, ◌≤◌, false, true, List, [], ◌∷◌, IfOk, MatchResult, is_ok, length, take};
+
+use crate::step::Step;
+use thiserror::Error;
+
+/// Why a host doesn't do what it is asked for.
+#[derive(Debug, Clone, Copy, PartialEq, Eq, Error)]
+pub enum HostFault {
+    /// The server, or the link to it, failed.
+    #[error("the server or the link to it failed")]
+    Failed,
+    /// No memory was left.
+    #[error("no memory is left")]
+    NoMemory,
+}
+
+/// What starts servers, carries bytes to and from them, and ends them. A server is named by its incarnation.
+pub trait Host {
+    /// All that was asked of it and what it answered, and what the container was given meanwhile, the newest first.
+    ghost told: { Self → List Event };
+
+    /// Starts a server, and makes a link to it.
+    fn start(&mut self, inc: u32) -> Result<(), HostFault>
+        ensures { told self.new ≡ Started inc (is_ok result) ∷ told self.old };
+
+    /// Drops the link to a server without reading what came on it, and makes another.
+    fn connect(&mut self, inc: u32) -> Result<(), HostFault>
+        ensures { told self.new ≡ Connected inc (is_ok result) ∷ told self.old };
+
+    /// Sends bytes, all of them.
+    fn send(&mut self, inc: u32, bytes: &[u8]) -> Result<(), HostFault>
+        ensures { told self.new ≡ Sent inc bytes.now (is_ok result) ∷ told self.old };
+
+    /// Reads some bytes, and none where the other side has closed the link.
+    fn read(&mut self, inc: u32, into: &mut [u8]) -> Result<usize, HostFault>
+        ensures few { IfOk result (λ n. n ≤ length into.new) }
+        ensures told { MatchResult result (λ n. told self.new ≡ Heard inc (take n into.new) true ∷ told self.old) (λ _. told self.new ≡ Heard inc [] false ∷ told self.old) };
+
+    /// Ends a server, and awaits its end.
+    fn end(&mut self, inc: u32)
+        ensures { told self.new ≡ Ended inc ∷ told self.old };
+
+    /// Notes what happens to the container, so that the history has it in its place. It does nothing else.
+    fn note(&mut self, step: &Step)
+        ensures { told self.new ≡ Stepped step.now ∷ told self.old };
+}

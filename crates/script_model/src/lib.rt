@@ -1,0 +1,9 @@
+//! Scripts of a container and its servers: their commands, what is printed of each, the host that starts and talks to the
+//! servers, and what its history says of the container.
+#![tactic(auto)]
+
+pub mod answer;
+pub mod command;
+pub mod history;
+pub mod host;
+pub mod step;

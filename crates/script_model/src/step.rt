@@ -1,0 +1,19 @@
+//! What happens to a container between the calls of its host.
+
+use container_model::command::Command;
+use wire_msgs::message::Message;
+
+/// What happens to a container between the calls of its host.
+#[derive(Drop)]
+pub enum Step {
+    /// The script's command of this place begins, from 0.
+    Begins(usize),
+    /// The container is given a user's command.
+    Command(Command),
+    /// The container is given a message, on the link of the server of this incarnation.
+    Message(u32, Message),
+    /// The container is told the end of this server.
+    Reap(u32),
+    /// The container had no memory for what it was given last.
+    NoMemory,
+}

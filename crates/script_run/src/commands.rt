@@ -1,0 +1,240 @@
+//! The commands of a script, one after another.
+
+ghost use Rattle.std.specs.Prelude.{◌≡◌, ◌<◌, ◌++◌, ◌∷◌, [], IfSome, length, vec_capacity, vec_len};
+
+use crate::container::command;
+use crate::fault::ScriptFault;
+use crate::links::{Link, hand_over, reconnect, send_turn};
+use crate::turns::{end_at, turns};
+use container_core::container::ContainerCore;
+use container_model::answer::{Action, Answer};
+use container_model::command::Command;
+use container_model::fault::ContainerFault;
+use script_model::answer::Told;
+use script_model::command::ScriptCommand;
+use script_model::host::Host;
+use script_texts::answers::{further, made_by, push_told};
+use std::alloc::Global;
+use std::io::Write;
+use texts::output::write_all;
+use wire_msgs::items::Items;
+use wire_msgs::message::Message;
+use wire_msgs::refusal::Refusal;
+
+/// Where the link of a server stands.
+fn place_of(links: &[Link], inc: u32) -> Option<usize>
+    ensures { IfSome result (λ i. i < length links.now) }
+{
+    for (place, link) in links.iter().enumerate() {
+        if link.inc == inc {
+            return Some(place);
+        }
+    }
+    None
+}
+
+/// Starts a server, and makes its link.
+fn start<H: Host>(
+    alloc: Global,
+    host: &mut H,
+    links: &mut Vec<Link>,
+    inc: u32,
+) -> Result<(), ScriptFault> {
+    links.reserve(1)?;
+    if host.start(inc).is_err() {
+        return Err(ScriptFault::Link(inc));
+    }
+    add(links, Link::new(alloc, inc));
+    Ok(())
+}
+
+/// Puts a value to the end, into room that is there.
+fn add<T: Drop>(list: &mut Vec<T>, value: T)
+    requires { vec_len list.old < vec_capacity list.old }
+    ensures { list.new.items ≡ list.old.items ++ value ∷ [] }
+{
+    list.push_reserved(value);
+}
+
+/// Ends a server, and tells the container its end.
+fn end<H: Host>(
+    alloc: Global,
+    host: &mut H,
+    core: &mut ContainerCore,
+    links: &mut Vec<Link>,
+    inc: u32,
+) -> Result<(), ScriptFault> {
+    match place_of(links, inc) {
+        Some(place) => end_at(alloc, host, core, links, place),
+        None => Ok(()),
+    }
+}
+
+/// Does what the container asks for. What is to be sent is pending, and is sent with the next turn.
+fn act<H: Host>(
+    alloc: Global,
+    host: &mut H,
+    core: &mut ContainerCore,
+    links: &mut Vec<Link>,
+    answer: &Answer,
+) -> Result<(), ScriptFault> {
+    for action in answer.actions.as_slice() {
+        match action {
+            Action::Start(inc) => start(alloc, host, links, *inc)?,
+            Action::End(inc) => end(alloc, host, core, links, *inc)?,
+            Action::Send(_) | Action::Commit(_) => {}
+        }
+    }
+    Ok(())
+}
+
+/// A command of the container's user.
+fn order<H: Host>(
+    alloc: Global,
+    host: &mut H,
+    core: &mut ContainerCore,
+    links: &mut Vec<Link>,
+    ordered: Command,
+) -> Result<Told, ScriptFault> {
+    match command(alloc, host, core, ordered) {
+        Ok(answer) => {
+            act(alloc, host, core, links, &answer)?;
+            Ok(made_by(&answer))
+        }
+        Err(ContainerFault::NoMemory) => Err(ScriptFault::NoMemory),
+        Err(fault) => Ok(Told::Fault(fault)),
+    }
+}
+
+/// Sends a link its turn, and makes it anew without reading what comes. A link that can't be made is ended.
+fn cut<H: Host>(
+    alloc: Global,
+    host: &mut H,
+    core: &mut ContainerCore,
+    links: &mut Vec<Link>,
+    place: usize,
+) -> Result<(), ScriptFault>
+    requires { place < length links.old.items }
+{
+    send_turn(alloc, host, core, links[place].inc)?;
+    if !reconnect(alloc, host, &mut links[place]) {
+        end_at(alloc, host, core, links, place)?;
+    }
+    Ok(())
+}
+
+/// Hands all messages over that wait of a server. Gives whether each is one that a server may send.
+fn hand_all<H: Host>(
+    alloc: Global,
+    host: &mut H,
+    core: &mut ContainerCore,
+    inc: u32,
+    waiting: Items<Message>,
+    refused: &mut Option<Refusal>,
+) -> Result<bool, ScriptFault> {
+    for taken in waiting.into_vec() {
+        if !hand_over(alloc, host, core, inc, taken, refused)? {
+            return Ok(false);
+        }
+    }
+    Ok(true)
+}
+
+/// Hands over what waits of the link at a place, which holds nothing any more.
+fn release<H: Host>(
+    alloc: Global,
+    host: &mut H,
+    core: &mut ContainerCore,
+    links: &mut Vec<Link>,
+    place: usize,
+    refused: &mut Option<Refusal>,
+) -> Result<(), ScriptFault>
+    requires { place < length links.old.items }
+{
+    let link = &mut links[place];
+    link.held = false;
+    let inc = link.inc;
+    let waiting = std::mem::replace(&mut link.waiting, Items::new(alloc));
+    if !hand_all(alloc, host, core, inc, waiting, refused)? {
+        end_at(alloc, host, core, links, place)?;
+    }
+    Ok(())
+}
+
+/// A command about the link of a server: none where there is no such server.
+fn at_link<H: Host>(
+    alloc: Global,
+    host: &mut H,
+    core: &mut ContainerCore,
+    links: &mut Vec<Link>,
+    command: &ScriptCommand,
+    refused: &mut Option<Refusal>,
+) -> Result<Told, ScriptFault> {
+    let inc = match command {
+        ScriptCommand::Cut(inc) | ScriptCommand::Hold(inc) | ScriptCommand::Release(inc) => *inc,
+        _ => return Ok(Told::Done),
+    };
+    let Some(place) = place_of(links, inc) else {
+        return Ok(Told::Fault(ContainerFault::NoSuch));
+    };
+    match command {
+        ScriptCommand::Cut(_) => cut(alloc, host, core, links, place)?,
+        ScriptCommand::Release(_) => release(alloc, host, core, links, place, refused)?,
+        _ => links[place].held = true,
+    }
+    Ok(Told::Done)
+}
+
+/// Shows a frame.
+fn show(
+    alloc: Global,
+    core: &ContainerCore,
+    frame: u32,
+    text: &mut Vec<u8>,
+) -> Result<Told, ScriptFault> {
+    match core.screen(alloc, frame) {
+        Ok(shown) => {
+            text.extend_from_slice(&shown)?;
+            Ok(Told::Done)
+        }
+        Err(ContainerFault::NoMemory) => Err(ScriptFault::NoMemory),
+        Err(fault) => Ok(Told::Fault(fault)),
+    }
+}
+
+/// Does what a command asks, before any turn.
+fn begin<H: Host>(
+    alloc: Global,
+    host: &mut H,
+    core: &mut ContainerCore,
+    links: &mut Vec<Link>,
+    command: ScriptCommand,
+    refused: &mut Option<Refusal>,
+    text: &mut Vec<u8>,
+) -> Result<Told, ScriptFault> {
+    match command {
+        ScriptCommand::Container(ordered) => order(alloc, host, core, links, ordered),
+        ScriptCommand::Screen(frame) => show(alloc, core, frame, text),
+        other => at_link(alloc, host, core, links, &other, refused),
+    }
+}
+
+/// Carries a command out, with the turns that it leads to, and writes what is told of it.
+pub(crate) fn carry_out<H: Host, W: Write>(
+    alloc: Global,
+    host: &mut H,
+    core: &mut ContainerCore,
+    links: &mut Vec<Link>,
+    command: ScriptCommand,
+    writer: &mut W,
+) -> Result<(), ScriptFault> {
+    let mut refused = None;
+    let mut text = Vec::new(alloc);
+    let told = begin(alloc, host, core, links, command, &mut refused, &mut text)?;
+    turns(alloc, host, core, links, &mut refused)?;
+    push_told(alloc, &mut text, further(told, refused))?;
+    match write_all(writer, &text) {
+        Ok(()) => Ok(()),
+        Err(_) => Err(ScriptFault::Unwritable),
+    }
+}

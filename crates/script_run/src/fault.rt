@@ -1,0 +1,40 @@
+//! Why a script isn't carried out.
+
+use std::alloc::AllocError;
+use texts::input::InputFault;
+use texts::lines::SyntaxFault;
+use thiserror::Error;
+
+/// Why a script isn't carried out to its end.
+#[derive(Debug, Clone, Copy, PartialEq, Eq, Error)]
+pub enum ScriptFault {
+    /// The script isn't read.
+    #[error("{0}")]
+    Input(InputFault),
+    /// A line of the script is refused.
+    #[error("line {0}: {1}")]
+    Line(usize, SyntaxFault),
+    /// A server isn't started.
+    #[error("server {0} isn't started")]
+    Link(u32),
+    /// What is asked of servers isn't answered, or what one answers is still held.
+    #[error("what is asked isn't answered")]
+    Stalled,
+    /// No memory was left.
+    #[error("no memory is left")]
+    NoMemory,
+    /// A write fails.
+    #[error("writing fails")]
+    Unwritable,
+}
+
+impl From<AllocError> for ScriptFault {
+    ghost use Rattle.std.specs.Prelude.{◌≡◌};
+    ghost use Rattle.script_run.specs.declared.fault.ScriptFault.TheVariants.{NoMemory};
+
+    ghost from_gives = { λ _ e. e ≡ NoMemory };
+
+    fn from(_: AllocError) -> Self {
+        ScriptFault::NoMemory
+    }
+}

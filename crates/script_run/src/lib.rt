@@ -1,0 +1,9 @@
+//! Scripts that are carried out over a host: a container's commands, and what its servers answer to them.
+#![tactic(auto)]
+
+mod commands;
+mod container;
+pub mod fault;
+mod links;
+pub mod script;
+mod turns;

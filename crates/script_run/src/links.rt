@@ -1,0 +1,249 @@
+//! The links to servers, and what comes on one of them in a turn.
+
+use crate::container::message;
+use crate::fault::ScriptFault;
+use container_core::container::ContainerCore;
+use container_model::fault::ContainerFault;
+use message_bytes::decoder::Decoder;
+use message_bytes::encode::encode;
+use message_bytes::fault::WireFault;
+use message_bytes::frame::Frame;
+use script_model::host::Host;
+use std::alloc::{AllocError, Global};
+use wire_msgs::items::Items;
+use wire_msgs::message::Message;
+use wire_msgs::refusal::Refusal;
+
+/// The most reads of a link in a turn.
+const MOST_READS: u32 = 1_000_000;
+
+/// How many bytes are read at once.
+const PIECE: usize = 4096;
+
+/// A link to a server that was started and isn't ended.
+#[derive(Drop)]
+pub(crate) struct Link {
+    pub(crate) inc: u32,
+    pub(crate) decoder: Decoder,
+    /// Whether what comes waits.
+    pub(crate) held: bool,
+    pub(crate) waiting: Items<Message>,
+}
+
+impl Link {
+    /// A link on which nothing came yet.
+    pub(crate) fn new(alloc: Global, inc: u32) -> Link {
+        Link {
+            inc,
+            decoder: Decoder::new(alloc),
+            held: false,
+            waiting: Items::new(alloc),
+        }
+    }
+}
+
+/// How far what comes on a link in a turn is.
+#[derive(Clone, Copy, PartialEq, Eq)]
+pub(crate) enum Heard {
+    /// All that was whole is carried out.
+    Part,
+    /// The server gave the turn back.
+    Turn,
+    /// The link failed.
+    Failed,
+    /// What came is none that a server may send.
+    Faulty,
+}
+
+/// Adds the byte form of a frame.
+fn push_frame(alloc: Global, out: &mut Vec<u8>, frame: &Frame) -> Result<(), ScriptFault> {
+    match encode(alloc, frame) {
+        Ok(bytes) => {
+            out.extend_from_slice(&bytes)?;
+            Ok(())
+        }
+        Err(_) => Err(ScriptFault::NoMemory),
+    }
+}
+
+/// The server that a message is to or from.
+fn server_of(message: &Message) -> u32 {
+    match message {
+        Message::Call { inc, .. } => *inc,
+        Message::Reply { inc, .. } => *inc,
+        Message::Write { inc, .. } => *inc,
+        Message::Ask { inc, .. } => *inc,
+    }
+}
+
+/// The calls that are pending for a server, and a Turn, as bytes.
+fn turn_bytes(alloc: Global, core: &ContainerCore, inc: u32) -> Result<Vec<u8>, ScriptFault> {
+    let mut out = Vec::new(alloc);
+    for call in core.resend(alloc)? {
+        if server_of(&call) == inc {
+            push_frame(alloc, &mut out, &Frame::Message(call))?;
+        }
+    }
+    push_frame(alloc, &mut out, &Frame::Turn)?;
+    Ok(out)
+}
+
+/// Sends a link its turn. Gives whether it was sent.
+pub(crate) fn send_turn<H: Host>(
+    alloc: Global,
+    host: &mut H,
+    core: &ContainerCore,
+    inc: u32,
+) -> Result<bool, ScriptFault> {
+    let bytes = turn_bytes(alloc, core, inc)?;
+    Ok(host.send(inc, &bytes).is_ok())
+}
+
+/// The first of two refusals.
+fn first_of(before: Option<Refusal>, next: Option<Refusal>) -> Option<Refusal> {
+    match before {
+        Some(refusal) => Some(refusal),
+        None => next,
+    }
+}
+
+/// Hands a message of a link over to the container. Gives whether it is one that a server may send; one of something that is
+/// over is passed over.
+pub(crate) fn hand_over<H: Host>(
+    alloc: Global,
+    host: &mut H,
+    core: &mut ContainerCore,
+    inc: u32,
+    taken: Message,
+    refused: &mut Option<Refusal>,
+) -> Result<bool, ScriptFault> {
+    match message(alloc, host, core, inc, taken) {
+        Ok(answer) => {
+            *refused = first_of(*refused, answer.refused);
+            Ok(true)
+        }
+        Err(ContainerFault::NoMemory) => Err(ScriptFault::NoMemory),
+        Err(ContainerFault::WrongLink) => Ok(false),
+        Err(ContainerFault::BadAnswer) => Ok(false),
+        Err(_) => Ok(true),
+    }
+}
+
+/// Carries out a message of a link, or puts it to those that wait. Gives whether it is one that a server may send.
+fn meet<H: Host>(
+    alloc: Global,
+    host: &mut H,
+    core: &mut ContainerCore,
+    link: &mut Link,
+    taken: Message,
+    refused: &mut Option<Refusal>,
+) -> Result<bool, ScriptFault> {
+    if link.held {
+        link.waiting.push(taken)?;
+        return Ok(true);
+    }
+    hand_over(alloc, host, core, link.inc, taken, refused)
+}
+
+/// Carries out the frames that came on a link, up to a Turn.
+fn take_frames<H: Host>(
+    alloc: Global,
+    host: &mut H,
+    core: &mut ContainerCore,
+    link: &mut Link,
+    refused: &mut Option<Refusal>,
+) -> Result<Heard, ScriptFault> {
+    for _ in 0..=PIECE {
+        match link.decoder.next() {
+            Ok(None) => return Ok(Heard::Part),
+            Ok(Some(Frame::Turn)) => return Ok(Heard::Turn),
+            Ok(Some(Frame::Message(taken))) => {
+                if !meet(alloc, host, core, link, taken, refused)? {
+                    return Ok(Heard::Faulty);
+                }
+            }
+            Err(_) => return Ok(Heard::Faulty),
+        }
+    }
+    Ok(Heard::Failed)
+}
+
+/// Reads some bytes of a link. Gives whether there were any.
+fn read_some<H: Host>(host: &mut H, link: &mut Link) -> Result<bool, ScriptFault> {
+    let mut piece = [0u8; PIECE];
+    let n = match host.read(link.inc, &mut piece) {
+        Ok(n) => n,
+        Err(_) => return Ok(false),
+    };
+    if n == 0 {
+        return Ok(false);
+    }
+    match link.decoder.feed(&piece[..n]) {
+        Err(WireFault::NoMemory) => Err(ScriptFault::NoMemory),
+        _ => Ok(true),
+    }
+}
+
+/// Reads a link up to a Turn, and carries out what comes.
+fn hear<H: Host>(
+    alloc: Global,
+    host: &mut H,
+    core: &mut ContainerCore,
+    link: &mut Link,
+    refused: &mut Option<Refusal>,
+    reads: &mut u32,
+) -> Result<Heard, ScriptFault> {
+    while *reads > 0 {
+        let heard = take_frames(alloc, host, core, link, refused)?;
+        if heard != Heard::Part {
+            return Ok(heard);
+        }
+        *reads -= 1;
+        if !read_some(host, link)? {
+            return Ok(Heard::Failed);
+        }
+    }
+    Ok(Heard::Failed)
+}
+
+/// A link's turn over the connection that it has.
+fn exchange<H: Host>(
+    alloc: Global,
+    host: &mut H,
+    core: &mut ContainerCore,
+    link: &mut Link,
+    refused: &mut Option<Refusal>,
+    reads: &mut u32,
+) -> Result<Heard, ScriptFault> {
+    if !send_turn(alloc, host, core, link.inc)? {
+        return Ok(Heard::Failed);
+    }
+    hear(alloc, host, core, link, refused, reads)
+}
+
+/// Connects a link again: what came of the old connection and isn't carried out is dropped.
+pub(crate) fn reconnect<H: Host>(alloc: Global, host: &mut H, link: &mut Link) -> bool {
+    link.decoder = Decoder::new(alloc);
+    host.connect(link.inc).is_ok()
+}
+
+/// A link's turn. One that fails is connected again, once. Gives whether the link stands.
+pub(crate) fn serve<H: Host>(
+    alloc: Global,
+    host: &mut H,
+    core: &mut ContainerCore,
+    link: &mut Link,
+    refused: &mut Option<Refusal>,
+) -> Result<bool, ScriptFault> {
+    let mut reads = MOST_READS;
+    match exchange(alloc, host, core, link, refused, &mut reads)? {
+        Heard::Turn => return Ok(true),
+        Heard::Failed => {}
+        _ => return Ok(false),
+    }
+    if !reconnect(alloc, host, link) {
+        return Ok(false);
+    }
+    let heard = exchange(alloc, host, core, link, refused, &mut reads)?;
+    Ok(heard == Heard::Turn)
+}

@@ -1,0 +1,73 @@
+//! Scripts, from their texts to their ends.
+
+use crate::commands::carry_out;
+use crate::fault::ScriptFault;
+use crate::links::Link;
+use crate::turns::end_all;
+use container_core::container::{ContainerCore, Limits};
+use script_model::command::ScriptCommand;
+use script_model::host::Host;
+use script_texts::commands::Commands;
+use std::alloc::Global;
+use std::io::{Read, Write};
+use texts::input::read_all;
+use texts::lines::parse_lines;
+
+/// The greatest number that a script's container draws.
+const MOST_NUMBERS: u32 = 1_000_000;
+
+/// The commands that a text spells.
+fn read_script<R: Read>(alloc: Global, reader: &mut R) -> Result<Vec<ScriptCommand>, ScriptFault> {
+    let text = match read_all(alloc, reader) {
+        Ok(text) => text,
+        Err(fault) => return Err(ScriptFault::Input(fault)),
+    };
+    match parse_lines::<Commands>(alloc, &text) {
+        Ok(commands) => Ok(commands),
+        Err((line, fault)) => Err(ScriptFault::Line(line, fault)),
+    }
+}
+
+/// Carries out commands, one after another.
+fn carry_out_all<H: Host, W: Write>(
+    alloc: Global,
+    host: &mut H,
+    core: &mut ContainerCore,
+    links: &mut Vec<Link>,
+    commands: Vec<ScriptCommand>,
+    writer: &mut W,
+) -> Result<(), ScriptFault> {
+    for command in commands {
+        carry_out(alloc, host, core, links, command, writer)?;
+    }
+    if links.iter().any(|link| link.held) {
+        return Err(ScriptFault::Stalled);
+    }
+    Ok(())
+}
+
+/// Carries out the commands of a text over a host, with a container of its own, and writes what is told of each as it is
+/// carried out. However this ends, each server that was started is ended and awaited.
+///
+/// Refused: an input that isn't read or has more than 134,217,728 bytes; the first line that spells no command; and then, as
+/// commands are carried out: a server that isn't started (`Link`); what isn't answered in 1,000 turns, or a link that is held
+/// at the end (`Stalled`); no memory; a write that fails.
+pub fn run_script<H: Host, R: Read, W: Write>(
+    alloc: Global,
+    host: &mut H,
+    reader: &mut R,
+    writer: &mut W,
+) -> Result<(), ScriptFault> {
+    let commands = match read_script(alloc, reader) {
+        Ok(commands) => commands,
+        Err(fault) => return Err(fault),
+    };
+    let limits = Limits {
+        numbers: MOST_NUMBERS,
+    };
+    let mut core = ContainerCore::new(alloc, limits);
+    let mut links = Vec::new(alloc);
+    let told = carry_out_all(alloc, host, &mut core, &mut links, commands, writer);
+    end_all(host, &mut links);
+    told
+}

@@ -1,0 +1,108 @@
+//! Turns: each link is sent what is pending for its server, and what comes back is carried out.
+
+ghost use Rattle.std.specs.Prelude.{◌≡◌, ◌+◌, ◌<◌, length};
+
+use crate::container::reap;
+use crate::fault::ScriptFault;
+use crate::links::{Link, serve};
+use container_core::container::ContainerCore;
+use container_model::fault::ContainerFault;
+use container_model::record::Object;
+use script_model::host::Host;
+use std::alloc::Global;
+use wire_msgs::refusal::Refusal;
+
+/// The most turns of a command.
+const MOST_TURNS: u32 = 1_000;
+
+/// Ends the server of the link at a place, and tells the container its end.
+pub(crate) fn end_at<H: Host>(
+    alloc: Global,
+    host: &mut H,
+    core: &mut ContainerCore,
+    links: &mut Vec<Link>,
+    place: usize,
+) -> Result<(), ScriptFault>
+    requires { place < length links.old.items }
+    ensures { length links.new.items + 1 ≡ length links.old.items }
+{
+    let link = links.remove(place);
+    host.end(link.inc);
+    match reap(alloc, host, core, link.inc) {
+        Err(ContainerFault::NoMemory) => Err(ScriptFault::NoMemory),
+        _ => Ok(()),
+    }
+}
+
+/// Ends the servers of all links.
+pub(crate) fn end_all<H: Host>(host: &mut H, links: &mut Vec<Link>) {
+    while let Some(link) = links.pop() {
+        host.end(link.inc);
+    }
+}
+
+/// The server that an object has a pending call for.
+fn pending_server(object: &Object) -> Option<u32> {
+    match &object.link {
+        Some(link) if link.pending.is_some() => Some(link.inc),
+        _ => None,
+    }
+}
+
+/// Whether a link of this server is there, and isn't held.
+fn is_free(links: &[Link], inc: u32) -> bool {
+    links.iter().any(|link| link.inc == inc && !link.held)
+}
+
+/// Whether a call is pending on a link that isn't held.
+fn is_pending(core: &ContainerCore, links: &[Link]) -> bool {
+    for object in core.all_objects() {
+        if let Some(inc) = pending_server(object) {
+            if is_free(links, inc) {
+                return true;
+            }
+        }
+    }
+    false
+}
+
+/// A turn of each link, by rising number. A link that doesn't stand is ended.
+fn turn<H: Host>(
+    alloc: Global,
+    host: &mut H,
+    core: &mut ContainerCore,
+    links: &mut Vec<Link>,
+    refused: &mut Option<Refusal>,
+) -> Result<(), ScriptFault> {
+    let mut place = 0;
+    while place < links.len() {
+        if serve(alloc, host, core, &mut links[place], refused)? {
+            place += 1;
+        } else {
+            end_at(alloc, host, core, links, place)?;
+        }
+    }
+    Ok(())
+}
+
+/// Turns, until nothing is pending on a link that isn't held.
+///
+/// Refused: `Stalled` where something is pending after 1,000 turns.
+pub(crate) fn turns<H: Host>(
+    alloc: Global,
+    host: &mut H,
+    core: &mut ContainerCore,
+    links: &mut Vec<Link>,
+    refused: &mut Option<Refusal>,
+) -> Result<(), ScriptFault> {
+    for _ in 0..MOST_TURNS {
+        if !is_pending(core, links) {
+            return Ok(());
+        }
+        turn(alloc, host, core, links, refused)?;
+    }
+    if is_pending(core, links) {
+        return Err(ScriptFault::Stalled);
+    }
+    Ok(())
+}

@@ -1,0 +1,66 @@
+-- The lines of a script and the commands that they spell.
+use Rattle.std.specs.Prelude.{ℕ, List, [], ◌∷◌, codes, cond, Option, Some, None, option_map, Result}
+use Rattle.std.specs.Str.{bytes_eq}
+use Rattle.embed_core.specs.Words.{words, number_read}
+use Rattle.container_model.specs.declared.command.Command.{Command}
+use Rattle.container_model.specs.declared.command.Command.TheVariants as command
+use Rattle.event_texts.specs.Events.{event_read, sole_number}
+use Rattle.script_model.specs.declared.command.ScriptCommand.{ScriptCommand}
+use Rattle.script_model.specs.declared.command.ScriptCommand.TheVariants as script
+use Rattle.texts.specs.Lines.{text_read}
+use Rattle.texts.specs.declared.lines.SyntaxFault.{SyntaxFault}
+use Rattle.world_model.specs.declared.event.Event.{Event}
+use Rattle.world_model.specs.declared.event.Event.TheVariants as event
+
+-- a script has the container's commands but for saves, and none of the world's other events
+abbrev pub container_command : Command → Option ScriptCommand
+container_command (command.Save f) = None
+container_command (command.New name w h) = Some (script.Container (command.New name w h))
+container_command (command.Insert f kind area) = Some (script.Container (command.Insert f kind area))
+container_command command.Start = Some (script.Container command.Start)
+container_command (command.Run o inc) = Some (script.Container (command.Run o inc))
+container_command (command.Edit o bytes) = Some (script.Container (command.Edit o bytes))
+container_command (command.Delete o) = Some (script.Container (command.Delete o))
+container_command (command.Kill inc) = Some (script.Container (command.Kill inc))
+container_command (command.Close o option) = Some (script.Container (command.Close o option))
+container_command (command.Verb o number) = Some (script.Container (command.Verb o number))
+
+abbrev pub command_of : Event → Option ScriptCommand
+command_of (event.Command c) = container_command c
+command_of (event.Deliver p) = None
+command_of (event.Crash inc) = None
+command_of (event.Reap inc) = None
+command_of (event.Done f) = None
+command_of (event.Scribble inc act) = None
+command_of (event.Ask inc act) = None
+
+abbrev pub command_in : Option Event → Option ScriptCommand
+command_in None = None
+command_in (Some e) = command_of e
+
+-- the commands of links and of frames, each a name and a number
+abbrev pub link_named : List ℕ → Option ℕ → Option ScriptCommand
+link_named name number =
+    cond (bytes_eq name (codes "cut")) (option_map script.Cut number) (
+    cond (bytes_eq name (codes "hold")) (option_map script.Hold number) (
+    cond (bytes_eq name (codes "release")) (option_map script.Release number) (
+    cond (bytes_eq name (codes "screen")) (option_map script.Screen number) None)))
+
+abbrev pub link_in : List (List ℕ) → Option ScriptCommand
+link_in [] = None
+link_in (name ∷ others) = link_named name (sole_number others)
+
+abbrev pub or_else : Option ScriptCommand → Option ScriptCommand → Option ScriptCommand
+or_else (Some c) other = Some c
+or_else None other = other
+
+-- the command that a line spells
+abbrev pub command_read : List ℕ → Option ScriptCommand
+command_read line = or_else (link_in (words line)) (command_in (event_read line))
+
+abbrev pub line_read : ℕ → List ℕ → Option ScriptCommand
+line_read n line = command_read line
+
+-- the commands of a text, or the first line that spells none
+abbrev pub commands_read : List ℕ → Result (List ScriptCommand) (ℕ × SyntaxFault)
+commands_read text = text_read line_read text

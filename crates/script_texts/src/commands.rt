@@ -1,0 +1,105 @@
+//! Texts of scripts.
+
+ghost use Rattle.embed_core.specs.Words.{words};
+ghost use Rattle.event_texts.specs.Events.{sole_number};
+ghost use Rattle.script_texts.specs.Commands.{command_of, command_read, link_in, link_named};
+ghost use Rattle.std.specs.Prelude.{◌≡◌, IfErr, IfOk, IsSome};
+
+use container_model::command::Command;
+use embed_core::words::{Pieces, cut, number};
+use event_texts::events;
+use script_model::command::ScriptCommand;
+use std::alloc::{AllocError, Global};
+use texts::lines::Grammar;
+use world_model::event::Event;
+
+/// The commands of a script.
+pub struct Commands;
+
+impl Grammar for Commands {
+    type Line = ScriptCommand;
+
+    ghost use Rattle.script_texts.specs.Commands.{line_read};
+
+    ghost read = { line_read };
+
+    fn parse(
+        alloc: Global,
+        _number: usize,
+        line: &[u8],
+    ) -> Result<Option<ScriptCommand>, AllocError> {
+        let command = parse(alloc, line)?;
+        Ok(command)
+    }
+}
+
+/// A number that stands alone.
+fn sole_number(rest: &[u8]) -> Option<u32>
+    ensures { result ≡ sole_number (words rest.now) }
+{
+    let mut words = Pieces::new(rest, b' ');
+    let (Some(word), None) = (words.next_piece(), words.next_piece()) else {
+        return None;
+    };
+    number(word)
+}
+
+/// The command of a link, or of a frame, that a name and the number behind its space spell.
+fn link_named(name: &[u8], rest: &[u8]) -> Option<ScriptCommand>
+    ensures { result ≡ link_named name.now (sole_number (words rest.now)) }
+{
+    if name == b"cut".as_slice() {
+        Some(ScriptCommand::Cut(sole_number(rest)?))
+    } else if name == b"hold".as_slice() {
+        Some(ScriptCommand::Hold(sole_number(rest)?))
+    } else if name == b"release".as_slice() {
+        Some(ScriptCommand::Release(sole_number(rest)?))
+    } else if name == b"screen".as_slice() {
+        Some(ScriptCommand::Screen(sole_number(rest)?))
+    } else {
+        None
+    }
+}
+
+/// The command that an event is. Saves aren't there yet.
+fn command_of(event: Event) -> Option<ScriptCommand>
+    ensures { result ≡ command_of event }
+{
+    match event {
+        Event::Command(Command::Save(_)) => None,
+        Event::Command(command) => Some(ScriptCommand::Container(command)),
+        Event::Deliver(_)
+        | Event::Crash(_)
+        | Event::Reap(_)
+        | Event::Done(_)
+        | Event::Scribble(_, _)
+        | Event::Ask(_, _) => None,
+    }
+}
+
+/// The command of a link that a line spells.
+fn link_command(line: &[u8]) -> Option<ScriptCommand>
+    ensures { result ≡ link_in (words line.now) }
+{
+    match cut(line, b' ') {
+        (name, Some(rest)) => link_named(name, rest),
+        (_, None) => None,
+    }
+}
+
+/// The command that a line spells. Memory is taken for a line that spells one.
+#[tactic(auto, using(crate::proofs::Lines::spells_one))]
+fn parse(alloc: Global, line: &[u8]) -> Result<Option<ScriptCommand>, AllocError>
+    ensures read { IfOk result (λ command. command ≡ command_read line.now) }
+    ensures within { IfErr result (λ _. IsSome (command_read line.now)) }
+{
+    match link_command(line) {
+        Some(command) => return Ok(Some(command)),
+        None => {}
+    }
+    match events::parse(alloc, line) {
+        Ok(Some(event)) => Ok(command_of(event)),
+        Ok(None) => Ok(None),
+        Err(fault) => Err(fault),
+    }
+}

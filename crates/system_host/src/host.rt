@@ -1,0 +1,212 @@
+//! A host over child processes and TCP on 127.0.0.1.
+
+ghost use Rattle.script_model.specs.Histories.{told_in};
+ghost use Rattle.std.specs.Prelude.{◌≡◌, ◌≤◌, [], IfOk, length};
+
+use crate::port::read_port;
+use crate::running::Running;
+use script_model::history::History;
+use script_model::host::{Host, HostFault};
+use script_model::step::Step;
+use std::io::{ErrorKind, Read, Write};
+use std::net::{Ipv4Addr, Net, OpenStream, TcpStream};
+use std::os::fd::OwnedFd;
+use std::os::unix::net::UnixStream;
+use std::process::{Command, OpenProcess, Processes, Stdio};
+use std::time::Duration;
+
+/// How often a read that a signal interrupted is made again.
+const MOST_TRIES: usize = 1_000;
+
+/// Starts `PATH serve I` as a child for each server, and talks to it on the port that it prints. It waits no longer than its
+/// limit for what a server prints and sends.
+#[derive(Drop)]
+pub struct SystemHost<'a, R: Net + Processes> {
+    rt: &'a R,
+    path: &'a str,
+    limit: Duration,
+    servers: Vec<Running<R>>,
+    history: History,
+}
+
+impl<'a, R: Net + Processes + AllocGlobal> SystemHost<'a, R> {
+    /// A host that has started nothing.
+    pub fn new(rt: &'a R, path: &'a str, limit: Duration) -> SystemHost<'a, R>
+        ensures { ⟦<SystemHost<'a, R> as Host>⟧.told result ≡ [] }
+    {
+        SystemHost {
+            rt,
+            path,
+            limit,
+            servers: Vec::new(rt.alloc()),
+            history: History::new(),
+        }
+    }
+}
+
+/// Starts `PATH serve I`, reads its port and connects to it. Where that fails, no child is left.
+fn launch<R: Net + Processes + AllocGlobal>(
+    rt: &R,
+    path: &str,
+    inc: u32,
+    limit: Duration,
+) -> Result<Running<R>, HostFault> {
+    let Ok((ours, theirs)) = UnixStream::pair(rt) else {
+        return Err(HostFault::Failed);
+    };
+    if ours.set_read_timeout(Some(limit)).is_err() {
+        return Err(HostFault::Failed);
+    }
+    let mut running = spawn(rt, path, inc, OwnedFd::from(theirs))?;
+    let mut first = &ours;
+    let Some(port) = read_port(&mut first) else {
+        return Err(HostFault::Failed);
+    };
+    running.port = port;
+    running.stream = Some(connect(rt, port, limit)?);
+    Ok(running)
+}
+
+/// Starts `PATH serve I` as a child whose standard output is this.
+fn spawn<R: Net + Processes + AllocGlobal>(
+    rt: &R,
+    path: &str,
+    inc: u32,
+    stdout: OwnedFd,
+) -> Result<Running<R>, HostFault> {
+    let Ok(word) = format!(in rt.alloc(); "{inc}") else {
+        return Err(HostFault::NoMemory);
+    };
+    let Ok(mut command) = Command::new(rt.alloc(), path) else {
+        return Err(HostFault::NoMemory);
+    };
+    if command.arg("serve").is_err() || command.arg(&word).is_err() {
+        return Err(HostFault::NoMemory);
+    }
+    match command.stdin(Stdio::null()).stdout(stdout).spawn(rt) {
+        Ok(child) => Ok(Running {
+            inc,
+            port: 0,
+            stream: None,
+            child,
+        }),
+        Err(_) => Err(HostFault::Failed),
+    }
+}
+
+/// A connection to a port of 127.0.0.1, whose reads and writes wait no longer than the limit.
+fn connect<R: Net>(rt: &R, port: u16, limit: Duration) -> Result<R::Stream, HostFault> {
+    let Ok(stream) = TcpStream::connect(rt, (Ipv4Addr::LOCALHOST, port)) else {
+        return Err(HostFault::Failed);
+    };
+    let set = stream.set_nodelay(true).is_ok()
+        && stream.set_read_timeout(Some(limit)).is_ok()
+        && stream.set_write_timeout(Some(limit)).is_ok();
+    if set {
+        Ok(stream)
+    } else {
+        Err(HostFault::Failed)
+    }
+}
+
+/// The server of this incarnation.
+fn find<R: Net + Processes>(
+    servers: &mut Vec<Running<R>>,
+    inc: u32,
+) -> Result<&mut Running<R>, HostFault> {
+    servers
+        .iter_mut()
+        .find(|server| server.inc == inc)
+        .ok_or(HostFault::Failed)
+}
+
+fn send<R: Net + Processes>(running: &mut Running<R>, bytes: &[u8]) -> Result<(), HostFault> {
+    let Some(stream) = &mut running.stream else {
+        return Err(HostFault::Failed);
+    };
+    stream.write_all(bytes).map_err(|_| HostFault::Failed)
+}
+
+fn read<R: Net + Processes>(running: &mut Running<R>, into: &mut [u8]) -> Result<usize, HostFault>
+    ensures { IfOk result (λ n. n ≤ length into.new) }
+{
+    let Some(stream) = &mut running.stream else {
+        return Err(HostFault::Failed);
+    };
+    for _ in 0..MOST_TRIES {
+        match stream.read(into) {
+            Ok(n) => return Ok(n),
+            Err(error) if error.kind() == ErrorKind::Interrupted => {}
+            Err(_) => return Err(HostFault::Failed),
+        }
+    }
+    Err(HostFault::Failed)
+}
+
+fn connect_again<R: Net + Processes>(
+    rt: &R,
+    running: &mut Running<R>,
+    limit: Duration,
+) -> Result<(), HostFault> {
+    running.stream = None;
+    running.stream = Some(connect(rt, running.port, limit)?);
+    Ok(())
+}
+
+impl<'a, R: Net + Processes + AllocGlobal> Host for SystemHost<'a, R> {
+    ghost use Rattle.script_model.specs.Histories.{told_in};
+
+    ghost told = { λ h. told_in h.history };
+
+    fn start(&mut self, inc: u32) -> Result<(), HostFault> {
+        let result = match launch(self.rt, self.path, inc, self.limit) {
+            Ok(running) => match self.servers.push(running) {
+                Ok(()) => Ok(()),
+                Err(_) => Err(HostFault::NoMemory),
+            },
+            Err(fault) => Err(fault),
+        };
+        self.history.started(inc, result.is_ok());
+        result
+    }
+
+    fn connect(&mut self, inc: u32) -> Result<(), HostFault> {
+        let result = match find(&mut self.servers, inc) {
+            Ok(running) => connect_again(self.rt, running, self.limit),
+            Err(fault) => Err(fault),
+        };
+        self.history.connected(inc, result.is_ok());
+        result
+    }
+
+    fn send(&mut self, inc: u32, bytes: &[u8]) -> Result<(), HostFault> {
+        let result = match find(&mut self.servers, inc) {
+            Ok(running) => send(running, bytes),
+            Err(fault) => Err(fault),
+        };
+        self.history.sent(inc, bytes, result.is_ok());
+        result
+    }
+
+    fn read(&mut self, inc: u32, into: &mut [u8]) -> Result<usize, HostFault> {
+        let result = match find(&mut self.servers, inc) {
+            Ok(running) => read(running, into),
+            Err(fault) => Err(fault),
+        };
+        match result {
+            Ok(n) => self.history.heard(inc, &into[..n], true),
+            Err(_) => self.history.heard(inc, &[], false),
+        }
+        result
+    }
+
+    fn end(&mut self, inc: u32) {
+        // A server that is dropped is ended and awaited.
+        self.servers.retain(|server| server.inc != inc);
+        self.history.ended(inc);
+    }
+
+    fn note(&mut self, step: &Step) {
+        self.history.stepped(step);
+    }
+}
