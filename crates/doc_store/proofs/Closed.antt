@@ -1,8 +1,8 @@
 -- Writes and cuts behind a closed gate leave it closed.
 use Rattle.std.proofs.Common.{◌≡◌, ◌<◌, ◌≤◌, ℕ, List, length, get_or, min, sym, ◌∙◌, ap, arith}
 use Rattle.std.proofs.lemmas.List.{get_or-take}
-use Rattle.doc_store.specs.Crash.{Torn, CutShort}
-use Rattle.doc_store.specs.Store.{IsClosed}
+use Rattle.store_model.specs.Crash.{Torn, CutShort}
+use Rattle.store_model.specs.Store.{IsClosed}
 
 pub torn_keeps_closed : (at n : ℕ) (old new : List ℕ) → 1 ≤ at → IsClosed old → Torn at n old new → IsClosed new
 torn_keeps_closed at n old new behind closed torn =

@@ -3,8 +3,8 @@ use Rattle.std.proofs.Common.{◌≡◌, ◌⊎◌, ◌+◌, ◌≤◌, inl, inr
 use Rattle.std.proofs.lemmas.List.{take-append-le, take_all}
 use Rattle.std.proofs.lemmas.Bool.{cases_lt}
 use Rattle.doc_store.specs.Calls.{called, LeftAfter, LeftBy, LeftFrom, LeftSince, reads_after}
-use Rattle.doc_store.specs.Crash.{Elapses}
-use Rattle.doc_store.specs.Image.{Image}
+use Rattle.store_model.specs.Crash.{Elapses}
+use Rattle.store_model.specs.Image.{Image}
 use Rattle.doc_store.specs.declared.areas.Call.{Call}
 
 pub reads_push : (reads : Image) (calls : List Call) (call : Call) → reads_after reads (calls ++ call ∷ []) ≡ called call (reads_after reads calls)

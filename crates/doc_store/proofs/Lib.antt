@@ -1,6 +1,10 @@
+mod Carried
 mod Closed
-mod Gates
+mod Committed
+mod Finding
+mod Gating
 mod Kept
+mod Lists
 mod Moments
-mod Recovered
-mod Replaced
+mod Staged
+mod Under

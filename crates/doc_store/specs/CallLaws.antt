@@ -3,9 +3,9 @@ use Rattle.std.proofs.Common.{◌≡◌, ◌<◌, ◌≤◌, ◌+◌, ◌-◌, �
 use Rattle.std.proofs.lemmas.List.{take_at, take_all, drop_at, drop_all}
 use Rattle.std.proofs.lemmas.Bool.{cases_lt}
 use Rattle.doc_store.specs.Calls.{called, LeftBy, LeftAfter, LeftFrom, LeftSince, reads_after}
-use Rattle.doc_store.specs.Crash.{CutShort, Torn}
-use Rattle.doc_store.specs.Image.{Image, put}
-use Rattle.doc_store.specs.declared.area.Area.TheVariants.{Document, Journal}
+use Rattle.store_model.specs.Crash.{CutShort, Torn}
+use Rattle.store_model.specs.Image.{Image, put}
+use Rattle.store_model.specs.declared.area.Area.TheVariants.{Document, Journal}
 use Rattle.doc_store.specs.declared.areas.Call.{Call}
 use Rattle.doc_store.specs.declared.areas.Call.TheVariants.{Write, Cut, Sync}
 

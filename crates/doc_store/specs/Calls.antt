@@ -1,7 +1,7 @@
 -- What a list of calls makes of a disk in memory, and what a crash may leave of it.
 use Rattle.std.specs.Prelude.{◌≡◌, ◌≤◌, ℕ, List, [], ◌∷◌, length, take}
-use Rattle.doc_store.specs.Crash.{CutShort, InArea, Torn}
-use Rattle.doc_store.specs.Image.{Image, bytes_of, changed, put}
+use Rattle.store_model.specs.Crash.{CutShort, InArea, Torn}
+use Rattle.store_model.specs.Image.{Image, bytes_of, changed, put}
 use Rattle.doc_store.specs.declared.areas.Areas.{Areas}
 use Rattle.doc_store.specs.declared.areas.Call.{Call}
 use Rattle.doc_store.specs.declared.areas.Call.TheVariants.{Write, Cut, Sync}

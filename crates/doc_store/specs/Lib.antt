@@ -1,11 +1,6 @@
 pub mod CallLaws
 pub mod Calls
-pub mod Crash
-pub mod Fault
 pub mod Files
-pub mod Image
-pub mod Journal
 pub mod Memory
 pub mod Opened
 pub mod Steps
-pub mod Store

@@ -1,9 +1,9 @@
 -- What contracts see of a disk in memory.
 use Rattle.std.specs.Prelude.{◌≡◌, ℕ, zero, suc, List, length, Bool, true, false, Result, IsErr}
 use Rattle.doc_store.specs.Calls.{image_of, reads_after, LeftAfter, LeftSince}
-use Rattle.doc_store.specs.Image.{Image}
+use Rattle.store_model.specs.Image.{Image}
 use Rattle.doc_store.specs.declared.areas.Call.{Call}
-use Rattle.doc_store.specs.declared.disk.DiskFailure.{DiskFailure}
+use Rattle.store_model.specs.declared.disk.DiskFailure.{DiskFailure}
 use Rattle.doc_store.specs.declared.memory_disk.Faults.{Faults}
 use Rattle.doc_store.specs.declared.memory_disk.Faults.TheVariants.{Never, Once, From}
 use Rattle.doc_store.specs.declared.memory_disk.MemoryDisk.{MemoryDisk}

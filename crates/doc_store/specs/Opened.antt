@@ -1,7 +1,7 @@
 -- What contracts see of a store.
 use Rattle.std.specs.Prelude.{Bool}
 use Rattle.doc_store.specs.declared.store.Store.{Store}
-use Rattle.doc_store.specs.declared.disk.Disk.{Ghosts}
+use Rattle.store_model.specs.declared.disk.Disk.{Ghosts}
 
 -- its disk
 abbrev pub disk_of : {D : Type 0} {g : Ghosts D} → Store D g → D

@@ -1,28 +1,36 @@
 -- What the steps of `open` and `commit` find, write, and may leave.
-use Rattle.std.specs.Prelude.{◌≡◌, ◌<◌, ◌++◌, ℕ, List, length, take, true}
-use Rattle.std.specs.Int.{w64, to_le_bytes}
-use Rattle.doc_store.specs.Crash.{Torn}
-use Rattle.doc_store.specs.Image.{Image}
-use Rattle.doc_store.specs.Journal.{is_open}
-use Rattle.doc_store.specs.Store.{IsClosed, StandsFor}
+use Rattle.std.specs.Prelude.{◌≡◌, ◌<◌, ℕ, List, length, true}
+use Rattle.store_model.specs.Crash.{Torn}
+use Rattle.store_model.specs.Image.{Image}
+use Rattle.store_model.specs.Journal.{count_in, form_in, is_open, is_whole, restored, size_in}
+use Rattle.store_model.specs.Store.{IsClosed}
+use Rattle.doc_store.specs.declared.found.Change.{Change}
+use Rattle.doc_store.specs.declared.found.Change.TheVariants.{Blocks, Whole}
 use Rattle.doc_store.specs.declared.found.Found.{Found}
-use Rattle.doc_store.specs.declared.found.Found.TheVariants.{Closed, NoGate, Whole}
-use Rattle.doc_store.specs.declared.journal.TheConstants.{HEADER}
+use Rattle.doc_store.specs.declared.found.Found.TheVariants.{Closed, NoGate, Open}
+use Rattle.store_model.specs.declared.journal.TheConstants.{BLOCKS, HEADER, WHOLE}
 
--- the journal is open, and whatever the document area holds, this document is restored
-pub record IsOpenWith (document journal : List ℕ) : Type 0 where
-  pub gate : is_open journal ≡ true
-  pub gives : (image : Image) → image.journal ≡ journal → StandsFor document image
+-- the document's new length
+abbrev pub new_size : Change → ℕ
+new_size (Whole size) = size
+new_size (Blocks count size) = size
+
+-- the journal holds this change
+abbrev pub HoldsChange : List ℕ → Change → Type 0
+HoldsChange journal (Whole size) = (form_in journal ≡ WHOLE) × (size ≡ size_in journal)
+HoldsChange journal (Blocks count size) = (form_in journal ≡ BLOCKS) × (count ≡ count_in journal) × (size ≡ size_in journal)
+
+-- the journal is open, isn't damaged, and holds this change
+pub record IsOpenWith (change : Change) (image : Image) : Type 0 where
+  pub gate : is_open image.journal ≡ true
+  pub whole : is_whole image ≡ true
+  pub holds : HoldsChange image.journal change
 
 -- what `open` finds in the journal
 abbrev pub Finds : Image → Found → Type 0
 Finds image Closed = IsClosed image.journal
 Finds image NoGate = length image.journal < HEADER
-Finds image (Whole bytes) = IsOpenWith bytes.items image.journal
-
--- the journal with the gate as it was, and this document behind it
-abbrev pub staged : List ℕ → List ℕ → List ℕ
-staged document journal = take 1 journal ++ to_le_bytes w64 (length document) ++ document
+Finds image (Open change) = IsOpenWith change image
 
 -- while a document is staged: the document area is as it was, and the gate is closed
 abbrev pub IsStaging : Image → Image → Type 0
@@ -32,6 +40,16 @@ IsStaging old image = (image.document ≡ old.document) × IsClosed image.journa
 abbrev pub IsGating : Image → Image → Type 0
 IsGating old image = (image.document ≡ old.document) × Torn 0 1 old.journal image.journal
 
--- while the document is written: the journal is as it was
+-- while the journal is carried out: it is as it was, and the image stands for what it stood for
 abbrev pub IsInstalling : Image → Image → Type 0
-IsInstalling old image = image.journal ≡ old.journal
+IsInstalling old image = (image.journal ≡ old.journal) × (restored image ≡ restored old)
+
+-- the journal is open and isn't damaged, and so it is whatever a crash now leaves
+pub record CanInstall {D : Type 0} (reads : D → Image) (may_leave : D → Image → Type 0) (disk : D) : Type 0 where
+  pub gate : is_open (reads disk).journal ≡ true
+  pub whole : is_whole (reads disk) ≡ true
+  pub left : (c : Image) → may_leave disk c → IsInstalling (reads disk) c
+
+-- the gate is closed, whatever a crash now leaves, and the document area is as it was
+abbrev pub CanStage : {D : Type 0} (reads : D → Image) (may_leave : D → Image → Type 0) (disk : D) → Type 0
+CanStage reads may_leave disk = (c : Image) → may_leave disk c → IsStaging (reads disk) c

@@ -1,13 +1,13 @@
 //! The bytes of a disk in memory, and the calls that change them or make them last.
 
 ghost use Rattle.doc_store.specs.Calls.{image_of};
-ghost use Rattle.doc_store.specs.Image.{bytes_of, changed, put};
+ghost use Rattle.store_model.specs.Image.{bytes_of, changed, put};
 ghost use Rattle.doc_store.specs.declared.areas.Call.TheVariants.{Cut, Sync, Write};
 ghost use Rattle.std.specs.Prelude.{◌≡◌, ◌<◌, ◌≤◌, ◌++◌, [], ◌∷◌, IfOk, OnErr, OnOk, Vec, length, take, vec_capacity, vec_len, ℕ};
 ghost use Rattle.std.specs.declared.alloc.Global.{Global};
 
-use crate::area::Area;
 use std::alloc::{AllocError, Global};
+use store_model::area::Area;
 
 /// A call that changes an area, or makes it last.
 #[derive(Drop)]

@@ -1,10 +1,10 @@
 //! The count of a disk's failures.
 
-ghost use Rattle.doc_store.specs.Crash.{Counts, Rose};
+ghost use Rattle.store_model.specs.Crash.{Counts, Rose};
 ghost use Rattle.std.specs.Prelude.{◌≤◌};
 
-use crate::disk::DiskFailure;
 use std::io;
+use store_model::disk::DiskFailure;
 
 /// Counts a failure.
 pub(crate) fn fail(failed: &mut u64) -> DiskFailure

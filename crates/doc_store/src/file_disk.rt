@@ -1,16 +1,16 @@
 //! A disk over two files of the operating system. What real files do is no part of any proof: this disk claims of its
 //! bytes and of crashes nothing, and of its count of failures what each disk claims.
 
-ghost use Rattle.doc_store.specs.Image.{Image};
+ghost use Rattle.store_model.specs.Image.{Image};
 ghost use Rattle.std.specs.Prelude.{◌≡◌, []};
 
-use crate::area::Area;
-use crate::disk::{Disk, DiskFailure};
 use crate::failures::counted;
 use std::fs::{self, File, OpenOptions};
 use std::io;
 use std::os::unix::fs::FileExt;
 use std::path::PathBuf;
+use store_model::area::Area;
+use store_model::disk::{Disk, DiskFailure};
 
 /// How many bytes go to a file or come from it at once.
 const PIECE: usize = 64 * 1024;

@@ -2,17 +2,19 @@
 //! or the one after it.
 #![tactic(auto)]
 
-pub mod area;
 pub mod areas;
-pub mod disk;
+mod calls;
+mod carry;
+mod compare;
 mod failures;
-pub mod fault;
 pub mod file_disk;
+mod find;
 mod found;
-pub mod journal;
-pub mod limit;
 pub mod memory_disk;
 pub mod refused;
 mod runs;
+mod stage;
 mod steps;
 pub mod store;
+
+pub use store_model::{area, disk, fault, journal, limit};

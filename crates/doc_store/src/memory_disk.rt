@@ -2,14 +2,14 @@
 
 ghost use Rattle.doc_store.specs.CallLaws.{here_now, none_but_now, reads_stay_left};
 ghost use Rattle.doc_store.specs.Calls.{LeftAfter, LeftSince, image_of, reads_after};
-ghost use Rattle.doc_store.specs.Image.{Image};
+ghost use Rattle.store_model.specs.Image.{Image};
 ghost use Rattle.std.specs.Prelude.{◌≡◌, length};
 
-use crate::area::Area;
 use crate::areas::{Areas, Call, log_cut, log_sync, log_write};
-use crate::disk::{Disk, DiskFailure};
 use crate::failures::fail;
 use std::alloc::{AllocError, Global};
+use store_model::area::Area;
+use store_model::disk::{Disk, DiskFailure};
 
 /// Which calls of a disk fail.
 #[derive(Clone, Copy, PartialEq, Eq)]
@@ -119,8 +119,8 @@ impl MemoryDisk {
 }
 
 impl Disk for MemoryDisk {
-    ghost use Rattle.doc_store.specs.Crash.{Counts, CutShort, Elapses, Follows, InArea, IsWithin, Torn};
-    ghost use Rattle.doc_store.specs.Image.{bytes_of, changed, put};
+    ghost use Rattle.store_model.specs.Crash.{Counts, CutShort, Elapses, Follows, InArea, IsWithin, Torn};
+    ghost use Rattle.store_model.specs.Image.{bytes_of, changed, put};
     ghost use Rattle.doc_store.specs.Memory.{IsStruck, calls_of, failed_of, faults_of, first_of, left_since_of, may_leave_of, moment_of, reads_of, strikes};
     ghost use Rattle.std.specs.Prelude.{◌≤◌, ◌+◌, false, IfOk, IsOk, OnOk, drop, take};
 

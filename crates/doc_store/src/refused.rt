@@ -1,6 +1,6 @@
 //! A disk that couldn't be opened.
 
-use crate::fault::StoreFault;
+use store_model::fault::StoreFault;
 
 /// Why a disk couldn't be opened, and the disk.
 #[derive(Drop)]

@@ -1,16 +1,16 @@
 //! A document that is committed through a journal.
 
-ghost use Rattle.doc_store.specs.Store.{Rests};
+ghost use Rattle.store_model.specs.Store.{Rests};
 ghost use Rattle.std.specs.Prelude.{◌≡◌, false};
 
-use crate::area::Area;
-use crate::disk::Disk;
-use crate::fault::StoreFault;
-use crate::limit::MAX_DOCUMENT;
 use crate::refused::Refused;
 use crate::runs::{recover, replace};
 use crate::steps::read_document;
 use std::alloc::Global;
+use store_model::area::Area;
+use store_model::disk::Disk;
+use store_model::fault::StoreFault;
+use store_model::limit::MAX_DOCUMENT;
 
 /// A document on a disk. Where it needn't be opened again, a crash leaves what reads give, and the gate of the journal
 /// is closed there.
@@ -23,30 +23,33 @@ pub struct Store<D: Disk> {
 }
 
 impl<D: Disk> Store<D> {
-    ghost use Rattle.doc_store.specs.Crash.{LeavesOnly};
-    ghost use Rattle.doc_store.specs.Image.{Image};
-    ghost use Rattle.doc_store.specs.Journal.{restored};
+    ghost use Rattle.store_model.specs.Changes.{journal_from};
+    ghost use Rattle.store_model.specs.Crash.{StaysIn};
+    ghost use Rattle.store_model.specs.declared.journal.TheConstants.{CLOSED};
+    ghost use Rattle.store_model.specs.Image.{Image};
+    ghost use Rattle.store_model.specs.Journal.{restored};
     ghost use Rattle.doc_store.specs.Opened.{disk_of, needs_reopen_of};
-    ghost use Rattle.doc_store.specs.Store.{CommitRefuses, CurrentRefuses, IsBeforeOrAfter, OpenRefuses, StandsAsOneOf, StandsFor, UnlessDevice};
+    ghost use Rattle.store_model.specs.Store.{CommitRefuses, CurrentRefuses, IsBeforeOrAfter, OpenRefuses, StandsAsOneOf, StandsFor, UnlessDevice};
     ghost use Rattle.std.specs.Prelude.{◌↔◌, ◌≤◌, true, IfErr, IfOk, IsTrue, OnErr, OnOk, length};
 
     /// Opens the store on a disk that a crash may have left, with writes pending too. Its document is that of an open
     /// journal, which is then written and the journal closed, else the document area's.
     ///
-    /// A refusal hands the disk back. `Device` where a call of the disk failed, `Damaged` where an open journal is
-    /// shorter than it says or says more than `MAX_DOCUMENT`, `NoMemory` where no memory is left for the journal's
-    /// document; the last two leave all bytes as they were.
+    /// A refusal hands the disk back. `Device` where a call of the disk failed. `Damaged` where an open journal is
+    /// shorter than it says, says more than `MAX_DOCUMENT` or has another form, or where its blocks don't rise, begin
+    /// past the new length or leave bytes below it that the document area doesn't have; this leaves all bytes as they
+    /// were. No memory is taken.
     pub fn open(alloc: Global, disk: D) -> Result<Store<D>, Refused<D>>
         ensures document { D.follows_model → IfOk result (λ store. restored (D.reads disk) ≡ Some (D.reads (disk_of store)).document) }
         ensures ready { IfOk result (λ store. needs_reopen_of store ≡ false) }
         ensures rests { D.follows_model → IfOk result (λ store. Rests D.reads D.may_leave (disk_of store)) }
-        ensures any_moment { D.follows_model → IfOk result (λ store. LeavesOnly D.moment D.left_since disk (disk_of store) (StandsAsOneOf (D.may_leave disk))) }
-        ensures any_moment_refused { D.follows_model → IfErr result (λ refused. LeavesOnly D.moment D.left_since disk refused.disk (StandsAsOneOf (D.may_leave disk))) }
+        ensures any_moment { D.follows_model → IfOk result (λ store. StaysIn D.may_leave D.moment D.left_since disk (disk_of store) (StandsAsOneOf (D.may_leave disk))) }
+        ensures any_moment_refused { D.follows_model → IfErr result (λ refused. StaysIn D.may_leave D.moment D.left_since disk refused.disk (StandsAsOneOf (D.may_leave disk))) }
         ensures refuses { IfErr result (λ refused. OpenRefuses D.follows_model (D.reads disk) (D.failed disk) (D.failed refused.disk) refused.fault) }
         ensures kept { D.follows_model → IfErr result (λ refused. UnlessDevice (D.reads refused.disk ≡ D.reads disk) refused.fault) }
     {
         let mut disk = disk;
-        match recover(alloc, &mut disk) {
+        match recover(&mut disk) {
             Ok(()) => Ok(Store {
                 alloc,
                 disk,
@@ -66,13 +69,14 @@ impl<D: Disk> Store<D> {
 
     /// The document.
     ///
-    /// `Device` where a call of the disk failed: from then on the store has to be opened again, and answers
-    /// `NeedsReopen`. `NoMemory` changes nothing.
+    /// `Device` where a call of the disk failed: from then on the store has to be opened again, which gives the same
+    /// document, and answers `NeedsReopen`. `NoMemory` changes nothing.
     pub fn current(&mut self) -> Result<Vec<u8>, StoreFault>
         ensures document { D.follows_model → IfOk result (λ bytes. bytes.items ≡ (D.reads (disk_of self.old)).document) }
-        ensures same { D.follows_model → D.reads (disk_of self.new) ≡ D.reads (disk_of self.old) }
+        ensures same { D.follows_model → OnOk result (D.reads (disk_of self.new) ≡ D.reads (disk_of self.old)) }
+        ensures kept { D.follows_model → IfErr result (UnlessDevice (D.reads (disk_of self.new) ≡ D.reads (disk_of self.old))) }
         ensures any_moment { D.follows_model → needs_reopen_of self.old ≡ false
-            → LeavesOnly D.moment D.left_since (disk_of self.old) (disk_of self.new) (StandsFor (D.reads (disk_of self.old)).document) }
+            → StaysIn D.may_leave D.moment D.left_since (disk_of self.old) (disk_of self.new) (StandsFor (D.reads (disk_of self.old)).document) }
         ensures ready { OnOk result ((needs_reopen_of self.old ≡ false) × (needs_reopen_of self.new ≡ false)) }
         ensures refuses { IfErr result (CurrentRefuses (needs_reopen_of self.old) (needs_reopen_of self.new) (D.failed (disk_of self.old)) (D.failed (disk_of self.new))) }
         ensures untouched { needs_reopen_of self.old ≡ true → self.new ≡ self.old }
@@ -88,15 +92,17 @@ impl<D: Disk> Store<D> {
     }
 
     /// Makes these bytes the document. A crash at any moment of the call leaves the document from before it or this
-    /// one, and once it has answered `Ok`, this one.
+    /// one, and once it has answered `Ok`, this one. The journal is left closed, with the blocks that differed.
     ///
     /// `NeedsReopen` after an earlier `Device`, and `TooBig` where there are more bytes than `MAX_DOCUMENT`: they leave
     /// all as it was. `Device` where a call of the disk failed: from then on the store has to be opened again, which
     /// gives the document from before the call or this one.
     pub fn commit(&mut self, bytes: &[u8]) -> Result<(), StoreFault>
         ensures document { D.follows_model → OnOk result ((D.reads (disk_of self.new)).document ≡ bytes.now) }
+        ensures durable { D.follows_model → OnOk result ((c : Image) → D.may_leave (disk_of self.new) c → StandsFor bytes.now c) }
+        ensures journal { D.follows_model → OnOk result ((D.reads (disk_of self.new)).journal ≡ journal_from CLOSED (D.reads (disk_of self.old)).document bytes.now) }
         ensures any_moment { D.follows_model → needs_reopen_of self.old ≡ false
-            → LeavesOnly D.moment D.left_since (disk_of self.old) (disk_of self.new) (IsBeforeOrAfter (D.reads (disk_of self.old)).document bytes.now) }
+            → StaysIn D.may_leave D.moment D.left_since (disk_of self.old) (disk_of self.new) (IsBeforeOrAfter (D.reads (disk_of self.old)).document bytes.now) }
         ensures after_device { D.follows_model → needs_reopen_of self.old ≡ false
             → IsBeforeOrAfter (D.reads (disk_of self.old)).document bytes.now (D.reads (disk_of self.new)) }
         ensures ready { OnOk result ((needs_reopen_of self.old ≡ false) × (length bytes.now ≤ MAX_DOCUMENT) × (needs_reopen_of self.new ≡ false)) }

@@ -112,7 +112,7 @@ fn refusals_have_their_reasons(rt: HostRuntime) {
     let alloc = rt.alloc();
     assert!(rt; is_damaged(&rt, alloc, b"\x01\x05\0\0\0\0\0\0\0four"));
     assert!(rt; is_damaged(&rt, alloc, b"\x01\xff\xff\xff\xff\xff\xff\xff\xff"));
-    assert!(rt; is_damaged(&rt, alloc, b"\x01\x01\x02\x6d\0\0\0\0\0"));
+    assert!(rt; is_damaged(&rt, alloc, b"\x01\x01\x02\x65\x04\0\0\0\0"));
     assert!(rt; fails(&rt, alloc));
     let greatest = vec![in alloc; 7u8; MAX_DOCUMENT as usize + 1].expect(&rt, "memory");
     assert!(rt; greatest.len() == MAX_DOCUMENT as usize + 1);

@@ -57,6 +57,17 @@ fn are_committed(rt: &HostRuntime, name: &str, long: &[u8]) -> bool {
         && is_file(rt, name, b"short")
 }
 
+/// Whether a journal has one block, for a document of five bytes.
+fn is_short_journal(rt: &HostRuntime, name: &str) -> bool {
+    match fs::read(rt, name) {
+        Ok(found) => {
+            found.len() == 529
+                && found.starts_with(b"\0\x05\0\0\0\0\0\0\x01\x01\0\0\0\0\0\0\0short")
+        }
+        Err(_) => false,
+    }
+}
+
 /// Whether a journal that a crash left open is carried out.
 fn is_carried_out(rt: &HostRuntime, name: &str, journal: &str) -> bool {
     fs::write(rt, journal, b"\x01\x03\0\0\0\0\0\0\0new").is_ok()
@@ -81,7 +92,7 @@ fn files_are_made_committed_and_opened_again(rt: HostRuntime) {
     let journal = format!(in alloc; "{name}.journal").expect(&rt, "memory");
     let long = vec![in alloc; 9u8; 200_000].expect(&rt, "memory");
     assert!(rt; are_committed(&rt, name.as_str(), &long));
-    assert!(rt; is_file(&rt, journal.as_str(), b"\0\x05\0\0\0\0\0\0\0short"));
+    assert!(rt; is_short_journal(&rt, journal.as_str()));
     assert!(rt; is_carried_out(&rt, name.as_str(), journal.as_str()));
     // A folder isn't opened.
     assert!(rt; FileDisk::open(&rt, folder.as_str()).is_err());

@@ -1,7 +1,7 @@
 use Rattle.std.proofs.Common.{length, sym, ◌∙◌, ap, subst}
 use Rattle.doc_store.specs.Calls.{image_of}
-use Rattle.doc_store.specs.Crash.{InArea, Torn}
-use Rattle.doc_store.specs.Image.{bytes_of, changed, put}
+use Rattle.store_model.specs.Crash.{InArea, Torn}
+use Rattle.store_model.specs.Image.{bytes_of, changed, put}
 use Rattle.doc_store.specs.declared.areas.Call.TheVariants.{Write}
 use Rattle.doc_store.proofs.Kept.{elapses_to, left_by_last, replayed_to}
 use Rattle.doc_store.proofs.memory_disk.MemoryDiskDisk.write.Goals as goal

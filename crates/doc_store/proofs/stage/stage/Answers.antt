@@ -1,0 +1,93 @@
+use Rattle.std.proofs.Common.{◌≡◌, ◌+◌, ◌*◌, ◌∙◌, ◌++◌, ℕ, List, ap, get_or, length, refl, take}
+use Rattle.store_model.specs.Changes.{changes, head_of, journal_from, spelled}
+use Rattle.store_model.specs.Image.{changed}
+use Rattle.store_model.specs.declared.area.Area.TheVariants.{Journal}
+use Rattle.doc_store.specs.Steps.{IsStaging}
+use Rattle.doc_store.proofs.Moments.{then_leaves, then_quiet}
+use Rattle.doc_store.proofs.Staged.{changes_long, headed, tail_there}
+use Rattle.doc_store.proofs.Under.{stages_on}
+use Rattle.doc_store.proofs.stage.stage.Goals as goal
+
+pub end_journal-requires-clause-there : goal.end_journal-requires-clause-there
+end_journal-requires-clause-there g c model =
+    let disk = c.args.disk.now in
+    let reads = g.D.Disk.reads in
+    let old : List ℕ = (reads disk).document in
+    let new : List ℕ = c.args.document.now in
+    let gate : ℕ = get_or (reads disk).journal 0 0 in
+    let begun = (c.begin_journal.ensures.stays model).now (reads c.begin_journal.new.disk) (g.met.D.Disk.reads_are_left c.begin_journal.new.disk) in
+    let written = (c.write_changes.ensures.stays model).now (reads c.write_changes.new.disk) (g.met.D.Disk.reads_are_left c.write_changes.new.disk) in
+    let run = then_leaves g.D.Disk.may_leave g.D.Disk.moment g.D.Disk.left_since disk c.begin_journal.new.disk c.write_changes.new.disk (IsStaging (reads c.begin_journal.new.disk)) (IsStaging (reads disk)) (c.begin_journal.ensures.stays model) (c.write_changes.ensures.stays model)
+    (λ i is. stages_on (reads disk) (reads c.begin_journal.new.disk) i begun is) in
+    let n : ℕ = c.in_ok-count.count in
+    let is_n : n ≡ length (changes old new) = c.in_ok-count.ensures.blocks model ∙ ap (λ (d : List ℕ). length (changes d new)) begun.0 in
+    let front : take (13 + 516 * n) (reads c.write_changes.new.disk).journal ≡ head_of gate (length new) 0 ++ spelled (changes old new) =
+    c.in_ok-count.ensures.written model ∙ ap (λ (d : List ℕ). take 13 (reads c.begin_journal.new.disk).journal ++ spelled (changes d new)) begun.0
+    ∙ ap (λ (l : List ℕ). l ++ spelled (changes old new)) (c.in_ok-begin_journal.ensures.written model) in
+    tail_there n (head_of gate (length new) 0) (spelled (changes old new)) (reads c.write_changes.new.disk).journal refl (changes_long n old new is_n) front
+
+pub returns-in_err-end_journal-clause-stays : goal.returns-in_err-end_journal-clause-stays
+returns-in_err-end_journal-clause-stays g c model =
+    let disk = c.args.disk.now in
+    let reads = g.D.Disk.reads in
+    let old : List ℕ = (reads disk).document in
+    let new : List ℕ = c.args.document.now in
+    let gate : ℕ = get_or (reads disk).journal 0 0 in
+    let begun = (c.begin_journal.ensures.stays model).now (reads c.begin_journal.new.disk) (g.met.D.Disk.reads_are_left c.begin_journal.new.disk) in
+    let written = (c.write_changes.ensures.stays model).now (reads c.write_changes.new.disk) (g.met.D.Disk.reads_are_left c.write_changes.new.disk) in
+    let run = then_leaves g.D.Disk.may_leave g.D.Disk.moment g.D.Disk.left_since disk c.begin_journal.new.disk c.write_changes.new.disk (IsStaging (reads c.begin_journal.new.disk)) (IsStaging (reads disk)) (c.begin_journal.ensures.stays model) (c.write_changes.ensures.stays model)
+    (λ i is. stages_on (reads disk) (reads c.begin_journal.new.disk) i begun is) in
+    let ended = then_leaves g.D.Disk.may_leave g.D.Disk.moment g.D.Disk.left_since disk c.write_changes.new.disk c.end_journal.new.disk (IsStaging (reads c.write_changes.new.disk)) (IsStaging (reads disk)) run (c.end_journal.ensures.stays model)
+    (λ i is. stages_on (reads disk) (reads c.write_changes.new.disk) i (stages_on (reads disk) (reads c.begin_journal.new.disk) (reads c.write_changes.new.disk) begun written) is) in
+    ended
+
+pub returns-in_err-sync_area-clause-stays : goal.returns-in_err-sync_area-clause-stays
+returns-in_err-sync_area-clause-stays g c model =
+    let disk = c.args.disk.now in
+    let reads = g.D.Disk.reads in
+    let old : List ℕ = (reads disk).document in
+    let new : List ℕ = c.args.document.now in
+    let gate : ℕ = get_or (reads disk).journal 0 0 in
+    let begun = (c.begin_journal.ensures.stays model).now (reads c.begin_journal.new.disk) (g.met.D.Disk.reads_are_left c.begin_journal.new.disk) in
+    let written = (c.write_changes.ensures.stays model).now (reads c.write_changes.new.disk) (g.met.D.Disk.reads_are_left c.write_changes.new.disk) in
+    let run = then_leaves g.D.Disk.may_leave g.D.Disk.moment g.D.Disk.left_since disk c.begin_journal.new.disk c.write_changes.new.disk (IsStaging (reads c.begin_journal.new.disk)) (IsStaging (reads disk)) (c.begin_journal.ensures.stays model) (c.write_changes.ensures.stays model)
+    (λ i is. stages_on (reads disk) (reads c.begin_journal.new.disk) i begun is) in
+    let ended = then_leaves g.D.Disk.may_leave g.D.Disk.moment g.D.Disk.left_since disk c.write_changes.new.disk c.end_journal.new.disk (IsStaging (reads c.write_changes.new.disk)) (IsStaging (reads disk)) run (c.end_journal.ensures.stays model)
+    (λ i is. stages_on (reads disk) (reads c.write_changes.new.disk) i (stages_on (reads disk) (reads c.begin_journal.new.disk) (reads c.write_changes.new.disk) begun written) is) in
+    then_quiet g.D.Disk.may_leave g.D.Disk.moment g.D.Disk.left_since disk c.end_journal.new.disk c.sync_area.new.disk (IsStaging (reads disk)) ended (c.sync_area.ensures.quiet model)
+
+pub returns-clause-staged : goal.returns-clause-staged
+returns-clause-staged g c model =
+    let disk = c.args.disk.now in
+    let reads = g.D.Disk.reads in
+    let old : List ℕ = (reads disk).document in
+    let new : List ℕ = c.args.document.now in
+    let gate : ℕ = get_or (reads disk).journal 0 0 in
+    let begun = (c.begin_journal.ensures.stays model).now (reads c.begin_journal.new.disk) (g.met.D.Disk.reads_are_left c.begin_journal.new.disk) in
+    let written = (c.write_changes.ensures.stays model).now (reads c.write_changes.new.disk) (g.met.D.Disk.reads_are_left c.write_changes.new.disk) in
+    let run = then_leaves g.D.Disk.may_leave g.D.Disk.moment g.D.Disk.left_since disk c.begin_journal.new.disk c.write_changes.new.disk (IsStaging (reads c.begin_journal.new.disk)) (IsStaging (reads disk)) (c.begin_journal.ensures.stays model) (c.write_changes.ensures.stays model)
+    (λ i is. stages_on (reads disk) (reads c.begin_journal.new.disk) i begun is) in
+    let n : ℕ = c.in_ok-count.count in
+    let is_n : n ≡ length (changes old new) = c.in_ok-count.ensures.blocks model ∙ ap (λ (d : List ℕ). length (changes d new)) begun.0 in
+    let front : take (13 + 516 * n) (reads c.write_changes.new.disk).journal ≡ head_of gate (length new) 0 ++ spelled (changes old new) =
+    c.in_ok-count.ensures.written model ∙ ap (λ (d : List ℕ). take 13 (reads c.begin_journal.new.disk).journal ++ spelled (changes d new)) begun.0
+    ∙ ap (λ (l : List ℕ). l ++ spelled (changes old new)) (c.in_ok-begin_journal.ensures.written model) in
+    c.in_ok-sync_area.ensures.same model ∙ c.in_ok-end_journal.ensures.written model
+    ∙ ap (λ (l : List ℕ). changed Journal l (reads c.write_changes.new.disk)) (headed gate (length new) n (spelled (changes old new)) (reads c.write_changes.new.disk).journal (changes_long n old new is_n) front
+    ∙ ap (λ (m : ℕ). head_of gate (length new) m ++ spelled (changes old new)) is_n)
+    ∙ ap (λ (d : List ℕ). record { document = d; journal = journal_from gate old new }) (written.0 ∙ begun.0)
+
+pub returns-clause-stays : goal.returns-clause-stays
+returns-clause-stays g c model =
+    let disk = c.args.disk.now in
+    let reads = g.D.Disk.reads in
+    let old : List ℕ = (reads disk).document in
+    let new : List ℕ = c.args.document.now in
+    let gate : ℕ = get_or (reads disk).journal 0 0 in
+    let begun = (c.begin_journal.ensures.stays model).now (reads c.begin_journal.new.disk) (g.met.D.Disk.reads_are_left c.begin_journal.new.disk) in
+    let written = (c.write_changes.ensures.stays model).now (reads c.write_changes.new.disk) (g.met.D.Disk.reads_are_left c.write_changes.new.disk) in
+    let run = then_leaves g.D.Disk.may_leave g.D.Disk.moment g.D.Disk.left_since disk c.begin_journal.new.disk c.write_changes.new.disk (IsStaging (reads c.begin_journal.new.disk)) (IsStaging (reads disk)) (c.begin_journal.ensures.stays model) (c.write_changes.ensures.stays model)
+    (λ i is. stages_on (reads disk) (reads c.begin_journal.new.disk) i begun is) in
+    let ended = then_leaves g.D.Disk.may_leave g.D.Disk.moment g.D.Disk.left_since disk c.write_changes.new.disk c.end_journal.new.disk (IsStaging (reads c.write_changes.new.disk)) (IsStaging (reads disk)) run (c.end_journal.ensures.stays model)
+    (λ i is. stages_on (reads disk) (reads c.write_changes.new.disk) i (stages_on (reads disk) (reads c.begin_journal.new.disk) (reads c.write_changes.new.disk) begun written) is) in
+    then_quiet g.D.Disk.may_leave g.D.Disk.moment g.D.Disk.left_since disk c.end_journal.new.disk c.sync_area.new.disk (IsStaging (reads disk)) ended (c.sync_area.ensures.quiet model)

@@ -1,0 +1,14 @@
+use Rattle.std.proofs.Common.{inl, subst, sym}
+use Rattle.store_model.specs.Store.{IsBeforeOrAfter, StandsFor}
+use Rattle.doc_store.proofs.Gating.{closed_stands}
+use Rattle.doc_store.proofs.Moments.{begun}
+use Rattle.doc_store.specs.Opened.{disk_of}
+use Rattle.doc_store.proofs.store.Store.commit.Goals as goal
+
+pub returns-then-bytes-gt-MAX_DOCUMENT-clause-any_moment : goal.returns-then-bytes-gt-MAX_DOCUMENT-clause-any_moment
+returns-then-bytes-gt-MAX_DOCUMENT-clause-any_moment g c model ready =
+    let disk = disk_of c.args.self.now in
+    let reads = g.D.Disk.reads in
+    let rests = c.args.self.now.rests ready model in
+    begun g.D.Disk.may_leave g.D.Disk.moment g.D.Disk.left_since disk (IsBeforeOrAfter (reads disk).document c.args.bytes.now) (g.met.D.Disk.only_now disk)
+    (λ i left. inl (subst (λ b. StandsFor (reads disk).document b) (sym (rests.durable i left)) (closed_stands (reads disk) rests.closed)))
