@@ -7,6 +7,7 @@ use Rattle.std.proofs.lemmas.Map.Steps.{length-le_from_distinct_below}
 use Rattle.std.proofs.lemmas.Bool.{cases_Bool, eqb-true}
 use Rattle.cfb_chain.specs.Bytes.{joined}
 use Rattle.cfb_chain.specs.Chain.{AreDistinct, END_OF_CHAIN, IsChain, IsChainOf, IsPresent, Leads, Store}
+use Rattle.cfb_chain.specs.Header.{HeaderValue, difat_by, fat_by}
 use Rattle.cfb_chain.specs.Fat.{AreFree, AreSame, FatValue, IsFat, IsFound, IsFree, IsFreeChain, MayRefuse, MayRefuseChain, MayRefuseFat, sectors_of, store_of}
 use Rattle.cfb_chain.specs.declared.fault.ChainFault.{ChainFault}
 use Rattle.cfb_chain.specs.declared.fault.ChainFault.TheVariants.{Truncated, BadSignature, Unsupported, OutOfFile, Cycle, CrossLinked, ShortChain, TooBig, NoMemory}
@@ -121,16 +122,21 @@ module _ (f : FatValue) (few : length f.table ≤ 0xFFFFFFF9) (start bytes : ℕ
   refused_not TooBig r = absurd r
   refused_not NoMemory r = refl
 
-pub refused_not_fat : (file fat : List ℕ) (e : ChainFault) → IsFat file fat → MayRefuseFat file fat e → e ≡ NoMemory
-refused_not_fat file fat Truncated h r = absurd r
-refused_not_fat file fat BadSignature h r = absurd r
-refused_not_fat file fat (Unsupported n) h r = absurd r
-refused_not_fat file fat OutOfFile h r = absurd (r.2 (All-contains (IsPresent (sectors_of file fat)) fat r.0 h.present r.1))
-refused_not_fat file fat Cycle h r = absurd r
-refused_not_fat file fat CrossLinked h r = absurd (r h.once)
-refused_not_fat file fat ShortChain h r = absurd r
-refused_not_fat file fat TooBig h r = absurd r
-refused_not_fat file fat NoMemory h r = refl
+-- what stands behind distinct numbers is distinct
+distinct_behind : (xs ys : List ℕ) → AreDistinct (xs ++ ys) → AreDistinct ys
+distinct_behind [] ys h = h
+distinct_behind (x ∷ xs) ys h = distinct_behind xs ys (λ i j d l m. h (suc i) (suc j) d (omega arith) (omega arith))
+
+pub refused_not_fat : (file : List ℕ) (v : HeaderValue) (e : ChainFault) → IsFat file v → MayRefuseFat file v e → e ≡ NoMemory
+refused_not_fat file v Truncated h r = absurd r
+refused_not_fat file v BadSignature h r = absurd r
+refused_not_fat file v (Unsupported n) h r = absurd r
+refused_not_fat file v OutOfFile h r = absurd (r.2 (All-contains (IsPresent (sectors_of file (fat_by file v))) (fat_by file v ++ difat_by file v) r.0 h.present r.1))
+refused_not_fat file v Cycle h r = absurd (r (distinct_behind (fat_by file v) (difat_by file v) h.once))
+refused_not_fat file v CrossLinked h r = absurd (r h.once)
+refused_not_fat file v ShortChain h r = absurd (omega (arith, h.whole, r))
+refused_not_fat file v TooBig h r = absurd r
+refused_not_fat file v NoMemory h r = refl
 
 -- a store has one chain from a sector
 pub chain_one : (s : Store) (start : ℕ) (ns ms : List ℕ) → IsChain s start 0 ns → IsChain s start 0 ms → ns ≡ ms

@@ -11,6 +11,7 @@ use Rattle.std.proofs.lemmas.List.Elements.{All-cons, All-head, All-tail, All-ap
 use Rattle.std.specs.List.{All, Contains}
 use Rattle.cfb_chain.specs.Chain.{AreDistinct, IsPresent}
 use Rattle.cfb_chain.specs.Fat.{AreFree, FatValue, IsFree, IsTableOf, marked, sectors_of, set_all}
+use Rattle.cfb_chain.specs.Header.{HeaderValue, difat_by, fat_by}
 
 -- numbers of which no two are equal
 pub distinct_tail : (n : ℕ) (ns : List ℕ) → AreDistinct (n ∷ ns) → AreDistinct ns
@@ -97,8 +98,9 @@ pub record Marks (f : FatValue) (ns : List ℕ) : Type 0 where
   pub once : AreDistinct ns
 
 -- a table that was loaded marks the FAT's sectors
-pub marks_load : (file fat : List ℕ) (f : FatValue) → IsTableOf file fat f → Marks f fat
-marks_load file fat f h =
+pub marks_load : (file : List ℕ) (v : HeaderValue) (f : FatValue) → IsTableOf file v f → Marks f (fat_by file v ++ difat_by file v)
+marks_load file v f h =
+    let fat : List ℕ = fat_by file v ++ difat_by file v in
     let fresh : List Bool = replicate (length f.table) false in
     let long : length f.used ≡ length f.table =
     ap length h.marks ∙ length-set_all fresh fat ∙ length-replicate (length f.table) false in
@@ -106,7 +108,7 @@ marks_load file fat f h =
       each = sym long;
       listed = All-weaker (Contains fat) (IsMarked f)
           (λ n c. (
-            subst (λ k. n < k) (sym h.sectors.count) (All-contains (IsPresent (sectors_of file fat)) fat n h.is_fat.present c).1,
+            subst (λ k. n < k) (sym h.sectors.count) (All-contains (IsPresent (sectors_of file (fat_by file v))) fat n h.is_fat.present c).1,
             subst (λ used. get_or used n true ≡ true) (sym h.marks) (marked_by fresh fat n c),
           ))
           fat (All-contains_itself fat);

@@ -1,5 +1,5 @@
 -- What a written header reads as.
-use Rattle.std.proofs.Common.{◌≡◌, ◌<◌, ◌≤◌, ◌+◌, ◌-◌, ◌*◌, ◌^◌, ◌++◌, ◌∷◌, [], ℕ, zero, suc, List, Ok, length, drop, get_or, map, replicate, refl, sym, subst, ap, ◌∙◌, arith, append_assoc, length-append, length-drop}
+use Rattle.std.proofs.Common.{◌≡◌, ◌<◌, ◌≤◌, ◌+◌, ◌-◌, ◌*◌, ◌^◌, ◌++◌, ◌∷◌, [], ℕ, zero, suc, List, Ok, length, drop, get_or, map, replicate, refl, sym, subst, ap, ◌∙◌, arith, min, append_assoc, length-append, length-drop}
 use Rattle.std.proofs.Math.Seq.{drop-append-add}
 use Rattle.std.proofs.lemmas.List.{length-replicate, drop-append-le, take-append-le}
 use Rattle.std.proofs.lemmas.List.FromFn.{fill_by_all}
@@ -7,8 +7,7 @@ use Rattle.std.proofs.lemmas.Nat.{from_le_bytes-to_le_bytes_4}
 use Rattle.std.specs.Int.{w32, to_le_bytes}
 use Rattle.std.specs.List.{All, flat_map, range_with_len}
 use Rattle.cfb_chain.specs.Bytes.{u16_at, u32_at}
-use Rattle.cfb_chain.specs.Chain.{END_OF_CHAIN}
-use Rattle.cfb_chain.specs.Header.{FitsHeader, HeaderValue, IsHeader, fat_count, first_directory, first_mini_fat, header_bytes, header_of, header_read, listed, mini_fat_count, signature}
+use Rattle.cfb_chain.specs.Header.{FitsHeader, HeaderValue, IsHeader, MOST_DIFAT_SECTORS, MOST_FAT_SECTORS, difat_count, fat_count, first_difat, first_directory, first_mini_fat, header_bytes, header_of, header_read, listed_first, mini_fat_count, signature}
 use Rattle.cfb_chain.proofs.Headers.{read_whole}
 
 -- a number lies in the front, or behind it
@@ -40,9 +39,9 @@ u32_at_number (n ∷ ns) rest (suc k) fits h =
 abbrev pub front : HeaderValue → List ℕ
 front h = signature ++ replicate 16 0
     ++ (0x3E ∷ 0 ∷ 3 ∷ 0 ∷ 0xFE ∷ 0xFF ∷ 9 ∷ 0 ∷ 6 ∷ 0 ∷ []) ++ replicate 10 0
-    ++ to_le_bytes w32 (length h.fat) ++ to_le_bytes w32 h.first_directory ++ replicate 4 0 ++ (0 ∷ 16 ∷ 0 ∷ 0 ∷ [])
+    ++ to_le_bytes w32 h.fat_count ++ to_le_bytes w32 h.first_directory ++ replicate 4 0 ++ (0 ∷ 16 ∷ 0 ∷ 0 ∷ [])
     ++ to_le_bytes w32 h.first_mini_fat ++ to_le_bytes w32 h.mini_fat_count
-    ++ to_le_bytes w32 END_OF_CHAIN ++ replicate 4 0
+    ++ to_le_bytes w32 h.first_difat ++ to_le_bytes w32 h.difat_count
 
 pub length_numbers : (ns : List ℕ) → length (flat_map (to_le_bytes w32) ns) ≡ 4 * length ns
 length_numbers [] = refl
@@ -60,9 +59,9 @@ length_written h le =
     length-append (front h) (numbers ++ free) ∙ d
 
 module _ (h : HeaderValue) (rest : List ℕ) (fits : FitsHeader h) where
-  pub written_fat_count : fat_count (header_bytes h ++ rest) ≡ length h.fat
+  pub written_fat_count : fat_count (header_bytes h ++ rest) ≡ h.fat_count
   unfolding header_bytes u32_at
-  written_fat_count = from_le_bytes-to_le_bytes_4 (length h.fat) (omega (arith, fits.listed))
+  written_fat_count = from_le_bytes-to_le_bytes_4 h.fat_count (omega (arith, fits.fat_count))
 
   pub written_first_directory : first_directory (header_bytes h ++ rest) ≡ h.first_directory
   unfolding header_bytes u32_at
@@ -71,6 +70,14 @@ module _ (h : HeaderValue) (rest : List ℕ) (fits : FitsHeader h) where
   pub written_first_mini_fat : first_mini_fat (header_bytes h ++ rest) ≡ h.first_mini_fat
   unfolding header_bytes u32_at
   written_first_mini_fat = from_le_bytes-to_le_bytes_4 h.first_mini_fat fits.first_mini_fat
+
+  pub written_first_difat : first_difat (header_bytes h ++ rest) ≡ h.first_difat
+  unfolding header_bytes u32_at
+  written_first_difat = from_le_bytes-to_le_bytes_4 h.first_difat fits.first_difat
+
+  pub written_difat_count : difat_count (header_bytes h ++ rest) ≡ h.difat_count
+  unfolding header_bytes u32_at
+  written_difat_count = from_le_bytes-to_le_bytes_4 h.difat_count (omega (arith, fits.difat_count))
 
   pub written_mini_fat_count : mini_fat_count (header_bytes h ++ rest) ≡ h.mini_fat_count
   unfolding header_bytes u32_at
@@ -85,28 +92,29 @@ module _ (h : HeaderValue) (rest : List ℕ) (fits : FitsHeader h) where
       ∙ u32_at_behind (front h) (numbers ++ (free ++ rest)) (4 * k)
       ∙ u32_at_number h.fat (free ++ rest) k fits.fat l
 
-  pub written_listed : listed (header_bytes h ++ rest) ≡ h.fat
+  pub written_listed : listed_first (header_bytes h ++ rest) ≡ h.fat
   written_listed =
       let f = λ (k : ℕ). u32_at (header_bytes h ++ rest) (76 + 4 * k) in
-      ap (λ n. map f (range_with_len 0 n)) written_fat_count
+      ap (λ n. map f (range_with_len 0 (min n 109))) written_fat_count
+      ∙ ap (λ n. map f (range_with_len 0 n)) (sym fits.listed)
       ∙ sym (fill_by_all f h.fat (length h.fat) 0 refl (λ k l. sym (entry k l)))
 
   pub written_is_header : IsHeader (header_bytes h ++ rest)
   unfolding header_bytes u32_at u16_at
   written_is_header = record {
-    whole = omega (arith, length_written h fits.listed, length-append (header_bytes h) rest);
+    whole = omega (arith, length_written h (omega (arith, fits.listed)), length-append (header_bytes h) rest);
     signed = refl;
     major_version = refl;
     byte_order = refl;
     sector_shift = refl;
     mini_sector_shift = refl;
     cutoff = refl;
-    fat_sectors = subst (λ n. n ≤ 109) (sym written_fat_count) fits.listed;
-    difat_sectors = refl;
+    fat_sectors = subst (λ n. n ≤ MOST_FAT_SECTORS) (sym written_fat_count) fits.fat_count;
+    difat_sectors = subst (λ n. n ≤ MOST_DIFAT_SECTORS) (sym written_difat_count) fits.difat_count;
   }
 
   pub written_header : header_of (header_bytes h ++ rest) ≡ h
-  written_header = λ i. record { fat = written_listed i; first_directory = written_first_directory i; first_mini_fat = written_first_mini_fat i; mini_fat_count = written_mini_fat_count i }
+  written_header = λ i. record { fat_count = written_fat_count i; fat = written_listed i; first_difat = written_first_difat i; difat_count = written_difat_count i; first_directory = written_first_directory i; first_mini_fat = written_first_mini_fat i; mini_fat_count = written_mini_fat_count i }
 
   pub written_read : header_read (header_bytes h ++ rest) ≡ Ok h
   written_read = read_whole (header_bytes h ++ rest) written_is_header ∙ ap Ok written_header

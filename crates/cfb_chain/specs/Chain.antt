@@ -11,9 +11,12 @@ END_OF_CHAIN = 0xFFFFFFFE
 abbrev pub FREE_SECTOR : ℕ
 FREE_SECTOR = 0xFFFFFFFF
 
--- the value of a sector that holds a part of the FAT
+-- the value of a sector that holds a part of the FAT, and of one that lists sectors of the FAT
 abbrev pub FAT_SECTOR : ℕ
 FAT_SECTOR = 0xFFFFFFFD
+
+abbrev pub DIFAT_SECTOR : ℕ
+DIFAT_SECTOR = 0xFFFFFFFC
 
 -- The sectors of a file, or the mini sectors of its mini stream: how many there are, of how many bytes, the bytes
 -- of each, and the table of what follows each.

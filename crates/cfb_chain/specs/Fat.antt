@@ -4,7 +4,7 @@ use Rattle.std.specs.List.{All, Contains}
 use Rattle.cfb_chain.specs.Bytes.{u32_at, block, sector, joined}
 use Rattle.cfb_chain.specs.Chain.{Store, Leads, IsPresent, IsChain, IsChainOf, AreDistinct, END_OF_CHAIN}
 pub use Rattle.cfb_bytes.specs.Marks.{set_all}
-use Rattle.cfb_chain.specs.Header.{HeaderValue}
+use Rattle.cfb_chain.specs.Header.{HeaderValue, difat_by, fat_by}
 use Rattle.cfb_chain.specs.declared.fault.ChainFault.{ChainFault}
 use Rattle.cfb_chain.specs.declared.fault.ChainFault.TheVariants.{OutOfFile, Cycle, CrossLinked, ShortChain, NoMemory}
 
@@ -31,10 +31,11 @@ mini_sectors_of file mini_fat mini_stream size = record {
   next = λ m. u32_at (joined (sector file) mini_fat) (4 * m);
 }
 
--- the sectors of the FAT are in the file, each listed once
-pub record IsFat (file : List ℕ) (fat : List ℕ) : Type 0 where
-  pub present : All (IsPresent (sectors_of file fat)) fat
-  pub once : AreDistinct fat
+-- As many FAT sectors are listed as the header says; they and the DIFAT's are in the file, each listed once.
+pub record IsFat (file : List ℕ) (h : HeaderValue) : Type 0 where
+  pub whole : length (fat_by file h) ≡ h.fat_count
+  pub present : All (IsPresent (sectors_of file (fat_by file h))) (fat_by file h ++ difat_by file h)
+  pub once : AreDistinct (fat_by file h ++ difat_by file h)
 
 -- A table of sectors with their bytes: where the first stands, how wide each is, what follows each, which are used.
 pub record FatValue : Type 0 where
@@ -67,11 +68,11 @@ pub record AreSame (s t : Store) : Type 0 where
   pub piece : (n : ℕ) → n < s.count → s.piece n ≡ t.piece n
   pub next : (n : ℕ) → n < s.count → s.next n ≡ t.next n
 
--- the table of a file whose FAT lies in these sectors, which are marked
-pub record IsTableOf (file : List ℕ) (fat : List ℕ) (f : FatValue) : Type 0 where
-  pub is_fat : IsFat file fat
-  pub sectors : AreSame (store_of f) (sectors_of file fat)
-  pub marks : f.used ≡ set_all (replicate (length f.table) false) fat
+-- the table of a file with this header, in which the FAT's sectors and the DIFAT's are marked
+pub record IsTableOf (file : List ℕ) (h : HeaderValue) (f : FatValue) : Type 0 where
+  pub is_fat : IsFat file h
+  pub sectors : AreSame (store_of f) (sectors_of file (fat_by file h))
+  pub marks : f.used ≡ set_all (replicate (length f.table) false) (fat_by file h ++ difat_by file h)
 
 -- the whole chain from a sector, of unused sectors
 pub record IsFreeChain (f : FatValue) (start : ℕ) (ns : List ℕ) : Type 0 where
@@ -108,12 +109,15 @@ pub record IsMiniTable (f : FatValue) (mini_fat mini_stream : List ℕ) (size : 
   })
   pub marks : m.used ≡ replicate (length m.table) false
 
--- when a fault may be answered for a FAT: want of memory only where its sectors are there
-abbrev pub MayRefuseFat : List ℕ → List ℕ → ChainFault → Type 0
-MayRefuseFat file fat OutOfFile = (n : ℕ) × Contains fat n × (IsPresent (sectors_of file fat) n → ⊥)
-MayRefuseFat file fat CrossLinked = AreDistinct fat → ⊥
-MayRefuseFat file fat NoMemory = All (IsPresent (sectors_of file fat)) fat
-MayRefuseFat file fat _ = ⊥
+-- when a fault may be answered for the FAT of a file with this header: want of memory only where enough are listed, and
+-- those that the header names are there
+abbrev pub MayRefuseFat : List ℕ → HeaderValue → ChainFault → Type 0
+MayRefuseFat file h OutOfFile = (n : ℕ) × Contains (fat_by file h ++ difat_by file h) n × (IsPresent (sectors_of file (fat_by file h)) n → ⊥)
+MayRefuseFat file h Cycle = AreDistinct (difat_by file h) → ⊥
+MayRefuseFat file h CrossLinked = AreDistinct (fat_by file h ++ difat_by file h) → ⊥
+MayRefuseFat file h ShortChain = length (fat_by file h) < h.fat_count
+MayRefuseFat file h NoMemory = (length (fat_by file h) ≡ h.fat_count) × All (IsPresent (sectors_of file (fat_by file h))) h.fat
+MayRefuseFat file h _ = ⊥
 
 -- when a fault may be answered for the chain from a sector that needs room for some bytes: want of memory only where the
 -- chain is there

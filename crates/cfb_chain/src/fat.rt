@@ -1,15 +1,17 @@
 //! The table of sectors and its chains (MS-CFB 2.3, 2.4).
 
 ghost use Rattle.cfb_chain.specs.Bytes.{block, joined};
-ghost use Rattle.cfb_chain.specs.Chain.{FREE_SECTOR, IsChain};
+ghost use Rattle.cfb_chain.specs.Chain.{AreDistinct, FREE_SECTOR, IsChain};
+ghost use Rattle.cfb_chain.specs.Header.{NAMED, difat_by, fat_by};
 ghost use Rattle.cfb_chain.specs.Fat.{AreFree, FatValue, IsFat, IsFound, IsFree, IsFreeChain, IsMiniFound, IsMiniTable, IsTableOf, MayRefuse, MayRefuseChain, MayRefuseFat, MayRefuseMini, followed, held, marked, sectors_in, store_of};
 ghost use Rattle.cfb_chain.specs.View.{bytes_of, image_bytes, start_of, width_of};
-ghost use Rattle.cfb_chain.specs.declared.fault.ChainFault.TheVariants.{CrossLinked, NoMemory, OutOfFile};
+ghost use Rattle.cfb_chain.specs.declared.fault.ChainFault.TheVariants.{CrossLinked, Cycle, NoMemory, OutOfFile, ShortChain};
 ghost use Rattle.std.specs.List.{All, Contains};
 ghost use Rattle.std.specs.Prelude.{◌*◌, ◌+◌, ◌++◌, ◌<◌, ◌^◌, ◌≡◌, ◌≢◌, ◌≤◌, ◌⊎◌, IfErr, IfNone, IfOk, IfSome, List, OnErr, OnOk, length, slice_index, take, ℕ};
 
+use crate::difat::{FatSectors, fat_sectors};
 use crate::fault::ChainFault;
-use crate::header::Header;
+use crate::header::{Header, NAMED};
 use crate::image::{Image, join_placed};
 use crate::sectors::{MINI_SECTOR, SECTOR, join_blocks, numbers, run_of};
 use crate::table::{count_entries, follow, table_in};
@@ -111,27 +113,71 @@ fn check_present(sectors: &[u32], count: usize) -> Result<(), ChainFault>
     Ok(())
 }
 
-impl<'a> Fat<'a> {
-    /// The table of a file. It marks its own sectors.
-    ///
-    /// Refused: `OutOfFile` where a listed sector isn't in the file; then `NoMemory`; then `CrossLinked` where one is
-    /// listed twice.
-    pub fn load(alloc: Global, header: &Header, file: Image<'a>) -> Result<Fat<'a>, ChainFault>
-        ensures table { IfOk result (λ f. IsTableOf (image_bytes file.entry) header.now.fat f) }
-        ensures refused { IfErr result (MayRefuseFat (image_bytes file.entry) header.now.fat) }
-        ensures there { IsFat (image_bytes file.entry) header.now.fat → IfErr result (λ e. e ≡ NoMemory) }
+/// Refuses a header whose list and DIFAT have room for fewer FAT sectors than it says.
+fn check_room(header: &Header) -> Result<(), ChainFault>
+    ensures enough { OnOk result (header.now.fat_count ≤ length header.now.fat + NAMED * header.now.difat_count) }
+    ensures refused { IfErr result (λ e. (e ≡ ShortChain) × (length header.now.fat + NAMED * header.now.difat_count < header.now.fat_count)) }
+{
+    let room = header.fat().len() + NAMED * header.difat_count() as usize;
+    if header.fat_count() as usize > room {
+        return Err(ChainFault::ShortChain);
+    }
+    Ok(())
+}
+
+/// Refuses a DIFAT that comes back to one of its sectors.
+fn check_apart(difat: &[u32]) -> Result<(), ChainFault>
+    ensures apart { OnOk result (AreDistinct difat.now) }
+    ensures refused { IfErr result (λ e. (e ≡ Cycle) × (AreDistinct difat.now → ⊥)) }
+{
+    for k in 0..difat.len() {
+        if difat[..k].contains(&difat[k]) {
+            return Err(ChainFault::Cycle);
+        }
+    }
+    Ok(())
+}
+
+impl FatSectors {
+    ghost use Rattle.std.specs.Prelude.{◌≡◌, ◌++◌, IfOk};
+
+    /// The FAT's, and the DIFAT's behind them.
+    fn all(&self, alloc: Global) -> Result<Vec<u32>, AllocError>
+        ensures { IfOk result (λ v. v.items ≡ self.now.fat.items ++ self.now.difat.items) }
     {
-        let listed = header.fat();
-        let count = count_entries(header, &file);
-        check_present(listed, count)?;
-        let next = table_in(alloc, &file, listed, count)?;
+        let mut all = Vec::from_slice(alloc, &self.fat)?;
+        all.extend_from_slice(&self.difat)?;
+        Ok(all)
+    }
+}
+
+impl<'a> Fat<'a> {
+    /// The table of a file. It marks the sectors in which it lies, and those of the DIFAT.
+    ///
+    /// Refused: `ShortChain` where the header's list and the DIFAT have room for fewer FAT sectors than the header says;
+    /// `OutOfFile` where a sector of the header's list isn't in the file; then `NoMemory`; `Cycle` where the DIFAT comes back
+    /// to one of its sectors; `OutOfFile` where a sector of the FAT or the DIFAT isn't in the file; `CrossLinked` where one
+    /// is listed twice.
+    pub fn load(alloc: Global, header: &Header, file: Image<'a>) -> Result<Fat<'a>, ChainFault>
+        ensures table { IfOk result (λ f. IsTableOf (image_bytes file.entry) header.now f) }
+        ensures refused { IfErr result (MayRefuseFat (image_bytes file.entry) header.now) }
+        ensures there { IsFat (image_bytes file.entry) header.now → IfErr result (λ e. e ≡ NoMemory) }
+    {
+        check_room(header)?;
+        let count = count_entries(header.fat_count() as usize, &file);
+        check_present(header.fat(), count)?;
+        let sectors = fat_sectors(alloc, header, &file)?;
+        check_apart(&sectors.difat)?;
+        let own = sectors.all(alloc)?;
+        check_present(&own, count)?;
+        let next = table_in(alloc, &file, &sectors.fat, count)?;
         let used = vec![in alloc; false; count]?;
         let mut fat = Fat {
             pieces: Pieces::Sectors(file),
             next,
             used,
         };
-        fat.mark_apart(listed)?;
+        fat.mark_apart(&own)?;
         Ok(fat)
     }
 

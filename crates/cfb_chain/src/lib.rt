@@ -2,6 +2,7 @@
 #![tactic(auto)]
 
 mod bytes;
+pub mod difat;
 pub mod fat;
 pub mod fault;
 pub mod header;

@@ -8,7 +8,6 @@ ghost use Rattle.std.specs.List.{All};
 ghost use Rattle.std.specs.Prelude.{◌*◌, ◌<◌, ◌≤◌, ◌^◌, ◌≡◌, IfOk, List, length, min, slice_index, ℕ};
 
 use crate::fat::END_OF_CHAIN;
-use crate::header::Header;
 use crate::image::Image;
 use crate::sectors::numbers;
 use std::alloc::{AllocError, Global};
@@ -29,20 +28,21 @@ pub(crate) fn table_in(
     Ok(table)
 }
 
-/// How many sectors have an entry in the FAT and begin before the end of a file.
-pub(crate) fn count_entries(header: &Header, file: &Image<'_>) -> usize
-    ensures count { result ≡ min (128 * length header.now.fat) (sectors_in (image_bytes file.now)) }
-    ensures few { length header.now.fat ≤ 109 }
+/// How many sectors have an entry in a FAT of so many sectors and begin before the end of a file.
+pub(crate) fn count_entries(fat_count: usize, file: &Image<'_>) -> usize
+    requires { fat_count ≤ 2 ^ 32 }
+    ensures { result ≡ min (128 * fat_count) (sectors_in (image_bytes file.now)) }
 {
-    (128 * header.fat_count()).min(file.count_sectors())
+    (128 * fat_count).min(file.count_sectors())
 }
 
-/// The entries of the FAT of a file, whether its sectors are there or not.
-pub fn entries(alloc: Global, header: &Header, file: &Image<'_>) -> Result<Vec<u32>, AllocError>
-    ensures count { IfOk result (λ v. length v.items ≡ min (128 * length header.now.fat) (sectors_in (image_bytes file.now))) }
-    ensures each { IfOk result (λ v. (k : ℕ) → k < length v.items → slice_index v.items k ≡ u32_at (joined (sector (image_bytes file.now)) header.now.fat) (4 * k)) }
+/// The entries of the FAT of a file, which lies in these sectors, whether they are there or not.
+pub fn entries(alloc: Global, file: &Image<'_>, fat: &[u32]) -> Result<Vec<u32>, AllocError>
+    requires { length fat.now ≤ 2 ^ 32 }
+    ensures count { IfOk result (λ v. length v.items ≡ min (128 * length fat.now) (sectors_in (image_bytes file.now))) }
+    ensures each { IfOk result (λ v. (k : ℕ) → k < length v.items → slice_index v.items k ≡ u32_at (joined (sector (image_bytes file.now)) fat.now) (4 * k)) }
 {
-    table_in(alloc, file, header.fat(), count_entries(header, file))
+    table_in(alloc, file, fat, count_entries(fat.len(), file))
 }
 
 /// The sectors from one on, each followed by the one that its entry names, as far as entries go.

@@ -1,5 +1,5 @@
 -- Whether a tree fits into a file, by what is reckoned of it.
-use Rattle.std.proofs.Common.{◌≡◌, ◌≤◌, ◌<◌, ◌+◌, ◌*◌, ◌++◌, ℕ, Bool, true, false, List, [], ◌∷◌, Result, is_ok, length, min, nat_le, refl, sym, ap, arith, length-append}
+use Rattle.std.proofs.Common.{◌≡◌, ◌≤◌, ◌<◌, ◌+◌, ◌*◌, ◌++◌, ℕ, Bool, true, false, List, [], ◌∷◌, Result, is_ok, length, min, nat_le, refl, sym, ap, subst, arith, length-append}
 use Rattle.std.proofs.lemmas.Bool.{leb-false, leb-true}
 use Rattle.std.specs.Int.{w32, to_le_bytes}
 use Rattle.std.specs.List.{flat_map}
@@ -25,9 +25,9 @@ fits_told t es ms ls e m l =
     let told : ℕ = fat_sectors (needed (min MANY es) (min MANY ms) (min MANY ls)) in
     elim (nat_le told MOST_FAT_SECTORS) as (λ b. nat_le told MOST_FAT_SECTORS ≡ b → b ≡ is_ok (writable t)) [
       | true ↦ λ h. let few : told ≤ MOST_FAT_SECTORS = leb-true told MOST_FAT_SECTORS h in
-          sym (ap is_fine (allowed_room t (omega (arith, same, few))))
+          sym (ap is_fine (allowed_room t (subst (λ d. fat_sectors d ≤ MOST_FAT_SECTORS) same few)))
       | false ↦ λ h. let more : MOST_FAT_SECTORS < told = leb-false told MOST_FAT_SECTORS h in
-          sym (ap is_fine (refused_room t (omega (arith, same, more))))
+          sym (ap is_fine (refused_room t (subst (λ d. MOST_FAT_SECTORS < fat_sectors d) same more)))
     ] refl
 
 -- the sizes of the streams that a document adds

@@ -4,7 +4,7 @@ ghost use Rattle.std.specs.Prelude.{◌+◌, ◌≡◌, ◌<◌, is_ok, length, 
 ghost use Rattle.container_model.specs.Saves.{document, document_tree, held_part, is_document, part_of, parts_in};
 ghost use Rattle.container_documents.specs.Sums.{IsTyped, comp_obj_size, long_of, object_sum, one, one_of, picture_of, short_of, streams_sum};
 ghost use Rattle.file_model.specs.Limits.{MOST_FAT_SECTORS};
-ghost use Rattle.file_model.specs.Need.{fat_sectors, long_pieces, needed, short_pieces};
+ghost use Rattle.file_model.specs.Need.{fat_sectors as fat_needed, long_pieces, needed, short_pieces};
 ghost use Rattle.file_model.specs.Refusals.{writable};
 ghost use Rattle.file_model.specs.declared.limit.TheConstants.{MANY};
 ghost use Rattle.ole_parts.specs.CompObjs.{CLASS_BYTES, PAST_USER_TYPE};
@@ -12,6 +12,7 @@ ghost use Rattle.ole_parts.specs.CompObjs.{CLASS_BYTES, PAST_USER_TYPE};
 use container_checks::contents::kept;
 use container_model::record::Object;
 use file_model::limit::{CUTOFF, MANY, MOST_FAT_SECTORS};
+use file_model::need::fat_sectors;
 use storage_tree::streams::NamedStream;
 
 /// How many bytes `\1Ole` has (MS-OLEDS 2.3.3).
@@ -149,14 +150,14 @@ impl Room {
 
     /// Whether the least FAT that covers it is within the limit.
     fn fits(self) -> bool
-        ensures { result ≡ nat_le (fat_sectors (needed (min MANY self.entries) (min MANY self.minis) (min MANY self.longs))) MOST_FAT_SECTORS }
+        ensures { result ≡ nat_le (fat_needed (needed (min MANY self.entries) (min MANY self.minis) (min MANY self.longs))) MOST_FAT_SECTORS }
     {
         let entries = self.entries.min(MANY as usize);
         let minis = self.minis.min(MANY as usize);
         let longs = self.longs.min(MANY as usize);
         let tables = (1 + entries).div_ceil(4) + minis.div_ceil(128);
         let sectors = tables + (64 * minis).div_ceil(512) + longs;
-        sectors.div_ceil(127) <= MOST_FAT_SECTORS as usize
+        fat_sectors(sectors as u32) <= MOST_FAT_SECTORS
     }
 }
 

@@ -21,8 +21,11 @@ mutual
   children-room (stream k n b cs) = omega (arith, stream-room b, children-room cs)
   children-room (storage k n t cs) = omega (arith, tree-room t, children-room cs)
 
+many : (d : ℕ) → 127 * MOST_FAT_SECTORS < d → MOST_FAT_SECTORS < fat_sectors d
+many d h = omega (arith, h)
+
 pub many-sectors : (t : Tree) → room < over_streams length t → MOST_FAT_SECTORS < fat_sectors (data_sectors t)
-many-sectors t much = omega (arith, tree-room t)
+many-sectors t much = many (data_sectors t) (omega (arith, tree-room t, much))
 
 pub too_large : (t : Tree) → room < over_streams length t → writable t ≡ Err TooBig
 too_large t much = ap (λ b. cond b (Err TooBig) (Ok tt)) (lt-ltb MOST_FAT_SECTORS (fat_sectors (data_sectors t)) (many-sectors t much))

@@ -1,10 +1,11 @@
 -- What holds of files that a listing can't tell apart.
-use Rattle.std.proofs.Common.{◌≡◌, ◌*◌, ℕ, List, Bool, true, false, if◌then◌else◌, nat_lt, take, sym, ◌∙◌, ap, subst, arith}
+use Rattle.std.proofs.Common.{◌≡◌, ◌*◌, ℕ, List, ◌++◌, Bool, true, false, if◌then◌else◌, nat_lt, length, take, sym, ◌∙◌, ap, subst, arith}
 use Rattle.std.proofs.lemmas.List.Elements.{All-take}
 use Rattle.cfb_chain.specs.Bytes.{sector}
-use Rattle.cfb_chain.specs.Chain.{IsChain, IsChainOf, Store}
-use Rattle.cfb_chain.specs.Fat.{mini_sectors_of, sectors_of}
-use Rattle.cfb_chain.specs.Header.{HeaderValue, IsHeader, first_directory, first_mini_fat, header_of, listed, mini_fat_count}
+use Rattle.std.specs.List.{All}
+use Rattle.cfb_chain.specs.Chain.{AreDistinct, IsChain, IsChainOf, IsPresent, Store}
+use Rattle.cfb_chain.specs.Fat.{IsFat, mini_sectors_of, sectors_of}
+use Rattle.cfb_chain.specs.Header.{HeaderValue, IsHeader, difat, difat_by, fat_by, first_directory, first_mini_fat, header_of, listed, mini_fat_count}
 use Rattle.cfb_directory.specs.Entries.{entry_at, first_of, kind, size_of}
 use Rattle.storage_tree.specs.Tree.{Tree}
 use Rattle.file_model.specs.Alike.{AgreeOn, Alike}
@@ -12,7 +13,7 @@ use Rattle.file_model.specs.Denotes.{Denotes, IsLaidOut, Layout, directory_of, m
 use Rattle.file_model.specs.Limits.{CUTOFF}
 use Rattle.file_model.specs.Outline.{outline_of}
 use Rattle.file_model.proofs.AlikeHeaders.{header_of_alike, is_header_alike}
-use Rattle.file_model.proofs.AlikeStores.{HaveSameLinks, agree_back, chain_carried, chain_of_carried, fat_alike, joined_alike, links_back, minis_alike, sectors_alike}
+use Rattle.file_model.proofs.AlikeStores.{HaveSameLinks, agree_back, chain_carried, chain_of_carried, difat_by_alike, fat_by_alike, joined_alike, present_carried, links_back, minis_alike, sectors_alike}
 use Rattle.file_model.proofs.AlikeTrees.{IsRefilled, storage_refilled}
 
 -- stores that one is chosen of
@@ -25,10 +26,13 @@ module _ (a b : List ℕ) (h : Alike a b) where
   other_header = is_header_alike a b h.header (omega (arith, h.is_header.whole, h.len)) h.is_header
 
   header_same : header_of a ≡ header_of b
-  header_same = header_of_alike a b h.header h.is_header.fat_sectors
+  header_same = header_of_alike a b h.header
 
   pub listed_alike : listed a ≡ listed b
-  listed_alike = ap (λ (v : HeaderValue). v.fat) header_same
+  listed_alike = fat_by_alike a b (header_of a) h.difat ∙ ap (fat_by b) header_same
+
+  difat_alike : difat a ≡ difat b
+  difat_alike = difat_by_alike a b (header_of a) h.difat ∙ ap (difat_by b) header_same
 
   links_listed : HaveSameLinks (sectors_of a (listed a)) (sectors_of b (listed a))
   links_listed = sectors_alike a b (listed a) h.len h.fat
@@ -54,10 +58,24 @@ module _ (a b : List ℕ) (h : Alike a b) where
     is_header = other_header;
     len = sym h.len;
     header = sym h.header;
+    difat = subst (λ (ns : List ℕ). AgreeOn b a ns) difat_alike (agree_back a b (difat a) h.difat);
     fat = subst (λ (fat : List ℕ). AgreeOn b a fat) listed_alike (agree_back a b (listed a) h.fat);
     directory = λ ns c. agree_back a b ns (h.directory ns (directory_chain_back ns c));
     mini_fat = λ ns c. agree_back a b ns (h.mini_fat ns (mini_fat_chain_back ns c));
   }
+
+  -- the sectors of the FAT and the DIFAT are there
+  pub is_fat_alike : IsFat a (header_of a) → IsFat b (header_of b)
+  is_fat_alike f =
+      let there : All (IsPresent (sectors_of b (listed a))) (listed a ++ difat a) =
+      present_carried (sectors_of a (listed a)) (sectors_of b (listed a)) links_listed (listed a ++ difat a) f.present in
+      record {
+        whole = ap (λ (xs : List ℕ). length xs) (sym listed_alike) ∙ f.whole ∙ ap (λ (v : HeaderValue). v.fat_count) header_same;
+        present = subst (λ (fat : List ℕ). All (IsPresent (sectors_of b fat)) (fat ++ difat b)) listed_alike
+            (subst (λ (ns : List ℕ). All (IsPresent (sectors_of b (listed a))) (listed a ++ ns)) difat_alike there);
+        once = subst (λ (fat : List ℕ). AreDistinct (fat ++ difat b)) listed_alike
+            (subst (λ (ns : List ℕ). AreDistinct (listed a ++ ns)) difat_alike f.once);
+      }
 
   -- ---- a layout of this file is one of the other
   module _ (l : Layout) (laid : IsLaidOut a l) where
@@ -82,7 +100,8 @@ module _ (a b : List ℕ) (h : Alike a b) where
     laid_alike : IsLaidOut b l
     laid_alike = record {
       fat_listed = laid.fat_listed ∙ listed_alike;
-      fat_sectors = fat_alike a b l.fat h.len fat_agrees laid.fat_sectors;
+      difat_listed = laid.difat_listed ∙ difat_alike;
+      fat_sectors = is_fat_alike laid.fat_sectors;
       directory = subst (λ (v : HeaderValue). IsChain (sectors b l) v.first_directory 0 l.directory) header_same
           (chain_carried (sectors a l) (sectors b l) sectors_same (first_directory a) 0 l.directory laid.directory);
       mini_fat = subst (λ (v : HeaderValue). IsChainOf (sectors b l) v.first_mini_fat (512 * v.mini_fat_count) l.mini_fat) header_same

@@ -1,13 +1,13 @@
 -- A header is read of a file's first 512 bytes, and of how long it is.
-use Rattle.std.proofs.Common.{◌≡◌, ◌<◌, ◌≤◌, ◌+◌, ◌-◌, ◌*◌, ℕ, zero, suc, List, ◌∷◌, true, false, inl, inr, cond, not, nat_lt, nat_eq, Result, Ok, Err, length, take, drop, map, refl, sym, ◌∙◌, ap, arith}
-use Rattle.std.proofs.lemmas.Bool.{cases_lt, cond-true}
+use Rattle.std.proofs.Common.{◌≡◌, ◌<◌, ◌≤◌, ◌+◌, ◌-◌, ◌*◌, ℕ, zero, suc, List, ◌∷◌, true, false, inl, inr, cond, not, nat_lt, nat_eq, min, Result, Ok, Err, length, take, drop, map, refl, sym, ◌∙◌, ap, arith}
+use Rattle.std.proofs.lemmas.Bool.{cases_lt}
 use Rattle.std.proofs.lemmas.Bool.Decides.{nat_tests}
 use Rattle.std.proofs.lemmas.List.{drop-take, length-take, length-take-le, take-take, take_all}
 use Rattle.std.specs.Int.{w16, w32, from_le_bytes}
 use Rattle.std.specs.Cmp.Lexicographic.{pointwise}
 use Rattle.std.specs.List.{range_with_len, starts_with}
 use Rattle.cfb_chain.specs.Bytes.{u16_at, u32_at}
-use Rattle.cfb_chain.specs.Header.{HeaderValue, IsHeader, LISTED, fat_count, first_directory, first_mini_fat, header_of, header_read, listed, mini_fat_count, signature}
+use Rattle.cfb_chain.specs.Header.{HeaderValue, IsHeader, LISTED, MOST_DIFAT_SECTORS, MOST_FAT_SECTORS, difat_count, fat_count, first_difat, first_directory, first_mini_fat, header_of, header_read, listed_first, mini_fat_count, signature}
 use Rattle.cfb_chain.specs.declared.fault.ChainFault.{ChainFault}
 use Rattle.cfb_chain.specs.declared.fault.ChainFault.TheVariants.{Truncated, BadSignature, Unsupported, TooBig}
 
@@ -38,47 +38,41 @@ numbers_alike f g at (suc n) each =
 fat_count_cut : (file : List ℕ) → fat_count (take 512 file) ≡ fat_count file
 fat_count_cut file = u32_cut file 44 (omega arith)
 
-pub listed_cut : (file : List ℕ) → fat_count file ≤ LISTED → listed (take 512 file) ≡ listed file
-listed_cut file few =
-    ap (λ n. map (λ k. u32_at (take 512 file) (76 + 4 * k)) (range_with_len 0 n)) (fat_count_cut file)
-    ∙ numbers_alike (λ k. u32_at (take 512 file) (76 + 4 * k)) (λ k. u32_at file (76 + 4 * k)) 0 (fat_count file)
+listed_cut : (file : List ℕ) → listed_first (take 512 file) ≡ listed_first file
+listed_cut file =
+    ap (λ n. map (λ k. u32_at (take 512 file) (76 + 4 * k)) (range_with_len 0 (min n LISTED))) (fat_count_cut file)
+    ∙ numbers_alike (λ k. u32_at (take 512 file) (76 + 4 * k)) (λ k. u32_at file (76 + 4 * k)) 0 (min (fat_count file) LISTED)
     (λ k l. u32_cut file (76 + 4 * k) (omega arith))
 
-pub header_of_cut : (file : List ℕ) → fat_count file ≤ LISTED → header_of (take 512 file) ≡ header_of file
-header_of_cut file few =
+pub header_of_cut : (file : List ℕ) → header_of (take 512 file) ≡ header_of file
+header_of_cut file =
+    let all : fat_count (take 512 file) ≡ fat_count file = fat_count_cut file in
+    let difat : first_difat (take 512 file) ≡ first_difat file = u32_cut file 68 (omega arith) in
+    let difats : difat_count (take 512 file) ≡ difat_count file = u32_cut file 72 (omega arith) in
     let directory : first_directory (take 512 file) ≡ first_directory file = u32_cut file 48 (omega arith) in
     let mini_fat : first_mini_fat (take 512 file) ≡ first_mini_fat file = u32_cut file 60 (omega arith) in
     let count : mini_fat_count (take 512 file) ≡ mini_fat_count file = u32_cut file 64 (omega arith) in
-    λ i. record { fat = listed_cut file few i; first_directory = directory i; first_mini_fat = mini_fat i; mini_fat_count = count i }
+    λ i. record { fat_count = all i; fat = listed_cut file i; first_difat = difat i; difat_count = difats i; first_directory = directory i; first_mini_fat = mini_fat i; mini_fat_count = count i }
 
 -- ---- and the header
 -- the last checks of a header
 abbrev rest_read : List ℕ → Result HeaderValue ChainFault
 rest_read file =
-    cond (nat_lt LISTED (fat_count file)) (Err TooBig) (
-    cond (not (nat_eq (u32_at file 72) 0)) (Err TooBig) (
+    cond (nat_lt MOST_FAT_SECTORS (fat_count file)) (Err TooBig) (
+    cond (nat_lt MOST_DIFAT_SECTORS (difat_count file)) (Err TooBig) (
     Ok (header_of file)))
-
-is_lt : (m n : ℕ) → m < n → nat_lt m n ≡ true
-is_lt m n h = grind (arith, nat_tests)
 
 is_not_lt : (m n : ℕ) → n ≤ m → nat_lt m n ≡ false
 is_not_lt m n h = grind (arith, nat_tests)
 
-many : (file : List ℕ) → LISTED < fat_count file → rest_read file ≡ Err TooBig
-many file h = cond-true (nat_lt LISTED (fat_count file)) _ _ (is_lt LISTED (fat_count file) h)
-
 rest_cut : (file : List ℕ) → rest_read (take 512 file) ≡ rest_read file
 rest_cut file =
     let count : fat_count (take 512 file) ≡ fat_count file = fat_count_cut file in
-    let difat : u32_at (take 512 file) 72 ≡ u32_at file 72 = u32_cut file 72 (omega arith) in
-    elim (cases_lt LISTED (fat_count file)) [
-      | inl more ↦ many (take 512 file) (omega arith) ∙ sym (many file more)
-      | inr few ↦ λ i.
-          cond (nat_lt LISTED (count i)) (Err TooBig) (
-          cond (not (nat_eq (difat i) 0)) (Err TooBig) (
-          Ok (header_of_cut file few i)))
-    ]
+    let difats : difat_count (take 512 file) ≡ difat_count file = u32_cut file 72 (omega arith) in
+    λ i.
+    cond (nat_lt MOST_FAT_SECTORS (count i)) (Err TooBig) (
+    cond (nat_lt MOST_DIFAT_SECTORS (difats i)) (Err TooBig) (
+    Ok (header_of_cut file i)))
 
 signature_cut : (file : List ℕ) → starts_with nat_eq (take 512 file) signature ≡ starts_with nat_eq file signature
 signature_cut file = let le : 8 ≤ 512 = omega arith in ap (λ (xs : List ℕ). pointwise nat_eq signature xs) (take-take 8 512 file le)
@@ -139,12 +133,11 @@ module _ (a b : List ℕ) (front : take 512 a ≡ take 512 b) where
     mini_sector_shift = u16_alike 32 (omega arith) ∙ h.mini_sector_shift;
     cutoff = u32_alike 56 (omega arith) ∙ h.cutoff;
     fat_sectors = omega (arith, h.fat_sectors, u32_alike 44 (omega arith));
-    difat_sectors = u32_alike 72 (omega arith) ∙ h.difat_sectors;
+    difat_sectors = omega (arith, h.difat_sectors, u32_alike 72 (omega arith));
   }
 
-  pub header_of_alike : fat_count a ≤ LISTED → header_of a ≡ header_of b
-  header_of_alike few =
-      sym (header_of_cut a few) ∙ ap header_of front ∙ header_of_cut b (omega (arith, u32_alike 44 (omega arith)))
+  pub header_of_alike : header_of a ≡ header_of b
+  header_of_alike = sym (header_of_cut a) ∙ ap header_of front ∙ header_of_cut b
 
 -- a file whose first 512 bytes have the fixed fields
 pub is_header_of_front : (file : List ℕ) → IsHeader (take 512 file) → IsHeader file

@@ -9,7 +9,7 @@ use Rattle.cfb_directory.specs.declared.write.EntryFields.{EntryFields}
 use Rattle.cfb_directory.proofs.Fields.{length-entry_bytes, length-free_entry_bytes}
 use Rattle.storage_tree.specs.Tree.{Tree}
 use Rattle.file_model.specs.Need.{pieces, entries, mini_sectors, long_sectors, directory_sectors, mini_fat_sectors, mini_stream_sectors, data_sectors}
-use Rattle.file_model.specs.Image.{Parts, counts, image, runs, pieces_of, whole_pieces}
+use Rattle.file_model.specs.Image.{Parts, behind_fat, counts, image, runs, pieces_of, whole_pieces}
 use Rattle.file_model.specs.Placed.{Fits, IsPlaced, ArePlaced, layout_of}
 use Rattle.file_model.specs.Denotes.{Layout, directory_of, minis, sectors, entry, Denotes}
 use Rattle.file_model.specs.Directory.{Siblings, AreBalanced, entries_below, root_says, long_start, short_streams, long_streams, parts_of, IsCovered, PlacedDenotes, ImageDenotes, balanced}
@@ -69,7 +69,7 @@ module _ (links : ℕ → Siblings) (search : AreBalanced links) (f : ℕ) (t : 
     to_right = lit< tt;
     below = child-fits links search last small 0 t within.of_ids;
     state_bits = state-spelled t is.spelled;
-    starts = start-fits (f + directory_sectors t + mini_fat_sectors t) (mini_stream_sectors t) (omega (arith, is.covered, is.few));
+    starts = start-fits (behind_fat f + directory_sectors t + mini_fat_sectors t) (mini_stream_sectors t) (omega (arith, is.covered, is.few));
     sized = omega (arith, is.covered, is.few);
   }
 
@@ -180,7 +180,7 @@ module _ (links : ℕ → Siblings) (search : AreBalanced links) (f : ℕ) (t : 
       laid_out = placed.laid_out;
       root = says-root.held;
       holds = held.holds;
-      sectors_apart = subst (λ (ns : List ℕ). AreDistinct (l.fat ++ l.directory ++ l.mini_fat ++ l.mini_stream ++ ns))
+      sectors_apart = subst (λ (ns : List ℕ). AreDistinct (l.fat ++ l.difat ++ l.directory ++ l.mini_fat ++ l.mini_stream ++ ns))
           (ap (range_with_len (long_start f t)) (longs-sum t) ∙ sym held.sectors_used) longs.apart;
       minis_apart = subst AreDistinct (sym held.mini_sectors_used) (distinct_range 0 (mini_sectors t));
       ids_apart = subst AreDistinct (sym (ap (λ ns. 0 ∷ ns) held.ids)) (distinct_range 0 (suc (entries t)));

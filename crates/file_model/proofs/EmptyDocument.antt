@@ -19,11 +19,11 @@ header = record {
   mini_sector_shift = refl;
   cutoff = refl;
   fat_sectors = lit≤ tt;
-  difat_sectors = refl;
+  difat_sectors = lit≤ tt;
 }
 
 abbrev the_layout : Layout
-the_layout = record { fat = 0 ∷ []; directory = 1 ∷ []; mini_fat = []; mini_stream = [] }
+the_layout = record { fat = 0 ∷ []; difat = []; directory = 1 ∷ []; mini_fat = []; mini_stream = [] }
 
 only : (P : ℕ → Type 0) → P 0 → (k : ℕ) → k < 1 → P k
 only P p zero h = p
@@ -36,7 +36,9 @@ laid_out : IsLaidOut empty_document the_layout
 unfolding empty_document u16_at u32_at block sectors_of directory_of
 laid_out = record {
   fat_listed = refl;
+  difat_listed = refl;
   fat_sectors = record {
+    whole = refl;
     present = λ k d h. only (λ k. (get_or (0 ∷ []) k d ≤ 0xFFFFFFF9) × (get_or (0 ∷ []) k d < 2)) (lit≤ tt, lit< tt) k h;
     once = λ i j d h l. one i j d 0 h l;
   };

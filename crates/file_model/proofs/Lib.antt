@@ -11,6 +11,7 @@ pub mod ContentsNext
 pub mod ContentsTree
 pub mod ContentsBalanced
 pub mod PlacedParts
+pub mod ListsLaid
 pub mod Placed
 pub mod Contents
 pub mod Refused
@@ -19,3 +20,4 @@ pub mod AlikeHeaders
 pub mod AlikeStores
 pub mod AlikeTrees
 pub mod AlikeFiles
+pub mod LeastFat

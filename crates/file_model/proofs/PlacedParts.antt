@@ -39,41 +39,45 @@ block_from w file part at n e =
     let d : drop (at + n) file ≡ drop n part = sym (drop-drop n at file) ∙ ap (drop n) e in
     ap (λ xs. take w xs ++ replicate (w - length xs) 0) d
 
--- A file of a header and five parts of whole sectors: how long it is, and what the sectors of each part hold.
-pub record IsJoined (file fat directory mini_fat mini_stream longs : List ℕ) (f d m s n : ℕ) : Type 0 where
-  pub size : length file ≡ 512 * (1 + f + d + m + s + n)
+-- A file of a header and six parts of whole sectors: how long it is, and what the sectors of each part hold.
+pub record IsJoined (file fat difat directory mini_fat mini_stream longs : List ℕ) (f x d m s n : ℕ) : Type 0 where
+  pub size : length file ≡ 512 * (1 + f + x + d + m + s + n)
   pub fat_bytes : joined (sector file) (range_with_len 0 f) ≡ fat
-  pub directory_bytes : joined (sector file) (range_with_len f d) ≡ directory
-  pub mini_fat_bytes : joined (sector file) (range_with_len (f + d) m) ≡ mini_fat
-  pub mini_stream_bytes : joined (sector file) (range_with_len (f + d + m) s) ≡ mini_stream
-  pub long_block : (k : ℕ) → sector file (f + d + m + s + k) ≡ block 512 longs (512 * k)
+  pub difat_bytes : joined (sector file) (range_with_len f x) ≡ difat
+  pub directory_bytes : joined (sector file) (range_with_len (f + x) d) ≡ directory
+  pub mini_fat_bytes : joined (sector file) (range_with_len (f + x + d) m) ≡ mini_fat
+  pub mini_stream_bytes : joined (sector file) (range_with_len (f + x + d + m) s) ≡ mini_stream
+  pub long_block : (k : ℕ) → sector file (f + x + d + m + s + k) ≡ block 512 longs (512 * k)
 
-pub joined_parts : (file header fat directory mini_fat mini_stream longs : List ℕ) (f d m s n : ℕ)
-    → file ≡ header ++ fat ++ directory ++ mini_fat ++ mini_stream ++ longs → length header ≡ 512 → length fat ≡ 512 * f
+pub joined_parts : (file header fat difat directory mini_fat mini_stream longs : List ℕ) (f x d m s n : ℕ)
+    → file ≡ header ++ fat ++ difat ++ directory ++ mini_fat ++ mini_stream ++ longs → length header ≡ 512 → length fat ≡ 512 * f → length difat ≡ 512 * x
     → length directory ≡ 512 * d → length mini_fat ≡ 512 * m → length mini_stream ≡ 512 * s → length longs ≡ 512 * n
-    → IsJoined file fat directory mini_fat mini_stream longs f d m s n
-joined_parts file header fat directory mini_fat mini_stream longs f d m s n e h1 h2 h3 h4 h5 h6 =
-    let nested : header ++ fat ++ directory ++ mini_fat ++ mini_stream ++ longs ≡ header ++ (fat ++ (directory ++ (mini_fat ++ (mini_stream ++ longs)))) =
+    → IsJoined file fat difat directory mini_fat mini_stream longs f x d m s n
+joined_parts file header fat difat directory mini_fat mini_stream longs f x d m s n e h1 h2 hx h3 h4 h5 h6 =
+    let nested : header ++ fat ++ difat ++ directory ++ mini_fat ++ mini_stream ++ longs ≡ header ++ (fat ++ (difat ++ (directory ++ (mini_fat ++ (mini_stream ++ longs))))) =
     simp append_assoc in
-    let long : length file ≡ 512 * (1 + f + d + m + s + n) =
+    let long : length file ≡ 512 * (1 + f + x + d + m + s + n) =
     ap length (e ∙ nested) ∙ simp length-append (omega arith) in
-    let at_header : drop 0 file ≡ header ++ (fat ++ (directory ++ (mini_fat ++ (mini_stream ++ longs)))) = e ∙ nested in
-    let at_fat : drop (512 * (0 + 1)) file ≡ fat ++ (directory ++ (mini_fat ++ (mini_stream ++ longs))) =
-    next_part file header (fat ++ (directory ++ (mini_fat ++ (mini_stream ++ longs)))) 0 (512 * (0 + 1)) at_header (omega arith) in
-    let at_directory : drop (512 * (f + 1)) file ≡ directory ++ (mini_fat ++ (mini_stream ++ longs)) =
-    next_part file fat (directory ++ (mini_fat ++ (mini_stream ++ longs))) (512 * (0 + 1)) (512 * (f + 1)) at_fat (omega arith) in
-    let at_mini_fat : drop (512 * (f + d + 1)) file ≡ mini_fat ++ (mini_stream ++ longs) =
-    next_part file directory (mini_fat ++ (mini_stream ++ longs)) (512 * (f + 1)) (512 * (f + d + 1)) at_directory (omega arith) in
-    let at_mini_stream : drop (512 * (f + d + m + 1)) file ≡ mini_stream ++ longs =
-    next_part file mini_fat (mini_stream ++ longs) (512 * (f + d + 1)) (512 * (f + d + m + 1)) at_mini_fat (omega arith) in
-    let at_longs : drop (512 * (f + d + m + s + 1)) file ≡ longs =
-    next_part file mini_stream longs (512 * (f + d + m + 1)) (512 * (f + d + m + s + 1)) at_mini_stream (omega arith) in
+    let at_header : drop 0 file ≡ header ++ (fat ++ (difat ++ (directory ++ (mini_fat ++ (mini_stream ++ longs))))) = e ∙ nested in
+    let at_fat : drop (512 * (0 + 1)) file ≡ fat ++ (difat ++ (directory ++ (mini_fat ++ (mini_stream ++ longs)))) =
+    next_part file header (fat ++ (difat ++ (directory ++ (mini_fat ++ (mini_stream ++ longs))))) 0 (512 * (0 + 1)) at_header (omega arith) in
+    let at_difat : drop (512 * (f + 1)) file ≡ difat ++ (directory ++ (mini_fat ++ (mini_stream ++ longs))) =
+    next_part file fat (difat ++ (directory ++ (mini_fat ++ (mini_stream ++ longs)))) (512 * (0 + 1)) (512 * (f + 1)) at_fat (omega arith) in
+    let at_directory : drop (512 * (f + x + 1)) file ≡ directory ++ (mini_fat ++ (mini_stream ++ longs)) =
+    next_part file difat (directory ++ (mini_fat ++ (mini_stream ++ longs))) (512 * (f + 1)) (512 * (f + x + 1)) at_difat (omega arith) in
+    let at_mini_fat : drop (512 * (f + x + d + 1)) file ≡ mini_fat ++ (mini_stream ++ longs) =
+    next_part file directory (mini_fat ++ (mini_stream ++ longs)) (512 * (f + x + 1)) (512 * (f + x + d + 1)) at_directory (omega arith) in
+    let at_mini_stream : drop (512 * (f + x + d + m + 1)) file ≡ mini_stream ++ longs =
+    next_part file mini_fat (mini_stream ++ longs) (512 * (f + x + d + 1)) (512 * (f + x + d + m + 1)) at_mini_fat (omega arith) in
+    let at_longs : drop (512 * (f + x + d + m + s + 1)) file ≡ longs =
+    next_part file mini_stream longs (512 * (f + x + d + m + 1)) (512 * (f + x + d + m + s + 1)) at_mini_stream (omega arith) in
     record {
       size = long;
-      fat_bytes = joined_range file fat (directory ++ (mini_fat ++ (mini_stream ++ longs))) 0 f h2 at_fat;
-      directory_bytes = joined_range file directory (mini_fat ++ (mini_stream ++ longs)) f d h3 at_directory;
-      mini_fat_bytes = joined_range file mini_fat (mini_stream ++ longs) (f + d) m h4 at_mini_fat;
-      mini_stream_bytes = joined_range file mini_stream longs (f + d + m) s h5 at_mini_stream;
-      long_block = λ k. let place : 512 + 512 * (f + d + m + s + k) ≡ 512 * (f + d + m + s + 1) + 512 * k = omega arith in
-          ap (block 512 file) place ∙ block_from 512 file longs (512 * (f + d + m + s + 1)) (512 * k) at_longs;
+      fat_bytes = joined_range file fat (difat ++ (directory ++ (mini_fat ++ (mini_stream ++ longs)))) 0 f h2 at_fat;
+      difat_bytes = joined_range file difat (directory ++ (mini_fat ++ (mini_stream ++ longs))) f x hx at_difat;
+      directory_bytes = joined_range file directory (mini_fat ++ (mini_stream ++ longs)) (f + x) d h3 at_directory;
+      mini_fat_bytes = joined_range file mini_fat (mini_stream ++ longs) (f + x + d) m h4 at_mini_fat;
+      mini_stream_bytes = joined_range file mini_stream longs (f + x + d + m) s h5 at_mini_stream;
+      long_block = λ k. let place : 512 + 512 * (f + x + d + m + s + k) ≡ 512 * (f + x + d + m + s + 1) + 512 * k = omega arith in
+          ap (block 512 file) place ∙ block_from 512 file longs (512 * (f + x + d + m + s + 1)) (512 * k) at_longs;
     }

@@ -49,6 +49,7 @@ directory_same file l m e = ap (joined (sector file)) e
 pub layout_unique : (file : List ℕ) (l m : Layout) → IsLaidOut file l → IsLaidOut file m → l ≡ m
 layout_unique file l m h i =
     let fat : l.fat ≡ m.fat = h.fat_listed ∙ sym i.fat_listed in
+    let difat : l.difat ≡ m.difat = h.difat_listed ∙ sym i.difat_listed in
     let D : List ℕ → Type 0 = λ f. IsChain (sectors_of file f) (first_directory file) 0 m.directory in
     let directory : l.directory ≡ m.directory = chain_unique (sectors file l) (first_directory file) 0 l.directory m.directory
     h.directory (subst D (sym fat) i.directory) in
@@ -60,7 +61,7 @@ layout_unique file l m h i =
     let mini_stream : l.mini_stream ≡ m.mini_stream = chain_of_unique (sectors file l) (first_of (root_of file l)) (size_of (root_of file l))
     l.mini_stream m.mini_stream h.mini_stream
     (subst (λ (d : List ℕ). S l.fat d) same (subst (λ (f : List ℕ). S f (directory_of file m)) (sym fat) i.mini_stream)) in
-    λ t. record { fat = fat t; directory = directory t; mini_fat = mini_fat t; mini_stream = mini_stream t }
+    λ t. record { fat = fat t; difat = difat t; directory = directory t; mini_fat = mini_fat t; mini_stream = mini_stream t }
 
 module _ (file : List ℕ) (l : Layout) where
   bytes_unique : (id : ℕ) (ns ms : List ℕ) (x y : List ℕ) → HoldsBytes file l id ns x → HoldsBytes file l id ms y → x ≡ y

@@ -4,7 +4,7 @@ use Rattle.std.specs.List.{Contains}
 use Rattle.std.specs.List.Sorted.{IsStrictlySortedBy}
 use Rattle.cfb_chain.specs.Bytes.{sector, joined}
 use Rattle.cfb_chain.specs.Chain.{Store, IsChain, IsChainOf, AreDistinct}
-use Rattle.cfb_chain.specs.Header.{IsHeader, listed, first_directory, first_mini_fat, mini_fat_count}
+use Rattle.cfb_chain.specs.Header.{IsHeader, difat, header_of, listed, first_directory, first_mini_fat, mini_fat_count}
 use Rattle.cfb_chain.specs.Fat.{IsFat, sectors_of, mini_sectors_of}
 use Rattle.cfb_names.specs.Names.{key, key_cmp}
 use Rattle.cfb_directory.specs.Entries.{entry_at, kind, child, class_of, state_of, first_of, size_of, name_of, IsNamed, AreLinked}
@@ -12,10 +12,11 @@ use Rattle.storage_tree.specs.Tree.{Tree, Children, tree, none, stream, storage}
 use Rattle.storage_tree.specs.Whole.{IsTree}
 use Rattle.file_model.specs.Limits.{CUTOFF}
 
--- Where the system's own parts of a file lie: the sectors of the FAT, of the directory, of the mini FAT and of the
--- mini stream.
+-- Where the system's own parts of a file lie: the sectors of the FAT, of the DIFAT, of the directory, of the mini FAT and
+-- of the mini stream.
 pub record Layout : Type 0 where
   pub fat : List ℕ
+  pub difat : List ℕ
   pub directory : List ℕ
   pub mini_fat : List ℕ
   pub mini_stream : List ℕ
@@ -35,7 +36,8 @@ minis file l = mini_sectors_of file (take (mini_fat_count file) l.mini_fat) l.mi
 
 pub record IsLaidOut (file : List ℕ) (l : Layout) : Type 0 where
   pub fat_listed : l.fat ≡ listed file
-  pub fat_sectors : IsFat file l.fat
+  pub difat_listed : l.difat ≡ difat file
+  pub fat_sectors : IsFat file (header_of file)
   pub directory : IsChain (sectors file l) (first_directory file) 0 l.directory
   pub mini_fat : IsChainOf (sectors file l) (first_mini_fat file) (512 * mini_fat_count file) l.mini_fat
   pub mini_stream : IsChainOf (sectors file l) (first_of (root_of file l)) (size_of (root_of file l)) l.mini_stream
@@ -110,7 +112,7 @@ pub record Denotes (file : List ℕ) (t : Tree) : Type 0 where
   pub laid_out : IsLaidOut file layout
   pub root : kind (root_of file layout) ≡ 5
   pub holds : Holds file layout 0 t used
-  pub sectors_apart : AreDistinct (layout.fat ++ layout.directory ++ layout.mini_fat ++ layout.mini_stream ++ used.sectors)
+  pub sectors_apart : AreDistinct (layout.fat ++ layout.difat ++ layout.directory ++ layout.mini_fat ++ layout.mini_stream ++ used.sectors)
   pub minis_apart : AreDistinct used.minis
   pub ids_apart : AreDistinct (0 ∷ used.ids)
   pub is_tree : IsTree 32 t

@@ -11,7 +11,7 @@ use Rattle.storage_tree.specs.Change.{Seen, bytes, inner}
 use Rattle.storage_tree.specs.Whole.{IsTree}
 use Rattle.file_model.specs.Need.{pieces, entries, mini_sectors, long_sectors, short_pieces, long_pieces, directory_sectors, mini_fat_sectors, mini_stream_sectors, data_sectors}
 use Rattle.file_model.specs.Limits.{CUTOFF, MOST_FAT_SECTORS}
-use Rattle.file_model.specs.Image.{Parts, start, padded, pieces_of, whole_pieces, image}
+use Rattle.file_model.specs.Image.{Parts, behind_fat, start, padded, pieces_of, whole_pieces, image}
 use Rattle.file_model.specs.Placed.{IsPlaced, ArePlaced}
 use Rattle.file_model.specs.Denotes.{Layout, Denotes}
 
@@ -64,9 +64,9 @@ linked ids place = link_to (slice_index ids) place
 abbrev pub first_of_stream : ℕ → ℕ → ℕ → ℕ
 first_of_stream mini sector size = if nat_lt size CUTOFF then start mini (pieces 64 size) else start sector (pieces 512 size)
 
--- the first sector behind the FAT, the directory, the mini FAT and the mini stream
+-- the first sector behind the FAT, the DIFAT, the directory, the mini FAT and the mini stream
 abbrev pub long_start : ℕ → Tree → ℕ
-long_start f t = f + directory_sectors t + mini_fat_sectors t + mini_stream_sectors t
+long_start f t = behind_fat f + directory_sectors t + mini_fat_sectors t + mini_stream_sectors t
 
 abbrev pub children_in : Tree → Children
 children_in (tree class state cs) = cs
@@ -133,7 +133,7 @@ module _ (links : ℕ → Siblings) where
     child = child_of links 0 t;
     class = class_in t;
     state = state_in t;
-    first = start (f + directory_sectors t + mini_fat_sectors t) (mini_stream_sectors t);
+    first = start (behind_fat f + directory_sectors t + mini_fat_sectors t) (mini_stream_sectors t);
     size = 64 * mini_sectors t;
   }
 
@@ -188,7 +188,7 @@ pub record IsCovered (f : ℕ) (t : Tree) : Type 0 where
   pub whole : IsTree 32 t
   pub spelled : IsSpelled t
   pub few : f ≤ MOST_FAT_SECTORS
-  pub covered : f + data_sectors t ≤ 128 * f
+  pub covered : behind_fat f + data_sectors t ≤ 128 * f
 
 -- a file in which all parts of a tree lie denotes the tree
 abbrev pub PlacedDenotes : Type 0

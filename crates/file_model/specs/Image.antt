@@ -1,11 +1,12 @@
--- How files are laid out: the FAT first, then the directory, the mini FAT and the mini stream, each in one run of
+-- How files are laid out: the FAT first, then the DIFAT, the directory, the mini FAT and the mini stream, each in one run of
 -- sectors, and then the long streams, each in a run of its own (MS-CFB 2; the order is this project's own).
-use Rattle.std.specs.Prelude.{◌+◌, ◌-◌, ◌*◌, ℕ, zero, suc, List, [], ◌∷◌, ◌++◌, length, map, replicate}
+use Rattle.std.specs.Prelude.{◌+◌, ◌-◌, ◌*◌, ℕ, zero, suc, List, [], ◌∷◌, ◌++◌, length, map, min, replicate}
 use Rattle.std.specs.List.{flat_map, range_with_len}
 use Rattle.std.specs.Int.{w32, to_le_bytes}
-use Rattle.cfb_chain.specs.Chain.{END_OF_CHAIN, FREE_SECTOR, FAT_SECTOR}
+use Rattle.cfb_chain.specs.Chain.{DIFAT_SECTOR, END_OF_CHAIN, FREE_SECTOR, FAT_SECTOR}
 use Rattle.cfb_chain.specs.Header.{header_bytes}
-use Rattle.file_model.specs.Need.{pieces}
+use Rattle.file_model.specs.Limits.{LISTED, NAMED}
+use Rattle.file_model.specs.Need.{difat_sectors, pieces}
 
 -- a run of pieces from `at`: each names the next, and the last ends the chain
 abbrev pub run : ℕ → ℕ → List ℕ
@@ -42,7 +43,7 @@ pieces_of width bs = map (λ b. pieces width (length b)) bs
 abbrev pub whole_pieces : ℕ → List (List ℕ) → List ℕ
 whole_pieces width bs = flat_map (padded width) bs
 
--- The parts of a file behind its FAT: the directory's bytes and the mini stream's, in so many whole sectors, how many
+-- The parts of a file behind its FAT and DIFAT: the directory's bytes and the mini stream's, in so many whole sectors, how many
 -- mini sectors each short stream takes and how many sectors their table, and the long streams.
 pub record Parts : Type 0 where
   pub directory : List ℕ
@@ -53,19 +54,41 @@ pub record Parts : Type 0 where
   pub mini_stream_count : ℕ
   pub longs : List (List ℕ)
 
--- the lengths of the runs behind the FAT
+-- the lengths of the runs behind the FAT and the DIFAT
 abbrev pub counts : Parts → List ℕ
 counts p = p.directory_count ∷ p.mini_fat_count ∷ p.mini_stream_count ∷ pieces_of 512 p.longs
+
+-- the first sector behind f FAT sectors and the DIFAT
+abbrev pub behind_fat : ℕ → ℕ
+behind_fat f = f + difat_sectors f
+
+-- The FAT sectors that one DIFAT sector names, of those in a row from one on and before another; its unused entries are
+-- free.
+abbrev pub names : ℕ → ℕ → List ℕ
+names first end = range_with_len first (min NAMED (end - first)) ++ replicate (NAMED - (end - first)) FREE_SECTOR
+
+-- The numbers in so many DIFAT sectors in a row: in each the FAT sectors that it names, and then the next DIFAT sector.
+abbrev pub difat_numbers : ℕ → ℕ → ℕ → ℕ → List ℕ
+difat_numbers zero at first end = []
+difat_numbers (suc n) at first end = (names first end ++ start (at + 1) n ∷ []) ++ difat_numbers n (at + 1) (first + NAMED) end
+
+-- what the FAT says of its own sectors and the DIFAT's
+abbrev pub own_entries : ℕ → List ℕ
+own_entries f = replicate f FAT_SECTOR ++ replicate (difat_sectors f) DIFAT_SECTOR
 
 -- the file of these parts, with f FAT sectors
 unfoldable pub image : ℕ → Parts → List ℕ
 image f p = header_bytes (record {
-  fat = range_with_len 0 f;
-  first_directory = f;
-  first_mini_fat = start (f + p.directory_count) p.mini_fat_count;
+  fat_count = f;
+  fat = range_with_len 0 (min f LISTED);
+  first_difat = start f (difat_sectors f);
+  difat_count = difat_sectors f;
+  first_directory = behind_fat f;
+  first_mini_fat = start (behind_fat f + p.directory_count) p.mini_fat_count;
   mini_fat_count = p.mini_fat_count;
 })
-    ++ table_bytes f (replicate f FAT_SECTOR ++ runs f (counts p))
+    ++ table_bytes f (own_entries f ++ runs (behind_fat f) (counts p))
+    ++ flat_map (to_le_bytes w32) (difat_numbers (difat_sectors f) f LISTED f)
     ++ p.directory
     ++ table_bytes p.mini_fat_count (runs 0 p.minis)
     ++ p.mini_stream
@@ -73,8 +96,8 @@ image f p = header_bytes (record {
 
 -- where the mini stream starts
 abbrev pub mini_stream_start : ℕ → Parts → ℕ
-mini_stream_start f p = start (f + p.directory_count + p.mini_fat_count) p.mini_stream_count
+mini_stream_start f p = start (behind_fat f + p.directory_count + p.mini_fat_count) p.mini_stream_count
 
 -- the first sector behind it
 abbrev pub longs_start : ℕ → Parts → ℕ
-longs_start f p = f + p.directory_count + p.mini_fat_count + p.mini_stream_count
+longs_start f p = behind_fat f + p.directory_count + p.mini_fat_count + p.mini_stream_count

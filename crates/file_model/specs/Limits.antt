@@ -1,14 +1,10 @@
--- The numbers that bound a compound file (MS-CFB 2.2).
+-- The numbers that bound a compound file (MS-CFB 2.2, 2.5).
 use Rattle.std.specs.Prelude.{ℕ, ◌+◌, ◌*◌}
-use Rattle.cfb_chain.specs.Header.{LISTED}
+pub use Rattle.cfb_chain.specs.Header.{LISTED, NAMED, MOST_FAT_SECTORS}
 
 -- a stream of fewer bytes lies in the mini stream
 abbrev pub CUTOFF : ℕ
 CUTOFF = 4096
-
--- the most sectors that the FAT of a file has, which are as many as the header can name
-abbrev pub MOST_FAT_SECTORS : ℕ
-MOST_FAT_SECTORS = LISTED
 
 -- more entries, mini sectors or sectors than any file has whose FAT is within the limit
 abbrev pub MANY : ℕ

@@ -1,7 +1,7 @@
 -- The room that a tree needs in a compound file (MS-CFB 2.3 to 2.6).
 use Rattle.std.specs.Prelude.{◌≤◌, ◌+◌, ◌-◌, ◌*◌, ◌/◌, ℕ, List, length, if◌then◌else◌, nat_lt}
 use Rattle.storage_tree.specs.Tree.{Tree, Children, tree, none, stream, storage}
-use Rattle.file_model.specs.Limits.{CUTOFF}
+use Rattle.file_model.specs.Limits.{CUTOFF, LISTED, NAMED}
 
 -- so many pieces of a width as hold so many bytes
 abbrev pub pieces : ℕ → ℕ → ℕ
@@ -53,17 +53,22 @@ long_sectors t = over_streams long_pieces t
 abbrev pub needed : ℕ → ℕ → ℕ → ℕ
 needed entries minis longs = pieces 4 (1 + entries) + pieces 128 minis + pieces 512 (64 * minis) + longs
 
--- all sectors but those of the FAT
+-- all sectors but those of the FAT and the DIFAT
 abbrev pub data_sectors : Tree → ℕ
 data_sectors t = directory_sectors t + mini_fat_sectors t + mini_stream_sectors t + long_sectors t
 
--- the least number of FAT sectors whose entries cover these sectors and themselves
+-- the DIFAT sectors that name the FAT sectors for which the header has no room (MS-CFB 2.5)
+abbrev pub difat_sectors : ℕ → ℕ
+difat_sectors f = pieces NAMED (f - LISTED)
+
+-- The least number of FAT sectors whose entries cover these sectors, themselves and the DIFAT's. Each DIFAT sector needs
+-- an entry of its own: x of them are enough for d sectors where d + x ≤ 127 * (109 + 127 * x).
 abbrev pub fat_sectors : ℕ → ℕ
-fat_sectors d = pieces 127 d
+fat_sectors d = pieces 127 (d + pieces 16128 (d - 13843))
 
 pub record IsLeastFat (d f : ℕ) : Type 0 where
-  pub covers : f + d ≤ 128 * f
-  pub least : (g : ℕ) → g + d ≤ 128 * g → f ≤ g
+  pub covers : f + difat_sectors f + d ≤ 128 * f
+  pub least : (g : ℕ) → g + difat_sectors g + d ≤ 128 * g → f ≤ g
 
 abbrev pub LeastFat : Type 0
 LeastFat = (d : ℕ) → IsLeastFat d (fat_sectors d)

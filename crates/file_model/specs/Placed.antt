@@ -6,16 +6,17 @@ use Rattle.cfb_chain.specs.Chain.{AreDistinct}
 use Rattle.cfb_chain.specs.Header.{IsHeader}
 use Rattle.cfb_directory.specs.Entries.{entry_at, first_of, size_of}
 use Rattle.file_model.specs.Limits.{MOST_FAT_SECTORS}
-use Rattle.file_model.specs.Need.{pieces}
+use Rattle.file_model.specs.Need.{difat_sectors, pieces}
 use Rattle.file_model.specs.Denotes.{Layout, IsLaidOut, directory_of, sectors, minis}
-use Rattle.file_model.specs.Image.{Parts, pieces_of, whole_pieces, mini_stream_start, longs_start, runs}
+use Rattle.file_model.specs.Image.{Parts, behind_fat, pieces_of, whole_pieces, mini_stream_start, longs_start, runs}
 
 abbrev pub layout_of : ℕ → Parts → Layout
 layout_of f p = record {
   fat = range_with_len 0 f;
-  directory = range_with_len f p.directory_count;
-  mini_fat = range_with_len (f + p.directory_count) p.mini_fat_count;
-  mini_stream = range_with_len (f + p.directory_count + p.mini_fat_count) p.mini_stream_count;
+  difat = range_with_len f (difat_sectors f);
+  directory = range_with_len (behind_fat f) p.directory_count;
+  mini_fat = range_with_len (behind_fat f + p.directory_count) p.mini_fat_count;
+  mini_stream = range_with_len (behind_fat f + p.directory_count + p.mini_fat_count) p.mini_stream_count;
 }
 
 -- parts in whole sectors that f FAT sectors cover, and a root that says where the mini stream lies
@@ -44,4 +45,4 @@ pub record ArePlaced (file : List ℕ) (l : Layout) (base : ℕ) (bs : List (Lis
   pub there : 0 < sum (pieces_of 512 bs) → base + sum (pieces_of 512 bs) ≤ (sectors file l).count
   pub piece : (m : ℕ) → m < sum (pieces_of 512 bs) → (sectors file l).piece (base + m) ≡ block 512 (whole_pieces 512 bs) (512 * m)
   pub next : (m : ℕ) → m < sum (pieces_of 512 bs) → (sectors file l).next (base + m) ≡ slice_index (runs base (pieces_of 512 bs)) m
-  pub apart : AreDistinct (l.fat ++ l.directory ++ l.mini_fat ++ l.mini_stream ++ range_with_len base (sum (pieces_of 512 bs)))
+  pub apart : AreDistinct (l.fat ++ l.difat ++ l.directory ++ l.mini_fat ++ l.mini_stream ++ range_with_len base (sum (pieces_of 512 bs)))

@@ -4,3 +4,4 @@
 pub mod fault;
 pub mod law;
 pub mod limit;
+pub mod need;

@@ -1,12 +1,12 @@
 //! The numbers that bound a compound file (MS-CFB 2.2).
 
-use cfb_chain::header::LISTED;
+use cfb_chain::header;
 
 /// A stream of fewer bytes lies in the mini stream.
 pub const CUTOFF: usize = 4096;
 
-/// The most sectors that the FAT of a file has, which are as many as the header can name.
-pub const MOST_FAT_SECTORS: u32 = LISTED as u32;
+/// The most sectors that the FAT of a file has: as many as the header and eight DIFAT sectors can name.
+pub const MOST_FAT_SECTORS: u32 = header::MOST_FAT_SECTORS;
 
 /// More entries, mini sectors or sectors than any file has whose FAT is within the limit.
 pub const MANY: u32 = 1024 * MOST_FAT_SECTORS;

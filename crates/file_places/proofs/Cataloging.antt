@@ -1,21 +1,20 @@
 -- What was read of a file is what its listing looks at.
 use Rattle.std.proofs.Common.{◌≡◌, ◌<◌, ◌≤◌, ◌+◌, ◌-◌, ◌*◌, ◌/◌, ℕ, zero, suc, List, ◌++◌, Result, Ok, inl, inr, length, take, drop, replicate, get_or, min, refl, sym, ap, subst, ◌∙◌, arith}
 use Rattle.std.proofs.lemmas.Bool.{cases_lt}
-use Rattle.std.proofs.lemmas.List.FromFn.{length-range_with_len}
-use Rattle.std.proofs.lemmas.List.{append-nil, length-map, take_all, take-take}
-use Rattle.std.specs.List.{range_with_len}
+use Rattle.std.proofs.lemmas.List.{append-nil, length-take, take_all, take-take}
+use Rattle.std.specs.List.{flat_map}
 use Rattle.cfb_bytes.specs.Bytes.{block}
 use Rattle.cfb_chain.specs.Bytes.{joined, sector, u32_at}
 use Rattle.cfb_chain.specs.Chain.{IsChain, IsChainOf, Store}
 use Rattle.cfb_chain.specs.Fat.{AreSame, sectors_in, sectors_of}
-use Rattle.cfb_chain.specs.Header.{HeaderValue, IsHeader, fat_count, first_directory, first_mini_fat, header_of, header_read, listed, mini_fat_count}
+use Rattle.cfb_chain.specs.Header.{HeaderValue, IsHeader, difat, difat_by, fat_by, fat_count, first_directory, first_mini_fat, header_of, header_read, listed, listed_first, mini_fat_count, named_in}
 use Rattle.cfb_chain.specs.declared.fault.ChainFault.{ChainFault}
 use Rattle.cfb_chain.proofs.Chains.{chain_any, chain_same}
 use Rattle.cfb_chain.proofs.Headers.{read_whole}
 use Rattle.file_model.specs.Alike.{AgreeOn, Alike}
 use Rattle.file_model.proofs.AlikeHeaders.{header_cut, u16_cut, u32_cut}
 use Rattle.file_model.proofs.AlikeStores.{joined_alike}
-use Rattle.file_places.specs.Filled.{IsChainRead, IsRead}
+use Rattle.file_places.specs.Filled.{AreListsRead, IsChainRead}
 
 -- ---- the header
 -- the fixed fields stand in the first 512 bytes
@@ -29,7 +28,7 @@ header_uncut file long h = record {
   mini_sector_shift = sym (u16_cut file 32 (omega arith)) ∙ h.mini_sector_shift;
   cutoff = sym (u32_cut file 56 (omega arith)) ∙ h.cutoff;
   fat_sectors = omega (arith, h.fat_sectors, u32_cut file 44 (omega arith));
-  difat_sectors = sym (u32_cut file 72 (omega arith)) ∙ h.difat_sectors;
+  difat_sectors = omega (arith, h.difat_sectors, u32_cut file 72 (omega arith));
 }
 
 -- the front of a file is read as the file is
@@ -67,12 +66,12 @@ module _ (b front : List ℕ) (len : ℕ) (h : HeaderValue) (long : length b ≡
 same_header : {h g : HeaderValue} → ◌≡◌ {A = Result HeaderValue ChainFault} (Ok h) (Ok g) → h ≡ g
 same_header e = cc
 
-module _ (a b0 b1 b2 b3 front table : List ℕ) (len : ℕ) (h : HeaderValue) (len_a : length a ≡ len) (long : length b3 ≡ len) (long_1 : length b1 ≡ len)
+module _ (a b0 b1 b2 b3 front table ns : List ℕ) (len : ℕ) (h : HeaderValue) (len_a : length a ≡ len) (long : length b3 ≡ len) (long_1 : length b1 ≡ len)
     (front_long : length front ≡ min len 512) (front_is : front ≡ take (min len 512) (drop 0 a)) (whole : IsHeader front)
     (read : Ok h ≡ header_read front) (same : block 512 b3 0 ≡ block 512 front 0)
-    (fat_read : IsRead a b0 b1 h.fat)
-    (count : length table ≡ min (128 * length h.fat) (sectors_in b1))
-    (each : (k : ℕ) → k < length table → get_or table k 0 ≡ u32_at (joined (sector b1) h.fat) (4 * k))
+    (fat_read : AreListsRead a b0 b1 h ns)
+    (count : length table ≡ min (128 * length ns) (sectors_in b1))
+    (each : (k : ℕ) → k < length table → get_or table k 0 ≡ u32_at (joined (sector b1) ns) (4 * k))
     (directory_read : IsChainRead a b1 b2 table h.first_directory)
     (mini_fat_read : IsChainRead a b2 b3 table h.first_mini_fat) where
   all_there : 512 ≤ len
@@ -87,22 +86,25 @@ module _ (a b0 b1 b2 b3 front table : List ℕ) (len : ℕ) (h : HeaderValue) (l
   says : h ≡ header_of a
   says = same_header (read ∙ front_read a front len len_a front_is ∙ read_whole a whole_a)
 
-  fat_is : h.fat ≡ listed a
-  fat_is = ap (λ (v : HeaderValue). v.fat) says
+  fat_is : ns ≡ listed a
+  fat_is = fat_read.listed_are ∙ ap (fat_by a) says
 
   -- the entries are those of the file
   store : Store
   store = record { count = length table; width = 512; piece = sector a; next = λ n. get_or table n 0 }
 
-  few : length h.fat ≤ 109
-  few =
-      let numbers : List ℕ = range_with_len 0 (fat_count a) in
-      omega (arith, whole_a.fat_sectors, ap length fat_is, length-map numbers (λ k. u32_at a (76 + 4 * k)), length-range_with_len 0 (fat_count a))
+  few : length ns ≤ 1125
+  few = omega (
+    arith,
+    whole_a.fat_sectors,
+    ap (λ (xs : List ℕ). length xs) fat_is,
+    length-take (fat_count a) (listed_first a ++ flat_map (named_in a) (difat a)),
+  )
 
   count_same : min (128 * length (listed a)) (sectors_in a) ≡ length table
   count_same =
       ap (λ (fat : List ℕ). min (128 * length fat) (sectors_in a)) (sym fat_is)
-      ∙ ap (λ n. min (128 * length h.fat) ((n + 511) / 512 - 1)) (len_a ∙ sym long_1) ∙ sym count
+      ∙ ap (λ n. min (128 * length ns) ((n + 511) / 512 - 1)) (len_a ∙ sym long_1) ∙ sym count
 
   same_store : AreSame (sectors_of a (listed a)) store
   unfolding sectors_of store
@@ -112,7 +114,7 @@ module _ (a b0 b1 b2 b3 front table : List ℕ) (len : ℕ) (h : HeaderValue) (l
     piece = λ n l. refl;
     next = λ n l.
         ap (λ (fat : List ℕ). u32_at (joined (sector a) fat) (4 * n)) (sym fat_is)
-        ∙ ap (λ (xs : List ℕ). u32_at xs (4 * n)) (joined_alike a b1 h.fat fat_read.there)
+        ∙ ap (λ (xs : List ℕ). u32_at xs (4 * n)) (joined_alike a b1 ns fat_read.fat_there)
         ∙ sym (each n (subst (λ c. n < c) count_same l));
   }
 
@@ -142,7 +144,8 @@ module _ (a b0 b1 b2 b3 front table : List ℕ) (len : ℕ) (h : HeaderValue) (l
     is_header = whole_a;
     len = len_a ∙ sym long;
     header = front_of_a ∙ sym (front_same b3 front len h long front_long whole read same);
-    fat = subst (AgreeOn a b3) fat_is (λ k d l. mini_fat_read.kept _ (directory_read.kept _ (fat_read.there k d l)));
+    difat = subst (λ v. AgreeOn a b3 (difat_by a v)) says (λ k d l. mini_fat_read.kept _ (directory_read.kept _ (fat_read.difat_there k d l)));
+    fat = subst (AgreeOn a b3) fat_is (λ k d l. mini_fat_read.kept _ (directory_read.kept _ (fat_read.fat_there k d l)));
     directory = directory_there;
     mini_fat = mini_fat_there (512 * mini_fat_count a);
   }

@@ -1,14 +1,18 @@
 -- What is read of a file block by block.
-use Rattle.std.proofs.Common.{◌≡◌, ◌≢◌, inl, inr, ◌<◌, ◌≤◌, ◌+◌, ◌-◌, ◌*◌, ℕ, List, ◌++◌, Option, Some, None, IfSome, length, take, drop, replicate, get_or, min, refl, sym, ap, subst, ◌∙◌, arith, length-drop}
+use Rattle.std.proofs.Common.{◌≡◌, ◌≢◌, inl, inr, ◌<◌, ◌≤◌, ◌+◌, ◌-◌, ◌*◌, ℕ, List, [], ◌∷◌, ◌++◌, Option, Some, None, IfSome, length, take, drop, replicate, get_or, min, refl, sym, ap, subst, ◌∙◌, arith, length-drop}
 use Rattle.std.proofs.lemmas.Bool.{cases_lt, cases_eq}
 use Rattle.std.proofs.lemmas.List.{drop-drop, get_or_default, length-take, take_all, take_min, take-take}
 use Rattle.cfb_bytes.specs.Bytes.{block}
+use Rattle.std.proofs.lemmas.List.Elements.{All-append}
 use Rattle.std.specs.List.{All}
-use Rattle.cfb_chain.specs.Bytes.{sector}
+use Rattle.cfb_chain.specs.Bytes.{sector, u32_at}
+use Rattle.cfb_chain.specs.Header.{HeaderValue, difat_by, difat_from, fat_by}
+use Rattle.cfb_chain.proofs.Tables.{difat_done, difat_more}
 use Rattle.cfb_chain.specs.Chain.{END_OF_CHAIN, Leads}
 use Rattle.cfb_places.proofs.Placed.{block_past, run_block}
 use Rattle.file_model.specs.Alike.{AgreeOn}
-use Rattle.file_places.specs.Filled.{IsChainRead, IsRead, IsRunRead}
+use Rattle.file_model.proofs.AlikeStores.{fat_by_alike}
+use Rattle.file_places.specs.Filled.{AreListsRead, IsChainRead, IsRead, IsRunRead}
 
 -- ---- blocks that are put
 -- the blocks before one, of those from `first` on, were put
@@ -149,6 +153,45 @@ chain_was_read a old new table found start is r = record {
 }
 
 -- ---- where the bytes are known
+-- ---- the DIFAT
+-- The DIFAT's sectors that were read so far, `left` being left from `at` on.
+pub record IsDifatSoFar (a old new whole : List ℕ) (left at : ℕ) : Type 0 where
+  pub kept : (n : ℕ) → sector a n ≡ sector old n → sector a n ≡ sector new n
+  pub met : List ℕ
+  pub there : AgreeOn a new met
+  pub rest : met ++ difat_from a left at ≡ whole
+
+pub none_met : (a old whole : List ℕ) (left at : ℕ) → difat_from a left at ≡ whole → IsDifatSoFar a old old whole left at
+none_met a old whole left at e = record { kept = λ n h. h; met = []; there = λ k d l. absurd (omega arith); rest = e }
+
+pub more_met : (a old now new whole : List ℕ) (at next end counter : ℕ) → counter < end → next ≡ u32_at (sector new at) 508
+    → IsDifatSoFar a old now whole (end - counter) at → IsRead a now new (at ∷ []) → IsDifatSoFar a old new whole (end - (counter + 1)) next
+more_met a old now new whole at next end counter lt e h r =
+    let same : sector a at ≡ sector new at = r.there 0 0 (omega arith) in
+    record {
+      kept = λ n k. r.kept n (h.kept n k);
+      met = h.met ++ at ∷ [];
+      there = All-append (λ n. sector a n ≡ sector new n) h.met (at ∷ []) (λ k d l. r.kept _ (h.there k d l)) r.there;
+      rest = difat_more a h.met whole at next end counter lt (e ∙ ap (λ xs. u32_at xs 508) (sym same)) h.rest;
+    }
+
+pub all_met : (a old new whole : List ℕ) (at end counter : ℕ) → end ≤ counter → IsDifatSoFar a old new whole (end - counter) at → IsRead a old new whole
+all_met a old new whole at end counter le h = record {
+  kept = h.kept;
+  there = subst (AgreeOn a new) (difat_done a h.met whole at end counter le h.rest) h.there;
+}
+
+-- and the FAT's
+pub lists_read : (a old mid new : List ℕ) (h : HeaderValue) (ns : List ℕ) → ns ≡ fat_by mid h → IsRead a old mid (difat_by a h) → IsRead a mid new ns
+    → AreListsRead a old new h ns
+lists_read a old mid new h ns is d f = record {
+  kept = λ n k. f.kept n (d.kept n k);
+  difat_there = λ k x l. f.kept _ (d.there k x l);
+  listed_are = is ∙ sym (fat_by_alike a mid h d.there);
+  fat_there = f.there;
+}
+
+-- ---- files that are known, or not
 pub if_some : (known : Option (List ℕ)) (P : List ℕ → Type 0) → ((a : List ℕ) → P a) → IfSome known P
 if_some None P f = tt
 if_some (Some a) P f = f a

@@ -3,7 +3,7 @@ use Rattle.std.specs.Prelude.{◌≡◌, ◌+◌, ◌<◌, ◌≤◌, ℕ, List,
 use Rattle.std.specs.List.{All}
 use Rattle.cfb_chain.specs.Bytes.{sector}
 use Rattle.cfb_chain.specs.Chain.{END_OF_CHAIN, Leads}
-use Rattle.cfb_chain.specs.Header.{header_read}
+use Rattle.cfb_chain.specs.Header.{HeaderValue, difat_by, fat_by, header_read}
 use Rattle.file_model.specs.Alike.{AgreeOn}
 use Rattle.file_places.specs.declared.fault.PlacesFault.{PlacesFault}
 use Rattle.file_places.specs.declared.fault.PlacesFault.TheVariants.{Unreadable, TooBig, NoMemory, Header}
@@ -21,6 +21,13 @@ pub record IsRead (a old new ns : List ℕ) : Type 0 where
 pub record IsChainRead (a old new table : List ℕ) (start : ℕ) : Type 0 where
   pub kept : (n : ℕ) → sector a n ≡ sector old n → sector a n ≡ sector new n
   pub there : (ns : List ℕ) → length table ≤ END_OF_CHAIN → Leads (slice_index table) start ns END_OF_CHAIN → All (λ n. n < length table) ns → AgreeOn a new ns
+
+-- The sectors of the DIFAT and of the FAT that a header and they list were read, `ns` being the FAT's.
+pub record AreListsRead (a old new : List ℕ) (h : HeaderValue) (ns : List ℕ) : Type 0 where
+  pub kept : (n : ℕ) → sector a n ≡ sector old n → sector a n ≡ sector new n
+  pub difat_there : AgreeOn a new (difat_by a h)
+  pub listed_are : ns ≡ fat_by a h
+  pub fat_there : AgreeOn a new ns
 
 -- Likewise, so many sectors from one on.
 pub record IsRunRead (a old new : List ℕ) (first count : ℕ) : Type 0 where

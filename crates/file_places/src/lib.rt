@@ -2,6 +2,7 @@
 #![tactic(auto)]
 
 pub mod fault;
+mod listing;
 mod putting;
 pub mod reading;
 mod sectors;

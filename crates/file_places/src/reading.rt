@@ -6,7 +6,8 @@ ghost use Rattle.file_places.specs.Filled.{MayRefusePlaces, most};
 ghost use Rattle.std.specs.Prelude.{◌≡◌, ◌≤◌, IfErr, IfOk, IfSome, Ok, length};
 
 use crate::fault::PlacesFault;
-use crate::sectors::{read_bytes, read_chain, read_sectors};
+use crate::listing::read_lists;
+use crate::sectors::{read_bytes, read_chain};
 use crate::source::Source;
 use cfb_chain::header::Header;
 use cfb_chain::image::Image;
@@ -43,7 +44,7 @@ fn read_len<S: Source>(source: &mut S) -> Result<usize, PlacesFault>
     }
 }
 
-/// Reads of a file the header, the FAT, the directory and the mini FAT: what its listing needs. Chains are followed as far
+/// Reads of a file the header, the DIFAT, the FAT, the directory and the mini FAT: what its listing needs. Chains are followed as far
 /// as the FAT goes, and what is wrong with them is found as the listing is made.
 ///
 /// Refused: `Unreadable` where a read fails, `TooBig` for more than `MOST` bytes, `NoMemory`, and the fault of a header.
@@ -61,8 +62,8 @@ pub fn read_catalog<S: Source>(alloc: Global, source: &mut S) -> Result<Catalog,
     };
     let mut file = Places::new(alloc, len)?;
     file.put(0, &front)?;
-    read_sectors(alloc, source, &mut file, header.fat())?;
-    let table = entries(alloc, &header, &Image::Placed(&file))?;
+    let sectors = read_lists(alloc, source, &mut file, &header)?;
+    let table = entries(alloc, &Image::Placed(&file), &sectors.fat)?;
     read_chain(alloc, source, &mut file, &table, header.first_directory())?;
     read_chain(alloc, source, &mut file, &table, header.first_mini_fat())?;
     Ok(Catalog { header, file })

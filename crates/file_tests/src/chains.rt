@@ -52,8 +52,8 @@ const FAULTS: &str = "7 e2 BadSignature 0
 30 0c Unsupported 30
 33 06 Unsupported 32
 58 01 Unsupported 56
-44 6e TooBig 0
-72 01 TooBig 0";
+45 05 TooBig 0
+72 09 TooBig 0";
 
 fn file_of(rt: &impl Abort, alloc: Global, fat: &str) -> Vec<u8> {
     let mut file = spelled(rt, alloc, HEADER);
@@ -206,7 +206,8 @@ fn header_is_refused(bytes: &[u8], name: &str, field: u32) -> bool {
 }
 
 fn is_sample(header: &Header) -> bool {
-    header.fat().len() == 1
+    header.fat_count() == 1
+        && header.fat().len() == 1
         && header.fat().first().copied() == Some(0)
         && header.first_directory() == 1
         && header.first_mini_fat() == 5
@@ -214,7 +215,7 @@ fn is_sample(header: &Header) -> bool {
 }
 
 fn is_written(rt: &impl Abort, alloc: Global) -> bool {
-    let made = Header::new(&[0], 1, 5, 1).expect(rt, "one sector");
+    let made = Header::new(&[0], &[], 1, 5, 1).expect(rt, "one sector");
     are_spelled(rt, alloc, &made.write(), HEADER)
 }
 

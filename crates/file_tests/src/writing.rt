@@ -12,14 +12,17 @@ use storage_tree::tree::Tree;
 /// A stream is put with so many bytes, and the file has then this length, or none, and fits or why not.
 ///
 /// A stream of up to 4,095 bytes stands in mini sectors, a longer one in sectors of its own. 109 FAT sectors cover 13,842
-/// sectors of one stream and one of the directory. With A to N there are 4 sectors of the directory, 7 of the mini FAT and 112
+/// sectors of one stream and one of the directory, one sector more takes a DIFAT sector and a FAT sector, and 1,125 FAT
+/// sectors with 8 DIFAT sectors cover 142,866 sectors of one stream and one of the directory. With A to N there are 4 sectors of the directory, 7 of the mini FAT and 112
 /// of the mini stream; 24 mini sectors more give 4, 8 and 115, which is as much as one FAT sector covers; 32 more give one
 /// more and a second FAT sector.
 const STREAMS: &str = "A 4095 6144 fits
 A 4096 5632 fits
 A 4097 6144 fits
 A 7087104 7143936 fits
-A 7087105 0 TooBig
+A 7087105 7145472 fits
+A 73147392 73728512 fits
+A 73147393 0 TooBig
 A 4095 6144 fits
 B 4095 . .
 C 4095 . .

@@ -3,3 +3,4 @@ pub mod ContentsSiblings
 pub mod Denoted
 pub mod ContentsPush
 pub mod ContentsStreams
+pub mod Lists

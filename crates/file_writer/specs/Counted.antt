@@ -2,6 +2,7 @@
 use Rattle.std.specs.Prelude.{◌≡◌, ◌≤◌, ◌<◌, ◌+◌, ◌*◌, min}
 use Rattle.storage_tree.specs.Tree.{Tree}
 use Rattle.file_model.specs.Limits.{MANY, MOST_FAT_SECTORS}
+use Rattle.file_model.specs.Image.{behind_fat}
 use Rattle.file_model.specs.Need.{data_sectors, entries, fat_sectors, long_sectors, mini_sectors, needed}
 use Rattle.file_writer.specs.declared.entries.Counts.{Counts}
 
@@ -21,7 +22,8 @@ pub record AreCounts (c : Counts) (t : Tree) : Type 0 where
   pub minis_counted : c.minis ≡ mini_sectors t
   pub longs_counted : c.longs ≡ long_sectors t
 
--- and as many FAT sectors as cover it
+-- and as many FAT sectors as cover it, and no more
 pub record AreEnough (c : Counts) (t : Tree) : Type 0 where
   pub counts : AreCounts c t
-  pub covered : c.fat + data_sectors t ≤ 128 * c.fat
+  pub least : c.fat ≡ fat_sectors (data_sectors t)
+  pub covered : behind_fat c.fat + data_sectors t ≤ 128 * c.fat

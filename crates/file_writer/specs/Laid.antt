@@ -3,9 +3,13 @@ use Rattle.std.specs.Prelude.{◌≡◌, ℕ, List}
 use Rattle.storage_tree.specs.Tree.{Tree}
 use Rattle.file_model.specs.Directory.{balanced, parts_of}
 use Rattle.file_model.specs.Image.{image}
+use Rattle.file_model.specs.Need.{data_sectors, fat_sectors}
 
--- A file of a tree's parts, one behind another, in which each byte is of the tree or zero or free: nothing else stands
--- in it.
-pub record IsLaidOut (t : Tree) (file : List ℕ) : Type 0 where
-  pub fat_count : ℕ
-  pub laid_out : file ≡ image fat_count (parts_of balanced fat_count t)
+-- The file of a tree: its parts, one behind another, behind the least FAT that covers them. Each byte in it is of the tree
+-- or zero or free: nothing else stands in it.
+abbrev pub file_of : Tree → List ℕ
+file_of t = image (fat_sectors (data_sectors t)) (parts_of balanced (fat_sectors (data_sectors t)) t)
+
+-- a file is that of a tree
+abbrev pub IsLaidOut : Tree → List ℕ → Type 0
+IsLaidOut t file = file ≡ file_of t

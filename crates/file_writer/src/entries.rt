@@ -20,6 +20,7 @@ use cfb_directory::links::{Links, balanced};
 use cfb_directory::write::{EntryFields, write_entry, write_free_entry};
 use cfb_names::name::Name;
 use file_model::limit::MANY;
+use file_model::need::difat_sectors;
 use std::alloc::{AllocError, Global};
 use storage_tree::bytes::Bytes;
 use storage_tree::storage::{Node, Storage};
@@ -308,7 +309,8 @@ pub(crate) struct Counts {
 
 impl Counts {
     ghost use Rattle.std.specs.Prelude.{◌≡◌, ◌≤◌, ◌*◌, ◌+◌};
-    ghost use Rattle.file_model.specs.Need.{needed, pieces};
+    ghost use Rattle.file_model.specs.Image.{behind_fat};
+    ghost use Rattle.file_model.specs.Need.{difat_sectors as difat_needed, needed, pieces};
     ghost use Rattle.file_model.specs.declared.limit.TheConstants.{MANY};
 
     /// The sectors of the directory.
@@ -346,15 +348,31 @@ impl Counts {
         tables + self.mini_stream_sectors() + self.longs
     }
 
+    /// The sectors of the DIFAT.
+    pub(crate) fn difat_sectors(self) -> u32
+        ensures value { result ≡ difat_needed self.fat }
+        ensures few { result ≤ self.fat }
+    {
+        difat_sectors(self.fat)
+    }
+
+    /// The sectors of the FAT and the DIFAT.
+    pub(crate) fn own_sectors(self) -> u32
+        requires { self.fat ≤ MANY }
+        ensures { result ≡ behind_fat self.fat }
+    {
+        self.fat + self.difat_sectors()
+    }
+
     /// All sectors.
     pub(crate) fn sectors(self) -> u32
         requires few_fat { self.fat ≤ MANY }
         requires few_entries { self.entries ≤ MANY }
         requires few_minis { self.minis ≤ MANY }
         requires few_sectors { self.longs ≤ MANY }
-        ensures { result ≡ self.fat + needed self.entries self.minis self.longs }
+        ensures { result ≡ behind_fat self.fat + needed self.entries self.minis self.longs }
     {
-        self.fat + self.data_sectors()
+        self.own_sectors() + self.data_sectors()
     }
 
     /// The bytes of the file: its header and all sectors.
@@ -377,7 +395,7 @@ fn root_entry(root: &Storage, children: &Siblings, counts: Counts) -> EntryField
     ensures says { result ≡ root_says balanced_links counts.fat (view root.now) }
 {
     let state = state_bits(root.state);
-    let before = counts.fat + counts.directory_sectors() + counts.mini_fat_sectors();
+    let before = counts.own_sectors() + counts.directory_sectors() + counts.mini_fat_sectors();
     EntryFields {
         kind: EntryKind::Root,
         left: NO_STREAM,
@@ -415,7 +433,8 @@ pub(crate) fn push_directory(
     ensures spelled { OnOk result (IsSpelled (view root.now)) }
 {
     let directory = counts.directory_sectors();
-    let sector = counts.fat + directory + counts.mini_fat_sectors() + counts.mini_stream_sectors();
+    let tables = counts.own_sectors() + directory + counts.mini_fat_sectors();
+    let sector = tables + counts.mini_stream_sectors();
     let children = siblings_of(alloc, root, 1)?;
     let name = Name::root();
     write_entry(out, name.as_bytes(), &root_entry(root, &children, counts))?;

@@ -1,18 +1,18 @@
 //! Writing whole compound files.
 
-ghost use Rattle.cfb_chain.specs.Chain.{FAT_SECTOR as FAT_SECTOR_VALUE};
+ghost use Rattle.cfb_chain.specs.declared.header.TheConstants.{MOST_DIFAT_SECTORS};
 ghost use Rattle.cfb_chain.specs.Header.{header_bytes};
 ghost use Rattle.std.specs.Int.{to_le_bytes, w32};
 ghost use Rattle.std.specs.List.{flat_map, range_with_len, sum};
-ghost use Rattle.std.specs.Prelude.{◌≡◌, ◌≤◌, ◌<◌, ◌+◌, ◌-◌, ◌*◌, ◌^◌, ◌++◌, ◌∷◌, ℕ, Err, IfErr, IfOk, Ok, OnOk, length, min, replicate};
+ghost use Rattle.std.specs.Prelude.{◌≡◌, ◌≤◌, ◌<◌, ◌+◌, ◌-◌, ◌*◌, ◌^◌, ◌++◌, ◌∷◌, ℕ, Err, [], IfErr, IfOk, Ok, OnOk, length, min, replicate};
 ghost use Rattle.std.specs.Vec.{vec_len};
 ghost use Rattle.storage_tree.specs.Kept.{kept};
 ghost use Rattle.storage_tree.specs.View.{view};
 ghost use Rattle.storage_tree.specs.Whole.{IsTree};
 ghost use Rattle.file_model.specs.Denotes.{Denotes};
 ghost use Rattle.file_model.specs.Directory.{IsSpelled, balanced, long_streams, parts_of, short_streams};
-ghost use Rattle.file_model.specs.Image.{counts as runs_behind, image, pieces_of, run, runs, start, table_bytes};
-ghost use Rattle.file_model.specs.Need.{data_sectors, entries, fat_sectors, long_sectors, mini_sectors};
+ghost use Rattle.file_model.specs.Image.{behind_fat, counts as runs_behind, difat_numbers, image, names, own_entries, pieces_of, run, runs, start, table_bytes};
+ghost use Rattle.file_model.specs.Need.{data_sectors, entries, fat_sectors as fat_needed, long_sectors, mini_sectors};
 ghost use Rattle.file_model.specs.Refusals.{Refuses, writable};
 ghost use Rattle.file_model.specs.declared.limit.TheConstants.{MANY, MOST_FAT_SECTORS};
 ghost use Rattle.file_writer.specs.Counted.{AreEnough, IsCounted};
@@ -22,16 +22,20 @@ use crate::entries::{Counts, chain_start, count_below, push_directory};
 use crate::streams::{
     count_minis, count_sectors, push_long, push_mini_counts, push_mini_stream, push_sector_counts,
 };
-use cfb_chain::fat::END_OF_CHAIN;
-use cfb_chain::header::Header;
+use cfb_chain::fat::{END_OF_CHAIN, FREE_SECTOR};
+use cfb_chain::header::{Header, LISTED, NAMED};
 use file_model::fault::WriteFault;
 use file_model::limit::{MANY, MOST_FAT_SECTORS};
+use file_model::need::fat_sectors;
 use std::alloc::{AllocError, Global};
 use storage_tree::storage::Storage;
 use storage_tree::tree::Tree;
 
 /// The value of a sector that holds a part of the FAT.
 const FAT_SECTOR: u32 = 0xffff_fffd;
+
+/// The value of a sector that holds a part of the DIFAT.
+const DIFAT_SECTOR: u32 = 0xffff_fffc;
 
 /// Adds a number in four bytes, least byte first.
 fn push_number(out: &mut Vec<u8>, n: u32) -> Result<(), AllocError>
@@ -69,6 +73,15 @@ fn push_table(out: &mut Vec<u8>, sectors: u32, table: &[u32]) -> Result<(), Allo
 {
     push_numbers(out, table)?;
     push_equal(out, 4 * (128 * sectors as usize - table.len()), 0xff)?;
+    Ok(())
+}
+
+/// Adds equal numbers.
+fn push_copies(numbers: &mut Vec<u32>, count: u32, number: u32) -> Result<(), AllocError>
+    ensures { OnOk result (numbers.new.items ≡ numbers.old.items ++ replicate count number) }
+{
+    let len = numbers.len() + count as usize;
+    numbers.resize(len, number)?;
     Ok(())
 }
 
@@ -122,16 +135,18 @@ fn sector_runs(alloc: Global, root: &Storage, counts: Counts) -> Result<Vec<usiz
     Ok(runs)
 }
 
-/// The FAT: its own sectors, and behind them the runs of the parts.
+/// The FAT: its own sectors, those of the DIFAT, and behind them the runs of the parts.
 fn fat_table(alloc: Global, root: &Storage, counts: Counts) -> Result<Vec<u32>, AllocError>
     requires { AreEnough counts (view root.now) }
-    ensures items { IfOk result (λ v. v.items ≡ replicate counts.fat FAT_SECTOR_VALUE ++ runs counts.fat (runs_behind (parts_of balanced counts.fat (view root.now)))) }
-    ensures len { IfOk result (λ v. vec_len v ≡ counts.fat + data_sectors (view root.now)) }
+    ensures items { IfOk result (λ v. v.items ≡ own_entries counts.fat ++ runs (behind_fat counts.fat) (runs_behind (parts_of balanced counts.fat (view root.now)))) }
+    ensures len { IfOk result (λ v. vec_len v ≡ behind_fat counts.fat + data_sectors (view root.now)) }
 {
     let runs = sector_runs(alloc, root, counts)?;
     let mut table = Vec::with_capacity(alloc, counts.sectors() as usize)?;
-    table.resize(counts.fat as usize, FAT_SECTOR)?;
-    push_runs(&mut table, counts.fat, &runs)?;
+    let own = counts.own_sectors();
+    push_copies(&mut table, counts.fat, FAT_SECTOR)?;
+    push_copies(&mut table, counts.difat_sectors(), DIFAT_SECTOR)?;
+    push_runs(&mut table, own, &runs)?;
     Ok(table)
 }
 
@@ -148,22 +163,61 @@ fn mini_table(alloc: Global, root: &Storage) -> Result<Vec<u32>, AllocError>
     Ok(table)
 }
 
-/// Adds the header of a file with so many sectors of the FAT, the directory and the mini FAT, in this order.
+/// The numbers in a DIFAT sector: the FAT sectors from one on and before another, as many as it names, and the DIFAT sector
+/// that is next.
+fn difat_sector(alloc: Global, first: u32, end: u32, next: u32) -> Result<Vec<u32>, AllocError>
+    requires { first < 2 ^ 31 }
+    ensures { IfOk result (λ v. v.items ≡ names first end ++ next ∷ []) }
+{
+    let mut numbers = Vec::with_capacity(alloc, NAMED + 1)?;
+    let count = end.saturating_sub(first).min(NAMED as u32);
+    push_range(&mut numbers, first, count)?;
+    push_copies(&mut numbers, NAMED as u32 - count, FREE_SECTOR)?;
+    numbers.push(next)?;
+    Ok(numbers)
+}
+
+/// Adds so many DIFAT sectors, which stand behind the FAT's sectors and name those that the header has no room for.
+fn push_difat(
+    alloc: Global,
+    out: &mut Vec<u8>,
+    fat_count: u32,
+    difat_count: u32,
+) -> Result<(), AllocError>
+    requires few { fat_count ≤ MOST_FAT_SECTORS }
+    requires least { difat_count ≤ MOST_FAT_SECTORS }
+    ensures { OnOk result (out.new.items ≡ out.old.items ++ flat_map (to_le_bytes w32) (difat_numbers difat_count fat_count LISTED fat_count)) }
+{
+    for k in 0..difat_count {
+        let next = chain_start(fat_count + k + 1, difat_count - k - 1);
+        let first = LISTED as u32 + NAMED as u32 * k;
+        let numbers = difat_sector(alloc, first, fat_count, next)?;
+        push_numbers(out, &numbers)?;
+    }
+    Ok(())
+}
+
+/// Adds the header of a file with so many sectors of the FAT, the DIFAT, the directory and the mini FAT, in this order.
 fn push_header(
     alloc: Global,
     out: &mut Vec<u8>,
     fat_count: u32,
+    difat_count: u32,
     directory_count: u32,
     mini_fat_count: u32,
 ) -> Result<(), AllocError>
     requires few { fat_count ≤ MOST_FAT_SECTORS }
+    requires least { difat_count ≤ MOST_DIFAT_SECTORS }
     requires small { directory_count ≤ MANY }
-    ensures { OnOk result (out.new.items ≡ out.old.items ++ header_bytes (record { fat = range_with_len 0 fat_count; first_directory = fat_count; first_mini_fat = start (fat_count + directory_count) mini_fat_count; mini_fat_count = mini_fat_count })) }
+    ensures { OnOk result (out.new.items ≡ out.old.items ++ header_bytes (record { fat_count = fat_count; fat = range_with_len 0 (min fat_count LISTED); first_difat = start fat_count difat_count; difat_count = difat_count; first_directory = fat_count + difat_count; first_mini_fat = start (fat_count + difat_count + directory_count) mini_fat_count; mini_fat_count = mini_fat_count })) }
 {
     let mut fat = Vec::new(alloc);
     push_range(&mut fat, 0, fat_count)?;
-    let first_mini_fat = chain_start(fat_count + directory_count, mini_fat_count);
-    match Header::new(&fat, fat_count, first_mini_fat, mini_fat_count) {
+    let mut difat = Vec::new(alloc);
+    push_range(&mut difat, fat_count, difat_count)?;
+    let own = fat_count + difat_count;
+    let first_mini_fat = chain_start(own + directory_count, mini_fat_count);
+    match Header::new(&fat, &difat, own, first_mini_fat, mini_fat_count) {
         Ok(header) => out.extend_from_slice(&header.write())?,
         Err(_) => unreachable!(),
     }
@@ -182,8 +236,17 @@ fn lay_out(alloc: Global, root: &Storage, counts: Counts) -> Result<Vec<u8>, All
     let directory_count = counts.directory_sectors();
     let mini_fat_count = counts.mini_fat_sectors();
     let mut out = Vec::with_capacity(alloc, counts.file_len())?;
-    push_header(alloc, &mut out, counts.fat, directory_count, mini_fat_count)?;
+    let difat = counts.difat_sectors();
+    push_header(
+        alloc,
+        &mut out,
+        counts.fat,
+        difat,
+        directory_count,
+        mini_fat_count,
+    )?;
     push_table(&mut out, counts.fat, &fat)?;
+    push_difat(alloc, &mut out, counts.fat, difat)?;
     push_directory(alloc, &mut out, root, counts)?;
     push_table(&mut out, mini_fat_count, &minis)?;
     push_mini_stream(&mut out, root)?;
@@ -201,7 +264,7 @@ fn survey(root: &Storage) -> Counts
         minis: count_minis(root) as u32,
         longs: count_sectors(root) as u32,
     };
-    counts.fat = counts.data_sectors().div_ceil(127);
+    counts.fat = fat_sectors(counts.data_sectors());
     counts
 }
 

@@ -1,13 +1,13 @@
 -- What is told of a file that a listing can't tell from another is told of the other.
-use Rattle.std.proofs.Common.{◌≡◌, inl, inr, ℕ, List, sym, ◌∙◌, subst}
+use Rattle.std.proofs.Common.{◌≡◌, inl, inr, ℕ, List, sym, ◌∙◌}
 use Rattle.cfb_chain.specs.Chain.{IsChain}
-use Rattle.cfb_chain.specs.Fat.{IsFat, sectors_of}
+use Rattle.cfb_chain.specs.Fat.{sectors_of}
 use Rattle.cfb_chain.specs.Header.{first_directory, listed}
 use Rattle.cfb_names.specs.declared.fault.DirFault.TheVariants as directory
 use Rattle.file_model.specs.Alike.{Alike}
-use Rattle.file_model.proofs.AlikeFiles.{alike_back, alike_denotes, directory_chain_back, listed_alike}
+use Rattle.file_model.proofs.AlikeFiles.{alike_back, alike_denotes, directory_chain_back, is_fat_alike}
 use Rattle.file_model.proofs.AlikeHeaders.{header_alike}
-use Rattle.file_model.proofs.AlikeStores.{fat_alike, joined_alike}
+use Rattle.file_model.proofs.AlikeStores.{joined_alike}
 use Rattle.stream_io.specs.Reads.{IsDirectory, MayRefuseFile, MayRefuseRead}
 use Rattle.stream_io.specs.declared.fault.ReadFault.{ReadFault}
 use Rattle.stream_io.specs.declared.fault.ReadFault.TheVariants.{Chain, Directory, NoMemory}
@@ -18,7 +18,7 @@ directory_alike a b dir h d =
     let back : Alike b a = alike_back a b h in
     let chain : IsChain (sectors_of a (listed a)) (first_directory a) 0 d.sectors = directory_chain_back a b h d.sectors d.is_chain in
     record {
-      is_fat = subst (λ (fat : List ℕ). IsFat a fat) (sym (listed_alike a b h)) (fat_alike b a (listed b) back.len back.fat d.is_fat);
+      is_fat = is_fat_alike b a back d.is_fat;
       sectors = d.sectors;
       is_chain = chain;
       bytes_are = d.bytes_are ∙ sym (joined_alike a b d.sectors (h.directory d.sectors chain));

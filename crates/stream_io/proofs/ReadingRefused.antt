@@ -65,16 +65,16 @@ of_whole_chain f start chain.ShortChain h = inr tt
 of_whole_chain f start chain.TooBig h = absurd h
 of_whole_chain f start chain.NoMemory h = inl refl
 
-pub of_table : (file fat : List ℕ) (fault : ChainFault) → MayRefuseFat file fat fault → (fault ≡ chain.NoMemory) ⊎ IsOfChains fault
-of_table file fat chain.Truncated h = absurd h
-of_table file fat chain.BadSignature h = absurd h
-of_table file fat (chain.Unsupported n) h = absurd h
-of_table file fat chain.OutOfFile h = inr tt
-of_table file fat chain.Cycle h = absurd h
-of_table file fat chain.CrossLinked h = inr tt
-of_table file fat chain.ShortChain h = absurd h
-of_table file fat chain.TooBig h = absurd h
-of_table file fat chain.NoMemory h = inl refl
+pub of_table : (file : List ℕ) (v : HeaderValue) (fault : ChainFault) → MayRefuseFat file v fault → (fault ≡ chain.NoMemory) ⊎ IsOfChains fault
+of_table file v chain.Truncated h = absurd h
+of_table file v chain.BadSignature h = absurd h
+of_table file v (chain.Unsupported n) h = absurd h
+of_table file v chain.OutOfFile h = inr tt
+of_table file v chain.Cycle h = inr tt
+of_table file v chain.CrossLinked h = inr tt
+of_table file v chain.ShortChain h = inr tt
+of_table file v chain.TooBig h = absurd h
+of_table file v chain.NoMemory h = inl refl
 
 pub of_minis : (f : FatValue) (h : HeaderValue) (start size : ℕ) (fault : ChainFault) → MayRefuseMini f h start size fault → (fault ≡ chain.NoMemory) ⊎ IsOfChains fault
 of_minis f h start size fault (inl r) = of_chains f h.first_mini_fat _ fault r

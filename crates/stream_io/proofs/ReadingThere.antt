@@ -6,7 +6,7 @@ use Rattle.std.specs.List.{All, Contains}
 use Rattle.cfb_chain.specs.Bytes.{joined, sector}
 use Rattle.cfb_chain.specs.Chain.{AreDistinct, IsChain, IsChainOf}
 use Rattle.cfb_chain.specs.Fat.{AreFree, AreSame, FatValue, IsFat, IsMiniFound, IsTableOf, sectors_of, store_of}
-use Rattle.cfb_chain.specs.Header.{HeaderValue, first_directory, first_mini_fat, header_of, listed, mini_fat_count}
+use Rattle.cfb_chain.specs.Header.{HeaderValue, difat, first_directory, first_mini_fat, header_of, listed, mini_fat_count}
 use Rattle.cfb_chain.proofs.Blocks.{length_block, length_joined}
 use Rattle.cfb_chain.proofs.Chains.{chain_below, chain_of_same, chain_same, same_back}
 use Rattle.cfb_chain.proofs.Marks.{distinct_left, distinct_tail, free_when, marks_load}
@@ -39,33 +39,32 @@ others_free e n is ne lt =
 
 module _ (file : List ℕ) (t : Tree) (d : Denotes file t) where
   -- the FAT
-  pub fat_there : (h : HeaderValue) → h ≡ header_of file → IsFat file h.fat
-  fat_there h is =
-      let fat : IsFat file (listed file) = subst (IsFat file) d.laid_out.fat_listed d.laid_out.fat_sectors in
-      subst (λ (x : HeaderValue). IsFat file x.fat) (sym is) fat
+  pub fat_there : (h : HeaderValue) → h ≡ header_of file → IsFat file h
+  fat_there h is = subst (IsFat file) (sym is) d.laid_out.fat_sectors
 
   chain : IsChain (sectors_of file (listed file)) (first_directory file) 0 d.layout.directory
   chain = subst (λ (xs : List ℕ). IsChain (sectors_of file xs) (first_directory file) 0 d.layout.directory) d.laid_out.fat_listed d.laid_out.directory
 
   -- the sectors of the directory, the mini FAT and the mini stream
-  apart : AreDistinct ((listed file ++ d.layout.directory) ++ (d.layout.mini_fat ++ d.layout.mini_stream))
+  apart : AreDistinct ((listed file ++ difat file ++ d.layout.directory) ++ (d.layout.mini_fat ++ d.layout.mini_stream))
   apart =
-      let all : AreDistinct (d.layout.fat ++ d.layout.directory ++ d.layout.mini_fat ++ d.layout.mini_stream) =
-      distinct_left (d.layout.fat ++ d.layout.directory ++ d.layout.mini_fat ++ d.layout.mini_stream) d.used.sectors d.sectors_apart in
-      subst (λ (xs : List ℕ). AreDistinct ((xs ++ d.layout.directory) ++ (d.layout.mini_fat ++ d.layout.mini_stream))) d.laid_out.fat_listed
-      (subst AreDistinct (append_assoc (d.layout.fat ++ d.layout.directory) d.layout.mini_fat d.layout.mini_stream) all)
+      let all : AreDistinct (d.layout.fat ++ d.layout.difat ++ d.layout.directory ++ d.layout.mini_fat ++ d.layout.mini_stream) =
+      distinct_left (d.layout.fat ++ d.layout.difat ++ d.layout.directory ++ d.layout.mini_fat ++ d.layout.mini_stream) d.used.sectors d.sectors_apart in
+      subst (λ (xs : List ℕ). AreDistinct ((xs ++ difat file ++ d.layout.directory) ++ (d.layout.mini_fat ++ d.layout.mini_stream))) d.laid_out.fat_listed
+      (subst (λ (xs : List ℕ). AreDistinct ((d.layout.fat ++ xs ++ d.layout.directory) ++ (d.layout.mini_fat ++ d.layout.mini_stream))) d.laid_out.difat_listed
+      (subst AreDistinct (append_assoc (d.layout.fat ++ d.layout.difat ++ d.layout.directory) d.layout.mini_fat d.layout.mini_stream) all))
 
-  pub directory_there : (h : HeaderValue) (f : FatValue) → h ≡ header_of file → IsTableOf file h.fat f
+  pub directory_there : (h : HeaderValue) (f : FatValue) → h ≡ header_of file → IsTableOf file h f
       → (ns : List ℕ) × IsChain (store_of f) h.first_directory 0 ns × AreFree f ns
   directory_there h f is table =
-      let table' : IsTableOf file (listed file) f = subst (λ (x : HeaderValue). IsTableOf file x.fat f) is table in
+      let table' : IsTableOf file (header_of file) f = subst (λ (x : HeaderValue). IsTableOf file x f) is table in
       let here : IsChain (store_of f) (first_directory file) 0 d.layout.directory =
       chain_same (sectors_of file (listed file)) (store_of f) (same_back table'.sectors) (first_directory file) 0 d.layout.directory chain in
       let below : All (λ n. n < length f.table) d.layout.directory = λ k x lt. (here.present k x lt).1 in (
         d.layout.directory,
         subst (λ (x : HeaderValue). IsChain (store_of f) x.first_directory 0 d.layout.directory) (sym is) here,
-        free_when f (listed file) d.layout.directory (marks_load file (listed file) f table')
-            (distinct_left (listed file ++ d.layout.directory) (d.layout.mini_fat ++ d.layout.mini_stream) apart) below,
+        free_when f (listed file ++ difat file) d.layout.directory (marks_load file (header_of file) f table')
+            (distinct_left (listed file ++ difat file ++ d.layout.directory) (d.layout.mini_fat ++ d.layout.mini_stream) apart) below,
       )
 
   module _ (fat : FatValue) (directory bytes : List ℕ) (o : IsOpened file fat directory bytes) where
@@ -128,8 +127,8 @@ module _ (file : List ℕ) (t : Tree) (d : Denotes file t) where
         record {
           table = subst (λ (x : HeaderValue). IsChainOf (store_of fat) x.first_mini_fat (512 * x.mini_fat_count) d.layout.mini_fat) (sym is) table;
           stream = stream;
-          free = free_when fat (listed file ++ directory) (d.layout.mini_fat ++ d.layout.mini_stream) o.marks
-              (subst (λ (xs : List ℕ). AreDistinct ((listed file ++ xs) ++ (d.layout.mini_fat ++ d.layout.mini_stream))) (sym same_directory) apart) below;
+          free = free_when fat (listed file ++ difat file ++ directory) (d.layout.mini_fat ++ d.layout.mini_stream) o.marks
+              (subst (λ (xs : List ℕ). AreDistinct ((listed file ++ difat file ++ xs) ++ (d.layout.mini_fat ++ d.layout.mini_stream))) (sym same_directory) apart) below;
         }
 
 -- the storage of the root
@@ -144,17 +143,17 @@ module _ (file : List ℕ) (l : Layout) (old : Reader) (r : IsReady file l old.f
       let same : length (directory_in old) ≡ length (directory_of file l) = ap (λ (x : List ℕ). length x) r.bytes_are in
       omega (arith, unfolded, same)
 
-  in_tree : (t : Tree) (used : Used) → Holds file l 0 t used → IsTree 32 t → AreDistinct (l.fat ++ l.directory ++ l.mini_fat ++ l.mini_stream ++ used.sectors)
-      → AreDistinct used.minis → AreDistinct (0 ∷ used.ids) → IsThere file l 32 0 t used old (l.fat ++ l.directory ++ l.mini_fat ++ l.mini_stream) []
+  in_tree : (t : Tree) (used : Used) → Holds file l 0 t used → IsTree 32 t → AreDistinct (l.fat ++ l.difat ++ l.directory ++ l.mini_fat ++ l.mini_stream ++ used.sectors)
+      → AreDistinct used.minis → AreDistinct (0 ∷ used.ids) → IsThere file l 32 0 t used old (l.fat ++ l.difat ++ l.directory ++ l.mini_fat ++ l.mini_stream) []
   in_tree t used h whole apart minis_apart ids_apart =
-      storage_there file l 32 0 t used old (l.fat ++ l.directory ++ l.mini_fat ++ l.mini_stream) [] (stands file l old r) h whole apart minis_apart
+      storage_there file l 32 0 t used old (l.fat ++ l.difat ++ l.directory ++ l.mini_fat ++ l.mini_stream) [] (stands file l old r) h whole apart minis_apart
       (distinct_tail 0 used.ids ids_apart)
       (λ n c lt. others_free old.entries n loaded (λ z. distinct-head 0 used.ids ids_apart (subst (Contains used.ids) z c)) (within n lt))
 
   pub storage_read : (t : Tree) → Denotes file t → (new : Reader) × IsStorageRead 32 0 t old new
   storage_read t d =
       let same : d.layout ≡ l = layout_unique file d.layout l d.laid_out r.laid_out in
-      let there : IsThere file l 32 0 t d.used old (l.fat ++ l.directory ++ l.mini_fat ++ l.mini_stream) [] =
+      let there : IsThere file l 32 0 t d.used old (l.fat ++ l.difat ++ l.directory ++ l.mini_fat ++ l.mini_stream) [] =
       in_tree t d.used (subst (λ (x : Layout). Holds file x 0 t d.used) same d.holds) d.is_tree
-      (subst (λ (x : Layout). AreDistinct (x.fat ++ x.directory ++ x.mini_fat ++ x.mini_stream ++ d.used.sectors)) same d.sectors_apart) d.minis_apart d.ids_apart in
+      (subst (λ (x : Layout). AreDistinct (x.fat ++ x.difat ++ x.directory ++ x.mini_fat ++ x.mini_stream ++ d.used.sectors)) same d.sectors_apart) d.minis_apart d.ids_apart in
       (there.new, there.is_read)

@@ -6,7 +6,7 @@ use Rattle.cfb_chain.specs.Bytes.{joined, sector}
 use Rattle.cfb_chain.specs.Chain.{IsChain}
 use Rattle.cfb_chain.specs.Fault.{name_of as name_of_chain}
 use Rattle.cfb_chain.specs.Fat.{FatValue, IsFat, IsFound, marked as sectors_marked, sectors_of, store_of}
-use Rattle.cfb_chain.specs.Header.{first_directory, header_read, listed}
+use Rattle.cfb_chain.specs.Header.{first_directory, header_of, header_read, listed}
 use Rattle.cfb_chain.specs.declared.fault.ChainFault.{ChainFault}
 use Rattle.cfb_chain.specs.declared.fault.ChainFault.TheVariants as chain
 use Rattle.cfb_names.specs.Faults.{name_of_fault}
@@ -180,7 +180,7 @@ MayRefuseStorage dir depth id NoMemory = Unit {0}
 
 -- the bytes of a file's directory
 pub record IsDirectory (file dir : List ℕ) : Type 0 where
-  pub is_fat : IsFat file (listed file)
+  pub is_fat : IsFat file (header_of file)
   pub sectors : List ℕ
   pub is_chain : IsChain (sectors_of file (listed file)) (first_directory file) 0 sectors
   pub bytes_are : dir ≡ joined (sector file) sectors

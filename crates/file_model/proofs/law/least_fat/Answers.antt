@@ -1,5 +1,5 @@
-use Rattle.std.proofs.Common.{arith}
+use Rattle.file_model.proofs.LeastFat.{covers, least}
 use Rattle.file_model.proofs.law.least_fat.Goals as goal
 
 pub returns : goal.returns
-returns c d = record { covers = omega arith; least = λ g h. omega (arith, h) }
+returns c d = record { covers = covers d; least = least d }

@@ -3,7 +3,7 @@ use Rattle.std.specs.Result.{IsErrAnd}
 use Rattle.cfb_chain.proofs.Results.{refused_with}
 use Rattle.cfb_chain.specs.Chain.{IsChain}
 use Rattle.cfb_chain.specs.Fat.{AreFree, set_all, store_of}
-use Rattle.cfb_chain.specs.Header.{HeaderValue, IsHeader, header_of, listed}
+use Rattle.cfb_chain.specs.Header.{HeaderValue, IsHeader, difat, header_of, listed}
 use Rattle.cfb_chain.specs.View.{image_bytes}
 use Rattle.cfb_directory.specs.Entries.{EntriesValue}
 use Rattle.storage_tree.specs.Tree.{Tree}
@@ -91,7 +91,7 @@ returns-in_err-outline-clause-reads c = λ t d.
     c.deref.ensures.value c.in_ok-directory.ensures.bytes (ap (λ (x : EntriesValue). x.directory) c.in_ok-entries.ensures.loaded ∙ c.bytes.ensures) in
     let mini_fat : List ℕ = c.in_ok-mini.ensures.found.0 in
     let mini_stream : List ℕ = c.in_ok-mini.ensures.found.1 in
-    let l : Layout = record { fat = listed file; directory = c.in_ok-chain.chain.items; mini_fat = mini_fat; mini_stream = mini_stream } in
+    let l : Layout = record { fat = listed file; difat = difat file; directory = c.in_ok-chain.chain.items; mini_fat = mini_fat; mini_stream = mini_stream } in
     let r : IsReady file l c.mini.new.self c.in_ok-mini.mini e.directory =
     ready file h c.chain.new.self c.mini.new.self c.in_ok-mini.mini c.in_ok-chain.chain.items e.directory c.in_ok-root.root.first c.in_ok-root.root.size
     mini_fat mini_stream is o c.in_ok-root.ensures.read.first c.in_ok-root.ensures.read.size
@@ -117,7 +117,7 @@ returns-clause-denotes c =
     c.deref.ensures.value c.in_ok-directory.ensures.bytes (ap (λ (x : EntriesValue). x.directory) c.in_ok-entries.ensures.loaded ∙ c.bytes.ensures) in
     let mini_fat : List ℕ = c.in_ok-mini.ensures.found.0 in
     let mini_stream : List ℕ = c.in_ok-mini.ensures.found.1 in
-    let l : Layout = record { fat = listed file; directory = c.in_ok-chain.chain.items; mini_fat = mini_fat; mini_stream = mini_stream } in
+    let l : Layout = record { fat = listed file; difat = difat file; directory = c.in_ok-chain.chain.items; mini_fat = mini_fat; mini_stream = mini_stream } in
     let r : IsReady file l c.mini.new.self c.in_ok-mini.mini e.directory =
     ready file h c.chain.new.self c.mini.new.self c.in_ok-mini.mini c.in_ok-chain.chain.items e.directory c.in_ok-root.root.first c.in_ok-root.root.size
     mini_fat mini_stream is o c.in_ok-root.ensures.read.first c.in_ok-root.ensures.read.size
@@ -143,7 +143,7 @@ returns-clause-sized c =
 pub returns-in_err-fat-clause-refused : goal.returns-in_err-fat-clause-refused
 returns-in_err-fat-clause-refused c =
     refused_with c.from_residual.result (chain_fault c.in_err-fat.field-0.0) (MayRefuseFile (image_bytes c.args.file)) c.from_residual.ensures.1
-    (file_chain (image_bytes c.args.file) c.in_err-fat.field-0.0 (of_table (image_bytes c.args.file) c.args.header.now.fat c.in_err-fat.field-0.0 c.in_err-fat.ensures.refused))
+    (file_chain (image_bytes c.args.file) c.in_err-fat.field-0.0 (of_table (image_bytes c.args.file) c.args.header.now c.in_err-fat.field-0.0 c.in_err-fat.ensures.refused))
 
 pub returns-in_err-chain-clause-refused : goal.returns-in_err-chain-clause-refused
 returns-in_err-chain-clause-refused c =

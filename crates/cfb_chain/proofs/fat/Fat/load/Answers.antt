@@ -1,82 +1,208 @@
-use Rattle.std.proofs.Common.{◌<◌, ◌≤◌, ◌≡◌, ◌*◌, ℕ, List, arith, length, refl, ap, ◌∙◌, sym, subst, min}
+use Rattle.std.proofs.Common.{◌<◌, ◌≤◌, ◌≡◌, ◌++◌, ◌*◌, ℕ, List, arith, length, refl, ap, ◌∙◌, sym, subst, min}
 use Rattle.cfb_chain.specs.Bytes.{joined, sector}
-use Rattle.std.specs.List.{All}
-use Rattle.cfb_chain.specs.Chain.{IsPresent}
-use Rattle.cfb_chain.specs.Fat.{IsTableOf, MayRefuseFat, sectors_in, sectors_of}
-use Rattle.cfb_chain.specs.declared.fault.ChainFault.TheVariants.{NoMemory, OutOfFile, CrossLinked}
+use Rattle.cfb_chain.specs.Chain.{AreDistinct}
+use Rattle.std.specs.List.{All, Contains}
+use Rattle.cfb_chain.specs.Fat.{MayRefuseFat, sectors_in}
+use Rattle.cfb_chain.specs.Header.{HeaderValue, difat_by, fat_by}
+use Rattle.cfb_chain.specs.declared.fault.ChainFault.TheVariants.{Cycle, NoMemory}
 use Rattle.cfb_chain.specs.View.{image_bytes}
 use Rattle.cfb_chain.proofs.Chains.{refused_not_fat}
 use Rattle.cfb_chain.proofs.Results.{refused_with}
-use Rattle.cfb_chain.proofs.Tables.{absent, all_present, crossed, loaded}
+use Rattle.cfb_chain.proofs.Tables.{absent, all_listed, all_present, crossed, few_listed, header_listed, loaded}
 use Rattle.cfb_chain.proofs.fat.Fat.load.Goals as goal
 
--- the number of sectors, by the list as it was read
-counted : (fat ns file : List ℕ) (count : ℕ) → ns ≡ fat → count ≡ min (128 * length fat) (sectors_in file)
-    → count ≡ min (128 * length ns) (sectors_in file)
-counted fat ns file count same h = h ∙ (λ i. min (128 * length (sym same i)) (sectors_in file))
+pub returns-in_err-check_room-clause-refused : goal.returns-in_err-check_room-clause-refused
+returns-in_err-check_room-clause-refused c =
+    let file : List ℕ = image_bytes c.args.file in
+    let h : HeaderValue = c.args.header.now in
+    let r = c.in_err-check_room.ensures.refused in
+    refused_with c.from_residual.result c.in_err-check_room.field-0.0 (MayRefuseFat file h) c.from_residual.ensures.1
+    (subst (MayRefuseFat file h) (sym r.0) (few_listed file h r.1))
 
--- the sectors are there, where want of memory is told
-memory_last : (file fat ns : List ℕ) (count : ℕ) → ns ≡ fat → count ≡ min (128 * length fat) (sectors_in file) → length fat ≤ 109
-    → All (λ n. n < count) ns → MayRefuseFat file fat NoMemory
-memory_last file fat ns count same h few below =
-    subst (λ xs. All (IsPresent (sectors_of file xs)) xs) same
-    (all_present file ns count (counted fat ns file count same h) (omega (arith, ap length same, few)) below)
-
-absent_one : (c : goal.After-from_residual) → MayRefuseFat (image_bytes c.args.file) c.args.header.now.fat c.in_err-check_present.field-0.0
-absent_one c =
-    let r = c.in_err-check_present.ensures.refused in
-    let file = image_bytes c.args.file in
-    subst (MayRefuseFat file c.args.header.now.fat) (sym r.0)
-    (subst (λ fat. MayRefuseFat file fat OutOfFile) c.fat-listed.ensures
-    (absent file c.fat-listed.result.now c.count_entries-count.result
-    (counted c.args.header.now.fat c.fat-listed.result.now file c.count_entries-count.result c.fat-listed.ensures c.count_entries-count.ensures.count)
-    r.1.0 r.1.1 r.1.2))
+pub returns-in_err-check_room-clause-there : goal.returns-in_err-check_room-clause-there
+returns-in_err-check_room-clause-there c = λ g.
+    let file : List ℕ = image_bytes c.args.file in
+    let h : HeaderValue = c.args.header.now in
+    let r = c.in_err-check_room.ensures.refused in
+    refused_with c.from_residual.result c.in_err-check_room.field-0.0 (λ e. e ≡ NoMemory) c.from_residual.ensures.1
+    (refused_not_fat file h c.in_err-check_room.field-0.0 g
+    (subst (MayRefuseFat file h) (sym r.0) (few_listed file h r.1)))
 
 pub returns-in_err-check_present-clause-refused : goal.returns-in_err-check_present-clause-refused
 returns-in_err-check_present-clause-refused c =
-    refused_with c.from_residual.result c.in_err-check_present.field-0.0 (MayRefuseFat (image_bytes c.args.file) c.args.header.now.fat) c.from_residual.ensures.1
-    (absent_one c)
+    let file : List ℕ = image_bytes c.args.file in
+    let h : HeaderValue = c.args.header.now in
+    let whole : length (fat_by file h) ≡ h.fat_count = all_listed file h c.in_ok-check_room.ensures.enough in
+    let counted : c.count_entries-count.result ≡ min (128 * h.fat_count) (sectors_in file) =
+    c.count_entries-count.ensures ∙ ap (λ n. min (128 * n) (sectors_in file)) c.fat_count.ensures.count in
+    let few : h.fat_count ≤ 1125 = omega (arith, c.fat_count.ensures.few, c.fat_count.ensures.count) in
+    let r = c.in_err-check_present.ensures.refused in
+    refused_with c.from_residual-in_err-check_present.result c.in_err-check_present.field-0.0 (MayRefuseFat file h) c.from_residual-in_err-check_present.ensures.1
+    (subst (MayRefuseFat file h) (sym r.0)
+    (absent file h (fat_by file h ++ difat_by file h) refl whole c.count_entries-count.result counted r.1.0
+    (header_listed file h r.1.0 (omega (arith, c.fat_count.ensures.first, c.fat_count.ensures.count)) (subst (λ xs. Contains xs r.1.0) c.fat.ensures r.1.1)) r.1.2))
 
 pub returns-in_err-check_present-clause-there : goal.returns-in_err-check_present-clause-there
-returns-in_err-check_present-clause-there c = λ h.
-    refused_with c.from_residual.result c.in_err-check_present.field-0.0 (λ e. e ≡ NoMemory) c.from_residual.ensures.1
-    (refused_not_fat (image_bytes c.args.file) c.args.header.now.fat c.in_err-check_present.field-0.0 h (absent_one c))
+returns-in_err-check_present-clause-there c = λ g.
+    let file : List ℕ = image_bytes c.args.file in
+    let h : HeaderValue = c.args.header.now in
+    let whole : length (fat_by file h) ≡ h.fat_count = all_listed file h c.in_ok-check_room.ensures.enough in
+    let counted : c.count_entries-count.result ≡ min (128 * h.fat_count) (sectors_in file) =
+    c.count_entries-count.ensures ∙ ap (λ n. min (128 * n) (sectors_in file)) c.fat_count.ensures.count in
+    let few : h.fat_count ≤ 1125 = omega (arith, c.fat_count.ensures.few, c.fat_count.ensures.count) in
+    let r = c.in_err-check_present.ensures.refused in
+    refused_with c.from_residual-in_err-check_present.result c.in_err-check_present.field-0.0 (λ e. e ≡ NoMemory) c.from_residual-in_err-check_present.ensures.1
+    (refused_not_fat file h c.in_err-check_present.field-0.0 g
+    (subst (MayRefuseFat file h) (sym r.0)
+    (absent file h (fat_by file h ++ difat_by file h) refl whole c.count_entries-count.result counted r.1.0
+    (header_listed file h r.1.0 (omega (arith, c.fat_count.ensures.first, c.fat_count.ensures.count)) (subst (λ xs. Contains xs r.1.0) c.fat.ensures r.1.1)) r.1.2)))
+
+pub returns-in_err-check_apart-clause-there : goal.returns-in_err-check_apart-clause-there
+returns-in_err-check_apart-clause-there c = λ g.
+    let file : List ℕ = image_bytes c.args.file in
+    let h : HeaderValue = c.args.header.now in
+    let r = c.in_err-check_apart.ensures.refused in
+    let cycle : MayRefuseFat file h Cycle = λ once. r.1 (subst AreDistinct (sym (c.deref.ensures.value ∙ c.in_ok-sectors.ensures.difat)) once) in
+    refused_with c.from_residual-in_err-check_apart.result c.in_err-check_apart.field-0.0 (λ e. e ≡ NoMemory) c.from_residual-in_err-check_apart.ensures.1
+    (refused_not_fat file h c.in_err-check_apart.field-0.0 g (subst (MayRefuseFat file h) (sym r.0) cycle))
+
+pub returns-in_err-check_present-2-clause-refused : goal.returns-in_err-check_present-2-clause-refused
+returns-in_err-check_present-2-clause-refused c =
+    let file : List ℕ = image_bytes c.args.file in
+    let h : HeaderValue = c.args.header.now in
+    let whole : length (fat_by file h) ≡ h.fat_count = all_listed file h c.in_ok-check_room.ensures.enough in
+    let counted : c.count_entries-count.result ≡ min (128 * h.fat_count) (sectors_in file) =
+    c.count_entries-count.ensures ∙ ap (λ n. min (128 * n) (sectors_in file)) c.fat_count.ensures.count in
+    let few : h.fat_count ≤ 1125 = omega (arith, c.fat_count.ensures.few, c.fat_count.ensures.count) in
+    let own_is : c.in_ok-own.own.items ≡ fat_by file h ++ difat_by file h =
+    c.in_ok-own.ensures ∙ (λ i. c.in_ok-sectors.ensures.fat i ++ c.in_ok-sectors.ensures.difat i) in
+    let r = c.in_err-check_present-2.ensures.refused in
+    refused_with c.from_residual-in_err-check_present-2.result c.in_err-check_present-2.field-0.0 (MayRefuseFat file h) c.from_residual-in_err-check_present-2.ensures.1
+    (subst (MayRefuseFat file h) (sym r.0)
+    (absent file h c.in_ok-own.own.items own_is whole c.count_entries-count.result counted r.1.0
+    (subst (λ xs. Contains xs r.1.0) (c.deref-2.ensures.value ∙ own_is) r.1.1) r.1.2))
+
+pub returns-in_err-check_present-2-clause-there : goal.returns-in_err-check_present-2-clause-there
+returns-in_err-check_present-2-clause-there c = λ g.
+    let file : List ℕ = image_bytes c.args.file in
+    let h : HeaderValue = c.args.header.now in
+    let whole : length (fat_by file h) ≡ h.fat_count = all_listed file h c.in_ok-check_room.ensures.enough in
+    let counted : c.count_entries-count.result ≡ min (128 * h.fat_count) (sectors_in file) =
+    c.count_entries-count.ensures ∙ ap (λ n. min (128 * n) (sectors_in file)) c.fat_count.ensures.count in
+    let few : h.fat_count ≤ 1125 = omega (arith, c.fat_count.ensures.few, c.fat_count.ensures.count) in
+    let own_is : c.in_ok-own.own.items ≡ fat_by file h ++ difat_by file h =
+    c.in_ok-own.ensures ∙ (λ i. c.in_ok-sectors.ensures.fat i ++ c.in_ok-sectors.ensures.difat i) in
+    let r = c.in_err-check_present-2.ensures.refused in
+    refused_with c.from_residual-in_err-check_present-2.result c.in_err-check_present-2.field-0.0 (λ e. e ≡ NoMemory) c.from_residual-in_err-check_present-2.ensures.1
+    (refused_not_fat file h c.in_err-check_present-2.field-0.0 g
+    (subst (MayRefuseFat file h) (sym r.0)
+    (absent file h c.in_ok-own.own.items own_is whole c.count_entries-count.result counted r.1.0
+    (subst (λ xs. Contains xs r.1.0) (c.deref-2.ensures.value ∙ own_is) r.1.1) r.1.2)))
 
 pub returns-in_err-mark_apart-clause-refused : goal.returns-in_err-mark_apart-clause-refused
 returns-in_err-mark_apart-clause-refused c =
+    let file : List ℕ = image_bytes c.args.file in
+    let h : HeaderValue = c.args.header.now in
+    let whole : length (fat_by file h) ≡ h.fat_count = all_listed file h c.in_ok-check_room.ensures.enough in
+    let counted : c.count_entries-count.result ≡ min (128 * h.fat_count) (sectors_in file) =
+    c.count_entries-count.ensures ∙ ap (λ n. min (128 * n) (sectors_in file)) c.fat_count.ensures.count in
+    let few : h.fat_count ≤ 1125 = omega (arith, c.fat_count.ensures.few, c.fat_count.ensures.count) in
+    let own_is : c.in_ok-own.own.items ≡ fat_by file h ++ difat_by file h =
+    c.in_ok-own.ensures ∙ (λ i. c.in_ok-sectors.ensures.fat i ++ c.in_ok-sectors.ensures.difat i) in
     let r = c.in_err-mark_apart.ensures.refused in
-    let file = image_bytes c.args.file in
-    refused_with c.from_residual-in_err-mark_apart.result c.in_err-mark_apart.field-0.0 (MayRefuseFat file c.args.header.now.fat) c.from_residual-in_err-mark_apart.ensures.1
-    (subst (MayRefuseFat file c.args.header.now.fat) (sym r.0)
-    (subst (λ fat. MayRefuseFat file fat CrossLinked) c.fat-listed.ensures
-    (crossed file c.fat-listed.result.now c.count_entries-count.result
-    (counted c.args.header.now.fat c.fat-listed.result.now file c.count_entries-count.result c.fat-listed.ensures c.count_entries-count.ensures.count)
+    refused_with c.from_residual-in_err-mark_apart.result c.in_err-mark_apart.field-0.0 (MayRefuseFat file h) c.from_residual-in_err-mark_apart.ensures.1
+    (subst (MayRefuseFat file h) (sym r.0)
+    (crossed file h c.deref-4.result.now (c.deref-4.ensures.value ∙ own_is) whole c.count_entries-count.result counted
     c.in_ok-next.next.items c.in_ok-used.used.items c.in_ok-next.ensures.count (c.in_ok-used.ensures.items_if_clones_equal (λ y e. e))
-    c.in_ok-check_present.ensures.present r.1)))
+    (subst (λ xs. All (λ n. n < c.count_entries-count.result) xs) (c.deref-2.ensures.value ∙ sym c.deref-4.ensures.value) c.in_ok-check_present-2.ensures.present) r.1))
 
-pub returns-clause-table : goal.returns-clause-table
-returns-clause-table c =
-    let file = image_bytes c.args.file in
-    let ns = c.fat-listed.result.now in
-    let few : length ns ≤ 109 = omega (arith, ap length c.fat-listed.ensures, c.count_entries-count.ensures.few) in
-    subst (λ fat. IsTableOf file fat c.mark_apart.new.self) c.fat-listed.ensures
-    (loaded file ns c.count_entries-count.result
-    (counted c.args.header.now.fat ns file c.count_entries-count.result c.fat-listed.ensures c.count_entries-count.ensures.count)
-    c.in_ok-next.next.items c.in_ok-used.used.items (joined (sector file) ns) c.mark_apart.new.self few
-    c.in_ok-check_present.ensures.present refl c.in_ok-next.ensures.count c.in_ok-next.ensures.each
-    (c.in_ok-used.ensures.items_if_clones_equal (λ y e. e))
-    c.in_ok-mark_apart.ensures.free c.in_ok-mark_apart.ensures.marks)
+pub returns-in_err-mark_apart-clause-there : goal.returns-in_err-mark_apart-clause-there
+returns-in_err-mark_apart-clause-there c = λ g.
+    let file : List ℕ = image_bytes c.args.file in
+    let h : HeaderValue = c.args.header.now in
+    let whole : length (fat_by file h) ≡ h.fat_count = all_listed file h c.in_ok-check_room.ensures.enough in
+    let counted : c.count_entries-count.result ≡ min (128 * h.fat_count) (sectors_in file) =
+    c.count_entries-count.ensures ∙ ap (λ n. min (128 * n) (sectors_in file)) c.fat_count.ensures.count in
+    let few : h.fat_count ≤ 1125 = omega (arith, c.fat_count.ensures.few, c.fat_count.ensures.count) in
+    let own_is : c.in_ok-own.own.items ≡ fat_by file h ++ difat_by file h =
+    c.in_ok-own.ensures ∙ (λ i. c.in_ok-sectors.ensures.fat i ++ c.in_ok-sectors.ensures.difat i) in
+    let r = c.in_err-mark_apart.ensures.refused in
+    refused_with c.from_residual-in_err-mark_apart.result c.in_err-mark_apart.field-0.0 (λ e. e ≡ NoMemory) c.from_residual-in_err-mark_apart.ensures.1
+    (refused_not_fat file h c.in_err-mark_apart.field-0.0 g
+    (subst (MayRefuseFat file h) (sym r.0)
+    (crossed file h c.deref-4.result.now (c.deref-4.ensures.value ∙ own_is) whole c.count_entries-count.result counted
+    c.in_ok-next.next.items c.in_ok-used.used.items c.in_ok-next.ensures.count (c.in_ok-used.ensures.items_if_clones_equal (λ y e. e))
+    (subst (λ xs. All (λ n. n < c.count_entries-count.result) xs) (c.deref-2.ensures.value ∙ sym c.deref-4.ensures.value) c.in_ok-check_present-2.ensures.present) r.1)))
+
+pub returns-in_err-sectors-clause-refused : goal.returns-in_err-sectors-clause-refused
+returns-in_err-sectors-clause-refused c =
+    let file : List ℕ = image_bytes c.args.file in
+    let h : HeaderValue = c.args.header.now in
+    let whole : length (fat_by file h) ≡ h.fat_count = all_listed file h c.in_ok-check_room.ensures.enough in
+    let counted : c.count_entries-count.result ≡ min (128 * h.fat_count) (sectors_in file) =
+    c.count_entries-count.ensures ∙ ap (λ n. min (128 * n) (sectors_in file)) c.fat_count.ensures.count in
+    let few : h.fat_count ≤ 1125 = omega (arith, c.fat_count.ensures.few, c.fat_count.ensures.count) in
+    refused_with c.from_residual-in_err-sectors.result NoMemory (MayRefuseFat file h) c.from_residual-in_err-sectors.ensures.1 (
+      whole,
+      all_present file h (fat_by file h ++ difat_by file h) refl whole c.count_entries-count.result counted h.fat few
+          (subst (λ xs. All (λ n. n < c.count_entries-count.result) xs) c.fat.ensures c.in_ok-check_present.ensures.present),
+    )
+
+pub returns-in_err-own-clause-refused : goal.returns-in_err-own-clause-refused
+returns-in_err-own-clause-refused c =
+    let file : List ℕ = image_bytes c.args.file in
+    let h : HeaderValue = c.args.header.now in
+    let whole : length (fat_by file h) ≡ h.fat_count = all_listed file h c.in_ok-check_room.ensures.enough in
+    let counted : c.count_entries-count.result ≡ min (128 * h.fat_count) (sectors_in file) =
+    c.count_entries-count.ensures ∙ ap (λ n. min (128 * n) (sectors_in file)) c.fat_count.ensures.count in
+    let few : h.fat_count ≤ 1125 = omega (arith, c.fat_count.ensures.few, c.fat_count.ensures.count) in
+    refused_with c.from_residual-in_err-own.result NoMemory (MayRefuseFat file h) c.from_residual-in_err-own.ensures.1 (
+      whole,
+      all_present file h (fat_by file h ++ difat_by file h) refl whole c.count_entries-count.result counted h.fat few
+          (subst (λ xs. All (λ n. n < c.count_entries-count.result) xs) c.fat.ensures c.in_ok-check_present.ensures.present),
+    )
 
 pub returns-in_err-next-clause-refused : goal.returns-in_err-next-clause-refused
 returns-in_err-next-clause-refused c =
-    refused_with c.from_residual-in_err-next.result NoMemory (MayRefuseFat (image_bytes c.args.file) c.args.header.now.fat) c.from_residual-in_err-next.ensures.1
-    (memory_last (image_bytes c.args.file) c.args.header.now.fat c.fat-listed.result.now c.count_entries-count.result
-    c.fat-listed.ensures c.count_entries-count.ensures.count c.count_entries-count.ensures.few
-    c.in_ok-check_present.ensures.present)
+    let file : List ℕ = image_bytes c.args.file in
+    let h : HeaderValue = c.args.header.now in
+    let whole : length (fat_by file h) ≡ h.fat_count = all_listed file h c.in_ok-check_room.ensures.enough in
+    let counted : c.count_entries-count.result ≡ min (128 * h.fat_count) (sectors_in file) =
+    c.count_entries-count.ensures ∙ ap (λ n. min (128 * n) (sectors_in file)) c.fat_count.ensures.count in
+    let few : h.fat_count ≤ 1125 = omega (arith, c.fat_count.ensures.few, c.fat_count.ensures.count) in
+    refused_with c.from_residual-in_err-next.result NoMemory (MayRefuseFat file h) c.from_residual-in_err-next.ensures.1 (
+      whole,
+      all_present file h (fat_by file h ++ difat_by file h) refl whole c.count_entries-count.result counted h.fat few
+          (subst (λ xs. All (λ n. n < c.count_entries-count.result) xs) c.fat.ensures c.in_ok-check_present.ensures.present),
+    )
 
 pub returns-in_err-used-clause-refused : goal.returns-in_err-used-clause-refused
 returns-in_err-used-clause-refused c =
-    refused_with c.from_residual-in_err-used.result NoMemory (MayRefuseFat (image_bytes c.args.file) c.args.header.now.fat) c.from_residual-in_err-used.ensures.1
-    (memory_last (image_bytes c.args.file) c.args.header.now.fat c.fat-listed.result.now c.count_entries-count.result
-    c.fat-listed.ensures c.count_entries-count.ensures.count c.count_entries-count.ensures.few
-    c.in_ok-check_present.ensures.present)
+    let file : List ℕ = image_bytes c.args.file in
+    let h : HeaderValue = c.args.header.now in
+    let whole : length (fat_by file h) ≡ h.fat_count = all_listed file h c.in_ok-check_room.ensures.enough in
+    let counted : c.count_entries-count.result ≡ min (128 * h.fat_count) (sectors_in file) =
+    c.count_entries-count.ensures ∙ ap (λ n. min (128 * n) (sectors_in file)) c.fat_count.ensures.count in
+    let few : h.fat_count ≤ 1125 = omega (arith, c.fat_count.ensures.few, c.fat_count.ensures.count) in
+    refused_with c.from_residual-in_err-used.result NoMemory (MayRefuseFat file h) c.from_residual-in_err-used.ensures.1 (
+      whole,
+      all_present file h (fat_by file h ++ difat_by file h) refl whole c.count_entries-count.result counted h.fat few
+          (subst (λ xs. All (λ n. n < c.count_entries-count.result) xs) c.fat.ensures c.in_ok-check_present.ensures.present),
+    )
+
+pub returns-clause-table : goal.returns-clause-table
+returns-clause-table c =
+    let file : List ℕ = image_bytes c.args.file in
+    let h : HeaderValue = c.args.header.now in
+    let whole : length (fat_by file h) ≡ h.fat_count = all_listed file h c.in_ok-check_room.ensures.enough in
+    let counted : c.count_entries-count.result ≡ min (128 * h.fat_count) (sectors_in file) =
+    c.count_entries-count.ensures ∙ ap (λ n. min (128 * n) (sectors_in file)) c.fat_count.ensures.count in
+    let few : h.fat_count ≤ 1125 = omega (arith, c.fat_count.ensures.few, c.fat_count.ensures.count) in
+    let own_is : c.in_ok-own.own.items ≡ fat_by file h ++ difat_by file h =
+    c.in_ok-own.ensures ∙ (λ i. c.in_ok-sectors.ensures.fat i ++ c.in_ok-sectors.ensures.difat i) in
+    loaded file h c.deref-4.result.now (c.deref-4.ensures.value ∙ own_is) whole c.count_entries-count.result counted
+    c.in_ok-next.next.items c.in_ok-used.used.items (joined (sector file) c.deref-3.result.now) c.mark_apart.new.self few
+    (subst (λ xs. All (λ n. n < c.count_entries-count.result) xs) (c.deref-2.ensures.value ∙ sym c.deref-4.ensures.value) c.in_ok-check_present-2.ensures.present)
+    (ap (joined (sector file)) (c.deref-3.ensures.value ∙ c.in_ok-sectors.ensures.fat)) c.in_ok-next.ensures.count c.in_ok-next.ensures.each
+    (c.in_ok-used.ensures.items_if_clones_equal (λ y e. e))
+    c.in_ok-mark_apart.ensures.free c.in_ok-mark_apart.ensures.marks

@@ -1,8 +1,8 @@
-use Rattle.std.proofs.Common.{◌≡◌, ◌+◌, ◌*◌, take, map, ap, sym, ◌∙◌, Ok, arith, rules}
+use Rattle.std.proofs.Common.{◌≡◌, ◌+◌, ◌*◌, min, take, map, ap, sym, ◌∙◌, Ok, arith, rules}
 use Rattle.std.proofs.lemmas.Bool.Decides.{Decides-eqb}
 use Rattle.std.proofs.lemmas.Slice.Eq.{slice_eq-Decides}
-use Rattle.cfb_chain.specs.Header.{IsHeader, listed}
-use Rattle.cfb_chain.proofs.Headers.{read_whole, take_by_index}
+use Rattle.cfb_chain.specs.Header.{IsHeader, listed_first}
+use Rattle.cfb_chain.proofs.Headers.{read_whole, first_by_index}
 use Rattle.cfb_chain.specs.Bytes.{u32_at}
 use Rattle.std.specs.List.{range_with_len}
 use Rattle.cfb_chain.proofs.header.Header.read.Goals as goal
@@ -20,8 +20,8 @@ returns-clause-read c =
       fat_sectors = search rules;
       difat_sectors = search rules;
     } in
-    let list : take c.read_u32-fat_count.result c.read_listed.result ≡ listed c.args.bytes.now =
-    take_by_index (λ k. u32_at c.args.bytes.now (76 + 4 * k)) c.read_listed.result 109 c.read_u32-fat_count.result (search rules) (omega arith) c.read_listed.ensures
-    ∙ ap (λ n. map (λ k. u32_at c.args.bytes.now (76 + 4 * k)) (range_with_len 0 n)) c.read_u32-fat_count.ensures in
-    ap Ok (λ i. record { fat = list i; first_directory = c.read_u32-2.ensures i; first_mini_fat = c.read_u32-3.ensures i; mini_fat_count = c.read_u32-4.ensures i })
+    let list : take c.read_u32-fat_count.result c.read_listed.result ≡ listed_first c.args.bytes.now =
+    first_by_index (λ k. u32_at c.args.bytes.now (76 + 4 * k)) c.read_listed.result c.read_u32-fat_count.result (search rules) c.read_listed.ensures
+    ∙ ap (λ n. map (λ k. u32_at c.args.bytes.now (76 + 4 * k)) (range_with_len 0 (min n 109))) c.read_u32-fat_count.ensures in
+    ap Ok (λ i. record { fat_count = c.read_u32-fat_count.ensures i; fat = list i; first_difat = c.read_u32-2.ensures i; difat_count = c.read_u32-difat_count.ensures i; first_directory = c.read_u32-3.ensures i; first_mini_fat = c.read_u32-4.ensures i; mini_fat_count = c.read_u32-5.ensures i })
     ∙ sym (read_whole c.args.bytes.now h)
