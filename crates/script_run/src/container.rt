@@ -1,6 +1,5 @@
 //! The container of a script, and what it is given: each thing is noted as it is given.
 
-
 use container_core::container::ContainerCore;
 use container_model::answer::Answer;
 use container_model::command::Command;
@@ -32,8 +31,7 @@ pub(crate) fn command<H: Host>(
     host: &mut H,
     core: &mut ContainerCore,
     command: Command,
-) -> Result<Answer, ContainerFault>
-{
+) -> Result<Answer, ContainerFault> {
     let step = Step::Command(command);
     host.note(&step);
     let Some(command) = command_of(step) else {
@@ -53,8 +51,7 @@ pub(crate) fn message<H: Host>(
     core: &mut ContainerCore,
     inc: u32,
     message: Message,
-) -> Result<Answer, ContainerFault>
-{
+) -> Result<Answer, ContainerFault> {
     let step = Step::Message(inc, message);
     host.note(&step);
     let Some(message) = message_of(step) else {
@@ -73,8 +70,7 @@ pub(crate) fn reap<H: Host>(
     host: &mut H,
     core: &mut ContainerCore,
     inc: u32,
-) -> Result<Answer, ContainerFault>
-{
+) -> Result<Answer, ContainerFault> {
     host.note(&Step::Reap(inc));
     let told = core.on_reap(alloc, inc);
     if let Err(ContainerFault::NoMemory) = told {

@@ -253,11 +253,7 @@ impl Serving {
     }
 
     /// Gives the turn back.
-    fn give_turn<S: Write>(
-        &mut self,
-        alloc: Global,
-        stream: &mut S,
-    ) -> Result<Advance, AllocError>
+    fn give_turn<S: Write>(&mut self, alloc: Global, stream: &mut S) -> Result<Advance, AllocError>
         requires { IsStarted self.old }
         ensures { IsStarted self.new }
     {
