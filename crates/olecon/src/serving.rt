@@ -40,19 +40,19 @@ enum Need {
 }
 
 /// What a server needs for an object of this class. Where it is of none of the three kinds, the call is passed over.
-fn need_of_class(class: ClassId) -> Need {
-    if class == classes::note() {
+fn need_of_class(class: &ClassId) -> Need {
+    if *class == classes::note() {
         Need::Note
-    } else if class == classes::table() {
+    } else if *class == classes::table() {
         Need::Table
-    } else if class == classes::drawing() {
+    } else if *class == classes::drawing() {
         Need::Drawing
     } else {
         Need::Nothing
     }
 }
 
-fn need_of(advance: Result<Advance, AllocError>) -> Need {
+fn need_of(advance: &Result<Advance, AllocError>) -> Need {
     match advance {
         Ok(Advance::More) => Need::Nothing,
         Ok(Advance::Wants(class)) => need_of_class(class),
@@ -108,7 +108,8 @@ where
         return true;
     };
     for _ in 0..u64::MAX {
-        let is_enough = match need_of(serving.advance(alloc, &mut stream)) {
+        let advance = serving.advance(alloc, &mut stream);
+        let is_enough = match need_of(&advance) {
             Need::Nothing => true,
             Need::Memory => false,
             Need::Link => match next_link(listener, &mut links) {
