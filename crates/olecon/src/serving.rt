@@ -104,22 +104,22 @@ where
         return false;
     }
     let mut links = 0;
-    let Some(mut stream) = next_link(listener, &mut links) else {
-        return true;
-    };
+    let mut link = next_link(listener, &mut links);
     for _ in 0..u64::MAX {
-        let advance = serving.advance(alloc, &mut stream);
+        let Some(stream) = &mut link else {
+            return true;
+        };
+        let advance = serving.advance(alloc, stream);
         let is_enough = match need_of(&advance) {
             Need::Nothing => true,
             Need::Memory => false,
-            Need::Link => match next_link(listener, &mut links) {
-                Some(next) => {
-                    stream = next;
-                    serving.begin(alloc);
-                    true
-                }
-                None => return true,
-            },
+            Need::Link => {
+                // The other side meets the end of this link before the next one is awaited.
+                link = None;
+                link = next_link(listener, &mut links);
+                serving.begin(alloc);
+                true
+            }
             Need::Note => match new_note(alloc, tally) {
                 Ok(note) => serving.offer(alloc, note).is_ok(),
                 Err(_) => false,
