@@ -94,6 +94,7 @@ replied l (Edit bytes) told.Done = done l (Edit bytes)
 replied l (Edit bytes) (told.Refused why) = noted l why
 replied l (Save k) (told.Content content) = saved_link content (done l (Save k))
 replied l (SaveCompleted k storage) told.Done = done l (SaveCompleted k storage)
+replied l (SaveDropped k) told.Done = done l (SaveDropped k)
 replied l (Close SaveIfDirty) (told.Content content) = closed l SaveIfDirty (Some content)
 replied l (Close NoSave) told.Done = closed l NoSave None
 replied l op answer = Err BadAnswer

@@ -2,7 +2,7 @@
 use Rattle.std.specs.Prelude.{◌+◌, ◌==◌, ◌&&◌, ℕ, Bool, true, false, List, [], ◌∷◌, ◌++◌, map, Option, Some, None, Result, Ok, Err, if◌then◌else◌, length, nat_le}
 use Rattle.wire_msgs.specs.Found.{nth, set_nth}
 use Rattle.wire_msgs.specs.declared.operation.Operation.{Operation}
-use Rattle.wire_msgs.specs.declared.operation.Operation.TheVariants.{SaveCompleted}
+use Rattle.wire_msgs.specs.declared.operation.Operation.TheVariants.{SaveCompleted, SaveDropped}
 use Rattle.storage_tree.specs.declared.stored.Stored.{Stored}
 use Rattle.storage_tree.specs.Tree as tree
 use Rattle.document_model.specs.declared.object.DocObject.{DocObject}
@@ -22,7 +22,7 @@ use Rattle.container_model.specs.declared.answer.Done.{Done}
 use Rattle.container_model.specs.declared.answer.Part.{Part}
 use Rattle.container_model.specs.declared.fault.ContainerFault.{ContainerFault}
 use Rattle.container_model.specs.declared.fault.ContainerFault.TheVariants.{NoSuch, WrongState, Full}
-use Rattle.container_model.specs.Record.{Record, Took, acts, sends, asked_object, asked_all}
+use Rattle.container_model.specs.Record.{Record, Took, acts, counts_none, is_doubtful, quiet_answer, sends, asked_object, asked_all, with_frame}
 
 -- An object is waited for until it has answered its content in the present save, or is passive.
 abbrev pub is_awaited_link : Option Link → Bool
@@ -174,6 +174,49 @@ commit_at r f (Some frame) = if is_committing frame.phase then commit_fitting r 
 
 abbrev pub commit_done : Record → ℕ → Result Took ContainerFault
 commit_done r f = commit_at r f (nth r.frames f)
+
+-- A commit that failed: it isn't known whether the file is the new one, until that is resolved.
+abbrev pub doubted_frame : Frame → Frame
+doubted_frame frame = record frame { phase = InDoubt }
+
+abbrev pub commit_doubted : Record → ℕ → Frame → Took
+commit_doubted r f frame = counts_none (with_frame r f (doubted_frame frame)) quiet_answer
+
+abbrev pub failed_at : Record → ℕ → Option Frame → Result Took ContainerFault
+failed_at r f None = Err NoSuch
+failed_at r f (Some frame) = if is_committing frame.phase then Ok (commit_doubted r f frame) else Err WrongState
+
+abbrev pub commit_failed : Record → ℕ → Result Took ContainerFault
+commit_failed r f = failed_at r f (nth r.frames f)
+
+-- A commit in doubt is resolved. Kept, it is done. Lost, its save is dropped: the work contents and the name stay, and each
+-- object that isn't passive is told so.
+abbrev pub dropped_frame : Frame → Frame
+dropped_frame frame = record frame { asked = None; phase = Idle }
+
+abbrev pub forgotten_object : ℕ → Object → Object
+forgotten_object f o = if o.frame == f then record o { link = cleared o.link } else o
+
+abbrev pub dropped_object : ℕ → Frame → Object → Object
+dropped_object f frame o = asked_object f (SaveDropped frame.k) (forgotten_object f o)
+
+abbrev pub save_dropped : Record → ℕ → Frame → Took
+save_dropped r f frame = record {
+  rec = record r { frames = set_nth r.frames f (dropped_frame frame); objects = map (dropped_object f frame) r.objects };
+  answer = acts (sends (asked_all f (SaveDropped frame.k) r.objects));
+  counted = [];
+}
+
+abbrev pub resolved_as : Record → ℕ → Frame → Bool → Result Took ContainerFault
+resolved_as r f frame true = commit_fitting r f frame (image r f)
+resolved_as r f frame false = Ok (save_dropped r f frame)
+
+abbrev pub resolved_at : Record → ℕ → Bool → Option Frame → Result Took ContainerFault
+resolved_at r f is_kept None = Err NoSuch
+resolved_at r f is_kept (Some frame) = if is_doubtful frame.phase then resolved_as r f frame is_kept else Err WrongState
+
+abbrev pub resolve : Record → ℕ → Bool → Result Took ContainerFault
+resolve r f is_kept = resolved_at r f is_kept (nth r.frames f)
 
 -- what a commit of the frame counts: the contents of its document, under the number of its save
 abbrev pub counted_at : Record → ℕ → Option Frame → List Done

@@ -16,3 +16,4 @@ pub mod SteadyRoles
 pub mod SteadyShapes
 pub mod SteadyTells
 pub mod SteadyTests
+pub mod Settling

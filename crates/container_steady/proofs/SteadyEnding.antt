@@ -4,7 +4,7 @@ use Rattle.std.specs.Prelude.{◌||◌, IsOkAnd}
 use Rattle.std.specs.List.{AllByRecursion}
 use Rattle.wire_msgs.specs.Operations.{op_of}
 use Rattle.wire_msgs.specs.declared.operation.Operation.{Operation}
-use Rattle.wire_msgs.specs.declared.operation.Operation.TheVariants.{InitNew, Load, InPlace, UiActivate, UiDeactivate, InPlaceDeactivate, OpenWindow, Edit, Save, SaveCompleted, Close}
+use Rattle.wire_msgs.specs.declared.operation.Operation.TheVariants.{InitNew, Load, InPlace, UiActivate, UiDeactivate, InPlaceDeactivate, OpenWindow, Edit, Save, SaveCompleted, SaveDropped, Close}
 use Rattle.object_state.specs.Both as both
 use Rattle.object_state.specs.Persists as persist
 use Rattle.object_state.specs.Persists.{may_write}
@@ -40,6 +40,7 @@ passive_refuses saved OpenWindow t = refl
 passive_refuses saved (Edit bytes) t = refl
 passive_refuses saved (Save k) t = refl
 passive_refuses saved (SaveCompleted k storage) t = refl
+passive_refuses saved (SaveDropped k) t = refl
 passive_refuses saved (Close option) t = refl
 passive_refuses saved _ t = absurd t
 

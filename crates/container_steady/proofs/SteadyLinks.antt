@@ -6,7 +6,7 @@ use Rattle.std.specs.List.{AllByRecursion}
 use Rattle.wire_msgs.specs.Found.{nth}
 use Rattle.wire_msgs.specs.Operations.{op_of}
 use Rattle.wire_msgs.specs.declared.operation.Operation.{Operation}
-use Rattle.wire_msgs.specs.declared.operation.Operation.TheVariants.{InitNew, Load, InPlace, UiActivate, UiDeactivate, InPlaceDeactivate, OpenWindow, Edit, Save, SaveCompleted, Close}
+use Rattle.wire_msgs.specs.declared.operation.Operation.TheVariants.{InitNew, Load, InPlace, UiActivate, UiDeactivate, InPlaceDeactivate, OpenWindow, Edit, Save, SaveCompleted, SaveDropped, Close}
 use Rattle.object_state.specs.Both as both
 use Rattle.object_state.specs.declared.both_states.States.{States}
 use Rattle.object_state.specs.declared.faults.StateFault.{StateFault}
@@ -16,12 +16,12 @@ use Rattle.storage_tree.specs.declared.stored.Stored.{Stored}
 use Rattle.grant_core.specs.declared.grant_states.Tools.{Tools}
 use Rattle.container_model.specs.declared.record.Link.{Link}
 use Rattle.container_model.specs.declared.record.Phase.{Phase}
-use Rattle.container_model.specs.declared.record.Phase.TheVariants.{Idle, Saving, Committing}
+use Rattle.container_model.specs.declared.record.Phase.TheVariants.{Idle, Saving, Committing, InDoubt}
 use Rattle.container_model.specs.Record.{is_unreaped, ask_at, ask, ask_each}
 use Rattle.container_steady.specs.Roles.{Role, Getting, Holding, Giving, Waiting, IsShown, Plays}
 use Rattle.container_steady.specs.Steady.{queue_of, queue, stepped, ended, EndsFor, EndsWell, PastFirstCall, WaitsBehind, IsTimely, IsSavedIn, MayBeStored, SteadyLink}
 use Rattle.container_steady.proofs.SteadyLookups.{each_weaker, each_append}
-use Rattle.container_steady.proofs.SteadyQueues.{ended_join, edit_taken, ends_set, ends_well, plain_ended, save_begins, save_ends, past_if_part, past_if_saving, past_if_quiet, window_step}
+use Rattle.container_steady.proofs.SteadyQueues.{ended_join, edit_taken, ends_set, ends_well, plain_ended, save_begins, drop_ends, save_ends, past_if_part, past_if_saving, past_if_quiet, window_step}
 use Rattle.container_steady.proofs.SteadyRoles.{getting_last, giving_last, is_ui, plays_append, ui_active}
 
 -- in another record
@@ -161,6 +161,7 @@ committing_op content OpenWindow t = tt
 committing_op content (Edit bytes) t = tt
 committing_op content (Save k) t = absurd (let e = t.1 in cc)
 committing_op content (SaveCompleted k storage) t = absurd (cc)
+committing_op content (SaveDropped k) t = absurd (cc)
 committing_op content (Close option) t = absurd (cc)
 committing_op content _ t = absurd t
 
@@ -198,6 +199,7 @@ counted_op saved OpenWindow t = tt
 counted_op saved (Edit bytes) t = tt
 counted_op saved (Save k) t = absurd (let e = t.0 in cc)
 counted_op saved (SaveCompleted k storage) t = refl
+counted_op saved (SaveDropped k) t = refl
 counted_op saved (Close option) t = refl
 counted_op saved _ t = absurd t
 
@@ -206,9 +208,87 @@ completion_asked servers last_act k role storage l h =
     let e = end_of (ended (Ok l.states) (queue l)) (EndsWell Committing k role) h.queue_runs in
     let x : Link = record l { saved = None } in
     asked_steady servers last_act Idle k role x (ask x (SaveCompleted k storage)).link (SaveCompleted k storage ∷ []) (asked_once x (SaveCompleted k storage) h.waits_behind) h.acts_drawn h.servers_told (past_if_saving servers last_act Committing k role l h (λ q. cc))
-    (subst (λ (o : Result States StateFault). IsOkAnd (stepped o (SaveCompleted k storage)) (EndsWell Idle k role)) (sym e.1) (save_ends e.0 k k role storage e.2.storage e.2.last_save e.2.running e.2.waits))
+    (subst (λ (o : Result States StateFault). IsOkAnd (stepped o (SaveCompleted k storage)) (EndsWell Idle k role)) (sym e.1) (save_ends e.0 k role storage e.2.storage e.2.last_save e.2.running e.2.waits))
     (each_append (IsTimely Idle None) (queue l) (SaveCompleted k storage) (each_weaker (IsTimely Committing l.saved) (IsTimely Idle None) (queue l) (counted_op l.saved) h.save_in_queue) refl)
     refl tt h.shown (plays_append role (queue l) (SaveCompleted k storage) tt h.plays)
+
+-- a commit that fails leaves its activations as they are; in doubt they are as while it is asked
+doubtful_op : (saved : Option Stored) (op : Operation) → IsTimely Committing saved op → IsTimely InDoubt saved op
+doubtful_op saved (InitNew class) t = tt
+doubtful_op saved (Load class c) t = tt
+doubtful_op saved InPlace t = tt
+doubtful_op saved (UiActivate g) t = tt
+doubtful_op saved UiDeactivate t = tt
+doubtful_op saved InPlaceDeactivate t = tt
+doubtful_op saved OpenWindow t = tt
+doubtful_op saved (Edit bytes) t = tt
+doubtful_op saved (Save k) t = absurd (let e = t.0 in cc)
+doubtful_op saved (SaveCompleted k storage) t = absurd (cc)
+doubtful_op saved (SaveDropped k) t = absurd (cc)
+doubtful_op saved (Close option) t = absurd (cc)
+doubtful_op saved _ t = absurd t
+
+undoubted_op : (saved : Option Stored) (op : Operation) → IsTimely InDoubt saved op → IsTimely Committing saved op
+undoubted_op saved (InitNew class) t = tt
+undoubted_op saved (Load class c) t = tt
+undoubted_op saved InPlace t = tt
+undoubted_op saved (UiActivate g) t = tt
+undoubted_op saved UiDeactivate t = tt
+undoubted_op saved InPlaceDeactivate t = tt
+undoubted_op saved OpenWindow t = tt
+undoubted_op saved (Edit bytes) t = tt
+undoubted_op saved (Save k) t = absurd (let e = t.0 in cc)
+undoubted_op saved (SaveCompleted k storage) t = absurd (cc)
+undoubted_op saved (SaveDropped k) t = absurd (cc)
+undoubted_op saved (Close option) t = absurd (cc)
+undoubted_op saved _ t = absurd t
+
+doubtful_end : (k : ℕ) (role : Role) (r : Result States StateFault) → IsOkAnd r (EndsWell Committing k role) → IsOkAnd r (EndsWell InDoubt k role)
+doubtful_end k role (Ok w) h = record { storage = h.storage; last_save = h.last_save; running = h.running; waits = h.waits }
+doubtful_end k role (Err refusal) h = h
+
+undoubted_end : (k : ℕ) (role : Role) (r : Result States StateFault) → IsOkAnd r (EndsWell InDoubt k role) → IsOkAnd r (EndsWell Committing k role)
+undoubted_end k role (Ok w) h = record { storage = h.storage; last_save = h.last_save; running = h.running; waits = h.waits }
+undoubted_end k role (Err refusal) h = h
+
+pub now_doubtful : (servers : List Bool) (last_act k : ℕ) (role : Role) (l : Link) → SteadyLink servers last_act Committing k role l → SteadyLink servers last_act InDoubt k role l
+now_doubtful servers last_act k role l h = record {
+  acts_drawn = h.acts_drawn;
+  servers_told = h.servers_told;
+  first_call = h.first_call;
+  waits_behind = h.waits_behind;
+  queue_runs = doubtful_end k role (ended (Ok l.states) (queue l)) h.queue_runs;
+  save_in_queue = each_weaker (IsTimely Committing l.saved) (IsTimely InDoubt l.saved) (queue l) (doubtful_op l.saved) h.save_in_queue;
+  saved_known = h.saved_known;
+  saved_within = h.saved_within;
+  shown = h.shown;
+  plays = h.plays;
+}
+
+pub undoubted : (servers : List Bool) (last_act k : ℕ) (role : Role) (l : Link) → SteadyLink servers last_act InDoubt k role l → SteadyLink servers last_act Committing k role l
+undoubted servers last_act k role l h = record {
+  acts_drawn = h.acts_drawn;
+  servers_told = h.servers_told;
+  first_call = h.first_call;
+  waits_behind = h.waits_behind;
+  queue_runs = undoubted_end k role (ended (Ok l.states) (queue l)) h.queue_runs;
+  save_in_queue = each_weaker (IsTimely InDoubt l.saved) (IsTimely Committing l.saved) (queue l) (undoubted_op l.saved) h.save_in_queue;
+  saved_known = h.saved_known;
+  saved_within = h.saved_within;
+  shown = h.shown;
+  plays = h.plays;
+}
+
+-- a save is dropped: the activation is told
+pub drop_asked : (servers : List Bool) (last_act k : ℕ) (role : Role) (l : Link) → SteadyLink servers last_act InDoubt k role l → SteadyLink servers last_act Idle k role (ask (record l { saved = None }) (SaveDropped k)).link
+drop_asked servers last_act k role l doubtful =
+    let h = undoubted servers last_act k role l doubtful in
+    let e = end_of (ended (Ok l.states) (queue l)) (EndsWell Committing k role) h.queue_runs in
+    let x : Link = record l { saved = None } in
+    asked_steady servers last_act Idle k role x (ask x (SaveDropped k)).link (SaveDropped k ∷ []) (asked_once x (SaveDropped k) h.waits_behind) h.acts_drawn h.servers_told (past_if_saving servers last_act Committing k role l h (λ q. cc))
+    (subst (λ (o : Result States StateFault). IsOkAnd (stepped o (SaveDropped k)) (EndsWell Idle k role)) (sym e.1) (drop_ends e.0 k role e.2.storage e.2.last_save e.2.running e.2.waits))
+    (each_append (IsTimely Idle None) (queue l) (SaveDropped k) (each_weaker (IsTimely Committing l.saved) (IsTimely Idle None) (queue l) (counted_op l.saved) h.save_in_queue) refl)
+    refl tt h.shown (plays_append role (queue l) (SaveDropped k) tt h.plays)
 
 -- whoever waited for the frame is told of its grant, and whoever has it, to give it up
 waits_in_place : (g : ℕ) (s : ObjectState) → EndsFor (Waiting g) s → s ≡ InPlaceActive

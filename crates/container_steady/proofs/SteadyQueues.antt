@@ -1,10 +1,10 @@
 -- Queues of operations: what both tables make of them, and activations whose queue goes on.
-use Rattle.std.proofs.Common.{◌≡◌, inl, inr, ℕ, Bool, true, false, List, [], ◌∷◌, ◌++◌, Option, Some, None, Result, Ok, Err, refl, sym, ap, ◌∙◌, subst, if◌then◌else◌, eq-eqb}
+use Rattle.std.proofs.Common.{arith, ◌≡◌, inl, inr, ℕ, Bool, true, false, List, [], ◌∷◌, ◌++◌, Option, Some, None, Result, Ok, Err, refl, sym, ap, ◌∙◌, subst, if◌then◌else◌, eq-eqb}
 use Rattle.std.specs.Prelude.{IsSomeAnd, IsOkAnd}
 use Rattle.std.specs.List.{AllByRecursion}
 use Rattle.wire_msgs.specs.Operations.{op_of}
 use Rattle.wire_msgs.specs.declared.operation.Operation.{Operation}
-use Rattle.wire_msgs.specs.declared.operation.Operation.TheVariants.{InitNew, Load, InPlace, UiActivate, UiDeactivate, InPlaceDeactivate, OpenWindow, Edit, Save, SaveCompleted, Close}
+use Rattle.wire_msgs.specs.declared.operation.Operation.TheVariants.{InitNew, Load, InPlace, UiActivate, UiDeactivate, InPlaceDeactivate, OpenWindow, Edit, Save, SaveCompleted, SaveDropped, Close}
 use Rattle.object_state.specs.Both as both
 use Rattle.object_state.specs.Persists as persist
 use Rattle.object_state.specs.Objects as object
@@ -198,18 +198,31 @@ pub save_begins : (v : States) (k : ℕ) (role : Role) → v.persist.state ≡ N
 save_begins v k role e r f = save_begins_at v.persist.state v.persist.last_save v.object k role e r f
 
 -- a save ends: the storage is to be written into again
-save_ends_at : (s : PersistState) (last : Option ℕ) (o : ObjectState) (k j : ℕ) (role : Role) (storage : Bool) → s ≡ NoScribble → last ≡ Some k → IsRunning o → EndsFor role o → IsOkAnd (both.step (record { persist = record { state = s; last_save = last }; object = o }) (op.SaveCompleted k storage)) (EndsWell Idle j role)
-save_ends_at Unset last o k j role storage e l r f = cc
-save_ends_at Normal last o k j role storage e l r f = cc
-save_ends_at state.HandsOff last o k j role storage e l r f = cc
-save_ends_at NoScribble None o k j role storage e l r f = cc
-save_ends_at NoScribble last Passive k j role storage e l r f = absurd r
-save_ends_at NoScribble last Loaded k j role storage e l r f = absurd r
-save_ends_at NoScribble (Some n) _ k j role true e l r f = (let nk : n ≡ k = cc in rw (eq-eqb k n (sym nk)) (record { storage = refl; last_save = tt; running = tt; waits = f }))
-save_ends_at NoScribble (Some n) _ k j role false e l r f = (let nk : n ≡ k = cc in rw (eq-eqb k n (sym nk)) (record { storage = refl; last_save = tt; running = tt; waits = f }))
+save_ends_at : (s : PersistState) (last : Option ℕ) (o : ObjectState) (k : ℕ) (role : Role) (storage : Bool) → s ≡ NoScribble → last ≡ Some k → IsRunning o → EndsFor role o → IsOkAnd (both.step (record { persist = record { state = s; last_save = last }; object = o }) (op.SaveCompleted k storage)) (EndsWell Idle k role)
+save_ends_at Unset last o k role storage e l r f = cc
+save_ends_at Normal last o k role storage e l r f = cc
+save_ends_at state.HandsOff last o k role storage e l r f = cc
+save_ends_at NoScribble None o k role storage e l r f = cc
+save_ends_at NoScribble last Passive k role storage e l r f = absurd r
+save_ends_at NoScribble last Loaded k role storage e l r f = absurd r
+save_ends_at NoScribble (Some n) _ k role true e l r f = (let nk : n ≡ k = cc in rw (eq-eqb k n (sym nk)) (record { storage = refl; last_save = omega arith; running = tt; waits = f }))
+save_ends_at NoScribble (Some n) _ k role false e l r f = (let nk : n ≡ k = cc in rw (eq-eqb k n (sym nk)) (record { storage = refl; last_save = omega arith; running = tt; waits = f }))
 
-pub save_ends : (v : States) (k j : ℕ) (role : Role) (storage : Bool) → v.persist.state ≡ NoScribble → v.persist.last_save ≡ Some k → IsRunning v.object → EndsFor role v.object → IsOkAnd (both.step v (op.SaveCompleted k storage)) (EndsWell Idle j role)
-save_ends v k j role storage e l r f = save_ends_at v.persist.state v.persist.last_save v.object k j role storage e l r f
+pub save_ends : (v : States) (k : ℕ) (role : Role) (storage : Bool) → v.persist.state ≡ NoScribble → v.persist.last_save ≡ Some k → IsRunning v.object → EndsFor role v.object → IsOkAnd (both.step v (op.SaveCompleted k storage)) (EndsWell Idle k role)
+save_ends v k role storage e l r f = save_ends_at v.persist.state v.persist.last_save v.object k role storage e l r f
+
+-- so it is where the save is dropped
+drop_ends_at : (s : PersistState) (last : Option ℕ) (o : ObjectState) (k : ℕ) (role : Role) → s ≡ NoScribble → last ≡ Some k → IsRunning o → EndsFor role o → IsOkAnd (both.step (record { persist = record { state = s; last_save = last }; object = o }) (op.SaveDropped k)) (EndsWell Idle k role)
+drop_ends_at Unset last o k role e l r f = cc
+drop_ends_at Normal last o k role e l r f = cc
+drop_ends_at state.HandsOff last o k role e l r f = cc
+drop_ends_at NoScribble None o k role e l r f = cc
+drop_ends_at NoScribble last Passive k role e l r f = absurd r
+drop_ends_at NoScribble last Loaded k role e l r f = absurd r
+drop_ends_at NoScribble (Some n) _ k role e l r f = (let nk : n ≡ k = cc in rw (eq-eqb k n (sym nk)) (record { storage = refl; last_save = omega arith; running = tt; waits = f }))
+
+pub drop_ends : (v : States) (k : ℕ) (role : Role) → v.persist.state ≡ NoScribble → v.persist.last_save ≡ Some k → IsRunning v.object → EndsFor role v.object → IsOkAnd (both.step v (op.SaveDropped k)) (EndsWell Idle k role)
+drop_ends v k role e l r f = drop_ends_at v.persist.state v.persist.last_save v.object k role e l r f
 
 -- operations that leave the storage as it is
 abbrev pub KeepsStorage : Operation → Type 0
@@ -342,6 +355,7 @@ none_asked_again k content P (InitNew class ∷ ops) v s h t = (let r = taken P 
 none_asked_again k content P (Load class c ∷ ops) v s h t = (let r = taken P v (Load class c) ops h in absurd (refused_scribbling v r.0 op.Load (λ z e. (fault.AlreadyInitialized, rw e refl)) s r.1))
 none_asked_again k content P (Save j ∷ ops) v s h t = (let r = taken P v (Save j) ops h in absurd (refused_scribbling v r.0 (op.Save j) (λ z e. (fault.Scribble, rw e refl)) s r.1))
 none_asked_again k content P (SaveCompleted j storage ∷ ops) v s h t = absurd (let e = t.0 in cc)
+none_asked_again k content P (SaveDropped j ∷ ops) v s h t = absurd (let e = t.0 in cc)
 none_asked_again k content P (Close option ∷ ops) v s h t = absurd (let e = t.0 in cc)
 none_asked_again k content P (InPlace ∷ ops) v s h t = (let g = goes_scribbling InPlace tt P v ops s h in (tt, none_asked_again k content P ops g.0 g.1 g.2 t.1))
 none_asked_again k content P (UiActivate n ∷ ops) v s h t = (let g = goes_scribbling (UiActivate n) tt P v ops s h in (tt, none_asked_again k content P ops g.0 g.1 g.2 t.1))

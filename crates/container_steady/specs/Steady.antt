@@ -4,7 +4,7 @@ use Rattle.std.specs.List.{AllByRecursion}
 use Rattle.wire_msgs.specs.Found.{find, nth}
 use Rattle.wire_msgs.specs.Operations.{op_of}
 use Rattle.wire_msgs.specs.declared.operation.Operation.{Operation}
-use Rattle.wire_msgs.specs.declared.operation.Operation.TheVariants.{InitNew, Load, InPlace, UiActivate, UiDeactivate, InPlaceDeactivate, OpenWindow, Edit, Save, SaveCompleted, Close}
+use Rattle.wire_msgs.specs.declared.operation.Operation.TheVariants.{InitNew, Load, InPlace, UiActivate, UiDeactivate, InPlaceDeactivate, OpenWindow, Edit, Save, SaveCompleted, SaveDropped, Close}
 use Rattle.object_parts.specs.Limits.{is_within}
 use Rattle.ole_parts.specs.CompObjs.{PAST_USER_TYPE}
 use Rattle.file_model.specs.Refusals.{writable}
@@ -23,7 +23,7 @@ use Rattle.container_model.specs.declared.record.Link.{Link}
 use Rattle.container_model.specs.declared.record.Object.{Object}
 use Rattle.container_model.specs.declared.record.Frame.{Frame}
 use Rattle.container_model.specs.declared.record.Phase.{Phase}
-use Rattle.container_model.specs.declared.record.Phase.TheVariants.{Idle, Saving, Committing}
+use Rattle.container_model.specs.declared.record.Phase.TheVariants.{Idle, Saving, Committing, InDoubt}
 use Rattle.container_model.specs.declared.fault.ContainerFault.TheVariants.{Full}
 use Rattle.container_model.specs.Record.{Record, MOST_OBJECTS, count_objects, empty, is_object, is_unreaped}
 use Rattle.container_model.specs.Saves.{document, document_tree, image, is_document, kept, parts_in}
@@ -57,7 +57,7 @@ storage_in Idle = Normal
 storage_in phase = NoScribble
 
 abbrev pub IsOfSave : Phase → ℕ → Option ℕ → Type 0
-IsOfSave Idle k last_save = Unit {0}
+IsOfSave Idle k last_save = IfSome last_save (λ (j : ℕ). j ≤ k)
 IsOfSave phase k last_save = last_save ≡ Some k
 
 abbrev pub EndsAs : Phase → ObjectState → Type 0
@@ -98,14 +98,14 @@ WaitsBehind None waiting = waiting ≡ []
 WaitsBehind (Some op) waiting = Unit {0}
 
 -- operations that stand in a queue: a content is asked for only while its frame is saving and until it is answered, and
--- the end of a save is told, and an object closed, only while none is under way; nothing gives storages away or drops saves
--- yet
+-- the end of a save is told, and an object closed, only while none is under way; nothing gives storages away yet
 abbrev pub IsTimely : Phase → Option Stored → Operation → Type 0
 IsTimely phase saved (InitNew class) = Unit {0}
 IsTimely phase saved (Load class content) = Unit {0}
 IsTimely phase saved (Edit bytes) = Unit {0}
 IsTimely phase saved (Save k) = (phase ≡ Saving) × (saved ≡ None)
 IsTimely phase saved (SaveCompleted k storage) = phase ≡ Idle
+IsTimely phase saved (SaveDropped k) = phase ≡ Idle
 IsTimely phase saved (Close option) = phase ≡ Idle
 IsTimely phase saved InPlace = Unit {0}
 IsTimely phase saved (UiActivate g) = Unit {0}
@@ -149,11 +149,12 @@ pub record SteadyObject (r : Record) (o : Object) : Type 0 where
   pub user_type : nat_lt (length o.user_type) PAST_USER_TYPE ≡ true
   pub linked : IsSomeAnd (nth r.frames o.frame) (λ (frame : Frame). IfSome o.link (SteadyLink r.servers r.last_act frame.phase frame.k (role_in frame.ui.state o.number)))
 
--- a frame: no save is under another name, and none hands off or is in doubt yet
+-- a frame: no save is under another name, and none hands off yet
 abbrev pub IsReached : Phase → Type 0
 IsReached Idle = Unit {0}
 IsReached Saving = Unit {0}
 IsReached Committing = Unit {0}
+IsReached InDoubt = Unit {0}
 IsReached phase = ⊥
 
 pub record SteadyFrame (frame : Frame) : Type 0 where
@@ -181,9 +182,13 @@ pub record Steady (r : Record) : Type 0 where
 abbrev pub SteadyFromTheStart : Type 0
 SteadyFromTheStart = (numbers : ℕ) → Steady (empty numbers)
 
+-- a commit that is asked, or that failed and isn't resolved
+abbrev pub IsUnsettled : Phase → Type 0
+IsUnsettled phase = (phase ≡ Committing) ⊎ (phase ≡ InDoubt)
+
 -- what is committed is, for each object that isn't passive, the content that it answered in this save
 abbrev pub CommitsAnsweredContents : Type 0
-CommitsAnsweredContents = (r : Record) (n : ℕ) (o : Object) (l : Link) (frame : Frame) → Steady r → find (is_object n) r.objects ≡ Some o → o.link ≡ Some l → nth r.frames o.frame ≡ Some frame → frame.phase ≡ Committing → (content : Stored) × (l.saved ≡ Some content) × (kept o ≡ content)
+CommitsAnsweredContents = (r : Record) (n : ℕ) (o : Object) (l : Link) (frame : Frame) → Steady r → find (is_object n) r.objects ≡ Some o → o.link ≡ Some l → nth r.frames o.frame ≡ Some frame → IsUnsettled frame.phase → (content : Stored) × (l.saved ≡ Some content) × (kept o ≡ content)
 
 -- an activation is of one object
 abbrev pub OneObjectAnActivation : Type 0

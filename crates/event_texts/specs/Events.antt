@@ -36,6 +36,11 @@ option_read word =
     cond (bytes_eq word (codes "save")) (Some SaveIfDirty) (
     cond (bytes_eq word (codes "nosave")) (Some NoSave) None)
 
+abbrev pub outcome_read : List ℕ → Option Bool
+outcome_read word =
+    cond (bytes_eq word (codes "kept")) (Some true) (
+    cond (bytes_eq word (codes "lost")) (Some false) None)
+
 abbrev pub kind_read : List ℕ → Option ObjectKind
 kind_read word =
     cond (bytes_eq word (codes "note")) (Some Note) (
@@ -106,6 +111,11 @@ verb_of (Some o) (Some number) = Some (event.Command (command.Verb o number))
 verb_of (Some o) None = None
 verb_of None number = None
 
+abbrev pub resolve_of : Option ℕ → Option Bool → Option Event
+resolve_of (Some f) (Some is_kept) = Some (event.Resolve f is_kept)
+resolve_of (Some f) None = None
+resolve_of None is_kept = None
+
 abbrev pub ask_of : ℕ → ℕ → Event
 ask_of inc act = event.Ask inc act
 
@@ -136,17 +146,26 @@ abbrev pub verb_read : List (List ℕ) → Option Event
 verb_read (o ∷ number ∷ []) = verb_of (number_read o) (signed_read number)
 verb_read _ = None
 
+abbrev pub resolve_read : List (List ℕ) → Option Event
+resolve_read (f ∷ outcome ∷ []) = resolve_of (number_read f) (outcome_read outcome)
+resolve_read _ = None
+
 -- an edit is all that stands behind the space, spaces too
 abbrev pub edit_read : List (List ℕ) → Option Event
 edit_read (o ∷ t ∷ ts) = option_map (edit_of (join_with_byte 32 (t ∷ ts))) (number_read o)
 edit_read _ = None
 
+abbrev pub commit_named : List ℕ → List (List ℕ) → Option Event
+commit_named name others =
+    cond (bytes_eq name (codes "done")) (one_number event.Done others) (
+    cond (bytes_eq name (codes "fail")) (one_number event.Fail others) (
+    cond (bytes_eq name (codes "resolve")) (resolve_read others) None))
+
 abbrev pub end_named : List ℕ → List (List ℕ) → Option Event
 end_named name others =
     cond (bytes_eq name (codes "crash")) (one_number event.Crash others) (
     cond (bytes_eq name (codes "reap")) (one_number event.Reap others) (
-    cond (bytes_eq name (codes "done")) (one_number event.Done others) (
-    cond (bytes_eq name (codes "kill")) (one_number kill_of others) None)))
+    cond (bytes_eq name (codes "kill")) (one_number kill_of others) (commit_named name others)))
 
 abbrev pub object_named : List ℕ → List (List ℕ) → Option Event
 object_named name others =
@@ -204,6 +223,8 @@ event_takes_memory (event.Deliver p) = false
 event_takes_memory (event.Crash inc) = false
 event_takes_memory (event.Reap inc) = false
 event_takes_memory (event.Done f) = false
+event_takes_memory (event.Fail f) = false
+event_takes_memory (event.Resolve f is_kept) = false
 event_takes_memory (event.Scribble inc act) = false
 event_takes_memory (event.Ask inc act) = false
 

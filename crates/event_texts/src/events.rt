@@ -1,6 +1,6 @@
 //! Texts of events.
 
-ghost use Rattle.event_texts.specs.Events.{area_of, close_read, edit_read, end_named, event_named, event_read, insert_read, is_file_name, kind_read, new_read, numbers_named, object_named, option_read, pair_read, short_read, signed_read, sole_number, takes_memory, verb_read};
+ghost use Rattle.event_texts.specs.Events.{area_of, close_read, commit_named, edit_read, end_named, event_named, event_read, insert_read, is_file_name, kind_read, new_read, numbers_named, object_named, option_read, outcome_read, pair_read, resolve_read, short_read, signed_read, sole_number, takes_memory, verb_read};
 ghost use Rattle.embed_core.specs.Words.{words};
 ghost use Rattle.std.specs.List.{list_all};
 ghost use Rattle.std.specs.Prelude.{◌≡◌, [], IfErr, IfOk, IsTrue};
@@ -116,7 +116,7 @@ fn parse_object(name: &[u8], rest: &[u8]) -> Option<Event>
     }
 }
 
-/// The end of a server, or of a commit, that a name and the number behind its space spell.
+/// The end of a server, or what comes of a commit, that a name and what stands behind its space spell.
 fn parse_end(name: &[u8], rest: &[u8]) -> Option<Event>
     ensures { result ≡ end_named name.now (words rest.now) }
 {
@@ -124,10 +124,23 @@ fn parse_end(name: &[u8], rest: &[u8]) -> Option<Event>
         Some(Event::Crash(sole_number(rest)?))
     } else if name == b"reap".as_slice() {
         Some(Event::Reap(sole_number(rest)?))
-    } else if name == b"done".as_slice() {
-        Some(Event::Done(sole_number(rest)?))
     } else if name == b"kill".as_slice() {
         Some(Event::Command(Command::Kill(sole_number(rest)?)))
+    } else {
+        parse_commit(name, rest)
+    }
+}
+
+/// What comes of a commit, that a name and what stands behind its space spell.
+fn parse_commit(name: &[u8], rest: &[u8]) -> Option<Event>
+    ensures { result ≡ commit_named name.now (words rest.now) }
+{
+    if name == b"done".as_slice() {
+        Some(Event::Done(sole_number(rest)?))
+    } else if name == b"fail".as_slice() {
+        Some(Event::Fail(sole_number(rest)?))
+    } else if name == b"resolve".as_slice() {
+        resolve(rest)
     } else {
         None
     }
@@ -291,6 +304,37 @@ fn close(rest: &[u8]) -> Option<Event>
     };
     match (number(object), option(chosen)) {
         (Some(object), Some(option)) => Some(Event::Command(Command::Close(object, option))),
+        _ => None,
+    }
+}
+
+/// Whether a commit in doubt was kept.
+fn outcome(word: &[u8]) -> Option<bool>
+    ensures { result ≡ outcome_read word.now }
+{
+    if word == b"kept".as_slice() {
+        Some(true)
+    } else if word == b"lost".as_slice() {
+        Some(false)
+    } else {
+        None
+    }
+}
+
+/// What is known of a commit in doubt, as what stands behind `resolve` spells it.
+fn resolve(rest: &[u8]) -> Option<Event>
+    ensures { result ≡ resolve_read (words rest.now) }
+{
+    let mut words = Pieces::new(rest, b' ');
+    let (Some(frame), Some(word), None) = (
+        words.next_piece(),
+        words.next_piece(),
+        words.next_piece(),
+    ) else {
+        return None;
+    };
+    match (number(frame), outcome(word)) {
+        (Some(frame), Some(is_kept)) => Some(Event::Resolve(frame, is_kept)),
         _ => None,
     }
 }

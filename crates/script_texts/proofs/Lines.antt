@@ -27,6 +27,8 @@ of_event (Some (event.Deliver p)) t = absurd (cc)
 of_event (Some (event.Crash inc)) t = absurd (cc)
 of_event (Some (event.Reap inc)) t = absurd (cc)
 of_event (Some (event.Done f)) t = absurd (cc)
+of_event (Some (event.Fail f)) t = absurd (cc)
+of_event (Some (event.Resolve f is_kept)) t = absurd (cc)
 of_event (Some (event.Scribble inc act)) t = absurd (cc)
 of_event (Some (event.Ask inc act)) t = absurd (cc)
 

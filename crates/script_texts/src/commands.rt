@@ -72,6 +72,8 @@ fn command_of(event: Event) -> Option<ScriptCommand>
         | Event::Crash(_)
         | Event::Reap(_)
         | Event::Done(_)
+        | Event::Fail(_)
+        | Event::Resolve(_, _)
         | Event::Scribble(_, _)
         | Event::Ask(_, _) => None,
     }

@@ -17,14 +17,14 @@ use Rattle.world_facts.proofs.Lookups.{among_old, among_new, among_map, nth_old,
 
 -- what is counted stays counted
 filed_more : (files : List File) (frame : Frame) (document : Document) (dones more : List Done) → IsFiled files frame document dones → IsFiled files frame document (dones ++ more)
-filed_more files frame document dones more s = record { sure = s.sure; stored = s.stored; file = s.file; found = s.found; denotes = s.denotes; counted_with = λ p g. among_old dones more (done_entry document.k p) (s.counted_with p g) }
+filed_more files frame document dones more s = record { stored = s.stored; file = s.file; found = s.found; denotes = s.denotes; counted_with = λ p g. among_old dones more (done_entry document.k p) (s.counted_with p g) }
 
 filed_same : (files : List File) (old new : Frame) (document : Document) (dones : List Done) → IsSameFrame old new → IsFiled files old document dones → IsFiled files new document dones
-filed_same files old new document dones e s = record { sure = e.sure s.sure; stored = e.stored ∙ s.stored; file = s.file; found = ap (λ n. find (is_file n) files) e.name ∙ s.found; denotes = s.denotes; counted_with = s.counted_with }
+filed_same files old new document dones e s = record { stored = e.stored ∙ s.stored; file = s.file; found = ap (λ n. find (is_file n) files) e.name ∙ s.found; denotes = s.denotes; counted_with = s.counted_with }
 
 bears_same : (old new : Frame) (name : List ℕ) → IsSameFrame old new → Bears new name → Bears old name
 bears_same old new name e (inl h) = inl (sym e.name ∙ h)
-bears_same old new name e (inr h) = inr (sym e.asked ∙ h)
+bears_same old new name e (inr h) = inr (e.asked name h)
 
 pub stored_same : (frames after : List Frame) (files : List File) (counted : List (Option Document)) (dones : List Done) → AreSameFrames frames after → FilesCounted frames files counted dones → FilesCounted after files counted dones
 stored_same frames after files counted dones s h = record {
@@ -130,7 +130,6 @@ module _ (frames : List Frame) (f : ℕ) (frame : Frame) (files : List File) (co
 
   here : IsFiled (put_file name bytes files) (committed_frame frame) document (dones ++ entries)
   here = record {
-    sure = refl;
     stored = refl;
     file = record { name = name; bytes = bytes };
     found = found_put name bytes files;
@@ -140,7 +139,6 @@ module _ (frames : List Frame) (f : ℕ) (frame : Frame) (files : List File) (co
 
   elsewhere : (g : ℕ) (d : Document) (other : Frame) → g ≢ f → nth frames g ≡ Some other → IsFiled files other d dones → IsFiled (put_file name bytes files) other d (dones ++ entries)
   elsewhere g d other ne e h = (let more = filed_more files other d dones entries h in record {
-    sure = more.sure;
     stored = more.stored;
     file = more.file;
     found = found_other name other.name bytes files (λ q. ne (s.names_apart g f other frame name e at (inl q) (bears_after frame name (inl refl)))) ∙ more.found;

@@ -1,7 +1,7 @@
 -- Frames after steps that aren't commits.
 use Rattle.std.proofs.Common.{◌≡◌, ◌≢◌, ℕ, zero, suc, ◌+◌, ◌≤◌, Bool, true, false, List, [], ◌∷◌, length, Some, refl, sym, ap, ◌∙◌, inl, inr, arith, subst, slice_get, if◌then◌else◌}
 use Rattle.wire_msgs.specs.Found.{nth, set_nth}
-use Rattle.container_model.specs.Saves.{awaits, is_ready, is_ready_at, settled_frame, settled_frames}
+use Rattle.container_model.specs.Saves.{awaits, doubted_frame, dropped_frame, is_ready, is_ready_at, settled_frame, settled_frames}
 use Rattle.container_model.specs.Commands.{saving_frame}
 use Rattle.container_model.specs.declared.record.Frame.{Frame}
 use Rattle.container_model.specs.declared.record.Object.{Object}
@@ -11,13 +11,13 @@ use Rattle.world_files.specs.Files.{IsSameFrame, AreSameFrames}
 use Rattle.world_facts.proofs.Lookups.{length_set_nth, nth_set}
 
 pub same_frame : (frame : Frame) → IsSameFrame frame frame
-same_frame frame = record { name = refl; asked = refl; stored = refl; sure = λ h. h; below = λ n h. h }
+same_frame frame = record { name = refl; asked = λ name h. h; stored = refl; below = λ n h. h }
 
 pub same_frames : (frames : List Frame) → AreSameFrames frames frames
 same_frames frames = record { many = refl; from = λ f frame e. (frame, e, same_frame frame) }
 
 pub same_after : (a b c : Frame) → IsSameFrame a b → IsSameFrame b c → IsSameFrame a c
-same_after a b c p q = record { name = q.name ∙ p.name; asked = q.asked ∙ p.asked; stored = q.stored ∙ p.stored; sure = λ h. q.sure (p.sure h); below = λ n h. q.below n (p.below n h) }
+same_after a b c p q = record { name = q.name ∙ p.name; asked = λ name h. p.asked name (q.asked name h); stored = q.stored ∙ p.stored; below = λ n h. q.below n (p.below n h) }
 
 pub same_frames_after : (xs ys zs : List Frame) → AreSameFrames xs ys → AreSameFrames ys zs → AreSameFrames xs zs
 same_frames_after xs ys zs p q = record {
@@ -36,7 +36,7 @@ ready_saving InDoubt w e = cc
 pub same_settled : (f : ℕ) (os : List Object) (frame : Frame) → IsSameFrame frame (settled_frame f os frame)
 same_settled f os frame =
     elim (is_ready f os frame) as (λ b. is_ready f os frame ≡ b → IsSameFrame frame (if b then record frame { phase = Committing } else frame)) [
-      | true ↦ (λ t. record { name = refl; asked = refl; stored = refl; sure = λ h. refl; below = λ n h. record { last = h.last; under = λ ne. h.under (ready_saving frame.phase (awaits f os) t) } })
+      | true ↦ (λ t. record { name = refl; asked = λ name h. h; stored = refl; below = λ n h. record { last = h.last; under = λ ne. h.under (ready_saving frame.phase (awaits f os) t) } })
       | false ↦ (λ t. same_frame frame)
     ] refl
 
@@ -58,7 +58,14 @@ settled_same n os frames = record { many = length_settled n os frames; from = se
 
 -- a frame that begins to save
 pub saving_same : (frame : Frame) → IsSameFrame frame (saving_frame frame)
-saving_same frame = record { name = refl; asked = refl; stored = refl; sure = λ h. refl; below = λ n h. (let l : n ≤ frame.k = h.last in record { last = omega arith; under = λ ne. omega arith }) }
+saving_same frame = record { name = refl; asked = λ name h. h; stored = refl; below = λ n h. (let l : n ≤ frame.k = h.last in record { last = omega arith; under = λ ne. omega arith }) }
+
+-- a frame whose commit failed, and one in doubt whose save is dropped
+pub doubted_same : (frame : Frame) → frame.phase ≢ Idle → IsSameFrame frame (doubted_frame frame)
+doubted_same frame busy = record { name = refl; asked = λ name h. h; stored = refl; below = λ n h. record { last = h.last; under = λ ne. h.under busy } }
+
+pub dropped_same : (frame : Frame) → IsSameFrame frame (dropped_frame frame)
+dropped_same frame = record { name = refl; asked = λ name h. cc; stored = refl; below = λ n h. record { last = h.last; under = λ ne. absurd (ne refl) } }
 
 -- one frame changed
 pub set_same : (frames : List Frame) (f : ℕ) (old new : Frame) → nth frames f ≡ Some old → IsSameFrame old new → AreSameFrames frames (set_nth frames f new)

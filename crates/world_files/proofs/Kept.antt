@@ -1,5 +1,5 @@
 -- Each event keeps the files and what was counted.
-use Rattle.std.proofs.Common.{◌≡◌, ◌≢◌, ◌||◌, ◌==◌, ℕ, zero, suc, ◌+◌, true, false, not, List, [], ◌∷◌, ◌++◌, length, map, Option, Some, None, is_some, Result, Ok, Err, refl, sym, ap, ◌∙◌, subst, nat_le, if◌then◌else◌}
+use Rattle.std.proofs.Common.{◌≡◌, ◌≢◌, ◌||◌, ◌==◌, ℕ, zero, suc, ◌+◌, Bool, true, false, not, ◌⊎◌, inl, inr, List, [], ◌∷◌, ◌++◌, length, map, Option, Some, None, is_some, Result, Ok, Err, refl, sym, ap, ◌∙◌, subst, nat_le, if◌then◌else◌}
 use Rattle.std.proofs.lemmas.List.{append-nil}
 use Rattle.wire_msgs.specs.Found.{find, nth, set_nth}
 use Rattle.wire_msgs.specs.declared.message.Message.{Message}
@@ -13,7 +13,7 @@ use Rattle.server_model.specs.Server.{Served, Told, on_call, wanted}
 use Rattle.server_model.specs.Server as server
 use Rattle.server_model.specs.declared.fault.ServerFault.{ServerFault}
 use Rattle.container_model.specs.Record.{Record, Took, MOST_FRAMES, MOST_OBJECTS, is_doubtful, is_saving, is_busy, is_object, count_objects, without_first}
-use Rattle.container_model.specs.Saves.{image, image_at, has_image, fitting, fitting_in, is_document, document, parts_in, document_tree, commit_done, commit_at, commit_fitting, commit_made, committed_frame, completed, completion, counted_object, is_committing, cleared, kept}
+use Rattle.container_model.specs.Saves.{image, image_at, has_image, fitting, fitting_in, is_document, document, parts_in, document_tree, commit_done, commit_failed, commit_made, resolve, committed_frame, completed, completion, counted_object, is_committing, cleared, kept}
 use Rattle.container_model.specs.Messages.{on_message, on_reap}
 use Rattle.container_model.specs.Commands.{on_command, new_frame}
 use Rattle.container_model.specs.declared.command.Command.{Command}
@@ -29,20 +29,22 @@ use Rattle.container_model.specs.declared.fault.ContainerFault.TheVariants.{Busy
 use Rattle.world_model.specs.declared.logs.Sent.{Sent}
 use Rattle.world_model.specs.declared.logs.Taken.{Taken}
 use Rattle.world_model.specs.declared.logs.Document.{Document}
+use Rattle.world_model.specs.declared.logs.File.{File}
 use Rattle.world_model.specs.declared.life.Life.{Life}
 use Rattle.world_model.specs.declared.life.Life.TheVariants.{Running, Ended, Reaped}
 use Rattle.world_model.specs.declared.event.Event.{Event}
 use Rattle.world_model.specs.declared.event.Event.TheVariants as event
 use Rattle.world_model.specs.declared.event.Stop.{Stop}
 use Rattle.world_model.specs.declared.event.Stop.TheVariants.{EventLimit}
-use Rattle.world_model.specs.World.{World, Instance, document_in, empty_world, joined, took, commanded, served, stocked, called_wanting, called_in, called, delivered, taken_at, with_taken, deliver, spoken_by, spoken, scribble, ask, crashed, crash, ended, reap, kept_commit, done_taken, done_imaged, done_in, happened, limited, IsImage, is_of, frame_file_in, MOST_EVENTS, Choice}
+use Rattle.world_model.specs.World.{World, Instance, document_in, empty_world, joined, took, commanded, served, stocked, called_wanting, called_in, called, delivered, taken_at, with_taken, deliver, spoken_by, spoken, scribble, ask, crashed, crash, ended, reap, kept_commit, done_taken, done_imaged, done_in, only_taken, resolved, happened, limited, IsImage, IsImageOf, is_of, frame_file_in, is_file, MOST_EVENTS, Choice}
 use Rattle.world_model.specs.Safe.{Commit, IsCounted, IsKept}
 use Rattle.container_steady.specs.Steady.{Steady}
 use Rattle.container_steady.proofs.SteadyRecords.{unless_ok}
+use Rattle.container_steady.proofs.Settling.{IsCommitOf, done_commits, is_dropped, is_failed, kept_commits, not_idle}
 use Rattle.world_files.specs.Files.{id_of, CountedBounded, FilesCounted, HasCommits, Files}
 use Rattle.world_facts.proofs.Lookups.{map_map_same, nth_aligned}
 use Rattle.world_files.proofs.Numbering.{numbered}
-use Rattle.world_files.proofs.Quiet.{IsQuiet, command_quiet, message_quiet, reap_quiet, id_asked}
+use Rattle.world_files.proofs.Quiet.{IsQuiet, command_quiet, doubt_quiet, drop_quiet, message_quiet, reap_quiet, id_asked}
 use Rattle.container_steady.specs.Taken.{IsTakenAs, as_close, as_delete, as_edit, as_insert, as_kill, as_new, as_run, as_save, as_start, as_verb}
 use Rattle.container_steady.proofs.Taken.{command_taken}
 use Rattle.world_files.proofs.Bounding.{bounded_same, bounded_framed, bounded_object, bounded_fewer, bounded_committed, among_without}
@@ -210,13 +212,6 @@ id_counted f o = elim (o.frame == f) as (λ b. id_of (if b then record o { work 
 id_completed : (f : ℕ) (frame : Frame) (o : Object) → id_of (completed f frame o) ≡ id_of o
 id_completed f frame o = id_asked f (completion frame) (counted_object f o) ∙ id_counted f o
 
-committing_not_idle : (phase : Phase) → is_committing phase ≡ true → phase ≢ Idle
-committing_not_idle Idle e = cc
-committing_not_idle Saving e = cc
-committing_not_idle HandingOff e = cc
-committing_not_idle Committing e = λ h. cc
-committing_not_idle InDoubt e = cc
-
 fitting_in_is : (parts got : List Part) (told : Result (Unit {0}) WriteFault) → fitting_in parts told ≡ Ok got → parts ≡ got
 fitting_in_is parts got (Ok u) e = cc
 fitting_in_is parts got (Err fault) e = cc
@@ -233,29 +228,19 @@ image_is_at r f frame got e = elim (has_image frame.phase) as (λ b. (if b then 
   | false ↦ (λ g. cc)
 ] e
 
-fitting_commit : (r : Record) (f : ℕ) (frame : Frame) (told : Result (List Part) ContainerFault) (t : Took) → commit_fitting r f frame told ≡ Ok t → commit_made r f frame ≡ t
-fitting_commit r f frame (Err fault) t e = cc
-fitting_commit r f frame (Ok parts) t e = cc
-
-pub commit_is_at : (r : Record) (f : ℕ) (frame : Frame) (t : Took) → commit_at r f (Some frame) ≡ Ok t → (is_committing frame.phase ≡ true) × (commit_made r f frame ≡ t)
-commit_is_at r f frame t e = elim (is_committing frame.phase) as (λ b. is_committing frame.phase ≡ b → (if b then commit_fitting r f frame (image r f) else Err WrongState) ≡ Ok t → (is_committing frame.phase ≡ true) × (commit_made r f frame ≡ t)) [
-  | true ↦ (λ h g. (h, fitting_commit r f frame (image r f) t g))
-  | false ↦ (λ h g. cc)
-] refl e
-
 files_done_taken : (w : World) (f : ℕ) (bytes : List ℕ) (frame : Frame) (parts : List Part) (told : Result Took ContainerFault) (v : World) → Steady w.rec → Files w → nth w.rec.frames f ≡ Some frame
-    → image w.rec f ≡ Ok parts → commit_done w.rec f ≡ told → ∥ Denotes bytes (document_tree parts) ∥₁ → done_taken w f bytes frame parts told ≡ Ok v → Files v
-files_done_taken w f bytes frame parts (Err fault) v s k at im cd den e = cc
-files_done_taken w f bytes frame parts (Ok t) v s k at im cd den e =
+    → image w.rec f ≡ Ok parts → IsCommitOf w.rec f frame told → ∥ Denotes bytes (document_tree parts) ∥₁ → done_taken w f bytes frame parts told ≡ Ok v → Files v
+files_done_taken w f bytes frame parts (Err fault) v s k at im commits den e = cc
+files_done_taken w f bytes frame parts (Ok t) v s k at im commits den e =
     let r = w.rec in
-    let c = commit_is_at r f frame t (ap (commit_at r f) (sym at) ∙ cd) in
+    let c = commits t refl in
     let ps : parts_in f r.objects ≡ parts = image_is_at r f frame parts (ap (image_at r f) (sym at) ∙ im) in
     let ids : map id_of (map (completed f frame) r.objects) ≡ map id_of r.objects = map_map_same id_of (completed f frame) r.objects (id_completed f frame) in
     let den2 : ∥ Denotes bytes (document_tree (parts_in f r.objects)) ∥₁ = subst (λ x. ∥ Denotes bytes (document_tree x) ∥₁) (sym ps) den in
     let after : World = joined (kept_commit w f frame (parts_in f r.objects) (commit_made r f frame).counted bytes) (commit_made r f frame) in
     let keeps : Files after = record {
       counted_bounded = subst (λ x. CountedBounded (set_nth r.frames f (committed_frame frame)) x r.last_object after.container_done) (sym ids)
-          (bounded_committed r.frames f frame r.objects r.last_object w.container_done at (committing_not_idle frame.phase c.0) (numbered r s) k.counted_bounded);
+          (bounded_committed r.frames f frame r.objects r.last_object w.container_done at (not_idle frame.phase c.0) (numbered r s) k.counted_bounded);
       filed = subst (λ cs. FilesCounted (set_nth r.frames f (committed_frame frame)) after.files cs after.container_done) (sym (append-nil _))
           (stored_committed r.frames f frame w.files w.counted w.container_done (parts_in f r.objects) bytes at den2 k.filed);
       commits = subst (λ cs. HasCommits cs after.container_done) (sym (append-nil _))
@@ -265,15 +250,30 @@ files_done_taken w f bytes frame parts (Ok t) v s k at im cd den e =
     let two : Files (joined (kept_commit w f frame parts t.counted bytes) t) = subst (λ x. Files (joined (kept_commit w f frame parts x.counted bytes) x)) c.1 one in
     subst Files (ok_is _ v e) two
 
-files_imaged : (w : World) (f : ℕ) (bytes : List ℕ) (frame : Frame) (told : Result (List Part) ContainerFault) (v : World) → Steady w.rec → Files w → nth w.rec.frames f ≡ Some frame → image w.rec f ≡ told
-    → ((parts : List Part) → image w.rec f ≡ Ok parts → ∥ Denotes bytes (document_tree parts) ∥₁) → done_imaged w f bytes frame told ≡ Ok v → Files v
-files_imaged w f bytes frame (Err fault) v s k at im den e = cc
-files_imaged w f bytes frame (Ok parts) v s k at im den e = files_done_taken w f bytes frame parts (commit_done w.rec f) v s k at im refl (den parts im) e
+files_imaged : (w : World) (f : ℕ) (bytes : List ℕ) (frame : Frame) (counted : Result Took ContainerFault) (told : Result (List Part) ContainerFault) (v : World) → Steady w.rec → Files w → nth w.rec.frames f ≡ Some frame → image w.rec f ≡ told
+    → IsCommitOf w.rec f frame counted → IsImageOf w f bytes → done_imaged w f bytes frame counted told ≡ Ok v → Files v
+files_imaged w f bytes frame counted (Err fault) v s k at im commits den e = cc
+files_imaged w f bytes frame counted (Ok parts) v s k at im commits den e = files_done_taken w f bytes frame parts counted v s k at im commits (den parts im) e
 
-files_done_in : (w : World) (f : ℕ) (bytes : List ℕ) (frame : Option Frame) (v : World) → Steady w.rec → Files w → nth w.rec.frames f ≡ frame
-    → ((parts : List Part) → image w.rec f ≡ Ok parts → ∥ Denotes bytes (document_tree parts) ∥₁) → done_in w f bytes frame ≡ Ok v → Files v
-files_done_in w f bytes None v s k at den e = cc
-files_done_in w f bytes (Some frame) v s k at den e = files_imaged w f bytes frame (image w.rec f) v s k at refl den e
+files_done_in : (w : World) (f : ℕ) (bytes : List ℕ) (counted : Result Took ContainerFault) (frame : Option Frame) (v : World) → Steady w.rec → Files w → nth w.rec.frames f ≡ frame
+    → ((x : Frame) → nth w.rec.frames f ≡ Some x → IsCommitOf w.rec f x counted) → IsImageOf w f bytes → done_in w f bytes counted frame ≡ Ok v → Files v
+files_done_in w f bytes counted None v s k at commits den e = cc
+files_done_in w f bytes counted (Some frame) v s k at commits den e = files_imaged w f bytes frame counted (image w.rec f) v s k at refl (commits frame at) den e
+
+-- a step that happens only where it is taken
+files_only : (w : World) (told : Result Took ContainerFault) (v : World) → Files w → ((t : Took) → told ≡ Ok t → IsQuiet w.rec t) → only_taken w told ≡ Ok v → Files v
+files_only w (Err fault) v k q e = cc
+files_only w (Ok t) v k q e = subst Files (ok_is _ v e) (files_quiet w t k (q t refl))
+
+failed_quiet : (r : Record) (f : ℕ) (t : Took) → commit_failed r f ≡ Ok t → IsQuiet r t
+failed_quiet r f t e = (let h = is_failed r f t e in subst (IsQuiet r) h.made (doubt_quiet r f h.frame h.there (not_idle h.frame.phase (inl h.phase))))
+
+lost_quiet : (r : Record) (f : ℕ) (t : Took) → resolve r f false ≡ Ok t → IsQuiet r t
+lost_quiet r f t e = (let h = is_dropped r f t e in subst (IsQuiet r) h.made (drop_quiet r f h.frame h.there))
+
+files_resolved : (w : World) (choice : Choice) (f : ℕ) (is_kept : Bool) (v : World) → Steady w.rec → Files w → IsImage w choice (event.Resolve f is_kept) → resolved w f is_kept choice.file ≡ Ok v → Files v
+files_resolved w choice f true v s k im e = files_done_in w f choice.file (resolve w.rec f true) (nth w.rec.frames f) v s k refl (λ x at. kept_commits w.rec f x at) im e
+files_resolved w choice f false v s k im e = files_only w (resolve w.rec f false) v k (lost_quiet w.rec f) e
 
 pub files_happened : (w : World) (choice : Choice) (e : Event) (v : World) → Steady w.rec → Files w → IsImage w choice e → happened w choice e ≡ Ok v → Files v
 files_happened w choice (event.Command c) v s k im e = subst Files (ok_is _ v e) (files_commanded w c (on_command w.rec c) k (λ t g. files_command w c t s k g))
@@ -282,7 +282,9 @@ files_happened w choice (event.Crash inc) v s k im e = files_crash w inc (nth w.
 files_happened w choice (event.Reap inc) v s k im e = files_reap w inc (nth w.instances inc) v k e
 files_happened w choice (event.Scribble inc act) v s k im e = files_scribble w inc act (nth w.instances inc) v k e
 files_happened w choice (event.Ask inc act) v s k im e = files_ask w inc act (nth w.instances inc) v k e
-files_happened w choice (event.Done f) v s k im e = files_done_in w f choice.file (nth w.rec.frames f) v s k refl im e
+files_happened w choice (event.Done f) v s k im e = files_done_in w f choice.file (commit_done w.rec f) (nth w.rec.frames f) v s k refl (λ x at. done_commits w.rec f x at) im e
+files_happened w choice (event.Fail f) v s k im e = files_only w (commit_failed w.rec f) v k (failed_quiet w.rec f) e
+files_happened w choice (event.Resolve f is_kept) v s k im e = files_resolved w choice f is_kept v s k im e
 
 pub limited_ok : (w : World) (told : Result World Stop) (v : World) → limited w told ≡ Ok v → told ≡ Ok v
 limited_ok w (Err stop) v e = cc
@@ -293,13 +295,15 @@ pub commits_kept : (w : World) → Files w → (commits : List Commit) × IsCoun
 commits_kept w k = (k.commits.0, record { entries = k.commits.1.entries; last = k.commits.1.last })
 
 -- the files of a world
-pub files_kept : (w : World) → Files w → (f : ℕ) (document : Document) → nth w.counted f ≡ Some (Some document) → IsKept w f document
-files_kept w k f document c =
-    let p = nth_aligned w.counted w.rec.frames f (Some document) k.filed.aligned c in
-    let s = k.filed.file_counted f document p.0 c p.1 in
+file_known : (w : World) (frame : Frame) (file : File) → is_doubtful frame.phase ≡ false → frame.stored ≡ true → find (is_file frame.name) w.files ≡ Some file → frame_file_in w (Some frame) ≡ Some file.bytes
+file_known w frame file sure stored found = rw (sure, stored, found) refl
+
+pub files_kept : (w : World) → Files w → (f : ℕ) (frame : Frame) (document : Document) → nth w.rec.frames f ≡ Some frame → is_doubtful frame.phase ≡ false → nth w.counted f ≡ Some (Some document) → IsKept w f document
+files_kept w k f frame document at sure c =
+    let s = k.filed.file_counted f document frame c at in
     record {
       bytes = s.file.bytes;
-      file = ap (frame_file_in w) p.1 ∙ rw (s.sure, s.stored, s.found) refl;
+      file = ap (frame_file_in w) at ∙ file_known w frame s.file sure s.stored s.found;
       denotes = s.denotes;
       counted = s.counted_with;
     }

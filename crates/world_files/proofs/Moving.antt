@@ -33,7 +33,7 @@ moved_settled r v h = record { frames = same_frames_after r.frames v.frames (set
 
 -- a frame's grant, which neither names nor saves tell
 grant_same : (frame : Frame) (ui : Ui) → IsSameFrame frame (record frame { ui = ui })
-grant_same frame ui = record { name = refl; asked = refl; stored = refl; sure = λ h. h; below = λ n h. record { last = h.last; under = h.under } }
+grant_same frame ui = record { name = refl; asked = λ name h. h; stored = refl; below = λ n h. record { last = h.last; under = h.under } }
 
 pub frame_moved : (r : Record) (f : ℕ) (frame : Frame) (e : Event) → nth r.frames f ≡ Some frame → IsMoved r (with_frame r f (moved frame e))
 frame_moved r f frame e at = record { frames = set_same r.frames f frame (moved frame e) at (grant_same frame (after frame.ui e)); ids = refl; last = refl }

@@ -1,11 +1,11 @@
 -- Steps of the container that leave files and what was counted alone.
-use Rattle.std.proofs.Common.{◌≡◌, ◌&&◌, ◌||◌, ◌==◌, ℕ, ℤ, ◌+◌, Bool, true, false, not, List, [], ◌∷◌, length, map, Option, Some, None, is_some, Result, Ok, Err, refl, subst, nat_le, nat_lt, if◌then◌else◌}
+use Rattle.std.proofs.Common.{◌≡◌, ◌≢◌, ◌&&◌, ◌||◌, ◌==◌, ℕ, ℤ, ◌+◌, Bool, true, false, not, List, [], ◌∷◌, length, map, Option, Some, None, is_some, Result, Ok, Err, refl, ◌∙◌, subst, nat_le, nat_lt, if◌then◌else◌}
 use Rattle.wire_msgs.specs.Found.{find, nth}
 use Rattle.wire_msgs.specs.declared.message.Message.{Message}
 use Rattle.wire_msgs.specs.declared.message.Message.TheVariants.{Call, Reply, Write}
 use Rattle.wire_msgs.specs.declared.message.Message.TheVariants as message
 use Rattle.wire_msgs.specs.declared.operation.Operation.{Operation}
-use Rattle.wire_msgs.specs.declared.operation.Operation.TheVariants.{Save, UiDeactivate}
+use Rattle.wire_msgs.specs.declared.operation.Operation.TheVariants.{Save, SaveDropped, UiDeactivate}
 use Rattle.wire_msgs.specs.declared.answer.Answer.{Answer}
 use Rattle.object_parts.specs.Limits.{is_within}
 use Rattle.object_state.specs.Verbs.{close_steps, verb_of}
@@ -20,12 +20,13 @@ use Rattle.container_model.specs.declared.record.Link.{Link}
 use Rattle.container_model.specs.declared.record.Object.{Object}
 use Rattle.container_model.specs.declared.record.Frame.{Frame}
 use Rattle.container_model.specs.declared.fault.ContainerFault.{ContainerFault}
+use Rattle.container_model.specs.declared.record.Phase.TheVariants.{Idle}
 use Rattle.container_model.specs.declared.fault.ContainerFault.TheVariants.{WrongLink, Stale, BadAnswer, NoSuch, Busy, InDoubt, Full, NumbersSpent, WrongState, UnknownClass}
 use Rattle.container_model.specs.declared.command.Command.{Command}
 use Rattle.container_model.specs.declared.command.Command.TheVariants as command
 use Rattle.container_steady.specs.Taken.{IsStepped, IsTakenAs, as_close, as_delete, as_edit, as_insert, as_kill, as_new, as_run, as_save, as_start, as_verb, steps_leave, steps_nothing, steps_take}
 use Rattle.container_model.specs.Record.{Record, Took, MOST_SERVERS, MARGIN, quiet_answer, counts_none, acts, sends, has_numbers, with_frame, count_alive, is_doubtful, is_saving, is_busy, is_moving, is_object, is_linked, is_alive, asked_link, asked_object}
-use Rattle.container_model.specs.Saves.{settled_frames, kept}
+use Rattle.container_model.specs.Saves.{commit_doubted, doubted_frame, dropped_frame, dropped_object, forgotten_object, save_dropped, settled_frames, cleared, kept}
 use Rattle.container_model.specs.Grants.{grant_of, moved, request}
 use Rattle.container_model.specs.Verbs.{claim_of, gives_up, left, stepped_link, leaving_made, holder_of, revoked_at, claimed, revoked, steps_now, taking_made}
 use Rattle.container_model.specs.Messages.{Replied, reply_link, reply_found, reply_taken, reply_made, replied_object, replied_record, replied_grant, on_reply, is_held_by, relieved, ask_framed, ask_found, on_ask, is_open_to, written_object, write_made, write_link, write_found, on_write, on_message, on_reap, reaped, reaped_object, reaped_grants, reap_made}
@@ -33,7 +34,7 @@ use Rattle.container_model.specs.Commands.{save_made, saving, saving_frame}
 use Rattle.world_files.specs.Files.{id_of, AreSameFrames}
 use Rattle.world_facts.proofs.Lookups.{map_put, map_map_same}
 use Rattle.world_files.proofs.Moving.{IsMoved, unmoved, moved_after, moved_settled, frame_moved, ids_linked, object_moved, request_moved, regranted_moved, freed_moved}
-use Rattle.world_files.proofs.Frames.{same_frames, same_frames_after, settled_same, saving_same, set_same}
+use Rattle.world_files.proofs.Frames.{doubted_same, dropped_same, same_frames, same_frames_after, settled_same, saving_same, set_same}
 
 pub record IsQuiet (r : Record) (t : Took) : Type 0 where
   pub frames : AreSameFrames r.frames t.rec.frames
@@ -54,6 +55,21 @@ save_quiet r f frame at =
       last = refl;
       frame = refl;
     }
+
+-- a commit that failed, and a save that is dropped
+pub doubt_quiet : (r : Record) (f : ℕ) (frame : Frame) → nth r.frames f ≡ Some frame → frame.phase ≢ Idle → IsQuiet r (commit_doubted r f frame)
+doubt_quiet r f frame at busy = record { frames = set_same r.frames f frame (doubted_frame frame) at (doubted_same frame busy); ids = refl; last = refl; frame = refl }
+
+id_forgotten : (f : ℕ) (o : Object) → id_of (forgotten_object f o) ≡ id_of o
+id_forgotten f o = elim (o.frame == f) as (λ b. id_of (if b then record o { link = cleared o.link } else o) ≡ id_of o) [ true ↦ refl | false ↦ refl ]
+
+pub drop_quiet : (r : Record) (f : ℕ) (frame : Frame) → nth r.frames f ≡ Some frame → IsQuiet r (save_dropped r f frame)
+drop_quiet r f frame at = record {
+  frames = set_same r.frames f frame (dropped_frame frame) at (dropped_same frame);
+  ids = map_map_same id_of (dropped_object f frame) r.objects (λ o. id_asked f (SaveDropped frame.k) (forgotten_object f o) ∙ id_forgotten f o);
+  last = refl;
+  frame = refl;
+}
 
 if_ok : {A : Type 0} (b : Bool) (next : Result A ContainerFault) (fault : ContainerFault) (t : A) → (if b then next else Err fault) ≡ Ok t → next ≡ Ok t
 if_ok true next fault t e = e

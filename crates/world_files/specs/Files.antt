@@ -1,10 +1,9 @@
 -- The files of a world and the container's log of counted saves: the facts that each event keeps. No reader has to believe
 -- them; what they are for stands in Safe.
-use Rattle.std.specs.Prelude.{◌≡◌, ◌≢◌, ◌⊎◌, ◌≤◌, ◌<◌, ℕ, true, false, List, [], ◌∷◌, length, map, Option, Some, ⊤}
+use Rattle.std.specs.Prelude.{◌≡◌, ◌≢◌, ◌⊎◌, ◌≤◌, ◌<◌, ℕ, true, List, [], ◌∷◌, length, map, Option, Some, ⊤}
 use Rattle.std.specs.List.{flat_map}
 use Rattle.wire_msgs.specs.Found.{find, nth}
 use Rattle.file_model.specs.Denotes.{Denotes}
-use Rattle.container_model.specs.Record.{is_doubtful}
 use Rattle.container_model.specs.Saves.{document_tree}
 use Rattle.container_model.specs.declared.answer.Part.{Part}
 use Rattle.container_model.specs.declared.record.Frame.{Frame}
@@ -53,9 +52,9 @@ pub record CountedBounded (frames : List Frame) (ids : List Id) (last_object : �
   pub below : (x : Id) (d : Done) (frame : Frame) → Among ids x → Among dones d → d.object ≡ x.number → nth frames x.frame ≡ Some frame → IsBelow frame d.k
   pub counted_once : CountedOnce dones
 
--- The file under a frame's name holds the document of its last counted commit, whose contents were counted with it.
+-- The file under a frame's name holds the document of its last counted commit, whose contents were counted with it. So it
+-- does in a frame in doubt, as a commit that fails changes no file of the world.
 pub record IsFiled (files : List File) (frame : Frame) (document : Document) (dones : List Done) : Type 0 where
-  pub sure : is_doubtful frame.phase ≡ false
   pub stored : frame.stored ≡ true
   pub file : File
   pub found : find (is_file frame.name) files ≡ Some file
@@ -80,12 +79,11 @@ pub record Files (w : World) : Type 0 where
   pub filed : FilesCounted w.rec.frames w.files w.counted w.container_done
   pub commits : HasCommits w.counted w.container_done
 
--- a frame after a step that isn't a commit
+-- a frame after a step that isn't a commit; it may ask for no name any more
 pub record IsSameFrame (old new : Frame) : Type 0 where
   pub name : new.name ≡ old.name
-  pub asked : new.asked ≡ old.asked
+  pub asked : (name : List ℕ) → new.asked ≡ Some name → old.asked ≡ Some name
   pub stored : new.stored ≡ old.stored
-  pub sure : is_doubtful old.phase ≡ false → is_doubtful new.phase ≡ false
   pub below : (n : ℕ) → IsBelow old n → IsBelow new n
 
 pub record AreSameFrames (old new : List Frame) : Type 0 where

@@ -1,11 +1,12 @@
--- Commands that leave frames to whoever has them; and a commit.
+-- Commands that leave frames to whoever has them; a commit, one that fails, and a save that is dropped.
 use Rattle.std.proofs.Common.{◌≡◌, ◌||◌, ◌==◌, ◌+◌, ℕ, Bool, true, false, not, List, [], ◌∷◌, length, Option, Some, None, is_some, Ok, Err, refl, sym, ◌∙◌, subst, nat_le, nat_lt, if◌then◌else◌}
 use Rattle.wire_msgs.specs.Found.{find, put, nth, set_nth}
 use Rattle.wire_msgs.specs.declared.operation.Operation.{Operation}
+use Rattle.wire_msgs.specs.declared.operation.Operation.TheVariants.{SaveDropped}
 use Rattle.container_model.specs.declared.record.Object.{Object}
 use Rattle.container_model.specs.declared.record.Frame.{Frame}
 use Rattle.container_model.specs.Record.{Record, is_object, asked_link, asked_object}
-use Rattle.container_model.specs.Saves.{kept, cleared, completion, completed, counted_object, commit_made, committed_frame}
+use Rattle.container_model.specs.Saves.{kept, cleared, completion, completed, counted_object, commit_doubted, commit_made, committed_frame, doubted_frame, dropped_frame, dropped_object, forgotten_object, save_dropped}
 use Rattle.container_model.specs.Commands.{saving_frame, save_made}
 use Rattle.world_grants.specs.Grants.{NoClaim, NoTools}
 use Rattle.world_grants.proofs.States.{same}
@@ -50,3 +51,20 @@ completed_keeps f frame o =
 
 pub commit_leaves : (r : Record) (f : ℕ) (frame : Frame) → nth r.frames f ≡ Some frame → Leaves r (commit_made r f frame).rec
 commit_leaves r f frame at = (kept_stay r.objects _ (map_kept _ r.objects (λ o. completed_keeps f frame o)), one_moves NoClaim NoTools r.frames f frame (committed_frame frame) at (same frame.ui.state))
+
+-- a commit that fails, and a save that is dropped
+pub doubt_leaves : (r : Record) (f : ℕ) (frame : Frame) → nth r.frames f ≡ Some frame → Leaves r (commit_doubted r f frame).rec
+doubt_leaves r f frame at = (kept_stay r.objects r.objects (all_kept r.objects), one_moves NoClaim NoTools r.frames f frame (doubted_frame frame) at (same frame.ui.state))
+
+dropped_keeps : (f : ℕ) (frame : Frame) (o : Object) → Keeps o (dropped_object f frame o)
+dropped_keeps f frame o =
+    let a = forgotten_keeps (o.frame == f) in
+    let b = asked_keeps f (SaveDropped frame.k) (forgotten_object f o) in
+    record { number = b.number ∙ a.number; frame = b.frame ∙ a.frame }
+  where
+    forgotten_keeps : (b : Bool) → Keeps o (if b then record o { link = cleared o.link } else o)
+    forgotten_keeps true = record { number = refl; frame = refl }
+    forgotten_keeps false = record { number = refl; frame = refl }
+
+pub drop_leaves : (r : Record) (f : ℕ) (frame : Frame) → nth r.frames f ≡ Some frame → Leaves r (save_dropped r f frame).rec
+drop_leaves r f frame at = (kept_stay r.objects _ (map_kept _ r.objects (λ o. dropped_keeps f frame o)), one_moves NoClaim NoTools r.frames f frame (dropped_frame frame) at (same frame.ui.state))

@@ -14,16 +14,17 @@ use Rattle.container_model.specs.declared.fault.ContainerFault.{ContainerFault}
 use Rattle.container_model.specs.declared.fault.ContainerFault.TheVariants.{Stale, WrongLink, BadAnswer}
 use Rattle.container_model.specs.Record.{Record, Took, is_object, is_linked, is_alive}
 use Rattle.container_model.specs.declared.record.Frame.{Frame}
-use Rattle.container_model.specs.Saves.{commit_made}
+use Rattle.container_model.specs.Saves.{commit_doubted, commit_failed, commit_made, resolve, save_dropped}
 use Rattle.container_model.specs.Commands.{on_command, kind_of}
 use Rattle.container_model.specs.Messages.{is_open_to, written_object, write_made, write_link, write_found, on_message, on_ask}
 use Rattle.container_steady.specs.Steady.{Steady}
+use Rattle.container_steady.proofs.Settling.{is_dropped, is_failed}
 use Rattle.world_model.specs.Safe.{links_of}
 use Rattle.world_grants.specs.Grants.{RolesMove, NoClaim, NoTools, roles_of}
 use Rattle.world_grants.proofs.Objects.{Keeps, put_kept, kept_stay}
 use Rattle.world_grants.proofs.Frames.{none_move}
 use Rattle.world_grants.proofs.Moving.{plain_move}
-use Rattle.world_grants.proofs.Commands.{Leaves, commit_leaves}
+use Rattle.world_grants.proofs.Commands.{Leaves, commit_leaves, doubt_leaves, drop_leaves}
 use Rattle.world_grants.proofs.Verbs.{command_leaves, ask_leaves}
 use Rattle.world_grants.proofs.Replies.{reply_is}
 use Rattle.world_grants.proofs.Answering.{move_more, reply_moves}
@@ -39,6 +40,12 @@ command_moves r c t s e = left_moves r t.rec s (command_leaves r c t s e)
 
 pub committed_moves : (r : Record) (f : ℕ) (frame : Frame) → Steady r → nth r.frames f ≡ Some frame → MovesBy r (commit_made r f frame).rec []
 committed_moves r f frame s at = left_moves r (commit_made r f frame).rec s (commit_leaves r f frame at)
+
+pub failed_moves : (r : Record) (f : ℕ) (t : Took) → Steady r → commit_failed r f ≡ Ok t → MovesBy r t.rec []
+failed_moves r f t s e = (let h = is_failed r f t e in subst (λ (x : Took). MovesBy r x.rec []) h.made (left_moves r (commit_doubted r f h.frame).rec s (doubt_leaves r f h.frame h.there)))
+
+pub dropped_moves : (r : Record) (f : ℕ) (t : Took) → Steady r → resolve r f false ≡ Ok t → MovesBy r t.rec []
+dropped_moves r f t s e = (let h = is_dropped r f t e in subst (λ (x : Took). MovesBy r x.rec []) h.made (left_moves r (save_dropped r f h.frame).rec s (drop_leaves r f h.frame h.there)))
 
 -- a write
 module _ (r : Record) (inc act s w : ℕ) (content : Stored) (t : Took) where

@@ -3,7 +3,7 @@ use Rattle.std.proofs.Common.{refl}
 use Rattle.std.specs.Fmt.{digits}
 use Rattle.server_model.specs.Pictures.{picture_of}
 use Rattle.world_model.specs.Report.{frame_line, object_line, done_line}
-use Rattle.world_model.specs.Runs.{IsSaved, IsLost, IsKept, IsRepeated, IsReloaded, IsMisedited, IsLimited, IsDeleted, IsWritten, IsClosed, IsSpelled, HasFile, IsWorked}
+use Rattle.world_model.specs.Runs.{IsSaved, IsLost, IsKept, IsResolved, IsRepeated, IsReloaded, IsMisedited, IsLimited, IsDeleted, IsWritten, IsClosed, IsSpelled, HasFile, IsWorked}
 
 pub is_saved : IsSaved
 unfolding digits frame_line object_line done_line picture_of
@@ -16,6 +16,10 @@ is_lost = record { answers = refl; told = refl }
 pub is_kept : IsKept
 unfolding digits frame_line object_line done_line picture_of
 is_kept = record { answers = refl; told = refl }
+
+pub is_resolved : IsResolved
+unfolding digits frame_line object_line done_line picture_of
+is_resolved = record { kept_answers = refl; kept_told = refl; lost_answers = refl; lost_told = refl; in_doubt = refl; not_asked = refl; not_in_doubt = refl; not_done = refl }
 
 pub is_repeated : IsRepeated
 unfolding picture_of
@@ -52,4 +56,4 @@ pub has_file : HasFile
 has_file = record { stored = refl; in_doubt = refl }
 
 pub is_worked : IsWorked
-is_worked = record { is_saved = is_saved; is_lost = is_lost; is_kept = is_kept; is_repeated = is_repeated; is_reloaded = is_reloaded; is_misedited = is_misedited; is_limited = is_limited; is_deleted = is_deleted; is_written = is_written; is_closed = is_closed; is_spelled = is_spelled; has_file = has_file }
+is_worked = record { is_saved = is_saved; is_lost = is_lost; is_kept = is_kept; is_resolved = is_resolved; is_repeated = is_repeated; is_reloaded = is_reloaded; is_misedited = is_misedited; is_limited = is_limited; is_deleted = is_deleted; is_written = is_written; is_closed = is_closed; is_spelled = is_spelled; has_file = has_file }

@@ -12,12 +12,12 @@ use Rattle.server_model.specs.declared.fault.ServerFault.{ServerFault}
 use Rattle.container_model.specs.Commands.{on_command}
 use Rattle.container_model.specs.Messages.{on_message, on_reap}
 use Rattle.container_model.specs.Record.{Took}
-use Rattle.container_model.specs.Saves.{commit_done, image}
+use Rattle.container_model.specs.Saves.{commit_done, commit_failed, image, resolve}
 use Rattle.container_model.specs.declared.answer.Part.{Part}
 use Rattle.container_model.specs.declared.command.Command.{Command}
 use Rattle.container_model.specs.declared.fault.ContainerFault.{ContainerFault}
 use Rattle.container_model.specs.declared.record.Frame.{Frame}
-use Rattle.world_model.specs.World.{World, Instance, took, commanded, served, stocked, called_wanting, called_in, called, delivered, taken_at, with_taken, deliver, spoken_by, spoken, scribble, ask, crashed, crash, ended, reap, done_taken, done_imaged, done_in, happened, limited, Run, MOST_EVENTS, is_of, Choice}
+use Rattle.world_model.specs.World.{World, Instance, took, commanded, served, stocked, called_wanting, called_in, called, delivered, taken_at, with_taken, deliver, spoken_by, spoken, scribble, ask, crashed, crash, ended, reap, done_taken, done_imaged, done_in, only_taken, resolved, happened, limited, Run, MOST_EVENTS, is_of, Choice}
 use Rattle.world_model.specs.declared.event.Event.{Event}
 use Rattle.world_model.specs.declared.event.Event.TheVariants as event
 use Rattle.world_model.specs.declared.event.Stop.{Stop}
@@ -121,20 +121,30 @@ done_taken-taken : (w : World) (f : ℕ) (bytes : List ℕ) (frame : Frame) (par
 done_taken-taken w f bytes frame parts (Err fault) = tt
 done_taken-taken w f bytes frame parts (Ok t) = more w.answers _
 
-done_imaged-taken : (w : World) (f : ℕ) (bytes : List ℕ) (frame : Frame) (r : Result (List Part) ContainerFault) → IfTaken w (done_imaged w f bytes frame r)
-done_imaged-taken w f bytes frame (Err fault) = tt
-done_imaged-taken w f bytes frame (Ok parts) = done_taken-taken w f bytes frame parts (commit_done w.rec f)
+done_imaged-taken : (w : World) (f : ℕ) (bytes : List ℕ) (frame : Frame) (counted : Result Took ContainerFault) (r : Result (List Part) ContainerFault) → IfTaken w (done_imaged w f bytes frame counted r)
+done_imaged-taken w f bytes frame counted (Err fault) = tt
+done_imaged-taken w f bytes frame counted (Ok parts) = done_taken-taken w f bytes frame parts counted
 
-done_in-taken : (w : World) (f : ℕ) (bytes : List ℕ) (frame : Option Frame) → IfTaken w (done_in w f bytes frame)
-done_in-taken w f bytes None = tt
-done_in-taken w f bytes (Some frame) = done_imaged-taken w f bytes frame (image w.rec f)
+done_in-taken : (w : World) (f : ℕ) (bytes : List ℕ) (counted : Result Took ContainerFault) (frame : Option Frame) → IfTaken w (done_in w f bytes counted frame)
+done_in-taken w f bytes counted None = tt
+done_in-taken w f bytes counted (Some frame) = done_imaged-taken w f bytes frame counted (image w.rec f)
+
+only_taken-taken : (w : World) (r : Result Took ContainerFault) → IfTaken w (only_taken w r)
+only_taken-taken w (Err fault) = tt
+only_taken-taken w (Ok t) = more w.answers _
+
+resolved-taken : (w : World) (f : ℕ) (is_kept : Bool) (bytes : List ℕ) → IfTaken w (resolved w f is_kept bytes)
+resolved-taken w f true bytes = done_in-taken w f bytes (resolve w.rec f true) (nth w.rec.frames f)
+resolved-taken w f false bytes = only_taken-taken w (resolve w.rec f false)
 
 happened-taken : (w : World) (choice : Choice) (e : Event) → IfTaken w (happened w choice e)
 happened-taken w choice (event.Command c) = commanded-more w c (on_command w.rec c)
 happened-taken w choice (event.Deliver p) = deliver-taken w p (nth w.sent p)
 happened-taken w choice (event.Crash inc) = crash-taken w inc (nth w.instances inc)
 happened-taken w choice (event.Reap inc) = reap-taken w inc (nth w.instances inc)
-happened-taken w choice (event.Done f) = done_in-taken w f choice.file (nth w.rec.frames f)
+happened-taken w choice (event.Done f) = done_in-taken w f choice.file (commit_done w.rec f) (nth w.rec.frames f)
+happened-taken w choice (event.Fail f) = only_taken-taken w (commit_failed w.rec f)
+happened-taken w choice (event.Resolve f is_kept) = resolved-taken w f is_kept choice.file
 happened-taken w choice (event.Ask inc act) = ask-taken w inc act (nth w.instances inc)
 happened-taken w choice (event.Scribble inc act) = scribble-taken w inc act (nth w.instances inc)
 

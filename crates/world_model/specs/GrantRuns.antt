@@ -1,7 +1,7 @@
 -- Worked runs: objects that take the menus and border of their frame in turn, that offer them back, and that lose them.
-use Rattle.std.specs.Prelude.{◌≡◌, ◌++◌, ℕ, pos, negsuc, true, List, [], ◌∷◌, Some, None, Ok, Err, Result, codes}
+use Rattle.std.specs.Prelude.{◌≡◌, ◌++◌, ℕ, pos, negsuc, true, List, [], ◌∷◌, Ok, Result, codes}
 use Rattle.object_state.specs.declared.operations.CloseOption.TheVariants.{NoSave}
-use Rattle.embed_core.specs.Kinds.{Kind, Note, Table, Drawing}
+use Rattle.embed_core.specs.Kinds.{Note, Table, Drawing}
 use Rattle.object_parts.specs.declared.area.Area.{Area}
 use Rattle.container_model.specs.declared.command.Command.TheVariants.{New, Insert, Start, Run, Edit, Save, Close, Verb}
 use Rattle.container_model.specs.declared.command.ObjectKind.TheVariants as chosen

@@ -1,5 +1,5 @@
 -- Worked runs: a note that is made, edited and saved, and what becomes of it where its server crashes.
-use Rattle.std.specs.Prelude.{◌≡◌, ◌++◌, ℕ, true, List, [], ◌∷◌, map, Some, None, Result, Ok, Err, codes}
+use Rattle.std.specs.Prelude.{◌≡◌, ◌++◌, ℕ, Bool, true, false, List, [], ◌∷◌, map, Some, None, Result, Ok, Err, codes}
 use Rattle.std.specs.List.{flat_map, range_with_len}
 use Rattle.object_state.specs.declared.operations.CloseOption.TheVariants.{SaveIfDirty}
 use Rattle.server_model.specs.declared.fault.ServerFault.TheVariants.{Ignored}
@@ -11,9 +11,9 @@ use Rattle.container_model.specs.declared.record.Frame.{Frame}
 use Rattle.container_model.specs.declared.record.Phase.TheVariants.{Idle, InDoubt}
 use Rattle.container_model.specs.declared.command.Command.TheVariants.{New, Insert, Start, Run, Edit, Save, Delete, Kill, Close}
 use Rattle.container_model.specs.declared.command.ObjectKind.TheVariants as chosen
-use Rattle.container_model.specs.declared.fault.ContainerFault.TheVariants.{NoSuch, Busy, Full, NumbersSpent, Stale, WrongState}
+use Rattle.container_model.specs.declared.fault.ContainerFault.TheVariants.{NoSuch, Busy, Full, InDoubt as Doubtful, NumbersSpent, Stale, WrongState}
 use Rattle.world_model.specs.declared.event.Event.{Event}
-use Rattle.world_model.specs.declared.event.Event.TheVariants.{Command, Deliver, Crash, Reap, Done, Scribble}
+use Rattle.world_model.specs.declared.event.Event.TheVariants.{Command, Deliver, Crash, Reap, Done, Fail, Resolve, Scribble}
 use Rattle.world_model.specs.declared.event.Stop.{Stop}
 use Rattle.world_model.specs.declared.event.Stop.TheVariants.{NotEnabled, OutOfStock}
 use Rattle.world_model.specs.declared.logs.EventAnswer.{EventAnswer}
@@ -123,6 +123,33 @@ pub record IsKept : Type 0 where
       ∷ codes "object 1 frame 1 Note Passive Text=6162"
       ∷ codes "done container 1 1"
       ∷ [])
+
+-- A commit that fails: its frame is in doubt, and takes no edit, until it is resolved. Kept, it is as one that was done. Lost,
+-- nothing is counted, the note is as it was when it was made, and its server may write again.
+abbrev pub typing_more : Event
+typing_more = Command (Edit 1 (codes "i 0 x"))
+
+abbrev pub resolved_as : Bool → List Event
+resolved_as is_kept = saved ++ Fail 1 ∷ typing_more ∷ Resolve 1 is_kept ∷ Deliver 7 ∷ Deliver 8 ∷ []
+
+abbrev pub resolved_answers : List EventAnswer
+resolved_answers = answered (from_start saved) ++ ok ∷ Refused Doubtful ∷ sent 7 ∷ sent 8 ∷ ok ∷ []
+
+pub record IsResolved : Type 0 where
+  pub kept_answers : answered (from_start (resolved_as true)) ≡ resolved_answers
+  pub kept_told : reported (from_start (resolved_as true)) ≡ reported (from_start completed)
+  pub lost_answers : answered (from_start (resolved_as false)) ≡ resolved_answers
+  pub lost_told : reported (from_start (resolved_as false)) ≡ lines (
+      codes "frame 1 a Free k 1 none"
+      ∷ codes "object 1 frame 1 Note Running Normal act 1 s 2 -"
+      ∷ [])
+  pub in_doubt : reported (from_start (saved ++ Fail 1 ∷ [])) ≡ lines (
+      codes "frame 1 a Free k 1 doubt"
+      ∷ codes "object 1 frame 1 Note Running NoScribble act 1 s 1 -"
+      ∷ [])
+  pub not_asked : from_start (edited ++ Fail 1 ∷ []) ≡ Err NotEnabled
+  pub not_in_doubt : from_start (saved ++ Resolve 1 false ∷ []) ≡ Err NotEnabled
+  pub not_done : from_start (saved ++ Fail 1 ∷ Done 1 ∷ []) ≡ Err NotEnabled
 
 -- Messages that come again, in any order: the last call is answered again, and nothing is counted twice.
 abbrev pub repeated : List Event
@@ -242,6 +269,7 @@ pub record IsWorked : Type 0 where
   pub is_saved : IsSaved
   pub is_lost : IsLost
   pub is_kept : IsKept
+  pub is_resolved : IsResolved
   pub is_repeated : IsRepeated
   pub is_reloaded : IsReloaded
   pub is_misedited : IsMisedited

@@ -1,5 +1,5 @@
 -- A world: a container, its servers, the messages between them, the files; and what happens in it.
-use Rattle.std.specs.Prelude.{◌≡◌, ◌+◌, ◌++◌, ℕ, Bool, false, List, [], ◌∷◌, length, map, Option, Some, None, option_map, is_some, Result, Ok, Err, IsOk, if◌then◌else◌, nat_le, ⊤}
+use Rattle.std.specs.Prelude.{◌≡◌, ◌+◌, ◌++◌, ℕ, Bool, true, false, List, [], ◌∷◌, length, map, Option, Some, None, option_map, is_some, Result, Ok, Err, IsOk, if◌then◌else◌, nat_le, ⊤}
 use Rattle.std.specs.Str.{bytes_eq}
 use Rattle.std.specs.List.{range_with_len}
 use Rattle.wire_msgs.specs.Found.{find, nth, set_nth}
@@ -17,7 +17,7 @@ use Rattle.container_model.specs.Record.{Record, Took, empty, is_doubtful, is_li
 use Rattle.container_model.specs.Commands.{on_command}
 use Rattle.container_model.specs.Messages.{on_message, on_reap, awaits_save}
 pub use Rattle.container_model.specs.Saves.{done_entry}
-use Rattle.container_model.specs.Saves.{commit_done, image, document_tree, name_after}
+use Rattle.container_model.specs.Saves.{commit_done, commit_failed, image, document_tree, name_after, resolve}
 use Rattle.container_model.specs.declared.answer.Action.{Action}
 use Rattle.container_model.specs.declared.answer.Action.TheVariants.{Send, Start, End, Commit}
 use Rattle.container_model.specs.declared.answer.Answer.{Answer}
@@ -313,18 +313,29 @@ abbrev pub done_taken : World → ℕ → List ℕ → Frame → List Part → R
 done_taken w f bytes frame parts (Err fault) = Err NotEnabled
 done_taken w f bytes frame parts (Ok t) = Ok (joined (kept_commit w f frame parts t.counted bytes) t)
 
-abbrev pub done_imaged : World → ℕ → List ℕ → Frame → Result (List Part) ContainerFault → Result World Stop
-done_imaged w f bytes frame (Err fault) = Err NotEnabled
-done_imaged w f bytes frame (Ok parts) = done_taken w f bytes frame parts (commit_done w.rec f)
+abbrev pub done_imaged : World → ℕ → List ℕ → Frame → Result Took ContainerFault → Result (List Part) ContainerFault → Result World Stop
+done_imaged w f bytes frame counted (Err fault) = Err NotEnabled
+done_imaged w f bytes frame counted (Ok parts) = done_taken w f bytes frame parts counted
 
-abbrev pub done_in : World → ℕ → List ℕ → Option Frame → Result World Stop
-done_in w f bytes None = Err NotEnabled
-done_in w f bytes (Some frame) = done_imaged w f bytes frame (image w.rec f)
+abbrev pub done_in : World → ℕ → List ℕ → Result Took ContainerFault → Option Frame → Result World Stop
+done_in w f bytes counted None = Err NotEnabled
+done_in w f bytes counted (Some frame) = done_imaged w f bytes frame counted (image w.rec f)
 
 abbrev pub done : World → ℕ → List ℕ → Result World Stop
-done w f bytes = done_in w f bytes (nth w.rec.frames f)
+done w f bytes = done_in w f bytes (commit_done w.rec f) (nth w.rec.frames f)
 
--- What the definitions leave open in a step: of a commit that is done, the bytes that it makes the file.
+-- A step of the container that happens only where it is taken: a commit that fails, and one in doubt that is resolved as lost.
+-- No file changes, and nothing is counted.
+abbrev pub only_taken : World → Result Took ContainerFault → Result World Stop
+only_taken w (Err fault) = Err NotEnabled
+only_taken w (Ok t) = Ok (joined w t)
+
+-- A commit in doubt that is resolved as kept acts as one that is done.
+abbrev pub resolved : World → ℕ → Bool → List ℕ → Result World Stop
+resolved w f true bytes = done_in w f bytes (resolve w.rec f true) (nth w.rec.frames f)
+resolved w f false bytes = only_taken w (resolve w.rec f false)
+
+-- What the definitions leave open in a step: of a commit that is done, or resolved as kept, the bytes that it makes the file.
 pub record Choice : Type 0 where
   pub file : List ℕ
 
@@ -342,6 +353,8 @@ happened w choice (event.Deliver p) = deliver w p (nth w.sent p)
 happened w choice (event.Crash inc) = crash w inc (nth w.instances inc)
 happened w choice (event.Reap inc) = reap w inc (nth w.instances inc)
 happened w choice (event.Done f) = done w f choice.file
+happened w choice (event.Fail f) = only_taken w (commit_failed w.rec f)
+happened w choice (event.Resolve f is_kept) = resolved w f is_kept choice.file
 happened w choice (event.Scribble inc act) = scribble w inc act (nth w.instances inc)
 happened w choice (event.Ask inc act) = ask w inc act (nth w.instances inc)
 
@@ -357,6 +370,9 @@ abbrev pub step : World → Choice → Event → Result World Stop
 step w choice e = limited w (happened w choice e)
 
 -- What may be chosen: the bytes that a commit makes the file denote the document.
+abbrev pub IsImageOf : World → ℕ → List ℕ → Type 0
+IsImageOf w f bytes = (parts : List Part) → image w.rec f ≡ Ok parts → ∥ Denotes bytes (document_tree parts) ∥₁
+
 abbrev pub IsImage : World → Choice → Event → Type 0
 IsImage w choice (event.Command c) = ⊤
 IsImage w choice (event.Deliver p) = ⊤
@@ -364,7 +380,10 @@ IsImage w choice (event.Crash inc) = ⊤
 IsImage w choice (event.Reap inc) = ⊤
 IsImage w choice (event.Scribble inc act) = ⊤
 IsImage w choice (event.Ask inc act) = ⊤
-IsImage w choice (event.Done f) = (parts : List Part) → image w.rec f ≡ Ok parts → ∥ Denotes choice.file (document_tree parts) ∥₁
+IsImage w choice (event.Done f) = IsImageOf w f choice.file
+IsImage w choice (event.Fail f) = ⊤
+IsImage w choice (event.Resolve f true) = IsImageOf w f choice.file
+IsImage w choice (event.Resolve f false) = ⊤
 
 -- The worlds that these events reach; they differ in the bytes of files alone.
 abbrev pub Run : World → List Event → World → Type 0

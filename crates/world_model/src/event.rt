@@ -18,6 +18,10 @@ pub enum Event {
     Reap(u32),
     /// The commit of a frame's file is done.
     Done(u32),
+    /// The commit of a frame's file fails: it isn't known whether the file was committed.
+    Fail(u32),
+    /// It is known of a frame in doubt whether its file was committed.
+    Resolve(u32, bool),
     /// An activation of a server writes the content that it has now.
     Scribble(u32, u32),
     /// An activation of a server asks to be relieved of its frame's menus and border.

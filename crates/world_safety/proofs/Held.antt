@@ -41,7 +41,7 @@ safe_held w h = (let f = h.agrees.facts in record {
   agreed = λ e g honest. f.counts.server_counted e g honest;
   numbered = h.numbers.sent;
   commits = commits_kept w h.files;
-  files = λ f frame document at sure. files_kept w h.files f document;
+  files = λ f frame document at sure. files_kept w h.files f frame document at sure;
 })
 
 -- the world in which nothing has happened

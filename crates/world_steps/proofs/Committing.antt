@@ -7,11 +7,10 @@ use Rattle.storage_tree.specs.declared.stored.Stored.{Stored}
 use Rattle.container_model.specs.declared.record.Link.{Link}
 use Rattle.container_model.specs.declared.record.Object.{Object}
 use Rattle.container_model.specs.declared.record.Frame.{Frame}
-use Rattle.container_model.specs.declared.record.Phase.TheVariants.{Committing}
 use Rattle.container_model.specs.declared.answer.Done.{Done}
 use Rattle.container_model.specs.Record.{Record, is_object, asked_link, asked_sent, asked_all}
 use Rattle.container_model.specs.Saves.{cleared, kept, completed, completion, commit_made, done_entry, parts_in, part_of, is_some_name}
-use Rattle.container_steady.specs.Steady.{Steady}
+use Rattle.container_steady.specs.Steady.{IsUnsettled, Steady}
 use Rattle.container_steady.proofs.SteadyContents.{completed_if, commits_answered_contents}
 use Rattle.container_steady.proofs.SteadyShapes.{asked_of}
 use Rattle.world_model.specs.World.{messages_of}
@@ -22,7 +21,7 @@ use Rattle.world_steps.specs.Steps.{IsPlain}
 use Rattle.world_steps.proofs.Objects.{found_held, found_number, messages_sends, no_start_sent, no_end_sent}
 use Rattle.world_steps.proofs.Asking.{unasked, is_asked, all_mapped, who_is_asked}
 
-module _ (r : Record) (f : ℕ) (frame : Frame) (s : Steady r) (at : nth r.frames f ≡ Some frame) (committing : frame.phase ≡ Committing) where
+module _ (r : Record) (f : ℕ) (frame : Frame) (s : Steady r) (at : nth r.frames f ≡ Some frame) (unsettled : IsUnsettled frame.phase) where
   abbrev pub op : Operation
   op = completion frame
 
@@ -41,7 +40,7 @@ module _ (r : Record) (f : ℕ) (frame : Frame) (s : Steady r) (at : nth r.frame
   -- an object that is told has its content counted, which was answered in this save
   content_of : (n : ℕ) (o : Object) (l : Link) → find (is_object n) r.objects ≡ Some o → o.frame ≡ f → o.link ≡ Some l → (c : Stored) × (l.saved ≡ Some c) × Among fresh (record { object = n; k = frame.k; content = c })
   content_of n o l e of ol =
-      let c = commits_answered_contents r n o l frame s e ol (ap (nth r.frames) of ∙ at) committing in (
+      let c = commits_answered_contents r n o l frame s e ol (ap (nth r.frames) of ∙ at) unsettled in (
         c.0,
         c.1,
         subst (λ m. Among fresh (record { object = m; k = frame.k; content = c.0 })) (found_number r.objects n o e)

@@ -14,3 +14,4 @@ pub mod Running
 pub mod Replying
 pub mod Reaping
 pub mod Committing
+pub mod Dropping
