@@ -7,13 +7,20 @@ ghost use Rattle.std.specs.Prelude.{◌≡◌, []};
 use crate::failures::counted;
 use std::fs::{self, File, OpenOptions};
 use std::io;
-use std::os::unix::fs::FileExt;
+use std::os::unix::fs::{FileExt, OpenOptionsExt};
 use std::path::PathBuf;
+use std::rt::Files;
 use store_model::area::Area;
 use store_model::disk::{Disk, DiskFailure};
 
 /// How many bytes go to a file or come from it at once.
 const PIECE: usize = 64 * 1024;
+
+/// Who may read and write a document that is made, but for what the process takes away.
+const NEW_MODE: u32 = 0o666;
+
+/// The owner alone may read and write a journal until it has the document's permissions.
+const OWNER_MODE: u32 = 0o600;
 
 /// A disk over the files NAME, the document, and NAME.journal.
 #[derive(Drop)]
@@ -29,15 +36,22 @@ impl FileDisk {
     ghost use Rattle.doc_store.specs.Files.{failures_of};
     ghost use Rattle.std.specs.Prelude.{IfOk};
 
-    /// Opens the two files, and makes those that are missing. A link or a folder of either name isn't opened.
+    /// Opens the two files, and makes those that are missing: a journal with the document's permissions, since it holds the
+    /// document's bytes. A link or a folder of either name isn't opened.
     ///
     /// Refused as the system refuses to make or open one of them, and for want of memory for their names.
-    pub fn open(rt: &HostRuntime, name: &str) -> io::Result<FileDisk>
+    pub fn open<R: Files<File = File> + AllocGlobal>(
+        rt: &R,
+        name: &str,
+    ) -> io::Result<FileDisk>
         ensures failed { IfOk result (λ disk. failures_of disk ≡ 0) }
     {
         let journal_name = format!(in rt.alloc(); "{name}.journal")?;
-        let (document, document_made) = open_or_make(rt, name)?;
-        let (journal, journal_made) = open_or_make(rt, journal_name.as_str())?;
+        let (document, document_made) = open_or_make(rt, name, NEW_MODE)?;
+        let (journal, journal_made) = open_or_make(rt, journal_name.as_str(), OWNER_MODE)?;
+        if journal_made {
+            journal.set_permissions(document.metadata()?.permissions())?;
+        }
         let folder = open_folder(rt, name)?;
         Ok(FileDisk {
             document,
@@ -68,12 +82,17 @@ impl FileDisk {
     }
 }
 
-/// The file of this name, and whether this call made it.
-fn open_or_make(rt: &HostRuntime, name: &str) -> io::Result<(File, bool)> {
+/// The file of this name, and whether this call made it, with this mode then.
+fn open_or_make<R: Files<File = File>>(
+    rt: &R,
+    name: &str,
+    mode: u32,
+) -> io::Result<(File, bool)> {
     match OpenOptions::new()
         .read(true)
         .write(true)
         .create_new(true)
+        .mode(mode)
         .open(rt, name)
     {
         Ok(file) => Ok((file, true)),
@@ -89,7 +108,7 @@ fn open_or_make(rt: &HostRuntime, name: &str) -> io::Result<(File, bool)> {
 }
 
 /// The folder that a file of this name stands in.
-fn open_folder(rt: &HostRuntime, name: &str) -> io::Result<File> {
+fn open_folder<R: Files<File = File> + AllocGlobal>(rt: &R, name: &str) -> io::Result<File> {
     let mut path = PathBuf::from_str(rt.alloc(), name)?;
     path.pop();
     if path.as_str().is_empty() {

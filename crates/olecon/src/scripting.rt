@@ -3,6 +3,7 @@
 use file_program::ends::refuse;
 use script_run::fault::ScriptFault;
 use script_run::script::run_script;
+use std::fs::File;
 use std::net::Net;
 use std::process::{ExitCode, Processes};
 use std::rt::Runtime;
@@ -22,6 +23,10 @@ fn refuse_script<R: Runtime>(rt: &R, path: &str, fault: ScriptFault) -> ExitCode
     match fault {
         ScriptFault::Input(fault) => refuse(rt, &Report::File(path, fault.name())),
         ScriptFault::Line(line, fault) => refuse(rt, &Report::Line(line, fault.name())),
+        ScriptFault::File(name, fault) => match str::from_utf8(&name) {
+            Ok(name) => refuse(rt, &Report::File(name, fault.name())),
+            Err(_) => refuse(rt, &Report::File(path, fault.name())),
+        },
         ScriptFault::NoMemory => refuse(rt, &Report::File(path, "NoMemory")),
         ScriptFault::Unwritable => refuse(rt, &Report::File(STANDARD, "Unwritable")),
         ScriptFault::Stalled => {
@@ -36,7 +41,7 @@ fn refuse_script<R: Runtime>(rt: &R, path: &str, fault: ScriptFault) -> ExitCode
 }
 
 /// Carries out the commands of a file with servers that this program starts, and waits so many seconds for what each sends.
-pub(crate) fn run_file<R: Runtime + Net + Processes + AllocGlobal>(
+pub(crate) fn run_file<R: Runtime<File = File> + Net + Processes + AllocGlobal>(
     rt: &R,
     path: &str,
     server: &str,

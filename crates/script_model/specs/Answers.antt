@@ -5,8 +5,8 @@ use Rattle.container_model.specs.FaultNames.{fault_name}
 use Rattle.container_model.specs.Record.{Took}
 use Rattle.container_model.specs.declared.answer.Answer.{Answer}
 use Rattle.container_model.specs.declared.fault.ContainerFault.{ContainerFault}
+use Rattle.store_model.specs.Fault.{name_of}
 use Rattle.wire_msgs.specs.Refusals.{code_of}
-use Rattle.wire_msgs.specs.declared.refusal.Refusal.{Refusal}
 use Rattle.script_model.specs.declared.answer.Told.{Told}
 use Rattle.script_model.specs.declared.answer.Told.TheVariants as told
 
@@ -17,6 +17,7 @@ told_text (told.Server inc) = codes "server " ++ decimal inc
 told_text (told.Refused refusal) = codes "refused " ++ decimal (code_of refusal)
 told_text told.Done = codes "ok"
 told_text (told.Fault fault) = fault_name fault
+told_text (told.Lost fault) = name_of fault
 
 -- a command's line
 abbrev pub told_line : Told → List ℕ
@@ -46,15 +47,16 @@ abbrev pub told_by : Result Took ContainerFault → Told
 told_by (Ok took) = made_by took.answer
 told_by (Err fault) = told.Fault fault
 
--- A command that made nothing tells the first refusal that an object answered meanwhile.
-abbrev pub refused_by : Option Refusal → Told
-refused_by (Some refusal) = told.Refused refusal
-refused_by None = told.Done
+-- A command that made nothing tells what was noticed first meanwhile: that an object refused a call, or that a save was lost.
+abbrev pub noticed_by : Option Told → Told
+noticed_by (Some notice) = notice
+noticed_by None = told.Done
 
-abbrev pub further : Told → Option Refusal → Told
-further told.Done refused = refused_by refused
-further (told.Frame f) refused = told.Frame f
-further (told.Object o) refused = told.Object o
-further (told.Server inc) refused = told.Server inc
-further (told.Refused refusal) refused = told.Refused refusal
-further (told.Fault fault) refused = told.Fault fault
+abbrev pub further : Told → Option Told → Told
+further told.Done noticed = noticed_by noticed
+further (told.Frame f) noticed = told.Frame f
+further (told.Object o) noticed = told.Object o
+further (told.Server inc) noticed = told.Server inc
+further (told.Refused refusal) noticed = told.Refused refusal
+further (told.Fault fault) noticed = told.Fault fault
+further (told.Lost fault) noticed = told.Lost fault

@@ -3,10 +3,11 @@ use Rattle.std.specs.Prelude.{ℕ, List, [], ◌∷◌, Result, Ok, Err}
 use Rattle.container_model.specs.Record.{Record, Took, empty}
 use Rattle.container_model.specs.Commands.{on_command}
 use Rattle.container_model.specs.Messages.{on_message, on_reap}
+use Rattle.container_model.specs.Saves.{commit_done, commit_failed, resolve}
 use Rattle.container_model.specs.declared.fault.ContainerFault.{ContainerFault}
 use Rattle.script_model.specs.declared.step.Step.{Step}
 use Rattle.script_model.specs.declared.step.Step.TheVariants as step
-use Rattle.script_model.specs.Events.{Event, Started, Connected, Sent, Heard, Ended, Stepped}
+use Rattle.script_model.specs.Events.{Event, Started, Connected, Sent, Heard, Ended, Opened, Stepped}
 
 -- the greatest number that a script's container draws
 abbrev pub MOST_NUMBERS : ℕ
@@ -30,6 +31,9 @@ given g (step.Begins n) = g
 given g (step.Command c) = gives g (on_command g.now c)
 given g (step.Message inc m) = gives g (on_message g.now inc m)
 given g (step.Reap inc) = gives g (on_reap g.now inc)
+given g (step.Committed f) = gives g (commit_done g.now f)
+given g (step.Failed f) = gives g (commit_failed g.now f)
+given g (step.Resolved f is_kept) = gives g (resolve g.now f is_kept)
 given g step.NoMemory = record { before = g.before; now = g.before }
 
 abbrev pub given_by : List Event → Given
@@ -40,8 +44,9 @@ given_by (Connected inc ok ∷ es) = given_by es
 given_by (Sent inc bytes ok ∷ es) = given_by es
 given_by (Heard inc bytes ok ∷ es) = given_by es
 given_by (Ended inc ∷ es) = given_by es
+given_by (Opened name ok ∷ es) = given_by es
 
--- the container's record: its step applied to the commands, to the messages, each with the link that it came on, and to the
--- ends of servers, in their order, from a container without frames, objects and servers
+-- the container's record: its step applied to the commands, to the messages, each with the link that it came on, to the ends of
+-- servers and to what became of commits, in their order, from a container without frames, objects and servers
 abbrev pub record_of : List Event → Record
 record_of es = (given_by es).now

@@ -3,14 +3,15 @@ use Rattle.std.specs.Prelude.{ℕ, Bool, List, [], ◌∷◌, ◌++◌, drop, co
 use Rattle.histories.specs.Noted.{Noted}
 use Rattle.script_model.specs.declared.history.History.{History}
 use Rattle.script_model.specs.declared.step.Step.{Step}
-use Rattle.script_model.specs.Events.{Event, Started, Connected, Sent, Heard, Ended, Stepped}
+use Rattle.script_model.specs.Events.{Event, Started, Connected, Sent, Heard, Ended, Opened, Stepped}
 
 abbrev pub call_of : Noted → Event
 call_of n =
     cond (nat_eq n.0 0) (Started n.1 n.2) (
     cond (nat_eq n.0 1) (Connected n.1 n.2) (
     cond (nat_eq n.0 2) (Sent n.1 n.3 n.2) (
-    cond (nat_eq n.0 3) (Heard n.1 n.3 n.2) (Ended n.1))))
+    cond (nat_eq n.0 3) (Heard n.1 n.3 n.2) (
+    cond (nat_eq n.0 6) (Opened n.3 n.2) (Ended n.1)))))
 
 abbrev pub first_step : List (Step × Unit {0}) → List Event
 first_step [] = []

@@ -6,7 +6,7 @@ use Rattle.container_model.specs.Record.{Record}
 use Rattle.container_model.specs.Replies.{pending_calls}
 use Rattle.message_model.specs.declared.frame.Frame.TheVariants as frame
 use Rattle.message_model.specs.Spelling.{spell}
-use Rattle.script_model.specs.Events.{Event, Started, Connected, Sent, Heard, Ended, Stepped}
+use Rattle.script_model.specs.Events.{Event, Started, Connected, Sent, Heard, Ended, Opened, Stepped}
 use Rattle.script_model.specs.Containers.{record_of}
 
 -- the server that a message is to or from
@@ -33,4 +33,5 @@ AreTurns (Started inc ok ∷ es) = AreTurns es
 AreTurns (Connected inc ok ∷ es) = AreTurns es
 AreTurns (Heard inc bytes ok ∷ es) = AreTurns es
 AreTurns (Ended inc ∷ es) = AreTurns es
+AreTurns (Opened name ok ∷ es) = AreTurns es
 AreTurns (Stepped step ∷ es) = AreTurns es

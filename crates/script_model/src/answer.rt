@@ -1,6 +1,7 @@
 //! What is printed of a command.
 
 use container_model::fault::ContainerFault;
+use store_model::fault::StoreFault;
 use wire_msgs::refusal::Refusal;
 
 /// What is printed of a command.
@@ -18,4 +19,6 @@ pub enum Told {
     Done,
     /// The container refused it.
     Fault(ContainerFault),
+    /// A save was lost: the disk refused it, and the file is the one from before.
+    Lost(StoreFault),
 }

@@ -1,6 +1,6 @@
 //! What a host was asked and answered, which only clauses read.
 
-ghost use Rattle.script_model.specs.Events.{Connected, Ended, Heard, Sent, Started, Stepped};
+ghost use Rattle.script_model.specs.Events.{Connected, Ended, Heard, Opened, Sent, Started, Stepped};
 ghost use Rattle.script_model.specs.Histories.{told_in};
 ghost use Rattle.std.specs.Prelude.{◌≡◌, [], ◌∷◌};
 
@@ -27,6 +27,8 @@ const HEARD: u64 = 3;
 const ENDED: u64 = 4;
 
 const STEPPED: u64 = 5;
+
+const OPENED: u64 = 6;
 
 impl History {
     /// Nothing was asked.
@@ -76,6 +78,13 @@ impl History {
         ensures { told_in self.new ≡ Ended inc ∷ told_in self.old }
     {
         self.calls.note(&[ENDED, u64::from(inc), 1], &[]);
+    }
+
+    /// The disk of a file was opened, or it wasn't.
+    pub fn opened(&mut self, name: &[u8], ok: bool)
+        ensures { told_in self.new ≡ Opened name.now ok ∷ told_in self.old }
+    {
+        self.calls.note(&[OPENED, 0, u64::from(ok)], name);
     }
 
     /// Something happened to the container.

@@ -1,9 +1,11 @@
-//! A host: it starts servers, carries bytes to and from them, and ends them.
+//! A host: it starts servers, carries bytes to and from them, ends them, and gives the disks of files.
 
-ghost use Rattle.script_model.specs.Events.{Event, Connected, Ended, Heard, Sent, Started, Stepped};
+ghost use Rattle.script_model.specs.Events.{Event, Connected, Ended, Heard, Opened, Sent, Started, Stepped};
 ghost use Rattle.std.specs.Prelude.{◌≡◌, ◌≤◌, false, true, List, [], ◌∷◌, IfOk, MatchResult, is_ok, length, take};
 
 use crate::step::Step;
+use store_model::disk::Disk;
+use store_model::fault::StoreFault;
 use thiserror::Error;
 
 /// Why a host doesn't do what it is asked for.
@@ -17,8 +19,12 @@ pub enum HostFault {
     NoMemory,
 }
 
-/// What starts servers, carries bytes to and from them, and ends them. A server is named by its incarnation.
+/// What starts servers, carries bytes to and from them, and ends them, and gives the disks that files are saved to. A server is
+/// named by its incarnation.
 pub trait Host {
+    /// The disk of a file and its journal.
+    type Disk: Disk + Drop;
+
     /// All that was asked of it and what it answered, and what the container was given meanwhile, the newest first.
     ghost told: { Self → List Event };
 
@@ -42,6 +48,10 @@ pub trait Host {
     /// Ends a server, and awaits its end.
     fn end(&mut self, inc: u32)
         ensures { told self.new ≡ Ended inc ∷ told self.old };
+
+    /// The disk of the file of this name; a file that is missing is made.
+    fn disk(&mut self, name: &[u8]) -> Result<Self::Disk, StoreFault>
+        ensures { told self.new ≡ Opened name.now (is_ok result) ∷ told self.old };
 
     /// Notes what happens to the container, so that the history has it in its place. It does nothing else.
     fn note(&mut self, step: &Step)

@@ -14,6 +14,12 @@ pub enum Step {
     Message(u32, Message),
     /// The container is told the end of this server.
     Reap(u32),
+    /// The container is told that this frame's file was committed.
+    Committed(u32),
+    /// The container is told that the commit of this frame's file failed.
+    Failed(u32),
+    /// The container is told whether the file of this frame, which was in doubt, was committed after all.
+    Resolved(u32, bool),
     /// The container had no memory for what it was given last.
     NoMemory,
 }

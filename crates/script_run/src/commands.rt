@@ -5,6 +5,7 @@ ghost use Rattle.std.specs.Prelude.{◌≡◌, ◌<◌, ◌++◌, ◌∷◌, [],
 use crate::container::command;
 use crate::fault::ScriptFault;
 use crate::links::{Link, hand_over, reconnect, send_turn};
+use crate::saves::save_all;
 use crate::turns::{end_at, turns};
 use container_core::container::ContainerCore;
 use container_model::answer::{Action, Answer};
@@ -19,7 +20,6 @@ use std::io::Write;
 use texts::output::write_all;
 use wire_msgs::items::Items;
 use wire_msgs::message::Message;
-use wire_msgs::refusal::Refusal;
 
 /// Where the link of a server stands.
 fn place_of(links: &[Link], inc: u32) -> Option<usize>
@@ -63,9 +63,10 @@ fn end<H: Host>(
     core: &mut ContainerCore,
     links: &mut Vec<Link>,
     inc: u32,
+    noticed: &mut Option<Told>,
 ) -> Result<(), ScriptFault> {
     match place_of(links, inc) {
-        Some(place) => end_at(alloc, host, core, links, place),
+        Some(place) => end_at(alloc, host, core, links, place, noticed),
         None => Ok(()),
     }
 }
@@ -77,15 +78,16 @@ fn act<H: Host>(
     core: &mut ContainerCore,
     links: &mut Vec<Link>,
     answer: &Answer,
+    noticed: &mut Option<Told>,
 ) -> Result<(), ScriptFault> {
     for action in answer.actions.as_slice() {
         match action {
             Action::Start(inc) => start(alloc, host, links, *inc)?,
-            Action::End(inc) => end(alloc, host, core, links, *inc)?,
+            Action::End(inc) => end(alloc, host, core, links, *inc, noticed)?,
             Action::Send(_) | Action::Commit(_) => {}
         }
     }
-    Ok(())
+    save_all(alloc, host, core, answer, noticed)
 }
 
 /// A command of the container's user.
@@ -95,10 +97,11 @@ fn order<H: Host>(
     core: &mut ContainerCore,
     links: &mut Vec<Link>,
     ordered: Command,
+    noticed: &mut Option<Told>,
 ) -> Result<Told, ScriptFault> {
     match command(alloc, host, core, ordered) {
         Ok(answer) => {
-            act(alloc, host, core, links, &answer)?;
+            act(alloc, host, core, links, &answer, noticed)?;
             Ok(made_by(&answer))
         }
         Err(ContainerFault::NoMemory) => Err(ScriptFault::NoMemory),
@@ -113,12 +116,13 @@ fn cut<H: Host>(
     core: &mut ContainerCore,
     links: &mut Vec<Link>,
     place: usize,
+    noticed: &mut Option<Told>,
 ) -> Result<(), ScriptFault>
     requires { place < length links.old.items }
 {
     send_turn(alloc, host, core, links[place].inc)?;
     if !reconnect(alloc, host, &mut links[place]) {
-        end_at(alloc, host, core, links, place)?;
+        end_at(alloc, host, core, links, place, noticed)?;
     }
     Ok(())
 }
@@ -130,10 +134,10 @@ fn hand_all<H: Host>(
     core: &mut ContainerCore,
     inc: u32,
     waiting: Items<Message>,
-    refused: &mut Option<Refusal>,
+    noticed: &mut Option<Told>,
 ) -> Result<bool, ScriptFault> {
     for taken in waiting.into_vec() {
-        if !hand_over(alloc, host, core, inc, taken, refused)? {
+        if !hand_over(alloc, host, core, inc, taken, noticed)? {
             return Ok(false);
         }
     }
@@ -147,7 +151,7 @@ fn release<H: Host>(
     core: &mut ContainerCore,
     links: &mut Vec<Link>,
     place: usize,
-    refused: &mut Option<Refusal>,
+    noticed: &mut Option<Told>,
 ) -> Result<(), ScriptFault>
     requires { place < length links.old.items }
 {
@@ -155,8 +159,8 @@ fn release<H: Host>(
     link.held = false;
     let inc = link.inc;
     let waiting = std::mem::replace(&mut link.waiting, Items::new(alloc));
-    if !hand_all(alloc, host, core, inc, waiting, refused)? {
-        end_at(alloc, host, core, links, place)?;
+    if !hand_all(alloc, host, core, inc, waiting, noticed)? {
+        end_at(alloc, host, core, links, place, noticed)?;
     }
     Ok(())
 }
@@ -168,7 +172,7 @@ fn at_link<H: Host>(
     core: &mut ContainerCore,
     links: &mut Vec<Link>,
     command: &ScriptCommand,
-    refused: &mut Option<Refusal>,
+    noticed: &mut Option<Told>,
 ) -> Result<Told, ScriptFault> {
     let inc = match command {
         ScriptCommand::Cut(inc) | ScriptCommand::Hold(inc) | ScriptCommand::Release(inc) => *inc,
@@ -178,8 +182,8 @@ fn at_link<H: Host>(
         return Ok(Told::Fault(ContainerFault::NoSuch));
     };
     match command {
-        ScriptCommand::Cut(_) => cut(alloc, host, core, links, place)?,
-        ScriptCommand::Release(_) => release(alloc, host, core, links, place, refused)?,
+        ScriptCommand::Cut(_) => cut(alloc, host, core, links, place, noticed)?,
+        ScriptCommand::Release(_) => release(alloc, host, core, links, place, noticed)?,
         _ => links[place].held = true,
     }
     Ok(Told::Done)
@@ -209,13 +213,13 @@ fn begin<H: Host>(
     core: &mut ContainerCore,
     links: &mut Vec<Link>,
     command: ScriptCommand,
-    refused: &mut Option<Refusal>,
+    noticed: &mut Option<Told>,
     text: &mut Vec<u8>,
 ) -> Result<Told, ScriptFault> {
     match command {
-        ScriptCommand::Container(ordered) => order(alloc, host, core, links, ordered),
+        ScriptCommand::Container(ordered) => order(alloc, host, core, links, ordered, noticed),
         ScriptCommand::Screen(frame) => show(alloc, core, frame, text),
-        other => at_link(alloc, host, core, links, &other, refused),
+        other => at_link(alloc, host, core, links, &other, noticed),
     }
 }
 
@@ -228,11 +232,11 @@ pub(crate) fn carry_out<H: Host, W: Write>(
     command: ScriptCommand,
     writer: &mut W,
 ) -> Result<(), ScriptFault> {
-    let mut refused = None;
+    let mut noticed = None;
     let mut text = Vec::new(alloc);
-    let told = begin(alloc, host, core, links, command, &mut refused, &mut text)?;
-    turns(alloc, host, core, links, &mut refused)?;
-    push_told(alloc, &mut text, further(told, refused))?;
+    let told = begin(alloc, host, core, links, command, &mut noticed, &mut text)?;
+    turns(alloc, host, core, links, &mut noticed)?;
+    push_told(alloc, &mut text, further(told, noticed))?;
     match write_all(writer, &text) {
         Ok(()) => Ok(()),
         Err(_) => Err(ScriptFault::Unwritable),

@@ -1,5 +1,6 @@
 //! The container of a script, and what it is given: each thing is noted as it is given.
 
+use crate::fault::ScriptFault;
 use container_core::container::ContainerCore;
 use container_model::answer::Answer;
 use container_model::command::Command;
@@ -77,4 +78,52 @@ pub(crate) fn reap<H: Host>(
         host.note(&Step::NoMemory);
     }
     told
+}
+
+/// What a call of the container leaves, where what it is told can be no fault but want of memory.
+fn heard<H: Host>(host: &mut H, told: Result<Answer, ContainerFault>) -> Result<(), ScriptFault> {
+    match told {
+        Err(ContainerFault::NoMemory) => {
+            host.note(&Step::NoMemory);
+            Err(ScriptFault::NoMemory)
+        }
+        _ => Ok(()),
+    }
+}
+
+/// Tells the container that the file of a frame was committed.
+pub(crate) fn committed<H: Host>(
+    alloc: Global,
+    host: &mut H,
+    core: &mut ContainerCore,
+    frame: u32,
+) -> Result<(), ScriptFault> {
+    host.note(&Step::Committed(frame));
+    let told = core.commit_done(alloc, frame);
+    heard(host, told)
+}
+
+/// Tells the container that the commit of a frame's file failed.
+pub(crate) fn failed<H: Host>(
+    alloc: Global,
+    host: &mut H,
+    core: &mut ContainerCore,
+    frame: u32,
+) -> Result<(), ScriptFault> {
+    host.note(&Step::Failed(frame));
+    let told = core.commit_failed(alloc, frame);
+    heard(host, told)
+}
+
+/// Tells the container whether the file of a frame in doubt was committed after all.
+pub(crate) fn resolved<H: Host>(
+    alloc: Global,
+    host: &mut H,
+    core: &mut ContainerCore,
+    frame: u32,
+    is_kept: bool,
+) -> Result<(), ScriptFault> {
+    host.note(&Step::Resolved(frame, is_kept));
+    let told = core.resolve(alloc, frame, is_kept);
+    heard(host, told)
 }

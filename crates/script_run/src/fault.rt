@@ -1,12 +1,13 @@
 //! Why a script isn't carried out.
 
 use std::alloc::AllocError;
+use store_model::fault::StoreFault;
 use texts::input::InputFault;
 use texts::lines::SyntaxFault;
 use thiserror::Error;
 
 /// Why a script isn't carried out to its end.
-#[derive(Debug, Clone, Copy, PartialEq, Eq, Error)]
+#[derive(Debug, Drop, Error)]
 pub enum ScriptFault {
     /// The script isn't read.
     #[error("{0}")]
@@ -20,6 +21,9 @@ pub enum ScriptFault {
     /// What is asked of servers isn't answered, or what one answers is still held.
     #[error("what is asked isn't answered")]
     Stalled,
+    /// The file of this name can't be opened, so that it isn't known whether a save of it was kept.
+    #[error("a file can't be opened: {1}")]
+    File(Vec<u8>, StoreFault),
     /// No memory was left.
     #[error("no memory is left")]
     NoMemory,

@@ -5,5 +5,6 @@ mod commands;
 mod container;
 pub mod fault;
 mod links;
+mod saves;
 pub mod script;
 mod turns;

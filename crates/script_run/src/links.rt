@@ -2,12 +2,14 @@
 
 use crate::container::message;
 use crate::fault::ScriptFault;
+use crate::saves::{first_of, save_all};
 use container_core::container::ContainerCore;
 use container_model::fault::ContainerFault;
 use message_bytes::decoder::Decoder;
 use message_bytes::encode::encode;
 use message_bytes::fault::WireFault;
 use message_bytes::frame::Frame;
+use script_model::answer::Told;
 use script_model::host::Host;
 use std::alloc::{AllocError, Global};
 use wire_msgs::items::Items;
@@ -99,11 +101,11 @@ pub(crate) fn send_turn<H: Host>(
     Ok(host.send(inc, &bytes).is_ok())
 }
 
-/// The first of two refusals.
-fn first_of(before: Option<Refusal>, next: Option<Refusal>) -> Option<Refusal> {
-    match before {
-        Some(refusal) => Some(refusal),
-        None => next,
+/// What is told of a refusal.
+fn notice_of(refused: Option<Refusal>) -> Option<Told> {
+    match refused {
+        Some(refusal) => Some(Told::Refused(refusal)),
+        None => None,
     }
 }
 
@@ -115,11 +117,12 @@ pub(crate) fn hand_over<H: Host>(
     core: &mut ContainerCore,
     inc: u32,
     taken: Message,
-    refused: &mut Option<Refusal>,
+    noticed: &mut Option<Told>,
 ) -> Result<bool, ScriptFault> {
     match message(alloc, host, core, inc, taken) {
         Ok(answer) => {
-            *refused = first_of(*refused, answer.refused);
+            *noticed = first_of(*noticed, notice_of(answer.refused));
+            save_all(alloc, host, core, &answer, noticed)?;
             Ok(true)
         }
         Err(ContainerFault::NoMemory) => Err(ScriptFault::NoMemory),
@@ -136,13 +139,13 @@ fn meet<H: Host>(
     core: &mut ContainerCore,
     link: &mut Link,
     taken: Message,
-    refused: &mut Option<Refusal>,
+    noticed: &mut Option<Told>,
 ) -> Result<bool, ScriptFault> {
     if link.held {
         link.waiting.push(taken)?;
         return Ok(true);
     }
-    hand_over(alloc, host, core, link.inc, taken, refused)
+    hand_over(alloc, host, core, link.inc, taken, noticed)
 }
 
 /// Carries out the frames that came on a link, up to a Turn.
@@ -151,14 +154,14 @@ fn take_frames<H: Host>(
     host: &mut H,
     core: &mut ContainerCore,
     link: &mut Link,
-    refused: &mut Option<Refusal>,
+    noticed: &mut Option<Told>,
 ) -> Result<Heard, ScriptFault> {
     for _ in 0..=PIECE {
         match link.decoder.next() {
             Ok(None) => return Ok(Heard::Part),
             Ok(Some(Frame::Turn)) => return Ok(Heard::Turn),
             Ok(Some(Frame::Message(taken))) => {
-                if !meet(alloc, host, core, link, taken, refused)? {
+                if !meet(alloc, host, core, link, taken, noticed)? {
                     return Ok(Heard::Faulty);
                 }
             }
@@ -190,11 +193,11 @@ fn hear<H: Host>(
     host: &mut H,
     core: &mut ContainerCore,
     link: &mut Link,
-    refused: &mut Option<Refusal>,
+    noticed: &mut Option<Told>,
     reads: &mut u32,
 ) -> Result<Heard, ScriptFault> {
     while *reads > 0 {
-        let heard = take_frames(alloc, host, core, link, refused)?;
+        let heard = take_frames(alloc, host, core, link, noticed)?;
         if heard != Heard::Part {
             return Ok(heard);
         }
@@ -212,13 +215,13 @@ fn exchange<H: Host>(
     host: &mut H,
     core: &mut ContainerCore,
     link: &mut Link,
-    refused: &mut Option<Refusal>,
+    noticed: &mut Option<Told>,
     reads: &mut u32,
 ) -> Result<Heard, ScriptFault> {
     if !send_turn(alloc, host, core, link.inc)? {
         return Ok(Heard::Failed);
     }
-    hear(alloc, host, core, link, refused, reads)
+    hear(alloc, host, core, link, noticed, reads)
 }
 
 /// Connects a link again: what came of the old connection and isn't carried out is dropped.
@@ -233,10 +236,10 @@ pub(crate) fn serve<H: Host>(
     host: &mut H,
     core: &mut ContainerCore,
     link: &mut Link,
-    refused: &mut Option<Refusal>,
+    noticed: &mut Option<Told>,
 ) -> Result<bool, ScriptFault> {
     let mut reads = MOST_READS;
-    match exchange(alloc, host, core, link, refused, &mut reads)? {
+    match exchange(alloc, host, core, link, noticed, &mut reads)? {
         Heard::Turn => return Ok(true),
         Heard::Failed => {}
         _ => return Ok(false),
@@ -244,6 +247,6 @@ pub(crate) fn serve<H: Host>(
     if !reconnect(alloc, host, link) {
         return Ok(false);
     }
-    let heard = exchange(alloc, host, core, link, refused, &mut reads)?;
+    let heard = exchange(alloc, host, core, link, noticed, &mut reads)?;
     Ok(heard == Heard::Turn)
 }

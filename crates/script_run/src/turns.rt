@@ -5,12 +5,13 @@ ghost use Rattle.std.specs.Prelude.{◌≡◌, ◌+◌, ◌<◌, length};
 use crate::container::reap;
 use crate::fault::ScriptFault;
 use crate::links::{Link, serve};
+use crate::saves::save_all;
 use container_core::container::ContainerCore;
 use container_model::fault::ContainerFault;
 use container_model::record::Object;
+use script_model::answer::Told;
 use script_model::host::Host;
 use std::alloc::Global;
-use wire_msgs::refusal::Refusal;
 
 /// The most turns of a command.
 const MOST_TURNS: u32 = 1_000;
@@ -22,6 +23,7 @@ pub(crate) fn end_at<H: Host>(
     core: &mut ContainerCore,
     links: &mut Vec<Link>,
     place: usize,
+    noticed: &mut Option<Told>,
 ) -> Result<(), ScriptFault>
     requires { place < length links.old.items }
     ensures { length links.new.items + 1 ≡ length links.old.items }
@@ -29,8 +31,9 @@ pub(crate) fn end_at<H: Host>(
     let link = links.remove(place);
     host.end(link.inc);
     match reap(alloc, host, core, link.inc) {
+        Ok(answer) => save_all(alloc, host, core, &answer, noticed),
         Err(ContainerFault::NoMemory) => Err(ScriptFault::NoMemory),
-        _ => Ok(()),
+        Err(_) => Ok(()),
     }
 }
 
@@ -72,14 +75,14 @@ fn turn<H: Host>(
     host: &mut H,
     core: &mut ContainerCore,
     links: &mut Vec<Link>,
-    refused: &mut Option<Refusal>,
+    noticed: &mut Option<Told>,
 ) -> Result<(), ScriptFault> {
     let mut place = 0;
     while place < links.len() {
-        if serve(alloc, host, core, &mut links[place], refused)? {
+        if serve(alloc, host, core, &mut links[place], noticed)? {
             place += 1;
         } else {
-            end_at(alloc, host, core, links, place)?;
+            end_at(alloc, host, core, links, place, noticed)?;
         }
     }
     Ok(())
@@ -93,13 +96,13 @@ pub(crate) fn turns<H: Host>(
     host: &mut H,
     core: &mut ContainerCore,
     links: &mut Vec<Link>,
-    refused: &mut Option<Refusal>,
+    noticed: &mut Option<Told>,
 ) -> Result<(), ScriptFault> {
     for _ in 0..MOST_TURNS {
         if !is_pending(core, links) {
             return Ok(());
         }
-        turn(alloc, host, core, links, refused)?;
+        turn(alloc, host, core, links, noticed)?;
     }
     if is_pending(core, links) {
         return Err(ScriptFault::Stalled);

@@ -1,28 +1,14 @@
 -- A line that takes memory spells a command.
 use Rattle.std.proofs.Common.{Option, Some, None, IsTrue, IsSome, refl}
-use Rattle.container_model.specs.declared.command.Command.{Command}
-use Rattle.container_model.specs.declared.command.Command.TheVariants as command
-use Rattle.event_texts.specs.Events.{takes_memory, command_takes_memory}
+use Rattle.event_texts.specs.Events.{takes_memory}
 use Rattle.script_model.specs.declared.command.ScriptCommand.{ScriptCommand}
-use Rattle.script_texts.specs.Commands.{command_in, command_of, container_command, or_else}
+use Rattle.script_texts.specs.Commands.{command_in, command_of, or_else}
 use Rattle.world_model.specs.declared.event.Event.{Event}
 use Rattle.world_model.specs.declared.event.Event.TheVariants as event
 
-of_container : (c : Command) → IsTrue (command_takes_memory c) → IsSome (container_command c)
-of_container (command.New name w h) t = refl
-of_container (command.Edit o bytes) t = refl
-of_container (command.Insert f kind area) t = absurd (cc)
-of_container command.Start t = absurd (cc)
-of_container (command.Run o inc) t = absurd (cc)
-of_container (command.Save f) t = absurd (cc)
-of_container (command.Delete o) t = absurd (cc)
-of_container (command.Kill inc) t = absurd (cc)
-of_container (command.Close o option) t = absurd (cc)
-of_container (command.Verb o number) t = absurd (cc)
-
 of_event : (e : Option Event) → IsTrue (takes_memory e) → IsSome (command_in e)
 of_event None t = absurd (cc)
-of_event (Some (event.Command c)) t = of_container c t
+of_event (Some (event.Command c)) t = refl
 of_event (Some (event.Deliver p)) t = absurd (cc)
 of_event (Some (event.Crash inc)) t = absurd (cc)
 of_event (Some (event.Reap inc)) t = absurd (cc)

@@ -2,8 +2,6 @@
 use Rattle.std.specs.Prelude.{ℕ, List, [], ◌∷◌, codes, cond, Option, Some, None, option_map, Result}
 use Rattle.std.specs.Str.{bytes_eq}
 use Rattle.embed_core.specs.Words.{words, number_read}
-use Rattle.container_model.specs.declared.command.Command.{Command}
-use Rattle.container_model.specs.declared.command.Command.TheVariants as command
 use Rattle.event_texts.specs.Events.{event_read, sole_number}
 use Rattle.script_model.specs.declared.command.ScriptCommand.{ScriptCommand}
 use Rattle.script_model.specs.declared.command.ScriptCommand.TheVariants as script
@@ -12,21 +10,9 @@ use Rattle.texts.specs.declared.lines.SyntaxFault.{SyntaxFault}
 use Rattle.world_model.specs.declared.event.Event.{Event}
 use Rattle.world_model.specs.declared.event.Event.TheVariants as event
 
--- a script has the container's commands but for saves, and none of the world's other events
-abbrev pub container_command : Command → Option ScriptCommand
-container_command (command.Save f) = None
-container_command (command.New name w h) = Some (script.Container (command.New name w h))
-container_command (command.Insert f kind area) = Some (script.Container (command.Insert f kind area))
-container_command command.Start = Some (script.Container command.Start)
-container_command (command.Run o inc) = Some (script.Container (command.Run o inc))
-container_command (command.Edit o bytes) = Some (script.Container (command.Edit o bytes))
-container_command (command.Delete o) = Some (script.Container (command.Delete o))
-container_command (command.Kill inc) = Some (script.Container (command.Kill inc))
-container_command (command.Close o option) = Some (script.Container (command.Close o option))
-container_command (command.Verb o number) = Some (script.Container (command.Verb o number))
-
+-- a script has the container's commands, and none of the world's other events
 abbrev pub command_of : Event → Option ScriptCommand
-command_of (event.Command c) = container_command c
+command_of (event.Command c) = Some (script.Container c)
 command_of (event.Deliver p) = None
 command_of (event.Crash inc) = None
 command_of (event.Reap inc) = None

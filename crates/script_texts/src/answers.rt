@@ -1,13 +1,12 @@
 //! What is printed of a command.
 
-ghost use Rattle.script_model.specs.Answers.{made_by, made_frame, made_object, made_server, further, refused_by, told_line, told_text};
+ghost use Rattle.script_model.specs.Answers.{made_by, made_frame, made_object, made_server, further, told_line, told_text};
 ghost use Rattle.std.specs.Prelude.{◌≡◌, ◌++◌, ◌∷◌, [], OnOk};
 
 use container_model::answer::Answer;
 use script_model::answer::Told;
 use std::alloc::{AllocError, Global};
 use texts::writing::push_numbered;
-use wire_msgs::refusal::Refusal;
 
 /// The server that was started, or that it was done.
 fn made_server(server: Option<u32>) -> Told
@@ -39,12 +38,12 @@ pub fn made_by(answer: &Answer) -> Told
     }
 }
 
-/// A command that made nothing tells the first refusal that an object answered meanwhile.
-pub fn further(told: Told, refused: Option<Refusal>) -> Told
-    ensures { result ≡ further told refused }
+/// A command that made nothing tells what was noticed first meanwhile: that an object refused a call, or that a save was lost.
+pub fn further(told: Told, noticed: Option<Told>) -> Told
+    ensures { result ≡ further told noticed }
 {
-    match (told, refused) {
-        (Told::Done, Some(refusal)) => Told::Refused(refusal),
+    match (told, noticed) {
+        (Told::Done, Some(notice)) => notice,
         _ => told,
     }
 }
@@ -68,6 +67,10 @@ fn push_text(alloc: Global, text: &mut Vec<u8>, told: Told) -> Result<(), AllocE
             Ok(())
         }
         Told::Fault(fault) => {
+            text.extend_from_slice(fault.name().as_bytes())?;
+            Ok(())
+        }
+        Told::Lost(fault) => {
             text.extend_from_slice(fault.name().as_bytes())?;
             Ok(())
         }

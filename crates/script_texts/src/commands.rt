@@ -5,7 +5,6 @@ ghost use Rattle.event_texts.specs.Events.{sole_number};
 ghost use Rattle.script_texts.specs.Commands.{command_of, command_read, link_in, link_named};
 ghost use Rattle.std.specs.Prelude.{◌≡◌, IfErr, IfOk, IsSome};
 
-use container_model::command::Command;
 use embed_core::words::{Pieces, cut, number};
 use event_texts::events;
 use script_model::command::ScriptCommand;
@@ -61,12 +60,11 @@ fn link_named(name: &[u8], rest: &[u8]) -> Option<ScriptCommand>
     }
 }
 
-/// The command that an event is. Saves aren't there yet.
+/// The command that an event is.
 fn command_of(event: Event) -> Option<ScriptCommand>
     ensures { result ≡ command_of event }
 {
     match event {
-        Event::Command(Command::Save(_)) => None,
         Event::Command(command) => Some(ScriptCommand::Container(command)),
         Event::Deliver(_)
         | Event::Crash(_)

@@ -1,25 +1,29 @@
-//! A host over child processes and TCP on 127.0.0.1.
+//! A host over child processes, TCP on 127.0.0.1, and files.
 
 ghost use Rattle.script_model.specs.Histories.{told_in};
 ghost use Rattle.std.specs.Prelude.{◌≡◌, ◌≤◌, [], IfOk, length};
 
 use crate::port::read_port;
 use crate::running::Running;
+use doc_store::file_disk::FileDisk;
 use script_model::history::History;
 use script_model::host::{Host, HostFault};
 use script_model::step::Step;
+use std::fs::File;
 use std::io::{ErrorKind, Read, Write};
 use std::net::{Ipv4Addr, Net, OpenStream, TcpStream};
 use std::os::fd::OwnedFd;
 use std::os::unix::net::UnixStream;
 use std::process::{Command, OpenProcess, Processes, Stdio};
+use std::rt::Files;
 use std::time::Duration;
+use store_model::fault::StoreFault;
 
 /// How often a read that a signal interrupted is made again.
 const MOST_TRIES: usize = 1_000;
 
 /// Starts `PATH serve I` as a child for each server, and talks to it on the port that it prints. It waits no longer than its
-/// limit for what a server prints and sends.
+/// limit for what a server prints and sends. A file and its journal are those of its name.
 #[derive(Drop)]
 pub struct SystemHost<'a, R: Net + Processes> {
     rt: &'a R,
@@ -29,7 +33,7 @@ pub struct SystemHost<'a, R: Net + Processes> {
     history: History,
 }
 
-impl<'a, R: Net + Processes + AllocGlobal> SystemHost<'a, R> {
+impl<'a, R: Net + Processes + Files<File = File> + AllocGlobal> SystemHost<'a, R> {
     /// A host that has started nothing.
     pub fn new(rt: &'a R, path: &'a str, limit: Duration) -> SystemHost<'a, R>
         ensures { ⟦<SystemHost<'a, R> as Host>⟧.told result ≡ [] }
@@ -153,7 +157,24 @@ fn connect_again<R: Net + Processes>(
     Ok(())
 }
 
-impl<'a, R: Net + Processes + AllocGlobal> Host for SystemHost<'a, R> {
+/// The disk of a file of the system.
+fn open_disk<R: Files<File = File> + AllocGlobal>(
+    rt: &R,
+    name: &[u8],
+) -> Result<FileDisk, StoreFault> {
+    let Ok(path) = std::str::from_utf8(name) else {
+        return Err(StoreFault::Device);
+    };
+    match FileDisk::open(rt, path) {
+        Ok(disk) => Ok(disk),
+        Err(error) if error.kind() == ErrorKind::OutOfMemory => Err(StoreFault::NoMemory),
+        Err(_) => Err(StoreFault::Device),
+    }
+}
+
+impl<'a, R: Net + Processes + Files<File = File> + AllocGlobal> Host for SystemHost<'a, R> {
+    type Disk = FileDisk;
+
     ghost use Rattle.script_model.specs.Histories.{told_in};
 
     ghost told = { λ h. told_in h.history };
@@ -204,6 +225,12 @@ impl<'a, R: Net + Processes + AllocGlobal> Host for SystemHost<'a, R> {
         // A server that is dropped is ended and awaited.
         self.servers.retain(|server| server.inc != inc);
         self.history.ended(inc);
+    }
+
+    fn disk(&mut self, name: &[u8]) -> Result<FileDisk, StoreFault> {
+        let result = open_disk(self.rt, name);
+        self.history.opened(name, result.is_ok());
+        result
     }
 
     fn note(&mut self, step: &Step) {

@@ -1,0 +1,161 @@
+//! Saves: the file of a frame whose commit is asked for goes to a disk of the host, and the container is told what became of it.
+
+use crate::container::{committed, failed, resolved};
+use crate::fault::ScriptFault;
+use container_core::container::ContainerCore;
+use container_model::answer::{Action, Answer};
+use container_model::fault::ContainerFault;
+use container_model::record::Frame;
+use doc_store::store::Store;
+use script_model::answer::Told;
+use script_model::host::Host;
+use std::alloc::{AllocError, Global};
+use store_model::fault::StoreFault;
+
+/// What became of a commit.
+#[derive(Clone, Copy, PartialEq, Eq)]
+enum Outcome {
+    /// The file is the new one.
+    Kept,
+    /// The file is the one from before, for this fault.
+    Lost(StoreFault),
+}
+
+/// The first of what was noticed.
+pub(crate) fn first_of(before: Option<Told>, next: Option<Told>) -> Option<Told> {
+    match before {
+        Some(notice) => Some(notice),
+        None => next,
+    }
+}
+
+/// The store of a file.
+fn open<H: Host>(alloc: Global, host: &mut H, name: &[u8]) -> Result<Store<H::Disk>, StoreFault> {
+    let disk = host.disk(name)?;
+    match Store::open(alloc, disk) {
+        Ok(store) => Ok(store),
+        Err(refused) => Err(refused.fault),
+    }
+}
+
+/// Makes these bytes the file.
+fn write<H: Host>(
+    alloc: Global,
+    host: &mut H,
+    name: &[u8],
+    bytes: &[u8],
+) -> Result<(), StoreFault> {
+    let mut store = open(alloc, host, name)?;
+    store.commit(bytes)
+}
+
+/// Whether the file, its store being opened anew, is these bytes.
+fn holds<H: Host>(
+    alloc: Global,
+    host: &mut H,
+    name: &[u8],
+    bytes: &[u8],
+) -> Result<bool, StoreFault> {
+    let mut store = open(alloc, host, name)?;
+    let file = store.current()?;
+    Ok(file.as_slice() == bytes)
+}
+
+/// Makes these bytes the file. After an error what the file then is tells whether they were kept.
+fn commit<H: Host>(
+    alloc: Global,
+    host: &mut H,
+    name: &[u8],
+    bytes: &[u8],
+) -> Result<Outcome, StoreFault> {
+    let fault = match write(alloc, host, name, bytes) {
+        Ok(()) => return Ok(Outcome::Kept),
+        Err(fault) => fault,
+    };
+    if holds(alloc, host, name, bytes)? {
+        Ok(Outcome::Kept)
+    } else {
+        Ok(Outcome::Lost(fault))
+    }
+}
+
+/// The name that a frame is saved under.
+fn name_of(alloc: Global, frame: &Frame) -> Result<Vec<u8>, AllocError> {
+    match &frame.asked {
+        Some(asked) => Vec::from_slice(alloc, asked.as_slice()),
+        None => Vec::from_slice(alloc, frame.name.as_slice()),
+    }
+}
+
+/// Tells the container that a save is lost.
+fn lose<H: Host>(
+    alloc: Global,
+    host: &mut H,
+    core: &mut ContainerCore,
+    frame: u32,
+) -> Result<(), ScriptFault> {
+    failed(alloc, host, core, frame)?;
+    resolved(alloc, host, core, frame, false)
+}
+
+/// Saves the file of a frame, and tells the container what became of it.
+fn save_file<H: Host>(
+    alloc: Global,
+    host: &mut H,
+    core: &mut ContainerCore,
+    frame: u32,
+    file: &[u8],
+) -> Result<Option<Told>, ScriptFault> {
+    let Some(found) = core.frame(frame) else {
+        return Ok(None);
+    };
+    let name = name_of(alloc, found)?;
+    match commit(alloc, host, &name, file) {
+        Ok(Outcome::Kept) => {
+            committed(alloc, host, core, frame)?;
+            Ok(None)
+        }
+        Ok(Outcome::Lost(fault)) => {
+            lose(alloc, host, core, frame)?;
+            Ok(Some(Told::Lost(fault)))
+        }
+        Err(fault) => Err(ScriptFault::File(name, fault)),
+    }
+}
+
+/// Saves a frame whose commit is asked for. Gives what is to be told where the save is lost.
+///
+/// Refused: `File` where its file can't be opened, so that it isn't known what it holds; `NoMemory`.
+fn save<H: Host>(
+    alloc: Global,
+    host: &mut H,
+    core: &mut ContainerCore,
+    frame: u32,
+) -> Result<Option<Told>, ScriptFault> {
+    match core.image(alloc, frame) {
+        Ok(file) => save_file(alloc, host, core, frame, &file),
+        Err(ContainerFault::NoMemory) => Err(ScriptFault::NoMemory),
+        Err(ContainerFault::Full) => {
+            lose(alloc, host, core, frame)?;
+            Ok(Some(Told::Fault(ContainerFault::Full)))
+        }
+        Err(_) => Ok(None),
+    }
+}
+
+/// Carries out the commits that an answer of the container asks for.
+pub(crate) fn save_all<H: Host>(
+    alloc: Global,
+    host: &mut H,
+    core: &mut ContainerCore,
+    answer: &Answer,
+    noticed: &mut Option<Told>,
+) -> Result<(), ScriptFault> {
+    for action in answer.actions.as_slice() {
+        if let Action::Commit(frame) = action {
+            let lost = save(alloc, host, core, *frame)?;
+            *noticed = first_of(*noticed, lost);
+        }
+    }
+    Ok(())
+}
