@@ -42,7 +42,7 @@ impl Model for ContainerCore {
 }
 
 impl ContainerCore {
-    ghost use Rattle.std.specs.Prelude.{◌≡◌, ◌≤◌, ◌+◌, IfErr, IfOk, List, Ok, OnErr, length, map, option_copied};
+    ghost use Rattle.std.specs.Prelude.{◌≡◌, ◌≤◌, ◌+◌, IfErr, IfOk, List, Ok, OnErr, length, map, option_copied, if◌then◌else◌, []};
     ghost use Rattle.std.specs.List.{range_with_len};
     ghost use Rattle.container_steady.specs.Steady.{Steady};
     ghost use Rattle.container_model.specs.Commands.{on_command};
@@ -50,7 +50,7 @@ impl ContainerCore {
     ghost use Rattle.container_model.specs.Record.{Refuses, counts_none, empty, is_object};
     ghost use Rattle.container_model.specs.Replies.{pending_calls};
     ghost use Rattle.container_model.specs.Room.{IsSound};
-    ghost use Rattle.container_model.specs.Saves.{commit_done, counted_of, document_tree, image};
+    ghost use Rattle.container_model.specs.Saves.{commit_done, commit_failed, counted_of, document_tree, image, resolve};
     ghost use Rattle.container_model.specs.declared.answer.Part.{Part};
     ghost use Rattle.container_screen.specs.Screen.{shown};
     ghost use Rattle.file_model.specs.Denotes.{Denotes};
@@ -228,6 +228,48 @@ impl ContainerCore {
         steady_after();
         sound_after();
         self.state.commit_done(alloc, f)
+    }
+
+    /// The commit of a frame failed: it isn't known whether its file is the new one. Nothing is counted and nobody told, until
+    /// that is resolved.
+    ///
+    /// Refused: `NoSuch` where there is no such frame; `WrongState` where its commit isn't asked for. A refusal changes
+    /// nothing.
+    pub fn commit_failed(&mut self, alloc: Global, f: u32) -> Result<Answer, ContainerFault>
+        ensures taken { IfOk result (λ a. commit_failed self.old f ≡ Ok (counts_none self.new a)) }
+        ensures few { IfOk result (λ a. length a.actions ≤ length self.old.objects + length self.old.frames + 1) }
+        ensures refused { IfErr result (Refuses (commit_failed self.old f)) }
+        ensures kept { OnErr result (self.new ≡ self.old) }
+        ensures steady { Steady self.new }
+        ensures sound { IsSound self.new }
+    {
+        steady_after();
+        sound_after();
+        self.state.commit_failed(alloc, f)
+    }
+
+    /// A commit in doubt is resolved. Where it was kept, it is done, as `commit_done` says. Where it was lost, its save is
+    /// dropped: nothing is counted, the objects keep their work contents and the frame its name, and each object that isn't
+    /// passive is told that the save is dropped.
+    ///
+    /// Refused: `NoSuch` where there is no such frame; `WrongState` where its commit isn't in doubt; `Full` where it was kept
+    /// and no file holds its document; then `NoMemory`. A refusal changes nothing.
+    pub fn resolve(
+        &mut self,
+        alloc: Global,
+        f: u32,
+        is_kept: bool,
+    ) -> Result<Answer, ContainerFault>
+        ensures taken { IfOk result (λ a. resolve self.old f is_kept ≡ Ok (record { rec = self.new; answer = a; counted = if is_kept then counted_of self.old f else [] })) }
+        ensures few { IfOk result (λ a. length a.actions ≤ length self.old.objects + length self.old.frames + 1) }
+        ensures refused { IfErr result (Refuses (resolve self.old f is_kept)) }
+        ensures kept { OnErr result (self.new ≡ self.old) }
+        ensures steady { Steady self.new }
+        ensures sound { IsSound self.new }
+    {
+        steady_after();
+        sound_after();
+        self.state.resolve(alloc, f, is_kept)
     }
 
     /// The calls that are pending, by their objects, each as it was first sent.

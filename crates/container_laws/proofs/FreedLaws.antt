@@ -7,7 +7,7 @@ use Rattle.wire_msgs.specs.declared.answer.Answer.{Answer}
 use Rattle.wire_msgs.specs.declared.answer.Answer.TheVariants.{Done, Refused, Content, Tools}
 use Rattle.wire_msgs.specs.declared.message.Message.TheVariants.{Call, Reply, Write, Ask}
 use Rattle.wire_msgs.specs.declared.operation.Operation.{Operation}
-use Rattle.wire_msgs.specs.declared.operation.Operation.TheVariants.{InitNew, Load, InPlace, UiActivate, UiDeactivate, InPlaceDeactivate, OpenWindow, Edit, Save, SaveCompleted, Close}
+use Rattle.wire_msgs.specs.declared.operation.Operation.TheVariants.{InitNew, Load, InPlace, UiActivate, UiDeactivate, InPlaceDeactivate, OpenWindow, Edit, Save, SaveCompleted, SaveDropped, Close}
 use Rattle.object_state.specs.Both as both
 use Rattle.object_state.specs.declared.both_states.States.{States}
 use Rattle.object_state.specs.declared.faults.StateFault.{StateFault}
@@ -98,7 +98,9 @@ gives_only l (Edit bytes) _ = tt
 gives_only l (Save k) (Content content) = saved_only (Save k) (Content content) content (done_link l l.s (both.step l.states (op_of (Save k)))) (done_only (Save k) (Content content) l l.s (both.step l.states (op_of (Save k))))
 gives_only l (Save k) _ = tt
 gives_only l (SaveCompleted k storage) Done = done_only (SaveCompleted k storage) Done l (l.s + 1) (both.step l.states (op_of (SaveCompleted k storage)))
+gives_only l (SaveDropped k) Done = done_only (SaveDropped k) Done l (l.s + 1) (both.step l.states (op_of (SaveDropped k)))
 gives_only l (SaveCompleted k storage) _ = tt
+gives_only l (SaveDropped k) _ = tt
 gives_only l (Close SaveIfDirty) (Content content) = closed_only (Close SaveIfDirty) (Content content) (Some content) (both.step l.states (op_of (Close SaveIfDirty)))
 gives_only l (Close SaveIfDirty) _ = tt
 gives_only l (Close NoSave) Done = closed_only (Close NoSave) Done None (both.step l.states (op_of (Close NoSave)))

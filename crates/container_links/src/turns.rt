@@ -58,7 +58,7 @@ pub(crate) fn when_done(operation: &Operation, s: u32) -> WhenDone
         Operation::Save(_) => WhenDone::Undone,
         Operation::HandsOff => WhenDone::Undone,
         Operation::SaveCompleted { .. } => WhenDone::Continues(s + 1),
-        Operation::SaveDropped(_) => WhenDone::Undone,
+        Operation::SaveDropped(_) => WhenDone::Continues(s + 1),
         Operation::Close(option) => match option {
             CloseOption::SaveIfDirty => WhenDone::Undone,
             CloseOption::NoSave => WhenDone::Ends,

@@ -1,5 +1,5 @@
 -- Saves that go on leave a record sound, and so does a commit that is done.
-use Rattle.std.proofs.Common.{◌≡◌, ◌≤◌, ◌+◌, ◌==◌, ℕ, zero, suc, Bool, true, false, List, [], ◌∷◌, length, map, Option, Some, None, Result, Ok, Err, refl, sym, ◌∙◌, ap, subst, arith, slice_get}
+use Rattle.std.proofs.Common.{◌≡◌, ◌≤◌, ◌+◌, ◌==◌, ℕ, zero, suc, Bool, true, false, List, [], ◌∷◌, length, map, Option, Some, None, Result, Ok, Err, refl, sym, ◌∙◌, ap, inl, inr, subst, arith, slice_get}
 use Rattle.std.proofs.lemmas.Bool.{eqb-true, eqb-false}
 use Rattle.wire_msgs.specs.Found.{nth, set_nth}
 use Rattle.wire_msgs.specs.declared.operation.Operation.{Operation}
@@ -13,12 +13,17 @@ use Rattle.container_model.specs.declared.record.Phase.{Phase}
 use Rattle.container_model.specs.declared.record.Phase.TheVariants.{Idle, Saving, HandingOff, Committing, InDoubt}
 use Rattle.container_model.specs.Record.{Record, Took, asked_link}
 use Rattle.container_model.specs.Room.{HasNumbers, IfLinked, IsRoomy, debt, debt_in, grant_debt}
-use Rattle.container_model.specs.Saves.{commit_done, awaits, cleared, commit_at, commit_fitting, commit_made, committed_frame, completed, completion, image, is_committing, is_ready, is_ready_at, settle, settled_frame, settled_frames}
+use Rattle.container_model.specs.Saves.{commit_done, commit_doubted, commit_failed, awaits, cleared, commit_at, commit_made, committed_frame, completed, completion, doubted_frame, dropped_frame, dropped_object, kept, resolve, resolved_at, save_dropped, is_ready, is_ready_at, settle, settled_frame, settled_frames}
 use Rattle.container_model.proofs.Completing.{completed_in, completed_out}
 use Rattle.container_steady.proofs.SteadyLookups.{each_map, each_nth, each_set, each_settled, each_weaker, nth-set_other, nth-set_same}
 use Rattle.container_steady.proofs.SteadyTells.{if_told}
 use Rattle.container_numbers.proofs.SoundRooms.{IsSaved, Owing, Within, all_of, asked_linked, debts, each_of, length-set_nth, owes_less, within_of}
-use Rattle.container_steady.specs.Steady.{Steady}
+use Rattle.container_steady.specs.Steady.{IsUnsettled}
+use Rattle.container_steady.proofs.Settling.{IsCommitOf, done_commits, is_dropped, is_failed, kept_commits}
+use Rattle.grant_core.specs.Frames.{Ui}
+use Rattle.storage_tree.specs.declared.stored.Stored.{Stored}
+use Rattle.std.specs.Prelude.{IsOk}
+use Rattle.wire_msgs.specs.declared.operation.Operation.TheVariants.{SaveDropped}
 
 -- ---- a frame that goes on to its commit has the same debt
 ready_debt : (phase : Phase) (waits : Bool) → is_ready_at phase waits ≡ true → debt Committing ≡ debt phase
@@ -69,53 +74,104 @@ linked : (numbers more : ℕ) (op : Operation) (link : Option Link) → IfLinked
 linked numbers more op None h = tt
 linked numbers more op (Some l) h = asked_linked numbers more op (Some (record l { saved = None })) (record { calls = h.calls; grants = h.grants })
 
-committing_from : (phase : Phase) → is_committing phase ≡ true → phase ≡ Committing
-committing_from Idle h = absurd (cc)
-committing_from Saving h = absurd (cc)
-committing_from HandingOff h = absurd (cc)
-committing_from Committing h = refl
-committing_from InDoubt h = absurd (cc)
-
-module _ (r : Record) (f : ℕ) (frame : Frame) (at : nth r.frames f ≡ Some frame) (committing : frame.phase ≡ Committing) where
+-- a frame whose save is over, while it owed the call that tells so; each of its objects is asked just that
+module _ (r : Record) (f : ℕ) (frame new : Frame) (at : nth r.frames f ≡ Some frame) (owes : debt frame.phase ≡ 1) (idle : new.phase ≡ Idle) (ui : new.ui ≡ frame.ui) (k : new.k ≡ frame.k)
+    (op : Operation) (g : Object → Object) (inside : (o : Object) → (o.frame == f) ≡ true → (work : Stored) × (g o ≡ record o { work = work; link = asked_link op (cleared o.link) }))
+    (outside : (o : Object) → (o.frame == f) ≡ false → g o ≡ o) where
   abbrev after : List Frame
-  after = set_nth r.frames f (committed_frame frame)
+  after = set_nth r.frames f new
 
-  paid : (n g : ℕ) → g ≡ f → debts r.frames n g ≡ debts after n g + 1
-  paid n g e =
-      let new : debts after n g ≡ 0 + grant_debt n frame.ui.state = ap (debts after n) e ∙ ap (debt_in n) (nth-set_same r.frames f frame (committed_frame frame) at) in
-      let old : debts r.frames n g ≡ 1 + grant_debt n frame.ui.state = ap (debts r.frames n) e ∙ (ap (debt_in n) at ∙ ap (λ p. debt p + grant_debt n frame.ui.state) committing) in
+  owed_after : (n : ℕ) → debt_in n (Some new) ≡ 0 + grant_debt n frame.ui.state
+  owed_after n = ap (λ p. debt p + grant_debt n new.ui.state) idle ∙ ap (λ (u : Ui). 0 + grant_debt n u.state) ui
+
+  paid : (n i : ℕ) → i ≡ f → debts r.frames n i ≡ debts after n i + 1
+  paid n i e =
+      let now : debts after n i ≡ 0 + grant_debt n frame.ui.state = ap (debts after n) e ∙ (ap (debt_in n) (nth-set_same r.frames f frame new at) ∙ owed_after n) in
+      let old : debts r.frames n i ≡ 1 + grant_debt n frame.ui.state = ap (debts r.frames n) e ∙ (ap (debt_in n) at ∙ ap (λ d. d + grant_debt n frame.ui.state) owes) in
       omega arith
 
-  counted_room : (o : Object) → Owing r.numbers (debts r.frames) o → Owing r.numbers (debts after) (completed f frame o)
-  counted_room o h = elim (o.frame == f) as (λ b. (o.frame == f) ≡ b → Owing r.numbers (debts after) (completed f frame o)) [
-    | true ↦ (λ t. subst (Owing r.numbers (debts after)) (sym (completed_in f frame o t))
-        (linked r.numbers (debts after o.number o.frame) (completion frame) o.link (subst (λ (m : ℕ). IfLinked (IsRoomy r.numbers m) o.link) (paid o.number o.frame (eqb-true o.frame f t)) h)))
-    | false ↦ (λ t. subst (Owing r.numbers (debts after)) (sym (completed_out f frame o t))
-        (subst (λ (m : ℕ). IfLinked (IsRoomy r.numbers m) o.link) (ap (debt_in o.number) (sym (nth-set_other r.frames f o.frame (committed_frame frame) (λ q. eqb-false o.frame f t (sym q))))) h))
+  told_room : (o : Object) → Owing r.numbers (debts r.frames) o → Owing r.numbers (debts after) (g o)
+  told_room o h = elim (o.frame == f) as (λ b. (o.frame == f) ≡ b → Owing r.numbers (debts after) (g o)) [
+    | true ↦ (λ t. subst (Owing r.numbers (debts after)) (sym (inside o t).1)
+        (linked r.numbers (debts after o.number o.frame) op o.link (subst (λ (m : ℕ). IfLinked (IsRoomy r.numbers m) o.link) (paid o.number o.frame (eqb-true o.frame f t)) h)))
+    | false ↦ (λ t. subst (Owing r.numbers (debts after)) (sym (outside o t))
+        (subst (λ (m : ℕ). IfLinked (IsRoomy r.numbers m) o.link) (ap (debt_in o.number) (sym (nth-set_other r.frames f o.frame new (λ q. eqb-false o.frame f t (sym q))))) h))
   ] refl
 
-  pub commit_sound : {Greatest : ℕ → Type 0} → HasNumbers Greatest r → HasNumbers Greatest (commit_made r f frame).rec
-  commit_sound h = record {
+  told_sound : {Greatest : ℕ → Type 0} → HasNumbers Greatest r → HasNumbers Greatest (record r { frames = after; objects = map g r.objects })
+  told_sound h = record {
     limit = h.limit;
-    room = all_of (Owing r.numbers (debts after)) (map (completed f frame) r.objects)
-        (each_map (Owing r.numbers (debts r.frames)) (Owing r.numbers (debts after)) (completed f frame) r.objects counted_room (each_of (Owing r.numbers (debts r.frames)) r.objects h.room));
-    saves = (let all = each_of (IsSaved r.numbers) r.frames h.saves in all_of (IsSaved r.numbers) after (each_set (IsSaved r.numbers) r.frames f (committed_frame frame) all (each_nth (IsSaved r.numbers) r.frames f frame all at)));
-    frames = (let e = length-set_nth r.frames f (committed_frame frame) in let few = h.frames in omega arith);
+    room = all_of (Owing r.numbers (debts after)) (map g r.objects)
+        (each_map (Owing r.numbers (debts r.frames)) (Owing r.numbers (debts after)) g r.objects told_room (each_of (Owing r.numbers (debts r.frames)) r.objects h.room));
+    saves = (let all = each_of (IsSaved r.numbers) r.frames h.saves in all_of (IsSaved r.numbers) after (each_set (IsSaved r.numbers) r.frames f new all
+        (subst (λ (m : ℕ). m ≤ r.numbers) (sym k) (each_nth (IsSaved r.numbers) r.frames f frame all at))));
+    frames = (let e = length-set_nth r.frames f new in let few = h.frames in omega arith);
     servers = h.servers;
     objects = h.objects;
     acts = h.acts;
     grants = h.grants;
   }
 
-fitting_keeps : {Greatest : ℕ → Type 0} (r : Record) (f : ℕ) (frame : Frame) (parts : Result (List Part) ContainerFault) (t : Took) → nth r.frames f ≡ Some frame → frame.phase ≡ Committing → HasNumbers Greatest r → commit_fitting r f frame parts ≡ Ok t → HasNumbers Greatest t.rec
-fitting_keeps r f frame (Err fault) t at p h e = cc
-fitting_keeps {Greatest} r f frame (Ok parts) t at p h e = (let same : commit_made r f frame ≡ t = cc in subst (λ (z : Took). HasNumbers Greatest z.rec) same (commit_sound r f frame at p h))
+unsettled_owes : (phase : Phase) → IsUnsettled phase → debt phase ≡ 1
+unsettled_owes phase (inl e) = ap debt e
+unsettled_owes phase (inr e) = ap debt e
 
-commit_keeps : {Greatest : ℕ → Type 0} (r : Record) (f : ℕ) (found : Option Frame) (t : Took) → nth r.frames f ≡ found → HasNumbers Greatest r → commit_at r f found ≡ Ok t → HasNumbers Greatest t.rec
-commit_keeps r f None t at h e = cc
-commit_keeps {Greatest} r f (Some frame) t at h e = if_told (λ (z : Result Took ContainerFault). z ≡ Ok t → HasNumbers Greatest t.rec) (is_committing frame.phase) (commit_fitting r f frame (image r f)) (Err WrongState)
-    (λ c g. fitting_keeps r f frame (image r f) t at (committing_from frame.phase c) h g)
-    (λ c g. cc) e
+module _ (r : Record) (f : ℕ) (frame : Frame) (at : nth r.frames f ≡ Some frame) where
+  pub commit_sound : {Greatest : ℕ → Type 0} → IsUnsettled frame.phase → HasNumbers Greatest r → HasNumbers Greatest (commit_made r f frame).rec
+  commit_sound u h = told_sound r f frame (committed_frame frame) at (unsettled_owes frame.phase u) refl refl refl (completion frame) (completed f frame)
+      (λ o t. (kept o, completed_in f frame o t)) (λ o t. completed_out f frame o t) h
+
+  dropped_in : (o : Object) → (o.frame == f) ≡ true → dropped_object f frame o ≡ record o { link = asked_link (SaveDropped frame.k) (cleared o.link) }
+  dropped_in o e = rw (e, e) refl
+
+  dropped_out : (o : Object) → (o.frame == f) ≡ false → dropped_object f frame o ≡ o
+  dropped_out o e = rw (e, e) refl
+
+  drop_sound : {Greatest : ℕ → Type 0} → frame.phase ≡ InDoubt → HasNumbers Greatest r → HasNumbers Greatest (save_dropped r f frame).rec
+  drop_sound p h = told_sound r f frame (dropped_frame frame) at (unsettled_owes frame.phase (inr p)) refl refl refl (SaveDropped frame.k) (dropped_object f frame)
+      (λ o t. (o.work, dropped_in o t)) (λ o t. dropped_out o t) h
+
+  -- a commit that fails owes what it owed
+  same_debt : frame.phase ≡ Committing → (n i : ℕ) → debts (set_nth r.frames f (doubted_frame frame)) n i ≤ debts r.frames n i
+  same_debt p n i = elim (i == f) as (λ b. (i == f) ≡ b → debts (set_nth r.frames f (doubted_frame frame)) n i ≤ debts r.frames n i) [
+    | true ↦ (λ t. let e = eqb-true i f t in
+        let now : debts (set_nth r.frames f (doubted_frame frame)) n i ≡ 1 + grant_debt n frame.ui.state = ap (debts (set_nth r.frames f (doubted_frame frame)) n) e ∙ ap (debt_in n) (nth-set_same r.frames f frame (doubted_frame frame) at) in
+        let old : debts r.frames n i ≡ 1 + grant_debt n frame.ui.state = ap (debts r.frames n) e ∙ (ap (debt_in n) at ∙ ap (λ q. debt q + grant_debt n frame.ui.state) p) in
+        omega arith)
+    | false ↦ (λ t. let e : debts (set_nth r.frames f (doubted_frame frame)) n i ≡ debts r.frames n i = ap (debt_in n) (nth-set_other r.frames f i (doubted_frame frame) (λ q. eqb-false i f t (sym q))) in omega arith)
+  ] refl
+
+  doubt_sound : {Greatest : ℕ → Type 0} → frame.phase ≡ Committing → HasNumbers Greatest r → HasNumbers Greatest (commit_doubted r f frame).rec
+  doubt_sound p h = record {
+    limit = h.limit;
+    room = all_of (Owing r.numbers (debts (set_nth r.frames f (doubted_frame frame)))) r.objects
+        (each_weaker (Owing r.numbers (debts r.frames)) (Owing r.numbers (debts (set_nth r.frames f (doubted_frame frame)))) r.objects
+        (λ o w. owes_less r.numbers (debts r.frames) (debts (set_nth r.frames f (doubted_frame frame))) o (same_debt p o.number o.frame) w) (each_of (Owing r.numbers (debts r.frames)) r.objects h.room));
+    saves = (let all = each_of (IsSaved r.numbers) r.frames h.saves in all_of (IsSaved r.numbers) (set_nth r.frames f (doubted_frame frame)) (each_set (IsSaved r.numbers) r.frames f (doubted_frame frame) all (each_nth (IsSaved r.numbers) r.frames f frame all at)));
+    frames = (let e = length-set_nth r.frames f (doubted_frame frame) in let few = h.frames in omega arith);
+    servers = h.servers;
+    objects = h.objects;
+    acts = h.acts;
+    grants = h.grants;
+  }
+
+-- each of the steps that end or fail a commit
+commit_keeps : {Greatest : ℕ → Type 0} (r : Record) (f : ℕ) (found : Option Frame) (told : Result Took ContainerFault) (t : Took) → nth r.frames f ≡ found → (found ≡ None → IsOk told → ⊥) → ((frame : Frame) → nth r.frames f ≡ Some frame → IsCommitOf r f frame told) → HasNumbers Greatest r → told ≡ Ok t → HasNumbers Greatest t.rec
+commit_keeps r f None told t at none commits h e = absurd (none refl (subst (λ (z : Result Took ContainerFault). IsOk z) (sym e) refl))
+commit_keeps {Greatest} r f (Some frame) told t at none commits h e = (let c = commits frame at t e in subst (λ (z : Took). HasNumbers Greatest z.rec) c.1 (commit_sound r f frame at c.0 h))
+
+unframed_commit : (r : Record) (f : ℕ) → nth r.frames f ≡ None → IsOk (commit_done r f) → ⊥
+unframed_commit r f e h = (let no : IsOk (commit_at r f None) = subst (λ (z : Option Frame). IsOk (commit_at r f z)) e h in cc)
+
+unframed_kept : (r : Record) (f : ℕ) → nth r.frames f ≡ None → IsOk (resolve r f true) → ⊥
+unframed_kept r f e h = (let no : IsOk (resolved_at r f true None) = subst (λ (z : Option Frame). IsOk (resolved_at r f true z)) e h in cc)
 
 pub commits_keep : {Greatest : ℕ → Type 0} (r : Record) (f : ℕ) (t : Took) → HasNumbers Greatest r → commit_done r f ≡ Ok t → HasNumbers Greatest t.rec
-commits_keep r f t h e = commit_keeps r f (nth r.frames f) t refl h e
+commits_keep r f t h e = commit_keeps r f (nth r.frames f) (commit_done r f) t refl (λ n. unframed_commit r f n) (λ frame at. done_commits r f frame at) h e
+
+pub fails_keep : {Greatest : ℕ → Type 0} (r : Record) (f : ℕ) (t : Took) → HasNumbers Greatest r → commit_failed r f ≡ Ok t → HasNumbers Greatest t.rec
+fails_keep {Greatest} r f t h e = (let c = is_failed r f t e in subst (λ (z : Took). HasNumbers Greatest z.rec) c.made (doubt_sound r f c.frame c.there c.phase h))
+
+pub resolves_keep : {Greatest : ℕ → Type 0} (r : Record) (f : ℕ) (is_kept : Bool) (t : Took) → HasNumbers Greatest r → resolve r f is_kept ≡ Ok t → HasNumbers Greatest t.rec
+resolves_keep r f true t h e = commit_keeps r f (nth r.frames f) (resolve r f true) t refl (λ n. unframed_kept r f n) (λ frame at. kept_commits r f frame at) h e
+resolves_keep {Greatest} r f false t h e = (let c = is_dropped r f t e in subst (λ (z : Took). HasNumbers Greatest z.rec) c.made (drop_sound r f c.frame c.there c.phase h))

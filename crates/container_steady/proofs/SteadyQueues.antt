@@ -79,6 +79,7 @@ LeavesRunning OpenWindow = Unit {0}
 LeavesRunning (Edit bytes) = Unit {0}
 LeavesRunning (Save k) = Unit {0}
 LeavesRunning (SaveCompleted k storage) = Unit {0}
+LeavesRunning (SaveDropped k) = Unit {0}
 LeavesRunning op = ⊥
 
 row_set : (op : Operation) (s : PersistState) → LeavesRunning op → IsSet (persist.table (op_of op) s)
@@ -104,6 +105,8 @@ row_set (SaveCompleted k true) Unset t = tt
 row_set (SaveCompleted k true) _ t = tt
 row_set (SaveCompleted k false) Unset t = tt
 row_set (SaveCompleted k false) _ t = tt
+row_set (SaveDropped k) Unset t = tt
+row_set (SaveDropped k) _ t = tt
 row_set _ s t = absurd t
 
 abbrev IsUp : Result ObjectState StateFault → Type 0
@@ -149,6 +152,7 @@ row_up OpenWindow _ t h = tt
 row_up (Edit bytes) s t h = same_up s h
 row_up (Save k) s t h = same_up s h
 row_up (SaveCompleted k storage) s t h = same_up s h
+row_up (SaveDropped k) s t h = same_up s h
 row_up _ s t h = absurd t
 
 -- once such an operation was done, an object has its storage and runs

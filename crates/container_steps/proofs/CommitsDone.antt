@@ -1,4 +1,4 @@
--- The record after a commit.
+-- The record after a commit, and after one is resolved.
 use Rattle.std.proofs.Common.{◌≡◌, ℕ, List, map, Some, get_or, set, sym, ◌∙◌, ap}
 use Rattle.std.proofs.lemmas.List.{get_or_default}
 use Rattle.std.proofs.lemmas.Option.{slice_get-get_or}
@@ -17,12 +17,16 @@ module _ (r : Record) (f : ℕ) (a : Frame) where
   frame_here i at e = at.found ∙ slice_get-get_or r.frames i a at.fits ∙ ap (λ (x : Frame). Some x) (sym e)
 
   -- what the code makes of the record
+  pub ended_is : (made : Frame → Frame) (told : Frame → Object → Object) (i : ℕ) (b new : Frame) (os : List Object) → IsNth f r.frames i → a ≡ get_or r.frames i a → b ≡ get_or r.frames i b → new ≡ made b
+      → os ≡ map (told a) r.objects → ◌≡◌ {A = Record} (record r { frames = set r.frames i new; objects = os }) (record r { frames = set_nth r.frames f (made a); objects = map (told a) r.objects })
+  ended_is made told i b new os at e g n o =
+      let same : b ≡ a = g ∙ get_or_default r.frames i b a at.fits ∙ sym e in
+      let frames : set r.frames i new ≡ set_nth r.frames f (made a) = ap (set r.frames i) (n ∙ ap made same) ∙ sym (at.puts (made a)) in
+      λ t. record r { frames = frames t; objects = o t }
+
   pub after_is : (i : ℕ) (b new : Frame) (os : List Object) → IsNth f r.frames i → a ≡ get_or r.frames i a → b ≡ get_or r.frames i b → new ≡ committed_frame b
       → os ≡ map (completed f a) r.objects → ◌≡◌ {A = Record} (record r { frames = set r.frames i new; objects = os }) (commit_made r f a).rec
-  after_is i b new os at e g n o =
-      let same : b ≡ a = g ∙ get_or_default r.frames i b a at.fits ∙ sym e in
-      let frames : set r.frames i new ≡ set_nth r.frames f (committed_frame a) = ap (set r.frames i) (n ∙ ap committed_frame same) ∙ sym (at.puts (committed_frame a)) in
-      λ t. record r { frames = frames t; objects = o t }
+  after_is i b new os at e g n o = ended_is committed_frame (completed f) i b new os at e g n o
 
 -- what it gives
 pub took_is : (rec : Record) (t : Took) (answer : Answer) (counted : List Done) → rec ≡ t.rec → t.answer ≡ answer → t.counted ≡ counted

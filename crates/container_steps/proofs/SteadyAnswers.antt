@@ -1,7 +1,7 @@
 -- Answers keep an activation under its number.
 use Rattle.std.proofs.Common.{◌≡◌, ◌+◌, ℕ, true, List, [], ◌∷◌, Option, Some, None, Result, Ok, Err, refl, sym, ap, ◌∙◌, subst}
 use Rattle.wire_msgs.specs.declared.operation.Operation.{Operation}
-use Rattle.wire_msgs.specs.declared.operation.Operation.TheVariants.{InitNew, Load, InPlace, UiActivate, UiDeactivate, InPlaceDeactivate, OpenWindow, Edit, Save, SaveCompleted, Close}
+use Rattle.wire_msgs.specs.declared.operation.Operation.TheVariants.{InitNew, Load, InPlace, UiActivate, UiDeactivate, InPlaceDeactivate, OpenWindow, Edit, Save, SaveCompleted, SaveDropped, Close}
 use Rattle.wire_msgs.specs.declared.answer.Answer.{Answer}
 use Rattle.wire_msgs.specs.declared.answer.Answer.TheVariants.{Done, Refused, Content, Tools}
 use Rattle.object_state.specs.Both as both
@@ -88,7 +88,9 @@ replied_keeps l (Edit bytes) _ = tt
 replied_keeps l (Save k) (Content content) = saved_keeps l content (done l (Save k)) (done_keeps l (Save k))
 replied_keeps l (Save k) _ = tt
 replied_keeps l (SaveCompleted k storage) Done = done_keeps l (SaveCompleted k storage)
+replied_keeps l (SaveDropped k) Done = done_keeps l (SaveDropped k)
 replied_keeps l (SaveCompleted k storage) _ = tt
+replied_keeps l (SaveDropped k) _ = tt
 replied_keeps l (Close SaveIfDirty) (Content content) = closed_keeps l (Some content) (both.step l.states (op_of (Close SaveIfDirty)))
 replied_keeps l (Close SaveIfDirty) _ = tt
 replied_keeps l (Close NoSave) Done = closed_keeps l None (both.step l.states (op_of (Close NoSave)))
@@ -148,7 +150,9 @@ replied_own l (Edit bytes) _ = tt
 replied_own l (Save k) (Content content) = saved_own l content l.s (both.step l.states (op_of (Save k)))
 replied_own l (Save k) _ = tt
 replied_own l (SaveCompleted k storage) Done = done_own l (l.s + 1) (both.step l.states (op_of (SaveCompleted k storage)))
+replied_own l (SaveDropped k) Done = done_own l (l.s + 1) (both.step l.states (op_of (SaveDropped k)))
 replied_own l (SaveCompleted k storage) _ = tt
+replied_own l (SaveDropped k) _ = tt
 replied_own l (Close SaveIfDirty) (Content content) = closed_own l (Some content) (both.step l.states (op_of (Close SaveIfDirty)))
 replied_own l (Close SaveIfDirty) _ = tt
 replied_own l (Close NoSave) Done = closed_own l None (both.step l.states (op_of (Close NoSave)))

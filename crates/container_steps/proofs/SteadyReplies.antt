@@ -5,7 +5,7 @@ use Rattle.std.specs.List.{AllByRecursion}
 use Rattle.wire_msgs.specs.Found.{nth}
 use Rattle.wire_msgs.specs.Operations.{op_of}
 use Rattle.wire_msgs.specs.declared.operation.Operation.{Operation}
-use Rattle.wire_msgs.specs.declared.operation.Operation.TheVariants.{InitNew, Load, InPlace, UiActivate, UiDeactivate, InPlaceDeactivate, OpenWindow, Edit, Save, SaveCompleted, Close}
+use Rattle.wire_msgs.specs.declared.operation.Operation.TheVariants.{InitNew, Load, InPlace, UiActivate, UiDeactivate, InPlaceDeactivate, OpenWindow, Edit, Save, SaveCompleted, SaveDropped, Close}
 use Rattle.wire_msgs.specs.declared.answer.Answer.{Answer}
 use Rattle.wire_msgs.specs.declared.answer.Answer.TheVariants.{Done, Refused, Content}
 use Rattle.wire_msgs.specs.declared.answer.Answer.TheVariants as told
@@ -239,7 +239,9 @@ module _ (servers : List Bool) (last_act : ℕ) (phase : Phase) (k : ℕ) (role 
   replied_goes (Save j) (Content content) re e f g = save_goes j content re f e g
   replied_goes (Save j) _ re e f g = cc
   replied_goes (SaveCompleted j storage) Done re e f g = done_goes (SaveCompleted j storage) re tt tt e g
+  replied_goes (SaveDropped j) Done re e f g = done_goes (SaveDropped j) re tt tt e g
   replied_goes (SaveCompleted j storage) _ re e f g = cc
+  replied_goes (SaveDropped j) _ re e f g = cc
   replied_goes (Close SaveIfDirty) (Content content) re e f g = closed_goes SaveIfDirty (Some content) re f e g
   replied_goes (Close SaveIfDirty) _ re e f g = cc
   replied_goes (Close NoSave) Done re e f g = closed_goes NoSave None re tt e g
@@ -290,7 +292,9 @@ module _ (servers : List Bool) (last_act : ℕ) (phase : Phase) (k : ℕ) (role 
   fitting_taken (Save j) (Content content) e f = saved_taken content (done l (Save j)) (done_taken (Save j) e)
   fitting_taken (Save j) _ e f = absurd f
   fitting_taken (SaveCompleted j storage) Done e f = done_taken (SaveCompleted j storage) e
+  fitting_taken (SaveDropped j) Done e f = done_taken (SaveDropped j) e
   fitting_taken (SaveCompleted j storage) _ e f = absurd f
+  fitting_taken (SaveDropped j) _ e f = absurd f
   fitting_taken (Close SaveIfDirty) (Content content) e f = closed_taken SaveIfDirty (Some content) e
   fitting_taken (Close SaveIfDirty) _ e f = absurd f
   fitting_taken (Close NoSave) Done e f = closed_taken NoSave None e

@@ -182,9 +182,9 @@ taking_keeps r o frame l s found at idle quiet is unclaimed v a ts e (hidden ui)
     let rows : l.states ≡ record { persist = record { state = Normal; last_save = last }; object = Running } = ap (λ (p : PersistState). record { persist = record { state = p; last_save = last }; object = l.states.object }) ends.storage ∙ ap (λ (z : ObjectState). record { persist = record { state = Normal; last_save = last }; object = z }) e in
     elim moves [
       | is_free q ↦ free_keeps r o frame l s found at idle quiet is unclaimed hides (step.InPlace ∷ step.UiActivate ∷ []) (record { persist = record { state = Normal; last_save = last }; object = UiActive }) q
-          (ap (λ (w : States). ended (Ok w) (InPlace ∷ UiActivate g ∷ [])) rows) (record { storage = refl; last_save = tt; running = tt; waits = tt }) (tt, (refl, tt))
+          (ap (λ (w : States). ended (Ok w) (InPlace ∷ UiActivate g ∷ [])) rows) (record { storage = refl; last_save = ends.last_save; running = tt; waits = tt }) (tt, (refl, tt))
       | is_held holder tools q ↦ held_keeps r o frame l s found at idle quiet is unclaimed hides holder tools (step.InPlace ∷ step.UiActivate ∷ []) (record { persist = record { state = Normal; last_save = last }; object = InPlaceActive }) q
-          (ap (λ (w : States). ended (Ok w) (InPlace ∷ [])) rows) (record { storage = refl; last_save = tt; running = tt; waits = tt }) (tt, tt)
+          (ap (λ (w : States). ended (Ok w) (InPlace ∷ [])) rows) (record { storage = refl; last_save = ends.last_save; running = tt; waits = tt }) (tt, tt)
     ]
 taking_keeps r o frame l s found at idle quiet is unclaimed v a ts e (placed ui) moves =
     let hides : l.states.object ≡ UiActive → ⊥ = λ q. (let no = sym e ∙ q in cc) in
@@ -195,7 +195,7 @@ taking_keeps r o frame l s found at idle quiet is unclaimed v a ts e (placed ui)
     let rows : l.states ≡ record { persist = record { state = Normal; last_save = last }; object = InPlaceActive } = ap (λ (p : PersistState). record { persist = record { state = p; last_save = last }; object = l.states.object }) ends.storage ∙ ap (λ (z : ObjectState). record { persist = record { state = Normal; last_save = last }; object = z }) e in
     elim moves [
       | is_free q ↦ free_keeps r o frame l s found at idle quiet is unclaimed hides (step.UiActivate ∷ []) (record { persist = record { state = Normal; last_save = last }; object = UiActive }) q
-          (ap (λ (w : States). ended (Ok w) (UiActivate g ∷ [])) rows) (record { storage = refl; last_save = tt; running = tt; waits = tt }) (refl, tt)
+          (ap (λ (w : States). ended (Ok w) (UiActivate g ∷ [])) rows) (record { storage = refl; last_save = ends.last_save; running = tt; waits = tt }) (refl, tt)
       | is_held holder tools q ↦ held_keeps r o frame l s found at idle quiet is unclaimed hides holder tools (step.UiActivate ∷ []) (record { persist = record { state = Normal; last_save = last }; object = InPlaceActive }) q
-          (ap (λ (w : States). ended (Ok w) []) rows) (record { storage = refl; last_save = tt; running = tt; waits = tt }) tt
+          (ap (λ (w : States). ended (Ok w) []) rows) (record { storage = refl; last_save = ends.last_save; running = tt; waits = tt }) tt
     ]

@@ -147,7 +147,7 @@ module _ (r : Record) (o : Object) (frame : Frame) (l : Link) (s : Steady r) (fo
   pub closing_keeps : (option : CloseOption) (ts : List Step) → close_steps option l.states.object ≡ Some ts → Steady (leaving_made r frame o l ts).rec
   closing_keeps option ts e = leaving_at l.states.object ts (record { persist = record { state = Normal; last_save = l.states.persist.last_save }; object = Passive }) refl (closing_from option l.states.object ts e)
       (ap (λ (v : States). ended (Ok v) (map (operation_of 0) ts)) rows ∙ close_runs option 0 l.states.object ts l.states.persist.last_save e)
-      (record { storage = refl; last_save = tt; running = tt; waits = tt })
+      (record { storage = refl; last_save = ends.last_save; running = tt; waits = tt })
 
   goal_running : (v : Verb) → EndsAs Idle (goal_of v)
   goal_running Primary = tt
@@ -160,7 +160,7 @@ module _ (r : Record) (o : Object) (frame : Frame) (l : Link) (s : Steady r) (fo
   pub leaving_keeps : (v : Verb) (ts : List Step) → steps v l.states.object ≡ Some ts → takes ts ≡ false → Steady (leaving_made r frame o l ts).rec
   leaving_keeps v ts e n = leaving_at l.states.object ts (record { persist = record { state = Normal; last_save = l.states.persist.last_save }; object = goal_of v }) refl (leaving_from v l.states.object ts e n)
       (ap (λ (v : States). ended (Ok v) (map (operation_of 0) ts)) rows ∙ verb_runs v 0 l.states.object ts l.states.persist.last_save e)
-      (record { storage = refl; last_save = tt; running = goal_running v; waits = tt })
+      (record { storage = refl; last_save = ends.last_save; running = goal_running v; waits = tt })
 
   -- what a verb or a close makes
   takes_ui : (v : Verb) (a : ObjectState) (ts : List Step) → TakesFrom v a ts → activates_ui v ≡ true

@@ -13,6 +13,7 @@ fn operation_name(operation: &Operation) -> &'static str {
         Operation::Edit(_) => "Edit",
         Operation::Save(_) => "Save",
         Operation::SaveCompleted { .. } => "SaveCompleted",
+        Operation::SaveDropped(_) => "SaveDropped",
         Operation::InPlace => "InPlace",
         Operation::UiActivate(_) => "UiActivate",
         Operation::Close(_) => "Close",

@@ -28,12 +28,25 @@ fn commit(alloc: Global, core: &mut ContainerCore, f: u32) -> Result<Answer, Con
     core.commit_done(alloc, f)
 }
 
+fn fail(alloc: Global, core: &mut ContainerCore, f: u32) -> Result<Answer, ContainerFault> {
+    core.commit_failed(alloc, f)
+}
+
+fn resolve(
+    alloc: Global,
+    core: &mut ContainerCore,
+    f: u32,
+    is_kept: bool,
+) -> Result<Answer, ContainerFault> {
+    core.resolve(alloc, f, is_kept)
+}
+
 /// The event that a row spells.
 pub(crate) fn event(rt: &impl Abort, alloc: Global, row: &str) -> Option<Event> {
     Events::parse(alloc, 1, row.as_bytes()).expect(rt, "memory")
 }
 
-/// Whether a container answers this to a command, the end of a server or a commit that is done.
+/// Whether a container answers this to a command, the end of a server or a commit that is done, that fails or is resolved.
 pub(crate) fn happens(
     alloc: Global,
     core: &mut ContainerCore,
@@ -44,6 +57,8 @@ pub(crate) fn happens(
         Event::Command(command) => is_answered(carry_out(alloc, core, command), words),
         Event::Reap(inc) => is_answered(reap(alloc, core, inc), words),
         Event::Done(f) => is_answered(commit(alloc, core, f), words),
+        Event::Fail(f) => is_answered(fail(alloc, core, f), words),
+        Event::Resolve(f, is_kept) => is_answered(resolve(alloc, core, f, is_kept), words),
         _ => false,
     }
 }

@@ -1,6 +1,7 @@
 -- In a steady record within its numbers, what is pending of a link is within them, as a call.
-use Rattle.std.proofs.Common.{◌≡◌, ◌≤◌, ◌==◌, ℕ, Bool, true, false, List, [], ◌∷◌, length, Option, Some, None, Ok, Err, refl, sym, ap, ◌∙◌, arith, subst, if◌then◌else◌}
-use Rattle.std.specs.Prelude.{IsOkAnd}
+use Rattle.std.proofs.Common.{◌≡◌, ◌≤◌, ◌==◌, ℕ, Bool, true, false, List, [], ◌∷◌, length, Option, Some, None, Result, Ok, Err, refl, sym, ap, ◌∙◌, arith, subst, if◌then◌else◌}
+use Rattle.std.proofs.lemmas.Bool.{eqb-true}
+use Rattle.std.specs.Prelude.{IfSome, IsOkAnd}
 use Rattle.std.specs.List.{AllByRecursion}
 use Rattle.wire_msgs.specs.Found.{nth}
 use Rattle.wire_msgs.specs.declared.message.Message.TheVariants.{Call}
@@ -17,7 +18,8 @@ use Rattle.object_state.specs.declared.operations.Op.{Op}
 use Rattle.object_state.specs.declared.operations.Op.TheVariants as op
 use Rattle.object_state.specs.declared.persist_states.Persist.{Persist}
 use Rattle.object_state.specs.declared.persist_states.PersistState.{PersistState}
-use Rattle.object_state.specs.declared.persist_states.PersistState.TheVariants.{Normal, NoScribble}
+use Rattle.object_state.specs.declared.persist_states.PersistState.TheVariants.{Unset, Normal, NoScribble}
+use Rattle.object_state.specs.declared.persist_states.PersistState.TheVariants as away
 use Rattle.storage_tree.specs.declared.stored.Stored.{Stored}
 use Rattle.grant_core.specs.declared.grant_states.Claim.{Claim}
 use Rattle.grant_core.specs.declared.grant_states.GrantState.{GrantState}
@@ -25,7 +27,7 @@ use Rattle.grant_core.specs.declared.grant_states.GrantState.TheVariants as stat
 use Rattle.grant_core.specs.Grants.{who}
 use Rattle.container_model.specs.declared.record.Link.{Link}
 use Rattle.container_model.specs.declared.record.Phase.{Phase}
-use Rattle.container_model.specs.declared.record.Phase.TheVariants.{Saving}
+use Rattle.container_model.specs.declared.record.Phase.TheVariants.{Idle, Saving}
 use Rattle.container_model.specs.Record.{Record, is_object, is_unreaped}
 use Rattle.container_model.specs.Room.{HasRoom, IfLinked, IsRoomy, debt_in}
 use Rattle.container_steady.specs.Roles.{Role, Other, Getting, Holding, Giving, Waiting, IsClaim, Plays, queue_of, role_in, waits_as}
@@ -59,6 +61,7 @@ module _ (k j : ℕ) (role : Role) (saved : Option Stored) where
   last_one (Load class c ∷ ops) v s h t = (let r = taken Ends v (Load class c) ops h in absurd (refused v r.0 op.Load (λ z e. (fault.AlreadyInitialized, rw e refl)) (scribbles j v.persist s) r.1))
   last_one (Save n ∷ ops) v s h t = (let r = taken Ends v (Save n) ops h in absurd (refused v r.0 (op.Save n) (λ z e. (fault.Scribble, rw e refl)) (scribbles j v.persist s) r.1))
   last_one (SaveCompleted n storage ∷ ops) v s h t = absurd (let e = t.0 in cc)
+  last_one (SaveDropped n ∷ ops) v s h t = absurd (let e = t.0 in cc)
   last_one (Close option ∷ ops) v s h t = absurd (let e = t.0 in cc)
   last_one (InPlace ∷ ops) v s h t = (let g = goes_on InPlace tt Ends v ops (rw s tt) h in last_one ops g.0 (g.1 ∙ s) g.2 t.1)
   last_one (UiActivate n ∷ ops) v s h t = (let g = goes_on (UiActivate n) tt Ends v ops (rw s tt) h in last_one ops g.0 (g.1 ∙ s) g.2 t.1)
@@ -74,6 +77,51 @@ saves_at Normal last o k w e = (let j = joined_ok (persist.step (record { state 
     let at : record { state = NoScribble; last_save = Some k } ≡ w.persist = cc in
     sym at)
 saves_at _ last o k w e = cc
+
+-- A save that is dropped has at most the number of its frame's last one: the frame is idle by then, what waits behind it tells
+-- of no save, and so its number is the last one that the queue leaves.
+refused_open : (v w : States) (o : Op) (h : (s : PersistState) → s ≡ Normal → (refusal : StateFault) × (persist.table o s ≡ Err refusal)) → v.persist.state ≡ Normal → both.step v o ≡ Ok w → ⊥
+refused_open v w o h s e = (let r = h v.persist.state s in let g : both.joined (persist.numbered v.persist o (persist.table o v.persist.state)) (object.table o v.object) ≡ Ok w = e in let g' = rw r.1 at g in cc)
+
+abbrev opened : ℕ → Persist
+opened j = record { state = Normal; last_save = Some j }
+
+drops_numbered : (last : Option ℕ) (k : ℕ) (q : Persist) → ◌≡◌ {A = Result Persist StateFault} (if persist.is_number k last then Ok (record { state = Normal; last_save = last }) else Err fault.WrongState) (Ok q) → q ≡ opened k
+drops_numbered None k q e = cc
+drops_numbered (Some n) k q e = elim (k == n) as (λ b. (k == n) ≡ b → ◌≡◌ {A = Result Persist StateFault} (if b then Ok (opened n) else Err fault.WrongState) (Ok q) → q ≡ opened k) [
+  | true ↦ (λ t g. let is : opened n ≡ q = cc in sym is ∙ ap opened (sym (eqb-true k n t)))
+  | false ↦ (λ t g. cc)
+] refl e
+
+drops_at : (s : PersistState) (last : Option ℕ) (o : ObjectState) (k : ℕ) (w : States) → both.step (record { persist = record { state = s; last_save = last }; object = o }) (op.SaveDropped k) ≡ Ok w → w.persist ≡ opened k
+drops_at Unset last o k w e = cc
+drops_at Normal last o k w e = cc
+drops_at NoScribble last o k w e = drops_numbered last k w.persist (joined_ok (persist.step (record { state = NoScribble; last_save = last }) (op.SaveDropped k)) (object.step o (op.SaveDropped k)) w e).0
+drops_at away.HandsOff last o k w e = drops_numbered last k w.persist (joined_ok (persist.step (record { state = away.HandsOff; last_save = last }) (op.SaveDropped k)) (object.step o (op.SaveDropped k)) w e).0
+
+open_at : (j : ℕ) (p : Persist) → p ≡ opened j → p.state ≡ Normal
+open_at j p e = ap (λ (x : Persist). x.state) e
+
+module _ (k j : ℕ) (role : Role) (saved : Option Stored) where
+  abbrev EndsIdle : States → Type 0
+  EndsIdle = EndsWell Idle k role
+
+  dropped_last : (ops : List Operation) (v : States) → v.persist ≡ opened j → IsOkAnd (ended (Ok v) ops) EndsIdle → AllByRecursion (IsTimely Idle saved) ops → j ≤ k
+  dropped_last [] v s h t = subst (λ (p : Persist). IfSome p.last_save (λ (n : ℕ). n ≤ k)) s h.last_save
+  dropped_last (InitNew class ∷ ops) v s h t = (let r = taken EndsIdle v (InitNew class) ops h in absurd (refused_open v r.0 op.InitNew (λ z e. (fault.AlreadyInitialized, rw e refl)) (open_at j v.persist s) r.1))
+  dropped_last (Load class c ∷ ops) v s h t = (let r = taken EndsIdle v (Load class c) ops h in absurd (refused_open v r.0 op.Load (λ z e. (fault.AlreadyInitialized, rw e refl)) (open_at j v.persist s) r.1))
+  dropped_last (Save n ∷ ops) v s h t = absurd (let e = t.0.0 in cc)
+  dropped_last (SaveCompleted n true ∷ ops) v s h t = (let r = taken EndsIdle v (SaveCompleted n true) ops h in absurd (refused_open v r.0 (op.SaveCompleted n true) (λ z e. (fault.WrongState, rw e refl)) (open_at j v.persist s) r.1))
+  dropped_last (SaveCompleted n false ∷ ops) v s h t = (let r = taken EndsIdle v (SaveCompleted n false) ops h in absurd (refused_open v r.0 (op.SaveCompleted n false) (λ z e. (fault.WrongState, rw e refl)) (open_at j v.persist s) r.1))
+  dropped_last (SaveDropped n ∷ ops) v s h t = (let r = taken EndsIdle v (SaveDropped n) ops h in absurd (refused_open v r.0 (op.SaveDropped n) (λ z e. (fault.WrongState, rw e refl)) (open_at j v.persist s) r.1))
+  dropped_last (Close option ∷ ops) v s h t = (let g = goes_on (Close option) tt EndsIdle v ops (rw s tt) h in dropped_last ops g.0 (g.1 ∙ s) g.2 t.1)
+  dropped_last (InPlace ∷ ops) v s h t = (let g = goes_on InPlace tt EndsIdle v ops (rw s tt) h in dropped_last ops g.0 (g.1 ∙ s) g.2 t.1)
+  dropped_last (UiActivate n ∷ ops) v s h t = (let g = goes_on (UiActivate n) tt EndsIdle v ops (rw s tt) h in dropped_last ops g.0 (g.1 ∙ s) g.2 t.1)
+  dropped_last (UiDeactivate ∷ ops) v s h t = (let g = goes_on UiDeactivate tt EndsIdle v ops (rw s tt) h in dropped_last ops g.0 (g.1 ∙ s) g.2 t.1)
+  dropped_last (InPlaceDeactivate ∷ ops) v s h t = (let g = goes_on InPlaceDeactivate tt EndsIdle v ops (rw s tt) h in dropped_last ops g.0 (g.1 ∙ s) g.2 t.1)
+  dropped_last (OpenWindow ∷ ops) v s h t = (let g = goes_on OpenWindow tt EndsIdle v ops (rw s tt) h in dropped_last ops g.0 (g.1 ∙ s) g.2 t.1)
+  dropped_last (Edit bytes ∷ ops) v s h t = (let g = goes_on (Edit bytes) tt EndsIdle v ops (rw s tt) h in dropped_last ops g.0 (g.1 ∙ s) g.2 t.1)
+  dropped_last (_ ∷ ops) v s h t = absurd t.0
 
 -- whoever is asked to take its frame is to get it
 grant_named : (grant : GrantState) (n g : ℕ) (ops : List Operation) → Plays (role_in grant n) (UiActivate g ∷ ops) → (claim : Claim) × (who grant ≡ Some claim) × (g ≡ claim.g)
@@ -155,11 +203,23 @@ module _ (limit : ℕ) (r : Record) (steady : Steady r) (numbers : IsNumbered li
       last_one held.frame.k k role l.saved l.waiting t.0 (saves_at l.states.persist.state l.states.persist.last_save l.states.object k t.0 t.1) t.2
       (subst (λ (p : Phase). AllByRecursion (IsTimely p l.saved) l.waiting) saving timely.1)
 
+  dropped_within : (k : ℕ) → asked ≡ SaveDropped k → k ≤ held.frame.k
+  dropped_within k is =
+      let role = role_in held.frame.ui.state held.object.number in
+      let timely : AllByRecursion (IsTimely held.frame.phase l.saved) (SaveDropped k ∷ l.waiting) = subst (λ (o : Operation). AllByRecursion (IsTimely held.frame.phase l.saved) (o ∷ l.waiting)) is queue_timely in
+      let idle : held.frame.phase ≡ Idle = timely.0 in
+      let runs : IsOkAnd (ended (Ok l.states) (SaveDropped k ∷ l.waiting)) (EndsWell Idle held.frame.k role) =
+      subst (λ (p : Phase). IsOkAnd (ended (Ok l.states) (SaveDropped k ∷ l.waiting)) (EndsWell p held.frame.k role)) idle
+      (subst (λ (p : Option Operation). IsOkAnd (ended (Ok l.states) (queue_of p l.waiting)) (EndsWell held.frame.phase held.frame.k role)) (pending ∙ ap Some is) link.queue_runs) in
+      let t = taken (EndsWell Idle held.frame.k role) l.states (SaveDropped k) l.waiting runs in
+      dropped_last held.frame.k k role l.saved l.waiting t.0 (drops_at l.states.persist.state l.states.persist.last_save l.states.object k t.0 t.1) t.2
+      (subst (λ (p : Phase). AllByRecursion (IsTimely p l.saved) l.waiting) idle timely.1)
+
   carries : (op : Operation) → asked ≡ op → ((k : ℕ) (storage : Bool) → op ≡ SaveCompleted k storage → k ≤ limit) → CarriesWithin limit op
   carries (UiActivate g) is completed = grant_within g is
   carries (Save k) is completed = (let own = save_is k is in let most = saved_within in omega arith)
   carries (SaveCompleted k storage) is completed = completed k storage refl
-  carries (SaveDropped k) is completed = absurd (subst (λ (o : Operation). AllByRecursion (IsTimely held.frame.phase l.saved) (o ∷ l.waiting)) is queue_timely).0
+  carries (SaveDropped k) is completed = (let own = dropped_within k is in let most = saved_within in omega arith)
   carries _ is completed = tt
 
   pub call_within : ((k : ℕ) (storage : Bool) → asked ≡ SaveCompleted k storage → k ≤ limit) → IsWithin limit (Call l.inc l.act l.last asked)
