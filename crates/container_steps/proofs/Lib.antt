@@ -19,7 +19,6 @@ pub mod SavesMade
 pub mod InsertsMade
 pub mod Missing
 pub mod CommandsRun
-pub mod CommitsDone
 pub mod WritesMade
 pub mod StepsKeep
 pub mod ImagesMade
