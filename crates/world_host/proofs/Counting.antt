@@ -9,8 +9,8 @@ use Rattle.container_model.specs.declared.fault.ContainerFault.{ContainerFault}
 use Rattle.container_model.specs.declared.fault.ContainerFault.TheVariants.{NoSuch, Busy, NotRunning, InDoubt, WrongLink, Stale, Full, NumbersSpent, WrongState, BadFile, BadAnswer, UnknownClass, NoMemory}
 use Rattle.container_model.specs.declared.record.Frame.{Frame}
 use Rattle.container_model.specs.Record.{Record, Refuses, Took}
-use Rattle.container_model.specs.Saves.{commit_at, commit_done, commit_fitting, commit_made, counted_at, counted_of, document, document_tree, done_entry, fitting, fitting_in, has_image, image, image_at, is_committing, is_document, parts_in}
-use Rattle.world_host.specs.Files.{is_committing_in}
+use Rattle.container_model.specs.Saves.{commit_at, commit_done, commit_failed, commit_fitting, commit_made, counted_at, counted_of, document, document_tree, done_entry, fitting, fitting_in, has_image, image, image_at, is_committing, is_document, parts_in, failed_at, resolve, resolved_as, resolved_at}
+use Rattle.world_host.specs.Files.{is_committing_in, is_doubtful_in}
 
 fits_by : (ps parts : List Part) (b : Bool) (told : Result (Unit {0}) WriteFault) → ◌≡◌ {A = Result (List Part) ContainerFault} (if b then fitting_in ps told else Err Full) (Ok parts) → ps ≡ parts
 fits_by ps parts true (Ok t) e = cc
@@ -56,3 +56,25 @@ only_memory told UnknownClass ok h = absurd (not_refused told UnknownClass ok h)
 -- so a commit that is asked for lacks nothing but memory
 pub lacks_memory : (r : Record) (f : ℕ) (parts : List Part) (fault : ContainerFault) → is_committing_in (nth r.frames f) ≡ true → image r f ≡ Ok parts → Refuses (commit_done r f) fault → fault ≡ NoMemory
 lacks_memory r f parts fault c e h = only_memory (commit_done r f) fault (commits_by r f (nth r.frames f) parts c e) h
+
+fails_by : (r : Record) (f : ℕ) (frame : Option Frame) → is_committing_in frame ≡ true → IsOk (failed_at r f frame)
+fails_by r f None c = cc
+fails_by r f (Some frame) c = rw c refl
+
+-- so does one that fails, and one in doubt that is resolved
+pub failing_lacks_memory : (r : Record) (f : ℕ) (fault : ContainerFault) → is_committing_in (nth r.frames f) ≡ true → Refuses (commit_failed r f) fault → fault ≡ NoMemory
+failing_lacks_memory r f fault c h = only_memory (commit_failed r f) fault (fails_by r f (nth r.frames f) c) h
+
+keeps_by : (r : Record) (f : ℕ) (frame : Option Frame) (parts : List Part) → is_doubtful_in frame ≡ true → image r f ≡ Ok parts → IsOk (resolved_at r f true frame)
+keeps_by r f None parts c e = cc
+keeps_by r f (Some frame) parts c e = rw (c, e) refl
+
+pub keeping_lacks_memory : (r : Record) (f : ℕ) (parts : List Part) (fault : ContainerFault) → is_doubtful_in (nth r.frames f) ≡ true → image r f ≡ Ok parts → Refuses (resolve r f true) fault → fault ≡ NoMemory
+keeping_lacks_memory r f parts fault c e h = only_memory (resolve r f true) fault (keeps_by r f (nth r.frames f) parts c e) h
+
+drops_by : (r : Record) (f : ℕ) (frame : Option Frame) → is_doubtful_in frame ≡ true → IsOk (resolved_at r f false frame)
+drops_by r f None c = cc
+drops_by r f (Some frame) c = rw c refl
+
+pub dropping_lacks_memory : (r : Record) (f : ℕ) (fault : ContainerFault) → is_doubtful_in (nth r.frames f) ≡ true → Refuses (resolve r f false) fault → fault ≡ NoMemory
+dropping_lacks_memory r f fault c h = only_memory (resolve r f false) fault (drops_by r f (nth r.frames f) c) h

@@ -2,6 +2,7 @@
 use Rattle.std.specs.Prelude.{◌≡◌, ℕ, Bool, false, List, ◌∷◌, [], ◌++◌, Option, Some, None, slice_get, slice_set}
 use Rattle.wire_msgs.specs.Found.{find}
 use Rattle.container_model.specs.declared.record.Frame.{Frame}
+use Rattle.container_model.specs.Record.{is_doubtful}
 use Rattle.container_model.specs.Saves.{is_committing}
 use Rattle.world_model.specs.declared.logs.File.{File}
 use Rattle.world_model.specs.World.{is_file, put_file}
@@ -19,3 +20,8 @@ pub record IsNoFile (name : List ℕ) (files : List File) : Type 0 where
 abbrev pub is_committing_in : Option Frame → Bool
 is_committing_in None = false
 is_committing_in (Some frame) = is_committing frame.phase
+
+-- a frame of which it is in doubt whether its file was committed
+abbrev pub is_doubtful_in : Option Frame → Bool
+is_doubtful_in None = false
+is_doubtful_in (Some frame) = is_doubtful frame.phase

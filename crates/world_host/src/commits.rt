@@ -23,7 +23,7 @@ use world_model::event::Stop;
 use world_model::logs::{Document, File};
 
 // The name that a frame has once its commit is done.
-fn name_after(alloc: Global, frame: &Frame) -> Result<Bytes, AllocError>
+pub(crate) fn name_after(alloc: Global, frame: &Frame) -> Result<Bytes, AllocError>
     ensures { IfOk result (λ b. b ≡ name_after frame.now.name frame.now.asked) }
 {
     match &frame.asked {
@@ -46,7 +46,7 @@ fn file_place(files: &[File], name: &[u8]) -> Option<usize>
 }
 
 // These bytes are the file of this name.
-fn put_file(files: &mut Vec<File>, name: Bytes, bytes: Bytes)
+pub(crate) fn put_file(files: &mut Vec<File>, name: Bytes, bytes: Bytes)
     requires { vec_len files.old < vec_capacity files.old }
     ensures { files.new.items ≡ put_file name bytes files.old.items }
 {
@@ -57,7 +57,7 @@ fn put_file(files: &mut Vec<File>, name: Bytes, bytes: Bytes)
 }
 
 // The document of a frame's last counted commit.
-fn set_counted(counted: &mut Vec<Option<Document>>, frame: u32, document: Document)
+pub(crate) fn set_counted(counted: &mut Vec<Option<Document>>, frame: u32, document: Document)
     ensures set { counted.new.items ≡ set_nth counted.old.items frame (Some document) }
     ensures len { vec_len counted.new ≡ vec_len counted.old }
     ensures capacity { vec_capacity counted.new ≡ vec_capacity counted.old }
@@ -94,7 +94,7 @@ fn entries(alloc: Global, k: u32, parts: &[Part]) -> Result<Vec<Done>, AllocErro
 }
 
 // Nothing is left but want of memory.
-fn lacking(fault: ContainerFault) -> AllocError
+pub(crate) fn lacking(fault: ContainerFault) -> AllocError
     requires { fault ≡ ContainerFault.NoMemory }
 {
     match fault {
@@ -105,7 +105,7 @@ fn lacking(fault: ContainerFault) -> AllocError
 
 impl Host {
     // Whether a commit of the frame is asked for.
-    fn is_committing(&self, f: u32) -> bool
+    pub(crate) fn is_committing(&self, f: u32) -> bool
         ensures { result ≡ is_committing_in (nth self.now.core.frames f) }
     {
         match self.core.frame(f) {
@@ -118,7 +118,7 @@ impl Host {
     }
 
     // What a commit of the frame counts: the contents of its document, under the number of its save. That number, too.
-    fn counted(&self, alloc: Global, f: u32, parts: &[Part]) -> Result<(u32, Vec<Done>), AllocError>
+    pub(crate) fn counted(&self, alloc: Global, f: u32, parts: &[Part]) -> Result<(u32, Vec<Done>), AllocError>
         requires { image self.now.core f ≡ Ok parts.now }
         ensures number { IfOk result (λ c. IfSome (nth self.now.core.frames f) (λ frame. c.0 ≡ frame.k)) }
         ensures counted { IfOk result (λ c. c.1.items ≡ counted_of self.now.core f) }

@@ -2,6 +2,7 @@
 #![tactic(auto)]
 
 mod commits;
+mod doubts;
 pub mod host;
 mod replying;
 mod taking;
