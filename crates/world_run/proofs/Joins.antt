@@ -7,7 +7,7 @@ use Rattle.wire_msgs.specs.declared.message.Message.{Message}
 use Rattle.container_model.specs.Record.{Took}
 use Rattle.container_model.specs.Commands.{on_command}
 use Rattle.container_model.specs.Messages.{on_message, on_reap}
-use Rattle.container_model.specs.Saves.{image, commit_done}
+use Rattle.container_model.specs.Saves.{image, commit_done, resolve}
 use Rattle.container_model.specs.declared.answer.Part.{Part}
 use Rattle.container_model.specs.declared.command.Command.{Command}
 use Rattle.container_model.specs.declared.record.Frame.{Frame}
@@ -17,7 +17,7 @@ use Rattle.world_model.specs.declared.event.Stop.{Stop}
 use Rattle.world_model.specs.declared.life.Life.{Life}
 use Rattle.world_model.specs.declared.life.Life.TheVariants.{Ended, Reaped}
 use Rattle.world_model.specs.declared.event.Stop.TheVariants.{EventLimit}
-use Rattle.world_model.specs.World.{World, Instance, joined, took, commanded, started_by, ended, ended_by, fresh, limited, reap, done, done_in, done_imaged, done_taken, kept_commit, MOST_EVENTS}
+use Rattle.world_model.specs.World.{World, Instance, joined, took, commanded, started_by, ended, ended_by, fresh, limited, reap, done, done_in, done_imaged, done_taken, kept_commit, only_taken, resolved, MOST_EVENTS}
 use Rattle.world_host.specs.Logging.{heard, heard_as, brought}
 use Rattle.world_host.specs.Servers.{ends_by, ends_in, ends_of}
 use Rattle.world_host.specs.View.{started}
@@ -72,15 +72,20 @@ taken_lifted : (w b : World) (f : ℕ) (bytes : List ℕ) (frame : Frame) (parts
 taken_lifted w b f bytes frame parts (Err fault) numbers ends starts h e = cc
 taken_lifted w b f bytes frame parts (Ok t) numbers ends starts h e = limit_lifted w b (kept_commit w f frame parts t.counted bytes) t (nat_le MOST_EVENTS (length w.answers)) numbers ends starts refl refl h e
 
-imaged_lifted : (w b : World) (f : ℕ) (bytes : List ℕ) (frame : Frame) (parts : Result (List Part) ContainerFault) (numbers : ℕ) (ends starts : List ℕ)
-    → limited (emptied w) (done_imaged (emptied w) f bytes frame parts) ≡ Ok (started b numbers starts) → ends ≡ ends_in (commit_done w.rec f) → limited w (done_imaged w f bytes frame parts) ≡ Ok (finished w b numbers ends starts)
-imaged_lifted w b f bytes frame (Err fault) numbers ends starts h e = cc
-imaged_lifted w b f bytes frame (Ok parts) numbers ends starts h e = taken_lifted w b f bytes frame parts (commit_done w.rec f) numbers ends starts h e
+imaged_lifted : (w b : World) (f : ℕ) (bytes : List ℕ) (frame : Frame) (told : Result Took ContainerFault) (parts : Result (List Part) ContainerFault) (numbers : ℕ) (ends starts : List ℕ)
+    → limited (emptied w) (done_imaged (emptied w) f bytes frame told parts) ≡ Ok (started b numbers starts) → ends ≡ ends_in told → limited w (done_imaged w f bytes frame told parts) ≡ Ok (finished w b numbers ends starts)
+imaged_lifted w b f bytes frame told (Err fault) numbers ends starts h e = cc
+imaged_lifted w b f bytes frame told (Ok parts) numbers ends starts h e = taken_lifted w b f bytes frame parts told numbers ends starts h e
 
-in_lifted : (w b : World) (f : ℕ) (bytes : List ℕ) (frame : Option Frame) (numbers : ℕ) (ends starts : List ℕ)
-    → limited (emptied w) (done_in (emptied w) f bytes frame) ≡ Ok (started b numbers starts) → ends ≡ ends_in (commit_done w.rec f) → limited w (done_in w f bytes frame) ≡ Ok (finished w b numbers ends starts)
-in_lifted w b f bytes None numbers ends starts h e = cc
-in_lifted w b f bytes (Some frame) numbers ends starts h e = imaged_lifted w b f bytes frame (image w.rec f) numbers ends starts h e
+in_lifted : (w b : World) (f : ℕ) (bytes : List ℕ) (told : Result Took ContainerFault) (frame : Option Frame) (numbers : ℕ) (ends starts : List ℕ)
+    → limited (emptied w) (done_in (emptied w) f bytes told frame) ≡ Ok (started b numbers starts) → ends ≡ ends_in told → limited w (done_in w f bytes told frame) ≡ Ok (finished w b numbers ends starts)
+in_lifted w b f bytes told None numbers ends starts h e = cc
+in_lifted w b f bytes told (Some frame) numbers ends starts h e = imaged_lifted w b f bytes frame told (image w.rec f) numbers ends starts h e
+
+only_lifted : (w b : World) (told : Result Took ContainerFault) (numbers : ℕ) (ends starts : List ℕ)
+    → limited (emptied w) (only_taken (emptied w) told) ≡ Ok (started b numbers starts) → ends ≡ ends_in told → limited w (only_taken w told) ≡ Ok (finished w b numbers ends starts)
+only_lifted w b (Err fault) numbers ends starts h e = cc
+only_lifted w b (Ok t) numbers ends starts h e = limit_lifted w b w t (nat_le MOST_EVENTS (length w.answers)) numbers ends starts refl refl h e
 
 -- what an event made of a world that takes it
 pub command_taken : (w b v : World) (c : Command) (numbers : ℕ) (ends starts : List ℕ) → nat_le MOST_EVENTS (length w.answers) ≡ false → commanded (emptied w) c (on_command w.rec c) ≡ started b numbers starts → ends ≡ ends_in (on_command w.rec c)
@@ -109,4 +114,12 @@ reap_taken w b m v inc life (Some z) numbers ends starts e is i l room h en em e
 
 pub done_taken_all : (w b v : World) (f : ℕ) (bytes : List ℕ) (numbers : ℕ) (ends starts : List ℕ) → limited (emptied w) (done (emptied w) f bytes) ≡ Ok (started b numbers starts) → ends ≡ ends_in (commit_done w.rec f)
     → v ≡ finished w b numbers ends starts → limited w (done w f bytes) ≡ Ok v
-done_taken_all w b v f bytes numbers ends starts h e is = in_lifted w b f bytes (nth w.rec.frames f) numbers ends starts h e ∙ ap Ok (sym is)
+done_taken_all w b v f bytes numbers ends starts h e is = in_lifted w b f bytes (commit_done w.rec f) (nth w.rec.frames f) numbers ends starts h e ∙ ap Ok (sym is)
+
+pub kept_taken_all : (w b v : World) (f : ℕ) (bytes : List ℕ) (numbers : ℕ) (ends starts : List ℕ) → limited (emptied w) (resolved (emptied w) f true bytes) ≡ Ok (started b numbers starts) → ends ≡ ends_in (resolve w.rec f true)
+    → v ≡ finished w b numbers ends starts → limited w (resolved w f true bytes) ≡ Ok v
+kept_taken_all w b v f bytes numbers ends starts h e is = in_lifted w b f bytes (resolve w.rec f true) (nth w.rec.frames f) numbers ends starts h e ∙ ap Ok (sym is)
+
+pub only_taken_all : (w b v : World) (told : Result Took ContainerFault) (numbers : ℕ) (ends starts : List ℕ) → limited (emptied w) (only_taken (emptied w) told) ≡ Ok (started b numbers starts) → ends ≡ ends_in told
+    → v ≡ finished w b numbers ends starts → limited w (only_taken w told) ≡ Ok v
+only_taken_all w b v told numbers ends starts h e is = only_lifted w b told numbers ends starts h e ∙ ap Ok (sym is)

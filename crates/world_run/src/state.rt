@@ -1,6 +1,6 @@
 //! What a world is made of, and the events that happen in it.
 
-ghost use Rattle.std.specs.Prelude.{◌≡◌, ◌≤◌, ◌<◌, ◌+◌, ◌++◌, [], List, ℕ, IfErr, IfSome, MatchOption, None, OnErr, OnOk, Ok, Err, Some, length, map, slice_get, take, vec_len, vec_capacity};
+ghost use Rattle.std.specs.Prelude.{◌≡◌, ◌≤◌, ◌<◌, ◌+◌, ◌++◌, [], List, ℕ, IfErr, IfSome, MatchOption, None, OnErr, OnOk, Ok, Err, Some, length, map, slice_get, take, vec_len, vec_capacity, true, false};
 ghost use Rattle.container_model.specs.Numbered.{IsNth};
 ghost use Rattle.wire_msgs.specs.Found.{nth, set_nth};
 ghost use Rattle.world_model.specs.declared.event.Event.{Event};
@@ -229,6 +229,54 @@ impl State {
         }
     }
 
+    // The commit of a frame's file fails.
+    fn fail(&mut self, alloc: Global, f: u32) -> Result<(), Stop>
+        ensures taken { OnOk result ((choice : Choice) × IsImage (seen (λ s. content s.boxed) self.old) choice (event.Fail f) × (step (seen (λ s. content s.boxed) self.old) choice (event.Fail f) ≡ Ok (seen (λ s. content s.boxed) self.new))) }
+        ensures refused { IfErr result (StopsAt (seen (λ s. content s.boxed) self.old) (event.Fail f)) }
+        ensures kept { OnErr result (seen (λ s. content s.boxed) self.new ≡ seen (λ s. content s.boxed) self.old) }
+    {
+        let room = self.instances.reserve(self.host.most()).is_ok();
+        match self.host.fail(alloc, f, room) {
+            Ok(servers) => {
+                self.finish(alloc, servers);
+                Ok(())
+            }
+            Err(stop) => Err(stop),
+        }
+    }
+
+    // A commit in doubt was kept.
+    fn keep(&mut self, alloc: Global, f: u32) -> Result<(), Stop>
+        ensures taken { OnOk result ((choice : Choice) × IsImage (seen (λ s. content s.boxed) self.old) choice (event.Resolve f true) × (step (seen (λ s. content s.boxed) self.old) choice (event.Resolve f true) ≡ Ok (seen (λ s. content s.boxed) self.new))) }
+        ensures refused { IfErr result (StopsAt (seen (λ s. content s.boxed) self.old) (event.Resolve f true)) }
+        ensures kept { OnErr result (seen (λ s. content s.boxed) self.new ≡ seen (λ s. content s.boxed) self.old) }
+    {
+        let room = self.instances.reserve(self.host.most()).is_ok();
+        match self.host.resolve_kept(alloc, f, room) {
+            Ok(servers) => {
+                self.finish(alloc, servers);
+                Ok(())
+            }
+            Err(stop) => Err(stop),
+        }
+    }
+
+    // A commit in doubt is lost.
+    fn lose(&mut self, alloc: Global, f: u32) -> Result<(), Stop>
+        ensures taken { OnOk result ((choice : Choice) × IsImage (seen (λ s. content s.boxed) self.old) choice (event.Resolve f false) × (step (seen (λ s. content s.boxed) self.old) choice (event.Resolve f false) ≡ Ok (seen (λ s. content s.boxed) self.new))) }
+        ensures refused { IfErr result (StopsAt (seen (λ s. content s.boxed) self.old) (event.Resolve f false)) }
+        ensures kept { OnErr result (seen (λ s. content s.boxed) self.new ≡ seen (λ s. content s.boxed) self.old) }
+    {
+        let room = self.instances.reserve(self.host.most()).is_ok();
+        match self.host.resolve_lost(alloc, f, room) {
+            Ok(servers) => {
+                self.finish(alloc, servers);
+                Ok(())
+            }
+            Err(stop) => Err(stop),
+        }
+    }
+
     // The state of an activation of the server that stands at i.
     pub(crate) fn view(&self, i: usize, act: u32) -> Option<View>
         requires { i < length self.now.instances.items }
@@ -256,6 +304,11 @@ impl State {
             Event::Crash(inc) => self.crash(alloc, *inc),
             Event::Reap(inc) => self.reap(alloc, *inc),
             Event::Done(f) => self.done(alloc, *f),
+            Event::Fail(f) => self.fail(alloc, *f),
+            Event::Resolve(f, is_kept) => match *is_kept {
+                true => self.keep(alloc, *f),
+                false => self.lose(alloc, *f),
+            },
             Event::Scribble(inc, act) => self.scribble(alloc, *inc, *act),
             Event::Ask(inc, act) => self.ask(alloc, *inc, *act),
         }

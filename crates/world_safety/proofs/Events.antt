@@ -1,25 +1,26 @@
 -- Each event leaves a world that agrees in agreement.
-use Rattle.std.proofs.Common.{◌≡◌, ℕ, zero, suc, ◌<◌, List, [], ◌∷◌, ◌++◌, map, Option, Some, None, Result, Ok, Err, refl, sym, ap, ◌∙◌, inl, inr, arith, subst, slice_get}
+use Rattle.std.proofs.Common.{◌≡◌, ℕ, zero, suc, ◌<◌, Bool, true, false, List, [], ◌∷◌, ◌++◌, map, Option, Some, None, Result, Ok, Err, refl, sym, ap, ◌∙◌, inl, inr, arith, subst, slice_get}
 use Rattle.std.proofs.lemmas.List.{append-nil}
 use Rattle.wire_msgs.specs.Found.{nth, set_nth}
 use Rattle.wire_msgs.specs.declared.message.Message.{Message}
 use Rattle.wire_msgs.specs.declared.message.Message.TheVariants.{Call, Reply, Write, Ask}
 use Rattle.container_model.specs.Record.{Took}
-use Rattle.container_model.specs.Saves.{image, image_at, parts_in, commit_done, commit_at, commit_made, done_entry}
+use Rattle.container_model.specs.Inputs.{Input}
+use Rattle.container_model.specs.Saves.{image, image_at, parts_in, commit_done, commit_failed, commit_made, done_entry, resolve}
 use Rattle.container_model.specs.Messages.{on_message, on_reap}
 use Rattle.container_model.specs.Commands.{on_command, kind_of}
 use Rattle.container_model.specs.declared.command.Command.{Command}
 use Rattle.container_model.specs.declared.command.Command.TheVariants as command
 use Rattle.container_model.specs.declared.record.Frame.{Frame}
-use Rattle.container_model.specs.declared.record.Phase.TheVariants.{Idle, Committing}
 use Rattle.container_model.specs.declared.answer.Part.{Part}
 use Rattle.container_model.specs.declared.answer.Done.{Done}
 use Rattle.container_model.specs.declared.fault.ContainerFault.{ContainerFault}
-use Rattle.container_steady.specs.Steady.{Steady}
+use Rattle.container_steady.specs.Steady.{IsUnsettled, Steady}
+use Rattle.container_steady.proofs.Settling.{IsCommitOf, done_commits, kept_commits, not_idle}
 use Rattle.container_steps.proofs.SteadyCommands.{on_command_keeps}
-use Rattle.container_steps.proofs.SteadyCommits.{committing_by, commit_done_keeps}
 use Rattle.container_steps.proofs.SteadyMessages.{on_message_keeps}
 use Rattle.container_steps.proofs.SteadyReaps.{on_reap_keeps}
+use Rattle.container_steps.proofs.SteadyRuns.{on_input_keeps}
 use Rattle.world_model.specs.declared.logs.Sent.{Sent}
 use Rattle.world_model.specs.declared.logs.Taken.{Taken}
 use Rattle.world_model.specs.declared.life.Life.{Life}
@@ -27,7 +28,7 @@ use Rattle.world_model.specs.declared.life.Life.TheVariants.{Running, Ended, Rea
 use Rattle.world_model.specs.declared.event.Event.{Event}
 use Rattle.world_model.specs.declared.event.Event.TheVariants as event
 use Rattle.world_model.specs.declared.event.Stop.{Stop}
-use Rattle.world_model.specs.World.{World, Instance, messages_of, of_container, started_by, ended_by, joined, took, commanded, owners_by, delivered, taken_at, with_taken, deliver, crashed, crash, ended, reap, kept_commit, done_taken, done_imaged, done_in, happened, Choice}
+use Rattle.world_model.specs.World.{World, Instance, messages_of, of_container, started_by, ended_by, joined, took, commanded, owners_by, delivered, taken_at, with_taken, deliver, crashed, crash, ended, reap, kept_commit, done_taken, done_imaged, done_in, only_taken, resolved, happened, Choice}
 use Rattle.world_model.specs.Safe.{Among, links_of, acts_of, messages}
 use Rattle.world_facts.specs.Words.{life_at, lives_of}
 use Rattle.world_facts.specs.Shapes.{IsTold}
@@ -35,11 +36,11 @@ use Rattle.world_facts.proofs.Lookups.{among_map}
 use Rattle.world_facts.proofs.Counting.{all_counted}
 use Rattle.world_files.specs.Files.{id_of, Files}
 use Rattle.world_files.proofs.Bounding.{parts_of_frame}
-use Rattle.world_files.proofs.Kept.{commit_is_at, image_is_at}
+use Rattle.world_files.proofs.Kept.{image_is_at}
 use Rattle.world_steps.proofs.Instances.{nth_same}
 use Rattle.world_steps.proofs.Asking.{new_asks, insert_asks, edit_asks, save_asks}
 use Rattle.world_grants.proofs.Ending.{reap_moves}
-use Rattle.world_grants.proofs.Taking.{command_moves, committed_moves, message_moves}
+use Rattle.world_grants.proofs.Taking.{command_moves, committed_moves, dropped_moves, failed_moves, message_moves}
 use Rattle.world_numbers.specs.Numbers.{ArePending}
 use Rattle.world_numbers.proofs.Pending.{asks_pending}
 use Rattle.world_steps.specs.Steps.{IsTurned}
@@ -50,6 +51,7 @@ use Rattle.world_steps.proofs.Replying.{reply_answers}
 use Rattle.world_steps.proofs.Taking.{write_asks}
 use Rattle.world_steps.proofs.Reaping.{reap_ends}
 use Rattle.world_steps.proofs.Committing.{commit_counts, commit_plain}
+use Rattle.world_steps.proofs.Dropping.{dropped_asks, failed_asks}
 use Rattle.world_safety.proofs.Honest.{all_honest}
 use Rattle.world_safety.specs.Holding.{Agrees, AgreesIn}
 use Rattle.world_safety.proofs.Joining.{plain_joined, asked_views, joined_grants, turned_joined, asks_turned, answered_joined, reaped_joined, run_joined, start_joined, stopped_agrees, kill_joined}
@@ -157,7 +159,7 @@ agrees_reap w inc None v h at e = cc
 agrees_reap w inc (Some i) v h at e = agrees_ended w inc i i.life v h at e
 
 -- commits
-module _ (w : World) (k : Files w) (h : AgreesIn w) (f : ℕ) (frame : Frame) (at : nth w.rec.frames f ≡ Some frame) (committing : frame.phase ≡ Committing) where
+module _ (w : World) (k : Files w) (h : AgreesIn w) (f : ℕ) (frame : Frame) (at : nth w.rec.frames f ≡ Some frame) (unsettled : IsUnsettled frame.phase) where
   abbrev made : Took
   made = commit_made w.rec f frame
 
@@ -169,44 +171,65 @@ module _ (w : World) (k : Files w) (h : AgreesIn w) (f : ℕ) (frame : Frame) (a
   apart d e p q eo ek =
       let z = parts_of_frame f frame.k w.rec.objects e q in
       let b = k.counted_bounded.below (id_of z.0) d frame (among_map id_of w.rec.objects z.0 z.1) p (eo ∙ z.3) (ap (nth w.rec.frames) z.2 ∙ at) in
-      let lt : d.k < frame.k = b.under (λ n. (let y : Committing ≡ Idle = sym committing ∙ n in cc)) in
+      let lt : d.k < frame.k = b.under (not_idle frame.phase unsettled) in
       absurd (omega arith)
 
   -- what is told of the commit is pending then
   pub commit_pending : ArePending (links_of made.rec.objects) (messages_of made.answer.actions)
   commit_pending = asks_pending (IsTold (links_of w.rec.objects) frame.k fresh) (links_of w.rec.objects) (links_of made.rec.objects) (messages_of made.answer.actions)
-      (commit_counts w.rec f frame h.steady at committing w.container_done apart).tells
+      (commit_counts w.rec f frame h.steady at unsettled w.container_done apart).tells
 
   pub commit_agrees : Steady (commit_made w.rec f frame).rec
       → Agrees w.hostile (commit_made w.rec f frame).rec (ended_by (commit_made w.rec f frame).answer.actions w.instances ++ started_by (commit_made w.rec f frame).rec.numbers (commit_made w.rec f frame).answer.actions)
       (w.sent ++ map of_container (messages_of (commit_made w.rec f frame).answer.actions)) w.owners (w.container_done ++ map (done_entry frame.k) (parts_in f w.rec.objects)) w.server_done
-  commit_agrees steady = (let counts = commit_counts w.rec f frame h.steady at committing w.container_done apart in plain_joined w made (w.container_done ++ fresh) h steady (commit_plain w.rec f frame h.steady at committing)
+  commit_agrees steady = (let counts = commit_counts w.rec f frame h.steady at unsettled w.container_done apart in plain_joined w made (w.container_done ++ fresh) h steady (commit_plain w.rec f frame h.steady at unsettled)
       (all_counted (links_of w.rec.objects) (links_of made.rec.objects) (acts_of w.instances) (lives_of w.instances) (messages w.sent) (messages_of made.answer.actions) w.owners w.rec.last_act w.container_done fresh w.server_done frame.k
       counts h.facts)
       (asked_views (IsTold (links_of w.rec.objects) frame.k fresh) w made h counts.tells)
       (joined_grants w made [] h (committed_moves w.rec f frame h.steady at) (λ x z. absurd z) (asks_followed (IsTold (links_of w.rec.objects) frame.k fresh) (links_of w.rec.objects) (links_of made.rec.objects) (messages_of made.answer.actions) counts.tells)))
 
+-- a step that keeps a record steady
+abbrev Keeps : Result Took ContainerFault → Type 0
+Keeps told = (t : Took) → told ≡ Ok t → Steady t.rec
+
 agrees_done_taken : (w : World) (f : ℕ) (bytes : List ℕ) (frame : Frame) (parts : List Part) (told : Result Took ContainerFault) (v : World) → Files w → AgreesIn w → nth w.rec.frames f ≡ Some frame
-    → image w.rec f ≡ Ok parts → commit_done w.rec f ≡ told → done_taken w f bytes frame parts told ≡ Ok v → AgreesIn v
-agrees_done_taken w f bytes frame parts (Err fault) v k h at im cd e = cc
-agrees_done_taken w f bytes frame parts (Ok t) v k h at im cd e =
+    → image w.rec f ≡ Ok parts → IsCommitOf w.rec f frame told → Keeps told → done_taken w f bytes frame parts told ≡ Ok v → AgreesIn v
+agrees_done_taken w f bytes frame parts (Err fault) v k h at im commits keeps e = cc
+agrees_done_taken w f bytes frame parts (Ok t) v k h at im commits keeps e =
     let r = w.rec in
-    let c = commit_is_at r f frame t (ap (commit_at r f) (sym at) ∙ cd) in
+    let c = commits t refl in
     let ps : parts_in f r.objects ≡ parts = image_is_at r f frame parts (ap (image_at r f) (sym at) ∙ im) in
     let made = commit_made r f frame in
-    let steady : Steady made.rec = subst (λ (x : Took). Steady x.rec) (sym c.1) (commit_done_keeps r f t h.steady cd) in
-    let one : AgreesIn (joined (kept_commit w f frame (parts_in f r.objects) made.counted bytes) made) = commit_agrees w k h f frame at (committing_by frame.phase c.0) steady in
+    let steady : Steady made.rec = subst (λ (x : Took). Steady x.rec) (sym c.1) (keeps t refl) in
+    let one : AgreesIn (joined (kept_commit w f frame (parts_in f r.objects) made.counted bytes) made) = commit_agrees w k h f frame at c.0 steady in
     let two : AgreesIn (joined (kept_commit w f frame parts made.counted bytes) made) = subst (λ x. AgreesIn (joined (kept_commit w f frame x made.counted bytes) made)) ps one in
     let three : AgreesIn (joined (kept_commit w f frame parts t.counted bytes) t) = subst (λ x. AgreesIn (joined (kept_commit w f frame parts x.counted bytes) x)) c.1 two in
     subst AgreesIn (ok_is _ v e) three
 
-agrees_imaged : (w : World) (f : ℕ) (bytes : List ℕ) (frame : Frame) (told : Result (List Part) ContainerFault) (v : World) → Files w → AgreesIn w → nth w.rec.frames f ≡ Some frame → image w.rec f ≡ told → done_imaged w f bytes frame told ≡ Ok v → AgreesIn v
-agrees_imaged w f bytes frame (Err fault) v k h at im e = cc
-agrees_imaged w f bytes frame (Ok parts) v k h at im e = agrees_done_taken w f bytes frame parts (commit_done w.rec f) v k h at im refl e
+agrees_imaged : (w : World) (f : ℕ) (bytes : List ℕ) (frame : Frame) (counted : Result Took ContainerFault) (told : Result (List Part) ContainerFault) (v : World) → Files w → AgreesIn w → nth w.rec.frames f ≡ Some frame → image w.rec f ≡ told
+    → IsCommitOf w.rec f frame counted → Keeps counted → done_imaged w f bytes frame counted told ≡ Ok v → AgreesIn v
+agrees_imaged w f bytes frame counted (Err fault) v k h at im commits keeps e = cc
+agrees_imaged w f bytes frame counted (Ok parts) v k h at im commits keeps e = agrees_done_taken w f bytes frame parts counted v k h at im commits keeps e
 
-agrees_done_in : (w : World) (f : ℕ) (bytes : List ℕ) (frame : Option Frame) (v : World) → Files w → AgreesIn w → nth w.rec.frames f ≡ frame → done_in w f bytes frame ≡ Ok v → AgreesIn v
-agrees_done_in w f bytes None v k h at e = cc
-agrees_done_in w f bytes (Some frame) v k h at e = agrees_imaged w f bytes frame (image w.rec f) v k h at refl e
+agrees_done_in : (w : World) (f : ℕ) (bytes : List ℕ) (counted : Result Took ContainerFault) (frame : Option Frame) (v : World) → Files w → AgreesIn w → nth w.rec.frames f ≡ frame
+    → ((x : Frame) → nth w.rec.frames f ≡ Some x → IsCommitOf w.rec f x counted) → Keeps counted → done_in w f bytes counted frame ≡ Ok v → AgreesIn v
+agrees_done_in w f bytes counted None v k h at commits keeps e = cc
+agrees_done_in w f bytes counted (Some frame) v k h at commits keeps e = agrees_imaged w f bytes frame counted (image w.rec f) v k h at refl (commits frame at) keeps e
+
+-- a commit that fails, and one in doubt that is resolved
+agrees_only : (w : World) (told : Result Took ContainerFault) (v : World) → ((t : Took) → told ≡ Ok t → AgreesIn (joined w t)) → only_taken w told ≡ Ok v → AgreesIn v
+agrees_only w (Err fault) v g e = cc
+agrees_only w (Ok t) v g e = subst AgreesIn (ok_is _ v e) (g t refl)
+
+agrees_failed : (w : World) (f : ℕ) (t : Took) → AgreesIn w → commit_failed w.rec f ≡ Ok t → AgreesIn (joined w t)
+agrees_failed w f t h e = turned_joined w t [] h (on_input_keeps w.rec (Input.Failed f) t h.steady e) (failed_moves w.rec f t h.steady e) (λ x z. absurd z) (asks_turned w.rec t (failed_asks w.rec f t e))
+
+agrees_dropped : (w : World) (f : ℕ) (t : Took) → AgreesIn w → resolve w.rec f false ≡ Ok t → AgreesIn (joined w t)
+agrees_dropped w f t h e = turned_joined w t [] h (on_input_keeps w.rec (Input.Resolved f false) t h.steady e) (dropped_moves w.rec f t h.steady e) (λ x z. absurd z) (asks_turned w.rec t (dropped_asks w.rec f t h.steady e))
+
+agrees_resolved : (w : World) (f : ℕ) (is_kept : Bool) (bytes : List ℕ) (v : World) → Files w → AgreesIn w → resolved w f is_kept bytes ≡ Ok v → AgreesIn v
+agrees_resolved w f true bytes v k h e = agrees_done_in w f bytes (resolve w.rec f true) (nth w.rec.frames f) v k h refl (λ x at. kept_commits w.rec f x at) (λ t q. on_input_keeps w.rec (Input.Resolved f true) t h.steady q) e
+agrees_resolved w f false bytes v k h e = agrees_only w (resolve w.rec f false) v (λ t q. agrees_dropped w f t h q) e
 
 pub agrees_happened : (w : World) (choice : Choice) (e : Event) (v : World) → Files w → AgreesIn w → happened w choice e ≡ Ok v → AgreesIn v
 agrees_happened w choice (event.Command c) v k h e = subst AgreesIn (ok_is _ v e) (agrees_commanded w c (on_command w.rec c) h refl)
@@ -215,4 +238,6 @@ agrees_happened w choice (event.Crash inc) v k h e = agrees_crash w inc (nth w.i
 agrees_happened w choice (event.Reap inc) v k h e = agrees_reap w inc (nth w.instances inc) v h refl e
 agrees_happened w choice (event.Scribble inc act) v k h e = agrees_scribble w inc act (nth w.instances inc) v h refl e
 agrees_happened w choice (event.Ask inc act) v k h e = agrees_ask w inc act (nth w.instances inc) v h refl e
-agrees_happened w choice (event.Done f) v k h e = agrees_done_in w f choice.file (nth w.rec.frames f) v k h refl e
+agrees_happened w choice (event.Done f) v k h e = agrees_done_in w f choice.file (commit_done w.rec f) (nth w.rec.frames f) v k h refl (λ x at. done_commits w.rec f x at) (λ t q. on_input_keeps w.rec (Input.Committed f) t h.steady q) e
+agrees_happened w choice (event.Fail f) v k h e = agrees_only w (commit_failed w.rec f) v (λ t q. agrees_failed w f t h q) e
+agrees_happened w choice (event.Resolve f is_kept) v k h e = agrees_resolved w f is_kept choice.file v k h e

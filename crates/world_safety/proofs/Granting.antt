@@ -16,7 +16,7 @@ use Rattle.server_model.specs.Server.{Served, Told, on_call, wanted}
 use Rattle.server_model.specs.Server as server
 use Rattle.server_model.specs.declared.fault.ServerFault.{ServerFault}
 use Rattle.container_model.specs.Record.{Record, Took, acts, counts_none, sends, is_alive, is_linked}
-use Rattle.container_model.specs.Saves.{image, commit_done}
+use Rattle.container_model.specs.Saves.{image, commit_done, commit_failed, resolve}
 use Rattle.container_model.specs.Messages.{awaits_save, is_held_by, relieved, ask_framed, ask_found, on_message, on_reap}
 use Rattle.container_model.specs.Commands.{on_command}
 use Rattle.container_model.specs.declared.answer.Part.{Part}
@@ -33,7 +33,7 @@ use Rattle.world_model.specs.declared.life.Life.{Life}
 use Rattle.world_model.specs.declared.life.Life.TheVariants.{Running, Ended, Reaped}
 use Rattle.world_model.specs.declared.logs.Sent.{Sent}
 use Rattle.world_model.specs.declared.logs.Taken.{Taken}
-use Rattle.world_model.specs.World.{World, Instance, messages_of, of_container, took, commanded, view_in, served, is_of, stocked, called_wanting, called_in, called, delivered, taken_link, taken_of, taken_by, taken_at, with_taken, deliver, spoken_by, spoken, scribble, ask, crashed, crash, ended, reap, done_taken, done_imaged, done_in, happened, Choice}
+use Rattle.world_model.specs.World.{World, Instance, messages_of, of_container, took, commanded, view_in, served, is_of, stocked, called_wanting, called_in, called, delivered, taken_link, taken_of, taken_by, taken_at, with_taken, deliver, spoken_by, spoken, scribble, ask, crashed, crash, ended, reap, done_taken, done_imaged, done_in, only_taken, resolved, happened, Choice}
 use Rattle.world_model.specs.Safe.{Among, WasSent, link_at, links_of, acts_of, messages, Brings, IsGranted, IsHonest}
 use Rattle.world_facts.specs.Words.{lives_of}
 use Rattle.world_facts.specs.Views.{IsSentOpen}
@@ -137,13 +137,21 @@ module _ (w : World) (f : ℕ) (bytes : List ℕ) where
   grew_done_taken frame parts (Err fault) v e = cc
   grew_done_taken frame parts (Ok t) v e = subst (Grew w) (ok_is _ v e) (record { more = map of_container (messages_of t.answer.actions); sent = refl; taken = refl; hostile = refl })
 
-  grew_imaged : (frame : Frame) (told : Result (List Part) ContainerFault) (v : World) → done_imaged w f bytes frame told ≡ Ok v → Grew w v
-  grew_imaged frame (Err fault) v e = cc
-  grew_imaged frame (Ok parts) v e = grew_done_taken frame parts (commit_done w.rec f) v e
+  grew_imaged : (frame : Frame) (counted : Result Took ContainerFault) (told : Result (List Part) ContainerFault) (v : World) → done_imaged w f bytes frame counted told ≡ Ok v → Grew w v
+  grew_imaged frame counted (Err fault) v e = cc
+  grew_imaged frame counted (Ok parts) v e = grew_done_taken frame parts counted v e
 
-  grew_done : (frame : Option Frame) (v : World) → done_in w f bytes frame ≡ Ok v → Grew w v
-  grew_done None v e = cc
-  grew_done (Some frame) v e = grew_imaged frame (image w.rec f) v e
+  grew_done : (counted : Result Took ContainerFault) (frame : Option Frame) (v : World) → done_in w f bytes counted frame ≡ Ok v → Grew w v
+  grew_done counted None v e = cc
+  grew_done counted (Some frame) v e = grew_imaged frame counted (image w.rec f) v e
+
+grew_only : (w : World) (told : Result Took ContainerFault) (v : World) → only_taken w told ≡ Ok v → Grew w v
+grew_only w (Err fault) v e = cc
+grew_only w (Ok t) v e = subst (Grew w) (ok_is _ v e) (record { more = map of_container (messages_of t.answer.actions); sent = refl; taken = refl; hostile = refl })
+
+grew_resolved : (w : World) (f : ℕ) (is_kept : Bool) (bytes : List ℕ) (v : World) → resolved w f is_kept bytes ≡ Ok v → Grew w v
+grew_resolved w f true bytes v e = grew_done w f bytes (resolve w.rec f true) (nth w.rec.frames f) v e
+grew_resolved w f false bytes v e = grew_only w (resolve w.rec f false) v e
 
 -- what was granted stays so
 sent_more : (w v : World) (more : List Sent) (m : Message) → v.sent ≡ w.sent ++ more → WasSent w m → WasSent v m
@@ -320,4 +328,6 @@ granted_happened w choice (event.Crash inc) v k h e = granted_grew w v (grew_cra
 granted_happened w choice (event.Reap inc) v k h e = granted_grew w v (grew_reap w inc (nth w.instances inc) v e) h
 granted_happened w choice (event.Scribble inc act) v k h e = granted_grew w v (grew_scribble w inc act (nth w.instances inc) v e) h
 granted_happened w choice (event.Ask inc act) v k h e = granted_grew w v (grew_ask w inc act (nth w.instances inc) v e) h
-granted_happened w choice (event.Done f) v k h e = granted_grew w v (grew_done w f choice.file (nth w.rec.frames f) v e) h
+granted_happened w choice (event.Done f) v k h e = granted_grew w v (grew_done w f choice.file (commit_done w.rec f) (nth w.rec.frames f) v e) h
+granted_happened w choice (event.Fail f) v k h e = granted_grew w v (grew_only w (commit_failed w.rec f) v e) h
+granted_happened w choice (event.Resolve f is_kept) v k h e = granted_grew w v (grew_resolved w f is_kept choice.file v e) h

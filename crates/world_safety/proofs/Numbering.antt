@@ -2,7 +2,7 @@
 use Rattle.std.proofs.Common.{◌≡◌, ◌≤◌, ◌+◌, ℕ, List, [], ◌∷◌, ◌++◌, length, Option, Some, None, Result, Ok, Err, refl, sym, ap, ◌∙◌, arith, subst}
 use Rattle.std.proofs.lemmas.List.{length-append}
 use Rattle.std.specs.List.{AllByRecursion}
-use Rattle.std.specs.Prelude.{false, nat_le}
+use Rattle.std.specs.Prelude.{Bool, true, false, nat_le}
 use Rattle.wire_msgs.specs.Found.{find, nth, set_nth}
 use Rattle.wire_msgs.specs.declared.message.Message.{Message}
 use Rattle.wire_msgs.specs.declared.message.Message.TheVariants.{Call, Reply, Write, Ask}
@@ -14,7 +14,7 @@ use Rattle.server_model.specs.Server as server
 use Rattle.server_model.specs.declared.fault.ServerFault.{ServerFault}
 use Rattle.container_model.specs.Record.{Took, MOST_SERVERS, count_alive, is_object}
 use Rattle.container_model.specs.Room.{HasRoom}
-use Rattle.container_model.specs.Saves.{image, commit_at, commit_done, commit_made}
+use Rattle.container_model.specs.Saves.{image, commit_done, commit_failed, commit_made, resolve}
 use Rattle.container_model.specs.Messages.{on_message, on_reap}
 use Rattle.container_model.specs.Commands.{kind_of, on_command, start, start_made}
 use Rattle.container_model.specs.declared.command.Command.{Command}
@@ -23,7 +23,7 @@ use Rattle.container_model.specs.declared.record.Frame.{Frame}
 use Rattle.container_model.specs.declared.answer.Part.{Part}
 use Rattle.container_model.specs.declared.fault.ContainerFault.{ContainerFault}
 use Rattle.container_model.specs.declared.fault.ContainerFault.TheVariants.{Full, NumbersSpent}
-use Rattle.container_steps.proofs.SteadyCommits.{committing_by}
+use Rattle.container_steady.proofs.Settling.{IsCommitOf, done_commits, kept_commits}
 use Rattle.container_steady.proofs.SteadyRecords.{unless_ok}
 use Rattle.container_numbers.specs.Sound.{IsNumbered}
 use Rattle.container_model.specs.Inputs.{Input}
@@ -36,12 +36,11 @@ use Rattle.world_model.specs.declared.life.Life.{Life}
 use Rattle.world_model.specs.declared.life.Life.TheVariants.{Running, Ended, Reaped}
 use Rattle.world_model.specs.declared.logs.Sent.{Sent}
 use Rattle.world_model.specs.declared.logs.Taken.{Taken}
-use Rattle.world_model.specs.World.{World, Instance, called, called_in, called_wanting, commanded, crash, crashed, deliver, delivered, done_imaged, done_in, done_taken, empty_world, ended, happened, is_of, joined, kept_commit, messages_of, reap, served, spoken, spoken_by, scribble, ask, started_by, stocked, taken_at, took, view_in, with_taken, Choice}
+use Rattle.world_model.specs.World.{World, Instance, called, called_in, called_wanting, commanded, crash, crashed, deliver, delivered, done_imaged, done_in, done_taken, empty_world, ended, happened, is_of, joined, kept_commit, messages_of, only_taken, reap, resolved, served, spoken, spoken_by, scribble, ask, started_by, stocked, taken_at, took, view_in, with_taken, Choice}
 use Rattle.world_model.specs.Safe.{Among, IsWithin, WasSent, acts_of, links_of, messages}
 use Rattle.world_facts.specs.Words.{called as was_called, life_at, lives_of}
 use Rattle.world_facts.proofs.Lookups.{among_map, find_among}
 use Rattle.world_files.specs.Files.{Files, id_of}
-use Rattle.world_files.proofs.Kept.{commit_is_at}
 use Rattle.world_numbers.specs.Numbers.{ArePending, Follow, IsPending, Numbers, RunsWithin}
 use Rattle.world_numbers.proofs.Asked.{call_within, saved_within}
 use Rattle.world_numbers.proofs.Joining.{IsTaken, fresh_within, hosted_within, joined_follows, sent_one, set_within}
@@ -52,6 +51,7 @@ use Rattle.world_steps.specs.Steps.{IsTurned}
 use Rattle.world_steps.proofs.Asking.{new_asks, insert_asks, edit_asks, save_asks}
 use Rattle.world_steps.proofs.Closing.{delete_asks, close_asks, kill_ends}
 use Rattle.world_steps.proofs.Committing.{commit_plain}
+use Rattle.world_steps.proofs.Dropping.{dropped_asks, failed_asks}
 use Rattle.world_steps.proofs.Instances.{nth_same}
 use Rattle.world_steps.proofs.Objects.{IsHeld, found_number, link_held}
 use Rattle.world_steps.proofs.Reaping.{reap_ends}
@@ -122,12 +122,17 @@ module _ (limit : ℕ) (w : World) (h : AgreesIn w) (k : Numbers limit w) where
       let m = reap_ends w.rec (acts_of is) (lives_of is) inc h.steady over t e in
       plain_taken limit t (numbers_after limit w.rec (Input.Reaped inc) t h.steady k.recorded e) (reaped_pending (links_of w.rec.objects) (links_of t.rec.objects) (acts_of is) (lives_of is) (messages_of t.answer.actions) m.0) m.1.starts
 
-  commit_taken : (f : ℕ) (frame : Frame) (t : Took) → Files w → nth w.rec.frames f ≡ Some frame → commit_done w.rec f ≡ Ok t → IsTaken limit t
-  commit_taken f frame t files at e =
-      let c = commit_is_at w.rec f frame t (ap (commit_at w.rec f) (sym at) ∙ e) in
-      let committing = committing_by frame.phase c.0 in
-      let new : IsNumbered limit (commit_made w.rec f frame).rec = subst (λ (v : Took). IsNumbered limit v.rec) (sym c.1) (numbers_after limit w.rec (Input.Committed f) t h.steady k.recorded e) in
-      subst (IsTaken limit) c.1 (plain_taken limit (commit_made w.rec f frame) new (commit_pending w files h f frame at committing) (commit_plain w.rec f frame h.steady at committing).starts)
+  commit_taken : (f : ℕ) (frame : Frame) (told : Result Took ContainerFault) (t : Took) → Files w → nth w.rec.frames f ≡ Some frame → IsCommitOf w.rec f frame told → IsNumbered limit t.rec → told ≡ Ok t → IsTaken limit t
+  commit_taken f frame told t files at commits numbered e =
+      let c = commits t e in
+      let new : IsNumbered limit (commit_made w.rec f frame).rec = subst (λ (v : Took). IsNumbered limit v.rec) (sym c.1) numbered in
+      subst (IsTaken limit) c.1 (plain_taken limit (commit_made w.rec f frame) new (commit_pending w files h f frame at c.0) (commit_plain w.rec f frame h.steady at c.0).starts)
+
+  failed_taken : (f : ℕ) (t : Took) → commit_failed w.rec f ≡ Ok t → IsTaken limit t
+  failed_taken f t e = turned_taken t (numbers_after limit w.rec (Input.Failed f) t h.steady k.recorded e) (asks_turned w.rec t (failed_asks w.rec f t e))
+
+  dropped_taken : (f : ℕ) (t : Took) → resolve w.rec f false ≡ Ok t → IsTaken limit t
+  dropped_taken f t e = turned_taken t (numbers_after limit w.rec (Input.Resolved f false) t h.steady k.recorded e) (asks_turned w.rec t (dropped_asks w.rec f t h.steady e))
 
 -- ---- what the world is then
 stays : (limit : ℕ) (w v : World) → v.rec ≡ w.rec → v.sent ≡ w.sent → v.instances ≡ w.instances → Numbers limit w → Numbers limit v
@@ -239,19 +244,27 @@ module _ (limit : ℕ) (w : World) (h : AgreesIn w) (k : Numbers limit w) where
 
   -- commits
   module _ (files : Files w) (f : ℕ) (bytes : List ℕ) where
-    committed_follows : (frame : Frame) (parts : List Part) (told : Result Took ContainerFault) (v : World) → nth w.rec.frames f ≡ Some frame → commit_done w.rec f ≡ told → done_taken w f bytes frame parts told ≡ Ok v → Follow limit v
-    committed_follows frame parts (Err fault) v at c e = cc
-    committed_follows frame parts (Ok t) v at c e =
+    committed_follows : (frame : Frame) (parts : List Part) (told : Result Took ContainerFault) (v : World) → nth w.rec.frames f ≡ Some frame → IsCommitOf w.rec f frame told → ((t : Took) → told ≡ Ok t → IsNumbered limit t.rec) → done_taken w f bytes frame parts told ≡ Ok v → Follow limit v
+    committed_follows frame parts (Err fault) v at commits numbered e = cc
+    committed_follows frame parts (Ok t) v at commits numbered e =
         let u : World = kept_commit w f frame parts t.counted bytes in
-        subst (Follow limit) (ok_is _ v e) (joined_follows limit u t (stays limit w u refl refl refl k) (commit_taken limit w h k f frame t files at c))
+        subst (Follow limit) (ok_is _ v e) (joined_follows limit u t (stays limit w u refl refl refl k) (commit_taken limit w h k f frame (Ok t) t files at commits (numbered t refl) refl))
 
-    imaged_follows : (frame : Frame) (told : Result (List Part) ContainerFault) (v : World) → nth w.rec.frames f ≡ Some frame → done_imaged w f bytes frame told ≡ Ok v → Follow limit v
-    imaged_follows frame (Err fault) v at e = cc
-    imaged_follows frame (Ok parts) v at e = committed_follows frame parts (commit_done w.rec f) v at refl e
+    imaged_follows : (frame : Frame) (counted : Result Took ContainerFault) (told : Result (List Part) ContainerFault) (v : World) → nth w.rec.frames f ≡ Some frame → IsCommitOf w.rec f frame counted → ((t : Took) → counted ≡ Ok t → IsNumbered limit t.rec) → done_imaged w f bytes frame counted told ≡ Ok v → Follow limit v
+    imaged_follows frame counted (Err fault) v at commits numbered e = cc
+    imaged_follows frame counted (Ok parts) v at commits numbered e = committed_follows frame parts counted v at commits numbered e
 
-    done_follows : (frame : Option Frame) (v : World) → nth w.rec.frames f ≡ frame → done_in w f bytes frame ≡ Ok v → Follow limit v
-    done_follows None v at e = cc
-    done_follows (Some frame) v at e = imaged_follows frame (image w.rec f) v at e
+    done_follows : (counted : Result Took ContainerFault) (frame : Option Frame) (v : World) → nth w.rec.frames f ≡ frame → ((x : Frame) → nth w.rec.frames f ≡ Some x → IsCommitOf w.rec f x counted) → ((t : Took) → counted ≡ Ok t → IsNumbered limit t.rec) → done_in w f bytes counted frame ≡ Ok v → Follow limit v
+    done_follows counted None v at commits numbered e = cc
+    done_follows counted (Some frame) v at commits numbered e = imaged_follows frame counted (image w.rec f) v at (commits frame at) numbered e
+
+  only_follows : (told : Result Took ContainerFault) (v : World) → ((t : Took) → told ≡ Ok t → IsTaken limit t) → only_taken w told ≡ Ok v → Follow limit v
+  only_follows (Err fault) v g e = cc
+  only_follows (Ok t) v g e = subst (Follow limit) (ok_is _ v e) (joined_follows limit w t k (g t refl))
+
+  resolved_follows : (files : Files w) (f : ℕ) (is_kept : Bool) (bytes : List ℕ) (v : World) → resolved w f is_kept bytes ≡ Ok v → Follow limit v
+  resolved_follows files f true bytes v e = done_follows files f bytes (resolve w.rec f true) (nth w.rec.frames f) v refl (λ x at. kept_commits w.rec f x at) (λ t q. numbers_after limit w.rec (Input.Resolved f true) t h.steady k.recorded q) e
+  resolved_follows files f false bytes v e = only_follows (resolve w.rec f false) v (λ t q. dropped_taken limit w h k f t q) e
 
   follows : (choice : Choice) (e : Event) (v : World) → Files w → happened w choice e ≡ Ok v → Follow limit v
   follows choice (event.Command c) v files e = subst (Follow limit) (ok_is _ v e) (commanded_follows c (on_command w.rec c) refl)
@@ -260,7 +273,9 @@ module _ (limit : ℕ) (w : World) (h : AgreesIn w) (k : Numbers limit w) where
   follows choice (event.Reap inc) v files e = reap_follows inc (nth w.instances inc) v refl e
   follows choice (event.Scribble inc act) v files e = scribble_follows inc act (nth w.instances inc) v refl e
   follows choice (event.Ask inc act) v files e = ask_follows inc act (nth w.instances inc) v refl e
-  follows choice (event.Done f) v files e = done_follows files f choice.file (nth w.rec.frames f) v refl e
+  follows choice (event.Done f) v files e = done_follows files f choice.file (commit_done w.rec f) (nth w.rec.frames f) v refl (λ x at. done_commits w.rec f x at) (λ t q. numbers_after limit w.rec (Input.Committed f) t h.steady k.recorded q) e
+  follows choice (event.Fail f) v files e = only_follows (commit_failed w.rec f) v (λ t q. failed_taken limit w h k f t q) e
+  follows choice (event.Resolve f is_kept) v files e = resolved_follows files f is_kept choice.file v e
 
 -- ---- what is sent of pending calls
 module _ (limit : ℕ) (w : World) (h : AgreesIn w) (files : Files w) (numbers : IsNumbered limit w.rec) (m : Message) (p : IsPending (links_of w.rec.objects) m) (sent : WasSent w m) where
