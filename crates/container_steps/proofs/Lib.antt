@@ -19,6 +19,7 @@ pub mod SavesMade
 pub mod InsertsMade
 pub mod Missing
 pub mod CommandsRun
+pub mod CommitsDone
 pub mod WritesMade
 pub mod StepsKeep
 pub mod ImagesMade
