@@ -10,6 +10,7 @@ mod failures;
 pub mod file_disk;
 mod find;
 mod found;
+mod held;
 pub mod memory_disk;
 pub mod refused;
 mod runs;
