@@ -1,3 +1,4 @@
+mod Again
 mod Carried
 mod Closed
 mod Committed

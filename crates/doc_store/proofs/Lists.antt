@@ -43,3 +43,13 @@ pub three_put : (first second third fourth a b c : List ℕ) (at k : ℕ) → ta
 three_put first second third fourth a b c at k one two three is =
     ap (λ (n : ℕ). take n fourth) is ∙ three ∙ ap (λ (l : List ℕ). l ++ c) (two ∙ ap (λ (l : List ℕ). l ++ b) one)
     ∙ append_assoc (take at first ++ a) b c ∙ append_assoc (take at first) a (b ++ c)
+
+-- one part more that two lists share
+pub shared_more : (held told part : List ℕ) (done many : ℕ) → part ≡ take many (drop done told) → length part ≡ many → take done held ≡ take done told → take (length part) (drop done held) ≡ part
+    → take (done + many) held ≡ take (done + many) told
+shared_more held told part done many is long so_far here =
+    take_next held done many
+    ∙ ap (λ (l : List ℕ). l ++ take many (drop done held)) so_far
+    ∙ ap (λ (n : ℕ). take done told ++ take n (drop done held)) (sym long)
+    ∙ ap (λ (l : List ℕ). take done told ++ l) (here ∙ is)
+    ∙ sym (take_next told done many)

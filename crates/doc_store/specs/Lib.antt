@@ -3,4 +3,5 @@ pub mod Calls
 pub mod Files
 pub mod Memory
 pub mod Opened
+pub mod Resolved
 pub mod Steps

@@ -24,6 +24,7 @@ pub(crate) fn recover<D: Disk>(disk: &mut D) -> Result<(), StoreFault>
     ensures stays { D.follows_model → StaysIn D.may_leave D.moment D.left_since disk.old disk.new (StandsAsOneOf (D.may_leave disk.old)) }
     ensures refuses { IfErr result (OpenRefuses D.follows_model (D.reads disk.old) (D.failed disk.old) (D.failed disk.new)) }
     ensures kept { D.follows_model → IfErr result (UnlessDevice (D.reads disk.new ≡ D.reads disk.old)) }
+    ensures count { OnOk result (D.failed disk.new ≡ D.failed disk.old) }
 {
     settle(disk)?;
     let found = find(disk)?;

@@ -3,6 +3,7 @@
 ghost use Rattle.store_model.specs.Store.{Rests};
 ghost use Rattle.std.specs.Prelude.{◌≡◌, false};
 
+use crate::held::holds_document;
 use crate::refused::Refused;
 use crate::runs::{recover, replace};
 use crate::steps::read_document;
@@ -29,8 +30,9 @@ impl<D: Disk> Store<D> {
     ghost use Rattle.store_model.specs.Image.{Image};
     ghost use Rattle.store_model.specs.Journal.{restored};
     ghost use Rattle.doc_store.specs.Opened.{disk_of, needs_reopen_of};
-    ghost use Rattle.store_model.specs.Store.{CommitRefuses, CurrentRefuses, IsBeforeOrAfter, OpenRefuses, StandsAsOneOf, StandsFor, UnlessDevice};
-    ghost use Rattle.std.specs.Prelude.{◌↔◌, ◌≤◌, true, IfErr, IfOk, IsTrue, OnErr, OnOk, length};
+    ghost use Rattle.doc_store.specs.Resolved.{IsEither, LeavesEither};
+    ghost use Rattle.store_model.specs.Store.{CommitRefuses, CurrentRefuses, HoldsRefuses, IsBeforeOrAfter, OpenRefuses, StandsAsOneOf, StandsFor, UnlessDevice};
+    ghost use Rattle.std.specs.Prelude.{◌↔◌, ◌≤◌, true, IfErr, IfOk, IsTrue, OnErr, OnOk, length, List, ℕ};
 
     /// Opens the store on a disk that a crash may have left, with writes pending too. Its document is that of an open
     /// journal, which is then written and the journal closed, else the document area's.
@@ -47,6 +49,7 @@ impl<D: Disk> Store<D> {
         ensures any_moment_refused { D.follows_model → IfErr result (λ refused. StaysIn D.may_leave D.moment D.left_since disk refused.disk (StandsAsOneOf (D.may_leave disk))) }
         ensures refuses { IfErr result (λ refused. OpenRefuses D.follows_model (D.reads disk) (D.failed disk) (D.failed refused.disk) refused.fault) }
         ensures kept { D.follows_model → IfErr result (λ refused. UnlessDevice (D.reads refused.disk ≡ D.reads disk) refused.fault) }
+        ensures count { IfOk result (λ store. D.failed (disk_of store) ≡ D.failed disk) }
     {
         let mut disk = disk;
         match recover(&mut disk) {
@@ -56,6 +59,24 @@ impl<D: Disk> Store<D> {
                 needs_reopen: false,
             }),
             Err(fault) => Err(Refused { fault, disk }),
+        }
+    }
+
+    /// The store, opened again.
+    pub(crate) fn reopen(self) -> Result<Store<D>, Refused<D>>
+        ensures either { D.follows_model → (old new : List ℕ) → LeavesEither D.may_leave (disk_of self) old new
+            → IfOk result (λ store. IsEither old new (D.reads (disk_of store)).document) }
+        ensures any_moment { D.follows_model → (old new : List ℕ) → LeavesEither D.may_leave (disk_of self) old new
+            → IfOk result (λ store. StaysIn D.may_leave D.moment D.left_since (disk_of self) (disk_of store) (IsBeforeOrAfter old new)) }
+        ensures any_moment_refused { D.follows_model → (old new : List ℕ) → LeavesEither D.may_leave (disk_of self) old new
+            → IfErr result (λ refused. StaysIn D.may_leave D.moment D.left_since (disk_of self) refused.disk (IsBeforeOrAfter old new)) }
+        ensures ready { IfOk result (λ store. needs_reopen_of store ≡ false) }
+        ensures count { IfOk result (λ store. D.failed (disk_of store) ≡ D.failed (disk_of self)) }
+        ensures refuses { IfErr result (λ refused. OpenRefuses D.follows_model (D.reads (disk_of self)) (D.failed (disk_of self)) (D.failed refused.disk) refused.fault) }
+    {
+        match Store::open(self.alloc, self.disk) {
+            Ok(store) => Ok(store),
+            Err(refused) => Err(refused),
         }
     }
 
@@ -91,6 +112,32 @@ impl<D: Disk> Store<D> {
         read
     }
 
+    /// Whether the document is these bytes. They are compared a piece at a time, and no memory is taken.
+    ///
+    /// `Device` where a call of the disk failed: from then on the store has to be opened again, which gives the same
+    /// document, and answers `NeedsReopen`.
+    pub fn holds(&mut self, bytes: &[u8]) -> Result<bool, StoreFault>
+        ensures holds { D.follows_model → IfOk result (λ is. IsTrue is ↔ (D.reads (disk_of self.old)).document ≡ bytes.now) }
+        ensures same { D.follows_model → OnOk result (D.reads (disk_of self.new) ≡ D.reads (disk_of self.old)) }
+        ensures any_moment { D.follows_model → needs_reopen_of self.old ≡ false
+            → StaysIn D.may_leave D.moment D.left_since (disk_of self.old) (disk_of self.new) (StandsFor (D.reads (disk_of self.old)).document) }
+        ensures ready { OnOk result ((needs_reopen_of self.old ≡ false) × (needs_reopen_of self.new ≡ false)) }
+        ensures count { OnOk result (D.failed (disk_of self.new) ≡ D.failed (disk_of self.old)) }
+        ensures refuses { IfErr result (HoldsRefuses (needs_reopen_of self.old) (needs_reopen_of self.new) (D.failed (disk_of self.old)) (D.failed (disk_of self.new))) }
+        ensures untouched { needs_reopen_of self.old ≡ true → self.new ≡ self.old }
+    {
+        if self.needs_reopen {
+            return Err(StoreFault::NeedsReopen);
+        }
+        match holds_document(&mut self.disk, bytes) {
+            Ok(is) => Ok(is),
+            Err(_) => {
+                self.needs_reopen = true;
+                Err(StoreFault::Device)
+            }
+        }
+    }
+
     /// Makes these bytes the document. A crash at any moment of the call leaves the document from before it or this
     /// one, and once it has answered `Ok`, this one. The journal is left closed, with the blocks that differed.
     ///
@@ -108,6 +155,7 @@ impl<D: Disk> Store<D> {
         ensures ready { OnOk result ((needs_reopen_of self.old ≡ false) × (length bytes.now ≤ MAX_DOCUMENT) × (needs_reopen_of self.new ≡ false)) }
         ensures refuses { IfErr result (CommitRefuses (length bytes.now) (needs_reopen_of self.old) (needs_reopen_of self.new) (D.failed (disk_of self.old)) (D.failed (disk_of self.new))) }
         ensures untouched { IfErr result (UnlessDevice (self.new ≡ self.old)) }
+        ensures later { D.failed (disk_of self.old) ≤ D.failed (disk_of self.new) }
     {
         if self.needs_reopen {
             return Err(StoreFault::NeedsReopen);

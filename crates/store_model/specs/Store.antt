@@ -47,6 +47,14 @@ CurrentRefuses was now before after TooBig = ⊥
 CurrentRefuses was now before after Damaged = ⊥
 CurrentRefuses was now before after NoMemory = (was ≡ false) × (now ≡ false)
 
+-- When `holds` refuses with each fault.
+abbrev pub HoldsRefuses : Bool → Bool → ℕ → ℕ → StoreFault → Type 0
+HoldsRefuses was now before after Device = (was ≡ false) × (now ≡ true) × Rose before after
+HoldsRefuses was now before after NeedsReopen = was ≡ true
+HoldsRefuses was now before after TooBig = ⊥
+HoldsRefuses was now before after Damaged = ⊥
+HoldsRefuses was now before after NoMemory = ⊥
+
 -- When the document isn't read, with each fault.
 abbrev pub ReadRefuses : ℕ → ℕ → StoreFault → Type 0
 ReadRefuses before after Device = Rose before after

@@ -1,0 +1,29 @@
+-- A disk that is opened again after a commit that failed.
+use Rattle.std.proofs.Common.{inl, inr, ⊎_elim, ℕ, List, Some, Result, Ok, Err, IfOk, IfErr, ◌∙◌, ap}
+use Rattle.store_model.specs.Image.{Image}
+use Rattle.store_model.specs.Store.{IsBeforeOrAfter, StandsFor}
+use Rattle.doc_store.specs.Resolved.{Ends, IsEither, IsTold}
+use Rattle.doc_store.specs.declared.outcome.Outcome.{Outcome}
+use Rattle.doc_store.specs.declared.outcome.Outcome.TheVariants.{Kept, Lost}
+
+-- what stands for one of two documents, of which one is known
+pub for_either : (old new document : List ℕ) → IsEither old new document → (c : Image) → StandsFor document c → IsBeforeOrAfter old new c
+for_either old new document is c stands = ⊎_elim (λ was. inl (stands ∙ ap (λ (d : List ℕ). Some d) was)) (λ now. inr (stands ∙ ap (λ (d : List ℕ). Some d) now)) is
+
+-- what is not the new document is the old one
+pub ends : (outcome : Outcome) (old bytes document : List ℕ) → IsEither old bytes document → IsTold outcome bytes document → Ends outcome old bytes document
+ends Kept old bytes document is tells = tells
+ends (Lost fault) old bytes document is tells = (tells, ⊎_elim (λ was. was) (λ now. absurd (tells now)) is)
+
+-- what follows for an answer of any kind
+pub both_ok : {T E : Type 0} (r : Result T E) (P Q R : T → Type 0) → ((x : T) → P x → Q x → R x) → IfOk r P → IfOk r Q → IfOk r R
+both_ok (Ok x) P Q R then first second = then x first second
+both_ok (Err e) P Q R then first second = tt
+
+pub ok_then : {T E : Type 0} (r : Result T E) (P Q : T → Type 0) → ((x : T) → P x → Q x) → IfOk r P → IfOk r Q
+ok_then (Ok x) P Q then has = then x has
+ok_then (Err e) P Q then has = tt
+
+pub err_then : {T E : Type 0} (r : Result T E) (P Q : E → Type 0) → ((e : E) → P e → Q e) → IfErr r P → IfErr r Q
+err_then (Ok x) P Q then has = tt
+err_then (Err e) P Q then has = then e has
