@@ -40,10 +40,7 @@ impl FileDisk {
     /// document's bytes. A link or a folder of either name isn't opened.
     ///
     /// Refused as the system refuses to make or open one of them, and for want of memory for their names.
-    pub fn open<R: Files<File = File> + AllocGlobal>(
-        rt: &R,
-        name: &str,
-    ) -> io::Result<FileDisk>
+    pub fn open<R: Files<File = File> + AllocGlobal>(rt: &R, name: &str) -> io::Result<FileDisk>
         ensures failed { IfOk result (λ disk. failures_of disk ≡ 0) }
     {
         let journal_name = format!(in rt.alloc(); "{name}.journal")?;
@@ -83,11 +80,7 @@ impl FileDisk {
 }
 
 /// The file of this name, and whether this call made it, with this mode then.
-fn open_or_make<R: Files<File = File>>(
-    rt: &R,
-    name: &str,
-    mode: u32,
-) -> io::Result<(File, bool)> {
+fn open_or_make<R: Files<File = File>>(rt: &R, name: &str, mode: u32) -> io::Result<(File, bool)> {
     match OpenOptions::new()
         .read(true)
         .write(true)

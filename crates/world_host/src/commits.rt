@@ -118,7 +118,12 @@ impl Host {
     }
 
     // What a commit of the frame counts: the contents of its document, under the number of its save. That number, too.
-    pub(crate) fn counted(&self, alloc: Global, f: u32, parts: &[Part]) -> Result<(u32, Vec<Done>), AllocError>
+    pub(crate) fn counted(
+        &self,
+        alloc: Global,
+        f: u32,
+        parts: &[Part],
+    ) -> Result<(u32, Vec<Done>), AllocError>
         requires { image self.now.core f ≡ Ok parts.now }
         ensures number { IfOk result (λ c. IfSome (nth self.now.core.frames f) (λ frame. c.0 ≡ frame.k)) }
         ensures counted { IfOk result (λ c. c.1.items ≡ counted_of self.now.core f) }

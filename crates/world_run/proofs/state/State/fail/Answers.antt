@@ -13,8 +13,7 @@ returns-in-Ok-clause-taken g c =
     let b = bare c.fail.new.self in
     let numbers = c.fail.new.self.core.numbers in
     let ends = c.in-Ok.servers.ends.items in
-    let starts = c.in-Ok.servers.starts.items in
-    (
+    let starts = c.in-Ok.servers.starts.items in (
       no_choice,
       tt,
       only_taken_all (seen (λ s. (goal.Embedded-dyn g (s.boxed.vtable, s.boxed.value)).content s.boxed.value) c.args.self.now) b _ (commit_failed (seen (λ s. (goal.Embedded-dyn g (s.boxed.vtable, s.boxed.value)).content s.boxed.value) c.args.self.now).rec c.args.f) numbers ends starts c.in-Ok.ensures.taken c.in-Ok.ensures.ends

@@ -26,4 +26,3 @@ returns-in-Scribble-clause-taken g c = chosen (seen (λ s. (goal.Embedded-dyn g 
 
 pub returns-in-Ask-clause-taken : goal.returns-in-Ask-clause-taken
 returns-in-Ask-clause-taken g c = chosen (seen (λ s. (goal.Embedded-dyn g (s.boxed.vtable, s.boxed.value)).content s.boxed.value) c.args.self.now) (seen (λ s. (goal.Embedded-dyn g (s.boxed.vtable, s.boxed.value)).content s.boxed.value) c.ask.new.self) _ _ c.ask.result c.in-Ask.is tt c.ask.ensures.taken
-
