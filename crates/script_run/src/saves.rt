@@ -6,20 +6,13 @@ use container_core::container::ContainerCore;
 use container_model::answer::{Action, Answer};
 use container_model::fault::ContainerFault;
 use container_model::record::Frame;
+use doc_store::outcome::Outcome;
+use doc_store::resolved::commit_resolved;
 use doc_store::store::Store;
 use script_model::answer::Told;
 use script_model::host::Host;
 use std::alloc::{AllocError, Global};
 use store_model::fault::StoreFault;
-
-/// What became of a commit.
-#[derive(Clone, Copy, PartialEq, Eq)]
-enum Outcome {
-    /// The file is the new one.
-    Kept,
-    /// The file is the one from before, for this fault.
-    Lost(StoreFault),
-}
 
 /// The first of what was noticed.
 pub(crate) fn first_of(before: Option<Told>, next: Option<Told>) -> Option<Told> {
@@ -38,44 +31,39 @@ fn open<H: Host>(alloc: Global, host: &mut H, name: &[u8]) -> Result<Store<H::Di
     }
 }
 
+/// Makes these bytes the document of a store. After an error it is opened again, and tells by its document what became of them.
+fn replace<H: Host>(store: Store<H::Disk>, bytes: &[u8]) -> Result<Outcome, StoreFault> {
+    match commit_resolved(store, bytes) {
+        Ok((outcome, _)) => Ok(outcome),
+        Err(refused) => Err(refused.fault),
+    }
+}
+
+/// What became of bytes that were to be the document of a store, where it couldn't be opened at first.
+fn compare<H: Host>(
+    mut store: Store<H::Disk>,
+    bytes: &[u8],
+    fault: StoreFault,
+) -> Result<Outcome, StoreFault> {
+    if store.holds(bytes)? {
+        Ok(Outcome::Kept)
+    } else {
+        Ok(Outcome::Lost(fault))
+    }
+}
+
 /// Makes these bytes the file.
-fn write<H: Host>(
-    alloc: Global,
-    host: &mut H,
-    name: &[u8],
-    bytes: &[u8],
-) -> Result<(), StoreFault> {
-    let mut store = open(alloc, host, name)?;
-    store.commit(bytes)
-}
-
-/// Whether the file, its store being opened anew, is these bytes.
-fn holds<H: Host>(
-    alloc: Global,
-    host: &mut H,
-    name: &[u8],
-    bytes: &[u8],
-) -> Result<bool, StoreFault> {
-    let mut store = open(alloc, host, name)?;
-    let file = store.current()?;
-    Ok(file.as_slice() == bytes)
-}
-
-/// Makes these bytes the file. After an error what the file then is tells whether they were kept.
+///
+/// Refused: where its store can't be opened, also when that is tried again, so that it isn't known what the file is.
 fn commit<H: Host>(
     alloc: Global,
     host: &mut H,
     name: &[u8],
     bytes: &[u8],
 ) -> Result<Outcome, StoreFault> {
-    let fault = match write(alloc, host, name, bytes) {
-        Ok(()) => return Ok(Outcome::Kept),
-        Err(fault) => fault,
-    };
-    if holds(alloc, host, name, bytes)? {
-        Ok(Outcome::Kept)
-    } else {
-        Ok(Outcome::Lost(fault))
+    match open(alloc, host, name) {
+        Ok(store) => replace::<H>(store, bytes),
+        Err(fault) => compare::<H>(open(alloc, host, name)?, bytes, fault),
     }
 }
 
