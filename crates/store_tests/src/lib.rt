@@ -10,4 +10,6 @@ mod files;
 #[cfg(test)]
 mod images;
 #[cfg(test)]
+mod resolving;
+#[cfg(test)]
 mod runs;
