@@ -28,7 +28,10 @@ pub struct FileDisk {
     document: File,
     journal: File,
     folder: File,
+    /// Whether the folder may hold a name that isn't synced.
     folder_changed: bool,
+    /// Whether a sync failed. What it was to write may be lost then, though reads still give it and a later sync succeeds.
+    sync_failed: bool,
     failed: u64,
 }
 
@@ -44,7 +47,7 @@ impl FileDisk {
         ensures failed { IfOk result (λ disk. failures_of disk ≡ 0) }
     {
         let journal_name = format!(in rt.alloc(); "{name}.journal")?;
-        let (document, document_made) = open_or_make(rt, name, NEW_MODE)?;
+        let (document, _) = open_or_make(rt, name, NEW_MODE)?;
         let (journal, journal_made) = open_or_make(rt, journal_name.as_str(), OWNER_MODE)?;
         if journal_made {
             journal.set_permissions(document.metadata()?.permissions())?;
@@ -54,7 +57,8 @@ impl FileDisk {
             document,
             journal,
             folder,
-            folder_changed: document_made || journal_made,
+            folder_changed: true,
+            sync_failed: false,
             failed: 0,
         })
     }
@@ -67,7 +71,7 @@ impl FileDisk {
         }
     }
 
-    /// Syncs the folder where a file was made in it.
+    /// Syncs the folder once: who made the files may have ended before it did.
     fn sync_folder(&mut self) -> io::Result<()>
         ensures { self.new.failed ≡ self.old.failed }
     {
@@ -76,6 +80,17 @@ impl FileDisk {
             self.folder_changed = false;
         }
         Ok(())
+    }
+
+    /// Syncs the file of an area. After a sync that failed each one fails.
+    fn sync_area(&mut self, area: Area) -> io::Result<()>
+        ensures { self.new.failed ≡ self.old.failed }
+    {
+        if self.sync_failed {
+            return Err(io::ErrorKind::Other.into());
+        }
+        self.file(area).sync_all()?;
+        self.sync_folder()
     }
 }
 
@@ -187,9 +202,10 @@ impl Disk for FileDisk {
     }
 
     fn sync(&mut self, area: Area) -> Result<(), DiskFailure> {
-        let synced = self.file(area).sync_all();
-        counted(&mut self.failed, synced)?;
-        let outcome = self.sync_folder();
+        let outcome = self.sync_area(area);
+        if outcome.is_err() {
+            self.sync_failed = true;
+        }
         counted(&mut self.failed, outcome)
     }
 }
