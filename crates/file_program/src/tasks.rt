@@ -1,5 +1,7 @@
 //! What a command line over files asks for.
 
+use crate::command_lines::{EXTRACT, FOLDER, FORCE};
+use crate::extracting::extract;
 use crate::running::{clean, get, list, make};
 use clap::ArgMatches;
 use program_ends::command_lines::{CLEAN, FILE, GET, LIST, MAKE, OUT, PATH};
@@ -17,6 +19,8 @@ pub enum Task<'a> {
     Get(&'a str, &'a str),
     /// The tree of the file of one path, written to that of another.
     Clean(&'a str, &'a str),
+    /// A folder of one path, made of the file of another; whether files that stand there are replaced.
+    Extract(&'a str, &'a str, bool),
 }
 
 impl<'a> Task<'a> {
@@ -31,7 +35,10 @@ impl<'a> Task<'a> {
         if let Some(got) = matches.subcommand_matches(GET) {
             return getting(got);
         }
-        cleaning(matches.subcommand_matches(CLEAN)?)
+        if let Some(cleaned) = matches.subcommand_matches(CLEAN) {
+            return cleaning(cleaned);
+        }
+        extracting(matches.subcommand_matches(EXTRACT)?)
     }
 
     /// Does what is asked for, and gives the status to end with.
@@ -41,6 +48,7 @@ impl<'a> Task<'a> {
             Task::List(path) => list(rt, path),
             Task::Get(path, word) => get(rt, path, word),
             Task::Clean(path, out) => clean(rt, path, out),
+            Task::Extract(path, folder, is_forced) => extract(rt, path, folder, is_forced),
         }
     }
 }
@@ -59,4 +67,12 @@ fn getting<'a>(got: &ArgMatches<'a>) -> Option<Task<'a>> {
 
 fn cleaning<'a>(cleaned: &ArgMatches<'a>) -> Option<Task<'a>> {
     Some(Task::Clean(cleaned.get_str(FILE)?, cleaned.get_str(OUT)?))
+}
+
+fn extracting<'a>(extracted: &ArgMatches<'a>) -> Option<Task<'a>> {
+    Some(Task::Extract(
+        extracted.get_str(FILE)?,
+        extracted.get_str(FOLDER)?,
+        extracted.get_flag(FORCE),
+    ))
 }
