@@ -9,4 +9,5 @@ pub mod Room
 pub mod Replies
 pub mod Numbered
 pub mod Located
+pub mod Opens
 pub mod Inputs
