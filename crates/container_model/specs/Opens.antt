@@ -1,5 +1,5 @@
 -- A file that is opened: a frame of its name, with the objects of its document.
-use Rattle.std.specs.Prelude.{◌+◌, ◌≡◌, ◌++◌, ◌||◌, ℕ, not, List, [], ◌∷◌, length, Option, Some, None, Result, Ok, Err, nat_le, nat_lt, ⊤, ⊥}
+use Rattle.std.specs.Prelude.{◌+◌, ◌≡◌, ◌++◌, ◌||◌, ℕ, not, List, [], ◌∷◌, length, Option, Some, None, Result, Ok, Err, nat_le, nat_lt, true, ⊤}
 use Rattle.std.specs.List.{range_with_len}
 use Rattle.storage_tree.specs.Tree.{Tree}
 use Rattle.file_model.specs.Denotes.{Denotes}
@@ -24,7 +24,7 @@ pub data Given : Type 0 where
 abbrev pub IsReadAs : Option (List ℕ) → Given → Type 0
 IsReadAs None Given.Missing = ⊤
 IsReadAs (Some bytes) Given.Broken = (t : Tree) (ds : List DocObject) → Denotes bytes t → DocOf t ds → ⊥
-IsReadAs (Some bytes) (Given.Holding ds) = ∥ (t : Tree) × Denotes bytes t × DocOf t ds ∥₁
+IsReadAs (Some bytes) (Given.Holding ds) = ∥ ((t : Tree) × Denotes bytes t × DocOf t ds) ∥₁
 IsReadAs file given = ⊥
 
 -- the objects of a document in a frame, in their order: passive, each with the next number
