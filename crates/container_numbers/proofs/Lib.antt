@@ -3,6 +3,7 @@ pub mod SoundCommands
 pub mod SoundGrants
 pub mod SoundMessages
 pub mod SoundMoves
+pub mod SoundOpens
 pub mod SoundReaps
 pub mod SoundReplies
 pub mod SoundRooms

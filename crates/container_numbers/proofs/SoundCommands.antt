@@ -40,7 +40,7 @@ debts_more : (frames : List Frame) (frame : Frame) → ((n : ℕ) → debt_in n 
 debts_more frames frame e n zero = refl
 debts_more frames frame e n (suc i) = get_more n frames frame i (e n)
 
-frame_sound : {Greatest : ℕ → Type 0} (r : Record) (frame : Frame) → HasNumbers Greatest r → length r.frames < r.numbers → frame.k ≤ r.numbers → ((n : ℕ) → debt_in n (Some frame) ≡ 0) → HasNumbers Greatest (record r { frames = r.frames ++ frame ∷ [] })
+pub frame_sound : {Greatest : ℕ → Type 0} (r : Record) (frame : Frame) → HasNumbers Greatest r → length r.frames < r.numbers → frame.k ≤ r.numbers → ((n : ℕ) → debt_in n (Some frame) ≡ 0) → HasNumbers Greatest (record r { frames = r.frames ++ frame ∷ [] })
 frame_sound r frame h lt k none =
     let frames = r.frames ++ frame ∷ [] in
     record {
@@ -56,7 +56,7 @@ frame_sound r frame h lt k none =
     }
 
 -- ---- a new object has no activation
-object_sound : {Greatest : ℕ → Type 0} (r : Record) (a : Object) → HasNumbers Greatest r → a.link ≡ None → r.last_object < r.numbers → HasNumbers Greatest (record r { objects = r.objects ++ a ∷ []; last_object = r.last_object + 1 })
+pub object_sound : {Greatest : ℕ → Type 0} (r : Record) (a : Object) → HasNumbers Greatest r → a.link ≡ None → r.last_object < r.numbers → HasNumbers Greatest (record r { objects = r.objects ++ a ∷ []; last_object = r.last_object + 1 })
 object_sound r a h none lt = record {
   limit = h.limit;
   room = all_of (Owing r.numbers (debts r.frames)) (r.objects ++ a ∷ []) (each_append (Owing r.numbers (debts r.frames)) r.objects a (each_of (Owing r.numbers (debts r.frames)) r.objects h.room)

@@ -4,6 +4,7 @@ pub mod SteadyCommands
 pub mod SteadyCommits
 pub mod SteadyFates
 pub mod SteadyMessages
+pub mod SteadyOpens
 pub mod SteadyReaps
 pub mod SteadyReplies
 pub mod SteadyRuns

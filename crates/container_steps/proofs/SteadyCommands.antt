@@ -49,7 +49,7 @@ free_grant r f s e = subst (SteadyGrant r f) (sym e) (record { apart = tt; holde
 same_grants : (r u : Record) (f : ℕ) (s : GrantState) → u.objects ≡ r.objects → r.last_g ≤ u.last_g → SteadyGrant r f s → SteadyGrant u f s
 same_grants r u f s e le h = grant_kept r u f s (λ c names k. claim_kept r u f c (subst (λ (os : List Object). KeepsLink r.objects os c.object) (sym e) (keeps_refl r.objects c.object)) le k) h
 
-frame_steady : (r : Record) (frame : Frame) → Steady r → SteadyFrame frame → frame.ui.state ≡ Free → Steady (record r { frames = r.frames ++ frame ∷ [] })
+pub frame_steady : (r : Record) (frame : Frame) → Steady r → SteadyFrame frame → frame.ui.state ≡ Free → Steady (record r { frames = r.frames ++ frame ∷ [] })
 frame_steady r frame h f free = record {
   frames = each_append SteadyFrame r.frames frame h.frames f;
   objects = each_weaker (SteadyObject r) (SteadyObject (record r { frames = r.frames ++ frame ∷ [] })) r.objects (framed r frame) h.objects;
@@ -65,7 +65,7 @@ frame_steady r frame h f free = record {
 drawn_more : (r : Record) (o a : Object) → SteadyObject r o → SteadyObject (record r { objects = r.objects ++ a ∷ []; last_object = r.last_object + 1 }) o
 drawn_more r o a h = record { drawn = (let d = h.drawn in omega arith); within = h.within; user_type = h.user_type; linked = h.linked }
 
-object_steady : (r : Record) (a : Object) (frame : Frame) → Steady r → a.number ≡ r.last_object + 1 → a.link ≡ None → nth r.frames a.frame ≡ Some frame
+pub object_steady : (r : Record) (a : Object) (frame : Frame) → Steady r → a.number ≡ r.last_object + 1 → a.link ≡ None → nth r.frames a.frame ≡ Some frame
     → is_within a.work ≡ true → nat_lt (length a.user_type) PAST_USER_TYPE ≡ true → count_objects a.frame r.objects < MOST_OBJECTS → Steady (record r { objects = r.objects ++ a ∷ []; last_object = r.last_object + 1 })
 object_steady r a frame s n l f w u room =
     let after : Record = record r { objects = r.objects ++ a ∷ []; last_object = r.last_object + 1 } in
