@@ -4,6 +4,7 @@ pub mod Grants
 pub mod Verbs
 pub mod Messages
 pub mod Saves
+pub mod HandOffs
 pub mod FaultNames
 pub mod Room
 pub mod Replies

@@ -1,4 +1,5 @@
 pub mod SoundAsking
+pub mod SoundHandOffs
 pub mod SoundCommands
 pub mod SoundGrants
 pub mod SoundMessages

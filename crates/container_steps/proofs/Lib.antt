@@ -1,5 +1,7 @@
 pub mod SteadyAnswers
 pub mod SteadyAsks
+pub mod SteadyHandOffs
+pub mod HandedOff
 pub mod SteadyCommands
 pub mod SteadyCommits
 pub mod SteadyFates

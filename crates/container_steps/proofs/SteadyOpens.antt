@@ -58,7 +58,7 @@ opened_keeps r name w h given t s e =
     let empty : count_objects f r.objects ≡ 0 = none_in r r.objects s.objects in
     let most = o.most in
     let places : HasPlaces f frame (length o.ds) (framed r frame) = record {
-      steady = frame_steady r frame s (record { asked = refl; phase = tt }) refl;
+      steady = frame_steady r frame s (record { asked = refl }) refl;
       there = nth_last r.frames frame;
       room = subst (λ (m : ℕ). m + length o.ds ≤ MOST_OBJECTS) (sym empty) (omega (arith, most));
     } in
