@@ -2,3 +2,4 @@ pub mod Computed
 pub mod Counted
 pub mod Granted
 pub mod Opened
+pub mod Renamed

@@ -5,3 +5,4 @@ pub mod GrantRuns
 pub mod StopNames
 pub mod Report
 pub mod OpenRuns
+pub mod RenameRuns

@@ -72,6 +72,7 @@ pub fn copy_command(alloc: Global, command: &Command) -> Result<Command, AllocEr
         Command::Run(object, inc) => Ok(Command::Run(*object, *inc)),
         Command::Edit(object, bytes) => Ok(Command::Edit(*object, bytes.copy(alloc)?)),
         Command::Save(frame) => Ok(Command::Save(*frame)),
+        Command::SaveAs(frame, name) => Ok(Command::SaveAs(*frame, name.copy(alloc)?)),
         Command::Delete(object) => Ok(Command::Delete(*object)),
         Command::Kill(inc) => Ok(Command::Kill(*inc)),
         Command::Close(object, option) => Ok(Command::Close(*object, *option)),

@@ -2,6 +2,7 @@
 
 ghost use Rattle.world_model.specs.GrantRuns.{IsGranted};
 ghost use Rattle.world_model.specs.OpenRuns.{IsOpened};
+ghost use Rattle.world_model.specs.RenameRuns.{AreRenamed};
 ghost use Rattle.world_model.specs.Runs.{IsWorked};
 
 /// A note that is made, edited and saved: what each event is answered, and what is reported. The same where its server
@@ -21,4 +22,10 @@ pub fn worked_grants()
 /// A file that is opened beside a note that runs: its objects, what runs of them, and what isn't opened, each for its reason.
 pub fn worked_opens()
     ensures { IsOpened }
+{}
+
+/// A note that is saved under another name: each answer and the report, and files that are opened then. The same where its
+/// server ends meanwhile, where it is passive, and where the commit is lost; and names that are busy.
+pub fn worked_renames()
+    ensures { AreRenamed }
 {}
