@@ -16,3 +16,4 @@ pub mod Reaping
 pub mod Committing
 pub mod Dropping
 pub mod Opening
+pub mod Handing
