@@ -15,12 +15,25 @@ use Rattle.world_model.specs.Safe.{Among, IsAnother, CountedOnce}
 use Rattle.world_files.specs.Files.{Id, id_of, IsBelow, Distinct, AreNumbered, CountedBounded, AreSameFrames}
 use Rattle.world_facts.proofs.Lookups.{among_join, among_map, nth_old, nth_set_apart}
 
-pub bounded_same : (frames after : List Frame) (ids : List Id) (last : ℕ) (dones : List Done) → AreSameFrames frames after → CountedBounded frames ids last dones → CountedBounded after ids last dones
-bounded_same frames after ids last dones s b = record {
+-- frames whose last saves are as they were, or later ones
+pub bounded_by : (frames after : List Frame) (ids : List Id) (last : ℕ) (dones : List Done) → ((f : ℕ) (frame : Frame) → nth after f ≡ Some frame → (before : Frame) × (nth frames f ≡ Some before) × ((n : ℕ) → IsBelow before n → IsBelow frame n))
+    → CountedBounded frames ids last dones → CountedBounded after ids last dones
+bounded_by frames after ids last dones s b = record {
   counted = b.counted;
-  below = λ x d frame h g e at. (let old = s.from x.frame frame at in old.2.below d.k (b.below x d old.0 h g e old.1));
+  below = λ x d frame h g e at. (let old = s x.frame frame at in old.2 d.k (b.below x d old.0 h g e old.1));
   counted_once = b.counted_once;
 }
+
+pub bounded_same : (frames after : List Frame) (ids : List Id) (last : ℕ) (dones : List Done) → AreSameFrames frames after → CountedBounded frames ids last dones → CountedBounded after ids last dones
+bounded_same frames after ids last dones s b = bounded_by frames after ids last dones (λ f frame at. (let old = s.from f frame at in (old.0, old.1, old.2.below))) b
+
+-- a frame asks for a name
+pub bounded_asking : (frames : List Frame) (f : ℕ) (frame : Frame) (name : List ℕ) (ids : List Id) (last : ℕ) (dones : List Done) → nth frames f ≡ Some frame → CountedBounded frames ids last dones
+    → CountedBounded (set_nth frames f (record frame { asked = Some name })) ids last dones
+bounded_asking frames f frame name ids last dones at b = bounded_by frames (set_nth frames f (record frame { asked = Some name })) ids last dones (λ g x e. elim (nth_set_apart frames f g (record frame { asked = Some name }) x e) [
+  | inl h ↦ (frame, ap (nth frames) h.0 ∙ at, (λ n w. subst (λ v. IsBelow v n) (sym h.1) (record { last = w.last; under = w.under })))
+  | inr h ↦ (x, h.1, (λ n w. w))
+]) b
 
 -- a new frame
 pub bounded_framed : (frames : List Frame) (new : Frame) (ids : List Id) (last : ℕ) (dones : List Done) → AreNumbered frames ids last → CountedBounded frames ids last dones → CountedBounded (frames ++ new ∷ []) ids last dones

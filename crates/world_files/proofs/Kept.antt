@@ -15,7 +15,7 @@ use Rattle.server_model.specs.declared.fault.ServerFault.{ServerFault}
 use Rattle.container_model.specs.Record.{Record, Took, is_doubtful, is_object, without_first}
 use Rattle.container_model.specs.Saves.{image, image_at, has_image, fitting, fitting_in, is_document, document, parts_in, document_tree, commit_done, commit_failed, commit_made, resolve, committed_frame, completed, completion, counted_object, cleared, kept}
 use Rattle.container_model.specs.Messages.{on_message, on_reap}
-use Rattle.container_model.specs.Commands.{on_command, new_frame}
+use Rattle.container_model.specs.Commands.{on_command, new_frame, save_made}
 use Rattle.container_model.specs.Opens.{Given, opened, opened_frame, opened_objects}
 use Rattle.container_model.specs.declared.command.Command.{Command}
 use Rattle.container_model.specs.declared.record.Frame.{Frame}
@@ -40,13 +40,14 @@ use Rattle.container_steady.proofs.Settling.{IsCommitOf, done_commits, is_droppe
 use Rattle.world_files.specs.Files.{id_of, CountedBounded, FilesCounted, HasCommits, Files}
 use Rattle.world_facts.proofs.Lookups.{map_map_same}
 use Rattle.world_files.proofs.Numbering.{numbered}
-use Rattle.world_files.proofs.Quiet.{IsQuiet, command_quiet, doubt_quiet, drop_quiet, message_quiet, reap_quiet, id_asked}
-use Rattle.container_steady.specs.Taken.{IsTakenAs, as_close, as_delete, as_edit, as_insert, as_kill, as_new, as_run, as_save, as_start, as_verb}
+use Rattle.world_files.proofs.Moving.{id_asked}
+use Rattle.world_files.proofs.Quiet.{IsQuiet, command_quiet, doubt_quiet, drop_quiet, message_quiet, named, reap_quiet, renaming_quiet}
+use Rattle.container_steady.specs.Taken.{IsTakenAs, as_close, as_delete, as_edit, as_insert, as_kill, as_new, as_run, as_save, as_save_as, as_start, as_verb}
 use Rattle.container_steady.proofs.Opening.{is_opened}
 use Rattle.container_steady.proofs.Taken.{command_taken}
-use Rattle.world_files.proofs.Bounding.{bounded_same, bounded_framed, bounded_more, bounded_object, bounded_fewer, bounded_committed, among_without, opened_past}
+use Rattle.world_files.proofs.Bounding.{bounded_asking, bounded_same, bounded_framed, bounded_more, bounded_object, bounded_fewer, bounded_committed, among_without, opened_past}
 use Rattle.world_files.proofs.Commits.{counted_framed, counted_committed}
-use Rattle.world_files.proofs.Filing.{stored_same, stored_framed, stored_committed}
+use Rattle.world_files.proofs.Filing.{stored_asking, stored_same, stored_framed, stored_committed}
 
 -- the world in which nothing has happened
 pub empty_files : (numbers : ℕ) (stock : List Kind) → Files (empty_world numbers stock)
@@ -106,6 +107,16 @@ files_taken w _ t s k (as_insert f kind area at made) =
       filed = subst (λ cs. FilesCounted r.frames w.files cs w.container_done) (sym (append-nil w.counted)) k.filed;
       commits = subst (λ cs. HasCommits cs w.container_done) (sym (append-nil w.counted)) k.commits;
     })
+files_taken w _ t s k (as_save_as f name at free other made) =
+    let r = w.rec in
+    let asking : World = record w { rec = named r f at.frame name } in
+    let asked : Files asking = record {
+      counted_bounded = bounded_asking r.frames f at.frame name (map id_of r.objects) r.last_object w.container_done at.there k.counted_bounded;
+      filed = stored_asking r.frames f at.frame name w.files w.counted w.container_done at.there free k.filed;
+      commits = k.commits;
+    } in
+    let h : Files (joined asking (save_made r f at.frame (Some name))) = files_quiet asking (save_made r f at.frame (Some name)) asked (renaming_quiet r f at.frame name at.there) in
+    subst (λ (v : Took). Files (joined w v)) made (record { counted_bounded = h.counted_bounded; filed = h.filed; commits = h.commits })
 files_taken w _ t s k (as_delete n at passive made) =
     let r = w.rec in
     let x = at.object in

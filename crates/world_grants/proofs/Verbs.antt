@@ -12,7 +12,7 @@ use Rattle.container_model.specs.declared.fault.ContainerFault.TheVariants.{Stal
 use Rattle.container_model.specs.declared.command.Command.{Command}
 use Rattle.container_model.specs.Commands.{kind_of, new_object, on_command, start_made}
 use Rattle.container_steady.specs.Steady.{Steady}
-use Rattle.container_steady.specs.Taken.{IsStepped, IsTakenAs, as_close, as_delete, as_edit, as_insert, as_kill, as_new, as_run, as_save, as_start, as_verb, steps_leave, steps_nothing, steps_take}
+use Rattle.container_steady.specs.Taken.{IsStepped, IsTakenAs, as_close, as_delete, as_edit, as_insert, as_kill, as_new, as_run, as_save, as_save_as, as_start, as_verb, steps_leave, steps_nothing, steps_take}
 use Rattle.container_steady.proofs.Taken.{command_taken}
 use Rattle.container_model.specs.Record.{Record, Took, is_object, is_linked, is_alive, counts_none, with_frame, acts, sends}
 use Rattle.container_model.specs.Grants.{moved, grant_of}
@@ -65,7 +65,8 @@ taken_leaves r _ t s (as_insert f kind area at made) = subst (λ (v : Took). Lea
 taken_leaves r _ t s (as_start started made) = subst (λ (v : Took). Leaves r v.rec) made (leaves_all r (start_made r).rec refl refl)
 taken_leaves r _ t s (as_run n inc at run made) = subst (λ (v : Took). Leaves r v.rec) made (linked_leaves r n at.object _ at.found (record { number = refl; frame = refl }), none_move NoClaim NoTools r.frames)
 taken_leaves r _ t s (as_edit n bytes go small has made) = subst (λ (v : Took). Leaves r v.rec) made (linked_leaves r n go.at.object _ go.at.found (record { number = refl; frame = refl }), none_move NoClaim NoTools r.frames)
-taken_leaves r _ t s (as_save f at made) = subst (λ (v : Took). Leaves r v.rec) made (save_leaves r f at.frame at.there)
+taken_leaves r _ t s (as_save f at made) = subst (λ (v : Took). Leaves r v.rec) made (save_leaves r f at.frame None at.there)
+taken_leaves r _ t s (as_save_as f name at free other made) = subst (λ (v : Took). Leaves r v.rec) made (save_leaves r f at.frame (Some name) at.there)
 taken_leaves r _ t s (as_delete n at passive made) = subst (λ (v : Took). Leaves r v.rec) made (without_stay r.objects at.object.number s.order, none_move NoClaim NoTools r.frames)
 taken_leaves r _ t s (as_kill inc alive made) = subst (λ (v : Took). Leaves r v.rec) made (leaves_all r r refl refl)
 taken_leaves r _ t s (as_close n option go ts has row made) = subst (λ (v : Took). Leaves r v.rec) made (leaving_leaves r n go.at.frame go.at.object go.link ts go.at.found go.at.inside)

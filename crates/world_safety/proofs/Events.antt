@@ -39,7 +39,8 @@ use Rattle.world_files.specs.Files.{id_of, Files}
 use Rattle.world_files.proofs.Bounding.{parts_of_frame}
 use Rattle.world_files.proofs.Kept.{image_is_at}
 use Rattle.world_steps.proofs.Instances.{nth_same}
-use Rattle.world_steps.proofs.Asking.{new_asks, insert_asks, edit_asks, save_asks}
+use Rattle.world_steps.proofs.Asking.{new_asks, insert_asks, edit_asks}
+use Rattle.world_steps.proofs.Handing.{save_asks}
 use Rattle.world_grants.proofs.Ending.{reap_moves}
 use Rattle.world_grants.proofs.Taking.{command_moves, committed_moves, dropped_moves, failed_moves, message_moves, opened_moves}
 use Rattle.world_numbers.specs.Numbers.{ArePending}
@@ -77,7 +78,8 @@ agrees_command w (command.Insert f kind area) t h e = turned_command w (command.
 agrees_command w command.Start t h e = plain_owners w t (start_joined w t h e)
 agrees_command w (command.Run o inc) t h e = run_joined w o inc t h e
 agrees_command w (command.Edit o bytes) t h e = turned_command w (command.Edit o bytes) t h e (asks_turned w.rec t (edit_asks w.rec o bytes t h.steady e))
-agrees_command w (command.Save f) t h e = turned_command w (command.Save f) t h e (asks_turned w.rec t (save_asks w.rec f t h.steady e))
+agrees_command w (command.Save f) t h e = turned_command w (command.Save f) t h e (save_asks w.rec (command.Save f) t h.steady tt e)
+agrees_command w (command.SaveAs f name) t h e = turned_command w (command.SaveAs f name) t h e (save_asks w.rec (command.SaveAs f name) t h.steady tt e)
 agrees_command w (command.Delete o) t h e = turned_command w (command.Delete o) t h e (asks_turned w.rec t (delete_asks w.rec o t h.steady e))
 agrees_command w (command.Kill inc) t h e = plain_owners w t (kill_joined w inc t h e)
 agrees_command w (command.Close o option) t h e = turned_command w (command.Close o option) t h e (close_asks w.rec o option t h.steady e)

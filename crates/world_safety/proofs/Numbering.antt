@@ -49,7 +49,8 @@ use Rattle.world_numbers.proofs.Pending.{begins_pending, none_pending, reaped_pe
 use Rattle.world_numbers.proofs.Serving.{served_within}
 use Rattle.world_numbers.proofs.Speaking.{SpeaksWithin, asks_within, writes_within}
 use Rattle.world_steps.specs.Steps.{IsTurned}
-use Rattle.world_steps.proofs.Asking.{new_asks, insert_asks, edit_asks, save_asks}
+use Rattle.world_steps.proofs.Asking.{new_asks, insert_asks, edit_asks}
+use Rattle.world_steps.proofs.Handing.{save_asks}
 use Rattle.world_steps.proofs.Closing.{delete_asks, close_asks, kill_ends}
 use Rattle.world_steps.proofs.Committing.{commit_plain}
 use Rattle.world_steps.proofs.Dropping.{dropped_asks, failed_asks}
@@ -97,7 +98,8 @@ module _ (limit : ℕ) (w : World) (h : AgreesIn w) (k : Numbers limit w) where
   command_taken (command.Run o inc) t e = (let b = run_begun w o inc t h e in
       plain_taken limit t (numbered (command.Run o inc) t e) (begins_pending (links_of w.rec.objects) (links_of t.rec.objects) (lives_of w.instances) (w.owners ++ o ∷ []) w.rec.last_act o (messages_of t.answer.actions) b.begins) b.starts)
   command_taken (command.Edit o bytes) t e = turned_taken t (numbered (command.Edit o bytes) t e) (asks_turned w.rec t (edit_asks w.rec o bytes t h.steady e))
-  command_taken (command.Save f) t e = turned_taken t (numbered (command.Save f) t e) (asks_turned w.rec t (save_asks w.rec f t h.steady e))
+  command_taken (command.Save f) t e = turned_taken t (numbered (command.Save f) t e) (save_asks w.rec (command.Save f) t h.steady tt e)
+  command_taken (command.SaveAs f name) t e = turned_taken t (numbered (command.SaveAs f name) t e) (save_asks w.rec (command.SaveAs f name) t h.steady tt e)
   command_taken (command.Delete o) t e = turned_taken t (numbered (command.Delete o) t e) (asks_turned w.rec t (delete_asks w.rec o t h.steady e))
   command_taken (command.Kill inc) t e = subst (IsTaken limit) (kill_ends w.rec inc t e) (record { recorded = k.recorded; pending = none_pending (links_of w.rec.objects) [] refl; starts = tt })
   command_taken (command.Close o option) t e = turned_taken t (numbered (command.Close o option) t e) (close_asks w.rec o option t h.steady e)
