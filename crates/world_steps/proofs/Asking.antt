@@ -101,9 +101,9 @@ pub who_is_asked : (os : List Object) (f : ℕ) (op : Operation) (m : Message) �
 who_is_asked [] f op m s h = absurd h
 who_is_asked (x ∷ os) f op m s h =
     let later : Among (asked_all f op os) m → (o : Object) × (find (is_object o.number) (x ∷ os) ≡ Some o) × Among (asked_of f op o) m = λ g.
-        (let c = who_is_asked os f op m s.1 g in
-        let above : x.number < c.0.number = found_above x.number c.0.number os c.0 s.0 c.1 in
-        (c.0, ap (λ b. if b then Some x else find (is_object c.0.number) os) (ne_eqb x.number c.0.number (λ e. absurd (omega arith))) ∙ c.1, c.2)) in
+    (let c = who_is_asked os f op m s.1 g in
+    let above : x.number < c.0.number = found_above x.number c.0.number os c.0 s.0 c.1 in
+    (c.0, ap (λ b. if b then Some x else find (is_object c.0.number) os) (ne_eqb x.number c.0.number (λ e. absurd (omega arith))) ∙ c.1, c.2)) in
     elim (x.frame == f) as (λ b. (x.frame == f) ≡ b → Among (if b then asked_sent op x.link ++ asked_all f op os else asked_all f op os) m → (o : Object) × (find (is_object o.number) (x ∷ os) ≡ Some o) × Among (asked_of f op o) m) [
       | true ↦ (λ t g. elim (among_join (asked_sent op x.link) (asked_all f op os) m g) [
         | inl here ↦ (x, ap (λ b. if b then Some x else find (is_object x.number) os) (eq-eqb x.number x.number refl), subst (λ (b : Bool). Among (if b then asked_sent op x.link else []) m) (sym t) here)
