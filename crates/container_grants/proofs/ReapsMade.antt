@@ -1,8 +1,12 @@
 -- The record after the end of a server.
-use Rattle.std.proofs.Common.{◌≡◌, ℕ, Bool, true, List, ◌++◌, map, Ok, refl, ◌∙◌}
+use Rattle.std.proofs.Common.{◌≡◌, ℕ, Bool, true, List, ◌++◌, map, Ok, refl, ap, sym, ◌∙◌}
+use Rattle.std.proofs.lemmas.List.{map-append}
 use Rattle.wire_msgs.specs.Found.{set_nth}
+use Rattle.wire_msgs.specs.declared.message.Message.{Message}
 use Rattle.grant_core.specs.declared.grant_states.Claim.{Claim}
 use Rattle.container_model.specs.declared.answer.Action.{Action}
+use Rattle.container_model.specs.declared.answer.Action.TheVariants.{Send}
+use Rattle.container_model.specs.HandOffs.{hand_off}
 use Rattle.container_model.specs.declared.answer.Answer.{Answer}
 use Rattle.container_model.specs.declared.record.Frame.{Frame}
 use Rattle.container_model.specs.declared.record.Object.{Object}
@@ -28,17 +32,26 @@ module _ (r : Record) (inc : ℕ) (s : Steady r) where
   differ : Differ claims
   differ = (freed_all inc r s).differ
 
-  pub reap_is : (frames last : List Frame) (servers : List Bool) (installed : List Object) (actions all : List Action) (told : Answer)
+  -- the record before saves go on: what was freed is granted
+  abbrev granted : Record
+  granted = record (reaped r inc) { frames = map (freed_frame inc r.objects) r.frames; objects = granted_objects left claims }
+
+  pub reap_is : (frames fs last : List Frame) (servers : List Bool) (installed handed : List Object) (ms : List Message) (actions calls all : List Action) (told : Answer)
       → is_alive r inc ≡ true
       → frames ≡ map (freed_frame inc r.objects) r.frames
       → servers ≡ set_nth r.servers inc true
       → installed ≡ installed_each (map (ready r.objects) claims) left
       → actions ≡ actions_of (map (ready r.objects) claims)
-      → last ≡ settled_frames 1 installed frames
-      → all ≡ actions ++ settled_actions 1 installed frames
+      → hand_off (record r { frames = frames; objects = installed; servers = servers }) ≡ record { rec = record r { frames = fs; objects = handed; servers = servers }; sent = ms }
+      → calls ≡ actions ++ sends ms
+      → last ≡ settled_frames 1 handed fs
+      → all ≡ calls ++ settled_actions 1 handed fs
       → told ≡ acts all
-      → on_reap r inc ≡ Ok (counts_none (record r { frames = last; objects = installed; servers = servers }) told)
-  reap_is frames last servers installed actions all told alive freed reaps objects sent settled asked answered =
-      let granted : installed ≡ granted_objects left claims = objects ∙ installed_each_is r.objects claims left agrees differ in
+      → on_reap r inc ≡ Ok (counts_none (record r { frames = last; objects = handed; servers = servers }) told)
+  reap_is frames fs last servers installed handed ms actions calls all told alive freed reaps objects sent handing called settled asked answered =
+      let told_to : installed ≡ granted_objects left claims = objects ∙ installed_each_is r.objects claims left agrees differ in
       let sends_is : actions ≡ sends (granted_sent left claims) = sent ∙ actions_are r.objects claims left agrees differ in
-      rw (alive, grant_each_is claims (record (reaped r inc) { frames = map (freed_frame inc r.objects) r.frames }), answered, asked, settled, sends_is, granted, freed, reaps) refl
+      let same : ◌≡◌ {A = Record} (record r { frames = frames; objects = installed; servers = servers }) granted = λ t. record r { frames = freed t; objects = told_to t; servers = reaps t } in
+      let handed_is : hand_off granted ≡ record { rec = record r { frames = fs; objects = handed; servers = servers }; sent = ms } = ap hand_off (sym same) ∙ handing in
+      let both : calls ≡ sends (granted_sent left claims ++ ms) = called ∙ (ap (λ (xs : List Action). xs ++ sends ms) sends_is ∙ sym (map-append Send (granted_sent left claims) ms)) in
+      rw (alive, grant_each_is claims (record (reaped r inc) { frames = map (freed_frame inc r.objects) r.frames }), handed_is, answered, asked, settled, both) refl
