@@ -2,6 +2,8 @@
 use Rattle.std.proofs.Common.{◌≡◌, ◌≢◌, ◌==◌, ℕ, ◌+◌, ◌<◌, ◌≤◌, Bool, true, false, List, [], ◌∷◌, ◌++◌, map, Some, refl, sym, ap, ◌∙◌, inl, inr, arith, subst, if◌then◌else◌}
 use Rattle.std.proofs.lemmas.Bool.{eqb-true}
 use Rattle.wire_msgs.specs.Found.{nth, set_nth}
+use Rattle.document_model.specs.declared.object.DocObject.{DocObject}
+use Rattle.container_model.specs.Opens.{opened_objects}
 use Rattle.container_model.specs.Record.{without_first}
 use Rattle.container_model.specs.Saves.{parts_in, part_of, committed_frame}
 use Rattle.container_model.specs.declared.record.Frame.{Frame}
@@ -31,23 +33,30 @@ bounded_framed frames new ids last dones a b = record {
   counted_once = b.counted_once;
 }
 
--- a new object
-one_of : {A : Type 0} (y x : A) → Among (y ∷ []) x → x ≡ y
-one_of y x (inl e) = e
-one_of y x (inr h) = absurd h
+-- new objects, whose numbers are behind all that were drawn
+pub bounded_more : (frames : List Frame) (ids news : List Id) (last more : ℕ) (dones : List Done) → ((x : Id) → Among news x → last < x.number) → CountedBounded frames ids last dones
+    → CountedBounded frames (ids ++ news) (last + more) dones
+bounded_more frames ids news last more dones past b = record {
+  counted = λ d g. (let le : d.object ≤ last = b.counted d g in omega arith);
+  below = λ x d fr h g e here. elim (among_join ids news x h) [
+    | inl old ↦ b.below x d fr old g e here
+    | inr new ↦ (let lt : last < x.number = past x new in let le : d.object ≤ last = b.counted d g in absurd (omega arith))
+  ];
+  counted_once = b.counted_once;
+}
 
 pub bounded_object : (frames : List Frame) (ids : List Id) (last f : ℕ) (dones : List Done) → CountedBounded frames ids last dones
     → CountedBounded frames (ids ++ record { number = last + 1; frame = f } ∷ []) (last + 1) dones
-bounded_object frames ids last f dones b =
-    let new : Id = record { number = last + 1; frame = f } in
-    record {
-      counted = λ d g. (let le : d.object ≤ last = b.counted d g in omega arith);
-      below = λ x d fr h g e here. elim (among_join ids (new ∷ []) x h) [
-        | inl old ↦ b.below x d fr old g e here
-        | inr one ↦ (let n : x.number ≡ last + 1 = ap (λ (v : Id). v.number) (one_of new x one) in let le : d.object ≤ last = b.counted d g in absurd (omega arith))
-      ];
-      counted_once = b.counted_once;
-    }
+bounded_object frames ids last f dones b = bounded_more frames ids (record { number = last + 1; frame = f } ∷ []) last 1 dones (past last f) b
+  where
+    past : (last f : ℕ) (x : Id) → Among (record { number = last + 1; frame = f } ∷ []) x → last < x.number
+    past last f x (inl e) = (let n : x.number ≡ last + 1 = ap (λ (v : Id). v.number) e in omega arith)
+    past last f x (inr h) = absurd h
+
+pub opened_past : (last f : ℕ) (ds : List DocObject) (x : Id) → Among (map id_of (opened_objects last f ds)) x → last < x.number
+opened_past last f [] x h = absurd h
+opened_past last f (d ∷ ds) x (inl e) = (let n : x.number ≡ last + 1 = ap (λ (v : Id). v.number) e in omega arith)
+opened_past last f (d ∷ ds) x (inr h) = (let lt : last + 1 < x.number = opened_past (last + 1) f ds x h in omega arith)
 
 -- an object goes
 pub bounded_fewer : (frames : List Frame) (ids fewer : List Id) (last : ℕ) (dones : List Done) → ((x : Id) → Among fewer x → Among ids x) → CountedBounded frames ids last dones → CountedBounded frames fewer last dones

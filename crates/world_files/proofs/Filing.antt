@@ -4,7 +4,7 @@ use Rattle.std.proofs.lemmas.Slice.Eq.{bytes_eq-Decides}
 use Rattle.wire_msgs.specs.Found.{find, nth, set_nth}
 use Rattle.file_model.specs.Denotes.{Denotes}
 use Rattle.container_model.specs.Saves.{document_tree, committed_frame, name_after}
-use Rattle.container_model.specs.Commands.{is_named, is_name, new_frame}
+use Rattle.container_model.specs.Commands.{is_named, is_name}
 use Rattle.container_model.specs.declared.answer.Part.{Part}
 use Rattle.container_steady.proofs.SteadyRecords.{or_false}
 use Rattle.container_model.specs.declared.record.Frame.{Frame}
@@ -56,28 +56,28 @@ unborne : (name : List ℕ) (frames : List Frame) (f : ℕ) (frame : Frame) → 
 unborne name frames zero frame e at h = cc
 unborne name frames (suc i) frame e at h = unborne_in name frames i frame e at h
 
-bears_new : (name other : List ℕ) (w h : ℕ) → Bears (new_frame name w h) other → name ≡ other
-bears_new name other w h (inl e) = e
-bears_new name other w h (inr e) = cc
+-- a frame that asks for no name
+bears_own : (new : Frame) (other : List ℕ) → new.asked ≡ None → Bears new other → new.name ≡ other
+bears_own new other own (inl e) = e
+bears_own new other own (inr e) = (let z : None ≡ Some other = sym own ∙ e in cc)
 
 pub length_more : {A : Type 0} (xs : List A) (y : A) → length (xs ++ y ∷ []) ≡ suc (length xs)
 length_more [] y = refl
 length_more (x ∷ xs) y = ap suc (length_more xs y)
 
 -- a new frame, which has no counted commit
-pub stored_framed : (frames : List Frame) (name : List ℕ) (w h : ℕ) (files : List File) (counted : List (Option Document)) (dones : List Done) → is_named name frames ≡ false
-    → FilesCounted frames files counted dones → FilesCounted (frames ++ new_frame name w h ∷ []) files (counted ++ None ∷ []) dones
-stored_framed frames name w h files counted dones un s =
-    let new = new_frame name w h in
+pub stored_framed : (frames : List Frame) (new : Frame) (files : List File) (counted : List (Option Document)) (dones : List Done) → is_named new.name frames ≡ false → new.asked ≡ None
+    → FilesCounted frames files counted dones → FilesCounted (frames ++ new ∷ []) files (counted ++ None ∷ []) dones
+stored_framed frames new files counted dones un own s =
     record {
       aligned = length_more counted None ∙ (ap suc s.aligned ∙ sym (length_more frames new));
       names_apart = λ f g a b other fa gb x y. elim (nth_one frames new f a fa) [
         | inl fo ↦ elim (nth_one frames new g b gb) [
           | inl go ↦ s.names_apart f g a b other fo go x y
-          | inr gn ↦ absurd (unborne name frames f a un fo (subst (Bears a) (sym (bears_new name other w h (subst (λ v. Bears v other) gn.0 y))) x))
+          | inr gn ↦ absurd (unborne new.name frames f a un fo (subst (Bears a) (sym (bears_own new other own (subst (λ v. Bears v other) gn.0 y))) x))
         ]
         | inr fn ↦ elim (nth_one frames new g b gb) [
-          | inl go ↦ absurd (unborne name frames g b un go (subst (Bears b) (sym (bears_new name other w h (subst (λ v. Bears v other) fn.0 x))) y))
+          | inl go ↦ absurd (unborne new.name frames g b un go (subst (Bears b) (sym (bears_own new other own (subst (λ v. Bears v other) fn.0 x))) y))
           | inr gn ↦ fn.1 ∙ sym gn.1
         ]
       ];

@@ -1,5 +1,5 @@
 -- Commands that leave frames to whoever has them; a commit, one that fails, and a save that is dropped.
-use Rattle.std.proofs.Common.{◌≡◌, ◌||◌, ◌==◌, ◌+◌, ℕ, Bool, true, false, not, List, [], ◌∷◌, length, Option, Some, None, is_some, Ok, Err, refl, sym, ◌∙◌, subst, nat_le, nat_lt, if◌then◌else◌}
+use Rattle.std.proofs.Common.{◌≡◌, ◌==◌, ℕ, Bool, true, false, Some, refl, sym, ◌∙◌, subst, if◌then◌else◌}
 use Rattle.wire_msgs.specs.Found.{find, put, nth, set_nth}
 use Rattle.wire_msgs.specs.declared.operation.Operation.{Operation}
 use Rattle.wire_msgs.specs.declared.operation.Operation.TheVariants.{SaveDropped}
@@ -10,8 +10,8 @@ use Rattle.container_model.specs.Saves.{kept, cleared, completion, completed, co
 use Rattle.container_model.specs.Commands.{saving_frame, save_made}
 use Rattle.world_grants.specs.Grants.{NoClaim, NoTools}
 use Rattle.world_grants.proofs.States.{same}
-use Rattle.world_grants.proofs.Objects.{Keeps, all_kept, map_kept, with_found, Stay, kept_stay, more_stay, without_stay}
-use Rattle.world_grants.proofs.Frames.{AllMove, none_move, one_moves, settled_move, more_move}
+use Rattle.world_grants.proofs.Objects.{Keeps, all_kept, map_kept, with_found, Stay, kept_stay}
+use Rattle.world_grants.proofs.Frames.{AllMove, none_move, one_moves, settled_move}
 
 -- objects stay in their frames, and frames with whoever has them
 abbrev pub Leaves : Record → Record → Type 0

@@ -1,3 +1,4 @@
 pub mod Computed
 pub mod Counted
 pub mod Granted
+pub mod Opened

@@ -4,3 +4,4 @@ pub mod Runs
 pub mod GrantRuns
 pub mod StopNames
 pub mod Report
+pub mod OpenRuns

@@ -14,7 +14,7 @@ use Rattle.server_model.specs.declared.counted.Counted.{Counted}
 use Rattle.server_model.specs.declared.fault.ServerFault.{ServerFault}
 pub use Rattle.container_model.specs.Record.{without_first}
 use Rattle.container_model.specs.Record.{Record, Took, empty, is_doubtful, is_linked}
-use Rattle.container_model.specs.Commands.{on_command}
+use Rattle.container_model.specs.Commands.{is_named, is_size, on_command}
 use Rattle.container_model.specs.Messages.{on_message, on_reap, awaits_save}
 use Rattle.container_model.specs.Opens.{Given, IsReadAs, opened}
 pub use Rattle.container_model.specs.Saves.{done_entry}
@@ -384,7 +384,8 @@ file_bytes (Some file) = Some file.bytes
 abbrev pub file_of : World → List ℕ → Option (List ℕ)
 file_of w name = file_bytes (find (is_file name) w.files)
 
--- What may be chosen: the bytes that a commit makes the file denote the document; a file gives what it is read as.
+-- What may be chosen: the bytes that a commit makes the file denote the document; a file gives what it is read as, where it is
+-- looked at: its name is no frame's, and the size is one.
 abbrev pub IsImageOf : World → ℕ → List ℕ → Type 0
 IsImageOf w f bytes = (parts : List Part) → image w.rec f ≡ Ok parts → ∥ Denotes bytes (document_tree parts) ∥₁
 
@@ -399,7 +400,7 @@ IsImage w choice (event.Done f) = IsImageOf w f choice.file
 IsImage w choice (event.Fail f) = ⊤
 IsImage w choice (event.Resolve f true) = IsImageOf w f choice.file
 IsImage w choice (event.Resolve f false) = ⊤
-IsImage w choice (event.Open name width height) = IsReadAs (file_of w name) choice.given
+IsImage w choice (event.Open name width height) = is_named name w.rec.frames ≡ false → is_size width height ≡ true → IsReadAs (file_of w name) choice.given
 
 -- The worlds that these events reach; they differ in the bytes of files alone.
 abbrev pub Run : World → List Event → World → Type 0
