@@ -8,6 +8,7 @@ ghost use Rattle.wire_msgs.specs.declared.operation.Operation.TheVariants.{Save}
 use container_links::asking::{Asking, prepare};
 use container_model::record::{Frame, Object, Phase};
 use std::alloc::{AllocError, Global};
+use storage_tree::bytes::Bytes;
 use wire_msgs::operation::Operation;
 
 /// What is needed to ask the objects of a frame for their contents, for the save of number `k`.
@@ -25,11 +26,12 @@ pub fn prepare_save(
     prepare(alloc, frame, &Operation::Save(k), objects)
 }
 
-/// A frame is saved once more: its save has the next number, and waits for contents.
-pub fn begin_save(frame: &mut Frame)
+/// A frame is saved once more, under its name or under another one: its save has the next number, and waits for contents.
+pub fn begin_save(frame: &mut Frame, asked: Option<Bytes>)
     requires { frame.old.k ≤ 1000000 }
-    ensures { frame.new ≡ saving_frame frame.old }
+    ensures { frame.new ≡ saving_frame asked frame.old }
 {
+    frame.asked = asked;
     frame.k += 1;
     frame.phase = Phase::Saving;
 }
