@@ -1,5 +1,5 @@
 -- Room that is taken before objects are asked to give their storages away.
-use Rattle.std.specs.Prelude.{◌≡◌, ◌≤◌, ◌<◌, ◌+◌, ◌==◌, ℕ, Bool, false, List, [], ◌∷◌, length, Option, Some, None, is_some, if◌then◌else◌, vec_capacity}
+use Rattle.std.specs.Prelude.{◌≡◌, ◌≤◌, ◌<◌, ◌+◌, ◌==◌, ℕ, Bool, true, false, List, [], ◌∷◌, length, Option, Some, None, is_some, if◌then◌else◌, vec_capacity}
 use Rattle.wire_msgs.specs.declared.message.Message.{Message}
 use Rattle.wire_msgs.specs.declared.operation.Operation.{Operation}
 use Rattle.container_model.specs.declared.record.Frame.{Frame}
@@ -9,6 +9,7 @@ use Rattle.container_model.specs.declared.record.Phase.{Phase}
 use Rattle.container_model.specs.declared.record.Phase.TheVariants.{Saving}
 use Rattle.container_model.specs.Record.{asked_sent}
 use Rattle.container_model.specs.Room.{IfLinked}
+use Rattle.container_saves.specs.declared.rooms.FrameRooms.{FrameRooms}
 use Rattle.container_saves.specs.declared.rooms.Room.{Room}
 
 -- a frame is saving under another name
@@ -34,6 +35,13 @@ HavePlaces more f [] [] = Unit {0}
 HavePlaces more f [] (room ∷ rooms) = ⊥
 HavePlaces more f (o ∷ os) [] = ⊥
 HavePlaces more f (o ∷ os) (room ∷ rooms) = HasPlace more f o room × HavePlaces more f os rooms
+
+-- the same of all frames that are saving under other names, the first of them of number f
+abbrev pub AllHavePlaces : ℕ → ℕ → List Frame → List Object → List FrameRooms → Type 0
+AllHavePlaces more f [] os [] = Unit {0}
+AllHavePlaces more f [] os (q ∷ qs) = ⊥
+AllHavePlaces more f (frame ∷ frames) os [] = ⊥
+AllHavePlaces more f (frame ∷ frames) os (q ∷ qs) = (is_leaving frame ≡ true → HavePlaces more f os q.rooms.items) × AllHavePlaces more (f + 1) frames os qs
 
 -- how many activations have no call pending: so many calls may be sent at once
 abbrev pub free_at : Option Operation → ℕ

@@ -1,13 +1,13 @@
 //! Frames that hand off. It takes no memory.
 
-ghost use Rattle.std.specs.Prelude.{◌≡◌, ◌≤◌, ◌<◌, ◌+◌, ◌++◌, IfSome, [], ◌∷◌, length, map, true, vec_capacity, vec_len};
-ghost use Rattle.container_model.specs.HandOffs.{hand_off_in, handing_frame, hands_off};
+ghost use Rattle.std.specs.Prelude.{◌≡◌, ◌≤◌, ◌<◌, ◌+◌, ◌++◌, IfSome, if◌then◌else◌, [], ◌∷◌, length, map, true, vec_capacity, vec_len};
+ghost use Rattle.container_model.specs.HandOffs.{hand_off, hand_off_in, handing_frame, hands_off};
 ghost use Rattle.container_model.specs.Record.{Record, ask, asked_all, asked_object, sends};
-ghost use Rattle.container_saves.specs.Places.{HasPlace, HavePlaces, IsRoomyFor, free, free_at, free_link, is_leaving, sent_by};
+ghost use Rattle.container_saves.specs.Places.{AllHavePlaces, HasPlace, HavePlaces, IsRoomyFor, free, free_at, free_link, is_leaving, sent_by};
 ghost use Rattle.wire_msgs.specs.Found.{nth};
 ghost use Rattle.wire_msgs.specs.declared.operation.Operation.TheVariants.{HandsOff};
 
-use crate::rooms::Room;
+use crate::rooms::{FrameRooms, Room};
 use container_checks::lookups::place;
 use container_links::settling::awaits;
 use container_model::answer::Action;
@@ -163,6 +163,16 @@ fn hand_frame(frame: &mut Frame)
     frame.phase = Phase::HandingOff;
 }
 
+/// A frame hands off, where it is saving under another name and each content is there: nobody is asked, as where all of its
+/// objects are passive.
+pub fn go_on(number: u32, frame: &mut Frame, objects: &[Object])
+    ensures { frame.new ≡ (if hands_off number objects.now frame.old then handing_frame frame.old else frame.old) }
+{
+    if hands_off(number, frame, objects) {
+        hand_frame(frame);
+    }
+}
+
 /// The frame of this number hands off, where it is saving under another name and each content is there: its objects that aren't
 /// passive are asked to give their storages away, at once where no call is pending, else behind what waits. What is to be sent
 /// is added to the actions.
@@ -189,4 +199,27 @@ pub fn hand_off_in(
     }
     hand_frame(&mut frames[at]);
     ask_all(alloc, f, objects, rooms, actions);
+}
+
+/// The same of all frames, by rising number.
+pub fn hand_off_all(
+    alloc: Global,
+    frames: &mut Vec<Frame>,
+    objects: &mut Vec<Object>,
+    rooms: Vec<FrameRooms>,
+    actions: &mut Vec<Action>,
+)
+    requires few { length frames.old.items ≤ 1000000 }
+    requires places { AllHavePlaces 0 1 frames.old.items objects.old.items rooms.items }
+    requires room { vec_len actions.old + free objects.old.items ≤ vec_capacity actions.old }
+    ensures handed { (r : Record) → r.frames ≡ frames.old.items → r.objects ≡ objects.old.items → (hand_off r).rec ≡ record r { frames = frames.new.items; objects = objects.new.items } }
+    ensures sent { (r : Record) → r.frames ≡ frames.old.items → r.objects ≡ objects.old.items → actions.new.items ≡ actions.old.items ++ sends (hand_off r).sent }
+    ensures few { vec_len actions.new + free objects.new.items ≤ vec_len actions.old + free objects.old.items }
+    ensures room { vec_capacity actions.old ≤ vec_capacity actions.new }
+{
+    let mut f: u32 = 0;
+    for place in rooms {
+        f += 1;
+        hand_off_in(alloc, f, frames, objects, place.rooms, actions);
+    }
 }

@@ -1,10 +1,11 @@
 //! Room for one more operation behind those that wait in an activation, which is taken before anything changes.
 
-ghost use Rattle.std.specs.Prelude.{◌≡◌, ◌≤◌, All, IfOk, OnErr, true};
+ghost use Rattle.std.specs.Prelude.{◌≡◌, ◌≤◌, All, IfOk, OnErr, length, true};
 ghost use Rattle.container_links.specs.Asking.{HasNumber};
-ghost use Rattle.container_saves.specs.Places.{HasPlace, HavePlaces};
+ghost use Rattle.container_saves.specs.Places.{AllHavePlaces, HasPlace, HavePlaces};
 
-use container_model::record::Object;
+use crate::handing::is_leaving;
+use container_model::record::{Frame, Object};
 use std::alloc::{AllocError, Global};
 use wire_msgs::operation::Operation;
 
@@ -78,4 +79,33 @@ pub fn prepare_rooms(
         return Ok(Vec::new(alloc));
     }
     rooms_of(alloc, f, more, objects)
+}
+
+/// Room in the objects of a frame.
+#[derive(Drop)]
+pub struct FrameRooms {
+    /// One for each object of the container, whichever frame it has.
+    pub rooms: Vec<Room>,
+}
+
+/// The same for all frames, by rising number.
+///
+/// Refused for want of memory alone.
+pub fn prepare_frames(
+    alloc: Global,
+    more: usize,
+    frames: &[Frame],
+    objects: &[Object],
+) -> Result<Vec<FrameRooms>, AllocError>
+    requires numbers { All HasNumber objects.now }
+    requires few { more ≤ 1000000 }
+    requires frames { length frames.now ≤ 1000000 }
+    ensures { IfOk result (λ v. AllHavePlaces more 1 frames.now objects.now v.items) }
+{
+    let mut all = Vec::new(alloc);
+    for (i, frame) in frames.iter().enumerate() {
+        let rooms = prepare_rooms(alloc, is_leaving(frame), i as u32 + 1, more, objects)?;
+        all.push(FrameRooms { rooms })?;
+    }
+    Ok(all)
 }
