@@ -1,6 +1,6 @@
 -- The record after the end of a server.
-use Rattle.std.proofs.Common.{◌≡◌, ℕ, Bool, true, List, ◌++◌, map, Ok, ap, sym, ◌∙◌}
-use Rattle.std.proofs.lemmas.List.{map-append}
+use Rattle.std.proofs.Common.{◌+◌, ◌≤◌, arith, length, subst, ◌≡◌, ℕ, Bool, true, List, ◌++◌, map, Ok, ap, sym, ◌∙◌}
+use Rattle.std.proofs.lemmas.List.{length-map, map-append}
 use Rattle.wire_msgs.specs.declared.message.Message.{Message}
 use Rattle.wire_msgs.specs.Found.{set_nth}
 use Rattle.grant_core.specs.declared.grant_states.Claim.{Claim}
@@ -15,8 +15,12 @@ use Rattle.container_model.specs.Messages.{on_reap, reap_made, reaped, reaped_gr
 use Rattle.container_model.specs.Record.{Record, Took, acts, counts_none, is_alive, sends}
 use Rattle.container_model.specs.Saves.{settle, settle_actions, settled_actions, settled_frames}
 use Rattle.container_grants.specs.Granted.{actions_of, installed_each, ready}
+use Rattle.container_saves.specs.Places.{AllHavePlaces, free}
+use Rattle.container_saves.specs.declared.rooms.FrameRooms.{FrameRooms}
+use Rattle.container_saves.proofs.AskedAway.{free_few}
 use Rattle.container_steady.specs.Steady.{Steady}
 use Rattle.container_grants.proofs.GrantsEach.{Agrees, Differ, actions_are, grant_each_is, granted_objects, granted_sent, installed_each_is}
+use Rattle.container_grants.proofs.GrantsRooms.{free_granted, rooms_left}
 use Rattle.container_grants.proofs.GrantsWaiting.{freed_agrees, freed_all}
 
 module _ (r : Record) (inc : ℕ) (s : Steady r) where
@@ -31,6 +35,26 @@ module _ (r : Record) (inc : ℕ) (s : Steady r) where
 
   differ : Differ claims
   differ = (freed_all inc r s).differ
+
+  pub granted_at : (installed : List Object) → installed ≡ installed_each (map (ready r.objects) claims) left → installed ≡ granted_objects left claims
+  granted_at installed e = e ∙ installed_each_is r.objects claims left agrees differ
+
+  pub sent_at : (actions : List Action) → actions ≡ actions_of (map (ready r.objects) claims) → actions ≡ sends (granted_sent left claims)
+  sent_at actions e = e ∙ actions_are r.objects claims left agrees differ
+
+  -- the room that was taken serves, and no more is sent than there are objects
+  pub rooms_at : (n : ℕ) (frames : List Frame) (installed : List Object) (rooms : List FrameRooms) → n ≡ length claims → frames ≡ map (freed_frame inc r.objects) r.frames → installed ≡ installed_each (map (ready r.objects) claims) left
+      → AllHavePlaces n 1 r.frames r.objects rooms → AllHavePlaces 0 1 frames installed rooms
+  rooms_at n frames installed rooms many freed objects h =
+      subst (λ fs. AllHavePlaces 0 1 fs installed rooms) (sym freed) (subst (λ os. AllHavePlaces 0 1 (map (freed_frame inc r.objects) r.frames) os rooms) (sym (granted_at installed objects))
+      (rooms_left 1 inc r.objects r.objects claims r.frames rooms (subst (λ k. AllHavePlaces k 1 r.frames r.objects rooms) many h)))
+
+  pub few_at : (installed : List Object) (actions : List Action) → installed ≡ installed_each (map (ready r.objects) claims) left → actions ≡ actions_of (map (ready r.objects) claims) → length actions + free installed ≤ length r.objects
+  few_at installed actions objects sent =
+      let those : free installed ≡ free (granted_objects left claims) = ap free (granted_at installed objects) in
+      let said : length actions ≡ length (granted_sent left claims) = ap length (sent_at actions sent) ∙ length-map (granted_sent left claims) Send in
+      let same : length left ≡ length r.objects = length-map r.objects (λ o. reaped_object inc o o.link) in
+      omega (arith, those, said, same, free_granted claims left, free_few left)
 
   -- the record once frames are freed and granted, and how a reap goes on from it
   abbrev left_in : List Frame → List Object → List Bool → Record
@@ -58,8 +82,8 @@ module _ (r : Record) (inc : ℕ) (s : Steady r) where
       → told ≡ acts all
       → on_reap r inc ≡ Ok (counts_none (left_in last asked servers) told)
   reap_is frames handed last servers installed asked actions more all told alive freed reaps objects sent hands also settled commits answered =
-      let granted : installed ≡ granted_objects left claims = objects ∙ installed_each_is r.objects claims left agrees differ in
-      let sends_is : actions ≡ sends (granted_sent left claims) = sent ∙ actions_are r.objects claims left agrees differ in
+      let granted : installed ≡ granted_objects left claims = granted_at installed objects in
+      let sends_is : actions ≡ sends (granted_sent left claims) = sent_at actions sent in
       let q : Record = left_in frames installed servers in
       let own : List Message = granted_sent left claims in
       let others : List Message = (hand_off q).sent in

@@ -188,6 +188,7 @@ pub fn hand_off_in(
     requires room { vec_len actions.old + free objects.old.items ≤ vec_capacity actions.old }
     ensures handed { (r : Record) → r.frames ≡ frames.old.items → r.objects ≡ objects.old.items → (hand_off_in r f).rec ≡ record r { frames = frames.new.items; objects = objects.new.items } }
     ensures sent { (r : Record) → r.frames ≡ frames.old.items → r.objects ≡ objects.old.items → actions.new.items ≡ actions.old.items ++ sends (hand_off_in r f).sent }
+    ensures len { length frames.new.items ≡ length frames.old.items }
     ensures few { vec_len actions.new + free objects.new.items ≤ vec_len actions.old + free objects.old.items }
     ensures room { vec_capacity actions.old ≤ vec_capacity actions.new }
 {
@@ -214,6 +215,7 @@ pub fn hand_off_all(
     requires room { vec_len actions.old + free objects.old.items ≤ vec_capacity actions.old }
     ensures handed { (r : Record) → r.frames ≡ frames.old.items → r.objects ≡ objects.old.items → (hand_off r).rec ≡ record r { frames = frames.new.items; objects = objects.new.items } }
     ensures sent { (r : Record) → r.frames ≡ frames.old.items → r.objects ≡ objects.old.items → actions.new.items ≡ actions.old.items ++ sends (hand_off r).sent }
+    ensures len { length frames.new.items ≡ length frames.old.items }
     ensures few { vec_len actions.new + free objects.new.items ≤ vec_len actions.old + free objects.old.items }
     ensures room { vec_capacity actions.old ≤ vec_capacity actions.new }
 {

@@ -16,6 +16,7 @@ loop-place-preserved c =
       is_finite = tt;
       count = count_more _ _ c.in-Some.place _ _ c.loop-place.invariant.count c.in-Some.ensures.steps.0 c.in-Some.ensures.steps.1;
       few = omega (arith, lt);
+      len = (let had = c.loop-place.invariant.len in let has = c.hand_off_in.ensures.len in omega arith);
       left = frames_left c.args.frames.now.items c.loop-place.frames.items c.hand_off_in.new.frames.items c.loop-place.objects.items c.hand_off_in.new.objects.items c.loop-place.f c.loop-place.invariant.left c.hand_off_in.ensures.handed;
       places = places_turned c.args.frames.now.items c.loop-place.frames.items c.hand_off_in.new.frames.items c.loop-place.objects.items c.hand_off_in.new.objects.items c.loop-place.f _ _ c.in-Some.place c.in-Some.ensures.steps.0 lt c.hand_off_in.ensures.handed c.loop-place.invariant.places;
       handed = λ r frames objects. handed_turn c.args.frames.now.items c.loop-place.frames.items c.hand_off_in.new.frames.items c.loop-place.objects.items c.hand_off_in.new.objects.items c.loop-place.f lt c.hand_off_in.ensures.handed r _ (c.loop-place.invariant.handed r frames objects);

@@ -11,6 +11,7 @@ invariant-loop-place l = record {
   is_finite : (goal.iterator-loop-place).is_finite l.place-iterator;
   count : into_iter_len l.place-iterator ≡ length (into_iter_items l.place-iterator);
   few : l.f ≤ length l.initial.frames.items;
+  len : length l.frames.items ≡ length l.initial.frames.items;
   left : drop l.f l.frames.items ≡ drop l.f l.initial.frames.items;
   places : AllHavePlaces 0 (l.f + 1) (drop l.f l.initial.frames.items) l.objects.items (into_iter_items l.place-iterator);
   handed : (r : Record) → r.frames ≡ l.initial.frames.items → r.objects ≡ l.initial.objects.items
