@@ -1,7 +1,6 @@
 //! What steps are refused for.
 
 ghost use Rattle.std.specs.Prelude.{◌&&◌, ◌+◌, ◌≡◌, ◌≤◌, ◌||◌, All, length};
-ghost use Rattle.std.specs.Str.{bytes_eq};
 ghost use Rattle.container_model.specs.Commands.{all_have_numbers, any_busy, is_empty_area, is_known_class, is_name, is_named, is_named_beside, is_size};
 ghost use Rattle.container_model.specs.Record.{count_objects, has_numbers, is_asked, is_busy, is_claim, is_doubtful, is_moving, is_saving, link_has_numbers};
 ghost use Rattle.container_model.specs.Room.{IfLinked};
@@ -28,32 +27,27 @@ fn is_name(name: &[u8], asked: &Option<Bytes>) -> bool
     }
 }
 
-// Whether this frame bears a name, or is to be saved under it.
-fn bears(name: &[u8], frame: &Frame) -> bool
-    ensures { result ≡ (bytes_eq frame.now.name name.now || is_name name.now frame.now.asked) }
-{
-    frame.name.as_slice() == name || is_name(name, &frame.asked)
-}
-
 /// Whether a frame bears a name, or is to be saved under it.
 pub fn is_named(name: &[u8], frames: &[Frame]) -> bool
     ensures { result ≡ is_named name.now frames.now }
 {
     for frame in frames {
-        if bears(name, frame) {
+        if frame.name.as_slice() == name || is_name(name, &frame.asked) {
             return true;
         }
     }
     false
 }
 
-/// Whether another frame than the one of this number bears a name, or is to be saved under it.
+/// Whether a frame but this one bears a name, or is to be saved under it.
 pub fn is_named_beside(number: u32, name: &[u8], frames: &[Frame]) -> bool
     requires { length frames.now ≤ 1000000 }
     ensures { result ≡ is_named_beside number name.now 1 frames.now }
 {
     for (i, frame) in frames.iter().enumerate() {
-        if i as u32 + 1 != number && bears(name, frame) {
+        if i as u32 + 1 != number
+            && (frame.name.as_slice() == name || is_name(name, &frame.asked))
+        {
             return true;
         }
     }

@@ -2,6 +2,8 @@ pub mod CommitsLaws
 pub mod DocumentSets
 pub mod FreedLaws
 pub mod KeepLaws
+pub mod HandLaws
+pub mod ReapLaws
 pub mod MessageLaws
 pub mod MessagesKeep
 pub mod OpensLaws

@@ -47,7 +47,7 @@ fit_at : (n : ℕ) (answer : Answer) (l : Link) (p : Option Operation) → (is_s
 fit_at n answer l None e f = refl
 fit_at n answer l (Some op) e f = rw (e, f) refl
 
-pub fit_reply : (n : ℕ) (answer : Answer) (link : Option Link) → is_pending n link ≡ true → is_fit answer ≡ true → reply_link n answer link ≡ answered link answer
+fit_reply : (n : ℕ) (answer : Answer) (link : Option Link) → is_pending n link ≡ true → is_fit answer ≡ true → reply_link n answer link ≡ answered link answer
 fit_reply n answer None e f = refl
 fit_reply n answer (Some l) e f = fit_at n answer l l.pending e f
 

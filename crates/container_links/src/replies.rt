@@ -5,12 +5,9 @@ ghost use Rattle.object_state.specs.Both as both;
 ghost use Rattle.container_model.specs.Record.{Refuses, sends};
 ghost use Rattle.container_links.specs.Answered.{answered, is_pending};
 ghost use Rattle.container_links.specs.Relieving.{gives_up};
-ghost use Rattle.container_links.specs.Saving.{answered_by};
 ghost use Rattle.container_model.specs.Messages.{closed_with, done_link, granted_link, is_fit, lost, next_at, noted, reply_link, saved_link};
 ghost use Rattle.container_model.specs.Replies.{first_call, resumed};
 ghost use Rattle.container_model.specs.Room.{IfLinked, IsRoomy};
-ghost use Rattle.storage_tree.specs.declared.stored.Stored.{Stored};
-ghost use Rattle.wire_msgs.specs.declared.answer.Answer.TheVariants.{Content};
 ghost use Rattle.wire_msgs.specs.declared.operation.Operation.TheVariants.{UiDeactivate};
 
 use crate::turns::{
@@ -73,7 +70,7 @@ fn go_on(link: &mut Link)
 // The call that is sent next, in a list with room for so many actions more.
 fn next_actions(alloc: Global, link: &Link, more: usize) -> Result<Vec<Action>, AllocError>
     requires numbers { link.now.last + length link.now.waiting ≤ 1000000 }
-    requires few { more ≤ 3000000 }
+    requires few { more ≤ 2000001 }
     ensures sent { IfOk result (λ v. v.items ≡ sends (next_at link.now link.now.waiting).sent) }
     ensures few { IfOk result (λ v. vec_len v ≤ 1) }
     ensures room { IfOk result (λ v. vec_len v + more ≤ vec_capacity v) }
@@ -97,7 +94,7 @@ fn done(
     more: usize,
 ) -> Result<Replied, ContainerFault>
     requires numbers { link.old.last + length link.old.waiting ≤ 1000000 }
-    requires few { more ≤ 3000000 }
+    requires few { more ≤ 2000001 }
     ensures taken { IfOk result (λ t. resumed (done_link link.old s (both.step link.old.states op)) ≡ Ok (record { link = Some link.new; taken = t.taken; refused = t.refused; grant = t.grant; actions = t.actions.items })) }
     ensures few { IfOk result (λ t. vec_len t.actions ≤ 1) }
     ensures room { IfOk result (λ t. vec_len t.actions + more ≤ vec_capacity t.actions) }
@@ -130,7 +127,7 @@ fn saved(
     more: usize,
 ) -> Result<Replied, ContainerFault>
     requires numbers { link.old.last + length link.old.waiting ≤ 1000000 }
-    requires few { more ≤ 3000000 }
+    requires few { more ≤ 2000001 }
     ensures taken { IfOk result (λ t. resumed (saved_link content (done_link link.old link.old.s (both.step link.old.states op))) ≡ Ok (record { link = Some link.new; taken = t.taken; refused = t.refused; grant = t.grant; actions = t.actions.items })) }
     ensures few { IfOk result (λ t. vec_len t.actions ≤ 1) }
     ensures room { IfOk result (λ t. vec_len t.actions + more ≤ vec_capacity t.actions) }
@@ -156,7 +153,7 @@ fn granted(
     more: usize,
 ) -> Result<Replied, ContainerFault>
     requires numbers { link.old.last + length link.old.waiting ≤ 1000000 }
-    requires few { more ≤ 3000000 }
+    requires few { more ≤ 2000001 }
     ensures taken { IfOk result (λ t. resumed (granted_link told (done_link link.old link.old.s (both.step link.old.states op))) ≡ Ok (record { link = Some link.new; taken = t.taken; refused = t.refused; grant = t.grant; actions = t.actions.items })) }
     ensures few { IfOk result (λ t. vec_len t.actions ≤ 1) }
     ensures room { IfOk result (λ t. vec_len t.actions + more ≤ vec_capacity t.actions) }
@@ -182,7 +179,7 @@ fn noted(
     more: usize,
 ) -> Result<Replied, ContainerFault>
     requires numbers { link.old.last + length link.old.waiting ≤ 1000000 }
-    requires few { more ≤ 3000000 }
+    requires few { more ≤ 2000001 }
     ensures taken { IfOk result (λ t. resumed (noted link.old why) ≡ Ok (record { link = Some link.new; taken = t.taken; refused = t.refused; grant = t.grant; actions = t.actions.items })) }
     ensures few { IfOk result (λ t. vec_len t.actions ≤ 1) }
     ensures room { IfOk result (λ t. vec_len t.actions + more ≤ vec_capacity t.actions) }
@@ -208,7 +205,7 @@ fn lost(
     why: Refusal,
     more: usize,
 ) -> Result<Replied, ContainerFault>
-    requires { more ≤ 3000000 }
+    requires { more ≤ 2000001 }
     ensures taken { IfOk result (λ t. resumed (lost why) ≡ Ok (record { link = link.new; taken = t.taken; refused = t.refused; grant = t.grant; actions = t.actions.items })) }
     ensures few { IfOk result (λ t. vec_len t.actions ≤ 1) }
     ensures room { IfOk result (λ t. vec_len t.actions + more ≤ vec_capacity t.actions) }
@@ -236,7 +233,7 @@ fn closed(
     content: Option<Stored>,
     more: usize,
 ) -> Result<Replied, ContainerFault>
-    requires { more ≤ 3000000 }
+    requires { more ≤ 2000001 }
     ensures taken { IfOk result (λ t. resumed (closed_with content (both.step states op)) ≡ Ok (record { link = link.new; taken = t.taken; refused = t.refused; grant = t.grant; actions = t.actions.items })) }
     ensures few { IfOk result (λ t. vec_len t.actions ≤ 1) }
     ensures room { IfOk result (λ t. vec_len t.actions + more ≤ vec_capacity t.actions) }
@@ -281,7 +278,7 @@ fn is_pending(link: &Option<Link>, n: u32) -> bool
 // The pending operation was done.
 fn done_told(alloc: Global, link: &mut Option<Link>, more: usize) -> Result<Replied, ContainerFault>
     requires numbers { IfLinked (IsRoomy 1000000 0) link.old }
-    requires few { more ≤ 3000000 }
+    requires few { more ≤ 2000001 }
     ensures taken { IfOk result (λ t. resumed (answered link.old Answer.Done) ≡ Ok (record { link = link.new; taken = t.taken; refused = t.refused; grant = t.grant; actions = t.actions.items })) }
     ensures few { IfOk result (λ t. vec_len t.actions ≤ 1) }
     ensures room { IfOk result (λ t. vec_len t.actions + more ≤ vec_capacity t.actions) }
@@ -313,7 +310,7 @@ fn refused_told(
     more: usize,
 ) -> Result<Replied, ContainerFault>
     requires numbers { IfLinked (IsRoomy 1000000 0) link.old }
-    requires few { more ≤ 3000000 }
+    requires few { more ≤ 2000001 }
     ensures taken { IfOk result (λ t. resumed (answered link.old (Answer.Refused why)) ≡ Ok (record { link = link.new; taken = t.taken; refused = t.refused; grant = t.grant; actions = t.actions.items })) }
     ensures few { IfOk result (λ t. vec_len t.actions ≤ 1) }
     ensures room { IfOk result (λ t. vec_len t.actions + more ≤ vec_capacity t.actions) }
@@ -341,7 +338,7 @@ fn content_told(
     more: usize,
 ) -> Result<Replied, ContainerFault>
     requires numbers { IfLinked (IsRoomy 1000000 0) link.old }
-    requires few { more ≤ 3000000 }
+    requires few { more ≤ 2000001 }
     ensures taken { IfOk result (λ t. resumed (answered link.old (Answer.Content content)) ≡ Ok (record { link = link.new; taken = t.taken; refused = t.refused; grant = t.grant; actions = t.actions.items })) }
     ensures few { IfOk result (λ t. vec_len t.actions ≤ 1) }
     ensures room { IfOk result (λ t. vec_len t.actions + more ≤ vec_capacity t.actions) }
@@ -371,7 +368,7 @@ fn tools_told(
     more: usize,
 ) -> Result<Replied, ContainerFault>
     requires numbers { IfLinked (IsRoomy 1000000 0) link.old }
-    requires few { more ≤ 3000000 }
+    requires few { more ≤ 2000001 }
     ensures taken { IfOk result (λ t. resumed (answered link.old (Answer.Tools tools.menus tools.border)) ≡ Ok (record { link = link.new; taken = t.taken; refused = t.refused; grant = t.grant; actions = t.actions.items })) }
     ensures few { IfOk result (λ t. vec_len t.actions ≤ 1) }
     ensures room { IfOk result (λ t. vec_len t.actions + more ≤ vec_capacity t.actions) }
@@ -404,7 +401,7 @@ pub fn told(
     more: usize,
 ) -> Result<Replied, ContainerFault>
     requires numbers { IfLinked (IsRoomy 1000000 0) link.old }
-    requires few { more ≤ 3000000 }
+    requires few { more ≤ 2000001 }
     ensures taken { IfOk result (λ t. resumed (reply_link n answer link.old) ≡ Ok (record { link = link.new; taken = t.taken; refused = t.refused; grant = t.grant; actions = t.actions.items })) }
     ensures few { IfOk result (λ t. vec_len t.actions ≤ 1) }
     ensures room { IfOk result (λ t. vec_len t.actions + more ≤ vec_capacity t.actions) }
@@ -447,40 +444,4 @@ pub fn gives_up(link: &Option<Link>, n: u32, answer: &Answer) -> Option<u32>
         },
         _ => None,
     }
-}
-
-// Whether a content that is answered to the pending call is one that a save waits for.
-fn content_saves(link: &Option<Link>) -> bool
-    ensures { (content : Stored) → result ≡ answered_by link.now (answered link.now (Content content)) }
-{
-    let Some(l) = link else {
-        return false;
-    };
-    if l.saved.is_some() {
-        return false;
-    }
-    let Some(operation) = &l.pending else {
-        return false;
-    };
-    match when_content(operation) {
-        WhenContent::Saved => l.states.step(operation.op()).is_ok(),
-        WhenContent::Closed => false,
-        WhenContent::Unasked => false,
-    }
-}
-
-/// Whether an answer to the call of this number is a content that a save waits for. It changes nothing.
-pub fn answers_save(link: &Option<Link>, n: u32, answer: &Answer) -> bool
-    ensures { result ≡ answered_by link.now (reply_link n answer.now link.now) }
-{
-    if !is_pending(link, n) {
-        return false;
-    }
-    if !is_fit(answer) {
-        return false;
-    }
-    let Answer::Content(_) = answer else {
-        return false;
-    };
-    content_saves(link)
 }

@@ -1,7 +1,8 @@
 //! How saves go on once nothing is waited for.
 
 ghost use Rattle.std.specs.Prelude.{◌≡◌, ◌+◌, ◌≤◌, ◌<◌, ◌++◌, length, vec_len, vec_capacity};
-ghost use Rattle.container_model.specs.Saves.{awaits, is_away, is_awaited_link, is_keeping_link, is_ready, keeps, settled_action, settled_actions, settled_frame, settled_frames};
+ghost use Rattle.container_model.specs.Saves.{awaits, is_awaited_link, is_away, is_keeping_link, is_ready, keeps, settled_action, settled_actions, settled_frame, settled_frames};
+ghost use Rattle.container_model.specs.HandOffs.{hands_off};
 
 use container_model::answer::Action;
 use container_model::record::{Frame, Link, Object, Phase};
@@ -17,8 +18,8 @@ fn is_awaited(link: &Option<Link>) -> bool
     }
 }
 
-/// Whether a save of the frame waits for the content of an object.
-pub fn awaits(frame: u32, objects: &[Object]) -> bool
+// Whether a save of the frame waits for an object.
+pub(crate) fn awaits(frame: u32, objects: &[Object]) -> bool
     ensures { result ≡ awaits frame objects.now }
 {
     for object in objects {
@@ -29,7 +30,7 @@ pub fn awaits(frame: u32, objects: &[Object]) -> bool
     false
 }
 
-// Whether an object has given its storage away.
+// Whether a storage was given away.
 fn is_away(state: PersistState) -> bool
     ensures { result ≡ is_away state }
 {
@@ -39,7 +40,7 @@ fn is_away(state: PersistState) -> bool
     }
 }
 
-// Whether the object of this link hasn't given its storage away yet.
+// Whether a frame that hands off waits for the object of this link.
 fn is_keeping(link: &Option<Link>) -> bool
     ensures { result ≡ is_keeping_link link.now }
 {
@@ -49,7 +50,7 @@ fn is_keeping(link: &Option<Link>) -> bool
     }
 }
 
-// Whether a frame that hands off waits for an object to give its storage away.
+// Whether a frame that hands off waits for an object.
 fn keeps(frame: u32, objects: &[Object]) -> bool
     ensures { result ≡ keeps frame objects.now }
 {
@@ -71,6 +72,19 @@ fn is_ready(number: u32, frame: &Frame, objects: &[Object]) -> bool
             Some(_) => false,
         },
         Phase::HandingOff => !keeps(number, objects),
+        _ => false,
+    }
+}
+
+/// Whether a frame that is saved under another name asks for its objects' storages next: each content is there.
+pub fn hands_off(number: u32, frame: &Frame, objects: &[Object]) -> bool
+    ensures { result ≡ hands_off number objects.now frame.now }
+{
+    match frame.phase {
+        Phase::Saving => match &frame.asked {
+            None => false,
+            Some(_) => !awaits(number, objects),
+        },
         _ => false,
     }
 }

@@ -1,11 +1,13 @@
 //! Saves that begin.
 
-ghost use Rattle.std.specs.Prelude.{◌≡◌, ◌≤◌, All, IfOk};
+ghost use Rattle.std.specs.Prelude.{◌≡◌, ◌≤◌, All, IfOk, if◌then◌else◌};
 ghost use Rattle.container_links.specs.Asking.{HasNumber, IsAsking};
 ghost use Rattle.container_model.specs.Commands.{saving_frame};
+ghost use Rattle.container_model.specs.HandOffs.{handing_frame, hands_off};
 ghost use Rattle.wire_msgs.specs.declared.operation.Operation.TheVariants.{Save};
 
 use container_links::asking::{Asking, prepare};
+use container_links::settling::hands_off;
 use container_model::record::{Frame, Object, Phase};
 use std::alloc::{AllocError, Global};
 use storage_tree::bytes::Bytes;
@@ -24,6 +26,15 @@ pub fn prepare_save(
     ensures { IfOk result (λ a. IsAsking frame (Save k) objects.now a.actions.items a.takes.items) }
 {
     prepare(alloc, frame, &Operation::Save(k), objects)
+}
+
+/// Where all that a save under another name waits for is there as it begins, the frame hands off at once: nobody is asked.
+pub fn go_on(number: u32, frame: &mut Frame, objects: &[Object])
+    ensures { frame.new ≡ if hands_off number objects.now frame.old then handing_frame frame.old else frame.old }
+{
+    if hands_off(number, frame, objects) {
+        frame.phase = Phase::HandingOff;
+    }
 }
 
 /// A frame is saved once more, under its name or under another one: its save has the next number, and waits for contents.

@@ -1,7 +1,7 @@
 //! Frames that hand off. It takes no memory.
 
-ghost use Rattle.std.specs.Prelude.{◌≡◌, ◌≤◌, ◌<◌, ◌+◌, ◌++◌, IfSome, if◌then◌else◌, [], ◌∷◌, length, map, true, vec_capacity, vec_len};
-ghost use Rattle.container_model.specs.HandOffs.{hand_off, hand_off_in, handing_frame, hands_off};
+ghost use Rattle.std.specs.Prelude.{◌≡◌, ◌≤◌, ◌<◌, ◌+◌, ◌++◌, IfSome, [], ◌∷◌, length, map, true, vec_capacity, vec_len};
+ghost use Rattle.container_model.specs.HandOffs.{hand_off, hand_off_in, handing_frame};
 ghost use Rattle.container_model.specs.Record.{Record, ask, asked_all, asked_object, sends};
 ghost use Rattle.container_saves.specs.Places.{AllHavePlaces, HasPlace, HavePlaces, IsRoomyFor, free, free_at, free_link, is_leaving, sent_by};
 ghost use Rattle.wire_msgs.specs.Found.{nth};
@@ -9,7 +9,7 @@ ghost use Rattle.wire_msgs.specs.declared.operation.Operation.TheVariants.{Hands
 
 use crate::rooms::{FrameRooms, Room};
 use container_checks::lookups::place;
-use container_links::settling::awaits;
+use container_links::settling::hands_off;
 use container_model::answer::Action;
 use container_model::record::{Frame, Link, Object, Phase};
 use std::alloc::Global;
@@ -24,19 +24,6 @@ pub fn is_leaving(frame: &Frame) -> bool
 {
     match frame.phase {
         Phase::Saving => frame.asked.is_some(),
-        _ => false,
-    }
-}
-
-// Whether a frame hands off: it is saving under another name, and each content is there.
-fn hands_off(number: u32, frame: &Frame, objects: &[Object]) -> bool
-    ensures { result ≡ hands_off number objects.now frame.now }
-{
-    match frame.phase {
-        Phase::Saving => match &frame.asked {
-            Some(_) => !awaits(number, objects),
-            None => false,
-        },
         _ => false,
     }
 }
@@ -161,16 +148,6 @@ fn hand_frame(frame: &mut Frame)
     ensures { frame.new ≡ handing_frame frame.old }
 {
     frame.phase = Phase::HandingOff;
-}
-
-/// A frame hands off, where it is saving under another name and each content is there: nobody is asked, as where all of its
-/// objects are passive.
-pub fn go_on(number: u32, frame: &mut Frame, objects: &[Object])
-    ensures { frame.new ≡ (if hands_off number objects.now frame.old then handing_frame frame.old else frame.old) }
-{
-    if hands_off(number, frame, objects) {
-        hand_frame(frame);
-    }
 }
 
 /// The frame of this number hands off, where it is saving under another name and each content is there: its objects that aren't

@@ -6,10 +6,7 @@ use Rattle.container_model.specs.declared.fault.ContainerFault.TheVariants.{InDo
 use Rattle.container_model.specs.declared.record.Frame.{Frame}
 use Rattle.container_model.specs.Commands.{any_busy, is_named_beside, save_as_at, save_numbered}
 use Rattle.container_model.specs.Record.{Record, Took, is_doubtful, is_moving, is_saving, unless}
-
--- what goes before either
-abbrev pub unready : Record → ℕ → Frame → Result Took ContainerFault → Result Took ContainerFault
-unready r f frame next = unless (is_doubtful frame.phase) InDoubt (unless (is_saving frame.phase || is_moving frame.ui.state || any_busy f frame.ui.state r.objects) Busy next)
+use Rattle.container_steps.specs.Saving.{named, unready}
 
 module _ (r : Record) (f : ℕ) (frame : Frame) (next : Result Took ContainerFault) where
   pub in_doubt : is_doubtful frame.phase ≡ true → unready r f frame next ≡ Err InDoubt
@@ -35,9 +32,6 @@ module _ (r : Record) (f : ℕ) (frame : Frame) (next : Result Took ContainerFau
   fine d e h k = checked false false false d e h k
 
 -- the name of a save under another one is looked at next
-abbrev pub named : Record → ℕ → List ℕ → Frame → Result Took ContainerFault
-named r f name frame = unless (is_named_beside f name 1 r.frames) Busy (unless (bytes_eq frame.name name) WrongState (save_numbered r f frame (Some name)))
-
 split : (b n : Bool) (next : Result Took ContainerFault) → unless (b || n) Busy next ≡ unless b Busy (unless n Busy next)
 split true n next = refl
 split false n next = refl
