@@ -1,1 +1,2 @@
 pub mod RepliesMade
+pub mod OpensMade

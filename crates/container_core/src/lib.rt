@@ -13,6 +13,7 @@ mod images;
 mod inserts;
 mod kills;
 mod messages;
+mod opens;
 mod places;
 mod reaps;
 mod runs;
