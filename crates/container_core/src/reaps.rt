@@ -46,7 +46,13 @@ impl State {
         reap_all(inc, &mut self.objects);
         self.servers.reap(inc);
         take_grants(&mut self.objects, &mut actions, grants);
-        hand_off_all(alloc, &mut self.frames, &mut self.objects, rooms, &mut actions);
+        hand_off_all(
+            alloc,
+            &mut self.frames,
+            &mut self.objects,
+            rooms,
+            &mut actions,
+        );
         settle_into(&mut actions, &mut self.frames, &self.objects);
         Ok(Answer::acts(alloc, Items::from_vec(actions)))
     }
