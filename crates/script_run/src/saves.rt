@@ -1,5 +1,10 @@
 //! Saves: the file of a frame whose commit is asked for goes to a disk of the host, and the container is told what became of it.
 
+ghost use Rattle.container_model.specs.Record.{Record};
+ghost use Rattle.script_model.specs.Events.{running};
+ghost use Rattle.script_run.specs.Told.{IsTold};
+ghost use Rattle.std.specs.Prelude.{◌≡◌, ℕ};
+
 use crate::container::{committed, failed, resolved};
 use crate::fault::ScriptFault;
 use container_core::container::ContainerCore;
@@ -23,7 +28,11 @@ pub(crate) fn first_of(before: Option<Told>, next: Option<Told>) -> Option<Told>
 }
 
 /// The store of a file.
-fn open<H: Host>(alloc: Global, host: &mut H, name: &[u8]) -> Result<Store<H::Disk>, StoreFault> {
+fn open<H: Host>(alloc: Global, host: &mut H, name: &[u8]) -> Result<Store<H::Disk>, StoreFault>
+    ensures told { (r : Record) → IsTold (H.told host.old) r → IsTold (H.told host.new) r }
+    ensures still { (s : ℕ) → running s (H.told host.new) ≡ running s (H.told host.old) }
+{
+
     let disk = host.disk(name)?;
     match Store::open(alloc, disk) {
         Ok(store) => Ok(store),
@@ -60,7 +69,11 @@ fn commit<H: Host>(
     host: &mut H,
     name: &[u8],
     bytes: &[u8],
-) -> Result<Outcome, StoreFault> {
+) -> Result<Outcome, StoreFault>
+    ensures told { (r : Record) → IsTold (H.told host.old) r → IsTold (H.told host.new) r }
+    ensures still { (s : ℕ) → running s (H.told host.new) ≡ running s (H.told host.old) }
+{
+
     match open(alloc, host, name) {
         Ok(store) => replace::<H>(store, bytes),
         Err(fault) => compare::<H>(open(alloc, host, name)?, bytes, fault),
@@ -81,7 +94,12 @@ fn lose<H: Host>(
     host: &mut H,
     core: &mut ContainerCore,
     frame: u32,
-) -> Result<(), ScriptFault> {
+) -> Result<(), ScriptFault>
+    requires { IsTold (H.told host.old) core.old }
+    ensures told { IsTold (H.told host.new) core.new }
+    ensures still { (s : ℕ) → running s (H.told host.new) ≡ running s (H.told host.old) }
+{
+
     failed(alloc, host, core, frame)?;
     resolved(alloc, host, core, frame, false)
 }
@@ -93,7 +111,12 @@ fn save_file<H: Host>(
     core: &mut ContainerCore,
     frame: u32,
     file: &[u8],
-) -> Result<Option<Told>, ScriptFault> {
+) -> Result<Option<Told>, ScriptFault>
+    requires { IsTold (H.told host.old) core.old }
+    ensures told { IsTold (H.told host.new) core.new }
+    ensures still { (s : ℕ) → running s (H.told host.new) ≡ running s (H.told host.old) }
+{
+
     let Some(found) = core.frame(frame) else {
         return Ok(None);
     };
@@ -119,7 +142,12 @@ fn save<H: Host>(
     host: &mut H,
     core: &mut ContainerCore,
     frame: u32,
-) -> Result<Option<Told>, ScriptFault> {
+) -> Result<Option<Told>, ScriptFault>
+    requires { IsTold (H.told host.old) core.old }
+    ensures told { IsTold (H.told host.new) core.new }
+    ensures still { (s : ℕ) → running s (H.told host.new) ≡ running s (H.told host.old) }
+{
+
     match core.image(alloc, frame) {
         Ok(file) => save_file(alloc, host, core, frame, &file),
         Err(ContainerFault::NoMemory) => Err(ScriptFault::NoMemory),
@@ -138,7 +166,12 @@ pub(crate) fn save_all<H: Host>(
     core: &mut ContainerCore,
     answer: &Answer,
     noticed: &mut Option<Told>,
-) -> Result<(), ScriptFault> {
+) -> Result<(), ScriptFault>
+    requires { IsTold (H.told host.old) core.old }
+    ensures told { IsTold (H.told host.new) core.new }
+    ensures still { (s : ℕ) → running s (H.told host.new) ≡ running s (H.told host.old) }
+{
+
     for action in answer.actions.as_slice() {
         if let Action::Commit(frame) = action {
             let lost = save(alloc, host, core, *frame)?;
