@@ -1,6 +1,10 @@
 //! The commands of a script, one after another.
 
-ghost use Rattle.std.specs.Prelude.{◌≡◌, ◌<◌, ◌++◌, ◌∷◌, [], IfSome, length, vec_capacity, vec_len};
+ghost use Rattle.container_model.specs.Record.{Record};
+ghost use Rattle.script_model.specs.Events.{running};
+ghost use Rattle.script_run.specs.Links.{AreLinked, links_of};
+ghost use Rattle.script_run.specs.Told.{IsTold};
+ghost use Rattle.std.specs.Prelude.{◌≡◌, ◌<◌, ◌++◌, ◌∷◌, [], IfSome, length, ℕ, vec_capacity, vec_len};
 
 use crate::container::command;
 use crate::fault::ScriptFault;
@@ -39,13 +43,20 @@ fn start<H: Host>(
     host: &mut H,
     links: &mut Vec<Link>,
     inc: u32,
-) -> Result<(), ScriptFault> {
+) -> Result<(), ScriptFault>
+    requires linked { AreLinked (H.told host.old) links.old.items }
+    ensures told { (r : Record) → IsTold (H.told host.old) r → IsTold (H.told host.new) r }
+    ensures linked { AreLinked (H.told host.new) links.new.items }
+{
+
     links.reserve(1)?;
-    if host.start(inc).is_err() {
-        return Err(ScriptFault::Link(inc));
+    match host.start(inc) {
+        Ok(()) => {
+            add(links, Link::new(alloc, inc));
+            Ok(())
+        }
+        Err(_) => Err(ScriptFault::Link(inc)),
     }
-    add(links, Link::new(alloc, inc));
-    Ok(())
 }
 
 /// Puts a value to the end, into room that is there.
@@ -64,7 +75,13 @@ fn end<H: Host>(
     links: &mut Vec<Link>,
     inc: u32,
     noticed: &mut Option<Told>,
-) -> Result<(), ScriptFault> {
+) -> Result<(), ScriptFault>
+    requires told { IsTold (H.told host.old) core.old }
+    requires linked { AreLinked (H.told host.old) links.old.items }
+    ensures told { IsTold (H.told host.new) core.new }
+    ensures linked { AreLinked (H.told host.new) links.new.items }
+{
+
     match place_of(links, inc) {
         Some(place) => end_at(alloc, host, core, links, place, noticed),
         None => Ok(()),
@@ -79,7 +96,13 @@ fn act<H: Host>(
     links: &mut Vec<Link>,
     answer: &Answer,
     noticed: &mut Option<Told>,
-) -> Result<(), ScriptFault> {
+) -> Result<(), ScriptFault>
+    requires told { IsTold (H.told host.old) core.old }
+    requires linked { AreLinked (H.told host.old) links.old.items }
+    ensures told { IsTold (H.told host.new) core.new }
+    ensures linked { AreLinked (H.told host.new) links.new.items }
+{
+
     for action in answer.actions.as_slice() {
         match action {
             Action::Start(inc) => start(alloc, host, links, *inc)?,
@@ -98,7 +121,13 @@ fn order<H: Host>(
     links: &mut Vec<Link>,
     ordered: Command,
     noticed: &mut Option<Told>,
-) -> Result<Told, ScriptFault> {
+) -> Result<Told, ScriptFault>
+    requires told { IsTold (H.told host.old) core.old }
+    requires linked { AreLinked (H.told host.old) links.old.items }
+    ensures told { IsTold (H.told host.new) core.new }
+    ensures linked { AreLinked (H.told host.new) links.new.items }
+{
+
     match command(alloc, host, core, ordered) {
         Ok(answer) => {
             act(alloc, host, core, links, &answer, noticed)?;
@@ -118,10 +147,14 @@ fn cut<H: Host>(
     place: usize,
     noticed: &mut Option<Told>,
 ) -> Result<(), ScriptFault>
-    requires { place < length links.old.items }
+    requires within { place < length links.old.items }
+    requires told { IsTold (H.told host.old) core.old }
+    requires linked { AreLinked (H.told host.old) links.old.items }
+    ensures told { IsTold (H.told host.new) core.new }
+    ensures linked { AreLinked (H.told host.new) links.new.items }
 {
     send_turn(alloc, host, core, links[place].inc)?;
-    if !reconnect(alloc, host, &mut links[place]) {
+    if !reconnect_at(alloc, host, links, place) {
         end_at(alloc, host, core, links, place, noticed)?;
     }
     Ok(())
@@ -135,13 +168,45 @@ fn hand_all<H: Host>(
     inc: u32,
     waiting: Items<Message>,
     noticed: &mut Option<Told>,
-) -> Result<bool, ScriptFault> {
+) -> Result<bool, ScriptFault>
+    requires { IsTold (H.told host.old) core.old }
+    ensures told { IsTold (H.told host.new) core.new }
+    ensures still { (s : ℕ) → running s (H.told host.new) ≡ running s (H.told host.old) }
+{
+
     for taken in waiting.into_vec() {
         if !hand_over(alloc, host, core, inc, taken, noticed)? {
             return Ok(false);
         }
     }
     Ok(true)
+}
+
+/// What waits of the link at a place, which holds nothing any more.
+fn let_go(alloc: Global, links: &mut Vec<Link>, place: usize) -> Items<Message>
+    requires { place < length links.old.items }
+    ensures same { (s : ℕ) → links_of s links.new.items ≡ links_of s links.old.items }
+    ensures many { length links.new.items ≡ length links.old.items }
+{
+    let link = &mut links[place];
+    link.held = false;
+    std::mem::replace(&mut link.waiting, Items::new(alloc))
+}
+
+/// Connects the link at a place again. Gives whether it was made.
+fn reconnect_at<H: Host>(
+    alloc: Global,
+    host: &mut H,
+    links: &mut Vec<Link>,
+    place: usize,
+) -> bool
+    requires within { place < length links.old.items }
+    requires linked { AreLinked (H.told host.old) links.old.items }
+    ensures told { (r : Record) → IsTold (H.told host.old) r → IsTold (H.told host.new) r }
+    ensures linked { AreLinked (H.told host.new) links.new.items }
+    ensures many { length links.new.items ≡ length links.old.items }
+{
+    reconnect(alloc, host, &mut links[place])
 }
 
 /// Hands over what waits of the link at a place, which holds nothing any more.
@@ -153,16 +218,26 @@ fn release<H: Host>(
     place: usize,
     noticed: &mut Option<Told>,
 ) -> Result<(), ScriptFault>
-    requires { place < length links.old.items }
+    requires within { place < length links.old.items }
+    requires told { IsTold (H.told host.old) core.old }
+    requires linked { AreLinked (H.told host.old) links.old.items }
+    ensures told { IsTold (H.told host.new) core.new }
+    ensures linked { AreLinked (H.told host.new) links.new.items }
 {
-    let link = &mut links[place];
-    link.held = false;
-    let inc = link.inc;
-    let waiting = std::mem::replace(&mut link.waiting, Items::new(alloc));
+    let inc = links[place].inc;
+    let waiting = let_go(alloc, links, place);
     if !hand_all(alloc, host, core, inc, waiting, noticed)? {
         end_at(alloc, host, core, links, place, noticed)?;
     }
     Ok(())
+}
+
+/// What comes on the link at a place waits from now on.
+fn hold(links: &mut Vec<Link>, place: usize)
+    requires { place < length links.old.items }
+    ensures { (s : ℕ) → links_of s links.new.items ≡ links_of s links.old.items }
+{
+    links[place].held = true;
 }
 
 /// A command about the link of a server: none where there is no such server.
@@ -173,7 +248,13 @@ fn at_link<H: Host>(
     links: &mut Vec<Link>,
     command: &ScriptCommand,
     noticed: &mut Option<Told>,
-) -> Result<Told, ScriptFault> {
+) -> Result<Told, ScriptFault>
+    requires told { IsTold (H.told host.old) core.old }
+    requires linked { AreLinked (H.told host.old) links.old.items }
+    ensures told { IsTold (H.told host.new) core.new }
+    ensures linked { AreLinked (H.told host.new) links.new.items }
+{
+
     let inc = match command {
         ScriptCommand::Cut(inc) | ScriptCommand::Hold(inc) | ScriptCommand::Release(inc) => *inc,
         _ => return Ok(Told::Done),
@@ -184,7 +265,7 @@ fn at_link<H: Host>(
     match command {
         ScriptCommand::Cut(_) => cut(alloc, host, core, links, place, noticed)?,
         ScriptCommand::Release(_) => release(alloc, host, core, links, place, noticed)?,
-        _ => links[place].held = true,
+        _ => hold(links, place),
     }
     Ok(Told::Done)
 }
@@ -215,7 +296,13 @@ fn begin<H: Host>(
     command: ScriptCommand,
     noticed: &mut Option<Told>,
     text: &mut Vec<u8>,
-) -> Result<Told, ScriptFault> {
+) -> Result<Told, ScriptFault>
+    requires told { IsTold (H.told host.old) core.old }
+    requires linked { AreLinked (H.told host.old) links.old.items }
+    ensures told { IsTold (H.told host.new) core.new }
+    ensures linked { AreLinked (H.told host.new) links.new.items }
+{
+
     match command {
         ScriptCommand::Container(ordered) => order(alloc, host, core, links, ordered, noticed),
         ScriptCommand::Screen(frame) => show(alloc, core, frame, text),
@@ -231,7 +318,13 @@ pub(crate) fn carry_out<H: Host, W: Write>(
     links: &mut Vec<Link>,
     command: ScriptCommand,
     writer: &mut W,
-) -> Result<(), ScriptFault> {
+) -> Result<(), ScriptFault>
+    requires told { IsTold (H.told host.old) core.old }
+    requires linked { AreLinked (H.told host.old) links.old.items }
+    ensures told { IsTold (H.told host.new) core.new }
+    ensures linked { AreLinked (H.told host.new) links.new.items }
+{
+
     let mut noticed = None;
     let mut text = Vec::new(alloc);
     let told = begin(alloc, host, core, links, command, &mut noticed, &mut text)?;

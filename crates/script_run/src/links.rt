@@ -1,5 +1,12 @@
 //! The links to servers, and what comes on one of them in a turn.
 
+ghost use Rattle.container_model.specs.Record.{Record};
+ghost use Rattle.message_model.specs.Spelling.{spell};
+ghost use Rattle.script_model.specs.Events.{running};
+ghost use Rattle.script_model.specs.Turns.{server_of, turn_of};
+ghost use Rattle.script_run.specs.Told.{IsTold};
+ghost use Rattle.std.specs.Prelude.{◌≡◌, ◌++◌, IfOk, OnOk, ℕ};
+
 use crate::container::message;
 use crate::fault::ScriptFault;
 use crate::saves::{first_of, save_all};
@@ -34,7 +41,9 @@ pub(crate) struct Link {
 
 impl Link {
     /// A link on which nothing came yet.
-    pub(crate) fn new(alloc: Global, inc: u32) -> Link {
+    pub(crate) fn new(alloc: Global, inc: u32) -> Link
+        ensures { result.inc ≡ inc }
+    {
         Link {
             inc,
             decoder: Decoder::new(alloc),
@@ -58,7 +67,10 @@ pub(crate) enum Heard {
 }
 
 /// Adds the byte form of a frame.
-fn push_frame(alloc: Global, out: &mut Vec<u8>, frame: &Frame) -> Result<(), ScriptFault> {
+fn push_frame(alloc: Global, out: &mut Vec<u8>, frame: &Frame) -> Result<(), ScriptFault>
+    ensures { OnOk result (out.new.items ≡ out.old.items ++ spell frame.now) }
+{
+
     match encode(alloc, frame) {
         Ok(bytes) => {
             out.extend_from_slice(&bytes)?;
@@ -69,7 +81,10 @@ fn push_frame(alloc: Global, out: &mut Vec<u8>, frame: &Frame) -> Result<(), Scr
 }
 
 /// The server that a message is to or from.
-fn server_of(message: &Message) -> u32 {
+fn server_of(message: &Message) -> u32
+    ensures { result ≡ server_of message.now }
+{
+
     match message {
         Message::Call { inc, .. } => *inc,
         Message::Reply { inc, .. } => *inc,
@@ -79,7 +94,10 @@ fn server_of(message: &Message) -> u32 {
 }
 
 /// The calls that are pending for a server, and a Turn, as bytes.
-fn turn_bytes(alloc: Global, core: &ContainerCore, inc: u32) -> Result<Vec<u8>, ScriptFault> {
+fn turn_bytes(alloc: Global, core: &ContainerCore, inc: u32) -> Result<Vec<u8>, ScriptFault>
+    ensures { IfOk result (λ v. v.items ≡ turn_of core.now inc) }
+{
+
     let mut out = Vec::new(alloc);
     for call in core.resend(alloc)? {
         if server_of(&call) == inc {
@@ -96,7 +114,12 @@ pub(crate) fn send_turn<H: Host>(
     host: &mut H,
     core: &ContainerCore,
     inc: u32,
-) -> Result<bool, ScriptFault> {
+) -> Result<bool, ScriptFault>
+    requires { IsTold (H.told host.old) core.now }
+    ensures told { IsTold (H.told host.new) core.now }
+    ensures still { (s : ℕ) → running s (H.told host.new) ≡ running s (H.told host.old) }
+{
+
     let bytes = turn_bytes(alloc, core, inc)?;
     Ok(host.send(inc, &bytes).is_ok())
 }
@@ -118,7 +141,12 @@ pub(crate) fn hand_over<H: Host>(
     inc: u32,
     taken: Message,
     noticed: &mut Option<Told>,
-) -> Result<bool, ScriptFault> {
+) -> Result<bool, ScriptFault>
+    requires { IsTold (H.told host.old) core.old }
+    ensures told { IsTold (H.told host.new) core.new }
+    ensures still { (s : ℕ) → running s (H.told host.new) ≡ running s (H.told host.old) }
+{
+
     match message(alloc, host, core, inc, taken) {
         Ok(answer) => {
             *noticed = first_of(*noticed, notice_of(answer.refused));
@@ -140,7 +168,13 @@ fn meet<H: Host>(
     link: &mut Link,
     taken: Message,
     noticed: &mut Option<Told>,
-) -> Result<bool, ScriptFault> {
+) -> Result<bool, ScriptFault>
+    requires { IsTold (H.told host.old) core.old }
+    ensures told { IsTold (H.told host.new) core.new }
+    ensures still { (s : ℕ) → running s (H.told host.new) ≡ running s (H.told host.old) }
+    ensures same { link.new.inc ≡ link.old.inc }
+{
+
     if link.held {
         link.waiting.push(taken)?;
         return Ok(true);
@@ -155,7 +189,13 @@ fn take_frames<H: Host>(
     core: &mut ContainerCore,
     link: &mut Link,
     noticed: &mut Option<Told>,
-) -> Result<Heard, ScriptFault> {
+) -> Result<Heard, ScriptFault>
+    requires { IsTold (H.told host.old) core.old }
+    ensures told { IsTold (H.told host.new) core.new }
+    ensures still { (s : ℕ) → running s (H.told host.new) ≡ running s (H.told host.old) }
+    ensures same { link.new.inc ≡ link.old.inc }
+{
+
     for _ in 0..=PIECE {
         match link.decoder.next() {
             Ok(None) => return Ok(Heard::Part),
@@ -172,7 +212,12 @@ fn take_frames<H: Host>(
 }
 
 /// Reads some bytes of a link. Gives whether there were any.
-fn read_some<H: Host>(host: &mut H, link: &mut Link) -> Result<bool, ScriptFault> {
+fn read_some<H: Host>(host: &mut H, link: &mut Link) -> Result<bool, ScriptFault>
+    ensures told { (r : Record) → IsTold (H.told host.old) r → IsTold (H.told host.new) r }
+    ensures still { (s : ℕ) → running s (H.told host.new) ≡ running s (H.told host.old) }
+    ensures same { link.new.inc ≡ link.old.inc }
+{
+
     let mut piece = [0u8; PIECE];
     let n = match host.read(link.inc, &mut piece) {
         Ok(n) => n,
@@ -195,7 +240,13 @@ fn hear<H: Host>(
     link: &mut Link,
     noticed: &mut Option<Told>,
     reads: &mut u32,
-) -> Result<Heard, ScriptFault> {
+) -> Result<Heard, ScriptFault>
+    requires { IsTold (H.told host.old) core.old }
+    ensures told { IsTold (H.told host.new) core.new }
+    ensures still { (s : ℕ) → running s (H.told host.new) ≡ running s (H.told host.old) }
+    ensures same { link.new.inc ≡ link.old.inc }
+{
+
     while *reads > 0 {
         let heard = take_frames(alloc, host, core, link, noticed)?;
         if heard != Heard::Part {
@@ -217,7 +268,13 @@ fn exchange<H: Host>(
     link: &mut Link,
     noticed: &mut Option<Told>,
     reads: &mut u32,
-) -> Result<Heard, ScriptFault> {
+) -> Result<Heard, ScriptFault>
+    requires { IsTold (H.told host.old) core.old }
+    ensures told { IsTold (H.told host.new) core.new }
+    ensures still { (s : ℕ) → running s (H.told host.new) ≡ running s (H.told host.old) }
+    ensures same { link.new.inc ≡ link.old.inc }
+{
+
     if !send_turn(alloc, host, core, link.inc)? {
         return Ok(Heard::Failed);
     }
@@ -225,7 +282,12 @@ fn exchange<H: Host>(
 }
 
 /// Connects a link again: what came of the old connection and isn't carried out is dropped.
-pub(crate) fn reconnect<H: Host>(alloc: Global, host: &mut H, link: &mut Link) -> bool {
+pub(crate) fn reconnect<H: Host>(alloc: Global, host: &mut H, link: &mut Link) -> bool
+    ensures told { (r : Record) → IsTold (H.told host.old) r → IsTold (H.told host.new) r }
+    ensures still { (s : ℕ) → running s (H.told host.new) ≡ running s (H.told host.old) }
+    ensures same { link.new.inc ≡ link.old.inc }
+{
+
     link.decoder = Decoder::new(alloc);
     host.connect(link.inc).is_ok()
 }
@@ -237,7 +299,13 @@ pub(crate) fn serve<H: Host>(
     core: &mut ContainerCore,
     link: &mut Link,
     noticed: &mut Option<Told>,
-) -> Result<bool, ScriptFault> {
+) -> Result<bool, ScriptFault>
+    requires { IsTold (H.told host.old) core.old }
+    ensures told { IsTold (H.told host.new) core.new }
+    ensures still { (s : ℕ) → running s (H.told host.new) ≡ running s (H.told host.old) }
+    ensures same { link.new.inc ≡ link.old.inc }
+{
+
     let mut reads = MOST_READS;
     match exchange(alloc, host, core, link, noticed, &mut reads)? {
         Heard::Turn => return Ok(true),

@@ -1,5 +1,10 @@
 //! Saves: the file of a frame whose commit is asked for goes to a disk of the host, and the container is told what became of it.
 
+ghost use Rattle.container_model.specs.Record.{Record};
+ghost use Rattle.script_model.specs.Events.{running};
+ghost use Rattle.script_run.specs.Told.{IsTold};
+ghost use Rattle.std.specs.Prelude.{◌≡◌, ℕ};
+
 use crate::container::{committed, failed, resolved};
 use crate::fault::ScriptFault;
 use container_core::container::ContainerCore;
@@ -65,6 +70,17 @@ fn commit_to<H: Host>(alloc: Global, disk: H::Disk, bytes: &[u8]) -> Result<Outc
     }
 }
 
+/// The disk of a file.
+fn disk<H: Host>(host: &mut H, name: &[u8]) -> Result<H::Disk, StoreFault>
+    ensures told { (r : Record) → IsTold (H.told host.old) r → IsTold (H.told host.new) r }
+    ensures still { (s : ℕ) → running s (H.told host.new) ≡ running s (H.told host.old) }
+{
+    match host.disk(name) {
+        Ok(given) => Ok(given),
+        Err(fault) => Err(fault),
+    }
+}
+
 /// Makes these bytes the file.
 ///
 /// Refused: where its store can't be opened, also when that is tried again, so that it isn't known what the file is.
@@ -73,10 +89,13 @@ fn commit<H: Host>(
     host: &mut H,
     name: &[u8],
     bytes: &[u8],
-) -> Result<Outcome, StoreFault> {
-    match host.disk(name) {
-        Ok(disk) => commit_to::<H>(alloc, disk, bytes),
-        Err(fault) => try_again::<H>(alloc, host.disk(name)?, bytes, fault),
+) -> Result<Outcome, StoreFault>
+    ensures told { (r : Record) → IsTold (H.told host.old) r → IsTold (H.told host.new) r }
+    ensures still { (s : ℕ) → running s (H.told host.new) ≡ running s (H.told host.old) }
+{
+    match disk(host, name) {
+        Ok(given) => commit_to::<H>(alloc, given, bytes),
+        Err(fault) => try_again::<H>(alloc, disk(host, name)?, bytes, fault),
     }
 }
 
@@ -94,7 +113,12 @@ fn lose<H: Host>(
     host: &mut H,
     core: &mut ContainerCore,
     frame: u32,
-) -> Result<(), ScriptFault> {
+) -> Result<(), ScriptFault>
+    requires { IsTold (H.told host.old) core.old }
+    ensures told { IsTold (H.told host.new) core.new }
+    ensures still { (s : ℕ) → running s (H.told host.new) ≡ running s (H.told host.old) }
+{
+
     failed(alloc, host, core, frame)?;
     resolved(alloc, host, core, frame, false)
 }
@@ -106,7 +130,12 @@ fn save_file<H: Host>(
     core: &mut ContainerCore,
     frame: u32,
     file: &[u8],
-) -> Result<Option<Told>, ScriptFault> {
+) -> Result<Option<Told>, ScriptFault>
+    requires { IsTold (H.told host.old) core.old }
+    ensures told { IsTold (H.told host.new) core.new }
+    ensures still { (s : ℕ) → running s (H.told host.new) ≡ running s (H.told host.old) }
+{
+
     let Some(found) = core.frame(frame) else {
         return Ok(None);
     };
@@ -132,7 +161,12 @@ fn save<H: Host>(
     host: &mut H,
     core: &mut ContainerCore,
     frame: u32,
-) -> Result<Option<Told>, ScriptFault> {
+) -> Result<Option<Told>, ScriptFault>
+    requires { IsTold (H.told host.old) core.old }
+    ensures told { IsTold (H.told host.new) core.new }
+    ensures still { (s : ℕ) → running s (H.told host.new) ≡ running s (H.told host.old) }
+{
+
     match core.image(alloc, frame) {
         Ok(file) => save_file(alloc, host, core, frame, &file),
         Err(ContainerFault::NoMemory) => Err(ScriptFault::NoMemory),
@@ -151,7 +185,12 @@ pub(crate) fn save_all<H: Host>(
     core: &mut ContainerCore,
     answer: &Answer,
     noticed: &mut Option<Told>,
-) -> Result<(), ScriptFault> {
+) -> Result<(), ScriptFault>
+    requires { IsTold (H.told host.old) core.old }
+    ensures told { IsTold (H.told host.new) core.new }
+    ensures still { (s : ℕ) → running s (H.told host.new) ≡ running s (H.told host.old) }
+{
+
     for action in answer.actions.as_slice() {
         if let Action::Commit(frame) = action {
             let lost = save(alloc, host, core, *frame)?;

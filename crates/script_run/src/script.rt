@@ -1,5 +1,11 @@
 //! Scripts, from their texts to their ends.
 
+ghost use Rattle.script_model.specs.Events.{running};
+ghost use Rattle.script_model.specs.Turns.{AreTurns};
+ghost use Rattle.script_run.specs.Links.{AreLinked};
+ghost use Rattle.script_run.specs.Told.{IsTold};
+ghost use Rattle.std.specs.Prelude.{◌≡◌, ℕ, []};
+
 use crate::commands::carry_out;
 use crate::fault::ScriptFault;
 use crate::links::Link;
@@ -36,7 +42,13 @@ fn carry_out_all<H: Host, W: Write>(
     links: &mut Vec<Link>,
     commands: Vec<ScriptCommand>,
     writer: &mut W,
-) -> Result<(), ScriptFault> {
+) -> Result<(), ScriptFault>
+    requires told { IsTold (H.told host.old) core.old }
+    requires linked { AreLinked (H.told host.old) links.old.items }
+    ensures told { IsTold (H.told host.new) core.new }
+    ensures linked { AreLinked (H.told host.new) links.new.items }
+{
+
     for command in commands {
         carry_out(alloc, host, core, links, command, writer)?;
     }
@@ -57,7 +69,12 @@ pub fn run_script<H: Host, R: Read, W: Write>(
     host: &mut H,
     reader: &mut R,
     writer: &mut W,
-) -> Result<(), ScriptFault> {
+) -> Result<(), ScriptFault>
+    requires { H.told host.old ≡ [] }
+    ensures awaited { (s : ℕ) → running s (H.told host.new) ≡ 0 }
+    ensures turns { AreTurns (H.told host.new) }
+{
+
     let commands = match read_script(alloc, reader) {
         Ok(commands) => commands,
         Err(fault) => return Err(fault),

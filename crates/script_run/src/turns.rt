@@ -1,6 +1,10 @@
 //! Turns: each link is sent what is pending for its server, and what comes back is carried out.
 
-ghost use Rattle.std.specs.Prelude.{◌≡◌, ◌+◌, ◌<◌, length};
+ghost use Rattle.script_model.specs.Events.{running};
+ghost use Rattle.script_model.specs.Turns.{AreTurns};
+ghost use Rattle.script_run.specs.Links.{AreLinked};
+ghost use Rattle.script_run.specs.Told.{IsTold};
+ghost use Rattle.std.specs.Prelude.{◌≡◌, ◌+◌, ◌<◌, length, ℕ};
 
 use crate::container::reap;
 use crate::fault::ScriptFault;
@@ -25,8 +29,12 @@ pub(crate) fn end_at<H: Host>(
     place: usize,
     noticed: &mut Option<Told>,
 ) -> Result<(), ScriptFault>
-    requires { place < length links.old.items }
-    ensures { length links.new.items + 1 ≡ length links.old.items }
+    requires within { place < length links.old.items }
+    requires told { IsTold (H.told host.old) core.old }
+    requires linked { AreLinked (H.told host.old) links.old.items }
+    ensures less { length links.new.items + 1 ≡ length links.old.items }
+    ensures told { IsTold (H.told host.new) core.new }
+    ensures linked { AreLinked (H.told host.new) links.new.items }
 {
     let link = links.remove(place);
     host.end(link.inc);
@@ -38,7 +46,13 @@ pub(crate) fn end_at<H: Host>(
 }
 
 /// Ends the servers of all links.
-pub(crate) fn end_all<H: Host>(host: &mut H, links: &mut Vec<Link>) {
+pub(crate) fn end_all<H: Host>(host: &mut H, links: &mut Vec<Link>)
+    requires sent { AreTurns (H.told host.old) }
+    requires linked { AreLinked (H.told host.old) links.old.items }
+    ensures sent { AreTurns (H.told host.new) }
+    ensures ended { (s : ℕ) → running s (H.told host.new) ≡ 0 }
+{
+
     while let Some(link) = links.pop() {
         host.end(link.inc);
     }
@@ -69,6 +83,25 @@ fn is_pending(core: &ContainerCore, links: &[Link]) -> bool {
     false
 }
 
+/// The turn of the link at a place. Gives whether the link stands.
+fn serve_at<H: Host>(
+    alloc: Global,
+    host: &mut H,
+    core: &mut ContainerCore,
+    links: &mut Vec<Link>,
+    place: usize,
+    noticed: &mut Option<Told>,
+) -> Result<bool, ScriptFault>
+    requires within { place < length links.old.items }
+    requires told { IsTold (H.told host.old) core.old }
+    requires linked { AreLinked (H.told host.old) links.old.items }
+    ensures told { IsTold (H.told host.new) core.new }
+    ensures linked { AreLinked (H.told host.new) links.new.items }
+    ensures many { length links.new.items ≡ length links.old.items }
+{
+    serve(alloc, host, core, &mut links[place], noticed)
+}
+
 /// A turn of each link, by rising number. A link that doesn't stand is ended.
 fn turn<H: Host>(
     alloc: Global,
@@ -76,10 +109,16 @@ fn turn<H: Host>(
     core: &mut ContainerCore,
     links: &mut Vec<Link>,
     noticed: &mut Option<Told>,
-) -> Result<(), ScriptFault> {
+) -> Result<(), ScriptFault>
+    requires told { IsTold (H.told host.old) core.old }
+    requires linked { AreLinked (H.told host.old) links.old.items }
+    ensures told { IsTold (H.told host.new) core.new }
+    ensures linked { AreLinked (H.told host.new) links.new.items }
+{
+
     let mut place = 0;
     while place < links.len() {
-        if serve(alloc, host, core, &mut links[place], noticed)? {
+        if serve_at(alloc, host, core, links, place, noticed)? {
             place += 1;
         } else {
             end_at(alloc, host, core, links, place, noticed)?;
@@ -97,7 +136,13 @@ pub(crate) fn turns<H: Host>(
     core: &mut ContainerCore,
     links: &mut Vec<Link>,
     noticed: &mut Option<Told>,
-) -> Result<(), ScriptFault> {
+) -> Result<(), ScriptFault>
+    requires told { IsTold (H.told host.old) core.old }
+    requires linked { AreLinked (H.told host.old) links.old.items }
+    ensures told { IsTold (H.told host.new) core.new }
+    ensures linked { AreLinked (H.told host.new) links.new.items }
+{
+
     for _ in 0..MOST_TURNS {
         if !is_pending(core, links) {
             return Ok(());

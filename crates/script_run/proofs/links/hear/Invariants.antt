@@ -1,5 +1,14 @@
-use Rattle.std.proofs.Common.{ℕ}
+use Rattle.std.proofs.Common.{◌≡◌, ℕ}
+use Rattle.script_model.specs.Events.{running}
+use Rattle.script_run.specs.Told.{IsTold}
 use Rattle.script_run.proofs.links.hear.Given as goal
+
+abbrev pub invariant-loop-reads : goal.invariant-loop-reads
+invariant-loop-reads g l = record {
+  told : IsTold (g.H.Host.told l.host) l.core;
+  still : (s : ℕ) → running s (g.H.Host.told l.host) ≡ running s (g.H.Host.told l.fn.host);
+  same : l.link.inc ≡ l.fn.link.inc;
+}
 
 abbrev pub decreases-loop-reads : goal.decreases-loop-reads
 decreases-loop-reads g l = l.reads

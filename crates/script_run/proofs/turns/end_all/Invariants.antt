@@ -1,5 +1,13 @@
 use Rattle.std.proofs.Common.{ℕ, length}
+use Rattle.script_model.specs.Turns.{AreTurns}
+use Rattle.script_run.specs.Links.{AreLinked}
 use Rattle.script_run.proofs.turns.end_all.Given as goal
+
+abbrev pub invariant-loop-link : goal.invariant-loop-link
+invariant-loop-link g l = record {
+  sent : AreTurns (g.H.Host.told l.host);
+  linked : AreLinked (g.H.Host.told l.host) l.links.items;
+}
 
 abbrev pub decreases-loop-link : goal.decreases-loop-link
 decreases-loop-link g l = goal.left-loop-link g l

@@ -1,0 +1,9 @@
+use Rattle.script_run.specs.Links.{AreLinked}
+use Rattle.script_run.specs.Told.{IsTold}
+use Rattle.script_run.proofs.commands.act.Given as goal
+
+abbrev pub invariant-loop-action : goal.invariant-loop-action
+invariant-loop-action g l = record {
+  told : IsTold (g.H.Host.told l.host) l.core;
+  linked : AreLinked (g.H.Host.told l.host) l.links.items;
+}

@@ -1,0 +1,7 @@
+use Rattle.std.proofs.Common.{ap}
+use Rattle.script_run.specs.declared.links.Link.{Link}
+use Rattle.script_run.proofs.Given.{same_links}
+use Rattle.script_run.proofs.commands.hold.Goals as goal
+
+pub returns : goal.returns
+returns c = λ s. same_links s c.args.links.now.items c.args.place _ c.index_mut.result.now c.requires (ap (λ (l : Link). l.inc) c.index_mut.ensures.value)

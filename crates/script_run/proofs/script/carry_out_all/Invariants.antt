@@ -1,0 +1,9 @@
+use Rattle.script_run.specs.Links.{AreLinked}
+use Rattle.script_run.specs.Told.{IsTold}
+use Rattle.script_run.proofs.script.carry_out_all.Given as goal
+
+abbrev pub invariant-loop-command : goal.invariant-loop-command
+invariant-loop-command g l = record {
+  told : IsTold (g.H.Host.told l.host) l.core;
+  linked : AreLinked (g.H.Host.told l.host) l.links.items;
+}

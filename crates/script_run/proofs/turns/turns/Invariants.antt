@@ -1,0 +1,9 @@
+use Rattle.script_run.specs.Links.{AreLinked}
+use Rattle.script_run.specs.Told.{IsTold}
+use Rattle.script_run.proofs.turns.turns.Given as goal
+
+abbrev pub invariant-loop : goal.invariant-loop
+invariant-loop g l = record {
+  told : IsTold (g.H.Host.told l.host) l.core;
+  linked : AreLinked (g.H.Host.told l.host) l.links.items;
+}
