@@ -1,2 +1,3 @@
-pub mod RepliesMade
+pub mod ContentsMade
 pub mod OpensMade
+pub mod RepliesMade

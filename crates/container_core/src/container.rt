@@ -147,6 +147,8 @@ impl ContainerCore {
     ///   bytes; `NumbersSpent`.
     /// - Save: `NoSuch`; `InDoubt`; `Busy` where the frame is saving, its menus and border are being given or taken back,
     ///   or an object of it is busy; `NumbersSpent`.
+    /// - SaveAs: as a save, `Busy` also where another frame bears the name or is to be saved under it; `WrongState` where it is
+    ///   the frame's own; then `NumbersSpent`.
     /// - Delete: `NoSuch`, `InDoubt` and `Busy` as for an edit; `WrongState` where the object isn't passive.
     /// - Kill: `NoSuch` where there is no such server that isn't reaped.
     /// - Close: `NoSuch`, `InDoubt` and `Busy` as for an edit; `NotRunning` where the object is passive; `NumbersSpent`;

@@ -6,6 +6,7 @@ mod closes;
 mod commands;
 mod commits;
 pub mod container;
+mod contents;
 mod deletes;
 mod edits;
 mod frames;
