@@ -135,6 +135,11 @@ edit_of bytes o = event.Command (command.Edit o bytes)
 abbrev pub save_of : ℕ → Event
 save_of f = event.Command (command.Save f)
 
+abbrev pub save_as_of : Option ℕ → Option (List ℕ) → Option Event
+save_as_of (Some f) (Some name) = Some (event.Command (command.SaveAs f name))
+save_as_of (Some f) None = None
+save_as_of None name = None
+
 -- what stands behind the event's name
 abbrev pub sized_read : List (List ℕ) → Option Sized
 sized_read (name ∷ w ∷ h ∷ []) = sized_of (name_read name) (short_read w) (short_read h)
@@ -145,6 +150,10 @@ new_read words = option_map new_of (sized_read words)
 
 abbrev pub open_read : List (List ℕ) → Option Event
 open_read words = option_map open_of (sized_read words)
+
+abbrev pub save_as_read : List (List ℕ) → Option Event
+save_as_read (f ∷ name ∷ []) = save_as_of (number_read f) (name_read name)
+save_as_read _ = None
 
 abbrev pub insert_read : List (List ℕ) → Option Event
 insert_read (f ∷ kind ∷ x ∷ y ∷ w ∷ h ∷ []) = insert_of (number_read f) (kind_read kind) (area_of (short_read x) (short_read y) (short_read w) (short_read h))
@@ -202,7 +211,8 @@ abbrev pub event_named : List ℕ → List (List ℕ) → Option Event
 event_named name others =
     cond (bytes_eq name (codes "start")) (start_read others) (
     cond (bytes_eq name (codes "new")) (new_read others) (
-    cond (bytes_eq name (codes "edit")) (edit_read others) (numbers_named name others)))
+    cond (bytes_eq name (codes "saveas")) (save_as_read others) (
+    cond (bytes_eq name (codes "edit")) (edit_read others) (numbers_named name others))))
 
 abbrev pub event_in : List (List ℕ) → Option Event
 event_in [] = None
@@ -232,10 +242,11 @@ line_read n line = or_else (open_in (words line)) (event_read line)
 abbrev pub events_read : List ℕ → Result (List Event) (ℕ × SyntaxFault)
 events_read text = text_read line_read text
 
--- Memory is taken for the name of a new frame, and for the bytes of an edit (and for the name of a file that is opened).
+-- Memory is taken for the name of a new frame, for another name of one, and for the bytes of an edit (and for the name of a file that is opened).
 abbrev pub command_takes_memory : Command → Bool
 command_takes_memory (command.New name w h) = true
 command_takes_memory (command.Edit o bytes) = true
+command_takes_memory (command.SaveAs f name) = true
 command_takes_memory (command.Insert f kind area) = false
 command_takes_memory command.Start = false
 command_takes_memory (command.Run o inc) = false

@@ -1,6 +1,6 @@
 //! Texts of events.
 
-ghost use Rattle.event_texts.specs.Events.{area_of, close_read, commit_named, edit_read, end_named, event_named, event_read, insert_read, is_file_name, kind_read, new_read, numbers_named, object_named, open_in, open_named, open_read, option_read, outcome_read, pair_read, resolve_read, short_read, signed_read, sized_read, sole_number, takes_memory, verb_read};
+ghost use Rattle.event_texts.specs.Events.{area_of, close_read, commit_named, edit_read, end_named, event_named, event_read, insert_read, is_file_name, kind_read, new_read, numbers_named, object_named, open_in, open_named, open_read, option_read, outcome_read, pair_read, resolve_read, save_as_read, short_read, signed_read, sized_read, sole_number, takes_memory, verb_read};
 ghost use Rattle.embed_core.specs.Words.{words};
 ghost use Rattle.std.specs.List.{list_all};
 ghost use Rattle.std.specs.Prelude.{◌≡◌, [], IfErr, IfOk, IsSome, IsTrue};
@@ -66,7 +66,7 @@ fn parse_open_with(alloc: Global, name: &[u8], rest: &[u8]) -> Result<Option<Eve
 
 /// The event that a line spells, but for a file that is opened.
 ///
-/// Refused for want of memory alone, which is taken for a new frame and for an edit.
+/// Refused for want of memory alone, which is taken for a new frame, for another name of one, and for an edit.
 pub fn parse(alloc: Global, line: &[u8]) -> Result<Option<Event>, AllocError>
     ensures read { IfOk result (λ event. event ≡ event_read line.now) }
     ensures within { IfErr result (λ _. IsTrue (takes_memory (event_read line.now))) }
@@ -98,6 +98,8 @@ fn parse_with(alloc: Global, name: &[u8], rest: &[u8]) -> Result<Option<Event>, 
         Ok(None)
     } else if name == b"new".as_slice() {
         new_frame(alloc, rest)
+    } else if name == b"saveas".as_slice() {
+        save_as(alloc, rest)
     } else if name == b"edit".as_slice() {
         edit(alloc, rest)
     } else {
@@ -278,6 +280,26 @@ fn opened_frame(alloc: Global, rest: &[u8]) -> Result<Option<Event>, AllocError>
         Some((name, width, height)) => Ok(Some(Event::Open(name, width, height))),
         None => Ok(None),
     }
+}
+
+/// The save under another name that what stands behind `saveas` spells.
+fn save_as(alloc: Global, rest: &[u8]) -> Result<Option<Event>, AllocError>
+    ensures read { IfOk result (λ event. event ≡ save_as_read (words rest.now)) }
+    ensures within { IfErr result (λ _. IsTrue (takes_memory (save_as_read (words rest.now)))) }
+{
+    let mut words = Pieces::new(rest, b' ');
+    let (Some(frame), Some(name), None) = (
+        words.next_piece(),
+        words.next_piece(),
+        words.next_piece(),
+    ) else {
+        return Ok(None);
+    };
+    let (Some(frame), true) = (number(frame), is_file_name(name)) else {
+        return Ok(None);
+    };
+    let name = Bytes::from_slice(alloc, name)?;
+    Ok(Some(Event::Command(Command::SaveAs(frame, name))))
 }
 
 /// The kind that a word spells.
