@@ -170,7 +170,8 @@ fn hears(
     }
 }
 
-fn tells(
+/// Whether a container answers this to a row.
+pub(crate) fn tells(
     rt: &impl Abort,
     alloc: Global,
     core: &mut ContainerCore,
