@@ -48,7 +48,6 @@ fn start<H: Host>(
     ensures told { (r : Record) → IsTold (H.told host.old) r → IsTold (H.told host.new) r }
     ensures linked { AreLinked (H.told host.new) links.new.items }
 {
-
     links.reserve(1)?;
     match host.start(inc) {
         Ok(()) => {
@@ -81,7 +80,6 @@ fn end<H: Host>(
     ensures told { IsTold (H.told host.new) core.new }
     ensures linked { AreLinked (H.told host.new) links.new.items }
 {
-
     match place_of(links, inc) {
         Some(place) => end_at(alloc, host, core, links, place, noticed),
         None => Ok(()),
@@ -102,7 +100,6 @@ fn act<H: Host>(
     ensures told { IsTold (H.told host.new) core.new }
     ensures linked { AreLinked (H.told host.new) links.new.items }
 {
-
     for action in answer.actions.as_slice() {
         match action {
             Action::Start(inc) => start(alloc, host, links, *inc)?,
@@ -127,7 +124,6 @@ fn order<H: Host>(
     ensures told { IsTold (H.told host.new) core.new }
     ensures linked { AreLinked (H.told host.new) links.new.items }
 {
-
     match command(alloc, host, core, ordered) {
         Ok(answer) => {
             act(alloc, host, core, links, &answer, noticed)?;
@@ -173,7 +169,6 @@ fn hand_all<H: Host>(
     ensures told { IsTold (H.told host.new) core.new }
     ensures still { (s : ℕ) → running s (H.told host.new) ≡ running s (H.told host.old) }
 {
-
     for taken in waiting.into_vec() {
         if !hand_over(alloc, host, core, inc, taken, noticed)? {
             return Ok(false);
@@ -194,12 +189,7 @@ fn let_go(alloc: Global, links: &mut Vec<Link>, place: usize) -> Items<Message>
 }
 
 /// Connects the link at a place again. Gives whether it was made.
-fn reconnect_at<H: Host>(
-    alloc: Global,
-    host: &mut H,
-    links: &mut Vec<Link>,
-    place: usize,
-) -> bool
+fn reconnect_at<H: Host>(alloc: Global, host: &mut H, links: &mut Vec<Link>, place: usize) -> bool
     requires within { place < length links.old.items }
     requires linked { AreLinked (H.told host.old) links.old.items }
     ensures told { (r : Record) → IsTold (H.told host.old) r → IsTold (H.told host.new) r }
@@ -254,7 +244,6 @@ fn at_link<H: Host>(
     ensures told { IsTold (H.told host.new) core.new }
     ensures linked { AreLinked (H.told host.new) links.new.items }
 {
-
     let inc = match command {
         ScriptCommand::Cut(inc) | ScriptCommand::Hold(inc) | ScriptCommand::Release(inc) => *inc,
         _ => return Ok(Told::Done),
@@ -302,7 +291,6 @@ fn begin<H: Host>(
     ensures told { IsTold (H.told host.new) core.new }
     ensures linked { AreLinked (H.told host.new) links.new.items }
 {
-
     match command {
         ScriptCommand::Container(ordered) => order(alloc, host, core, links, ordered, noticed),
         ScriptCommand::Screen(frame) => show(alloc, core, frame, text),
@@ -324,7 +312,6 @@ pub(crate) fn carry_out<H: Host, W: Write>(
     ensures told { IsTold (H.told host.new) core.new }
     ensures linked { AreLinked (H.told host.new) links.new.items }
 {
-
     let mut noticed = None;
     let mut text = Vec::new(alloc);
     let told = begin(alloc, host, core, links, command, &mut noticed, &mut text)?;

@@ -21,7 +21,6 @@ use wire_msgs::message::Message;
 fn command_of(step: Step) -> Option<Command>
     ensures { (c : Command) → step ≡ given.Command c → result ≡ Some c }
 {
-
     match step {
         Step::Command(command) => Some(command),
         _ => None,
@@ -32,7 +31,6 @@ fn command_of(step: Step) -> Option<Command>
 fn message_of(step: Step) -> Option<Message>
     ensures { (inc : ℕ) (m : Message) → step ≡ given.Message inc m → result ≡ Some m }
 {
-
     match step {
         Step::Message(_, message) => Some(message),
         _ => None,

@@ -70,7 +70,6 @@ pub(crate) enum Heard {
 fn push_frame(alloc: Global, out: &mut Vec<u8>, frame: &Frame) -> Result<(), ScriptFault>
     ensures { OnOk result (out.new.items ≡ out.old.items ++ spell frame.now) }
 {
-
     match encode(alloc, frame) {
         Ok(bytes) => {
             out.extend_from_slice(&bytes)?;
@@ -84,7 +83,6 @@ fn push_frame(alloc: Global, out: &mut Vec<u8>, frame: &Frame) -> Result<(), Scr
 fn server_of(message: &Message) -> u32
     ensures { result ≡ server_of message.now }
 {
-
     match message {
         Message::Call { inc, .. } => *inc,
         Message::Reply { inc, .. } => *inc,
@@ -97,7 +95,6 @@ fn server_of(message: &Message) -> u32
 fn turn_bytes(alloc: Global, core: &ContainerCore, inc: u32) -> Result<Vec<u8>, ScriptFault>
     ensures { IfOk result (λ v. v.items ≡ turn_of core.now inc) }
 {
-
     let mut out = Vec::new(alloc);
     for call in core.resend(alloc)? {
         if server_of(&call) == inc {
@@ -119,7 +116,6 @@ pub(crate) fn send_turn<H: Host>(
     ensures told { IsTold (H.told host.new) core.now }
     ensures still { (s : ℕ) → running s (H.told host.new) ≡ running s (H.told host.old) }
 {
-
     let bytes = turn_bytes(alloc, core, inc)?;
     Ok(host.send(inc, &bytes).is_ok())
 }
@@ -146,7 +142,6 @@ pub(crate) fn hand_over<H: Host>(
     ensures told { IsTold (H.told host.new) core.new }
     ensures still { (s : ℕ) → running s (H.told host.new) ≡ running s (H.told host.old) }
 {
-
     match message(alloc, host, core, inc, taken) {
         Ok(answer) => {
             *noticed = first_of(*noticed, notice_of(answer.refused));
@@ -174,7 +169,6 @@ fn meet<H: Host>(
     ensures still { (s : ℕ) → running s (H.told host.new) ≡ running s (H.told host.old) }
     ensures same { link.new.inc ≡ link.old.inc }
 {
-
     if link.held {
         link.waiting.push(taken)?;
         return Ok(true);
@@ -195,7 +189,6 @@ fn take_frames<H: Host>(
     ensures still { (s : ℕ) → running s (H.told host.new) ≡ running s (H.told host.old) }
     ensures same { link.new.inc ≡ link.old.inc }
 {
-
     for _ in 0..=PIECE {
         match link.decoder.next() {
             Ok(None) => return Ok(Heard::Part),
@@ -217,7 +210,6 @@ fn read_some<H: Host>(host: &mut H, link: &mut Link) -> Result<bool, ScriptFault
     ensures still { (s : ℕ) → running s (H.told host.new) ≡ running s (H.told host.old) }
     ensures same { link.new.inc ≡ link.old.inc }
 {
-
     let mut piece = [0u8; PIECE];
     let n = match host.read(link.inc, &mut piece) {
         Ok(n) => n,
@@ -246,7 +238,6 @@ fn hear<H: Host>(
     ensures still { (s : ℕ) → running s (H.told host.new) ≡ running s (H.told host.old) }
     ensures same { link.new.inc ≡ link.old.inc }
 {
-
     while *reads > 0 {
         let heard = take_frames(alloc, host, core, link, noticed)?;
         if heard != Heard::Part {
@@ -274,7 +265,6 @@ fn exchange<H: Host>(
     ensures still { (s : ℕ) → running s (H.told host.new) ≡ running s (H.told host.old) }
     ensures same { link.new.inc ≡ link.old.inc }
 {
-
     if !send_turn(alloc, host, core, link.inc)? {
         return Ok(Heard::Failed);
     }
@@ -287,7 +277,6 @@ pub(crate) fn reconnect<H: Host>(alloc: Global, host: &mut H, link: &mut Link) -
     ensures still { (s : ℕ) → running s (H.told host.new) ≡ running s (H.told host.old) }
     ensures same { link.new.inc ≡ link.old.inc }
 {
-
     link.decoder = Decoder::new(alloc);
     host.connect(link.inc).is_ok()
 }
@@ -305,7 +294,6 @@ pub(crate) fn serve<H: Host>(
     ensures still { (s : ℕ) → running s (H.told host.new) ≡ running s (H.told host.old) }
     ensures same { link.new.inc ≡ link.old.inc }
 {
-
     let mut reads = MOST_READS;
     match exchange(alloc, host, core, link, noticed, &mut reads)? {
         Heard::Turn => return Ok(true),

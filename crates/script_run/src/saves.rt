@@ -118,7 +118,6 @@ fn lose<H: Host>(
     ensures told { IsTold (H.told host.new) core.new }
     ensures still { (s : ℕ) → running s (H.told host.new) ≡ running s (H.told host.old) }
 {
-
     failed(alloc, host, core, frame)?;
     resolved(alloc, host, core, frame, false)
 }
@@ -135,7 +134,6 @@ fn save_file<H: Host>(
     ensures told { IsTold (H.told host.new) core.new }
     ensures still { (s : ℕ) → running s (H.told host.new) ≡ running s (H.told host.old) }
 {
-
     let Some(found) = core.frame(frame) else {
         return Ok(None);
     };
@@ -166,7 +164,6 @@ fn save<H: Host>(
     ensures told { IsTold (H.told host.new) core.new }
     ensures still { (s : ℕ) → running s (H.told host.new) ≡ running s (H.told host.old) }
 {
-
     match core.image(alloc, frame) {
         Ok(file) => save_file(alloc, host, core, frame, &file),
         Err(ContainerFault::NoMemory) => Err(ScriptFault::NoMemory),
@@ -190,7 +187,6 @@ pub(crate) fn save_all<H: Host>(
     ensures told { IsTold (H.told host.new) core.new }
     ensures still { (s : ℕ) → running s (H.told host.new) ≡ running s (H.told host.old) }
 {
-
     for action in answer.actions.as_slice() {
         if let Action::Commit(frame) = action {
             let lost = save(alloc, host, core, *frame)?;

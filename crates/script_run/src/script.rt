@@ -48,7 +48,6 @@ fn carry_out_all<H: Host, W: Write>(
     ensures told { IsTold (H.told host.new) core.new }
     ensures linked { AreLinked (H.told host.new) links.new.items }
 {
-
     for command in commands {
         carry_out(alloc, host, core, links, command, writer)?;
     }
@@ -74,7 +73,6 @@ pub fn run_script<H: Host, R: Read, W: Write>(
     ensures awaited { (s : ℕ) → running s (H.told host.new) ≡ 0 }
     ensures turns { AreTurns (H.told host.new) }
 {
-
     let commands = match read_script(alloc, reader) {
         Ok(commands) => commands,
         Err(fault) => return Err(fault),

@@ -52,7 +52,6 @@ pub(crate) fn end_all<H: Host>(host: &mut H, links: &mut Vec<Link>)
     ensures sent { AreTurns (H.told host.new) }
     ensures ended { (s : ℕ) → running s (H.told host.new) ≡ 0 }
 {
-
     while let Some(link) = links.pop() {
         host.end(link.inc);
     }
@@ -115,7 +114,6 @@ fn turn<H: Host>(
     ensures told { IsTold (H.told host.new) core.new }
     ensures linked { AreLinked (H.told host.new) links.new.items }
 {
-
     let mut place = 0;
     while place < links.len() {
         if serve_at(alloc, host, core, links, place, noticed)? {
@@ -142,7 +140,6 @@ pub(crate) fn turns<H: Host>(
     ensures told { IsTold (H.told host.new) core.new }
     ensures linked { AreLinked (H.told host.new) links.new.items }
 {
-
     for _ in 0..MOST_TURNS {
         if !is_pending(core, links) {
             return Ok(());
