@@ -4,6 +4,8 @@
 pub mod command_lines;
 mod disk_folder;
 mod extracting;
+mod finding;
+mod packing;
 pub mod running;
 pub mod tasks;
 

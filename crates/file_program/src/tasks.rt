@@ -1,7 +1,8 @@
 //! What a command line over files asks for.
 
-use crate::command_lines::{EXTRACT, FOLDER, FORCE};
+use crate::command_lines::{EXTRACT, FOLDER, FORCE, PACK};
 use crate::extracting::extract;
+use crate::packing::pack;
 use crate::running::{clean, get, list, make};
 use clap::ArgMatches;
 use program_ends::command_lines::{CLEAN, FILE, GET, LIST, MAKE, OUT, PATH};
@@ -21,6 +22,8 @@ pub enum Task<'a> {
     Clean(&'a str, &'a str),
     /// A folder of one path, made of the file of another; whether files that stand there are replaced.
     Extract(&'a str, &'a str, bool),
+    /// A file of one path, made of the folder of another: that of the folder, and that of the file.
+    Pack(&'a str, &'a str),
 }
 
 impl<'a> Task<'a> {
@@ -38,7 +41,10 @@ impl<'a> Task<'a> {
         if let Some(cleaned) = matches.subcommand_matches(CLEAN) {
             return cleaning(cleaned);
         }
-        extracting(matches.subcommand_matches(EXTRACT)?)
+        if let Some(extracted) = matches.subcommand_matches(EXTRACT) {
+            return extracting(extracted);
+        }
+        packing(matches.subcommand_matches(PACK)?)
     }
 
     /// Does what is asked for, and gives the status to end with.
@@ -49,6 +55,7 @@ impl<'a> Task<'a> {
             Task::Get(path, word) => get(rt, path, word),
             Task::Clean(path, out) => clean(rt, path, out),
             Task::Extract(path, folder, is_forced) => extract(rt, path, folder, is_forced),
+            Task::Pack(folder, path) => pack(rt, folder, path),
         }
     }
 }
@@ -75,4 +82,8 @@ fn extracting<'a>(extracted: &ArgMatches<'a>) -> Option<Task<'a>> {
         extracted.get_str(FOLDER)?,
         extracted.get_flag(FORCE),
     ))
+}
+
+fn packing<'a>(packed: &ArgMatches<'a>) -> Option<Task<'a>> {
+    Some(Task::Pack(packed.get_str(FOLDER)?, packed.get_str(FILE)?))
 }
