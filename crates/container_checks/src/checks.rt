@@ -1,7 +1,7 @@
 //! What steps are refused for.
 
 ghost use Rattle.std.specs.Prelude.{◌&&◌, ◌+◌, ◌≡◌, ◌≤◌, ◌||◌, All, length};
-ghost use Rattle.container_model.specs.Commands.{all_have_numbers, any_busy, is_empty_area, is_known_class, is_name, is_named, is_size};
+ghost use Rattle.container_model.specs.Commands.{all_have_numbers, any_busy, is_empty_area, is_known_class, is_name, is_named, is_named_beside, is_size};
 ghost use Rattle.container_model.specs.Record.{count_objects, has_numbers, is_asked, is_busy, is_claim, is_doubtful, is_moving, is_saving, link_has_numbers};
 ghost use Rattle.container_model.specs.Room.{IfLinked};
 ghost use Rattle.container_model.specs.Saves.{has_image, is_committing};
@@ -33,6 +33,21 @@ pub fn is_named(name: &[u8], frames: &[Frame]) -> bool
 {
     for frame in frames {
         if frame.name.as_slice() == name || is_name(name, &frame.asked) {
+            return true;
+        }
+    }
+    false
+}
+
+/// Whether a frame but this one bears a name, or is to be saved under it.
+pub fn is_named_beside(number: u32, name: &[u8], frames: &[Frame]) -> bool
+    requires { length frames.now ≤ 1000000 }
+    ensures { result ≡ is_named_beside number name.now 1 frames.now }
+{
+    for (i, frame) in frames.iter().enumerate() {
+        if i as u32 + 1 != number
+            && (frame.name.as_slice() == name || is_name(name, &frame.asked))
+        {
             return true;
         }
     }

@@ -1,1 +1,3 @@
+pub mod ContentsMade
+pub mod OpensMade
 pub mod RepliesMade

@@ -33,6 +33,7 @@ impl State {
             Command::Run(object, inc) => self.run(alloc, object, inc),
             Command::Edit(object, bytes) => self.edit(alloc, object, bytes),
             Command::Save(frame) => self.save(alloc, frame),
+            Command::SaveAs(frame, name) => self.save_as(alloc, frame, name),
             Command::Delete(object) => self.delete(alloc, object),
             Command::Kill(inc) => self.kill(alloc, inc),
             Command::Close(object, option) => self.close(alloc, object, option),

@@ -12,6 +12,7 @@ use container_screen::screen::screen;
 use container_steps::steady_laws::steady_after;
 use std::alloc::{AllocError, Global};
 use std::marker::Model;
+use storage_tree::bytes::Bytes;
 use wire_msgs::items::Items;
 use wire_msgs::message::Message;
 
@@ -43,6 +44,8 @@ impl Model for ContainerCore {
 
 impl ContainerCore {
     ghost use Rattle.std.specs.Prelude.{◌≡◌, ◌≤◌, ◌+◌, IfErr, IfOk, List, Ok, OnErr, length, map, option_copied, if◌then◌else◌, []};
+    ghost use Rattle.container_core.specs.Opening.{MayRefuse, looked_at};
+    ghost use Rattle.container_model.specs.Opens.{Given, IsReadAs, opened};
     ghost use Rattle.std.specs.List.{range_with_len};
     ghost use Rattle.container_steady.specs.Steady.{Steady};
     ghost use Rattle.container_model.specs.Commands.{on_command};
@@ -50,9 +53,11 @@ impl ContainerCore {
     ghost use Rattle.container_model.specs.Record.{Refuses, counts_none, empty, is_object};
     ghost use Rattle.container_model.specs.Replies.{pending_calls};
     ghost use Rattle.container_model.specs.Room.{IsSound};
+    ghost use Rattle.container_model.specs.Saves as saves;
     ghost use Rattle.container_model.specs.Saves.{commit_done, commit_failed, counted_of, document_tree, image, resolve};
     ghost use Rattle.container_model.specs.declared.answer.Part.{Part};
     ghost use Rattle.container_screen.specs.Screen.{shown};
+    ghost use Rattle.document_model.specs.DocOf.{DocOf};
     ghost use Rattle.file_model.specs.Denotes.{Denotes};
     ghost use Rattle.wire_msgs.specs.Found.{find, nth};
 
@@ -142,6 +147,8 @@ impl ContainerCore {
     ///   bytes; `NumbersSpent`.
     /// - Save: `NoSuch`; `InDoubt`; `Busy` where the frame is saving, its menus and border are being given or taken back,
     ///   or an object of it is busy; `NumbersSpent`.
+    /// - SaveAs: as a save, `Busy` also where another frame bears the name or is to be saved under it; `WrongState` where it is
+    ///   the frame's own; then `NumbersSpent`.
     /// - Delete: `NoSuch`, `InDoubt` and `Busy` as for an edit; `WrongState` where the object isn't passive.
     /// - Kill: `NoSuch` where there is no such server that isn't reaped.
     /// - Close: `NoSuch`, `InDoubt` and `Busy` as for an edit; `NotRunning` where the object is passive; `NumbersSpent`;
@@ -272,6 +279,45 @@ impl ContainerCore {
         self.state.resolve(alloc, f, is_kept)
     }
 
+    /// Whether a file may be opened under this name, as a frame so many columns wide and so many lines high: what is looked at
+    /// before the file is. It takes no memory.
+    ///
+    /// Refused: `Busy` where a frame bears the name or is to be saved under it; `WrongState` where the size isn't 1 to 200
+    /// columns by 1 to 100 lines.
+    pub fn may_open(&self, name: &[u8], w: u16, h: u16) -> Result<(), ContainerFault>
+        ensures { result ≡ looked_at self.now name.now w h }
+    {
+        self.state.may_open(name, w, h)
+    }
+
+    /// A file is opened, as a frame of its name, so many columns wide and so many lines high. What the file's bytes are is given,
+    /// none where there is no such file. The frame has the objects of the file's document in their order, passive, each with the
+    /// next number; the answer has the frame's number and theirs.
+    ///
+    /// Refused: `Busy` and `WrongState` as `may_open`; then `NoSuch` where there is no file; `BadFile` where its bytes denote no
+    /// tree, or one that holds no document; `Full` where there are 8 frames already; `NumbersSpent` where no number is left for
+    /// the frame, or for each object. `NoMemory` may be told in the place of what comes behind `NoSuch` where memory was refused
+    /// as the file was read, and last of all. A refusal changes nothing.
+    pub fn open_file(
+        &mut self,
+        alloc: Global,
+        name: Bytes,
+        w: u16,
+        h: u16,
+        file: Option<&[u8]>,
+    ) -> Result<Answer, ContainerFault>
+        ensures taken { IfOk result (λ a. (given : Given) × IsReadAs (option_copied file.entry) given × (opened self.old name w h given ≡ Ok (counts_none self.new a))) }
+        ensures few { IfOk result (λ a. length a.actions ≤ 1) }
+        ensures refused { IfErr result (MayRefuse self.old name w h (option_copied file.entry)) }
+        ensures kept { OnErr result (self.new ≡ self.old) }
+        ensures steady { Steady self.new }
+        ensures sound { IsSound self.new }
+    {
+        steady_after();
+        sound_after();
+        self.state.open_file(alloc, name, w, h, file)
+    }
+
     /// The calls that are pending, by their objects, each as it was first sent.
     ///
     /// Refused for want of memory alone.
@@ -293,7 +339,8 @@ impl ContainerCore {
         self.state.document(alloc, f)
     }
 
-    /// The document of a frame, as `document`, and the file that is to be committed.
+    /// The document of a frame, as `document`, and the file that is to be committed: it denotes a tree that holds the document, so
+    /// it gives it again where it is opened.
     ///
     /// Refused: as `document`.
     pub fn commit_image(
@@ -303,16 +350,18 @@ impl ContainerCore {
     ) -> Result<(Items<Part>, Vec<u8>), ContainerFault>
         ensures document { IfOk result (λ w. image self.now f ≡ Ok w.0) }
         ensures denotes { IfOk result (λ w. ∥ Denotes w.1.items (document_tree w.0) ∥₁) }
+        ensures holds { IfOk result (λ w. DocOf (document_tree w.0) (saves.document w.0)) }
         ensures refused { IfErr result (Refuses (image self.now f)) }
     {
         self.state.commit_image(alloc, f)
     }
 
-    /// The file that is to be committed for a frame, which denotes its document (MS-CFB 2).
+    /// The file that is to be committed for a frame, which denotes its document (MS-CFB 2), and so gives it again where it is
+    /// opened.
     ///
     /// Refused: as `document`.
     pub fn image(&self, alloc: Global, f: u32) -> Result<Vec<u8>, ContainerFault>
-        ensures denotes { IfOk result (λ v. (parts : List Part) × (image self.now f ≡ Ok parts) × ∥ Denotes v.items (document_tree parts) ∥₁) }
+        ensures denotes { IfOk result (λ v. (parts : List Part) × (image self.now f ≡ Ok parts) × ∥ Denotes v.items (document_tree parts) ∥₁ × DocOf (document_tree parts) (saves.document parts)) }
         ensures refused { IfErr result (Refuses (image self.now f)) }
     {
         let (_, file) = self.commit_image(alloc, f)?;

@@ -2,8 +2,10 @@
 
 ghost use Rattle.std.specs.Prelude.{◌≡◌, IfErr, IfOk, List, Ok, OnOk};
 ghost use Rattle.container_model.specs.Record.{Refuses};
+ghost use Rattle.container_model.specs.Saves as saves;
 ghost use Rattle.container_model.specs.Saves.{document_tree, image, parts_in};
 ghost use Rattle.container_model.specs.declared.answer.Part.{Part};
+ghost use Rattle.document_model.specs.DocOf.{DocOf};
 ghost use Rattle.file_model.specs.Denotes.{Denotes};
 
 use crate::state::State;
@@ -55,6 +57,7 @@ impl State {
     ) -> Result<(Items<Part>, Vec<u8>), ContainerFault>
         ensures document { IfOk result (λ w. image self.now f ≡ Ok w.0) }
         ensures denotes { IfOk result (λ w. ∥ Denotes w.1.items (document_tree w.0) ∥₁) }
+        ensures holds { IfOk result (λ w. DocOf (document_tree w.0) (saves.document w.0)) }
         ensures refused { IfErr result (Refuses (image self.now f)) }
     {
         let parts = self.document(alloc, f)?;

@@ -10,6 +10,7 @@ ghost use Rattle.wire_msgs.specs.Found.{find, IsPlace};
 use crate::state::State;
 use container_checks::lookups::place_linked;
 use container_grants::grants::{prepare_waiting, take_grants, tell_frame};
+use container_links::handing::is_content;
 use container_links::replies::gives_up;
 use container_links::settling::settle_into;
 use container_model::answer::Answer;
@@ -125,6 +126,9 @@ impl State {
         ensures refused { IfErr result (Refuses (reply_found self.old inc act n answer (find (is_linked inc act) self.old.objects))) }
         ensures kept { OnErr result (self.new ≡ self.old) }
     {
+        if is_content(&self.objects[place].link, n, &answer) {
+            return self.content_at(alloc, place, inc, act, n, answer);
+        }
         let f = self.objects[place].frame;
         let gives = gives_up(&self.objects[place].link, n, &answer);
         let frames = self.frames.as_slice();

@@ -12,6 +12,8 @@ use container_links::settling::settle_into;
 use container_model::answer::Answer;
 use container_model::fault::ContainerFault;
 use container_objects::reaps::reap_all;
+use container_saves::handing::hand_off_all;
+use container_saves::rooms::prepare_frames;
 use std::alloc::Global;
 use wire_msgs::items::Items;
 
@@ -32,13 +34,25 @@ impl State {
         else {
             return Err(ContainerFault::NoMemory);
         };
-        let Ok(mut actions) = Vec::with_capacity(alloc, grants.len() + self.frames.len()) else {
+        let frames = self.frames.as_slice();
+        let Ok(rooms) = prepare_frames(alloc, grants.len(), frames, self.objects.as_slice()) else {
+            return Err(ContainerFault::NoMemory);
+        };
+        let most = grants.len() + self.frames.len() + self.objects.len();
+        let Ok(mut actions) = Vec::with_capacity(alloc, most) else {
             return Err(ContainerFault::NoMemory);
         };
         free_frames(inc, &mut self.frames, self.objects.as_slice());
         reap_all(inc, &mut self.objects);
         self.servers.reap(inc);
         take_grants(&mut self.objects, &mut actions, grants);
+        hand_off_all(
+            alloc,
+            &mut self.frames,
+            &mut self.objects,
+            rooms,
+            &mut actions,
+        );
         settle_into(&mut actions, &mut self.frames, &self.objects);
         Ok(Answer::acts(alloc, Items::from_vec(actions)))
     }

@@ -1,10 +1,14 @@
 //! Frames that are saved.
 
-ghost use Rattle.std.specs.Prelude.{◌+◌, ◌≡◌, ◌≤◌, IfErr, IfOk, IfSome, Ok, OnErr, OnOk, Some, length, slice_get};
-ghost use Rattle.container_model.specs.Commands.{save, save_at, save_numbered};
-ghost use Rattle.container_model.specs.Record.{Record, Refuses, counts_none};
+ghost use Rattle.std.specs.Prelude.{◌+◌, ◌≡◌, ◌≤◌, IfErr, IfOk, IfSome, None, Ok, OnErr, OnOk, Result, Some, length, slice_get};
+ghost use Rattle.container_model.specs.Commands.{save, save_as, save_numbered};
+ghost use Rattle.container_model.specs.Record.{Record, Refuses, Took, counts_none};
 ghost use Rattle.container_model.specs.Numbered.{IsNth};
 ghost use Rattle.container_model.specs.Room.{IsSound};
+ghost use Rattle.container_model.specs.declared.fault.ContainerFault.{ContainerFault};
+ghost use Rattle.container_model.specs.declared.record.Phase.TheVariants.{Idle};
+ghost use Rattle.container_steady.specs.Steady.{Steady};
+ghost use Rattle.container_steps.specs.Saving.{named, unready};
 
 use crate::state::State;
 use container_checks::checks;
@@ -14,16 +18,18 @@ use container_links::settling::settle_into;
 use container_model::answer::Answer;
 use container_model::fault::ContainerFault;
 use container_model::record::{Frame, Object};
-use container_objects::saves::{begin_save, prepare_save};
+use container_objects::saves::{begin_save, go_on, prepare_save};
 use std::alloc::Global;
+use storage_tree::bytes::Bytes;
 use wire_msgs::items::Items;
 
 // Whether the objects of a frame may be asked for their contents.
 //
 // Refused: `InDoubt`, `Busy`.
 fn may_save(number: u32, frame: &Frame, objects: &[Object]) -> Result<(), ContainerFault>
-    ensures may { OnOk result ((r : Record) → r.objects ≡ objects.now → save_at r number (Some frame.now) ≡ save_numbered r number frame.now) }
-    ensures refused { IfErr result (λ e. (r : Record) → r.objects ≡ objects.now → Refuses (save_at r number (Some frame.now)) e) }
+    ensures may { OnOk result ((r : Record) (next : Result Took ContainerFault) → r.objects ≡ objects.now → unready r number frame.now next ≡ next) }
+    ensures idle { OnOk result (frame.now.phase ≡ Idle) }
+    ensures refused { IfErr result (λ e. (r : Record) (next : Result Took ContainerFault) → r.objects ≡ objects.now → Refuses (unready r number frame.now next) e) }
 {
     if checks::is_doubtful(frame.phase) {
         return Err(ContainerFault::InDoubt);
@@ -41,10 +47,28 @@ fn may_save(number: u32, frame: &Frame, objects: &[Object]) -> Result<(), Contai
     Ok(())
 }
 
+// Whether a frame may be saved under a name: one that no other frame bears or asked for, and not its own.
+//
+// Refused: `Busy`, `WrongState`.
+fn may_bear(number: u32, name: &[u8], frame: &Frame, frames: &[Frame]) -> Result<(), ContainerFault>
+    requires { length frames.now ≤ 1000000 }
+    ensures may { OnOk result ((r : Record) → r.frames ≡ frames.now → named r number name.now frame.now ≡ save_numbered r number frame.now (Some name.now)) }
+    ensures refused { IfErr result (λ e. (r : Record) → r.frames ≡ frames.now → Refuses (named r number name.now frame.now) e) }
+{
+    if checks::is_named_beside(number, name, frames) {
+        return Err(ContainerFault::Busy);
+    }
+    if frame.name.as_slice() == name {
+        return Err(ContainerFault::WrongState);
+    }
+    Ok(())
+}
+
 impl State {
     // The objects of a frame are asked for their contents.
     pub(crate) fn save(&mut self, alloc: Global, frame: u32) -> Result<Answer, ContainerFault>
-        requires { IsSound self.old }
+        requires steady { Steady self.old }
+        requires sound { IsSound self.old }
         ensures taken { IfOk result (λ a. save self.old frame ≡ Ok (counts_none self.new a)) }
         ensures few { IfOk result (λ a. length a.actions ≤ length self.old.objects + length self.old.frames) }
         ensures refused { IfErr result (Refuses (save self.old frame)) }
@@ -54,7 +78,39 @@ impl State {
             return Err(ContainerFault::NoSuch);
         };
         match may_save(frame, &self.frames[at], self.objects.as_slice()) {
-            Ok(()) => self.save_numbered(alloc, frame, at),
+            Ok(()) => self.save_numbered(alloc, frame, at, None),
+            Err(fault) => Err(fault),
+        }
+    }
+
+    // The same, to a file of another name.
+    pub(crate) fn save_as(
+        &mut self,
+        alloc: Global,
+        frame: u32,
+        name: Bytes,
+    ) -> Result<Answer, ContainerFault>
+        requires steady { Steady self.old }
+        requires sound { IsSound self.old }
+        ensures taken { IfOk result (λ a. save_as self.old frame name ≡ Ok (counts_none self.new a)) }
+        ensures few { IfOk result (λ a. length a.actions ≤ length self.old.objects + length self.old.frames) }
+        ensures refused { IfErr result (Refuses (save_as self.old frame name)) }
+        ensures kept { OnErr result (self.new ≡ self.old) }
+    {
+        let Some(at) = place(self.frames.as_slice(), frame) else {
+            return Err(ContainerFault::NoSuch);
+        };
+        match may_save(frame, &self.frames[at], self.objects.as_slice()) {
+            Ok(()) => {}
+            Err(fault) => return Err(fault),
+        }
+        match may_bear(
+            frame,
+            name.as_slice(),
+            &self.frames[at],
+            self.frames.as_slice(),
+        ) {
+            Ok(()) => self.save_numbered(alloc, frame, at, Some(name)),
             Err(fault) => Err(fault),
         }
     }
@@ -65,12 +121,15 @@ impl State {
         alloc: Global,
         frame: u32,
         at: usize,
+        asked: Option<Bytes>,
     ) -> Result<Answer, ContainerFault>
+        requires steady { Steady self.old }
         requires sound { IsSound self.old }
         requires place { IsNth frame self.old.frames at }
-        ensures taken { IfOk result (λ a. IfSome (slice_get self.old.frames at) (λ x. save_numbered self.old frame x ≡ Ok (counts_none self.new a))) }
+        requires idle { IfSome (slice_get self.old.frames at) (λ x. x.phase ≡ Idle) }
+        ensures taken { IfOk result (λ a. IfSome (slice_get self.old.frames at) (λ x. save_numbered self.old frame x asked ≡ Ok (counts_none self.new a))) }
         ensures few { IfOk result (λ a. length a.actions ≤ length self.old.objects + length self.old.frames) }
-        ensures refused { IfErr result (λ e. IfSome (slice_get self.old.frames at) (λ x. Refuses (save_numbered self.old frame x) e)) }
+        ensures refused { IfErr result (λ e. IfSome (slice_get self.old.frames at) (λ x. Refuses (save_numbered self.old frame x asked) e)) }
         ensures kept { OnErr result (self.new ≡ self.old) }
     {
         let k = self.frames[at].k;
@@ -86,8 +145,10 @@ impl State {
         if actions.reserve(self.frames.len()).is_err() {
             return Err(ContainerFault::NoMemory);
         }
-        begin_save(&mut self.frames[at]);
+        let target = &mut self.frames[at];
+        begin_save(target, asked);
         take_up(&mut self.objects, asking.takes);
+        go_on(frame, target, self.objects.as_slice());
         settle_into(&mut actions, &mut self.frames, &self.objects);
         Ok(Answer::acts(alloc, Items::from_vec(actions)))
     }

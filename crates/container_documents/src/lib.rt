@@ -2,4 +2,5 @@
 #![tactic(auto)]
 
 pub mod documents;
+pub mod reading;
 mod room;

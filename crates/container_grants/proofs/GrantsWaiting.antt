@@ -51,9 +51,9 @@ module _ (r : Record) (s : Steady r) (test : Object → Bool) (o a : Object) (fo
   other_object : (frame : Frame) (l : Link) (c : Claim) → nth r.frames o.frame ≡ Some frame → o.link ≡ Some l → l.pending ≡ Some UiDeactivate → waiting frame.ui.state ≡ Some c → c.object ≡ o.number → ⊥
   other_object frame l c at linked pending waits same =
       let steady : SteadyObject r o = each_found (SteadyObject r) test r.objects o s.objects found in
-      let link : SteadyLink r.servers r.last_act frame.phase frame.k (role_in frame.ui.state o.number) l =
-      if_at (SteadyLink r.servers r.last_act frame.phase frame.k (role_in frame.ui.state o.number)) o.link l linked
-      (at_some (λ (x : Frame). IfSome o.link (SteadyLink r.servers r.last_act x.phase x.k (role_in x.ui.state o.number))) (nth r.frames o.frame) frame at steady.linked) in
+      let link : SteadyLink r.servers r.last_act frame.phase frame.asked frame.k (role_in frame.ui.state o.number) l =
+      if_at (SteadyLink r.servers r.last_act frame.phase frame.asked frame.k (role_in frame.ui.state o.number)) o.link l linked
+      (at_some (λ (x : Frame). IfSome o.link (SteadyLink r.servers r.last_act x.phase x.asked x.k (role_in x.ui.state o.number))) (nth r.frames o.frame) frame at steady.linked) in
       waits_apart frame.ui.state o.number l.waiting c (s.grants o.frame frame at).apart waits
       (subst (λ (p : Option Operation). Plays (role_in frame.ui.state o.number) (queue_of p l.waiting)) pending link.plays) same
 

@@ -2,3 +2,4 @@ pub mod GrantsEach
 pub mod GrantsTold
 pub mod GrantsWaiting
 pub mod ReapsMade
+pub mod GrantsRooms

@@ -1,11 +1,13 @@
 -- What a commit counts, and whom it tells.
-use Rattle.std.proofs.Common.{◌≡◌, ◌==◌, ◌++◌, ℕ, Bool, true, false, List, [], ◌∷◌, map, Option, Some, None, Result, Ok, Err, inl, inr, refl, sym, ◌∙◌, ap, subst, if◌then◌else◌}
+use Rattle.std.proofs.Common.{◌≡◌, ◌⊎◌, ◌==◌, ◌++◌, ℕ, Bool, true, false, not, List, [], ◌∷◌, map, Option, Some, None, Result, Ok, Err, inl, inr, refl, sym, ◌∙◌, ap, subst, if◌then◌else◌}
 use Rattle.std.proofs.lemmas.Bool.Decides.{eqb_tells}
 use Rattle.std.proofs.lemmas.List.{map-append}
 use Rattle.std.proofs.lemmas.List.Elements.{All-cons, All-nil}
-use Rattle.std.specs.List.{All}
+use Rattle.std.specs.List.{All, AllByRecursion}
 use Rattle.wire_msgs.specs.Found.{nth}
 use Rattle.wire_msgs.specs.declared.operation.Operation.{Operation}
+use Rattle.object_state.specs.declared.persist_states.PersistState.{PersistState}
+use Rattle.object_state.specs.declared.persist_states.PersistState.TheVariants.{HandsOff}
 use Rattle.storage_tree.specs.declared.stored.Stored.{Stored}
 use Rattle.file_model.specs.Refusals.{writable}
 use Rattle.file_model.specs.declared.fault.WriteFault.{WriteFault}
@@ -18,8 +20,11 @@ use Rattle.container_model.specs.declared.answer.Part.{Part}
 use Rattle.container_model.specs.declared.fault.ContainerFault.{ContainerFault}
 use Rattle.container_model.specs.declared.fault.ContainerFault.TheVariants.{Full, WrongState}
 use Rattle.container_model.specs.Record.{Record, Took, ask_at, asked_all, asked_sent, sends}
-use Rattle.container_model.specs.Saves.{awaits, commit_at, commit_done, commit_fitting, commit_made, completed, completion, document, document_tree, fitting, fitting_in, is_document, has_image, image, image_at, is_awaited_link, is_committing, is_ready_at, kept_by, kept_in, part_of, parts_in}
-use Rattle.container_laws.specs.CommitLaws.{AreParts, CommitCounts, CommitTells, Gives, HasAnswered, IsPart, SaveWaits, free_link, free_links, none, one, other, stored_part, stored_parts, telling}
+use Rattle.container_model.specs.Saves.{awaits, commit_at, commit_done, commit_fitting, commit_made, completed, completion, document, document_tree, fitting, fitting_in, is_document, has_image, image, image_at, is_awaited_link, is_away, is_committing, is_keeping_link, is_ready, keeps, kept_by, kept_in, part_of, parts_in}
+use Rattle.container_laws.specs.CommitLaws.{AreParts, CommitCounts, CommitTells, Gives, HandOffWaits, HasAnswered, HasGivenAway, IsPart, SaveWaits, free_link, free_links, none, one, other, stored_part, stored_parts, telling}
+use Rattle.container_steady.proofs.SteadyLookups.{each_weaker, none_keeping}
+use Rattle.container_steady.proofs.SteadyRecords.{ready_at}
+use Rattle.container_steps.proofs.SteadyHandOffs.{handing_at}
 use Rattle.container_model.proofs.Completing.{completed_in, completed_out}
 use Rattle.container_steady.proofs.SteadyRecords.{if_told}
 
@@ -148,17 +153,31 @@ all_answered f (o ∷ os) h =
     let parts : HasAnswered f o × (awaits f os ≡ false) = answered_at f o os (o.frame == f) (is_awaited_link o.link) refl refl h in
     All-cons (HasAnswered f) o os parts.0 (all_answered f os parts.1)
 
-ready_from : (phase : Phase) (waits : Bool) → is_ready_at phase waits ≡ true → waits ≡ false
-ready_from Saving false h = refl
-ready_from Saving true h = absurd (cc)
-ready_from Idle waits h = absurd (cc)
-ready_from HandingOff waits h = absurd (cc)
-ready_from Committing waits h = absurd (cc)
-ready_from InDoubt waits h = absurd (cc)
+-- and each has given its storage away
+away_by : (s : PersistState) → not (is_away s) ≡ false → s ≡ HandsOff
+away_by HandsOff e = refl
+away_by _ e = absurd (cc)
+
+away_link : (link : Option Link) → is_keeping_link link ≡ false → (l : Link) → link ≡ Some l → l.states.persist.state ≡ HandsOff
+away_link None e l k = cc
+away_link (Some m) e l k = (let same : m ≡ l = cc in subst (λ (z : Link). z.states.persist.state ≡ HandsOff) same (away_by m.states.persist.state e))
+
+all_of : (P : Object → Type 0) (xs : List Object) → AllByRecursion P xs → All P xs
+all_of P [] h = All-nil P
+all_of P (x ∷ xs) h = All-cons P x xs h.0 (all_of P xs h.1)
+
+all_away : (f : ℕ) (os : List Object) → keeps f os ≡ false → All (HasGivenAway f) os
+all_away f os h = all_of (HasGivenAway f) os (each_weaker (λ (o : Object). o.frame ≡ f → is_keeping_link o.link ≡ false) (HasGivenAway f) os (λ o k here. away_link o.link (k here)) (none_keeping f os h))
 
 pub save_waits : SaveWaits
 save_waits f os frame h ne =
-    elim (is_ready_at frame.phase (awaits f os)) as (λ b. is_ready_at frame.phase (awaits f os) ≡ b → (if b then record frame { phase = Committing } else frame).phase ≡ Committing → All (HasAnswered f) os) [
-      | true ↦ λ e g. all_answered f os (ready_from frame.phase (awaits f os) e)
+    elim (is_ready f os frame) as (λ b. is_ready f os frame ≡ b → (if b then record frame { phase = Committing } else frame).phase ≡ Committing → ((frame.phase ≡ Saving) × (frame.asked ≡ None) × All (HasAnswered f) os) ⊎ ((frame.phase ≡ HandingOff) × All (HasGivenAway f) os)) [
+      | true ↦ λ e g. elim (ready_at frame.phase frame.asked (awaits f os) (keeps f os) e) [
+        | inl named ↦ inl (named.0, named.1, all_answered f os named.2)
+        | inr handed ↦ inr (handed.0, all_away f os handed.1)
+      ]
       | false ↦ λ e g. absurd (ne g)
     ] refl h
+
+pub hand_off_waits : HandOffWaits
+hand_off_waits f os frame h = (let k = handing_at frame.phase frame.asked (awaits f os) h in (k.0, k.1, all_answered f os k.2))

@@ -7,7 +7,7 @@ use Rattle.wire_msgs.specs.declared.answer.Answer.{Answer}
 use Rattle.wire_msgs.specs.declared.answer.Answer.TheVariants.{Done, Refused, Content, Tools}
 use Rattle.wire_msgs.specs.declared.message.Message.TheVariants.{Call, Reply, Write, Ask}
 use Rattle.wire_msgs.specs.declared.operation.Operation.{Operation}
-use Rattle.wire_msgs.specs.declared.operation.Operation.TheVariants.{InitNew, Load, InPlace, UiActivate, UiDeactivate, InPlaceDeactivate, OpenWindow, Edit, Save, SaveCompleted, SaveDropped, Close}
+use Rattle.wire_msgs.specs.declared.operation.Operation.TheVariants.{InitNew, Load, InPlace, UiActivate, UiDeactivate, InPlaceDeactivate, OpenWindow, Edit, Save, HandsOff, SaveCompleted, SaveDropped, Close}
 use Rattle.object_state.specs.Both as both
 use Rattle.object_state.specs.declared.both_states.States.{States}
 use Rattle.object_state.specs.declared.faults.StateFault.{StateFault}
@@ -30,9 +30,10 @@ use Rattle.container_model.specs.declared.record.Frame.{Frame}
 use Rattle.container_model.specs.declared.fault.ContainerFault.{ContainerFault}
 use Rattle.container_model.specs.declared.fault.ContainerFault.TheVariants.{Stale, WrongLink}
 use Rattle.container_model.specs.Grants.{event_of, grant_each, grant_of, is_by, moved, passed_to, regranted, regranted_by, regranted_in, requested}
+use Rattle.container_model.specs.HandOffs.{hand_off_in, is_answered, unasked}
 use Rattle.container_model.specs.Record.{Record, Took, is_alive, is_linked, is_object}
 use Rattle.container_model.specs.Saves.{settled_frame, settled_frames}
-use Rattle.container_model.specs.Messages.{Replied, ask_found, ask_framed, closed_with, done_link, granted_link, is_held_by, on_ask, on_reply, relieved, replied, replied_fitting, replied_grant, replied_record, reply_found, reply_link, reply_pending, reply_made, reply_taken, saved_link}
+use Rattle.container_model.specs.Messages.{Replied, ask_found, ask_framed, closed_with, done_link, granted_link, is_held_by, on_ask, on_reply, relieved, replied, replied_fitting, replied_grant, replied_record, replied_saving, reply_found, reply_link, reply_pending, reply_made, reply_taken, saved_link}
 use Rattle.container_laws.specs.Laws.{FreedByHolders, GivesUp}
 use Rattle.container_steady.specs.Roles.{IsClaim, SteadyGrant, role_in}
 use Rattle.container_steady.specs.Steady.{Steady, SteadyObject}
@@ -41,6 +42,7 @@ use Rattle.container_steady.proofs.SteadyClaims.{settled_ui}
 use Rattle.container_steady.proofs.SteadyFinds.{found_by_number}
 use Rattle.container_steady.proofs.SteadyLookups.{each_found, nth-set_same, nth-set_other, nth-settled}
 use Rattle.container_steady.proofs.SteadyHolders.{linked_by}
+use Rattle.container_steps.proofs.HandedOff.{in_ui}
 use Rattle.container_steps.proofs.SteadyMessages.{link_goes}
 use Rattle.container_steady.proofs.SteadyRecords.{Held, some_and}
 use Rattle.container_steps.proofs.SteadyReplies.{IsToldBy}
@@ -97,6 +99,8 @@ gives_only l (Edit bytes) (Refused why) = λ act e. cc
 gives_only l (Edit bytes) _ = tt
 gives_only l (Save k) (Content content) = saved_only (Save k) (Content content) content (done_link l l.s (both.step l.states (op_of (Save k)))) (done_only (Save k) (Content content) l l.s (both.step l.states (op_of (Save k))))
 gives_only l (Save k) _ = tt
+gives_only l HandsOff Done = done_only HandsOff Done l l.s (both.step l.states (op_of HandsOff))
+gives_only l HandsOff _ = tt
 gives_only l (SaveCompleted k storage) Done = done_only (SaveCompleted k storage) Done l (l.s + 1) (both.step l.states (op_of (SaveCompleted k storage)))
 gives_only l (SaveDropped k) Done = done_only (SaveDropped k) Done l (l.s + 1) (both.step l.states (op_of (SaveDropped k)))
 gives_only l (SaveCompleted k storage) _ = tt
@@ -105,7 +109,6 @@ gives_only l (Close SaveIfDirty) (Content content) = closed_only (Close SaveIfDi
 gives_only l (Close SaveIfDirty) _ = tt
 gives_only l (Close NoSave) Done = closed_only (Close NoSave) Done None (both.step l.states (op_of (Close NoSave)))
 gives_only l (Close NoSave) _ = tt
-gives_only l _ _ = tt
 
 -- the call that was answered
 record GaveUp (link : Option Link) (n : ℕ) (answer : Answer) : Type 0 where
@@ -133,11 +136,18 @@ Kept frames f holder = (later : Frame) × (nth frames f ≡ Some later) × (who 
 settled_has : (os : List Object) (frames : List Frame) (f : ℕ) (holder : Claim) → Kept frames f holder → Kept (settled_frames 1 os frames) f holder
 settled_has os frames f holder h = (settled_frame f os h.0, nth-settled os frames f h.0 h.1, ap (λ (u : Ui). who u.state) (settled_ui f os h.0) ∙ h.2)
 
+handed_has : (v : Record) (g f : ℕ) (holder : Claim) → Kept v.frames f holder → Kept (hand_off_in v g).rec.frames f holder
+handed_has v g f holder h = (let y = in_ui v g f h.0 h.1 in (y.0, y.1, ap (λ (u : Ui). who u.state) y.2 ∙ h.2))
+
+saving_has : (b : Bool) (v : Record) (g f : ℕ) (holder : Claim) → Kept v.frames f holder → Kept (if b then hand_off_in v g else unasked v).rec.frames f holder
+saving_has true v g f holder h = handed_has v g f holder h
+saving_has false v g f holder h = h
+
 requested_frames : (v : Record) (op : Operation) (z : Option Object) → (requested v op z).rec.frames ≡ v.frames
 requested_frames v op None = refl
 requested_frames v op (Some y) = refl
 
-granted_frames : (cs : List Claim) (v : Record) → (grant_each v cs).rec.frames ≡ v.frames
+pub granted_frames : (cs : List Claim) (v : Record) → (grant_each v cs).rec.frames ≡ v.frames
 granted_frames [] v = refl
 granted_frames (c ∷ cs) v =
     let z = find (is_object c.object) v.objects in
@@ -243,7 +253,7 @@ module _ (r : Record) (link inc act n : ℕ) (answer : Answer) (f : ℕ) (frame 
 
   pub reply_freed : (t : Took) → reply_made r inc act o re ≡ t → Freed t.rec.frames
   reply_freed t e = subst (λ (u : Took). Freed u.rec.frames) e (elim (freed_as re.grant refl) [
-    | inl still ↦ inl (settled_has (replied_grant r inc act o re).rec.objects (replied_grant r inc act o re).rec.frames f holder still)
+    | inl still ↦ inl (settled_has (replied_saving r inc act o re).rec.objects (replied_saving r inc act o re).rec.frames f holder (saving_has (is_answered o.link re.link) (replied_grant r inc act o re).rec o.frame f holder still))
     | inr up ↦ inr up
   ])
 

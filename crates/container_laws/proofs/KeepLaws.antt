@@ -14,8 +14,8 @@ use Rattle.container_model.specs.declared.fault.ContainerFault.TheVariants.{NoSu
 use Rattle.container_model.specs.Grants.{grant_each, is_hosted, is_hosted_object, requested}
 use Rattle.container_model.specs.Record.{Record, Took, asked_link, is_alive, is_object, with_object}
 use Rattle.container_model.specs.Saves.{kept}
-use Rattle.container_model.specs.Messages.{on_reap, reap_made, reaped_grants, reaped_object}
-use Rattle.container_laws.specs.Laws.{ReapsEndTheirs, ReapsKeepOthers, StaysOrIsGranted}
+use Rattle.container_model.specs.Messages.{on_reap, reap_made, reaped_grants, reaped_object, reaped_saving}
+use Rattle.container_laws.specs.Laws.{StaysOrIsGranted}
 use Rattle.container_steady.specs.Roles.{IsClaim}
 use Rattle.container_steady.specs.Steady.{EachPair, InOrder, Steady}
 use Rattle.container_steps.proofs.SteadyFates.{Hosted}
@@ -104,7 +104,7 @@ reaped_get inc [] i o e = cc
 reaped_get inc (y ∷ ys) zero o e = let s : y ≡ o = cc in rw s refl
 reaped_get inc (y ∷ ys) (suc i) o e = reaped_get inc ys i o e
 
-reap_objects : (r : Record) (inc : ℕ) (t : Took) → on_reap r inc ≡ Ok t → t.rec.objects ≡ (reaped_grants r inc).rec.objects
+pub reap_objects : (r : Record) (inc : ℕ) (t : Took) → on_reap r inc ≡ Ok t → t.rec.objects ≡ (reaped_saving r inc).rec.objects
 reap_objects r inc t e =
     let b = taken_if (is_alive r inc) (Ok (reap_made r inc)) NoSuch t e in
     sym (ap (λ (y : Result Took ContainerFault). elim y [ Ok z ↦ z.rec.objects | Err fault ↦ [] ]) b.1)
@@ -162,9 +162,3 @@ module _ (r : Record) (inc : ℕ) (s : Steady r) where
       let ended : Object = record o { work = kept o; link = None } in
       let here : slice_get (gone r inc s).objects i ≡ Some ended = reaped_get inc r.objects i o at ∙ ap (λ (x : Object). Some x) (gone_link inc o o.link theirs) in
       unnamed_keeps (claims r inc s) (gone r inc s) i ended (each_weaker Granted (λ (c : Claim). c.object ≡ o.number → ⊥) (claims r inc s) (not_named o i at theirs) all_granted) here
-
-pub reaps-keep_others : ReapsKeepOthers
-reaps-keep_others r inc t s e i o at other = subst (λ (os : List Object). (later : Object) × (slice_get os i ≡ Some later) × StaysOrIsGranted r o later) (sym (reap_objects r inc t e)) (others_stay r inc s i o at other)
-
-pub reaps-end_theirs : ReapsEndTheirs
-reaps-end_theirs r inc t s e i o at theirs = ap (λ (os : List Object). slice_get os i) (reap_objects r inc t e) ∙ theirs_end r inc s i o at theirs

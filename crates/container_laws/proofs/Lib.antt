@@ -1,6 +1,10 @@
 pub mod CommitsLaws
+pub mod DocumentSets
 pub mod FreedLaws
 pub mod KeepLaws
+pub mod HandLaws
+pub mod ReapLaws
 pub mod MessageLaws
 pub mod MessagesKeep
+pub mod OpensLaws
 pub mod WriteLaws

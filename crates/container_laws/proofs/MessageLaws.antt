@@ -11,7 +11,7 @@ use Rattle.container_model.specs.declared.record.Frame.{Frame}
 use Rattle.container_model.specs.declared.fault.ContainerFault.{ContainerFault}
 use Rattle.container_model.specs.declared.fault.ContainerFault.TheVariants.{BadAnswer, Stale, WrongLink}
 use Rattle.container_model.specs.Record.{Record, Took, is_alive, is_linked}
-use Rattle.container_model.specs.Messages.{Replied, ask_found, ask_framed, is_fit, is_held_by, on_ask, on_reply, replied, replied_fitting, replied_grant, reply_found, reply_link, reply_pending, reply_taken}
+use Rattle.container_model.specs.Messages.{Replied, ask_found, ask_framed, is_fit, is_held_by, on_ask, on_reply, replied, replied_fitting, replied_saving, reply_found, reply_link, reply_pending, reply_taken}
 use Rattle.container_laws.specs.Laws.{OnlyExpectedMessages, OtherAsksAreStale, OtherServersAreRefused, OthersAreStale, is_held_in, is_open_in, pending_in, pending_number, takes_ask, takes_write}
 use Rattle.container_laws.proofs.WriteLaws.{taken_if, write_taken}
 
@@ -75,7 +75,7 @@ other-asks_are_stale r inc act g h =
     let same : (inc == inc) ≡ true = eq-eqb inc inc refl in
     rw same (stale_alive (is_alive r inc) (ask_found r act g (find (is_linked inc act) r.objects)) (ask_stale r act g (find (is_linked inc act) r.objects) h))
 
-pub taken_of : (r : Record) (inc act : ℕ) (o : Object) (R : Result Replied ContainerFault) (t : Took) → reply_taken r inc act o R ≡ Ok t → (x : Replied) × (R ≡ Ok x) × (t.rec.objects ≡ (replied_grant r inc act o x).rec.objects)
+pub taken_of : (r : Record) (inc act : ℕ) (o : Object) (R : Result Replied ContainerFault) (t : Took) → reply_taken r inc act o R ≡ Ok t → (x : Replied) × (R ≡ Ok x) × (t.rec.objects ≡ (replied_saving r inc act o x).rec.objects)
 taken_of r inc act o (Err fault) t e = cc
 taken_of r inc act o (Ok x) t e = (x, refl, sym (ap (λ (y : Result Took ContainerFault). elim y [ Ok z ↦ z.rec.objects | Err fault ↦ [] ]) e))
 

@@ -18,15 +18,18 @@ use Rattle.container_model.specs.declared.record.Object.{Object}
 use Rattle.container_model.specs.declared.record.Frame.{Frame}
 use Rattle.container_model.specs.declared.fault.ContainerFault.TheVariants.{Stale, WrongLink}
 use Rattle.container_model.specs.Grants.{event_of, grant_each, grant_of, is_by, moved, passed_to, regranted, regranted_by, regranted_in}
+use Rattle.container_model.specs.HandOffs.{hand_off_in, is_answered, unasked}
 use Rattle.container_model.specs.Record.{Record, Took, is_alive, is_linked, is_object}
-use Rattle.container_model.specs.Messages.{Replied, ask_found, ask_framed, is_held_by, on_ask, on_message, on_reply, relieved, replied_object, replied_record, reply_found, reply_link, reply_taken, written_object}
-use Rattle.container_laws.specs.Laws.{StaysOrIsGranted, is_about}
+use Rattle.container_model.specs.Messages.{Replied, ask_found, ask_framed, is_held_by, on_ask, on_message, on_reply, relieved, replied_grant, replied_object, replied_record, reply_found, reply_link, reply_taken, written_object}
+use Rattle.container_laws.specs.Laws.{StaysOrIsAsked, StaysOrIsGranted, is_about}
 use Rattle.container_steady.specs.Roles.{IsClaim}
 use Rattle.container_steady.specs.Steady.{EachPair, InOrder, Steady, SteadyObject}
 use Rattle.container_laws.proofs.KeepLaws.{IsTold, as_before, of_grant, all_among, grants_tell, order_put, put_keeps, request_keeps}
+use Rattle.container_laws.proofs.HandLaws.{regranted_same, to_asked}
 use Rattle.container_laws.proofs.MessageLaws.{taken_of}
 use Rattle.container_steady.proofs.SteadyFinds.{found_by_number, put_by_number}
 use Rattle.container_steady.proofs.SteadyLookups.{each_found, each_get}
+use Rattle.container_steps.proofs.HandedOff.{in_tells}
 use Rattle.container_steps.proofs.SteadyMessages.{AnswersSteadily, link_goes, took}
 use Rattle.container_steps.proofs.SteadyReaps.{each_own, passed_few}
 use Rattle.container_steady.proofs.SteadyRecords.{Held, if_at, some_and}
@@ -66,6 +69,9 @@ passed_waits s (GivesUp act) d e = given_waits s (is_by act (who s)) d e
 
 abbrev Later : Record → List Object → ℕ → Object → Type 0
 Later r os i o = (later : Object) × (slice_get os i ≡ Some later) × StaysOrIsGranted r o later
+
+abbrev Asked : Record → List Object → ℕ → Object → Type 0
+Asked r os i o = (later : Object) × (slice_get os i ≡ Some later) × StaysOrIsAsked r o later
 
 module _ (r : Record) (s : Steady r) (i : ℕ) (o : Object) (at : slice_get r.objects i ≡ Some o) (inc act : ℕ) (other : is_linked inc act o ≡ false) where
   own : find (is_object o.number) r.objects ≡ Some o
@@ -128,31 +134,39 @@ module _ (r : Record) (s : Steady r) (i : ℕ) (o : Object) (at : slice_get r.ob
       answered None = (o, stays, inl refl)
       answered (Some told) = granted told
 
-    reply_others : (n : ℕ) (answer : Answer) (t : Took) → reply_taken r inc act p (reply_link n answer p.link) ≡ Ok t → Later r t.rec.objects i o
+    -- and then its frame may hand off
+    handed : (re : Replied) (b : Bool) → Later r (replied_grant r inc act p re).rec.objects i o → Asked r (if b then hand_off_in (replied_grant r inc act p re).rec p.frame else unasked (replied_grant r inc act p re).rec).rec.objects i o
+    handed re false h = (h.0, h.1, (h.0, h.2, inl refl))
+    handed re true h =
+        let v = (replied_grant r inc act p re).rec in
+        let t = in_tells v p.frame i h.0 h.1 in
+        (t.0, t.1, to_asked r v.frames o h.0 t.0 (regranted_same (replied_record r inc act p re) p.frame re.grant) h.2 t.2)
+
+    reply_others : (n : ℕ) (answer : Answer) (t : Took) → reply_taken r inc act p (reply_link n answer p.link) ≡ Ok t → Asked r t.rec.objects i o
     reply_others n answer t e =
         let y = taken_of r inc act p (reply_link n answer p.link) t e in
         let h = each_found (SteadyObject r) (is_linked inc act) r.objects p s.objects found in
         let a = some_and (Held r p.number p.link) (nth r.frames p.frame) h.linked in
-        subst (λ (os : List Object). Later r os i o) (sym y.2) (answered y.0 a.0 a.1 (link_goes r a.0 p.number n answer p.link y.0 a.2 y.1) y.0.grant)
+        subst (λ (os : List Object). Asked r os i o) (sym y.2) (handed y.0 (is_answered p.link y.0.link) (answered y.0 a.0 a.1 (link_goes r a.0 p.number n answer p.link y.0 a.2 y.1) y.0.grant))
 
-    ask_others : (g : ℕ) (fr : Option Frame) (t : Took) → ask_framed r p act g fr ≡ Ok t → Later r t.rec.objects i o
+    ask_others : (g : ℕ) (fr : Option Frame) (t : Took) → ask_framed r p act g fr ≡ Ok t → Asked r t.rec.objects i o
     ask_others g None t e = cc
     ask_others g (Some fr) t e =
         let b = taken_if (is_held_by act g fr.ui.state) _ Stale t e in
         let v : Record = record r { frames = set_nth r.frames p.frame (moved fr (grant.Ask (record { object = p.number; act = act; g = g }))) } in
         let kept : slice_get (relieved r p act g fr).rec.objects i ≡ Some o = request_keeps v UiDeactivate p.number (find (is_object p.number) r.objects) i o refl apart at in
-        subst (λ (u : Record). Later r u.objects i o) (ok_rec _ t b.1) (o, kept, inl refl)
+        subst (λ (u : Record). Asked r u.objects i o) (ok_rec _ t b.1) (o, kept, (o, inl refl, inl refl))
 
-  reply_found_others : (n : ℕ) (answer : Answer) (p : Option Object) (t : Took) → find (is_linked inc act) r.objects ≡ p → reply_found r inc act n answer p ≡ Ok t → Later r t.rec.objects i o
+  reply_found_others : (n : ℕ) (answer : Answer) (p : Option Object) (t : Took) → find (is_linked inc act) r.objects ≡ p → reply_found r inc act n answer p ≡ Ok t → Asked r t.rec.objects i o
   reply_found_others n answer None t found e = cc
   reply_found_others n answer (Some p) t found e = reply_others p found n answer t e
 
-  ask_found_others : (g : ℕ) (p : Option Object) (t : Took) → find (is_linked inc act) r.objects ≡ p → ask_found r act g p ≡ Ok t → Later r t.rec.objects i o
+  ask_found_others : (g : ℕ) (p : Option Object) (t : Took) → find (is_linked inc act) r.objects ≡ p → ask_found r act g p ≡ Ok t → Asked r t.rec.objects i o
   ask_found_others g None t found e = cc
   ask_found_others g (Some p) t found e = ask_others p found g (nth r.frames p.frame) t e
 
 pub messages-keep_others : (r : Record) (link : ℕ) (m : Message) (t : Took) → Steady r → on_message r link m ≡ Ok t → (i : ℕ) (o : Object) → slice_get r.objects i ≡ Some o → is_about m o ≡ false
-    → (later : Object) × (slice_get t.rec.objects i ≡ Some later) × StaysOrIsGranted r o later
+    → (later : Object) × (slice_get t.rec.objects i ≡ Some later) × StaysOrIsAsked r o later
 messages-keep_others r link (Call inc act n op) t s e i o at other = cc
 messages-keep_others r link (Reply inc act n answer) t s e i o at other =
     let a = taken_if (inc == link) (on_reply r inc act n answer) WrongLink t e in
@@ -161,7 +175,7 @@ messages-keep_others r link (Reply inc act n answer) t s e i o at other =
 messages-keep_others r link (Write inc act n w content) t s e i o at other =
     let h = write_taken r link inc act n w content t e in
     let made : t.rec.objects ≡ put (is_linked inc act) (written_object h.o h.l w content) r.objects = ap (λ (z : Record). z.objects) h.made in
-    (o, ap (λ (os : List Object). slice_get os i) made ∙ put_keeps (is_linked inc act) (written_object h.o h.l w content) r.objects i o at other, inl refl)
+    (o, ap (λ (os : List Object). slice_get os i) made ∙ put_keeps (is_linked inc act) (written_object h.o h.l w content) r.objects i o at other, (o, inl refl, inl refl))
 messages-keep_others r link (Ask inc act g) t s e i o at other =
     let a = taken_if (inc == link) (on_ask r inc act g) WrongLink t e in
     let b = taken_if (is_alive r inc) (ask_found r act g (find (is_linked inc act) r.objects)) Stale t a.1 in

@@ -1,18 +1,20 @@
 -- What a commit counts, and whom it tells.
-use Rattle.std.specs.Prelude.{◌≡◌, ◌≢◌, ◌+◌, ◌==◌, ◌++◌, ℕ, List, [], ◌∷◌, map, Option, Some, None, Ok, if◌then◌else◌}
+use Rattle.std.specs.Prelude.{◌≡◌, ◌≢◌, ◌⊎◌, ◌+◌, ◌==◌, ◌++◌, ℕ, true, is_some, List, [], ◌∷◌, map, Option, Some, None, Ok, if◌then◌else◌}
 use Rattle.std.specs.List.{All}
 use Rattle.wire_msgs.specs.Found.{nth}
 use Rattle.wire_msgs.specs.declared.message.Message.TheVariants.{Call}
 use Rattle.wire_msgs.specs.declared.operation.Operation.TheVariants.{SaveCompleted}
+use Rattle.object_state.specs.declared.persist_states.PersistState.TheVariants.{HandsOff}
 use Rattle.storage_tree.specs.declared.stored.Stored.{Stored}
 use Rattle.container_model.specs.declared.record.Link.{Link}
 use Rattle.container_model.specs.declared.record.Object.{Object}
 use Rattle.container_model.specs.declared.record.Frame.{Frame}
-use Rattle.container_model.specs.declared.record.Phase.TheVariants.{Committing}
+use Rattle.container_model.specs.declared.record.Phase.TheVariants.{Saving, HandingOff, Committing}
 use Rattle.container_model.specs.declared.answer.Action.{Action}
 use Rattle.container_model.specs.declared.answer.Action.TheVariants.{Send}
 use Rattle.container_model.specs.declared.answer.Part.{Part}
 use Rattle.container_model.specs.Record.{Record, Took}
+use Rattle.container_model.specs.HandOffs.{hands_off}
 use Rattle.container_model.specs.Saves.{commit_done, image, is_some_name, settled_frame}
 
 -- An object gives to a save its work content while it is passive, else the content that it answered in this save.
@@ -66,9 +68,17 @@ abbrev pub CommitTells : Type 0
 CommitTells = (r : Record) (f : ℕ) (t : Took) → commit_done r f ≡ Ok t
     → (frame : Frame) × (nth r.frames f ≡ Some frame) × (t.answer.actions ≡ map (telling frame) (free_links f r.objects))
 
--- A save goes on to its commit only when each object of the frame that isn't passive has answered its content.
+-- A save goes on to its commit only when each object of the frame that isn't passive has answered its content; under another
+-- name, it asks for storages only then, and goes on to its commit only when each was given away.
 abbrev pub HasAnswered : ℕ → Object → Type 0
 HasAnswered f o = o.frame ≡ f → (l : Link) → o.link ≡ Some l → (c : Stored) × (l.saved ≡ Some c)
 
+abbrev pub HasGivenAway : ℕ → Object → Type 0
+HasGivenAway f o = o.frame ≡ f → (l : Link) → o.link ≡ Some l → l.states.persist.state ≡ HandsOff
+
 abbrev pub SaveWaits : Type 0
-SaveWaits = (f : ℕ) (os : List Object) (frame : Frame) → (settled_frame f os frame).phase ≡ Committing → frame.phase ≢ Committing → All (HasAnswered f) os
+SaveWaits = (f : ℕ) (os : List Object) (frame : Frame) → (settled_frame f os frame).phase ≡ Committing → frame.phase ≢ Committing
+    → ((frame.phase ≡ Saving) × (frame.asked ≡ None) × All (HasAnswered f) os) ⊎ ((frame.phase ≡ HandingOff) × All (HasGivenAway f) os)
+
+abbrev pub HandOffWaits : Type 0
+HandOffWaits = (f : ℕ) (os : List Object) (frame : Frame) → hands_off f os frame ≡ true → (frame.phase ≡ Saving) × (is_some frame.asked ≡ true) × All (HasAnswered f) os

@@ -1,11 +1,11 @@
 -- Laws above a container's steps on messages, and on the end of a server.
-use Rattle.std.specs.Prelude.{◌≡◌, ◌≢◌, ◌⊎◌, ℕ, Bool, true, false, Option, Some, None, Ok, Err, slice_get}
+use Rattle.std.specs.Prelude.{◌≡◌, ◌≢◌, ◌⊎◌, ℕ, Bool, true, false, Option, Some, None, is_some, Ok, Err, slice_get}
 use Rattle.wire_msgs.specs.Found.{find, nth, put}
 use Rattle.wire_msgs.specs.declared.message.Message.{Message}
 use Rattle.wire_msgs.specs.declared.message.Message.TheVariants.{Call, Reply, Write, Ask}
 use Rattle.wire_msgs.specs.declared.answer.Answer.{Answer}
 use Rattle.wire_msgs.specs.declared.answer.Answer.TheVariants.{Done}
-use Rattle.wire_msgs.specs.declared.operation.Operation.TheVariants.{UiActivate, UiDeactivate}
+use Rattle.wire_msgs.specs.declared.operation.Operation.TheVariants.{HandsOff, UiActivate, UiDeactivate}
 use Rattle.grant_core.specs.declared.grant_states.Claim.{Claim}
 use Rattle.grant_core.specs.Grants.{waiting, who}
 use Rattle.grant_core.specs.Laws.{IsRevoking}
@@ -14,6 +14,7 @@ use Rattle.storage_tree.specs.declared.stored.Stored.{Stored}
 use Rattle.container_model.specs.declared.record.Link.{Link}
 use Rattle.container_model.specs.declared.record.Object.{Object}
 use Rattle.container_model.specs.declared.record.Frame.{Frame}
+use Rattle.container_model.specs.declared.record.Phase.TheVariants.{Saving}
 use Rattle.container_model.specs.declared.fault.ContainerFault.TheVariants.{Stale, WrongLink}
 use Rattle.container_model.specs.Grants.{is_hosted}
 use Rattle.container_model.specs.Record.{Record, Took, asked_link, is_alive, is_linked, is_object}
@@ -108,16 +109,28 @@ pub record IsGranted (r : Record) (o later : Object) : Type 0 where
 abbrev pub StaysOrIsGranted : Record → Object → Object → Type 0
 StaysOrIsGranted r o later = (later ≡ o) ⊎ IsGranted r o later
 
+-- an object whose frame is saved under another name is asked for its storage, whether it was told of a grant before or not
+pub record IsHandedOff (r : Record) (o told later : Object) : Type 0 where
+  pub frame : Frame
+  pub inside : nth r.frames o.frame ≡ Some frame
+  pub saving : frame.phase ≡ Saving
+  pub named : is_some frame.asked ≡ true
+  pub asked : later ≡ record told { link = asked_link HandsOff told.link }
+
+abbrev pub StaysOrIsAsked : Record → Object → Object → Type 0
+StaysOrIsAsked r o later = (told : Object) × StaysOrIsGranted r o told × ((later ≡ told) ⊎ IsHandedOff r o told later)
+
 -- a message leaves the objects as they are that don't have its activation, but for one that waited for its frame (that
--- whoever waits for a frame stands in it, steadiness says)
+-- whoever waits for a frame stands in it, steadiness says), and those of a frame that hands off
 abbrev pub MessagesKeepOthers : Type 0
 MessagesKeepOthers = (r : Record) (link : ℕ) (m : Message) (t : Took) → Steady r → on_message r link m ≡ Ok t → (i : ℕ) (o : Object) → slice_get r.objects i ≡ Some o → is_about m o ≡ false
-    → (later : Object) × (slice_get t.rec.objects i ≡ Some later) × StaysOrIsGranted r o later
+    → (later : Object) × (slice_get t.rec.objects i ≡ Some later) × StaysOrIsAsked r o later
 
--- the end of a server leaves the objects of other servers as they are, but for those that waited for their frames
+-- the end of a server leaves the objects of other servers as they are, but for those that waited for their frames, and those of
+-- frames that hand off
 abbrev pub ReapsKeepOthers : Type 0
 ReapsKeepOthers = (r : Record) (inc : ℕ) (t : Took) → Steady r → on_reap r inc ≡ Ok t → (i : ℕ) (o : Object) → slice_get r.objects i ≡ Some o → is_hosted inc o.link ≡ false
-    → (later : Object) × (slice_get t.rec.objects i ≡ Some later) × StaysOrIsGranted r o later
+    → (later : Object) × (slice_get t.rec.objects i ≡ Some later) × StaysOrIsAsked r o later
 
 -- the objects of a server that has ended are passive, with the content that they answered in the present save, if any
 abbrev pub ReapsEndTheirs : Type 0

@@ -1,6 +1,6 @@
 //! What a commit counts, and whom it tells.
 
-ghost use Rattle.container_laws.specs.CommitLaws.{CommitCounts, CommitTells, SaveWaits};
+ghost use Rattle.container_laws.specs.CommitLaws.{CommitCounts, CommitTells, HandOffWaits, SaveWaits};
 
 /// A commit counts the objects of its frame in their order, each with its work content while it is passive, else with
 /// the content that it answered in this save. After it each object's work content is what was counted.
@@ -14,7 +14,13 @@ pub fn commit_tells()
     ensures { CommitTells }
 {}
 
-/// A save goes on to its commit only when each object of the frame that isn't passive has answered its content.
+/// Under another name a save asks for the objects' storages only when each of them that isn't passive has answered its content.
+pub fn hand_off_waits()
+    ensures { HandOffWaits }
+{}
+
+/// A save goes on to its commit only when each object of the frame that isn't passive has answered its content; under another
+/// name, only when each of them has given its storage away.
 pub fn save_waits()
     ensures { SaveWaits }
 {}

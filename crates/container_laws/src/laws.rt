@@ -35,13 +35,15 @@ pub fn other_servers_are_refused()
 {}
 
 /// Where a record is steady, a message leaves the objects as they are that don't have its activation, but for one that waited
-/// for its frame, which is told of its grant.
+/// for its frame, which is told of its grant, and those of a frame that is saved under another name, which are asked for their
+/// storages.
 pub fn messages_keep_others()
     ensures { MessagesKeepOthers }
 {}
 
 /// Where a record is steady, the end of a server leaves the objects of other servers as they are, but for those that
-/// waited for their frames, which are told of their grants.
+/// waited for their frames, which are told of their grants, and those of frames that are saved under other names, which are asked
+/// for their storages.
 pub fn reaps_keep_others()
     ensures { ReapsKeepOthers }
 {}

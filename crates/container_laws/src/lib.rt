@@ -3,3 +3,4 @@
 
 pub mod commit_laws;
 pub mod laws;
+pub mod open_laws;

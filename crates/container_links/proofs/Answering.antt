@@ -55,13 +55,13 @@ pub reply_as : (n : ℕ) (answer is : Answer) (link : Option Link) → is_pendin
 reply_as n answer is link e f a = fit_reply n answer link e f ∙ ap (answered link) a
 
 -- what each kind of answer makes of an activation, by what it means for the operation
-abbrev by_done : Link → Op → WhenDone → Result Replied ContainerFault
+abbrev pub by_done : Link → Op → WhenDone → Result Replied ContainerFault
 by_done l o (Continues s) = done_link l s (both.step l.states o)
 by_done l o GivesUp = granted_link (tells.GivesUp l.act) (done_link l l.s (both.step l.states o))
 by_done l o Ends = closed_with None (both.step l.states o)
 by_done l o Undone = Err BadAnswer
 
-done_is : (l : Link) (op : Operation) → replied l op told.Done ≡ by_done l (op_of op) (when_done op l.s)
+pub done_is : (l : Link) (op : Operation) → replied l op told.Done ≡ by_done l (op_of op) (when_done op l.s)
 done_is l (InitNew class) = refl
 done_is l (Load class content) = refl
 done_is l InPlace = refl
@@ -77,12 +77,12 @@ done_is l (SaveDropped k) = refl
 done_is l (Close SaveIfDirty) = refl
 done_is l (Close NoSave) = refl
 
-abbrev by_refusal : Link → Refusal → WhenRefused → Result Replied ContainerFault
+abbrev pub by_refusal : Link → Refusal → WhenRefused → Result Replied ContainerFault
 by_refusal l why Lost = lost why
 by_refusal l why Noted = noted l why
 by_refusal l why Unrefused = Err BadAnswer
 
-refused_is : (l : Link) (op : Operation) (why : Refusal) → replied l op (told.Refused why) ≡ by_refusal l why (when_refused op)
+pub refused_is : (l : Link) (op : Operation) (why : Refusal) → replied l op (told.Refused why) ≡ by_refusal l why (when_refused op)
 refused_is l (InitNew class) why = refl
 refused_is l (Load class content) why = refl
 refused_is l InPlace why = refl
@@ -98,12 +98,12 @@ refused_is l (SaveDropped k) why = refl
 refused_is l (Close SaveIfDirty) why = refl
 refused_is l (Close NoSave) why = refl
 
-abbrev by_content : Link → Op → Stored → WhenContent → Result Replied ContainerFault
+abbrev pub by_content : Link → Op → Stored → WhenContent → Result Replied ContainerFault
 by_content l o content Saved = saved_link content (done_link l l.s (both.step l.states o))
 by_content l o content Closed = closed_with (Some content) (both.step l.states o)
 by_content l o content Unasked = Err BadAnswer
 
-content_is : (l : Link) (op : Operation) (content : Stored) → replied l op (told.Content content) ≡ by_content l (op_of op) content (when_content op)
+pub content_is : (l : Link) (op : Operation) (content : Stored) → replied l op (told.Content content) ≡ by_content l (op_of op) content (when_content op)
 content_is l (InitNew class) content = refl
 content_is l (Load class it) content = refl
 content_is l InPlace content = refl
@@ -119,11 +119,11 @@ content_is l (SaveDropped k) content = refl
 content_is l (Close SaveIfDirty) content = refl
 content_is l (Close NoSave) content = refl
 
-abbrev by_tools : Link → Op → Menus → List ℕ → Option ℕ → Result Replied ContainerFault
+abbrev pub by_tools : Link → Op → Menus → List ℕ → Option ℕ → Result Replied ContainerFault
 by_tools l o menus border None = Err BadAnswer
 by_tools l o menus border (Some g) = granted_link (tells.Gets g (record { menus = menus; border = border })) (done_link l l.s (both.step l.states o))
 
-tools_is : (l : Link) (op : Operation) (menus : Menus) (border : List ℕ) → replied l op (told.Tools menus border) ≡ by_tools l (op_of op) menus border (grant_of op)
+pub tools_is : (l : Link) (op : Operation) (menus : Menus) (border : List ℕ) → replied l op (told.Tools menus border) ≡ by_tools l (op_of op) menus border (grant_of op)
 tools_is l (InitNew class) menus border = refl
 tools_is l (Load class content) menus border = refl
 tools_is l InPlace menus border = refl

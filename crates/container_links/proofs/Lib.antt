@@ -2,3 +2,4 @@ pub mod Answering
 pub mod AskingAll
 pub mod AskingEach
 pub mod MessageReplies
+pub mod Handings

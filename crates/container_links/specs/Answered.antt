@@ -3,7 +3,7 @@
 use Rattle.std.specs.Prelude.{◌+◌, ◌==◌, ◌&&◌, ℕ, Bool, false, Option, Some, None, is_some, Result, Err}
 use Rattle.wire_msgs.specs.declared.answer.Answer.{Answer}
 use Rattle.wire_msgs.specs.declared.operation.Operation.{Operation}
-use Rattle.wire_msgs.specs.declared.operation.Operation.TheVariants.{InitNew, Load, InPlace, UiActivate, UiDeactivate, InPlaceDeactivate, OpenWindow, Edit, Save, SaveCompleted, SaveDropped, Close}
+use Rattle.wire_msgs.specs.declared.operation.Operation.TheVariants.{InitNew, Load, InPlace, UiActivate, UiDeactivate, InPlaceDeactivate, OpenWindow, Edit, Save, HandsOff, SaveCompleted, SaveDropped, Close}
 use Rattle.object_state.specs.declared.operations.CloseOption.TheVariants.{SaveIfDirty, NoSave}
 use Rattle.container_model.specs.declared.record.Link.{Link}
 use Rattle.container_model.specs.declared.fault.ContainerFault.{ContainerFault}
@@ -38,6 +38,7 @@ when_done InPlace s = Continues s
 when_done InPlaceDeactivate s = Continues s
 when_done OpenWindow s = Continues s
 when_done (Edit bytes) s = Continues s
+when_done HandsOff s = Continues s
 when_done (SaveCompleted k storage) s = Continues (s + 1)
 when_done (SaveDropped k) s = Continues (s + 1)
 when_done UiDeactivate s = GivesUp

@@ -164,7 +164,7 @@ fn calls(
 }
 
 // What the objects of a frame take up.
-fn takes(
+pub(crate) fn takes(
     alloc: Global,
     frame: u32,
     operation: &Operation,

@@ -4,6 +4,7 @@
 
 pub mod asking;
 pub mod closing;
+pub mod handing;
 pub mod replies;
 pub mod requests;
 pub mod resending;

@@ -70,7 +70,7 @@ fn go_on(link: &mut Link)
 // The call that is sent next, in a list with room for so many actions more.
 fn next_actions(alloc: Global, link: &Link, more: usize) -> Result<Vec<Action>, AllocError>
     requires numbers { link.now.last + length link.now.waiting ≤ 1000000 }
-    requires few { more ≤ 1000001 }
+    requires few { more ≤ 2000001 }
     ensures sent { IfOk result (λ v. v.items ≡ sends (next_at link.now link.now.waiting).sent) }
     ensures few { IfOk result (λ v. vec_len v ≤ 1) }
     ensures room { IfOk result (λ v. vec_len v + more ≤ vec_capacity v) }
@@ -94,7 +94,7 @@ fn done(
     more: usize,
 ) -> Result<Replied, ContainerFault>
     requires numbers { link.old.last + length link.old.waiting ≤ 1000000 }
-    requires few { more ≤ 1000001 }
+    requires few { more ≤ 2000001 }
     ensures taken { IfOk result (λ t. resumed (done_link link.old s (both.step link.old.states op)) ≡ Ok (record { link = Some link.new; taken = t.taken; refused = t.refused; grant = t.grant; actions = t.actions.items })) }
     ensures few { IfOk result (λ t. vec_len t.actions ≤ 1) }
     ensures room { IfOk result (λ t. vec_len t.actions + more ≤ vec_capacity t.actions) }
@@ -127,7 +127,7 @@ fn saved(
     more: usize,
 ) -> Result<Replied, ContainerFault>
     requires numbers { link.old.last + length link.old.waiting ≤ 1000000 }
-    requires few { more ≤ 1000001 }
+    requires few { more ≤ 2000001 }
     ensures taken { IfOk result (λ t. resumed (saved_link content (done_link link.old link.old.s (both.step link.old.states op))) ≡ Ok (record { link = Some link.new; taken = t.taken; refused = t.refused; grant = t.grant; actions = t.actions.items })) }
     ensures few { IfOk result (λ t. vec_len t.actions ≤ 1) }
     ensures room { IfOk result (λ t. vec_len t.actions + more ≤ vec_capacity t.actions) }
@@ -153,7 +153,7 @@ fn granted(
     more: usize,
 ) -> Result<Replied, ContainerFault>
     requires numbers { link.old.last + length link.old.waiting ≤ 1000000 }
-    requires few { more ≤ 1000001 }
+    requires few { more ≤ 2000001 }
     ensures taken { IfOk result (λ t. resumed (granted_link told (done_link link.old link.old.s (both.step link.old.states op))) ≡ Ok (record { link = Some link.new; taken = t.taken; refused = t.refused; grant = t.grant; actions = t.actions.items })) }
     ensures few { IfOk result (λ t. vec_len t.actions ≤ 1) }
     ensures room { IfOk result (λ t. vec_len t.actions + more ≤ vec_capacity t.actions) }
@@ -179,7 +179,7 @@ fn noted(
     more: usize,
 ) -> Result<Replied, ContainerFault>
     requires numbers { link.old.last + length link.old.waiting ≤ 1000000 }
-    requires few { more ≤ 1000001 }
+    requires few { more ≤ 2000001 }
     ensures taken { IfOk result (λ t. resumed (noted link.old why) ≡ Ok (record { link = Some link.new; taken = t.taken; refused = t.refused; grant = t.grant; actions = t.actions.items })) }
     ensures few { IfOk result (λ t. vec_len t.actions ≤ 1) }
     ensures room { IfOk result (λ t. vec_len t.actions + more ≤ vec_capacity t.actions) }
@@ -205,7 +205,7 @@ fn lost(
     why: Refusal,
     more: usize,
 ) -> Result<Replied, ContainerFault>
-    requires { more ≤ 1000001 }
+    requires { more ≤ 2000001 }
     ensures taken { IfOk result (λ t. resumed (lost why) ≡ Ok (record { link = link.new; taken = t.taken; refused = t.refused; grant = t.grant; actions = t.actions.items })) }
     ensures few { IfOk result (λ t. vec_len t.actions ≤ 1) }
     ensures room { IfOk result (λ t. vec_len t.actions + more ≤ vec_capacity t.actions) }
@@ -233,7 +233,7 @@ fn closed(
     content: Option<Stored>,
     more: usize,
 ) -> Result<Replied, ContainerFault>
-    requires { more ≤ 1000001 }
+    requires { more ≤ 2000001 }
     ensures taken { IfOk result (λ t. resumed (closed_with content (both.step states op)) ≡ Ok (record { link = link.new; taken = t.taken; refused = t.refused; grant = t.grant; actions = t.actions.items })) }
     ensures few { IfOk result (λ t. vec_len t.actions ≤ 1) }
     ensures room { IfOk result (λ t. vec_len t.actions + more ≤ vec_capacity t.actions) }
@@ -278,7 +278,7 @@ fn is_pending(link: &Option<Link>, n: u32) -> bool
 // The pending operation was done.
 fn done_told(alloc: Global, link: &mut Option<Link>, more: usize) -> Result<Replied, ContainerFault>
     requires numbers { IfLinked (IsRoomy 1000000 0) link.old }
-    requires few { more ≤ 1000001 }
+    requires few { more ≤ 2000001 }
     ensures taken { IfOk result (λ t. resumed (answered link.old Answer.Done) ≡ Ok (record { link = link.new; taken = t.taken; refused = t.refused; grant = t.grant; actions = t.actions.items })) }
     ensures few { IfOk result (λ t. vec_len t.actions ≤ 1) }
     ensures room { IfOk result (λ t. vec_len t.actions + more ≤ vec_capacity t.actions) }
@@ -310,7 +310,7 @@ fn refused_told(
     more: usize,
 ) -> Result<Replied, ContainerFault>
     requires numbers { IfLinked (IsRoomy 1000000 0) link.old }
-    requires few { more ≤ 1000001 }
+    requires few { more ≤ 2000001 }
     ensures taken { IfOk result (λ t. resumed (answered link.old (Answer.Refused why)) ≡ Ok (record { link = link.new; taken = t.taken; refused = t.refused; grant = t.grant; actions = t.actions.items })) }
     ensures few { IfOk result (λ t. vec_len t.actions ≤ 1) }
     ensures room { IfOk result (λ t. vec_len t.actions + more ≤ vec_capacity t.actions) }
@@ -338,7 +338,7 @@ fn content_told(
     more: usize,
 ) -> Result<Replied, ContainerFault>
     requires numbers { IfLinked (IsRoomy 1000000 0) link.old }
-    requires few { more ≤ 1000001 }
+    requires few { more ≤ 2000001 }
     ensures taken { IfOk result (λ t. resumed (answered link.old (Answer.Content content)) ≡ Ok (record { link = link.new; taken = t.taken; refused = t.refused; grant = t.grant; actions = t.actions.items })) }
     ensures few { IfOk result (λ t. vec_len t.actions ≤ 1) }
     ensures room { IfOk result (λ t. vec_len t.actions + more ≤ vec_capacity t.actions) }
@@ -368,7 +368,7 @@ fn tools_told(
     more: usize,
 ) -> Result<Replied, ContainerFault>
     requires numbers { IfLinked (IsRoomy 1000000 0) link.old }
-    requires few { more ≤ 1000001 }
+    requires few { more ≤ 2000001 }
     ensures taken { IfOk result (λ t. resumed (answered link.old (Answer.Tools tools.menus tools.border)) ≡ Ok (record { link = link.new; taken = t.taken; refused = t.refused; grant = t.grant; actions = t.actions.items })) }
     ensures few { IfOk result (λ t. vec_len t.actions ≤ 1) }
     ensures room { IfOk result (λ t. vec_len t.actions + more ≤ vec_capacity t.actions) }
@@ -401,7 +401,7 @@ pub fn told(
     more: usize,
 ) -> Result<Replied, ContainerFault>
     requires numbers { IfLinked (IsRoomy 1000000 0) link.old }
-    requires few { more ≤ 1000001 }
+    requires few { more ≤ 2000001 }
     ensures taken { IfOk result (λ t. resumed (reply_link n answer link.old) ≡ Ok (record { link = link.new; taken = t.taken; refused = t.refused; grant = t.grant; actions = t.actions.items })) }
     ensures few { IfOk result (λ t. vec_len t.actions ≤ 1) }
     ensures room { IfOk result (λ t. vec_len t.actions + more ≤ vec_capacity t.actions) }

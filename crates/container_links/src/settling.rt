@@ -1,10 +1,12 @@
 //! How saves go on once nothing is waited for.
 
 ghost use Rattle.std.specs.Prelude.{◌≡◌, ◌+◌, ◌≤◌, ◌<◌, ◌++◌, length, vec_len, vec_capacity};
-ghost use Rattle.container_model.specs.Saves.{awaits, is_awaited_link, is_ready, settled_action, settled_actions, settled_frame, settled_frames};
+ghost use Rattle.container_model.specs.Saves.{awaits, is_awaited_link, is_away, is_keeping_link, is_ready, keeps, settled_action, settled_actions, settled_frame, settled_frames};
+ghost use Rattle.container_model.specs.HandOffs.{hands_off};
 
 use container_model::answer::Action;
 use container_model::record::{Frame, Link, Object, Phase};
+use object_state::PersistState;
 
 // Whether a save waits for the object of this link.
 fn is_awaited(link: &Option<Link>) -> bool
@@ -17,11 +19,43 @@ fn is_awaited(link: &Option<Link>) -> bool
 }
 
 // Whether a save of the frame waits for an object.
-fn awaits(frame: u32, objects: &[Object]) -> bool
+pub(crate) fn awaits(frame: u32, objects: &[Object]) -> bool
     ensures { result ≡ awaits frame objects.now }
 {
     for object in objects {
         if object.frame == frame && is_awaited(&object.link) {
+            return true;
+        }
+    }
+    false
+}
+
+// Whether a storage was given away.
+fn is_away(state: PersistState) -> bool
+    ensures { result ≡ is_away state }
+{
+    match state {
+        PersistState::HandsOff => true,
+        _ => false,
+    }
+}
+
+// Whether a frame that hands off waits for the object of this link.
+fn is_keeping(link: &Option<Link>) -> bool
+    ensures { result ≡ is_keeping_link link.now }
+{
+    match link {
+        Some(link) => !is_away(link.states.persist.state),
+        None => false,
+    }
+}
+
+// Whether a frame that hands off waits for an object.
+fn keeps(frame: u32, objects: &[Object]) -> bool
+    ensures { result ≡ keeps frame objects.now }
+{
+    for object in objects {
+        if object.frame == frame && is_keeping(&object.link) {
             return true;
         }
     }
@@ -33,7 +67,24 @@ fn is_ready(number: u32, frame: &Frame, objects: &[Object]) -> bool
     ensures { result ≡ is_ready number objects.now frame.now }
 {
     match frame.phase {
-        Phase::Saving => !awaits(number, objects),
+        Phase::Saving => match &frame.asked {
+            None => !awaits(number, objects),
+            Some(_) => false,
+        },
+        Phase::HandingOff => !keeps(number, objects),
+        _ => false,
+    }
+}
+
+/// Whether a frame that is saved under another name asks for its objects' storages next: each content is there.
+pub fn hands_off(number: u32, frame: &Frame, objects: &[Object]) -> bool
+    ensures { result ≡ hands_off number objects.now frame.now }
+{
+    match frame.phase {
+        Phase::Saving => match &frame.asked {
+            None => false,
+            Some(_) => !awaits(number, objects),
+        },
         _ => false,
     }
 }

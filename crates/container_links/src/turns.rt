@@ -56,7 +56,7 @@ pub(crate) fn when_done(operation: &Operation, s: u32) -> WhenDone
         Operation::OpenWindow => WhenDone::Continues(s),
         Operation::Edit(_) => WhenDone::Continues(s),
         Operation::Save(_) => WhenDone::Undone,
-        Operation::HandsOff => WhenDone::Undone,
+        Operation::HandsOff => WhenDone::Continues(s),
         Operation::SaveCompleted { .. } => WhenDone::Continues(s + 1),
         Operation::SaveDropped(_) => WhenDone::Continues(s + 1),
         Operation::Close(option) => match option {

@@ -25,7 +25,9 @@ use Rattle.container_model.specs.declared.fault.ContainerFault.{ContainerFault}
 use Rattle.container_model.specs.declared.fault.ContainerFault.TheVariants.{NoSuch, Busy, NotRunning, InDoubt, Full, NumbersSpent, WrongState, UnknownClass}
 use Rattle.container_model.specs.Record.{Record, Took, MOST_FRAMES, MOST_OBJECTS, MOST_SERVERS, MARGIN, quiet_answer, acts, sends, is_object, is_alive, is_busy, is_moving, is_saving, is_doubtful, count_alive, count_objects, counts_none, without_first, has_numbers, link_has_numbers, asked_link, asked_sent, asked_object, asked_all, unless, with_object}
 use Rattle.container_model.specs.Located.{located, ready}
+use Rattle.container_model.specs.Grants.{Requested}
 use Rattle.container_model.specs.Saves.{settle, settle_actions}
+use Rattle.container_model.specs.HandOffs.{hand_off_in}
 use Rattle.container_model.specs.Verbs.{close, verb}
 
 -- New: a name that no frame bears or asked for, a size of 1 to 200 by 1 to 100 cells.
@@ -175,7 +177,7 @@ edit_linked r o bytes link = edit_unless r o bytes (edit_fault r.numbers (length
 abbrev pub edit : Record → ℕ → List ℕ → Result Took ContainerFault
 edit r n bytes = located r n (ready (λ o frame. edit_linked r o bytes o.link))
 
--- Save: each object of the frame that isn't passive is asked for its content.
+-- Save: each object of the frame that isn't passive is asked for its content, under the frame's name or under another one.
 abbrev pub any_busy : ℕ → GrantState → List Object → Bool
 any_busy f state [] = false
 any_busy f state (o ∷ os) = if o.frame == f then (if is_busy state o then true else any_busy f state os) else any_busy f state os
@@ -184,33 +186,55 @@ abbrev pub all_have_numbers : ℕ → ℕ → List Object → Bool
 all_have_numbers f numbers [] = true
 all_have_numbers f numbers (o ∷ os) = if o.frame == f then (if link_has_numbers numbers o.link then all_have_numbers f numbers os else false) else all_have_numbers f numbers os
 
-abbrev pub saving_frame : Frame → Frame
-saving_frame frame = record frame { k = frame.k + 1; phase = Saving }
+abbrev pub saving_frame : Option (List ℕ) → Frame → Frame
+saving_frame asked frame = record frame { asked = asked; k = frame.k + 1; phase = Saving }
 
-abbrev pub saving : Record → ℕ → Frame → Record
-saving r f frame = record r { frames = set_nth r.frames f (saving_frame frame); objects = map (asked_object f (Save (frame.k + 1))) r.objects }
+abbrev pub saving : Record → ℕ → Frame → Option (List ℕ) → Record
+saving r f frame asked = record r { frames = set_nth r.frames f (saving_frame asked frame); objects = map (asked_object f (Save (frame.k + 1))) r.objects }
 
-abbrev pub save_made : Record → ℕ → Frame → Took
-save_made r f frame = record {
-  rec = settle (saving r f frame);
-  answer = acts (sends (asked_all f (Save (frame.k + 1)) r.objects) ++ settle_actions (saving r f frame));
+-- where all are passive, it goes on at once
+abbrev pub saving_on : Record → ℕ → Frame → Option (List ℕ) → Requested
+saving_on r f frame asked = hand_off_in (saving r f frame asked) f
+
+abbrev pub save_made : Record → ℕ → Frame → Option (List ℕ) → Took
+save_made r f frame asked = record {
+  rec = settle (saving_on r f frame asked).rec;
+  answer = acts (sends (asked_all f (Save (frame.k + 1)) r.objects ++ (saving_on r f frame asked).sent) ++ settle_actions (saving_on r f frame asked).rec);
   counted = [];
 }
 
-abbrev pub save_numbered : Record → ℕ → Frame → Result Took ContainerFault
-save_numbered r f frame =
+abbrev pub save_numbered : Record → ℕ → Frame → Option (List ℕ) → Result Took ContainerFault
+save_numbered r f frame asked =
     unless (nat_le r.numbers frame.k || not (all_have_numbers f r.numbers r.objects)) NumbersSpent
-    (Ok (save_made r f frame))
+    (Ok (save_made r f frame asked))
 
 abbrev pub save_at : Record → ℕ → Option Frame → Result Took ContainerFault
 save_at r f None = Err NoSuch
 save_at r f (Some frame) =
     unless (is_doubtful frame.phase) InDoubt
     (unless (is_saving frame.phase || is_moving frame.ui.state || any_busy f frame.ui.state r.objects) Busy
-    (save_numbered r f frame))
+    (save_numbered r f frame None))
 
 abbrev pub save : Record → ℕ → Result Took ContainerFault
 save r f = save_at r f (nth r.frames f)
+
+-- SaveAs: the name is one that no other frame bears or asked for, and not the frame's own. The frame gets it once the commit
+-- is counted.
+-- (of these frames the first has number i)
+abbrev pub is_named_beside : ℕ → List ℕ → ℕ → List Frame → Bool
+is_named_beside f name i [] = false
+is_named_beside f name i (frame ∷ frames) = if not (i == f) && (bytes_eq frame.name name || is_name name frame.asked) then true else is_named_beside f name (i + 1) frames
+
+abbrev pub save_as_at : Record → ℕ → List ℕ → Option Frame → Result Took ContainerFault
+save_as_at r f name None = Err NoSuch
+save_as_at r f name (Some frame) =
+    unless (is_doubtful frame.phase) InDoubt
+    (unless (is_saving frame.phase || is_moving frame.ui.state || any_busy f frame.ui.state r.objects || is_named_beside f name 1 r.frames) Busy
+    (unless (bytes_eq frame.name name) WrongState
+    (save_numbered r f frame (Some name))))
+
+abbrev pub save_as : Record → ℕ → List ℕ → Result Took ContainerFault
+save_as r f name = save_as_at r f name (nth r.frames f)
 
 -- Delete: a passive object goes.
 abbrev pub delete_made : Record → Object → Took
@@ -234,6 +258,7 @@ on_command r command.Start = start r
 on_command r (command.Run o inc) = run r o inc
 on_command r (command.Edit o bytes) = edit r o bytes
 on_command r (command.Save f) = save r f
+on_command r (command.SaveAs f name) = save_as r f name
 on_command r (command.Delete o) = delete r o
 on_command r (command.Kill inc) = kill r inc
 on_command r (command.Close o option) = close r o option

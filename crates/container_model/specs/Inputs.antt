@@ -6,10 +6,11 @@ use Rattle.container_model.specs.declared.fault.ContainerFault.{ContainerFault}
 use Rattle.container_model.specs.Record.{Record, Took}
 use Rattle.container_model.specs.Commands.{on_command}
 use Rattle.container_model.specs.Messages.{on_message, on_reap}
+use Rattle.container_model.specs.Opens.{Given, opened}
 use Rattle.container_model.specs.Saves.{commit_done, commit_failed, resolve}
 
 -- a command of a user, a message on a link, the end of a server; a commit that is done, one that failed, and whether one that
--- failed was kept after all
+-- failed was kept after all; a file that is opened, with what it gave
 pub data Input : Type 0 where
   Ordered : Command → Input
   Told : ℕ → Message → Input
@@ -17,6 +18,7 @@ pub data Input : Type 0 where
   Committed : ℕ → Input
   Failed : ℕ → Input
   Resolved : ℕ → Bool → Input
+  Opened : List ℕ → ℕ → ℕ → Given → Input
 
 abbrev pub on_input : Record → Input → Result Took ContainerFault
 on_input r (Input.Ordered c) = on_command r c
@@ -25,6 +27,7 @@ on_input r (Input.Reaped inc) = on_reap r inc
 on_input r (Input.Committed f) = commit_done r f
 on_input r (Input.Failed f) = commit_failed r f
 on_input r (Input.Resolved f is_kept) = resolve r f is_kept
+on_input r (Input.Opened name w h given) = opened r name w h given
 
 -- a whole run of it: each step is taken, one after the other
 abbrev pub Leads : Record → List Input → Record → Type 0

@@ -4,9 +4,11 @@ pub mod Grants
 pub mod Verbs
 pub mod Messages
 pub mod Saves
+pub mod HandOffs
 pub mod FaultNames
 pub mod Room
 pub mod Replies
 pub mod Numbered
 pub mod Located
+pub mod Opens
 pub mod Inputs

@@ -5,7 +5,7 @@ use Rattle.wire_msgs.specs.Operations.{op_of}
 use Rattle.wire_msgs.specs.declared.message.Message.{Message}
 use Rattle.wire_msgs.specs.declared.message.Message.TheVariants.{Call, Reply, Write, Ask}
 use Rattle.wire_msgs.specs.declared.operation.Operation.{Operation}
-use Rattle.wire_msgs.specs.declared.operation.Operation.TheVariants.{InitNew, Load, InPlace, UiActivate, UiDeactivate, InPlaceDeactivate, OpenWindow, Edit, Save, SaveCompleted, SaveDropped, Close}
+use Rattle.wire_msgs.specs.declared.operation.Operation.TheVariants.{InitNew, Load, InPlace, UiActivate, UiDeactivate, InPlaceDeactivate, OpenWindow, Edit, Save, HandsOff, SaveCompleted, SaveDropped, Close}
 use Rattle.wire_msgs.specs.declared.answer.Answer.{Answer}
 use Rattle.wire_msgs.specs.declared.answer.Answer.TheVariants as told
 use Rattle.wire_msgs.specs.declared.refusal.Refusal.{Refusal}
@@ -30,6 +30,7 @@ use Rattle.container_model.specs.declared.grants.Tells.{Tells}
 use Rattle.container_model.specs.declared.grants.Tells.TheVariants.{Gets, GivesUp}
 use Rattle.container_model.specs.Grants.{Regranted, Requested, free_grants, moved, regranted, request}
 use Rattle.container_model.specs.Saves.{settle, settle_actions, kept, kept_in}
+use Rattle.container_model.specs.HandOffs.{hand_off, hand_off_in, is_answered, unasked}
 
 -- A link after an answer, the content that is the object's work content from now on, if any, why the object refused, and
 -- what is told of the frame's grant.
@@ -79,7 +80,7 @@ abbrev pub granted_link : Tells → Result Replied ContainerFault → Result Rep
 granted_link told (Err fault) = Err fault
 granted_link told (Ok replied) = Ok (record replied { grant = Some told })
 
--- What an answer makes of a link whose pending operation it answers. Nothing asks for the other operations yet.
+-- What an answer makes of a link whose pending operation it answers.
 abbrev pub replied : Link → Operation → Answer → Result Replied ContainerFault
 replied l (InitNew class) told.Done = done l (InitNew class)
 replied l (InitNew class) (told.Refused why) = lost why
@@ -93,6 +94,7 @@ replied l OpenWindow told.Done = done l OpenWindow
 replied l (Edit bytes) told.Done = done l (Edit bytes)
 replied l (Edit bytes) (told.Refused why) = noted l why
 replied l (Save k) (told.Content content) = saved_link content (done l (Save k))
+replied l HandsOff told.Done = done l HandsOff
 replied l (SaveCompleted k storage) told.Done = done l (SaveCompleted k storage)
 replied l (SaveDropped k) told.Done = done l (SaveDropped k)
 replied l (Close SaveIfDirty) (told.Content content) = closed l SaveIfDirty (Some content)
@@ -137,14 +139,19 @@ replied_record r inc act o replied = record r { objects = put (is_linked inc act
 abbrev pub replied_grant : Record → ℕ → ℕ → Object → Replied → Regranted
 replied_grant r inc act o replied = regranted (replied_record r inc act o replied) o.frame replied.grant
 
+-- and a content may be the last that its frame's save under another name waits for
+abbrev pub replied_saving : Record → ℕ → ℕ → Object → Replied → Requested
+replied_saving r inc act o replied =
+    if is_answered o.link replied.link then hand_off_in (replied_grant r inc act o replied).rec o.frame else unasked (replied_grant r inc act o replied).rec
+
 abbrev pub reply_made : Record → ℕ → ℕ → Object → Replied → Took
 reply_made r inc act o replied = record {
-  rec = settle (replied_grant r inc act o replied).rec;
+  rec = settle (replied_saving r inc act o replied).rec;
   answer = record quiet_answer {
     taken = is_some replied.taken;
     refused = replied.refused;
     no_tools = (replied_grant r inc act o replied).no_tools;
-    actions = sends (next_sent replied.link ++ (replied_grant r inc act o replied).sent) ++ settle_actions (replied_grant r inc act o replied).rec;
+    actions = sends (next_sent replied.link ++ (replied_grant r inc act o replied).sent ++ (replied_saving r inc act o replied).sent) ++ settle_actions (replied_saving r inc act o replied).rec;
   };
   counted = [];
 }
@@ -251,8 +258,11 @@ reaped r inc = record r { objects = map (λ o. reaped_object inc o o.link) r.obj
 abbrev pub reaped_grants : Record → ℕ → Requested
 reaped_grants r inc = free_grants inc r.objects (reaped r inc)
 
+abbrev pub reaped_saving : Record → ℕ → Requested
+reaped_saving r inc = hand_off (reaped_grants r inc).rec
+
 abbrev pub reap_made : Record → ℕ → Took
-reap_made r inc = counts_none (settle (reaped_grants r inc).rec) (acts (sends (reaped_grants r inc).sent ++ settle_actions (reaped_grants r inc).rec))
+reap_made r inc = counts_none (settle (reaped_saving r inc).rec) (acts (sends ((reaped_grants r inc).sent ++ (reaped_saving r inc).sent) ++ settle_actions (reaped_saving r inc).rec))
 
 abbrev pub on_reap : Record → ℕ → Result Took ContainerFault
 on_reap r inc = if is_alive r inc then Ok (reap_made r inc) else Err NoSuch

@@ -11,13 +11,15 @@ use Rattle.container_model.specs.declared.record.Phase.{Phase}
 use Rattle.container_model.specs.declared.record.Phase.TheVariants.{Idle, Saving, HandingOff, Committing, InDoubt}
 use Rattle.container_model.specs.Record.{Record}
 
--- while a save is under way, one call may come without a check: it tells how the save ended
-abbrev pub debt : Phase → ℕ
-debt Idle = 0
-debt Saving = 1
-debt HandingOff = 1
-debt Committing = 1
-debt InDoubt = 1
+-- while a save is under way, one call may come without a check: it tells how the save ended; before it, under another name,
+-- one that asks for the storage
+abbrev pub debt : Phase → Option (List ℕ) → ℕ
+debt Idle asked = 0
+debt Saving None = 1
+debt Saving (Some name) = 2
+debt HandingOff asked = 1
+debt Committing asked = 1
+debt InDoubt asked = 1
 
 -- whoever has a frame or is to get it may be told to give it up; whoever waits for it is told of its grant before
 abbrev pub claim_debt : ℕ → ℕ → Option Claim → ℕ
@@ -32,7 +34,7 @@ grant_debt number (Revoking holder next) = claim_debt number 2 next
 
 abbrev pub debt_in : ℕ → Option Frame → ℕ
 debt_in number None = 0
-debt_in number (Some frame) = debt frame.phase + grant_debt number frame.ui.state
+debt_in number (Some frame) = debt frame.phase frame.asked + grant_debt number frame.ui.state
 
 abbrev pub count_pending : Link → ℕ
 count_pending l = cond (is_some l.pending) 1 0

@@ -1,8 +1,10 @@
 -- How saves go on, and what they count.
-use Rattle.std.specs.Prelude.{◌+◌, ◌==◌, ◌&&◌, ℕ, Bool, true, false, List, [], ◌∷◌, ◌++◌, map, Option, Some, None, Result, Ok, Err, if◌then◌else◌, length, nat_le}
+use Rattle.std.specs.Prelude.{◌+◌, ◌==◌, ◌&&◌, ℕ, Bool, true, false, not, List, [], ◌∷◌, ◌++◌, map, Option, Some, None, Result, Ok, Err, if◌then◌else◌, length, nat_le}
 use Rattle.wire_msgs.specs.Found.{nth, set_nth}
 use Rattle.wire_msgs.specs.declared.operation.Operation.{Operation}
 use Rattle.wire_msgs.specs.declared.operation.Operation.TheVariants.{SaveCompleted, SaveDropped}
+use Rattle.object_state.specs.declared.persist_states.PersistState.{PersistState}
+use Rattle.object_state.specs.declared.persist_states.PersistState.TheVariants as state
 use Rattle.storage_tree.specs.declared.stored.Stored.{Stored}
 use Rattle.storage_tree.specs.Tree as tree
 use Rattle.document_model.specs.declared.object.DocObject.{DocObject}
@@ -15,7 +17,7 @@ use Rattle.container_model.specs.declared.record.Link.{Link}
 use Rattle.container_model.specs.declared.record.Object.{Object}
 use Rattle.container_model.specs.declared.record.Frame.{Frame}
 use Rattle.container_model.specs.declared.record.Phase.{Phase}
-use Rattle.container_model.specs.declared.record.Phase.TheVariants.{Idle, Saving, Committing, InDoubt}
+use Rattle.container_model.specs.declared.record.Phase.TheVariants.{Idle, Saving, HandingOff, Committing, InDoubt}
 use Rattle.container_model.specs.declared.answer.Action.{Action}
 use Rattle.container_model.specs.declared.answer.Action.TheVariants.{Commit}
 use Rattle.container_model.specs.declared.answer.Done.{Done}
@@ -33,14 +35,28 @@ abbrev pub awaits : ℕ → List Object → Bool
 awaits f [] = false
 awaits f (o ∷ os) = if o.frame == f then (if is_awaited_link o.link then true else awaits f os) else awaits f os
 
--- a frame that is saving goes on to its commit once nothing is waited for
-abbrev pub is_ready_at : Phase → Bool → Bool
-is_ready_at Saving false = true
-is_ready_at Saving true = false
-is_ready_at phase waits = false
+-- and where a frame hands off, until it has given its storage away, or is passive
+abbrev pub is_away : PersistState → Bool
+is_away state.HandsOff = true
+is_away s = false
+
+abbrev pub is_keeping_link : Option Link → Bool
+is_keeping_link None = false
+is_keeping_link (Some l) = not (is_away l.states.persist.state)
+
+abbrev pub keeps : ℕ → List Object → Bool
+keeps f [] = false
+keeps f (o ∷ os) = if o.frame == f then (if is_keeping_link o.link then true else keeps f os) else keeps f os
+
+-- a frame that is saving under its name goes on to its commit once each content is there, one that hands off once each
+-- storage was given away
+abbrev pub is_ready_at : Phase → Option (List ℕ) → Bool → Bool → Bool
+is_ready_at Saving None waits keeping = not waits
+is_ready_at HandingOff asked waits keeping = not keeping
+is_ready_at phase asked waits keeping = false
 
 abbrev pub is_ready : ℕ → List Object → Frame → Bool
-is_ready f os frame = is_ready_at frame.phase (awaits f os)
+is_ready f os frame = is_ready_at frame.phase frame.asked (awaits f os) (keeps f os)
 
 abbrev pub settled_frame : ℕ → List Object → Frame → Frame
 settled_frame f os frame = if is_ready f os frame then record frame { phase = Committing } else frame

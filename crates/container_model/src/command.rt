@@ -30,6 +30,8 @@ pub enum Command {
     Edit(u32, Bytes),
     /// A frame is saved under its name.
     Save(u32),
+    /// A frame is saved under another name, which is its own from then on.
+    SaveAs(u32, Bytes),
     /// A passive object goes from its frame.
     Delete(u32),
     /// A server is ended.

@@ -1,8 +1,10 @@
 pub mod SoundAsking
+pub mod SoundHandOffs
 pub mod SoundCommands
 pub mod SoundGrants
 pub mod SoundMessages
 pub mod SoundMoves
+pub mod SoundOpens
 pub mod SoundReaps
 pub mod SoundReplies
 pub mod SoundRooms

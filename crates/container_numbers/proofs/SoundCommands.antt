@@ -21,10 +21,11 @@ use Rattle.container_steady.proofs.SteadyCounts.{each_without}
 use Rattle.container_steady.proofs.SteadyLookups.{each_append, each_set, each_weaker, nth-set_other, pairs_map}
 use Rattle.container_steady.proofs.SteadyTells.{if_told, or_false, unless_ok}
 use Rattle.container_steady.proofs.SteadyTests.{found_numbered, not_false}
-use Rattle.container_steady.specs.Taken.{IsTakenAs, as_close, as_delete, as_edit, as_insert, as_kill, as_new, as_run, as_save, as_start, as_verb, edited}
+use Rattle.container_steady.specs.Taken.{IsTakenAs, as_close, as_delete, as_edit, as_insert, as_kill, as_new, as_run, as_save, as_save_as, as_start, as_verb, edited}
 use Rattle.container_steady.proofs.Taken.{command_taken}
 use Rattle.container_model.specs.Commands.{on_command}
 use Rattle.container_numbers.proofs.SoundAsking.{debts_few, link_checked, one_asked}
+use Rattle.container_numbers.proofs.SoundHandOffs.{asked_number, hand_off_in_within}
 use Rattle.container_numbers.proofs.SoundRooms.{Differs, IsSaved, Owing, Within, all_of, debts, each_of, length-set_nth, owes_less, put_within, sound_of, within_of}
 use Rattle.container_numbers.proofs.SoundSaves.{settled_sound}
 use Rattle.container_numbers.proofs.SoundVerbs.{closed_sound, stepped_sound}
@@ -40,7 +41,7 @@ debts_more : (frames : List Frame) (frame : Frame) → ((n : ℕ) → debt_in n 
 debts_more frames frame e n zero = refl
 debts_more frames frame e n (suc i) = get_more n frames frame i (e n)
 
-frame_sound : {Greatest : ℕ → Type 0} (r : Record) (frame : Frame) → HasNumbers Greatest r → length r.frames < r.numbers → frame.k ≤ r.numbers → ((n : ℕ) → debt_in n (Some frame) ≡ 0) → HasNumbers Greatest (record r { frames = r.frames ++ frame ∷ [] })
+pub frame_sound : {Greatest : ℕ → Type 0} (r : Record) (frame : Frame) → HasNumbers Greatest r → length r.frames < r.numbers → frame.k ≤ r.numbers → ((n : ℕ) → debt_in n (Some frame) ≡ 0) → HasNumbers Greatest (record r { frames = r.frames ++ frame ∷ [] })
 frame_sound r frame h lt k none =
     let frames = r.frames ++ frame ∷ [] in
     record {
@@ -56,7 +57,7 @@ frame_sound r frame h lt k none =
     }
 
 -- ---- a new object has no activation
-object_sound : {Greatest : ℕ → Type 0} (r : Record) (a : Object) → HasNumbers Greatest r → a.link ≡ None → r.last_object < r.numbers → HasNumbers Greatest (record r { objects = r.objects ++ a ∷ []; last_object = r.last_object + 1 })
+pub object_sound : {Greatest : ℕ → Type 0} (r : Record) (a : Object) → HasNumbers Greatest r → a.link ≡ None → r.last_object < r.numbers → HasNumbers Greatest (record r { objects = r.objects ++ a ∷ []; last_object = r.last_object + 1 })
 object_sound r a h none lt = record {
   limit = h.limit;
   room = all_of (Owing r.numbers (debts r.frames)) (r.objects ++ a ∷ []) (each_append (Owing r.numbers (debts r.frames)) r.objects a (each_of (Owing r.numbers (debts r.frames)) r.objects h.room)
@@ -86,7 +87,7 @@ server_sound r h lt = record {
 margin_left : (numbers : ℕ) → nat_lt numbers MARGIN ≡ false → 8 ≤ numbers
 margin_left numbers e = grind arith
 
-begun_roomy : (numbers more inc act : ℕ) (op : Operation) → nat_lt numbers MARGIN ≡ false → more ≤ 3 → IsRoomy numbers more (Commands.begun_link inc act op)
+begun_roomy : (numbers more inc act : ℕ) (op : Operation) → nat_lt numbers MARGIN ≡ false → more ≤ 4 → IsRoomy numbers more (Commands.begun_link inc act op)
 begun_roomy numbers more inc act op e few = record { calls = (let m = margin_left numbers e in omega arith); grants = omega arith }
 
 run_made_sound : {Greatest : ℕ → Type 0} (r : Record) (o : Object) (inc : ℕ) → Steady r → HasNumbers Greatest r → find (is_object o.number) r.objects ≡ Some o → nat_lt r.numbers MARGIN ≡ false → r.last_act < r.numbers → HasNumbers Greatest (Commands.run_made r o inc).rec
@@ -131,13 +132,10 @@ module _ (numbers : ℕ) (frames : List Frame) (f : ℕ) (op : Operation) (next 
     room_all os (have_rest (o.frame == f) (link_has_numbers numbers o.link) (Commands.all_have_numbers f numbers os) e) h.1,
   )
 
-asked_number : (f : ℕ) (op : Operation) (o : Object) → (asked_object f op o).number ≡ o.number
-asked_number f op o = if_told (λ (z : Object). z.number ≡ o.number) (o.frame == f) (record o { link = asked_link op o.link }) o (λ t. refl) (λ t. refl)
-
-saving_within : {Greatest : ℕ → Type 0} (r : Record) (f : ℕ) (frame : Frame) → Within Greatest (debts r.frames) r → frame.k < r.numbers → Commands.all_have_numbers f r.numbers r.objects ≡ true → Within Greatest (debts (Commands.saving r f frame).frames) (Commands.saving r f frame)
-saving_within r f frame h lt has =
+saving_within : {Greatest : ℕ → Type 0} (r : Record) (f : ℕ) (frame : Frame) (asked : Option (List ℕ)) → Within Greatest (debts r.frames) r → frame.k < r.numbers → Commands.all_have_numbers f r.numbers r.objects ≡ true → Within Greatest (debts (Commands.saving r f frame asked).frames) (Commands.saving r f frame asked)
+saving_within r f frame asked h lt has =
     let op : Operation = Save (frame.k + 1) in
-    let next : Frame = Commands.saving_frame frame in
+    let next : Frame = Commands.saving_frame asked frame in
     record {
       limit = h.limit;
       room = room_all r.numbers r.frames f op next r.objects has h.room;
@@ -149,6 +147,10 @@ saving_within r f frame h lt has =
       grants = h.grants;
       apart = pairs_map Differs (asked_object f op) r.objects (λ x y k q. k (sym (asked_number f op x) ∙ (q ∙ asked_number f op y))) h.apart;
     }
+
+-- and where all are passive it goes on at once
+saved_sound : {Greatest : ℕ → Type 0} (r : Record) (f : ℕ) (frame : Frame) (asked : Option (List ℕ)) → Within Greatest (debts r.frames) r → frame.k < r.numbers → Commands.all_have_numbers f r.numbers r.objects ≡ true → HasNumbers Greatest (Commands.save_made r f frame asked).rec
+saved_sound r f frame asked h lt has = settled_sound (Commands.saving_on r f frame asked).rec (hand_off_in_within (Commands.saving r f frame asked) f (saving_within r f frame asked h lt has))
 
 -- ---- an object goes
 deleted_sound : {Greatest : ℕ → Type 0} (r : Record) (o : Object) → HasNumbers Greatest r → HasNumbers Greatest (record r { objects = without_first (is_object o.number) r.objects })
@@ -172,7 +174,8 @@ taken_sound {Greatest} r _ t s h (as_insert f kind area at made) = subst (λ (z 
 taken_sound {Greatest} r _ t s h (as_start started made) = subst (λ (z : Took). HasNumbers Greatest z.rec) made (server_sound r h started.numbers)
 taken_sound {Greatest} r _ t s h (as_run n inc at run made) = subst (λ (z : Took). HasNumbers Greatest z.rec) made (run_made_sound r at.object inc s h at.own run.margin run.numbers)
 taken_sound {Greatest} r _ t s h (as_edit n bytes go small has made) = subst (λ (z : Took). HasNumbers Greatest z.rec) made (edited_sound r go.at.object go.link bytes s h go.at.own go.linked has)
-taken_sound {Greatest} r _ t s h (as_save f at made) = subst (λ (z : Took). HasNumbers Greatest z.rec) made (settled_sound (Commands.saving r f at.frame) (saving_within r f at.frame (within_of r s h) at.numbers at.calls))
+taken_sound {Greatest} r _ t s h (as_save f at made) = subst (λ (z : Took). HasNumbers Greatest z.rec) made (saved_sound r f at.frame None (within_of r s h) at.numbers at.calls)
+taken_sound {Greatest} r _ t s h (as_save_as f name at apart own made) = subst (λ (z : Took). HasNumbers Greatest z.rec) made (saved_sound r f at.frame (Some name) (within_of r s h) at.numbers at.calls)
 taken_sound {Greatest} r _ t s h (as_delete n at passive made) = subst (λ (z : Took). HasNumbers Greatest z.rec) made (deleted_sound r at.object h)
 taken_sound {Greatest} r _ t s h (as_kill inc alive made) = subst (λ (z : Took). HasNumbers Greatest z.rec) made h
 taken_sound {Greatest} r _ t s h (as_close n option go ts has row made) = subst (λ (z : Took). HasNumbers Greatest z.rec) made

@@ -7,6 +7,7 @@ use Rattle.container_steady.specs.Steady.{Steady}
 use Rattle.container_numbers.specs.Sound.{NumbersAfter, SoundAfter}
 use Rattle.container_numbers.proofs.SoundCommands.{commands_keep}
 use Rattle.container_numbers.proofs.SoundMessages.{messages_keep}
+use Rattle.container_numbers.proofs.SoundOpens.{opens_keep}
 use Rattle.container_numbers.proofs.SoundReaps.{reaps_keep}
 use Rattle.container_numbers.proofs.SoundSaves.{commits_keep, fails_keep, resolves_keep}
 
@@ -17,6 +18,7 @@ inputs_keep r (Input.Reaped inc) t s h e = reaps_keep r inc t s h e
 inputs_keep r (Input.Committed f) t s h e = commits_keep r f t h e
 inputs_keep r (Input.Failed f) t s h e = fails_keep r f t h e
 inputs_keep r (Input.Resolved f is_kept) t s h e = resolves_keep r f is_kept t h e
+inputs_keep r (Input.Opened name w k given) t s h e = opens_keep r name w k given t h e
 
 pub sound_after : SoundAfter
 sound_after r x t s h e = inputs_keep r x t s h e

@@ -23,11 +23,12 @@ use Rattle.container_model.specs.declared.record.Object.{Object}
 use Rattle.container_model.specs.declared.record.Frame.{Frame}
 use Rattle.container_model.specs.declared.fault.ContainerFault.{ContainerFault}
 use Rattle.container_model.specs.declared.fault.ContainerFault.TheVariants.{WrongLink, Stale, BadAnswer}
-use Rattle.container_model.specs.Grants.{event_of, grant_each, grant_of, is_by, moved, passed_to, regranted, regranted_by, regranted_in, request}
+use Rattle.container_model.specs.HandOffs.{hand_off_in, is_answered, unasked}
+use Rattle.container_model.specs.Grants.{Requested, event_of, grant_each, grant_of, is_by, moved, passed_to, regranted, regranted_by, regranted_in, request}
 use Rattle.container_model.specs.Record.{Record, Took, is_alive, is_linked, is_object, with_frame, is_link}
 use Rattle.container_model.specs.Room.{IfLinked, IsRoomy, IsSound, grant_debt, HasNumbers}
 use Rattle.container_model.specs.Saves.{settle}
-use Rattle.container_model.specs.Messages.{Replied, ask_found, ask_framed, is_held_by, is_open_to, on_ask, on_reply, on_write, relieved, replied_grant, replied_object, replied_record, reply_found, reply_link, reply_taken, write_found, write_link, write_made, written_object, on_message}
+use Rattle.container_model.specs.Messages.{Replied, ask_found, ask_framed, is_held_by, is_open_to, on_ask, on_reply, on_write, relieved, replied_grant, replied_object, replied_record, replied_saving, reply_found, reply_link, reply_taken, write_found, write_link, write_made, written_object, on_message}
 use Rattle.container_steady.specs.Roles.{IsClaim, SteadyGrant}
 use Rattle.container_steady.specs.Steady.{Steady}
 use Rattle.container_steady.proofs.SteadyFinds.{acts_differ, found_by_number}
@@ -36,6 +37,7 @@ use Rattle.container_steady.proofs.SteadyHolders.{asked_state, held_by, linked_b
 use Rattle.container_steady.proofs.SteadyTells.{if_told, ok_rec}
 use Rattle.container_steady.proofs.SteadyTests.{find_passes}
 use Rattle.container_numbers.proofs.SoundGrants.{IsToldOf, pays_told, told, told_waits}
+use Rattle.container_numbers.proofs.SoundHandOffs.{hand_off_in_within}
 use Rattle.container_numbers.proofs.SoundMoves.{FoundIn, all_found, granted_frames, granted_pays, move_owed, one_framed, put_any, request_pays, requested_frames, waits_in}
 use Rattle.container_numbers.proofs.SoundReplies.{IsRoomyAfter, reply_roomy}
 use Rattle.container_numbers.proofs.SoundRooms.{IsSaved, Owing, Within, debts, owes_less, sound_of, within_of}
@@ -69,8 +71,8 @@ module _ {Greatest : ℕ → Type 0} (r : Record) (inc act n : ℕ) (answer : An
       put_any r D (is_linked inc act) (replied_object o re) o w found refl
       (subst (λ (z : Result Replied ContainerFault). IsRoomyAfter r.numbers (D o.number o.frame) z) is (reply_roomy r.numbers (D o.number o.frame) n answer o.link old))
 
-  unmoved : HasNumbers Greatest (settle (replied_record r inc act o re))
-  unmoved = settled_sound (replied_record r inc act o re) (replied_within (debts r.frames) (within_of r s h))
+  unmoved : Within Greatest (debts r.frames) (replied_record r inc act o re)
+  unmoved = replied_within (debts r.frames) (within_of r s h)
 
   module _ (frame : Frame) (e : Event) (at : nth r.frames o.frame ≡ Some frame) (tells : IsToldOf e) where
     abbrev cs : List Claim
@@ -98,26 +100,32 @@ module _ {Greatest : ℕ → Type 0} (r : Record) (inc act n : ℕ) (answer : An
         let k : frame.k ≤ r.numbers = each_nth (IsSaved r.numbers) r.frames o.frame frame w.saves at in
         one_framed (replied_record r inc act o re) D o.frame (moved frame e) (replied_within D (found_less r (debts r.frames) D s w pays)) k
 
-    regrants : HasNumbers Greatest (settle (grant_each u cs).rec)
-    regrants = settled_sound (grant_each u cs).rec (subst (λ (fs : List Frame). Within Greatest (debts fs) (grant_each u cs).rec) (sym (granted_frames cs u)) (granted_pays cs u (debts frames) framed))
+    regrants : Within Greatest (debts (grant_each u cs).rec.frames) (grant_each u cs).rec
+    regrants = (subst (λ (fs : List Frame). Within Greatest (debts fs) (grant_each u cs).rec) (sym (granted_frames cs u)) (granted_pays cs u (debts frames) framed))
 
-  moved_as : (frame : Frame) (e : Option Event) → nth r.frames o.frame ≡ Some frame → IfSome e IsToldOf → HasNumbers Greatest (settle (regranted_by (replied_record r inc act o re) o.frame frame e).rec)
+  abbrev Owes : Record → Type 0
+  Owes x = Within Greatest (debts x.frames) x
+
+  moved_as : (frame : Frame) (e : Option Event) → nth r.frames o.frame ≡ Some frame → IfSome e IsToldOf → Owes (regranted_by (replied_record r inc act o re) o.frame frame e).rec
   moved_as frame None at told = unmoved
   moved_as frame (Some e) at told = regrants frame e at told
 
-  moved_in : (t : Tells) (f : Option Frame) → nth r.frames o.frame ≡ f → HasNumbers Greatest (settle (regranted_in (replied_record r inc act o re) o.frame t f).rec)
+  moved_in : (t : Tells) (f : Option Frame) → nth r.frames o.frame ≡ f → Owes (regranted_in (replied_record r inc act o re) o.frame t f).rec
   moved_in t None at = unmoved
   moved_in t (Some frame) at = moved_as frame (event_of frame.ui.state t) at (event_told frame.ui.state t)
 
-  moved_by : (t : Option Tells) → HasNumbers Greatest (settle (regranted (replied_record r inc act o re) o.frame t).rec)
+  moved_by : (t : Option Tells) → Owes (regranted (replied_record r inc act o re) o.frame t).rec
   moved_by None = unmoved
   moved_by (Some t) = moved_in t (nth r.frames o.frame) refl
 
 taken_sound : {Greatest : ℕ → Type 0} (r : Record) (inc act n : ℕ) (answer : Answer) (o : Object) (res : Result Replied ContainerFault) (t : Took) → Steady r → HasNumbers Greatest r → find (is_linked inc act) r.objects ≡ Some o → reply_link n answer o.link ≡ res → reply_taken r inc act o res ≡ Ok t → HasNumbers Greatest t.rec
 taken_sound r inc act n answer o (Err fault) t s h found g e = cc
 taken_sound {Greatest} r inc act n answer o (Ok re) t s h found g e =
-    let same : settle (replied_grant r inc act o re).rec ≡ t.rec = ok_rec _ t e in
-    subst (HasNumbers Greatest) same (moved_by r inc act n answer o re s h found g re.grant)
+    let same : settle (replied_saving r inc act o re).rec ≡ t.rec = ok_rec _ t e in
+    let moved = moved_by r inc act n answer o re s h found g re.grant in
+    subst (HasNumbers Greatest) same (settled_sound (replied_saving r inc act o re).rec (if_told (λ (z : Requested). Within Greatest (debts z.rec.frames) z.rec) (is_answered o.link re.link) (hand_off_in (replied_grant r inc act o re).rec o.frame) (unasked (replied_grant r inc act o re).rec)
+    (λ b. hand_off_in_within (replied_grant r inc act o re).rec o.frame moved)
+    (λ b. moved)))
 
 found_sound : {Greatest : ℕ → Type 0} (r : Record) (inc act n : ℕ) (answer : Answer) (o : Option Object) (t : Took) → Steady r → HasNumbers Greatest r → find (is_linked inc act) r.objects ≡ o → reply_found r inc act n answer o ≡ Ok t → HasNumbers Greatest t.rec
 found_sound r inc act n answer None t s h found e = cc

@@ -93,13 +93,13 @@ one_framed {Greatest} r D f next h k =
     framed r D (set_nth r.frames f next) h (each_set (IsSaved r.numbers) r.frames f next h.saves k) (let e = length-set_nth r.frames f next in let few = h.frames in omega arith)
 
 -- what an object of a frame owes, and what it is told
-pub move_owed : (frames : List Frame) (f : ℕ) (frame next : Frame) (n g more : ℕ) → nth frames f ≡ Some frame → debt next.phase ≡ debt frame.phase → grant_debt n next.ui.state + more ≤ grant_debt n frame.ui.state
+pub move_owed : (frames : List Frame) (f : ℕ) (frame next : Frame) (n g more : ℕ) → nth frames f ≡ Some frame → debt next.phase next.asked ≡ debt frame.phase frame.asked → grant_debt n next.ui.state + more ≤ grant_debt n frame.ui.state
     → ((g ≡ f → ⊥) → more ≡ 0) → debts (set_nth frames f next) n g + more ≤ debts frames n g
 move_owed frames f frame next n g more at same less out = elim (g == f) as (λ b. (g == f) ≡ b → debts (set_nth frames f next) n g + more ≤ debts frames n g) [
   | true ↦ (λ t.
       let e : g ≡ f = eqb-true g f t in
-      let new : debts (set_nth frames f next) n g ≡ debt next.phase + grant_debt n next.ui.state = ap (debts (set_nth frames f next) n) e ∙ ap (debt_in n) (nth-set_same frames f frame next at) in
-      let old : debts frames n g ≡ debt frame.phase + grant_debt n frame.ui.state = ap (debts frames n) e ∙ ap (debt_in n) at in
+      let new : debts (set_nth frames f next) n g ≡ debt next.phase next.asked + grant_debt n next.ui.state = ap (debts (set_nth frames f next) n) e ∙ ap (debt_in n) (nth-set_same frames f frame next at) in
+      let old : debts frames n g ≡ debt frame.phase frame.asked + grant_debt n frame.ui.state = ap (debts frames n) e ∙ ap (debt_in n) at in
       omega arith)
   | false ↦ (λ t.
       let ne = eqb-false g f t in

@@ -15,13 +15,14 @@ use Rattle.container_model.specs.declared.record.Object.{Object}
 use Rattle.container_model.specs.declared.record.Frame.{Frame}
 use Rattle.container_model.specs.Record.{Record, Took, is_alive, is_object}
 use Rattle.container_model.specs.Grants.{freed, freed_claims, freed_frame, is_hosted_object, lost_by, passed_to, unwaited}
-use Rattle.container_model.specs.Messages.{on_reap, reap_made, reaped, reaped_grants, reaped_object}
+use Rattle.container_model.specs.Messages.{on_reap, reap_made, reaped, reaped_grants, reaped_object, reaped_saving}
 use Rattle.container_model.specs.Room.{HasNumbers, debt_in, grant_debt}
 use Rattle.container_model.specs.Saves.{kept}
 use Rattle.container_steady.specs.Steady.{Steady}
 use Rattle.container_steady.proofs.SteadyLookups.{each_both, each_map, pairs_map}
 use Rattle.container_steady.proofs.SteadyTells.{if_told}
 use Rattle.container_numbers.proofs.SoundGrants.{Pays, pays_stays, pays_told, told, told-append, told_waits}
+use Rattle.container_numbers.proofs.SoundHandOffs.{hand_off_within}
 use Rattle.container_numbers.proofs.SoundMoves.{FoundIn, all_found, granted_frames, granted_pays, waits_in}
 use Rattle.container_numbers.proofs.SoundRooms.{Differs, IsSaved, Owing, Within, debts, length-set_nth, owes_less, within_of}
 use Rattle.container_numbers.proofs.SoundSaves.{settled_sound}
@@ -134,8 +135,8 @@ module _ (r : Record) (inc : ℕ) (s : Steady r) where
   }
 
   reap_sound : {Greatest : ℕ → Type 0} → HasNumbers Greatest r → HasNumbers Greatest (reap_made r inc).rec
-  reap_sound {Greatest} h = settled_sound (reaped_grants r inc).rec
-      (subst (λ (frames : List Frame). Within Greatest (debts frames) (reaped_grants r inc).rec) (sym (granted_frames claims gone)) (granted_pays claims gone (debts freed_frames) (gone_within (within_of r s h))))
+  reap_sound {Greatest} h = settled_sound (reaped_saving r inc).rec
+      (hand_off_within (reaped_grants r inc).rec (subst (λ (frames : List Frame). Within Greatest (debts frames) (reaped_grants r inc).rec) (sym (granted_frames claims gone)) (granted_pays claims gone (debts freed_frames) (gone_within (within_of r s h)))))
 
 pub reaps_keep : {Greatest : ℕ → Type 0} (r : Record) (inc : ℕ) (t : Took) → Steady r → HasNumbers Greatest r → on_reap r inc ≡ Ok t → HasNumbers Greatest t.rec
 reaps_keep {Greatest} r inc t s h e = if_told (λ (z : Result Took ContainerFault). z ≡ Ok t → HasNumbers Greatest t.rec) (is_alive r inc) (Ok (reap_made r inc)) (Err NoSuch)

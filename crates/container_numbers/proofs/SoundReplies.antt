@@ -73,6 +73,8 @@ replied_fine l (operation.Edit bytes) (told.Refused why) = record { pending = re
 replied_fine l (operation.Edit bytes) _ = tt
 replied_fine l (operation.Save k) (told.Content content) = saved_fine l content (done l (operation.Save k)) (done_fine l (operation.Save k) (omega arith))
 replied_fine l (operation.Save k) _ = tt
+replied_fine l operation.HandsOff told.Done = done_fine l operation.HandsOff (omega arith)
+replied_fine l operation.HandsOff _ = tt
 replied_fine l (operation.SaveCompleted k storage) told.Done = done_fine l (operation.SaveCompleted k storage) (omega arith)
 replied_fine l (operation.SaveDropped k) told.Done = done_fine l (operation.SaveDropped k) (omega arith)
 replied_fine l (operation.SaveCompleted k storage) _ = tt
@@ -81,7 +83,6 @@ replied_fine l (operation.Close SaveIfDirty) (told.Content content) = closed_fin
 replied_fine l (operation.Close SaveIfDirty) _ = tt
 replied_fine l (operation.Close NoSave) told.Done = closed_fine l None (both.step l.states (op_of (operation.Close NoSave)))
 replied_fine l (operation.Close NoSave) _ = tt
-replied_fine l _ _ = tt
 
 fitting_fine : (l : Link) (op : Operation) (answer : Answer) → IsFine l (replied_fitting l op answer)
 fitting_fine l op answer = elim (is_fit answer) as (λ b. IsFine l (if b then replied l op answer else Err BadAnswer)) [ true ↦ replied_fine l op answer | false ↦ tt ]

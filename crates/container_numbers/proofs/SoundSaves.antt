@@ -13,7 +13,7 @@ use Rattle.container_model.specs.declared.record.Phase.{Phase}
 use Rattle.container_model.specs.declared.record.Phase.TheVariants.{Idle, Saving, HandingOff, Committing, InDoubt}
 use Rattle.container_model.specs.Record.{Record, Took, asked_link}
 use Rattle.container_model.specs.Room.{HasNumbers, IfLinked, IsRoomy, debt, debt_in, grant_debt}
-use Rattle.container_model.specs.Saves.{commit_done, commit_doubted, commit_failed, awaits, cleared, commit_at, commit_made, committed_frame, completed, completion, doubted_frame, dropped_frame, dropped_object, kept, resolve, resolved_at, save_dropped, is_ready, is_ready_at, settle, settled_frame, settled_frames}
+use Rattle.container_model.specs.Saves.{commit_done, commit_doubted, commit_failed, awaits, cleared, commit_at, commit_made, committed_frame, completed, completion, doubted_frame, dropped_frame, dropped_object, kept, resolve, resolved_at, save_dropped, is_ready, is_ready_at, keeps, settle, settled_frame, settled_frames}
 use Rattle.container_model.proofs.Completing.{completed_in, completed_out}
 use Rattle.container_steady.proofs.SteadyLookups.{each_map, each_nth, each_set, each_settled, each_weaker, nth-set_other, nth-set_same}
 use Rattle.container_steady.proofs.SteadyTells.{if_told}
@@ -26,17 +26,17 @@ use Rattle.std.specs.Prelude.{IsOk}
 use Rattle.wire_msgs.specs.declared.operation.Operation.TheVariants.{SaveDropped}
 
 -- ---- a frame that goes on to its commit has the same debt
-ready_debt : (phase : Phase) (waits : Bool) → is_ready_at phase waits ≡ true → debt Committing ≡ debt phase
-ready_debt Idle waits e = cc
-ready_debt Saving true e = cc
-ready_debt Saving false e = refl
-ready_debt HandingOff waits e = cc
-ready_debt Committing waits e = cc
-ready_debt InDoubt waits e = cc
+ready_debt : (phase : Phase) (asked : Option (List ℕ)) (waits keeping : Bool) → is_ready_at phase asked waits keeping ≡ true → debt Committing asked ≡ debt phase asked
+ready_debt Saving None waits keeping e = refl
+ready_debt Saving (Some name) waits keeping e = cc
+ready_debt HandingOff asked waits keeping e = refl
+ready_debt Idle asked waits keeping e = cc
+ready_debt Committing asked waits keeping e = cc
+ready_debt InDoubt asked waits keeping e = cc
 
-settled_debt : (n f : ℕ) (os : List Object) (frame : Frame) → debt (settled_frame f os frame).phase + grant_debt n (settled_frame f os frame).ui.state ≡ debt frame.phase + grant_debt n frame.ui.state
-settled_debt n f os frame = if_told (λ (x : Frame). debt x.phase + grant_debt n x.ui.state ≡ debt frame.phase + grant_debt n frame.ui.state) (is_ready f os frame) (record frame { phase = Committing }) frame
-    (λ t. ap (λ d. d + grant_debt n frame.ui.state) (ready_debt frame.phase (awaits f os) t))
+settled_debt : (n f : ℕ) (os : List Object) (frame : Frame) → debt (settled_frame f os frame).phase (settled_frame f os frame).asked + grant_debt n (settled_frame f os frame).ui.state ≡ debt frame.phase frame.asked + grant_debt n frame.ui.state
+settled_debt n f os frame = if_told (λ (x : Frame). debt x.phase x.asked + grant_debt n x.ui.state ≡ debt frame.phase frame.asked + grant_debt n frame.ui.state) (is_ready f os frame) (record frame { phase = Committing }) frame
+    (λ t. ap (λ d. d + grant_debt n frame.ui.state) (ready_debt frame.phase frame.asked (awaits f os) (keeps f os) t))
     (λ t. refl)
 
 settled_get : (n f : ℕ) (os : List Object) (frames : List Frame) (i : ℕ) → debt_in n (slice_get (settled_frames f os frames) i) ≡ debt_in n (slice_get frames i)
@@ -75,14 +75,14 @@ linked numbers more op None h = tt
 linked numbers more op (Some l) h = asked_linked numbers more op (Some (record l { saved = None })) (record { calls = h.calls; grants = h.grants })
 
 -- a frame whose save is over, while it owed the call that tells so; each of its objects is asked just that
-module _ (r : Record) (f : ℕ) (frame new : Frame) (at : nth r.frames f ≡ Some frame) (owes : debt frame.phase ≡ 1) (idle : new.phase ≡ Idle) (ui : new.ui ≡ frame.ui) (k : new.k ≡ frame.k)
+module _ (r : Record) (f : ℕ) (frame new : Frame) (at : nth r.frames f ≡ Some frame) (owes : debt frame.phase frame.asked ≡ 1) (idle : new.phase ≡ Idle) (ui : new.ui ≡ frame.ui) (k : new.k ≡ frame.k)
     (op : Operation) (g : Object → Object) (inside : (o : Object) → (o.frame == f) ≡ true → (work : Stored) × (g o ≡ record o { work = work; link = asked_link op (cleared o.link) }))
     (outside : (o : Object) → (o.frame == f) ≡ false → g o ≡ o) where
   abbrev after : List Frame
   after = set_nth r.frames f new
 
   owed_after : (n : ℕ) → debt_in n (Some new) ≡ 0 + grant_debt n frame.ui.state
-  owed_after n = ap (λ p. debt p + grant_debt n new.ui.state) idle ∙ ap (λ (u : Ui). 0 + grant_debt n u.state) ui
+  owed_after n = ap (λ p. debt p new.asked + grant_debt n new.ui.state) idle ∙ ap (λ (u : Ui). 0 + grant_debt n u.state) ui
 
   paid : (n i : ℕ) → i ≡ f → debts r.frames n i ≡ debts after n i + 1
   paid n i e =
@@ -112,13 +112,13 @@ module _ (r : Record) (f : ℕ) (frame new : Frame) (at : nth r.frames f ≡ Som
     grants = h.grants;
   }
 
-unsettled_owes : (phase : Phase) → IsUnsettled phase → debt phase ≡ 1
-unsettled_owes phase (inl e) = ap debt e
-unsettled_owes phase (inr e) = ap debt e
+unsettled_owes : (phase : Phase) (asked : Option (List ℕ)) → IsUnsettled phase → debt phase asked ≡ 1
+unsettled_owes phase asked (inl e) = ap (λ p. debt p asked) e
+unsettled_owes phase asked (inr e) = ap (λ p. debt p asked) e
 
 module _ (r : Record) (f : ℕ) (frame : Frame) (at : nth r.frames f ≡ Some frame) where
   pub commit_sound : {Greatest : ℕ → Type 0} → IsUnsettled frame.phase → HasNumbers Greatest r → HasNumbers Greatest (commit_made r f frame).rec
-  commit_sound u h = told_sound r f frame (committed_frame frame) at (unsettled_owes frame.phase u) refl refl refl (completion frame) (completed f frame)
+  commit_sound u h = told_sound r f frame (committed_frame frame) at (unsettled_owes frame.phase frame.asked u) refl refl refl (completion frame) (completed f frame)
       (λ o t. (kept o, completed_in f frame o t)) (λ o t. completed_out f frame o t) h
 
   dropped_in : (o : Object) → (o.frame == f) ≡ true → dropped_object f frame o ≡ record o { link = asked_link (SaveDropped frame.k) (cleared o.link) }
@@ -128,7 +128,7 @@ module _ (r : Record) (f : ℕ) (frame : Frame) (at : nth r.frames f ≡ Some fr
   dropped_out o e = rw (e, e) refl
 
   drop_sound : {Greatest : ℕ → Type 0} → frame.phase ≡ InDoubt → HasNumbers Greatest r → HasNumbers Greatest (save_dropped r f frame).rec
-  drop_sound p h = told_sound r f frame (dropped_frame frame) at (unsettled_owes frame.phase (inr p)) refl refl refl (SaveDropped frame.k) (dropped_object f frame)
+  drop_sound p h = told_sound r f frame (dropped_frame frame) at (unsettled_owes frame.phase frame.asked (inr p)) refl refl refl (SaveDropped frame.k) (dropped_object f frame)
       (λ o t. (o.work, dropped_in o t)) (λ o t. dropped_out o t) h
 
   -- a commit that fails owes what it owed
@@ -136,7 +136,7 @@ module _ (r : Record) (f : ℕ) (frame : Frame) (at : nth r.frames f ≡ Some fr
   same_debt p n i = elim (i == f) as (λ b. (i == f) ≡ b → debts (set_nth r.frames f (doubted_frame frame)) n i ≤ debts r.frames n i) [
     | true ↦ (λ t. let e = eqb-true i f t in
         let now : debts (set_nth r.frames f (doubted_frame frame)) n i ≡ 1 + grant_debt n frame.ui.state = ap (debts (set_nth r.frames f (doubted_frame frame)) n) e ∙ ap (debt_in n) (nth-set_same r.frames f frame (doubted_frame frame) at) in
-        let old : debts r.frames n i ≡ 1 + grant_debt n frame.ui.state = ap (debts r.frames n) e ∙ (ap (debt_in n) at ∙ ap (λ q. debt q + grant_debt n frame.ui.state) p) in
+        let old : debts r.frames n i ≡ 1 + grant_debt n frame.ui.state = ap (debts r.frames n) e ∙ (ap (debt_in n) at ∙ ap (λ q. debt q frame.asked + grant_debt n frame.ui.state) p) in
         omega arith)
     | false ↦ (λ t. let e : debts (set_nth r.frames f (doubted_frame frame)) n i ≡ debts r.frames n i = ap (debt_in n) (nth-set_other r.frames f i (doubted_frame frame) (λ q. eqb-false i f t (sym q))) in omega arith)
   ] refl

@@ -125,8 +125,8 @@ module _ {Greatest : ℕ → Type 0} (r : Record) (o : Object) (frame : Frame) (
   but_less m f = if_told (λ (x : ℕ). x ≤ debts r.frames m f) (o.number == m) 0 (debts after m f) (λ t. omega arith)
       (λ t. asks_debts r.frames o.frame frame (claim_of o l (r.last_g + 1)) at m f (eqb-false o.number m t))
 
-  but_few : (m f : ℕ) → but m f ≤ 3
-  but_few m f = if_told (λ (x : ℕ). x ≤ 3) (o.number == m) 0 (debts after m f) (λ t. omega arith) (λ t. debts_few after m f)
+  but_few : (m f : ℕ) → but m f ≤ 4
+  but_few m f = if_told (λ (x : ℕ). x ≤ 4) (o.number == m) 0 (debts after m f) (λ t. omega arith) (λ t. debts_few after m f)
 
   but_others : (m f : ℕ) → (m ≡ o.number → ⊥) → debts after m f ≤ but m f
   but_others m f ne = if_told (λ (x : ℕ). debts after m f ≤ x) (o.number == m) 0 (debts after m f) (λ t. absurd (ne (sym (eqb-true o.number m t)))) (λ t. omega arith)

@@ -1,4 +1,4 @@
-//! What a command, a reply, a write, the end of a server or a commit makes of objects.
+//! What a command, a reply, a write, the end of a server or a commit makes of objects, and the objects of a file that is opened.
 #![tactic(auto)]
 
 pub mod activations;
@@ -6,6 +6,7 @@ pub mod closes;
 pub mod commits;
 pub mod edits;
 pub mod leaving;
+pub mod opens;
 pub mod reaps;
 pub mod replies;
 pub mod saves;

@@ -58,7 +58,7 @@ pub fn told_object(
     more: usize,
 ) -> Result<Told, ContainerFault>
     requires numbers { IfLinked (IsRoomy 1000000 0) object.old.link }
-    requires few { more ≤ 1000001 }
+    requires few { more ≤ 2000001 }
     ensures taken { IfOk result (λ t. told_of object.old (reply_link n answer object.old.link) ≡ Ok (record { object = object.new; taken = t.taken; refused = t.refused; grant = t.grant; actions = t.actions.items })) }
     ensures few { IfOk result (λ t. vec_len t.actions ≤ 1) }
     ensures room { IfOk result (λ t. vec_len t.actions + more ≤ vec_capacity t.actions) }

@@ -1,4 +1,5 @@
 pub mod Taken
+pub mod Opening
 pub mod SteadyClaims
 pub mod SteadyCloses
 pub mod SteadyContents

@@ -16,6 +16,6 @@ closes-are_open r test o l option s found is pending =
     let h = each_found (SteadyObject r) test r.objects o s.objects found in
     let at = some_and (Held r o.number o.link) (nth r.frames o.frame) h.linked in
     let role = role_in at.0.ui.state o.number in
-    let held = if_at (SteadyLink r.servers r.last_act at.0.phase at.0.k role) o.link l is at.2 in
+    let held = if_at (SteadyLink r.servers r.last_act at.0.phase at.0.asked at.0.k role) o.link l is at.2 in
     let timely : AllByRecursion (IsTimely at.0.phase l.saved) (Close option ∷ l.waiting) = subst (λ (p : Option Operation). AllByRecursion (IsTimely at.0.phase l.saved) (queue_of p l.waiting)) pending held.save_in_queue in
-    closing_open r.servers r.last_act at.0.k role l (subst (λ (p : Phase). SteadyLink r.servers r.last_act p at.0.k role l) timely.0 held) option pending
+    closing_open r.servers r.last_act at.0.asked at.0.k role l (subst (λ (p : Phase). SteadyLink r.servers r.last_act p at.0.asked at.0.k role l) timely.0 held) option pending

@@ -41,6 +41,6 @@ known_in phase saved (inr e) h = subst (λ (z : Phase). IsSavedIn z saved) e h
 pub commits_answered_contents : CommitsAnsweredContents
 commits_answered_contents r n o l frame s found is at unsettled =
     let h = each_found (SteadyObject r) (is_object n) r.objects o s.objects found in
-    let held = if_at (SteadyLink r.servers r.last_act frame.phase frame.k (role_in frame.ui.state o.number)) o.link l is (at_some (Held r o.number o.link) (nth r.frames o.frame) frame at h.linked) in
+    let held = if_at (SteadyLink r.servers r.last_act frame.phase frame.asked frame.k (role_in frame.ui.state o.number)) o.link l is (at_some (Held r o.number o.link) (nth r.frames o.frame) frame at h.linked) in
     let c = there l.saved (known_in frame.phase l.saved unsettled held.saved_known) in
     (c.0, c.1, ap (kept_by o.work) is ∙ ap (kept_in o.work) c.1)

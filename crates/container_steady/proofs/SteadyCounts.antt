@@ -22,7 +22,7 @@ count_map f g (y ∷ ys) h =
     ap (λ (n : ℕ). if n == f then 1 + count_objects f (map g ys) else count_objects f (map g ys)) (h y)
     ∙ ap (λ (n : ℕ). if y.frame == f then 1 + n else n) (count_map f g ys h)
 
-count_append : (f : ℕ) (a : Object) (os : List Object) → count_objects f (os ++ a ∷ []) ≡ count_objects f os + (if a.frame == f then 1 else 0)
+pub count_append : (f : ℕ) (a : Object) (os : List Object) → count_objects f (os ++ a ∷ []) ≡ count_objects f os + (if a.frame == f then 1 else 0)
 count_append f a [] = elim (a.frame == f) as (λ b. (if b then 1 + 0 else 0) ≡ 0 + (if b then 1 else 0)) [ true ↦ refl | false ↦ refl ]
 count_append f a (y ∷ ys) =
     let rest : count_objects f (ys ++ a ∷ []) ≡ count_objects f ys + (if a.frame == f then 1 else 0) = count_append f a ys in

@@ -4,7 +4,7 @@ use Rattle.std.specs.Prelude.{◌||◌, IsOkAnd}
 use Rattle.std.specs.List.{AllByRecursion}
 use Rattle.wire_msgs.specs.Operations.{op_of}
 use Rattle.wire_msgs.specs.declared.operation.Operation.{Operation}
-use Rattle.wire_msgs.specs.declared.operation.Operation.TheVariants.{InitNew, Load, InPlace, UiActivate, UiDeactivate, InPlaceDeactivate, OpenWindow, Edit, Save, SaveCompleted, SaveDropped, Close}
+use Rattle.wire_msgs.specs.declared.operation.Operation.TheVariants.{InitNew, Load, InPlace, UiActivate, UiDeactivate, InPlaceDeactivate, OpenWindow, Edit, Save, HandsOff, SaveCompleted, SaveDropped, Close}
 use Rattle.object_state.specs.Both as both
 use Rattle.object_state.specs.Persists as persist
 use Rattle.object_state.specs.Persists.{may_write}
@@ -39,10 +39,10 @@ passive_refuses saved InPlaceDeactivate t = refl
 passive_refuses saved OpenWindow t = refl
 passive_refuses saved (Edit bytes) t = refl
 passive_refuses saved (Save k) t = refl
+passive_refuses saved HandsOff t = refl
 passive_refuses saved (SaveCompleted k storage) t = refl
 passive_refuses saved (SaveDropped k) t = refl
 passive_refuses saved (Close option) t = refl
-passive_refuses saved _ t = absurd t
 
 nothing_more : (saved : Option Stored) (P : States → Type 0) (ops : List Operation) (w : States) → w.object ≡ Passive → AllByRecursion (IsTimely Idle saved) ops → IsOkAnd (ended (Ok w) ops) P → ops ≡ []
 nothing_more saved P [] w passive t h = refl
@@ -78,24 +78,24 @@ ending_other (Holding g tools) option s p f = cc
 ending_other (Giving g) option s p f = absurd p.1
 ending_other (Waiting g) option s p f = absurd f
 
-module _ (servers : List Bool) (last_act k : ℕ) (role : Role) (l : Link) (h : SteadyLink servers last_act Idle k role l) (option : CloseOption) (pending : l.pending ≡ Some (Close option)) where
-  runs : IsOkAnd (ended (Ok l.states) (Close option ∷ l.waiting)) (EndsWell Idle k role)
-  runs = subst (λ (p : Option Operation). IsOkAnd (ended (Ok l.states) (queue_of p l.waiting)) (EndsWell Idle k role)) pending h.queue_runs
+module _ (servers : List Bool) (last_act : ℕ) (asked : Option (List ℕ)) (k : ℕ) (role : Role) (l : Link) (h : SteadyLink servers last_act Idle asked k role l) (option : CloseOption) (pending : l.pending ≡ Some (Close option)) where
+  runs : IsOkAnd (ended (Ok l.states) (Close option ∷ l.waiting)) (EndsWell Idle asked k role)
+  runs = subst (λ (p : Option Operation). IsOkAnd (ended (Ok l.states) (queue_of p l.waiting)) (EndsWell Idle asked k role)) pending h.queue_runs
 
   timely : AllByRecursion (IsTimely Idle l.saved) (Close option ∷ l.waiting)
   timely = subst (λ (p : Option Operation). AllByRecursion (IsTimely Idle l.saved) (queue_of p l.waiting)) pending h.save_in_queue
 
-  closes_by : (w : States) × (both.step l.states (op_of (Close option)) ≡ Ok w) × IsOkAnd (ended (Ok w) l.waiting) (EndsWell Idle k role)
-  closes_by = taken (EndsWell Idle k role) l.states (Close option) l.waiting runs
+  closes_by : (w : States) × (both.step l.states (op_of (Close option)) ≡ Ok w) × IsOkAnd (ended (Ok w) l.waiting) (EndsWell Idle asked k role)
+  closes_by = taken (EndsWell Idle asked k role) l.states (Close option) l.waiting runs
 
   closes_from : (l.states.object ≡ Running) × (closes_by.0.object ≡ Passive)
   closes_from = closes_running option l.states.object closes_by.0.object (joined_ok (persist.step l.states.persist (op.Close option)) (object.step l.states.object (op.Close option)) closes_by.0 closes_by.1).1
 
   none : l.waiting ≡ []
-  none = nothing_more l.saved (EndsWell Idle k role) l.waiting closes_by.0 closes_from.1 timely.1 closes_by.2
+  none = nothing_more l.saved (EndsWell Idle asked k role) l.waiting closes_by.0 closes_from.1 timely.1 closes_by.2
 
-  ends : EndsWell Idle k role closes_by.0
-  ends = subst (λ (ws : List Operation). IsOkAnd (ended (Ok closes_by.0) ws) (EndsWell Idle k role)) none closes_by.2
+  ends : EndsWell Idle asked k role closes_by.0
+  ends = subst (λ (ws : List Operation). IsOkAnd (ended (Ok closes_by.0) ws) (EndsWell Idle asked k role)) none closes_by.2
 
   pub closing_open : IsOpenWhileClosing l
   closing_open =

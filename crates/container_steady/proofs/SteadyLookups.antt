@@ -7,7 +7,7 @@ use Rattle.grant_core.specs.declared.grant_states.GrantState.{GrantState}
 use Rattle.container_model.specs.declared.record.Object.{Object}
 use Rattle.container_model.specs.declared.record.Frame.{Frame}
 use Rattle.container_model.specs.Record.{is_busy}
-use Rattle.container_model.specs.Saves.{awaits, is_awaited_link, settled_frame, settled_frames}
+use Rattle.container_model.specs.Saves.{awaits, is_awaited_link, is_keeping_link, keeps, settled_frame, settled_frames}
 use Rattle.container_model.specs.Commands.{any_busy}
 use Rattle.container_steady.specs.Steady.{EachPair}
 
@@ -143,6 +143,10 @@ tells_none f false rest o e = elim (o.frame == f) as (λ b. (if b then rest else
 pub none_awaited : (f : ℕ) (os : List Object) → awaits f os ≡ false → AllByRecursion (λ (o : Object). o.frame ≡ f → is_awaited_link o.link ≡ false) os
 none_awaited f [] e = tt
 none_awaited f (o ∷ os) e = (let t = tells_none f (is_awaited_link o.link) (awaits f os) o e in (t.0, none_awaited f os t.1))
+
+pub none_keeping : (f : ℕ) (os : List Object) → keeps f os ≡ false → AllByRecursion (λ (o : Object). o.frame ≡ f → is_keeping_link o.link ≡ false) os
+none_keeping f [] e = tt
+none_keeping f (o ∷ os) e = (let t = tells_none f (is_keeping_link o.link) (keeps f os) o e in (t.0, none_keeping f os t.1))
 
 pub none_busy : (f : ℕ) (state : GrantState) (os : List Object) → any_busy f state os ≡ false → AllByRecursion (λ (o : Object). o.frame ≡ f → is_busy state o ≡ false) os
 none_busy f state [] e = tt

@@ -95,8 +95,8 @@ unset_object r u f frame' o changed other last servers act h =
       within = h.within;
       user_type = h.user_type;
       linked = and_some (Held u o.number o.link) (nth u.frames o.frame) s.0 (ap (λ (fs : List Frame). nth fs o.frame) changed ∙ (nth-set_other r.frames f o.frame frame' (λ e. other (sym e)) ∙ s.1))
-          (subst (λ (ss : List Bool). IfSome o.link (SteadyLink ss u.last_act s.0.phase s.0.k (role_in s.0.ui.state o.number))) (sym servers)
-          (subst (λ (n : ℕ). IfSome o.link (SteadyLink r.servers n s.0.phase s.0.k (role_in s.0.ui.state o.number))) (sym act) s.2));
+          (subst (λ (ss : List Bool). IfSome o.link (SteadyLink ss u.last_act s.0.phase s.0.asked s.0.k (role_in s.0.ui.state o.number))) (sym servers)
+          (subst (λ (n : ℕ). IfSome o.link (SteadyLink r.servers n s.0.phase s.0.asked s.0.k (role_in s.0.ui.state o.number))) (sym act) s.2));
     }
 
 -- The grant of one frame moves. Each of its objects keeps its part, but for those of these numbers.
@@ -109,7 +109,7 @@ module _ (r : Record) (f : ℕ) (frame : Frame) (ui : Ui) (g : ℕ) (ns : List �
 
   same_part : (o : Object) → SteadyObject r o → o.frame ≡ f → role_in ui.state o.number ≡ role_in frame.ui.state o.number → SteadyObject after o
   same_part o h here e = set_object r after f frame (record frame { ui = ui }) o o at refl here refl refl refl h.within refl h
-      (λ held. subst (λ (role : Role). IfSome o.link (SteadyLink r.servers r.last_act frame.phase frame.k role)) (sym e) held)
+      (λ held. subst (λ (role : Role). IfSome o.link (SteadyLink r.servers r.last_act frame.phase frame.asked frame.k role)) (sym e) held)
 
   object_moved : (o : Object) → SteadyObject r o → But ns (λ (x : Object). role_in ui.state x.number ≡ role_in frame.ui.state x.number) o → But ns (SteadyObject after) o
   object_moved o h same = elim (o.frame == f) as (λ b. (o.frame == f) ≡ b → But ns (SteadyObject after) o) [
@@ -119,7 +119,7 @@ module _ (r : Record) (f : ℕ) (frame : Frame) (ui : Ui) (g : ℕ) (ns : List �
 
   pub move_but : ((o : Object) → But ns (λ (x : Object). role_in ui.state x.number ≡ role_in frame.ui.state x.number) o) → SteadyBut ns after
   move_but same = record {
-    frames = each_set SteadyFrame r.frames f (record frame { ui = ui }) s.frames (let was = each_nth SteadyFrame r.frames f frame s.frames at in record { asked = was.asked; phase = was.phase });
+    frames = each_set SteadyFrame r.frames f (record frame { ui = ui }) s.frames (let was = each_nth SteadyFrame r.frames f frame s.frames at in record { asked = was.asked });
     objects = each_weaker (SteadyObject r) (But ns (SteadyObject after)) r.objects (λ o h. object_moved o h (same o)) s.objects;
     order = s.order;
     count = s.count;

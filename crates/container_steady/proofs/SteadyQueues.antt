@@ -4,7 +4,7 @@ use Rattle.std.specs.Prelude.{IsSomeAnd, IsOkAnd}
 use Rattle.std.specs.List.{AllByRecursion}
 use Rattle.wire_msgs.specs.Operations.{op_of}
 use Rattle.wire_msgs.specs.declared.operation.Operation.{Operation}
-use Rattle.wire_msgs.specs.declared.operation.Operation.TheVariants.{InitNew, Load, InPlace, UiActivate, UiDeactivate, InPlaceDeactivate, OpenWindow, Edit, Save, SaveCompleted, SaveDropped, Close}
+use Rattle.wire_msgs.specs.declared.operation.Operation.TheVariants.{InitNew, Load, InPlace, UiActivate, UiDeactivate, InPlaceDeactivate, OpenWindow, Edit, Save, HandsOff, SaveCompleted, SaveDropped, Close}
 use Rattle.object_state.specs.Both as both
 use Rattle.object_state.specs.Persists as persist
 use Rattle.object_state.specs.Objects as object
@@ -22,9 +22,10 @@ use Rattle.object_state.specs.declared.object_states.ObjectState.TheVariants.{Pa
 use Rattle.storage_tree.specs.declared.stored.Stored.{Stored}
 use Rattle.container_model.specs.declared.record.Link.{Link}
 use Rattle.container_model.specs.declared.record.Phase.{Phase}
-use Rattle.container_model.specs.declared.record.Phase.TheVariants.{Idle, Saving}
+use Rattle.container_model.specs.Saves.{is_some_name}
+use Rattle.container_model.specs.declared.record.Phase.TheVariants.{Idle, Saving, HandingOff, Committing}
 use Rattle.container_steady.specs.Roles.{Role, Other, Getting, Holding, Giving, Waiting, IsPlain, IsShown, Plays}
-use Rattle.container_steady.specs.Steady.{queue_of, stepped, ended, IsRunning, HasStorage, storage_in, IsOfSave, EndsAs, EndsFor, EndsWell, IsBeginning, AtFirstCall, PastFirstCall, IsTimely, SteadyLink}
+use Rattle.container_steady.specs.Steady.{queue_of, stepped, ended, IsRunning, HasStorage, storage_by, storage_in, IsOfSave, EndsAs, EndsFor, EndsWell, IsBeginning, AtFirstCall, PastFirstCall, IsTimely, SteadyLink}
 use Rattle.container_steady.proofs.SteadyRoles.{is_ui, plain_shown}
 
 -- runs of a queue
@@ -78,6 +79,7 @@ LeavesRunning InPlaceDeactivate = Unit {0}
 LeavesRunning OpenWindow = Unit {0}
 LeavesRunning (Edit bytes) = Unit {0}
 LeavesRunning (Save k) = Unit {0}
+LeavesRunning HandsOff = Unit {0}
 LeavesRunning (SaveCompleted k storage) = Unit {0}
 LeavesRunning (SaveDropped k) = Unit {0}
 LeavesRunning op = ⊥
@@ -101,6 +103,8 @@ row_set (Edit bytes) Unset t = tt
 row_set (Edit bytes) _ t = tt
 row_set (Save k) Unset t = tt
 row_set (Save k) _ t = tt
+row_set HandsOff Unset t = tt
+row_set HandsOff _ t = tt
 row_set (SaveCompleted k true) Unset t = tt
 row_set (SaveCompleted k true) _ t = tt
 row_set (SaveCompleted k false) Unset t = tt
@@ -123,8 +127,8 @@ begun_if_running Passive r = absurd r
 begun_if_running Loaded r = absurd r
 begun_if_running _ r = r
 
-pub has_begun : (servers : List Bool) (last_act : ℕ) (phase : Phase) (k : ℕ) (role : Role) (l : Link) → SteadyLink servers last_act phase k role l → HasBegun l.states.object
-has_begun servers last_act phase k role l h = elim h.first_call [
+pub has_begun : (servers : List Bool) (last_act : ℕ) (phase : Phase) (asked : Option (List ℕ)) (k : ℕ) (role : Role) (l : Link) → SteadyLink servers last_act phase asked k role l → HasBegun l.states.object
+has_begun servers last_act phase asked k role l h = elim h.first_call [
   | inl first ↦ subst (λ (v : States). HasBegun v.object) (sym first.states) tt
   | inr past ↦ begun_if_running l.states.object past.running
 ]
@@ -151,6 +155,7 @@ row_up OpenWindow Running t h = tt
 row_up OpenWindow _ t h = tt
 row_up (Edit bytes) s t h = same_up s h
 row_up (Save k) s t h = same_up s h
+row_up HandsOff s t h = same_up s h
 row_up (SaveCompleted k storage) s t h = same_up s h
 row_up (SaveDropped k) s t h = same_up s h
 row_up _ s t h = absurd t
@@ -181,8 +186,8 @@ ends_as Idle Passive h = tt
 ends_as Idle _ h = h
 ends_as _ s h = h
 
-pub ends_well : (phase : Phase) (k : ℕ) (role later : Role) (v w : States) → EndsWell phase k role v → w.persist ≡ v.persist → IsRunning w.object → EndsFor later w.object → EndsWell phase k later w
-ends_well phase k role later v w h e r f = record {
+pub ends_well : (phase : Phase) (asked : Option (List ℕ)) (k : ℕ) (role later : Role) (v w : States) → EndsWell phase asked k role v → w.persist ≡ v.persist → IsRunning w.object → EndsFor later w.object → EndsWell phase asked k later w
+ends_well phase asked k role later v w h e r f = record {
   storage = ap (λ (p : Persist). p.state) e ∙ h.storage;
   last_save = subst (λ (p : Persist). IsOfSave phase k p.last_save) (sym e) h.last_save;
   running = ends_as phase w.object r;
@@ -190,19 +195,31 @@ ends_well phase k role later v w h e r f = record {
 }
 
 -- a save begins: the storage is not to be written into
-save_begins_at : (s : PersistState) (last : Option ℕ) (o : ObjectState) (k : ℕ) (role : Role) → s ≡ Normal → IsRunning o → EndsFor role o → IsOkAnd (both.step (record { persist = record { state = s; last_save = last }; object = o }) (op.Save k)) (EndsWell Saving k role)
-save_begins_at Unset last o k role e r f = cc
-save_begins_at NoScribble last o k role e r f = cc
-save_begins_at state.HandsOff last o k role e r f = cc
-save_begins_at Normal last Passive k role e r f = absurd r
-save_begins_at Normal last Loaded k role e r f = absurd r
-save_begins_at Normal last _ k role e r f = record { storage = refl; last_save = refl; running = tt; waits = f }
+save_begins_at : (s : PersistState) (last : Option ℕ) (o : ObjectState) (asked : Option (List ℕ)) (k : ℕ) (role : Role) → s ≡ Normal → IsRunning o → EndsFor role o → IsOkAnd (both.step (record { persist = record { state = s; last_save = last }; object = o }) (op.Save k)) (EndsWell Saving asked k role)
+save_begins_at Unset last o asked k role e r f = cc
+save_begins_at NoScribble last o asked k role e r f = cc
+save_begins_at state.HandsOff last o asked k role e r f = cc
+save_begins_at Normal last Passive asked k role e r f = absurd r
+save_begins_at Normal last Loaded asked k role e r f = absurd r
+save_begins_at Normal last _ asked k role e r f = record { storage = refl; last_save = refl; running = tt; waits = f }
 
-pub save_begins : (v : States) (k : ℕ) (role : Role) → v.persist.state ≡ Normal → IsRunning v.object → EndsFor role v.object → IsOkAnd (both.step v (op.Save k)) (EndsWell Saving k role)
-save_begins v k role e r f = save_begins_at v.persist.state v.persist.last_save v.object k role e r f
+pub save_begins : (v : States) (asked : Option (List ℕ)) (k : ℕ) (role : Role) → v.persist.state ≡ Normal → IsRunning v.object → EndsFor role v.object → IsOkAnd (both.step v (op.Save k)) (EndsWell Saving asked k role)
+save_begins v asked k role e r f = save_begins_at v.persist.state v.persist.last_save v.object asked k role e r f
 
--- a save ends: the storage is to be written into again
-save_ends_at : (s : PersistState) (last : Option ℕ) (o : ObjectState) (k : ℕ) (role : Role) (storage : Bool) → s ≡ NoScribble → last ≡ Some k → IsRunning o → EndsFor role o → IsOkAnd (both.step (record { persist = record { state = s; last_save = last }; object = o }) (op.SaveCompleted k storage)) (EndsWell Idle k role)
+-- under another name it goes on: the storage is given away
+hand_off_ends_at : (s : PersistState) (last : Option ℕ) (o : ObjectState) (asked : Option (List ℕ)) (k : ℕ) (role : Role) → s ≡ NoScribble → last ≡ Some k → IsRunning o → EndsFor role o → IsOkAnd (both.step (record { persist = record { state = s; last_save = last }; object = o }) op.HandsOff) (EndsWell HandingOff asked k role)
+hand_off_ends_at Unset last o asked k role e l r f = cc
+hand_off_ends_at Normal last o asked k role e l r f = cc
+hand_off_ends_at state.HandsOff last o asked k role e l r f = cc
+hand_off_ends_at NoScribble last Passive asked k role e l r f = absurd r
+hand_off_ends_at NoScribble last Loaded asked k role e l r f = absurd r
+hand_off_ends_at NoScribble last _ asked k role e l r f = record { storage = refl; last_save = l; running = tt; waits = f }
+
+pub hand_off_ends : (v : States) (asked : Option (List ℕ)) (k : ℕ) (role : Role) → v.persist.state ≡ NoScribble → v.persist.last_save ≡ Some k → IsRunning v.object → EndsFor role v.object → IsOkAnd (both.step v op.HandsOff) (EndsWell HandingOff asked k role)
+hand_off_ends v asked k role e l r f = hand_off_ends_at v.persist.state v.persist.last_save v.object asked k role e l r f
+
+-- a save ends: the storage is to be written into again; where it was given away, another one comes with that
+save_ends_at : (s : PersistState) (last : Option ℕ) (o : ObjectState) (k : ℕ) (role : Role) (storage : Bool) → s ≡ NoScribble → last ≡ Some k → IsRunning o → EndsFor role o → IsOkAnd (both.step (record { persist = record { state = s; last_save = last }; object = o }) (op.SaveCompleted k storage)) (EndsWell Idle None k role)
 save_ends_at Unset last o k role storage e l r f = cc
 save_ends_at Normal last o k role storage e l r f = cc
 save_ends_at state.HandsOff last o k role storage e l r f = cc
@@ -212,11 +229,21 @@ save_ends_at NoScribble last Loaded k role storage e l r f = absurd r
 save_ends_at NoScribble (Some n) _ k role true e l r f = (let nk : n ≡ k = cc in rw (eq-eqb k n (sym nk)) (record { storage = refl; last_save = omega arith; running = tt; waits = f }))
 save_ends_at NoScribble (Some n) _ k role false e l r f = (let nk : n ≡ k = cc in rw (eq-eqb k n (sym nk)) (record { storage = refl; last_save = omega arith; running = tt; waits = f }))
 
-pub save_ends : (v : States) (k : ℕ) (role : Role) (storage : Bool) → v.persist.state ≡ NoScribble → v.persist.last_save ≡ Some k → IsRunning v.object → EndsFor role v.object → IsOkAnd (both.step v (op.SaveCompleted k storage)) (EndsWell Idle k role)
-save_ends v k role storage e l r f = save_ends_at v.persist.state v.persist.last_save v.object k role storage e l r f
+away_ends_at : (s : PersistState) (last : Option ℕ) (o : ObjectState) (k : ℕ) (role : Role) → s ≡ state.HandsOff → last ≡ Some k → IsRunning o → EndsFor role o → IsOkAnd (both.step (record { persist = record { state = s; last_save = last }; object = o }) (op.SaveCompleted k true)) (EndsWell Idle None k role)
+away_ends_at Unset last o k role e l r f = cc
+away_ends_at Normal last o k role e l r f = cc
+away_ends_at NoScribble last o k role e l r f = cc
+away_ends_at state.HandsOff None o k role e l r f = cc
+away_ends_at state.HandsOff last Passive k role e l r f = absurd r
+away_ends_at state.HandsOff last Loaded k role e l r f = absurd r
+away_ends_at state.HandsOff (Some n) _ k role e l r f = (let nk : n ≡ k = cc in rw (eq-eqb k n (sym nk)) (record { storage = refl; last_save = omega arith; running = tt; waits = f }))
+
+pub save_ends : (v : States) (asked : Option (List ℕ)) (k : ℕ) (role : Role) → v.persist.state ≡ storage_by asked → v.persist.last_save ≡ Some k → IsRunning v.object → EndsFor role v.object → IsOkAnd (both.step v (op.SaveCompleted k (is_some_name asked))) (EndsWell Idle None k role)
+save_ends v None k role e l r f = save_ends_at v.persist.state v.persist.last_save v.object k role false e l r f
+save_ends v (Some name) k role e l r f = away_ends_at v.persist.state v.persist.last_save v.object k role e l r f
 
 -- so it is where the save is dropped
-drop_ends_at : (s : PersistState) (last : Option ℕ) (o : ObjectState) (k : ℕ) (role : Role) → s ≡ NoScribble → last ≡ Some k → IsRunning o → EndsFor role o → IsOkAnd (both.step (record { persist = record { state = s; last_save = last }; object = o }) (op.SaveDropped k)) (EndsWell Idle k role)
+drop_ends_at : (s : PersistState) (last : Option ℕ) (o : ObjectState) (k : ℕ) (role : Role) → s ≡ NoScribble → last ≡ Some k → IsRunning o → EndsFor role o → IsOkAnd (both.step (record { persist = record { state = s; last_save = last }; object = o }) (op.SaveDropped k)) (EndsWell Idle None k role)
 drop_ends_at Unset last o k role e l r f = cc
 drop_ends_at Normal last o k role e l r f = cc
 drop_ends_at state.HandsOff last o k role e l r f = cc
@@ -225,8 +252,18 @@ drop_ends_at NoScribble last Passive k role e l r f = absurd r
 drop_ends_at NoScribble last Loaded k role e l r f = absurd r
 drop_ends_at NoScribble (Some n) _ k role e l r f = (let nk : n ≡ k = cc in rw (eq-eqb k n (sym nk)) (record { storage = refl; last_save = omega arith; running = tt; waits = f }))
 
-pub drop_ends : (v : States) (k : ℕ) (role : Role) → v.persist.state ≡ NoScribble → v.persist.last_save ≡ Some k → IsRunning v.object → EndsFor role v.object → IsOkAnd (both.step v (op.SaveDropped k)) (EndsWell Idle k role)
-drop_ends v k role e l r f = drop_ends_at v.persist.state v.persist.last_save v.object k role e l r f
+drop_away_at : (s : PersistState) (last : Option ℕ) (o : ObjectState) (k : ℕ) (role : Role) → s ≡ state.HandsOff → last ≡ Some k → IsRunning o → EndsFor role o → IsOkAnd (both.step (record { persist = record { state = s; last_save = last }; object = o }) (op.SaveDropped k)) (EndsWell Idle None k role)
+drop_away_at Unset last o k role e l r f = cc
+drop_away_at Normal last o k role e l r f = cc
+drop_away_at NoScribble last o k role e l r f = cc
+drop_away_at state.HandsOff None o k role e l r f = cc
+drop_away_at state.HandsOff last Passive k role e l r f = absurd r
+drop_away_at state.HandsOff last Loaded k role e l r f = absurd r
+drop_away_at state.HandsOff (Some n) _ k role e l r f = (let nk : n ≡ k = cc in rw (eq-eqb k n (sym nk)) (record { storage = refl; last_save = omega arith; running = tt; waits = f }))
+
+pub drop_ends : (v : States) (asked : Option (List ℕ)) (k : ℕ) (role : Role) → v.persist.state ≡ storage_by asked → v.persist.last_save ≡ Some k → IsRunning v.object → EndsFor role v.object → IsOkAnd (both.step v (op.SaveDropped k)) (EndsWell Idle None k role)
+drop_ends v None k role e l r f = drop_ends_at v.persist.state v.persist.last_save v.object k role e l r f
+drop_ends v (Some name) k role e l r f = drop_away_at v.persist.state v.persist.last_save v.object k role e l r f
 
 -- operations that leave the storage as it is
 abbrev pub KeepsStorage : Operation → Type 0
@@ -274,41 +311,53 @@ plain_ended P (x ∷ ops) v k h =
     (r.0, ap (λ (z : Result States StateFault). ended z ops) t.1 ∙ r.1, r.2, r.3 ∙ plain_shown x v.object t.0.object k.0 j.1)
 
 -- states at a queue's end have a storage
-set_in : (phase : Phase) → HasStorage (storage_in phase)
-set_in Idle = tt
-set_in _ = tt
+set_by : (asked : Option (List ℕ)) → HasStorage (storage_by asked)
+set_by None = tt
+set_by (Some name) = tt
 
-pub ends_set : (phase : Phase) (k : ℕ) (role : Role) (v : States) → EndsWell phase k role v → HasStorage v.persist.state
-ends_set phase k role v h = subst HasStorage (sym h.storage) (set_in phase)
+set_in : (phase : Phase) (asked : Option (List ℕ)) → HasStorage (storage_in phase asked)
+set_in Idle asked = tt
+set_in Saving asked = tt
+set_in HandingOff asked = tt
+set_in _ asked = set_by asked
+
+pub ends_set : (phase : Phase) (asked : Option (List ℕ)) (k : ℕ) (role : Role) (v : States) → EndsWell phase asked k role v → HasStorage v.persist.state
+ends_set phase asked k role v h = subst HasStorage (sym h.storage) (set_in phase asked)
 
 -- an activation at its first call is of a frame that is idle
-idle_by : (phase : Phase) → Normal ≡ storage_in phase → phase ≡ Idle
-idle_by Idle e = refl
-idle_by _ e = absurd (cc)
+not_by : (asked : Option (List ℕ)) → Normal ≡ storage_by asked → ⊥
+not_by None e = cc
+not_by (Some name) e = cc
+
+idle_by : (phase : Phase) (asked : Option (List ℕ)) → Normal ≡ storage_in phase asked → phase ≡ Idle
+idle_by Idle asked e = refl
+idle_by Saving asked e = absurd (cc)
+idle_by HandingOff asked e = absurd (cc)
+idle_by _ asked e = absurd (not_by asked e)
 
 record AtBeginning (phase : Phase) (role : Role) : Type 0 where
   idle : phase ≡ Idle
   other : EndsFor role Running
 
-first_idle : (phase : Phase) (k : ℕ) (role : Role) (p : Option Operation) (ws : List Operation) (v : States) → IsSomeAnd p IsBeginning → ws ≡ [] → v ≡ both.loaded → IsOkAnd (ended (Ok v) (queue_of p ws)) (EndsWell phase k role) → AtBeginning phase role
-first_idle phase k role None ws v b w e h = absurd b
-first_idle phase k role (Some (InitNew class)) ws v b w e h =
-    let at : IsOkAnd (ended (Ok both.loaded) (InitNew class ∷ [])) (EndsWell phase k role) = subst (λ (z : States). IsOkAnd (ended (Ok z) (InitNew class ∷ [])) (EndsWell phase k role)) e (subst (λ (z : List Operation). IsOkAnd (ended (Ok v) (InitNew class ∷ z)) (EndsWell phase k role)) w h) in
-    record { idle = idle_by phase at.storage; other = at.waits }
-first_idle phase k role (Some (Load class content)) ws v b w e h =
-    let at : IsOkAnd (ended (Ok both.loaded) (Load class content ∷ [])) (EndsWell phase k role) = subst (λ (z : States). IsOkAnd (ended (Ok z) (Load class content ∷ [])) (EndsWell phase k role)) e (subst (λ (z : List Operation). IsOkAnd (ended (Ok v) (Load class content ∷ z)) (EndsWell phase k role)) w h) in
-    record { idle = idle_by phase at.storage; other = at.waits }
-first_idle phase k role (Some _) ws v b w e h = absurd b
+first_idle : (phase : Phase) (asked : Option (List ℕ)) (k : ℕ) (role : Role) (p : Option Operation) (ws : List Operation) (v : States) → IsSomeAnd p IsBeginning → ws ≡ [] → v ≡ both.loaded → IsOkAnd (ended (Ok v) (queue_of p ws)) (EndsWell phase asked k role) → AtBeginning phase role
+first_idle phase asked k role None ws v b w e h = absurd b
+first_idle phase asked k role (Some (InitNew class)) ws v b w e h =
+    let at : IsOkAnd (ended (Ok both.loaded) (InitNew class ∷ [])) (EndsWell phase asked k role) = subst (λ (z : States). IsOkAnd (ended (Ok z) (InitNew class ∷ [])) (EndsWell phase asked k role)) e (subst (λ (z : List Operation). IsOkAnd (ended (Ok v) (InitNew class ∷ z)) (EndsWell phase asked k role)) w h) in
+    record { idle = idle_by phase asked at.storage; other = at.waits }
+first_idle phase asked k role (Some (Load class content)) ws v b w e h =
+    let at : IsOkAnd (ended (Ok both.loaded) (Load class content ∷ [])) (EndsWell phase asked k role) = subst (λ (z : States). IsOkAnd (ended (Ok z) (Load class content ∷ [])) (EndsWell phase asked k role)) e (subst (λ (z : List Operation). IsOkAnd (ended (Ok v) (Load class content ∷ z)) (EndsWell phase asked k role)) w h) in
+    record { idle = idle_by phase asked at.storage; other = at.waits }
+first_idle phase asked k role (Some _) ws v b w e h = absurd b
 
 -- so where a save is under way, or nothing is pending, the first call is over
-pub past_if_saving : (servers : List Bool) (last_act : ℕ) (phase : Phase) (k : ℕ) (role : Role) (l : Link) → SteadyLink servers last_act phase k role l → (phase ≡ Idle → ⊥) → PastFirstCall l.states
-past_if_saving servers last_act phase k role l h ne = elim h.first_call [
-  | inl first ↦ absurd (ne (first_idle phase k role l.pending l.waiting l.states first.pending first.alone first.states h.queue_runs).idle)
+pub past_if_saving : (servers : List Bool) (last_act : ℕ) (phase : Phase) (asked : Option (List ℕ)) (k : ℕ) (role : Role) (l : Link) → SteadyLink servers last_act phase asked k role l → (phase ≡ Idle → ⊥) → PastFirstCall l.states
+past_if_saving servers last_act phase asked k role l h ne = elim h.first_call [
+  | inl first ↦ absurd (ne (first_idle phase asked k role l.pending l.waiting l.states first.pending first.alone first.states h.queue_runs).idle)
   | inr past ↦ past
 ]
 
-pub past_if_quiet : (servers : List Bool) (last_act : ℕ) (phase : Phase) (k : ℕ) (role : Role) (l : Link) → SteadyLink servers last_act phase k role l → l.pending ≡ None → PastFirstCall l.states
-past_if_quiet servers last_act phase k role l h e = elim h.first_call [
+pub past_if_quiet : (servers : List Bool) (last_act : ℕ) (phase : Phase) (asked : Option (List ℕ)) (k : ℕ) (role : Role) (l : Link) → SteadyLink servers last_act phase asked k role l → l.pending ≡ None → PastFirstCall l.states
+past_if_quiet servers last_act phase asked k role l h e = elim h.first_call [
   | inl first ↦ absurd (subst (λ (p : Option Operation). IsSomeAnd p IsBeginning) e first.pending)
   | inr past ↦ past
 ]
@@ -327,20 +376,20 @@ first_other_at : (role : Role) (p : Option Operation) (ws : List Operation) → 
 first_other_at role None ws b w s k f = absurd b
 first_other_at role (Some op) ws b w s k f = beginning_other role op b s (subst (λ (z : List Operation). Plays role (op ∷ z)) w k) f
 
-pub first_other : (servers : List Bool) (last_act : ℕ) (phase : Phase) (k : ℕ) (role : Role) (l : Link) → SteadyLink servers last_act phase k role l → AtFirstCall l → role ≡ Other
-first_other servers last_act phase k role l h first =
+pub first_other : (servers : List Bool) (last_act : ℕ) (phase : Phase) (asked : Option (List ℕ)) (k : ℕ) (role : Role) (l : Link) → SteadyLink servers last_act phase asked k role l → AtFirstCall l → role ≡ Other
+first_other servers last_act phase asked k role l h first =
     first_other_at role l.pending l.waiting first.pending first.alone (subst (λ (v : States). IsShown role v.object) first.states h.shown) h.plays
-    (first_idle phase k role l.pending l.waiting l.states first.pending first.alone first.states h.queue_runs).other
+    (first_idle phase asked k role l.pending l.waiting l.states first.pending first.alone first.states h.queue_runs).other
 
-pub past_if_part : (servers : List Bool) (last_act : ℕ) (phase : Phase) (k : ℕ) (role : Role) (l : Link) → SteadyLink servers last_act phase k role l → (role ≡ Other → ⊥) → PastFirstCall l.states
-past_if_part servers last_act phase k role l h ne = elim h.first_call [
-  | inl first ↦ absurd (ne (first_other servers last_act phase k role l h first))
+pub past_if_part : (servers : List Bool) (last_act : ℕ) (phase : Phase) (asked : Option (List ℕ)) (k : ℕ) (role : Role) (l : Link) → SteadyLink servers last_act phase asked k role l → (role ≡ Other → ⊥) → PastFirstCall l.states
+past_if_part servers last_act phase asked k role l h ne = elim h.first_call [
+  | inl first ↦ absurd (ne (first_other servers last_act phase asked k role l h first))
   | inr past ↦ past
 ]
 
 -- once a content was answered, none is asked for in the rest of the queue
-refused_scribbling : (v w : States) (o : Op) (h : (s : PersistState) → s ≡ NoScribble → (refusal : StateFault) × (persist.table o s ≡ Err refusal)) → v.persist.state ≡ NoScribble → both.step v o ≡ Ok w → ⊥
-refused_scribbling v w o h s e = (let r = h v.persist.state s in let g : both.joined (persist.numbered v.persist o (persist.table o v.persist.state)) (object.table o v.object) ≡ Ok w = e in let g' = rw r.1 at g in cc)
+refused_in : (q : PersistState) (v w : States) (o : Op) (h : (s : PersistState) → s ≡ q → (refusal : StateFault) × (persist.table o s ≡ Err refusal)) → v.persist.state ≡ q → both.step v o ≡ Ok w → ⊥
+refused_in q v w o h s e = (let r = h v.persist.state s in let g : both.joined (persist.numbered v.persist o (persist.table o v.persist.state)) (object.table o v.object) ≡ Ok w = e in let g' = rw r.1 at g in cc)
 
 pub goes_on : (op : Operation) → KeepsStorage op → (P : States → Type 0) (v : States) (ops : List Operation) → HasStorage v.persist.state → IsOkAnd (ended (Ok v) (op ∷ ops)) P → (w : States) × (w.persist ≡ v.persist) × IsOkAnd (ended (Ok w) ops) P
 goes_on op keeps P v ops s h =
@@ -355,9 +404,9 @@ goes_scribbling op keeps P v ops s h = (let g = goes_on op keeps P v ops (subst 
 
 pub none_asked_again : (k : ℕ) (content : Stored) (P : States → Type 0) (ops : List Operation) (v : States) → v.persist.state ≡ NoScribble → IsOkAnd (ended (Ok v) ops) P → AllByRecursion (IsTimely Saving None) ops → AllByRecursion (IsTimely Saving (Some content)) ops
 none_asked_again k content P [] v s h t = tt
-none_asked_again k content P (InitNew class ∷ ops) v s h t = (let r = taken P v (InitNew class) ops h in absurd (refused_scribbling v r.0 op.InitNew (λ z e. (fault.AlreadyInitialized, rw e refl)) s r.1))
-none_asked_again k content P (Load class c ∷ ops) v s h t = (let r = taken P v (Load class c) ops h in absurd (refused_scribbling v r.0 op.Load (λ z e. (fault.AlreadyInitialized, rw e refl)) s r.1))
-none_asked_again k content P (Save j ∷ ops) v s h t = (let r = taken P v (Save j) ops h in absurd (refused_scribbling v r.0 (op.Save j) (λ z e. (fault.Scribble, rw e refl)) s r.1))
+none_asked_again k content P (InitNew class ∷ ops) v s h t = (let r = taken P v (InitNew class) ops h in absurd (refused_in NoScribble v r.0 op.InitNew (λ z e. (fault.AlreadyInitialized, rw e refl)) s r.1))
+none_asked_again k content P (Load class c ∷ ops) v s h t = (let r = taken P v (Load class c) ops h in absurd (refused_in NoScribble v r.0 op.Load (λ z e. (fault.AlreadyInitialized, rw e refl)) s r.1))
+none_asked_again k content P (Save j ∷ ops) v s h t = (let r = taken P v (Save j) ops h in absurd (refused_in NoScribble v r.0 (op.Save j) (λ z e. (fault.Scribble, rw e refl)) s r.1))
 none_asked_again k content P (SaveCompleted j storage ∷ ops) v s h t = absurd (let e = t.0 in cc)
 none_asked_again k content P (SaveDropped j ∷ ops) v s h t = absurd (let e = t.0 in cc)
 none_asked_again k content P (Close option ∷ ops) v s h t = absurd (let e = t.0 in cc)
@@ -367,7 +416,27 @@ none_asked_again k content P (UiDeactivate ∷ ops) v s h t = (let g = goes_scri
 none_asked_again k content P (InPlaceDeactivate ∷ ops) v s h t = (let g = goes_scribbling InPlaceDeactivate tt P v ops s h in (tt, none_asked_again k content P ops g.0 g.1 g.2 t.1))
 none_asked_again k content P (OpenWindow ∷ ops) v s h t = (let g = goes_scribbling OpenWindow tt P v ops s h in (tt, none_asked_again k content P ops g.0 g.1 g.2 t.1))
 none_asked_again k content P (Edit bytes ∷ ops) v s h t = (let g = goes_scribbling (Edit bytes) tt P v ops s h in (tt, none_asked_again k content P ops g.0 g.1 g.2 t.1))
-none_asked_again k content P (_ ∷ ops) v s h t = absurd t.0
+none_asked_again k content P (HandsOff ∷ ops) v s h t = absurd (let e = t.0 in cc)
+
+-- once a storage was given away, it isn't asked for in the rest of the queue
+goes_away : (op : Operation) → KeepsStorage op → (P : States → Type 0) (v : States) (ops : List Operation) → v.persist.state ≡ state.HandsOff → IsOkAnd (ended (Ok v) (op ∷ ops)) P → (w : States) × (w.persist.state ≡ state.HandsOff) × IsOkAnd (ended (Ok w) ops) P
+goes_away op keeps P v ops s h = (let g = goes_on op keeps P v ops (subst HasStorage (sym s) tt) h in (g.0, ap (λ (p : Persist). p.state) g.1 ∙ s, g.2))
+
+pub all_away : (content : Stored) (P : States → Type 0) (ops : List Operation) (v : States) → v.persist.state ≡ state.HandsOff → IsOkAnd (ended (Ok v) ops) P → AllByRecursion (IsTimely HandingOff (Some content)) ops → AllByRecursion (IsTimely Committing (Some content)) ops
+all_away content P [] v s h t = tt
+all_away content P (InitNew class ∷ ops) v s h t = (let r = taken P v (InitNew class) ops h in absurd (refused_in state.HandsOff v r.0 op.InitNew (λ z e. (fault.AlreadyInitialized, rw e refl)) s r.1))
+all_away content P (Load class c ∷ ops) v s h t = (let r = taken P v (Load class c) ops h in absurd (refused_in state.HandsOff v r.0 op.Load (λ z e. (fault.AlreadyInitialized, rw e refl)) s r.1))
+all_away content P (Save j ∷ ops) v s h t = absurd (let e = t.0.0 in cc)
+all_away content P (HandsOff ∷ ops) v s h t = (let r = taken P v HandsOff ops h in absurd (refused_in state.HandsOff v r.0 op.HandsOff (λ z e. (fault.HandsOff, rw e refl)) s r.1))
+all_away content P (SaveCompleted j storage ∷ ops) v s h t = absurd (let e = t.0 in cc)
+all_away content P (SaveDropped j ∷ ops) v s h t = absurd (let e = t.0 in cc)
+all_away content P (Close option ∷ ops) v s h t = absurd (let e = t.0 in cc)
+all_away content P (InPlace ∷ ops) v s h t = (let g = goes_away InPlace tt P v ops s h in (tt, all_away content P ops g.0 g.1 g.2 t.1))
+all_away content P (UiActivate n ∷ ops) v s h t = (let g = goes_away (UiActivate n) tt P v ops s h in (tt, all_away content P ops g.0 g.1 g.2 t.1))
+all_away content P (UiDeactivate ∷ ops) v s h t = (let g = goes_away UiDeactivate tt P v ops s h in (tt, all_away content P ops g.0 g.1 g.2 t.1))
+all_away content P (InPlaceDeactivate ∷ ops) v s h t = (let g = goes_away InPlaceDeactivate tt P v ops s h in (tt, all_away content P ops g.0 g.1 g.2 t.1))
+all_away content P (OpenWindow ∷ ops) v s h t = (let g = goes_away OpenWindow tt P v ops s h in (tt, all_away content P ops g.0 g.1 g.2 t.1))
+all_away content P (Edit bytes ∷ ops) v s h t = (let g = goes_away (Edit bytes) tt P v ops s h in (tt, all_away content P ops g.0 g.1 g.2 t.1))
 
 -- after a content was answered
 save_scribbles_at : (s : PersistState) (last : Option ℕ) (o : ObjectState) (k : ℕ) (w : States) → both.step (record { persist = record { state = s; last_save = last }; object = o }) (op.Save k) ≡ Ok w → w.persist.state ≡ NoScribble

@@ -1,9 +1,11 @@
 -- Records: what keeps each object steady.
 use Rattle.std.proofs.Common.{◌≡◌, ◌≤◌, ◌<◌, ◌⊎◌, inl, inr, ap, ℕ, Bool, true, false, List, [], ◌∷◌, Option, Some, None, refl, sym, ◌∙◌, arith, subst}
-use Rattle.std.specs.Prelude.{IfSome, is_some}
+use Rattle.std.specs.Prelude.{IfSome, is_some, not}
 use Rattle.std.specs.List.{AllByRecursion}
 use Rattle.wire_msgs.specs.Found.{find, put, nth}
 use Rattle.object_parts.specs.Limits.{is_within}
+use Rattle.object_state.specs.declared.persist_states.PersistState.{PersistState}
+use Rattle.object_state.specs.declared.persist_states.PersistState.TheVariants as state
 use Rattle.storage_tree.specs.declared.stored.Stored.{Stored}
 use Rattle.grant_core.specs.Frames.{Ui}
 use Rattle.grant_core.specs.declared.grant_states.Claim.{Claim}
@@ -13,12 +15,12 @@ use Rattle.container_model.specs.declared.record.Frame.{Frame}
 use Rattle.container_model.specs.declared.record.Phase.{Phase}
 use Rattle.container_model.specs.declared.record.Phase.TheVariants.{Idle, Saving, HandingOff, Committing, InDoubt}
 use Rattle.container_model.specs.Record.{Record, MOST_OBJECTS, is_object}
-use Rattle.container_model.specs.Saves.{kept, kept_by, kept_in, awaits, is_awaited_link, is_ready, is_ready_at, settled_frame, settled_frames, settle}
+use Rattle.container_model.specs.Saves.{kept, kept_by, kept_in, awaits, is_awaited_link, is_away, is_keeping_link, is_ready, is_ready_at, keeps, settled_frame, settled_frames, settle}
 use Rattle.container_steady.specs.Roles.{IsClaim, Other, SteadyGrant, role_in}
-use Rattle.container_steady.specs.Steady.{MayBeStored, SteadyLink, SteadyObject, SteadyFrame, InOrder, Steady, SteadyFromTheStart}
-use Rattle.container_steady.proofs.SteadyLookups.{each_weaker, each_both, each_put, pairs_put, nth-settled, each_settled, none_awaited}
+use Rattle.container_steady.specs.Steady.{IsAskedIn, MayBeStored, SteadyLink, SteadyObject, SteadyFrame, InOrder, Steady, SteadyFromTheStart}
+use Rattle.container_steady.proofs.SteadyLookups.{each_weaker, each_both, each_put, pairs_put, nth-settled, each_nth, each_settled, none_awaited, none_keeping}
 use Rattle.container_steady.proofs.SteadyCounts.{count_put}
-use Rattle.container_steady.proofs.SteadyLinks.{now_committing}
+use Rattle.container_steady.proofs.SteadyLinks.{now_away, now_committing}
 use Rattle.container_steady.proofs.SteadyClaims.{Names, KeepsLink, LinkStays, claim_kept, grant_kept, keeps_put, keeps_put_other, keeps_refl, named_part, none_there, settled_back}
 use Rattle.container_steady.proofs.SteadyFinds.{found_by_number, put_by_number}
 pub use Rattle.container_steady.proofs.SteadyTells.{if_told, unless_ok, or_false, some_and, and_some, at_some, if_weaker, if_at}
@@ -29,7 +31,7 @@ empty_steady numbers = record { frames = tt; objects = tt; order = tt; count = �
 
 -- an object's link in its frame
 abbrev pub Held : Record → ℕ → Option Link → Frame → Type 0
-Held r number link frame = IfSome link (SteadyLink r.servers r.last_act frame.phase frame.k (role_in frame.ui.state number))
+Held r number link frame = IfSome link (SteadyLink r.servers r.last_act frame.phase frame.asked frame.k (role_in frame.ui.state number))
 
 -- the content that is kept of an object may be stored
 pub kept_within : (work : Stored) (saved : Option Stored) → is_within work ≡ true → MayBeStored saved → is_within (kept_in work saved) ≡ true
@@ -110,35 +112,63 @@ put_steady r test x a h e t keeps s =
           ])) (omega arith) k) (h.grants f frame at);
     }
 
--- saves go on
-pub ready_at : (phase : Phase) (waits : Bool) → is_ready_at phase waits ≡ true → (phase ≡ Saving) × (waits ≡ false)
-ready_at Saving false e = (refl, refl)
-ready_at Saving true e = cc
-ready_at Idle waits e = cc
-ready_at HandingOff waits e = cc
-ready_at Committing waits e = cc
-ready_at InDoubt waits e = cc
+-- saves go on: one under the frame's name once all contents are there, one under another name once all storages are
+pub ready_at : (phase : Phase) (asked : Option (List ℕ)) (waits keeping : Bool) → is_ready_at phase asked waits keeping ≡ true → ((phase ≡ Saving) × (asked ≡ None) × (waits ≡ false)) ⊎ ((phase ≡ HandingOff) × (keeping ≡ false))
+ready_at Saving None false keeping e = inl (refl, refl, refl)
+ready_at Saving None true keeping e = cc
+ready_at Saving (Some name) waits keeping e = cc
+ready_at HandingOff asked waits false e = inr (refl, refl)
+ready_at HandingOff asked waits true e = cc
+ready_at Idle asked waits keeping e = cc
+ready_at Committing asked waits keeping e = cc
+ready_at InDoubt asked waits keeping e = cc
 
 settled_steady : (f : ℕ) (os : List Object) (frame : Frame) → SteadyFrame frame → SteadyFrame (settled_frame f os frame)
-settled_steady f os frame h = if_told SteadyFrame (is_ready f os frame) (record frame { phase = Committing }) frame (λ e. record { asked = h.asked; phase = tt }) (λ e. h)
+settled_steady f os frame h = if_told SteadyFrame (is_ready f os frame) (record frame { phase = Committing }) frame (λ e. record { asked = tt }) (λ e. h)
 
-answered_link : (l : Link) → is_awaited_link (Some l) ≡ false → is_some l.saved ≡ true
+pub answered_link : (l : Link) → is_awaited_link (Some l) ≡ false → is_some l.saved ≡ true
 answered_link l e = elim l.saved as (λ s. elim s [ None ↦ true | Some content ↦ false ] ≡ false → is_some s ≡ true) [ None ↦ (λ g. absurd (cc)) | Some content ↦ (λ g. refl) ] e
 
-settled_link : (r : Record) (n : ℕ) (link : Option Link) (frame : Frame) → frame.phase ≡ Saving → is_awaited_link link ≡ false → Held r n link frame → Held r n link (record frame { phase = Committing })
-settled_link r n None frame p e h = tt
-settled_link r n (Some l) frame p e h = now_committing r.servers r.last_act frame.k (role_in frame.ui.state n) l (subst (λ (q : Phase). SteadyLink r.servers r.last_act q frame.k (role_in frame.ui.state n) l) p h) (answered_link l e)
+away_by : (s : PersistState) → not (is_away s) ≡ false → s ≡ state.HandsOff
+away_by state.HandsOff e = refl
+away_by _ e = absurd (cc)
+
+settled_link : (r : Record) (n : ℕ) (link : Option Link) (frame : Frame) → frame.phase ≡ Saving → frame.asked ≡ None → is_awaited_link link ≡ false → Held r n link frame → Held r n link (record frame { phase = Committing })
+settled_link r n None frame p a e h = tt
+settled_link r n (Some l) frame p a e h =
+    let saving = subst (λ (z : Option (List ℕ)). SteadyLink r.servers r.last_act Saving z frame.k (role_in frame.ui.state n) l) a (subst (λ (q : Phase). SteadyLink r.servers r.last_act q frame.asked frame.k (role_in frame.ui.state n) l) p h) in
+    subst (λ (z : Option (List ℕ)). SteadyLink r.servers r.last_act Committing z frame.k (role_in frame.ui.state n) l) (sym a) (now_committing r.servers r.last_act frame.k (role_in frame.ui.state n) l saving (answered_link l e))
+
+asked_away : (phase : Phase) (asked : Option (List ℕ)) → phase ≡ HandingOff → IsAskedIn phase asked → is_some asked ≡ true
+asked_away HandingOff asked e h = h
+asked_away Idle asked e h = cc
+asked_away Saving asked e h = cc
+asked_away Committing asked e h = cc
+asked_away InDoubt asked e h = cc
+
+away_link : (r : Record) (n : ℕ) (link : Option Link) (frame : Frame) → frame.phase ≡ HandingOff → is_some frame.asked ≡ true → is_keeping_link link ≡ false → Held r n link frame → Held r n link (record frame { phase = Committing })
+away_link r n None frame p a e h = tt
+away_link r n (Some l) frame p a e h = now_away r.servers r.last_act frame.asked frame.k (role_in frame.ui.state n) l (subst (λ (q : Phase). SteadyLink r.servers r.last_act q frame.asked frame.k (role_in frame.ui.state n) l) p h) a (away_by l.states.persist.state e)
 
 each_forall : {A I : Type 0} (C : I → Type 0) (R : I → A → Type 0) (xs : List A) → ((i : I) → C i → AllByRecursion (R i) xs) → AllByRecursion (λ x. (i : I) → C i → R i x) xs
 each_forall C R [] k = tt
 each_forall C R (x ∷ xs) k = (λ i c. (k i c).0, each_forall C R xs (λ i c. (k i c).1))
 
--- an object of a frame that waits for nothing has answered
-abbrev Answered : List Object → Object → Type 0
+-- an object of a frame that waits for nothing has answered, or has given its storage away
+abbrev pub Answered : List Object → Object → Type 0
 Answered os o = (f : ℕ) → awaits f os ≡ false → o.frame ≡ f → is_awaited_link o.link ≡ false
 
-settled_object : (r : Record) (o : Object) → SteadyObject r o → Answered r.objects o → SteadyObject (settle r) o
-settled_object r o h a =
+abbrev Away : List Object → Object → Type 0
+Away os o = (f : ℕ) → keeps f os ≡ false → o.frame ≡ f → is_keeping_link o.link ≡ false
+
+pub all_answered : (os : List Object) → AllByRecursion (Answered os) os
+all_answered os = each_forall (λ f. awaits f os ≡ false) (λ f (o : Object). o.frame ≡ f → is_awaited_link o.link ≡ false) os (λ f e. none_awaited f os e)
+
+all_given : (os : List Object) → AllByRecursion (Away os) os
+all_given os = each_forall (λ f. keeps f os ≡ false) (λ f (o : Object). o.frame ≡ f → is_keeping_link o.link ≡ false) os (λ f e. none_keeping f os e)
+
+settled_object : (r : Record) (o : Object) → AllByRecursion SteadyFrame r.frames → SteadyObject r o → Answered r.objects o → Away r.objects o → SteadyObject (settle r) o
+settled_object r o frames h a away =
     let s = some_and (Held r o.number o.link) (nth r.frames o.frame) h.linked in
     record {
       drawn = h.drawn;
@@ -146,16 +176,18 @@ settled_object r o h a =
       user_type = h.user_type;
       linked = and_some (Held r o.number o.link) (nth (settled_frames 1 r.objects r.frames) o.frame) (settled_frame o.frame r.objects s.0) (nth-settled r.objects r.frames o.frame s.0 s.1)
           (if_told (Held r o.number o.link) (is_ready o.frame r.objects s.0) (record s.0 { phase = Committing }) s.0
-          (λ e. let ready = ready_at s.0.phase (awaits o.frame r.objects) e in settled_link r o.number o.link s.0 ready.0 (a o.frame ready.1 refl) s.2)
+          (λ e. elim (ready_at s.0.phase s.0.asked (awaits o.frame r.objects) (keeps o.frame r.objects) e) [
+            | inl named ↦ settled_link r o.number o.link s.0 named.0 named.1 (a o.frame named.2 refl) s.2
+            | inr handed ↦ away_link r o.number o.link s.0 handed.0 (asked_away s.0.phase s.0.asked handed.0 (each_nth SteadyFrame r.frames o.frame s.0 frames s.1).asked) (away o.frame handed.1 refl) s.2
+          ])
           (λ e. s.2));
     }
 
 pub settle_steady : (r : Record) → Steady r → Steady (settle r)
 settle_steady r h = record {
   frames = each_settled SteadyFrame 1 r.objects r.frames (λ n x k. settled_steady n r.objects x k) h.frames;
-  objects = each_weaker (λ o. SteadyObject r o × Answered r.objects o) (SteadyObject (settle r)) r.objects (λ o k. settled_object r o k.0 k.1)
-      (each_both (SteadyObject r) (Answered r.objects) r.objects h.objects
-      (each_forall (λ f. awaits f r.objects ≡ false) (λ f (o : Object). o.frame ≡ f → is_awaited_link o.link ≡ false) r.objects (λ f e. none_awaited f r.objects e)));
+  objects = each_weaker (λ o. SteadyObject r o × (Answered r.objects o × Away r.objects o)) (SteadyObject (settle r)) r.objects (λ o k. settled_object r o h.frames k.0 k.1.0 k.1.1)
+      (each_both (SteadyObject r) (λ o. Answered r.objects o × Away r.objects o) r.objects h.objects (each_both (Answered r.objects) (Away r.objects) r.objects (all_answered r.objects) (all_given r.objects)));
   order = h.order;
   count = h.count;
   grants = λ f frame e. (let y = settled_back r.objects r.frames f frame e in

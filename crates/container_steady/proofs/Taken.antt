@@ -1,6 +1,7 @@
 -- What holds where a command is taken.
 use Rattle.std.proofs.Common.{◌≡◌, ◌<◌, ◌||◌, ◌&&◌, ℕ, ℤ, Bool, true, false, not, List, [], ◌∷◌, length, nat_le, nat_lt, Option, Some, None, is_some, Result, Ok, Err, refl, ◌∙◌, if◌then◌else◌}
 use Rattle.std.proofs.lemmas.Bool.{leb-false}
+use Rattle.std.specs.Str.{bytes_eq}
 use Rattle.wire_msgs.specs.Found.{find, nth}
 use Rattle.object_parts.specs.declared.area.Area.{Area}
 use Rattle.object_state.specs.Verbs.{close_steps, steps, verb_of}
@@ -21,7 +22,7 @@ use Rattle.container_model.specs.Record.{Record, Took, MARGIN, MOST_FRAMES, MOST
 use Rattle.container_model.specs.Commands
 use Rattle.container_model.specs.Located.{located_at, located_in, located, ready}
 use Rattle.container_model.specs.Verbs as verbs
-use Rattle.container_steady.specs.Taken.{CommandsAreTakenSo, IsInserted, IsNew, IsReadyAt, IsRun, IsRunningAt, IsSaved, IsStarted, IsStepped, IsTakenAs, IsVerb, as_close, as_delete, as_edit, as_insert, as_kill, as_new, as_run, as_save, as_start, as_verb, edited, steps_leave, steps_nothing, steps_take}
+use Rattle.container_steady.specs.Taken.{CommandsAreTakenSo, IsInserted, IsNew, IsReadyAt, IsRun, IsRunningAt, IsSaved, IsStarted, IsStepped, IsTakenAs, IsVerb, as_close, as_delete, as_edit, as_insert, as_kill, as_new, as_run, as_save, as_save_as, as_start, as_verb, edited, steps_leave, steps_nothing, steps_take}
 use Rattle.container_steady.proofs.SteadyTells.{or_false, unless_ok}
 use Rattle.container_steady.proofs.SteadyTests.{found_numbered, idle_of, none_of, not_false}
 
@@ -136,8 +137,24 @@ save_taken r f (Some frame) t there e =
     let still = or_false (is_saving frame.phase) (is_moving frame.ui.state) quiet.0 in
     let left = or_false (nat_le r.numbers frame.k) (not (Commands.all_have_numbers f r.numbers r.objects)) c.0 in
     let made = c.1 in
-    let is : Commands.save_made r f frame ≡ t = cc in
+    let is : Commands.save_made r f frame None ≡ t = cc in
     as_save f (record { frame = frame; there = there; idle = idle_of frame.phase a.0 still.0; still = still.1; quiet = quiet.1; numbers = leb-false r.numbers frame.k left.0; calls = not_false (Commands.all_have_numbers f r.numbers r.objects) left.1 }) is
+
+-- SaveAs
+save_as_taken : (r : Record) (f : ℕ) (name : List ℕ) (frame : Option Frame) (t : Took) → nth r.frames f ≡ frame → Commands.save_as_at r f name frame ≡ Ok t → IsTakenAs r t (command.SaveAs f name)
+save_as_taken r f name None t there e = cc
+save_as_taken r f name (Some frame) t there e =
+    let a = unless_ok (is_doubtful frame.phase) Doubtful _ t e in
+    let b = unless_ok (is_saving frame.phase || is_moving frame.ui.state || Commands.any_busy f frame.ui.state r.objects || Commands.is_named_beside f name 1 r.frames) Busy _ t a.1 in
+    let own = unless_ok (bytes_eq frame.name name) WrongState _ t b.1 in
+    let c = unless_ok (nat_le r.numbers frame.k || not (Commands.all_have_numbers f r.numbers r.objects)) NumbersSpent _ t own.1 in
+    let apart = or_false (is_saving frame.phase || is_moving frame.ui.state || Commands.any_busy f frame.ui.state r.objects) (Commands.is_named_beside f name 1 r.frames) b.0 in
+    let quiet = or_false (is_saving frame.phase || is_moving frame.ui.state) (Commands.any_busy f frame.ui.state r.objects) apart.0 in
+    let still = or_false (is_saving frame.phase) (is_moving frame.ui.state) quiet.0 in
+    let left = or_false (nat_le r.numbers frame.k) (not (Commands.all_have_numbers f r.numbers r.objects)) c.0 in
+    let made = c.1 in
+    let is : Commands.save_made r f frame (Some name) ≡ t = cc in
+    as_save_as f name (record { frame = frame; there = there; idle = idle_of frame.phase a.0 still.0; still = still.1; quiet = quiet.1; numbers = leb-false r.numbers frame.k left.0; calls = not_false (Commands.all_have_numbers f r.numbers r.objects) left.1 }) apart.1 own.0 is
 
 -- Delete
 delete_taken : (r : Record) (n : ℕ) (t : Took) → Commands.delete r n ≡ Ok t → IsTakenAs r t (command.Delete n)
@@ -210,6 +227,7 @@ command_taken r command.Start t e = start_taken r t e
 command_taken r (command.Run n inc) t e = run_taken r n inc t e
 command_taken r (command.Edit n bytes) t e = edit_taken r n bytes t e
 command_taken r (command.Save f) t e = save_taken r f (nth r.frames f) t refl e
+command_taken r (command.SaveAs f name) t e = save_as_taken r f name (nth r.frames f) t refl e
 command_taken r (command.Delete n) t e = delete_taken r n t e
 command_taken r (command.Kill inc) t e = kill_taken r inc t e
 command_taken r (command.Close n option) t e = close_taken r n option t e

@@ -4,7 +4,7 @@ use Rattle.std.specs.List.{AllByRecursion}
 use Rattle.wire_msgs.specs.Found.{find, nth}
 use Rattle.wire_msgs.specs.Operations.{op_of}
 use Rattle.wire_msgs.specs.declared.operation.Operation.{Operation}
-use Rattle.wire_msgs.specs.declared.operation.Operation.TheVariants.{InitNew, Load, InPlace, UiActivate, UiDeactivate, InPlaceDeactivate, OpenWindow, Edit, Save, SaveCompleted, SaveDropped, Close}
+use Rattle.wire_msgs.specs.declared.operation.Operation.TheVariants.{InitNew, Load, InPlace, UiActivate, UiDeactivate, InPlaceDeactivate, OpenWindow, Edit, Save, HandsOff, SaveCompleted, SaveDropped, Close}
 use Rattle.object_parts.specs.Limits.{is_within}
 use Rattle.ole_parts.specs.CompObjs.{PAST_USER_TYPE}
 use Rattle.file_model.specs.Refusals.{writable}
@@ -16,6 +16,7 @@ use Rattle.object_state.specs.declared.both_states.States.{States}
 use Rattle.object_state.specs.declared.faults.StateFault.{StateFault}
 use Rattle.object_state.specs.declared.persist_states.PersistState.{PersistState}
 use Rattle.object_state.specs.declared.persist_states.PersistState.TheVariants.{Unset, Normal, NoScribble}
+use Rattle.object_state.specs.declared.persist_states.PersistState.TheVariants as state
 use Rattle.object_state.specs.declared.object_states.ObjectState.{ObjectState}
 use Rattle.object_state.specs.declared.object_states.ObjectState.TheVariants.{Passive, Loaded, InPlaceActive}
 use Rattle.storage_tree.specs.declared.stored.Stored.{Stored}
@@ -23,7 +24,7 @@ use Rattle.container_model.specs.declared.record.Link.{Link}
 use Rattle.container_model.specs.declared.record.Object.{Object}
 use Rattle.container_model.specs.declared.record.Frame.{Frame}
 use Rattle.container_model.specs.declared.record.Phase.{Phase}
-use Rattle.container_model.specs.declared.record.Phase.TheVariants.{Idle, Saving, Committing, InDoubt}
+use Rattle.container_model.specs.declared.record.Phase.TheVariants.{Idle, Saving, HandingOff, Committing, InDoubt}
 use Rattle.container_model.specs.declared.fault.ContainerFault.TheVariants.{Full}
 use Rattle.container_model.specs.Record.{Record, MOST_OBJECTS, count_objects, empty, is_object, is_unreaped}
 use Rattle.container_model.specs.Saves.{document, document_tree, image, is_document, kept, parts_in}
@@ -50,11 +51,18 @@ abbrev pub HasStorage : PersistState → Type 0
 HasStorage Unset = ⊥
 HasStorage state = Unit {0}
 
--- Where a queue ends: with its storage, but for a save that is under way, which is the last one then. While no save is
--- under way it may end with a close, which leaves the object passive.
-abbrev pub storage_in : Phase → PersistState
-storage_in Idle = Normal
-storage_in phase = NoScribble
+-- Where a queue ends: with its storage, but for a save that is under way, which is the last one then; under another name the
+-- storage is given away before the commit. While no save is under way it may end with a close, which leaves the object passive.
+abbrev pub storage_by : Option (List ℕ) → PersistState
+storage_by None = NoScribble
+storage_by (Some name) = state.HandsOff
+
+abbrev pub storage_in : Phase → Option (List ℕ) → PersistState
+storage_in Idle asked = Normal
+storage_in Saving asked = NoScribble
+storage_in HandingOff asked = state.HandsOff
+storage_in Committing asked = storage_by asked
+storage_in InDoubt asked = storage_by asked
 
 abbrev pub IsOfSave : Phase → ℕ → Option ℕ → Type 0
 IsOfSave Idle k last_save = IfSome last_save (λ (j : ℕ). j ≤ k)
@@ -70,8 +78,8 @@ EndsFor (Waiting g) InPlaceActive = Unit {0}
 EndsFor (Waiting g) state = ⊥
 EndsFor role state = Unit {0}
 
-pub record EndsWell (phase : Phase) (k : ℕ) (role : Role) (v : States) : Type 0 where
-  pub storage : v.persist.state ≡ storage_in phase
+pub record EndsWell (phase : Phase) (asked : Option (List ℕ)) (k : ℕ) (role : Role) (v : States) : Type 0 where
+  pub storage : v.persist.state ≡ storage_in phase asked
   pub last_save : IsOfSave phase k v.persist.last_save
   pub running : EndsAs phase v.object
   pub waits : EndsFor role v.object
@@ -97,13 +105,14 @@ abbrev pub WaitsBehind : Option Operation → List Operation → Type 0
 WaitsBehind None waiting = waiting ≡ []
 WaitsBehind (Some op) waiting = Unit {0}
 
--- operations that stand in a queue: a content is asked for only while its frame is saving and until it is answered, and
--- the end of a save is told, and an object closed, only while none is under way; nothing gives storages away yet
+-- operations that stand in a queue: a content is asked for only while its frame is saving and until it is answered, a storage
+-- only while its frame hands off, and the end of a save is told, and an object closed, only while none is under way
 abbrev pub IsTimely : Phase → Option Stored → Operation → Type 0
 IsTimely phase saved (InitNew class) = Unit {0}
 IsTimely phase saved (Load class content) = Unit {0}
 IsTimely phase saved (Edit bytes) = Unit {0}
 IsTimely phase saved (Save k) = (phase ≡ Saving) × (saved ≡ None)
+IsTimely phase saved HandsOff = phase ≡ HandingOff
 IsTimely phase saved (SaveCompleted k storage) = phase ≡ Idle
 IsTimely phase saved (SaveDropped k) = phase ≡ Idle
 IsTimely phase saved (Close option) = phase ≡ Idle
@@ -112,7 +121,6 @@ IsTimely phase saved (UiActivate g) = Unit {0}
 IsTimely phase saved UiDeactivate = Unit {0}
 IsTimely phase saved InPlaceDeactivate = Unit {0}
 IsTimely phase saved OpenWindow = Unit {0}
-IsTimely phase saved op = ⊥
 
 -- contents are answered while a frame is saving, and all are there from then on
 abbrev pub IsSavedIn : Phase → Option Stored → Type 0
@@ -125,15 +133,16 @@ abbrev pub MayBeStored : Option Stored → Type 0
 MayBeStored None = Unit {0}
 MayBeStored (Some content) = is_within content ≡ true
 
--- an activation of an object of a frame in this phase, whose last save has number k, and in whose grant it has this part
-pub record SteadyLink (servers : List Bool) (last_act : ℕ) (phase : Phase) (k : ℕ) (role : Role) (l : Link) : Type 0 where
+-- an activation of an object of a frame in this phase, saved under this other name, if any, whose last save has number k, and in
+-- whose grant it has this part
+pub record SteadyLink (servers : List Bool) (last_act : ℕ) (phase : Phase) (asked : Option (List ℕ)) (k : ℕ) (role : Role) (l : Link) : Type 0 where
   -- its number was drawn, and its server was started and isn't reaped
   pub acts_drawn : l.act ≤ last_act
   pub servers_told : is_unreaped (nth servers l.inc) ≡ true
   pub first_call : AtFirstCall l ⊎ PastFirstCall l.states
   pub waits_behind : WaitsBehind l.pending l.waiting
   -- the tables take the whole queue
-  pub queue_runs : IsOkAnd (ended (Ok l.states) (queue l)) (EndsWell phase k role)
+  pub queue_runs : IsOkAnd (ended (Ok l.states) (queue l)) (EndsWell phase asked k role)
   pub save_in_queue : AllByRecursion (IsTimely phase l.saved) (queue l)
   pub saved_known : IsSavedIn phase l.saved
   -- what it answered may be stored
@@ -147,19 +156,16 @@ pub record SteadyObject (r : Record) (o : Object) : Type 0 where
   pub drawn : o.number ≤ r.last_object
   pub within : is_within o.work ≡ true
   pub user_type : nat_lt (length o.user_type) PAST_USER_TYPE ≡ true
-  pub linked : IsSomeAnd (nth r.frames o.frame) (λ (frame : Frame). IfSome o.link (SteadyLink r.servers r.last_act frame.phase frame.k (role_in frame.ui.state o.number)))
+  pub linked : IsSomeAnd (nth r.frames o.frame) (λ (frame : Frame). IfSome o.link (SteadyLink r.servers r.last_act frame.phase frame.asked frame.k (role_in frame.ui.state o.number)))
 
--- a frame: no save is under another name, and none hands off yet
-abbrev pub IsReached : Phase → Type 0
-IsReached Idle = Unit {0}
-IsReached Saving = Unit {0}
-IsReached Committing = Unit {0}
-IsReached InDoubt = Unit {0}
-IsReached phase = ⊥
+-- a frame: no name is asked for while no save is under way, and one is while it hands off
+abbrev pub IsAskedIn : Phase → Option (List ℕ) → Type 0
+IsAskedIn Idle asked = asked ≡ None
+IsAskedIn HandingOff asked = is_some asked ≡ true
+IsAskedIn phase asked = Unit {0}
 
 pub record SteadyFrame (frame : Frame) : Type 0 where
-  pub asked : frame.asked ≡ None
-  pub phase : IsReached frame.phase
+  pub asked : IsAskedIn frame.phase frame.asked
 
 -- two objects: the first was made before the second, and they have no activation in common
 pub record InOrder (o p : Object) : Type 0 where

@@ -1,5 +1,6 @@
 -- What holds where a command is taken, and what it made: a case a command.
 use Rattle.std.specs.Prelude.{◌≡◌, ◌<◌, ◌&&◌, ℕ, ℤ, Bool, true, false, List, [], ◌∷◌, length, nat_lt, Option, Some, None, Ok}
+use Rattle.std.specs.Str.{bytes_eq}
 use Rattle.wire_msgs.specs.Found.{find, nth}
 use Rattle.wire_msgs.specs.declared.operation.Operation.TheVariants.{Edit}
 use Rattle.object_parts.specs.declared.area.Area.{Area}
@@ -17,7 +18,7 @@ use Rattle.container_model.specs.declared.record.Link.{Link}
 use Rattle.container_model.specs.declared.record.Object.{Object}
 use Rattle.container_model.specs.declared.record.Phase.TheVariants.{Idle}
 use Rattle.container_model.specs.Record.{Record, Took, MARGIN, MOST_FRAMES, MOST_OBJECTS, MOST_SERVERS, acts, ask, count_alive, count_objects, counts_none, has_numbers, is_alive, is_asked, is_claim, is_moving, is_object, quiet_answer, sends, with_object}
-use Rattle.container_model.specs.Commands.{MOST_EDIT, all_have_numbers, any_busy, delete_made, insert_made, is_empty_area, is_known_class, is_named, is_size, kind_of, new_made, on_command, run_made, save_made, start_made}
+use Rattle.container_model.specs.Commands.{MOST_EDIT, all_have_numbers, any_busy, delete_made, insert_made, is_empty_area, is_known_class, is_named, is_named_beside, is_size, kind_of, new_made, on_command, run_made, save_made, start_made}
 use Rattle.container_model.specs.Verbs.{holder_has_numbers, holder_of, leaving_made, takes, taking_made}
 
 -- An object of this number and its frame are there, the frame is idle, and the object neither has a pending call nor waits for
@@ -101,7 +102,8 @@ pub data IsTakenAs (r : Record) (t : Took) : Command → Type 0 where
   as_start : IsStarted r → start_made r ≡ t → IsTakenAs r t command.Start
   as_run : (n inc : ℕ) (at : IsReadyAt r n) → IsRun r at.object inc → run_made r at.object inc ≡ t → IsTakenAs r t (command.Run n inc)
   as_edit : (n : ℕ) (bytes : List ℕ) (go : IsRunningAt r n) → nat_lt MOST_EDIT (length bytes) ≡ false → has_numbers r.numbers go.link ≡ true → edited r go.at.object go.link bytes ≡ t → IsTakenAs r t (command.Edit n bytes)
-  as_save : (f : ℕ) (at : IsSaved r f) → save_made r f at.frame ≡ t → IsTakenAs r t (command.Save f)
+  as_save : (f : ℕ) (at : IsSaved r f) → save_made r f at.frame None ≡ t → IsTakenAs r t (command.Save f)
+  as_save_as : (f : ℕ) (name : List ℕ) (at : IsSaved r f) → is_named_beside f name 1 r.frames ≡ false → bytes_eq at.frame.name name ≡ false → save_made r f at.frame (Some name) ≡ t → IsTakenAs r t (command.SaveAs f name)
   as_delete : (n : ℕ) (at : IsReadyAt r n) → at.object.link ≡ None → delete_made r at.object ≡ t → IsTakenAs r t (command.Delete n)
   as_kill : (inc : ℕ) → is_alive r inc ≡ true → counts_none r (acts (End inc ∷ [])) ≡ t → IsTakenAs r t (command.Kill inc)
   as_close : (n : ℕ) (option : CloseOption) (go : IsRunningAt r n) (ts : List Step) → has_numbers r.numbers go.link ≡ true → close_steps option go.link.states.object ≡ Some ts → leaving_made r go.at.frame go.at.object go.link ts ≡ t → IsTakenAs r t (command.Close n option)

@@ -1,9 +1,12 @@
 pub mod SteadyAnswers
 pub mod SteadyAsks
+pub mod SteadyHandOffs
+pub mod HandedOff
 pub mod SteadyCommands
 pub mod SteadyCommits
 pub mod SteadyFates
 pub mod SteadyMessages
+pub mod SteadyOpens
 pub mod SteadyReaps
 pub mod SteadyReplies
 pub mod SteadyRuns

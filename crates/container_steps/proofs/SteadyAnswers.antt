@@ -1,7 +1,7 @@
 -- Answers keep an activation under its number.
 use Rattle.std.proofs.Common.{◌≡◌, ◌+◌, ℕ, true, List, [], ◌∷◌, Option, Some, None, Result, Ok, Err, refl, sym, ap, ◌∙◌, subst}
 use Rattle.wire_msgs.specs.declared.operation.Operation.{Operation}
-use Rattle.wire_msgs.specs.declared.operation.Operation.TheVariants.{InitNew, Load, InPlace, UiActivate, UiDeactivate, InPlaceDeactivate, OpenWindow, Edit, Save, SaveCompleted, SaveDropped, Close}
+use Rattle.wire_msgs.specs.declared.operation.Operation.TheVariants.{InitNew, Load, InPlace, UiActivate, UiDeactivate, InPlaceDeactivate, OpenWindow, Edit, Save, HandsOff, SaveCompleted, SaveDropped, Close}
 use Rattle.wire_msgs.specs.declared.answer.Answer.{Answer}
 use Rattle.wire_msgs.specs.declared.answer.Answer.TheVariants.{Done, Refused, Content, Tools}
 use Rattle.object_state.specs.Both as both
@@ -87,6 +87,8 @@ replied_keeps l (Edit bytes) (Refused why) = λ m e. (let same : record l { pend
 replied_keeps l (Edit bytes) _ = tt
 replied_keeps l (Save k) (Content content) = saved_keeps l content (done l (Save k)) (done_keeps l (Save k))
 replied_keeps l (Save k) _ = tt
+replied_keeps l HandsOff Done = done_keeps l HandsOff
+replied_keeps l HandsOff _ = tt
 replied_keeps l (SaveCompleted k storage) Done = done_keeps l (SaveCompleted k storage)
 replied_keeps l (SaveDropped k) Done = done_keeps l (SaveDropped k)
 replied_keeps l (SaveCompleted k storage) _ = tt
@@ -95,7 +97,6 @@ replied_keeps l (Close SaveIfDirty) (Content content) = closed_keeps l (Some con
 replied_keeps l (Close SaveIfDirty) _ = tt
 replied_keeps l (Close NoSave) Done = closed_keeps l None (both.step l.states (op_of (Close NoSave)))
 replied_keeps l (Close NoSave) _ = tt
-replied_keeps l _ _ = tt
 
 -- whatever gives a frame up is the activation that was answered for
 abbrev pub GivesItsOwn : Link → Option Tells → Type 0
@@ -149,6 +150,8 @@ replied_own l (Edit bytes) (Refused why) = tt
 replied_own l (Edit bytes) _ = tt
 replied_own l (Save k) (Content content) = saved_own l content l.s (both.step l.states (op_of (Save k)))
 replied_own l (Save k) _ = tt
+replied_own l HandsOff Done = done_own l l.s (both.step l.states (op_of HandsOff))
+replied_own l HandsOff _ = tt
 replied_own l (SaveCompleted k storage) Done = done_own l (l.s + 1) (both.step l.states (op_of (SaveCompleted k storage)))
 replied_own l (SaveDropped k) Done = done_own l (l.s + 1) (both.step l.states (op_of (SaveDropped k)))
 replied_own l (SaveCompleted k storage) _ = tt
@@ -157,7 +160,6 @@ replied_own l (Close SaveIfDirty) (Content content) = closed_own l (Some content
 replied_own l (Close SaveIfDirty) _ = tt
 replied_own l (Close NoSave) Done = closed_own l None (both.step l.states (op_of (Close NoSave)))
 replied_own l (Close NoSave) _ = tt
-replied_own l _ _ = tt
 
 -- an answer is replied to where it has no content past what may be stored
 pub fit_replied : (l : Link) (op : Operation) (answer : Answer) (re : Replied) → replied_fitting l op answer ≡ Ok re → (is_fit answer ≡ true) × (replied l op answer ≡ Ok re)

@@ -24,15 +24,15 @@ module _ (r : Record) (o : Object) (frame : Frame) (l : Link) (s : Steady r) (fo
   pub was : SteadyObject r o
   was = each_found (SteadyObject r) (is_object o.number) r.objects o s.objects found
 
-  pub held_idle : SteadyLink r.servers r.last_act Idle frame.k part l
-  held_idle = subst (λ (p : Phase). SteadyLink r.servers r.last_act p frame.k part l) idle
-      (if_at (SteadyLink r.servers r.last_act frame.phase frame.k part) o.link l is (at_some (Held r o.number o.link) (nth r.frames o.frame) frame at was.linked))
+  pub held_idle : SteadyLink r.servers r.last_act Idle frame.asked frame.k part l
+  held_idle = subst (λ (p : Phase). SteadyLink r.servers r.last_act p frame.asked frame.k part l) idle
+      (if_at (SteadyLink r.servers r.last_act frame.phase frame.asked frame.k part) o.link l is (at_some (Held r o.number o.link) (nth r.frames o.frame) frame at was.linked))
 
   pub free : l.pending ≡ None
   free = none_of l.pending (sym (ap is_asked is) ∙ quiet)
 
   -- the object with its activation asked
-  pub linked_keeps : (m : Link) → m.act ≡ l.act → SteadyLink r.servers r.last_act Idle frame.k part m → Steady (with_object r (record o { link = Some m }))
+  pub linked_keeps : (m : Link) → m.act ≡ l.act → SteadyLink r.servers r.last_act Idle frame.asked frame.k part m → Steady (with_object r (record o { link = Some m }))
   linked_keeps m act h =
       let x : Object = record o { link = Some m } in
       put_steady r (is_object o.number) o x s found
@@ -43,9 +43,9 @@ module _ (r : Record) (o : Object) (frame : Frame) (l : Link) (s : Steady r) (fo
         within = was.within;
         user_type = was.user_type;
         linked = and_some (Held r x.number x.link) (nth r.frames o.frame) frame at
-            (subst (λ (p : Phase). SteadyLink r.servers r.last_act p frame.k part m) (sym idle) h);
+            (subst (λ (p : Phase). SteadyLink r.servers r.last_act p frame.asked frame.k part m) (sym idle) h);
       })
 
   pub edit_keeps : (bytes : List ℕ) → Steady (edited r o l bytes).rec
   edit_keeps bytes = linked_keeps (ask l (Edit bytes)).link (asked_once l (Edit bytes) held_idle.waits_behind).act
-      (edit_asked r.servers r.last_act frame.k part l held_idle free bytes)
+      (edit_asked r.servers r.last_act frame.asked frame.k part l held_idle free bytes)

@@ -32,9 +32,10 @@ use Rattle.container_steady.proofs.SteadyRecords.{if_told, unless_ok, or_false, 
 use Rattle.container_steady.proofs.SteadyTests.{idle_of, not_false, none_of, found_numbered, asked_follows, link_asked}
 use Rattle.container_steady.proofs.SteadyMoves.{set_object, unset_object}
 use Rattle.container_steady.proofs.SteadyClaims.{KeepsLink, LinkStays, append_back, claim_kept, grant_kept, keeps_append, keeps_map, keeps_put, keeps_refl, keeps_without, set_back}
-use Rattle.container_steady.specs.Taken.{IsTakenAs, as_close, as_delete, as_edit, as_insert, as_kill, as_new, as_run, as_save, as_start, as_verb}
+use Rattle.container_steady.specs.Taken.{IsTakenAs, as_close, as_delete, as_edit, as_insert, as_kill, as_new, as_run, as_save, as_save_as, as_start, as_verb}
 use Rattle.container_steady.proofs.Taken.{command_taken}
 use Rattle.container_steps.proofs.SteadyAsks.{edit_keeps}
+use Rattle.container_steps.proofs.SteadyHandOffs.{asked_stays, asked_took, hand_off_in_steady}
 use Rattle.container_steps.proofs.SteadyVerbs.{closing_keeps, stepped_keeps}
 
 -- a new frame
@@ -49,7 +50,7 @@ free_grant r f s e = subst (SteadyGrant r f) (sym e) (record { apart = tt; holde
 same_grants : (r u : Record) (f : ℕ) (s : GrantState) → u.objects ≡ r.objects → r.last_g ≤ u.last_g → SteadyGrant r f s → SteadyGrant u f s
 same_grants r u f s e le h = grant_kept r u f s (λ c names k. claim_kept r u f c (subst (λ (os : List Object). KeepsLink r.objects os c.object) (sym e) (keeps_refl r.objects c.object)) le k) h
 
-frame_steady : (r : Record) (frame : Frame) → Steady r → SteadyFrame frame → frame.ui.state ≡ Free → Steady (record r { frames = r.frames ++ frame ∷ [] })
+pub frame_steady : (r : Record) (frame : Frame) → Steady r → SteadyFrame frame → frame.ui.state ≡ Free → Steady (record r { frames = r.frames ++ frame ∷ [] })
 frame_steady r frame h f free = record {
   frames = each_append SteadyFrame r.frames frame h.frames f;
   objects = each_weaker (SteadyObject r) (SteadyObject (record r { frames = r.frames ++ frame ∷ [] })) r.objects (framed r frame) h.objects;
@@ -65,7 +66,7 @@ frame_steady r frame h f free = record {
 drawn_more : (r : Record) (o a : Object) → SteadyObject r o → SteadyObject (record r { objects = r.objects ++ a ∷ []; last_object = r.last_object + 1 }) o
 drawn_more r o a h = record { drawn = (let d = h.drawn in omega arith); within = h.within; user_type = h.user_type; linked = h.linked }
 
-object_steady : (r : Record) (a : Object) (frame : Frame) → Steady r → a.number ≡ r.last_object + 1 → a.link ≡ None → nth r.frames a.frame ≡ Some frame
+pub object_steady : (r : Record) (a : Object) (frame : Frame) → Steady r → a.number ≡ r.last_object + 1 → a.link ≡ None → nth r.frames a.frame ≡ Some frame
     → is_within a.work ≡ true → nat_lt (length a.user_type) PAST_USER_TYPE ≡ true → count_objects a.frame r.objects < MOST_OBJECTS → Steady (record r { objects = r.objects ++ a ∷ []; last_object = r.last_object + 1 })
 object_steady r a frame s n l f w u room =
     let after : Record = record r { objects = r.objects ++ a ∷ []; last_object = r.last_object + 1 } in
@@ -95,8 +96,8 @@ still_unreaped servers zero e = absurd (cc)
 still_unreaped servers (suc i) e = get_unreaped servers i e
 
 started_link : (r : Record) (n : ℕ) (link : Option Link) (frame : Frame) → HeldIn r n link frame → HeldIn (record r { servers = r.servers ++ false ∷ [] }) n link frame
-started_link r n link frame h = if_weaker (SteadyLink r.servers r.last_act frame.phase frame.k (role_in frame.ui.state n)) (SteadyLink (r.servers ++ false ∷ []) r.last_act frame.phase frame.k (role_in frame.ui.state n)) link
-    (λ l k. link_moved r.servers (r.servers ++ false ∷ []) r.last_act r.last_act frame.phase frame.k (role_in frame.ui.state n) l k.acts_drawn (still_unreaped r.servers l.inc k.servers_told) k) h
+started_link r n link frame h = if_weaker (SteadyLink r.servers r.last_act frame.phase frame.asked frame.k (role_in frame.ui.state n)) (SteadyLink (r.servers ++ false ∷ []) r.last_act frame.phase frame.asked frame.k (role_in frame.ui.state n)) link
+    (λ l k. link_moved r.servers (r.servers ++ false ∷ []) r.last_act r.last_act frame.phase frame.asked frame.k (role_in frame.ui.state n) l k.acts_drawn (still_unreaped r.servers l.inc k.servers_told) k) h
 
 -- objects whose links were moved
 pub moved_object : (r u : Record) (o : Object) → u.frames ≡ r.frames → r.last_object ≤ u.last_object → ((frame : Frame) → HeldIn r o.number o.link frame → HeldIn u o.number o.link frame) → SteadyObject r o → SteadyObject u o
@@ -140,8 +141,8 @@ pub passive_out : (r : Record) (x : Object) → Steady r → find (is_object x.n
 passive_out r x s found none frame at = out_of r x.frame frame.ui.state x (s.grants x.frame frame at) found none
 
 -- a passive object begins
-begun_by : (servers : List Bool) (last_act k inc act : ℕ) (op : Operation) → act ≤ last_act → is_unreaped (nth servers inc) ≡ true → IsBeginning op → IsOkAnd (ended (Ok both.loaded) (op ∷ [])) (EndsWell Idle k Other) → IsTimely Idle None op → IsPlain op → SteadyLink servers last_act Idle k Other (Commands.begun_link inc act op)
-begun_by servers last_act k inc act op a s b runs timely plain = record {
+begun_by : (servers : List Bool) (last_act : ℕ) (asked : Option (List ℕ)) (k inc act : ℕ) (op : Operation) → act ≤ last_act → is_unreaped (nth servers inc) ≡ true → IsBeginning op → IsOkAnd (ended (Ok both.loaded) (op ∷ [])) (EndsWell Idle asked k Other) → IsTimely Idle None op → IsPlain op → SteadyLink servers last_act Idle asked k Other (Commands.begun_link inc act op)
+begun_by servers last_act asked k inc act op a s b runs timely plain = record {
   acts_drawn = a;
   servers_told = s;
   first_call = inl (record { states = refl; last = refl; alone = refl; pending = b });
@@ -154,10 +155,10 @@ begun_by servers last_act k inc act op a s b runs timely plain = record {
   plays = (plain, tt);
 }
 
-begun_steady : (servers : List Bool) (last_act k inc act : ℕ) (op : Operation) → act ≤ last_act → is_unreaped (nth servers inc) ≡ true → IsBeginning op → SteadyLink servers last_act Idle k Other (Commands.begun_link inc act op)
-begun_steady servers last_act k inc act (InitNew class) a s b = begun_by servers last_act k inc act (InitNew class) a s b (record { storage = refl; last_save = tt; running = tt; waits = tt }) tt tt
-begun_steady servers last_act k inc act (Load class content) a s b = begun_by servers last_act k inc act (Load class content) a s b (record { storage = refl; last_save = tt; running = tt; waits = tt }) tt tt
-begun_steady servers last_act k inc act _ a s b = absurd b
+begun_steady : (servers : List Bool) (last_act : ℕ) (asked : Option (List ℕ)) (k inc act : ℕ) (op : Operation) → act ≤ last_act → is_unreaped (nth servers inc) ≡ true → IsBeginning op → SteadyLink servers last_act Idle asked k Other (Commands.begun_link inc act op)
+begun_steady servers last_act asked k inc act (InitNew class) a s b = begun_by servers last_act asked k inc act (InitNew class) a s b (record { storage = refl; last_save = tt; running = tt; waits = tt }) tt tt
+begun_steady servers last_act asked k inc act (Load class content) a s b = begun_by servers last_act asked k inc act (Load class content) a s b (record { storage = refl; last_save = tt; running = tt; waits = tt }) tt tt
+begun_steady servers last_act asked k inc act _ a s b = absurd b
 
 pub first_begins : (o : Object) (streams : List NamedStream) → IsBeginning (Commands.first_operation o streams)
 first_begins o [] = tt
@@ -166,7 +167,7 @@ first_begins o (s ∷ ss) = tt
 old_act : (r : Record) (o : Object) → SteadyObject r o → IfSome o.link (λ (l : Link). l.act ≤ r.last_act)
 old_act r o h =
     let s = some_and (HeldIn r o.number o.link) (nth r.frames o.frame) h.linked in
-    if_weaker (SteadyLink r.servers r.last_act s.0.phase s.0.k (role_in s.0.ui.state o.number)) (λ (l : Link). l.act ≤ r.last_act) o.link (λ l k. k.acts_drawn) s.2
+    if_weaker (SteadyLink r.servers r.last_act s.0.phase s.0.asked s.0.k (role_in s.0.ui.state o.number)) (λ (l : Link). l.act ≤ r.last_act) o.link (λ l k. k.acts_drawn) s.2
 
 module _ (r : Record) (o : Object) (inc : ℕ) (op : Operation) (frame : Frame) (s : Steady r) (found : find (is_object o.number) r.objects ≡ Some o) (alive : is_alive r inc ≡ true) (begins : IsBeginning op) (at : nth r.frames o.frame ≡ Some frame) (idle : frame.phase ≡ Idle) (passive : o.link ≡ None) where
   abbrev begun : Object
@@ -177,8 +178,8 @@ module _ (r : Record) (o : Object) (inc : ℕ) (op : Operation) (frame : Frame) 
 
   raised : (x : Object) → SteadyObject r x → SteadyObject after x
   raised x h = moved_object r after x refl (omega arith)
-      (λ f held. if_weaker (SteadyLink r.servers r.last_act f.phase f.k (role_in f.ui.state x.number)) (SteadyLink r.servers (r.last_act + 1) f.phase f.k (role_in f.ui.state x.number)) x.link
-      (λ l k. link_moved r.servers r.servers r.last_act (r.last_act + 1) f.phase f.k (role_in f.ui.state x.number) l (let a = k.acts_drawn in omega arith) k.servers_told k) held) h
+      (λ f held. if_weaker (SteadyLink r.servers r.last_act f.phase f.asked f.k (role_in f.ui.state x.number)) (SteadyLink r.servers (r.last_act + 1) f.phase f.asked f.k (role_in f.ui.state x.number)) x.link
+      (λ l k. link_moved r.servers r.servers r.last_act (r.last_act + 1) f.phase f.asked f.k (role_in f.ui.state x.number) l (let a = k.acts_drawn in omega arith) k.servers_told k) held) h
 
   here : SteadyObject after begun
   here =
@@ -188,9 +189,9 @@ module _ (r : Record) (o : Object) (inc : ℕ) (op : Operation) (frame : Frame) 
         within = was.within;
         user_type = was.user_type;
         linked = and_some (HeldIn after begun.number begun.link) (nth r.frames o.frame) frame at
-            (subst (λ (p : Phase). SteadyLink r.servers (r.last_act + 1) p frame.k (role_in frame.ui.state o.number) (Commands.begun_link inc (r.last_act + 1) op)) (sym idle)
-            (subst (λ (role : Role). SteadyLink r.servers (r.last_act + 1) Idle frame.k role (Commands.begun_link inc (r.last_act + 1) op)) (sym (passive_out r o s found passive frame at))
-            (begun_steady r.servers (r.last_act + 1) frame.k inc (r.last_act + 1) op (omega arith) alive begins)));
+            (subst (λ (p : Phase). SteadyLink r.servers (r.last_act + 1) p frame.asked frame.k (role_in frame.ui.state o.number) (Commands.begun_link inc (r.last_act + 1) op)) (sym idle)
+            (subst (λ (role : Role). SteadyLink r.servers (r.last_act + 1) Idle frame.asked frame.k role (Commands.begun_link inc (r.last_act + 1) op)) (sym (passive_out r o s found passive frame at))
+            (begun_steady r.servers (r.last_act + 1) frame.asked frame.k inc (r.last_act + 1) op (omega arith) alive begins)));
       }
 
   pub run_steady : Steady after
@@ -206,32 +207,21 @@ module _ (r : Record) (o : Object) (inc : ℕ) (op : Operation) (frame : Frame) 
   }
 
 -- a save begins
-asked_object_frame : (f : ℕ) (op : Operation) (o : Object) → (asked_object f op o).frame ≡ o.frame
-asked_object_frame f op o = if_told (λ (z : Object). z.frame ≡ o.frame) (o.frame == f) (record o { link = asked_link op o.link }) o (λ e. refl) (λ e. refl)
+save_held : (servers : List Bool) (last_act : ℕ) (asked name : Option (List ℕ)) (k j : ℕ) (role : Role) (phase : Phase) (link : Option Link) → phase ≡ Idle → is_asked link ≡ false → IfSome link (SteadyLink servers last_act phase asked k role) → IfSome (asked_link (Save j) link) (SteadyLink servers last_act Saving name j role)
+save_held servers last_act asked name k j role phase None p q h = tt
+save_held servers last_act asked name k j role phase (Some l) p q h = save_asked servers last_act asked k role l (subst (λ (z : Phase). SteadyLink servers last_act z asked k role l) p h) (none_of l.pending q) name j
 
-pub asked_took : (f : ℕ) (op : Operation) (o : Object) → TookPlace (asked_object f op o) o
-asked_took f op o = if_told (λ (z : Object). TookPlace z o) (o.frame == f) (record o { link = asked_link op o.link }) o
-    (λ e. record { number = refl; frame = refl; link = asked_follows op o.link })
-    (λ e. record { number = refl; frame = refl; link = λ l g. (l, g, refl) })
-
-pub asked_stays : (f : ℕ) (op : Operation) (o : Object) → LinkStays o.link (asked_object f op o).link
-asked_stays f op o = if_told (λ (z : Object). LinkStays o.link z.link) (o.frame == f) (record o { link = asked_link op o.link }) o (λ e. link_asked op o.link) (λ e l g. (l, g, refl))
-
-save_held : (servers : List Bool) (last_act k j : ℕ) (role : Role) (phase : Phase) (link : Option Link) → phase ≡ Idle → is_asked link ≡ false → IfSome link (SteadyLink servers last_act phase k role) → IfSome (asked_link (Save j) link) (SteadyLink servers last_act Saving j role)
-save_held servers last_act k j role phase None p q h = tt
-save_held servers last_act k j role phase (Some l) p q h = save_asked servers last_act k role l (subst (λ (z : Phase). SteadyLink servers last_act z k role l) p h) (none_of l.pending q) j
-
-module _ (r : Record) (f : ℕ) (frame : Frame) (s : Steady r) (at : nth r.frames f ≡ Some frame) (idle : frame.phase ≡ Idle) (state : GrantState) (quiet : Commands.any_busy f state r.objects ≡ false) where
+module _ (r : Record) (f : ℕ) (frame : Frame) (s : Steady r) (at : nth r.frames f ≡ Some frame) (idle : frame.phase ≡ Idle) (name : Option (List ℕ)) (state : GrantState) (quiet : Commands.any_busy f state r.objects ≡ false) where
   abbrev saving_now : Record
-  saving_now = Commands.saving r f frame
+  saving_now = Commands.saving r f frame name
 
   saved_object : (o : Object) → SteadyObject r o → (o.frame ≡ f → is_busy state o ≡ false) → SteadyObject saving_now (asked_object f (Save (frame.k + 1)) o)
   saved_object o h q = if_told (SteadyObject saving_now) (o.frame == f) (record o { link = asked_link (Save (frame.k + 1)) o.link }) o
       (λ e. let here = eqb-true o.frame f e in
       let still = or_false (is_asked o.link) (is_claim o.number (waiting state)) (q here) in
-      set_object r saving_now f frame (Commands.saving_frame frame) o (record o { link = asked_link (Save (frame.k + 1)) o.link }) at refl here refl refl refl h.within refl h
-      (save_held r.servers r.last_act frame.k (frame.k + 1) (role_in frame.ui.state o.number) frame.phase o.link idle still.0))
-      (λ e. unset_object r saving_now f (Commands.saving_frame frame) o refl (eqb-false o.frame f e) refl refl refl h)
+      set_object r saving_now f frame (Commands.saving_frame name frame) o (record o { link = asked_link (Save (frame.k + 1)) o.link }) at refl here refl refl refl h.within refl h
+      (save_held r.servers r.last_act frame.asked name frame.k (frame.k + 1) (role_in frame.ui.state o.number) frame.phase o.link idle still.0))
+      (λ e. unset_object r saving_now f (Commands.saving_frame name frame) o refl (eqb-false o.frame f e) refl refl refl h)
 
   grants_stay : (i : ℕ) (x : GrantState) → SteadyGrant r i x → SteadyGrant saving_now i x
   grants_stay i x h = grant_kept r saving_now i x (λ c names k. claim_kept r saving_now i c
@@ -239,12 +229,12 @@ module _ (r : Record) (f : ℕ) (frame : Frame) (s : Steady r) (at : nth r.frame
 
   pub saving_steady : Steady saving_now
   saving_steady = record {
-    frames = each_set SteadyFrame r.frames f (Commands.saving_frame frame) s.frames (record { asked = (each_nth SteadyFrame r.frames f frame s.frames at).asked; phase = tt });
+    frames = each_set SteadyFrame r.frames f (Commands.saving_frame name frame) s.frames (record { asked = tt });
     objects = each_map (λ o. SteadyObject r o × (o.frame ≡ f → is_busy state o ≡ false)) (SteadyObject saving_now) (asked_object f (Save (frame.k + 1))) r.objects (λ o k. saved_object o k.0 k.1)
         (each_both (SteadyObject r) (λ (o : Object). o.frame ≡ f → is_busy state o ≡ false) r.objects s.objects (none_busy f state r.objects quiet));
     order = pairs_map InOrder (asked_object f (Save (frame.k + 1))) r.objects (order_both (asked_object f (Save (frame.k + 1))) (asked_took f (Save (frame.k + 1)))) s.order;
     count = λ g. subst (λ (n : ℕ). n ≤ MOST_OBJECTS) (sym (count_map g (asked_object f (Save (frame.k + 1))) r.objects (λ o. (asked_took f (Save (frame.k + 1)) o).frame))) (s.count g);
-    grants = λ i x e. elim (set_back r.frames f i frame (Commands.saving_frame frame) x at e) [
+    grants = λ i x e. elim (set_back r.frames f i frame (Commands.saving_frame name frame) x at e) [
       | inl same ↦ subst (λ (y : Frame). SteadyGrant saving_now i y.ui.state) same.1 (subst (λ (n : ℕ). SteadyGrant saving_now n frame.ui.state) same.0 (grants_stay f frame.ui.state (s.grants f frame at)))
       | inr other ↦ grants_stay i x.ui.state (s.grants i x other)
     ];
@@ -264,14 +254,15 @@ deleted_steady r o s found passive =
 
 -- each command keeps a record steady
 taken_keeps : (r : Record) (c : Command) (t : Took) → Steady r → IsTakenAs r t c → Steady t.rec
-taken_keeps r _ t s (as_new name w h new made) = subst (λ (z : Took). Steady z.rec) made (frame_steady r (Commands.new_frame name w h) s (record { asked = refl; phase = tt }) refl)
+taken_keeps r _ t s (as_new name w h new made) = subst (λ (z : Took). Steady z.rec) made (frame_steady r (Commands.new_frame name w h) s (record { asked = refl }) refl)
 taken_keeps r _ t s (as_insert f kind area at made) = subst (λ (z : Took). Steady z.rec) made
     (object_steady r (Commands.new_object (r.last_object + 1) f (Commands.kind_of kind) area) at.frame s refl refl at.there refl (user_type_fits (Commands.kind_of kind)) at.few)
 taken_keeps r _ t s (as_start started made) = subst (λ (z : Took). Steady z.rec) made (start_steady r s)
 taken_keeps r _ t s (as_run n inc at run made) = subst (λ (z : Took). Steady z.rec) made
     (run_steady r at.object inc (Commands.first_operation at.object at.object.work.streams) at.frame s at.own run.alive (first_begins at.object at.object.work.streams) at.inside at.idle run.passive)
 taken_keeps r _ t s (as_edit n bytes go small has made) = subst (λ (z : Took). Steady z.rec) made (edit_keeps r go.at.object go.at.frame go.link s go.at.own go.at.inside go.at.idle go.at.quiet go.linked bytes)
-taken_keeps r _ t s (as_save f at made) = subst (λ (z : Took). Steady z.rec) made (settle_steady (Commands.saving r f at.frame) (saving_steady r f at.frame s at.there at.idle at.frame.ui.state at.quiet))
+taken_keeps r _ t s (as_save f at made) = subst (λ (z : Took). Steady z.rec) made (settle_steady (Commands.saving_on r f at.frame None).rec (hand_off_in_steady (Commands.saving r f at.frame None) f (saving_steady r f at.frame s at.there at.idle None at.frame.ui.state at.quiet)))
+taken_keeps r _ t s (as_save_as f name at apart own made) = subst (λ (z : Took). Steady z.rec) made (settle_steady (Commands.saving_on r f at.frame (Some name)).rec (hand_off_in_steady (Commands.saving r f at.frame (Some name)) f (saving_steady r f at.frame s at.there at.idle (Some name) at.frame.ui.state at.quiet)))
 taken_keeps r _ t s (as_delete n at passive made) = subst (λ (z : Took). Steady z.rec) made (deleted_steady r at.object s at.own passive)
 taken_keeps r _ t s (as_kill inc alive made) = subst (λ (z : Took). Steady z.rec) made s
 taken_keeps r _ t s (as_close n option go ts has row made) = subst (λ (z : Took). Steady z.rec) made

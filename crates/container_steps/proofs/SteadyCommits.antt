@@ -28,11 +28,11 @@ use Rattle.container_steady.proofs.SteadyMoves.{set_object, unset_object}
 use Rattle.container_steady.proofs.SteadyTests.{asked_follows, link_asked}
 
 -- an object of the frame is told
-cleared_held : (servers : List Bool) (last_act k : ℕ) (role : Role) (op : Operation) (phase : Phase) (link : Option Link)
-    → ((l : Link) → SteadyLink servers last_act phase k role l → SteadyLink servers last_act Idle k role (ask (record l { saved = None }) op).link)
-    → IfSome link (SteadyLink servers last_act phase k role) → IfSome (asked_link op (cleared link)) (SteadyLink servers last_act Idle k role)
-cleared_held servers last_act k role op phase None asks h = tt
-cleared_held servers last_act k role op phase (Some l) asks h = asks l h
+cleared_held : (servers : List Bool) (last_act : ℕ) (asked : Option (List ℕ)) (k : ℕ) (role : Role) (op : Operation) (phase : Phase) (link : Option Link)
+    → ((l : Link) → SteadyLink servers last_act phase asked k role l → SteadyLink servers last_act Idle None k role (ask (record l { saved = None }) op).link)
+    → IfSome link (SteadyLink servers last_act phase asked k role) → IfSome (asked_link op (cleared link)) (SteadyLink servers last_act Idle None k role)
+cleared_held servers last_act asked k role op phase None asks h = tt
+cleared_held servers last_act asked k role op phase (Some l) asks h = asks l h
 
 cleared_follows : (op : Operation) (link : Option Link) → Follows (asked_link op (cleared link)) link
 cleared_follows op None l e = cc
@@ -51,7 +51,7 @@ IsTold f op work told = (P : Object → Type 0) (o : Object) → (o.frame ≡ f 
 
 module _ (r : Record) (f : ℕ) (frame : Frame) (name : List ℕ) (stored : Bool) (op : Operation) (work : Object → Stored) (told : Object → Object) (s : Steady r) (at : nth r.frames f ≡ Some frame) (told_if : IsTold f op work told)
     (within : (o : Object) → SteadyObject r o → o.frame ≡ f → is_within (work o) ≡ true)
-    (asks : (role : Role) (l : Link) → SteadyLink r.servers r.last_act frame.phase frame.k role l → SteadyLink r.servers r.last_act Idle frame.k role (ask (record l { saved = None }) op).link) where
+    (asks : (role : Role) (l : Link) → SteadyLink r.servers r.last_act frame.phase frame.asked frame.k role l → SteadyLink r.servers r.last_act Idle None frame.k role (ask (record l { saved = None }) op).link) where
   abbrev after : Record
   after = record r { frames = set_nth r.frames f (ended_frame frame name stored); objects = map told r.objects }
 
@@ -63,7 +63,7 @@ module _ (r : Record) (f : ℕ) (frame : Frame) (name : List ℕ) (stored : Bool
   told_steady : (o : Object) → SteadyObject r o → SteadyObject after (told o)
   told_steady o h = told_if (SteadyObject after) o
       (λ here. set_object r after f frame (ended_frame frame name stored) o (record o { work = work o; link = asked_link op (cleared o.link) }) at refl here refl refl refl (within o h here) refl h
-      (cleared_held r.servers r.last_act frame.k (role_in frame.ui.state o.number) op frame.phase o.link (asks (role_in frame.ui.state o.number))))
+      (cleared_held r.servers r.last_act frame.asked frame.k (role_in frame.ui.state o.number) op frame.phase o.link (asks (role_in frame.ui.state o.number))))
       (λ other. unset_object r after f (ended_frame frame name stored) o refl other refl refl refl h)
 
   told_stays : (o : Object) → LinkStays o.link (told o).link
@@ -75,7 +75,7 @@ module _ (r : Record) (f : ℕ) (frame : Frame) (name : List ℕ) (stored : Bool
 
   ended_steady : Steady after
   ended_steady = record {
-    frames = each_set SteadyFrame r.frames f (ended_frame frame name stored) s.frames (record { asked = refl; phase = tt });
+    frames = each_set SteadyFrame r.frames f (ended_frame frame name stored) s.frames (record { asked = refl });
     objects = each_map (SteadyObject r) (SteadyObject after) told r.objects told_steady s.objects;
     order = pairs_map InOrder told r.objects (order_both told told_took) s.order;
     count = λ g. subst (λ (n : ℕ). n ≤ MOST_OBJECTS) (sym (count_map g told r.objects (λ o. (told_took o).frame))) (s.count g);
@@ -86,9 +86,9 @@ module _ (r : Record) (f : ℕ) (frame : Frame) (name : List ℕ) (stored : Bool
   }
 
 -- an activation of a frame whose commit is asked or in doubt is as while it is asked
-unsettled : (servers : List Bool) (last_act k : ℕ) (role : Role) (phase : Phase) (l : Link) → IsUnsettled phase → SteadyLink servers last_act phase k role l → SteadyLink servers last_act Committing k role l
-unsettled servers last_act k role phase l (inl e) h = subst (λ (z : Phase). SteadyLink servers last_act z k role l) e h
-unsettled servers last_act k role phase l (inr e) h = undoubted servers last_act k role l (subst (λ (z : Phase). SteadyLink servers last_act z k role l) e h)
+unsettled : (servers : List Bool) (last_act : ℕ) (asked : Option (List ℕ)) (k : ℕ) (role : Role) (phase : Phase) (l : Link) → IsUnsettled phase → SteadyLink servers last_act phase asked k role l → SteadyLink servers last_act Committing asked k role l
+unsettled servers last_act asked k role phase l (inl e) h = subst (λ (z : Phase). SteadyLink servers last_act z asked k role l) e h
+unsettled servers last_act asked k role phase l (inr e) h = undoubted servers last_act asked k role l (subst (λ (z : Phase). SteadyLink servers last_act z asked k role l) e h)
 
 module _ (r : Record) (f : ℕ) (frame : Frame) (s : Steady r) (at : nth r.frames f ≡ Some frame) where
   -- it is counted
@@ -96,23 +96,23 @@ module _ (r : Record) (f : ℕ) (frame : Frame) (s : Steady r) (at : nth r.frame
   commit_steady e = ended_steady r f frame (name_after frame.name frame.asked) true (completion frame) kept (completed f frame) s at
       (λ P o. completed_if P f frame o)
       (λ o h here. kept_object_within r o frame h.within (at_some (Held r o.number o.link) (nth r.frames o.frame) frame (ap (nth r.frames) here ∙ at) h.linked))
-      (λ role l h. completion_asked r.servers r.last_act frame.k role (is_some_name frame.asked) l (unsettled r.servers r.last_act frame.k role frame.phase l e h))
+      (λ role l h. completion_asked r.servers r.last_act frame.asked frame.k role l (unsettled r.servers r.last_act frame.asked frame.k role frame.phase l e h))
 
   -- it is dropped
   pub drop_steady : frame.phase ≡ InDoubt → Steady (save_dropped r f frame).rec
   drop_steady e = ended_steady r f frame frame.name frame.stored (SaveDropped frame.k) (λ o. o.work) (dropped_object f frame) s at
       (λ P o. dropped_if P f frame o)
       (λ o h here. h.within)
-      (λ role l h. drop_asked r.servers r.last_act frame.k role l (subst (λ (z : Phase). SteadyLink r.servers r.last_act z frame.k role l) e h))
+      (λ role l h. drop_asked r.servers r.last_act frame.asked frame.k role l (subst (λ (z : Phase). SteadyLink r.servers r.last_act z frame.asked frame.k role l) e h))
 
   -- it is in doubt
   module _ (committing : frame.phase ≡ Committing) where
     abbrev doubted : Record
     doubted = (commit_doubted r f frame).rec
 
-    doubted_held : (role : Role) (link : Option Link) → IfSome link (SteadyLink r.servers r.last_act frame.phase frame.k role) → IfSome link (SteadyLink r.servers r.last_act InDoubt frame.k role)
+    doubted_held : (role : Role) (link : Option Link) → IfSome link (SteadyLink r.servers r.last_act frame.phase frame.asked frame.k role) → IfSome link (SteadyLink r.servers r.last_act InDoubt frame.asked frame.k role)
     doubted_held role None h = tt
-    doubted_held role (Some l) h = now_doubtful r.servers r.last_act frame.k role l (subst (λ (z : Phase). SteadyLink r.servers r.last_act z frame.k role l) committing h)
+    doubted_held role (Some l) h = now_doubtful r.servers r.last_act frame.asked frame.k role l (subst (λ (z : Phase). SteadyLink r.servers r.last_act z frame.asked frame.k role l) committing h)
 
     doubted_object : (o : Object) → SteadyObject r o → SteadyObject doubted o
     doubted_object o h = elim (o.frame == f) as (λ b. (o.frame == f) ≡ b → SteadyObject doubted o) [
@@ -125,7 +125,7 @@ module _ (r : Record) (f : ℕ) (frame : Frame) (s : Steady r) (at : nth r.frame
 
     pub doubt_steady : Steady doubted
     doubt_steady = record {
-      frames = each_set SteadyFrame r.frames f (doubted_frame frame) s.frames (record { asked = (each_nth SteadyFrame r.frames f frame s.frames at).asked; phase = tt });
+      frames = each_set SteadyFrame r.frames f (doubted_frame frame) s.frames (record { asked = tt });
       objects = each_weaker (SteadyObject r) (SteadyObject doubted) r.objects doubted_object s.objects;
       order = s.order;
       count = s.count;

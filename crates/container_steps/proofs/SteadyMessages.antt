@@ -25,10 +25,11 @@ use Rattle.container_model.specs.declared.record.Frame.{Frame}
 use Rattle.container_model.specs.declared.record.Phase.{Phase}
 use Rattle.container_model.specs.declared.fault.ContainerFault.{ContainerFault}
 use Rattle.container_model.specs.declared.fault.ContainerFault.TheVariants.{WrongLink, Stale, BadAnswer}
-use Rattle.container_model.specs.Grants.{event_of, grant_each, grant_of, is_by, moved, passed_to, regranted, regranted_by, regranted_in, requested}
+use Rattle.container_model.specs.HandOffs.{hand_off_in, is_answered, unasked}
+use Rattle.container_model.specs.Grants.{Requested, event_of, grant_each, grant_of, is_by, moved, passed_to, regranted, regranted_by, regranted_in, requested}
 use Rattle.container_model.specs.Record.{Record, Took, asked_link, is_alive, is_link, is_linked, is_object, is_unreaped, with_object}
 use Rattle.container_model.specs.Saves.{settle}
-use Rattle.container_model.specs.Messages.{Replied, ask_found, ask_framed, is_held_by, is_open_to, next_link, on_ask, on_write, relieved, replied, replied_fitting, replied_grant, replied_object, write_found, write_link, write_made, written_object, replied_record, reply_pending, reply_link, reply_taken, reply_found, on_reply, on_message}
+use Rattle.container_model.specs.Messages.{Replied, ask_found, ask_framed, is_held_by, is_open_to, next_link, on_ask, on_write, relieved, replied, replied_fitting, replied_grant, replied_saving, replied_object, write_found, write_link, write_made, written_object, replied_record, reply_pending, reply_link, reply_taken, reply_found, on_reply, on_message}
 use Rattle.container_steady.specs.Roles.{IsClaim, Getting, Giving, Holding, Other, Role, SteadyGrant, Waiting, role_in}
 use Rattle.container_steady.specs.Steady.{SteadyLink, SteadyObject, Steady}
 use Rattle.container_steps.specs.Steps.{FittingAnswersTaken}
@@ -40,6 +41,7 @@ use Rattle.container_steady.proofs.SteadyLinks.{end_asked, grant_asked}
 use Rattle.container_steady.proofs.SteadyLookups.{each_found}
 use Rattle.container_steady.proofs.SteadyMoves.{But, SteadyBut, all_steady, gets_it, gives_it, has_it, move_but, moved_to, parts_freed, parts_got, parts_passed, put_but, set_object, waits_for_it}
 use Rattle.container_steady.proofs.SteadyRecords.{if_told, some_and, and_some, if_at, Held, IsOut, kept_within, Follows, TookPlace, put_steady, settle_steady}
+use Rattle.container_steps.proofs.SteadyHandOffs.{hand_off_in_steady}
 use Rattle.container_steps.proofs.SteadyReplies.{EndsOther, IsToldBy, Stays, fits_is_fit, fitting_taken, replied_goes, role_after}
 use Rattle.container_steady.proofs.SteadyRoles.{AtGranting, AtRevoking, getting_at, giving_at}
 use Rattle.container_steps.proofs.SteadyTaking.{asked_object_steady}
@@ -53,15 +55,15 @@ module _ (r : Record) (frame : Frame) (n : ℕ) where
   role = role_in frame.ui.state n
 
   pub record AnswersSteadily (before : Option Link) (re : Replied) : Type 0 where
-    pub stays : Stays r.servers r.last_act frame.phase frame.k role re
+    pub stays : Stays r.servers r.last_act frame.phase frame.asked frame.k role re
     pub follows : Follows re.link before
     pub own : IfSome before (λ (l : Link). GivesItsOwn l re.grant)
 
-  pending_goes : (l : Link) (number : ℕ) (answer : Answer) (p : Option Operation) (re : Replied) → SteadyLink r.servers r.last_act frame.phase frame.k role l → l.pending ≡ p → reply_pending l number answer p ≡ Ok re → AnswersSteadily (Some l) re
+  pending_goes : (l : Link) (number : ℕ) (answer : Answer) (p : Option Operation) (re : Replied) → SteadyLink r.servers r.last_act frame.phase frame.asked frame.k role l → l.pending ≡ p → reply_pending l number answer p ≡ Ok re → AnswersSteadily (Some l) re
   pending_goes l number answer None re h e g = cc
   pending_goes l number answer (Some op) re h e g = if_told (λ (z : Result Replied ContainerFault). z ≡ Ok re → AnswersSteadily (Some l) re) (number == l.last) (replied_fitting l op answer) (Err Stale)
       (λ t q. let f = fit_replied l op answer re q in
-      record { stays = replied_goes r.servers r.last_act frame.phase frame.k role l h op answer re e f.0 f.1; follows = subst (Keeps l) f.1 (replied_keeps l op answer); own = subst (OwnGiven l) f.1 (replied_own l op answer) })
+      record { stays = replied_goes r.servers r.last_act frame.phase frame.asked frame.k role l h op answer re e f.0 f.1; follows = subst (Keeps l) f.1 (replied_keeps l op answer); own = subst (OwnGiven l) f.1 (replied_own l op answer) })
       (λ t q. cc) g
 
   pub link_goes : (number : ℕ) (answer : Answer) (link : Option Link) (re : Replied) → Held r n link frame → reply_link number answer link ≡ Ok re → AnswersSteadily link re
@@ -121,7 +123,7 @@ module _ (r : Record) (inc act : ℕ) (o : Object) (re : Replied) (frame : Frame
         within = within;
         user_type = was.user_type;
         linked = and_some (Held r x.number x.link) (nth r.frames o.frame) frame at
-            (subst (λ (g : Option Tells). IfSome (next_link re.link) (SteadyLink r.servers r.last_act frame.phase frame.k (role_after g (role_in frame.ui.state o.number)))) e goes.stays.held);
+            (subst (λ (g : Option Tells). IfSome (next_link re.link) (SteadyLink r.servers r.last_act frame.phase frame.asked frame.k (role_after g (role_in frame.ui.state o.number)))) e goes.stays.held);
       })
 
   -- the object takes its place under the part that it has now
@@ -135,8 +137,8 @@ module _ (r : Record) (inc act : ℕ) (o : Object) (re : Replied) (frame : Frame
     moved_steady : SteadyBut ns v
     moved_steady = put_but u ns o x but there took (told_stays o re (role_in frame.ui.state o.number) re.link goes.follows goes.stays.lost part)
         (set_object r u o.frame frame (record frame { ui = ui }) o x at refl refl refl refl refl within refl was
-        (λ q. subst (λ (z : Role). IfSome (next_link re.link) (SteadyLink r.servers r.last_act frame.phase frame.k z)) (sym now)
-        (subst (λ (g : Option Tells). IfSome (next_link re.link) (SteadyLink r.servers r.last_act frame.phase frame.k (role_after g (role_in frame.ui.state o.number)))) tells goes.stays.held)))
+        (λ q. subst (λ (z : Role). IfSome (next_link re.link) (SteadyLink r.servers r.last_act frame.phase frame.asked frame.k z)) (sym now)
+        (subst (λ (g : Option Tells). IfSome (next_link re.link) (SteadyLink r.servers r.last_act frame.phase frame.asked frame.k (role_after g (role_in frame.ui.state o.number)))) tells goes.stays.held)))
 
   abbrev later : Event → List Claim → Record
   later e cs = (grant_each (record r { frames = set_nth r.frames o.frame (moved frame e); objects = put (is_linked inc act) x r.objects }) cs).rec
@@ -199,8 +201,8 @@ module _ (r : Record) (inc act : ℕ) (o : Object) (re : Replied) (frame : Frame
       let waits : role_in frame.ui.state y.number ≡ Waiting c.g = ap (λ (z : GrantState). role_in z y.number) is ∙ waits_for_it h.holder c y.number named (λ q. claims.apart.0 (named ∙ sym q)) in
       let gets : role_in ui.state y.number ≡ Getting c.g = ap (λ (z : GrantState). role_in z y.number) to ∙ gets_it c y.number named in
       let first = found_numbered c.object r.objects y claims.next.found in
-      let steady : SteadyObject v asked = asked_object_steady r v o.frame frame (record frame { ui = ui }) y (Waiting c.g) (Getting c.g) (UiActivate c.g) at refl claims.next.inside refl refl refl refl refl waits gets
-      (grant_asked r.servers r.last_act frame.phase frame.k c.g) (each_found (SteadyObject r) (is_object y.number) r.objects y s.objects first) in
+      let steady : SteadyObject v asked = asked_object_steady r v o.frame frame (record frame { ui = ui }) y (Waiting c.g) (Getting c.g) (UiActivate c.g) at refl claims.next.inside refl refl refl refl refl refl waits gets
+      (grant_asked r.servers r.last_act frame.phase frame.asked frame.k c.g) (each_found (SteadyObject r) (is_object y.number) r.objects y s.objects first) in
       let moved_there : find (is_object y.number) v.objects ≡ Some y = find-put_other o.number y.number x r.objects refl (λ q. apart (q ∙ sym named)) ∙ first in
       let made : Steady (with_object v asked) = all_steady (with_object v asked) (put_but v [] y asked less moved_there (record { number = refl; frame = refl; link = asked_follows (UiActivate c.g) y.link }) (link_asked (UiActivate c.g) y.link) steady) in
       let by_claim : find (is_object c.object) v.objects ≡ Some y = ap (λ (n : ℕ). find (is_object n) v.objects) named ∙ moved_there in
@@ -225,8 +227,11 @@ taken_keeps r inc act n answer o (Ok re) t s found g e =
     let h = each_found (SteadyObject r) (is_linked inc act) r.objects o s.objects found in
     let at = some_and (Held r o.number o.link) (nth r.frames o.frame) h.linked in
     let goes = link_goes r at.0 o.number n answer o.link re at.2 g in
-    let same : settle (replied_grant r inc act o re).rec ≡ t.rec = ok_rec _ t e in
-    subst Steady same (settle_steady (replied_grant r inc act o re).rec (told_by r inc act o re at.0 s found at.1 goes re.grant refl))
+    let same : settle (replied_saving r inc act o re).rec ≡ t.rec = ok_rec _ t e in
+    let told = told_by r inc act o re at.0 s found at.1 goes re.grant refl in
+    subst Steady same (settle_steady (replied_saving r inc act o re).rec (if_told (λ (z : Requested). Steady z.rec) (is_answered o.link re.link) (hand_off_in (replied_grant r inc act o re).rec o.frame) (unasked (replied_grant r inc act o re).rec)
+    (λ b. hand_off_in_steady (replied_grant r inc act o re).rec o.frame told)
+    (λ b. told)))
 
 found_keeps : (r : Record) (inc act n : ℕ) (answer : Answer) (o : Option Object) (t : Took) → Steady r → find (is_linked inc act) r.objects ≡ o → reply_found r inc act n answer o ≡ Ok t → Steady t.rec
 found_keeps r inc act n answer None t s found e = cc
@@ -238,8 +243,8 @@ reply_keeps r inc act n answer t s e = if_told (λ (z : Result Took ContainerFau
     (λ a g. cc) e
 
 -- a write that is taken
-written_link : (servers : List Bool) (last_act : ℕ) (phase : Phase) (k w : ℕ) (part : Role) (l : Link) → SteadyLink servers last_act phase k part l → SteadyLink servers last_act phase k part (record l { w = w })
-written_link servers last_act phase k w part l h = record {
+written_link : (servers : List Bool) (last_act : ℕ) (phase : Phase) (asked : Option (List ℕ)) (k w : ℕ) (part : Role) (l : Link) → SteadyLink servers last_act phase asked k part l → SteadyLink servers last_act phase asked k part (record l { w = w })
+written_link servers last_act phase asked k w part l h = record {
   acts_drawn = h.acts_drawn;
   servers_told = h.servers_told;
   first_call = elim h.first_call [
@@ -259,12 +264,12 @@ written_steady : (r : Record) (inc act w : ℕ) (content : Stored) (o : Object) 
 written_steady r inc act w content o l s found is within =
     let h = each_found (SteadyObject r) (is_linked inc act) r.objects o s.objects found in
     let at = some_and (Held r o.number o.link) (nth r.frames o.frame) h.linked in
-    let held = if_at (SteadyLink r.servers r.last_act at.0.phase at.0.k (role_in at.0.ui.state o.number)) o.link l is at.2 in
+    let held = if_at (SteadyLink r.servers r.last_act at.0.phase at.0.asked at.0.k (role_in at.0.ui.state o.number)) o.link l is at.2 in
     let x : Object = written_object o l w content in
     put_steady r (is_linked inc act) o x s found
     (record { number = refl; frame = refl; link = λ m e. let same : record l { w = w } ≡ m = cc in (l, is, sym (ap (λ (z : Link). z.act) same)) })
     (inl (λ m e. (let both = sym is ∙ e in let same : l ≡ m = cc in (record l { w = w }, refl, ap (λ (z : Link). z.act) same))))
-    (record { drawn = h.drawn; within = within; user_type = h.user_type; linked = and_some (Held r x.number x.link) (nth r.frames o.frame) at.0 at.1 (written_link r.servers r.last_act at.0.phase at.0.k w (role_in at.0.ui.state o.number) l held) })
+    (record { drawn = h.drawn; within = within; user_type = h.user_type; linked = and_some (Held r x.number x.link) (nth r.frames o.frame) at.0 at.1 (written_link r.servers r.last_act at.0.phase at.0.asked at.0.k w (role_in at.0.ui.state o.number) l held) })
 
 write_linked_keeps : (r : Record) (inc act n w : ℕ) (content : Stored) (o : Object) (link : Option Link) (t : Took) → Steady r → find (is_linked inc act) r.objects ≡ Some o → o.link ≡ link → write_link r inc act n w content o link ≡ Ok t → Steady t.rec
 write_linked_keeps r inc act n w content o None t s found is e = cc
@@ -302,8 +307,8 @@ ask_held r inc act g o frame s found at e =
     let asked : Object = record o { link = asked_link UiDeactivate o.link } in
     let has : role_in frame.ui.state o.number ≡ Holding holder.g tools = ap (λ (z : GrantState). role_in z o.number) h.2 ∙ has_it holder tools o.number named in
     let gives : role_in ui.state o.number ≡ Giving holder.g = ap (λ (z : GrantState). role_in z o.number) to ∙ gives_it holder None o.number named in
-    let steady : SteadyObject u asked = asked_object_steady r u o.frame frame (record frame { ui = ui }) o (Holding holder.g tools) (Giving holder.g) UiDeactivate at refl refl refl refl refl refl refl has gives
-    (end_asked r.servers r.last_act frame.phase frame.k holder.g tools) (each_found (SteadyObject r) (is_linked inc act) r.objects o s.objects found) in
+    let steady : SteadyObject u asked = asked_object_steady r u o.frame frame (record frame { ui = ui }) o (Holding holder.g tools) (Giving holder.g) UiDeactivate at refl refl refl refl refl refl refl refl has gives
+    (end_asked r.servers r.last_act frame.phase frame.asked frame.k holder.g tools) (each_found (SteadyObject r) (is_linked inc act) r.objects o s.objects found) in
     let made : Steady (with_object u asked) = all_steady (with_object u asked) (put_but u [] o asked but there (record { number = refl; frame = refl; link = asked_follows UiDeactivate o.link }) (link_asked UiDeactivate o.link) steady) in
     subst (λ (z : Option Object). Steady (requested u UiDeactivate z).rec) (sym there) made
 
@@ -349,8 +354,8 @@ pub fitting_answers_taken : FittingAnswersTaken
 fitting_answers_taken r inc act answer o l op s found is pending fits =
     let h = each_found (SteadyObject r) (is_linked inc act) r.objects o s.objects found in
     let at = some_and (Held r o.number o.link) (nth r.frames o.frame) h.linked in
-    let held = if_at (SteadyLink r.servers r.last_act at.0.phase at.0.k (role_in at.0.ui.state o.number)) o.link l is at.2 in
-    let replies = fitting_taken r.servers r.last_act at.0.phase at.0.k (role_in at.0.ui.state o.number) l held op answer pending fits in
+    let held = if_at (SteadyLink r.servers r.last_act at.0.phase at.0.asked at.0.k (role_in at.0.ui.state o.number)) o.link l is at.2 in
+    let replies = fitting_taken r.servers r.last_act at.0.phase at.0.asked at.0.k (role_in at.0.ui.state o.number) l held op answer pending fits in
     let taken : IsOk (replied_fitting l op answer) = subst (λ (b : Bool). IsOk (if b then replied l op answer else Err BadAnswer)) (sym (fits_is_fit op answer fits)) replies in
     let same_inc = linked_inc inc act o l is (find_passes (is_linked inc act) r.objects o found) in
     let alive : is_alive r inc ≡ true = ap (λ (n : ℕ). is_unreaped (nth r.servers n)) (sym same_inc) ∙ held.servers_told in

@@ -16,9 +16,10 @@ use Rattle.container_model.specs.declared.fault.ContainerFault.TheVariants.{NoSu
 use Rattle.container_model.specs.Grants.{freed, freed_claims, freed_frame, grant_each, is_hosted, is_hosted_object, passed_to, requested, unwaited}
 use Rattle.container_model.specs.Record.{Record, Took, MOST_OBJECTS, asked_link, is_alive, is_object, is_unreaped, with_object}
 use Rattle.container_model.specs.Saves.{kept}
-use Rattle.container_model.specs.Messages.{on_reap, reaped, reaped_grants, reaped_object}
+use Rattle.container_model.specs.Messages.{on_reap, reaped, reaped_grants, reaped_saving, reaped_object}
 use Rattle.container_steady.specs.Roles.{IsClaim, Getting, Role, SteadyGrant, Waiting, role_in}
 use Rattle.container_steady.specs.Steady.{SteadyFrame, SteadyLink, SteadyObject, InOrder, EachPair, Steady}
+use Rattle.container_steps.proofs.SteadyHandOffs.{hand_off_steady}
 use Rattle.container_steps.proofs.SteadyAnswers.{none_follows}
 use Rattle.container_steady.proofs.SteadyClaims.{claim_kept, keeps_map}
 use Rattle.container_steady.proofs.SteadyCounts.{count_map}
@@ -176,9 +177,9 @@ module _ (r : Record) (inc : ℕ) (s : Steady r) where
       let ne : (l.inc == inc) ≡ false = sym (ap (is_hosted inc) e) ∙ h in
       ap (λ (b : Option Bool). is_unreaped b) (nth-set_other r.servers inc l.inc true (λ q. eqb-false l.inc inc ne (sym q))) ∙ u
 
-  held_after : (n : ℕ) (link : Option Link) (frame : Frame) → is_hosted inc link ≡ false → Held r n link frame → IfSome link (SteadyLink (set_nth r.servers inc true) r.last_act frame.phase frame.k (role_in frame.ui.state n))
+  held_after : (n : ℕ) (link : Option Link) (frame : Frame) → is_hosted inc link ≡ false → Held r n link frame → IfSome link (SteadyLink (set_nth r.servers inc true) r.last_act frame.phase frame.asked frame.k (role_in frame.ui.state n))
   held_after n None frame h k = tt
-  held_after n (Some l) frame h k = link_moved r.servers (set_nth r.servers inc true) r.last_act r.last_act frame.phase frame.k (role_in frame.ui.state n) l k.acts_drawn (others_told (Some l) l refl h k.servers_told) k
+  held_after n (Some l) frame h k = link_moved r.servers (set_nth r.servers inc true) r.last_act r.last_act frame.phase frame.asked frame.k (role_in frame.ui.state n) l k.acts_drawn (others_told (Some l) l refl h k.servers_told) k
 
   fate_of : (f : ℕ) (frame : Frame) → nth r.frames f ≡ Some frame → Fate inc r.objects frame.ui.state (freed inc r.objects frame.ui).state (passed inc r.objects frame)
   fate_of f frame at = fate inc r.objects frame.ui (s.grants f frame at).apart
@@ -198,7 +199,7 @@ module _ (r : Record) (inc : ℕ) (s : Steady r) where
           within = h.within;
           user_type = h.user_type;
           linked = and_some (Held gone o.number o.link) (nth gone.frames o.frame) now (nth-map (freed_frame inc r.objects) r.frames o.frame at.0 at.1)
-              (subst (λ (role : Role). IfSome o.link (SteadyLink (set_nth r.servers inc true) r.last_act at.0.phase at.0.k role)) (sym e) (held_after o.number o.link at.0 still at.2));
+              (subst (λ (role : Role). IfSome o.link (SteadyLink (set_nth r.servers inc true) r.last_act at.0.phase at.0.asked at.0.k role)) (sym e) (held_after o.number o.link at.0 still at.2));
         })
         | granted_part w e named ↦ but_among (map name_of claims) (SteadyObject gone) o (subst (Among (map name_of claims)) named (passed_named o.frame at.0 w at.1 e))
       ]
@@ -230,7 +231,7 @@ module _ (r : Record) (inc : ℕ) (s : Steady r) where
 
   pub gone_but : SteadyBut (map name_of claims) gone
   gone_but = record {
-    frames = each_map SteadyFrame SteadyFrame (freed_frame inc r.objects) r.frames (λ frame h. record { asked = h.asked; phase = h.phase }) s.frames;
+    frames = each_map SteadyFrame SteadyFrame (freed_frame inc r.objects) r.frames (λ frame h. record { asked = h.asked }) s.frames;
     objects = each_map (λ (o : Object). SteadyObject r o × (find (is_object o.number) r.objects ≡ Some o)) (But (map name_of claims) (SteadyObject gone)) (λ o. reaped_object inc o o.link) r.objects (λ o k. object_but o k.0 k.1)
         (each_both (SteadyObject r) (λ (o : Object). find (is_object o.number) r.objects ≡ Some o) r.objects s.objects (each_own r.objects s.order));
     order = pairs_map InOrder (λ o. reaped_object inc o o.link) r.objects (order_both (λ o. reaped_object inc o o.link) (λ o. reaped_took inc o o.link refl)) s.order;
@@ -275,8 +276,8 @@ module _ (r : Record) (inc : ℕ) (s : Steady r) where
       let waits : role_in frame.ui.state y.number ≡ Waiting c.g = ap (λ (z : GrantState). role_in z y.number) p.was ∙ waits_for_it p.holder c y.number named (λ q. apart.0 (named ∙ sym q)) in
       let gets : role_in (freed inc r.objects frame.ui).state y.number ≡ Getting c.g = ap (λ (z : GrantState). role_in z y.number) p.now ∙ gets_it c y.number named in
       let servers = set_nth r.servers inc true in
-      let asked : IfSome (asked_link (UiActivate c.g) y.link) (SteadyLink servers r.last_act frame.phase frame.k (Getting c.g)) = asked_part servers r.last_act frame.phase frame.k (Waiting c.g) (Getting c.g) (UiActivate c.g) y.link (grant_asked servers r.last_act frame.phase frame.k c.g)
-      (subst (λ (role : Role). IfSome y.link (SteadyLink servers r.last_act frame.phase frame.k role)) waits held) in
+      let asked : IfSome (asked_link (UiActivate c.g) y.link) (SteadyLink servers r.last_act frame.phase frame.asked frame.k (Getting c.g)) = asked_part servers r.last_act frame.phase frame.asked frame.k (Waiting c.g) (Getting c.g) (UiActivate c.g) y.link (grant_asked servers r.last_act frame.phase frame.asked frame.k c.g)
+      (subst (λ (role : Role). IfSome y.link (SteadyLink servers r.last_act frame.phase frame.asked frame.k role)) waits held) in
       record {
         object = y;
         found = find-map c.object (λ o. reaped_object inc o o.link) r.objects (λ o. (reaped_took inc o o.link refl).number) ∙ (ap (option_map (λ (o : Object). reaped_object inc o o.link)) k.found ∙ ap Some (stays_object inc y y.link still));
@@ -285,7 +286,7 @@ module _ (r : Record) (inc : ℕ) (s : Steady r) where
           within = h.within;
           user_type = h.user_type;
           linked = and_some (Held gone y.number (asked_link (UiActivate c.g) y.link)) (nth gone.frames y.frame) (freed_frame inc r.objects frame) (nth-map (freed_frame inc r.objects) r.frames y.frame frame was_at)
-              (subst (λ (role : Role). IfSome (asked_link (UiActivate c.g) y.link) (SteadyLink servers r.last_act frame.phase frame.k role)) (sym gets) asked);
+              (subst (λ (role : Role). IfSome (asked_link (UiActivate c.g) y.link) (SteadyLink servers r.last_act frame.phase frame.asked frame.k role)) (sym gets) asked);
         };
       }
 
@@ -296,5 +297,5 @@ module _ (r : Record) (inc : ℕ) (s : Steady r) where
 
 pub on_reap_keeps : (r : Record) (inc : ℕ) (t : Took) → Steady r → on_reap r inc ≡ Ok t → Steady t.rec
 on_reap_keeps r inc t s e = if_told (λ (z : Result Took ContainerFault). z ≡ Ok t → Steady t.rec) (is_alive r inc) _ (Err NoSuch)
-    (λ a g. let same = ok_rec _ t g in subst Steady same (settle_steady (reaped_grants r inc).rec (server_gone r inc s)))
+    (λ a g. let same = ok_rec _ t g in subst Steady same (settle_steady (reaped_saving r inc).rec (hand_off_steady (reaped_grants r inc).rec (server_gone r inc s))))
     (λ a g. cc) e

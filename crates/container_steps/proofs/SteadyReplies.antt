@@ -5,7 +5,7 @@ use Rattle.std.specs.List.{AllByRecursion}
 use Rattle.wire_msgs.specs.Found.{nth}
 use Rattle.wire_msgs.specs.Operations.{op_of}
 use Rattle.wire_msgs.specs.declared.operation.Operation.{Operation}
-use Rattle.wire_msgs.specs.declared.operation.Operation.TheVariants.{InitNew, Load, InPlace, UiActivate, UiDeactivate, InPlaceDeactivate, OpenWindow, Edit, Save, SaveCompleted, SaveDropped, Close}
+use Rattle.wire_msgs.specs.declared.operation.Operation.TheVariants.{InitNew, Load, InPlace, UiActivate, UiDeactivate, InPlaceDeactivate, OpenWindow, Edit, Save, HandsOff, SaveCompleted, SaveDropped, Close}
 use Rattle.wire_msgs.specs.declared.answer.Answer.{Answer}
 use Rattle.wire_msgs.specs.declared.answer.Answer.TheVariants.{Done, Refused, Content}
 use Rattle.wire_msgs.specs.declared.answer.Answer.TheVariants as told
@@ -41,10 +41,10 @@ use Rattle.container_steady.proofs.SteadyQueues.{LeavesRunning, first_other, has
 use Rattle.container_steady.proofs.SteadyRoles.{activated, deactivated, getting_role, giving_role, plain_shown, plays_pop, shown_as}
 
 -- the first operation that waits is sent
-module _ (servers : List Bool) (last_act : ℕ) (phase : Phase) (k : ℕ) (role : Role) where
+module _ (servers : List Bool) (last_act : ℕ) (phase : Phase) (asked : Option (List ℕ)) (k : ℕ) (role : Role) where
   pub next_steady : (l : Link) (w : States) (s : ℕ) (saved : Option Stored) (ws : List Operation) → l.act ≤ last_act → is_unreaped (nth servers l.inc) ≡ true → PastFirstCall w
-      → IsOkAnd (ended (Ok w) ws) (EndsWell phase k role) → AllByRecursion (IsTimely phase saved) ws → IsSavedIn phase saved → MayBeStored saved → IsShown role w.object → Plays role ws
-      → SteadyLink servers last_act phase k role (next_at (record l { pending = None; states = w; s = s; saved = saved; waiting = ws }) ws).link
+      → IsOkAnd (ended (Ok w) ws) (EndsWell phase asked k role) → AllByRecursion (IsTimely phase saved) ws → IsSavedIn phase saved → MayBeStored saved → IsShown role w.object → Plays role ws
+      → SteadyLink servers last_act phase asked k role (next_at (record l { pending = None; states = w; s = s; saved = saved; waiting = ws }) ws).link
   next_steady l w s saved [] a u past r t v b x p = record { acts_drawn = a; servers_told = u; first_call = inr past; waits_behind = refl; queue_runs = r; save_in_queue = t; saved_known = v; saved_within = b; shown = x; plays = p }
   next_steady l w s saved (op ∷ ops) a u past r t v b x p = record { acts_drawn = a; servers_told = u; first_call = inr past; waits_behind = tt; queue_runs = r; save_in_queue = t; saved_known = v; saved_within = b; shown = x; plays = p }
 
@@ -64,8 +64,8 @@ abbrev pub EndsOther : Option Link → Role → Type 0
 EndsOther None role = role ≡ Other
 EndsOther (Some l) role = Unit {0}
 
-pub record Stays (servers : List Bool) (last_act : ℕ) (phase : Phase) (k : ℕ) (role : Role) (re : Replied) : Type 0 where
-  pub held : IfSome (next_link re.link) (SteadyLink servers last_act phase k (role_after re.grant role))
+pub record Stays (servers : List Bool) (last_act : ℕ) (phase : Phase) (asked : Option (List ℕ)) (k : ℕ) (role : Role) (re : Replied) : Type 0 where
+  pub held : IfSome (next_link re.link) (SteadyLink servers last_act phase asked k (role_after re.grant role))
   pub within : MayBeStored re.taken
   pub tells : IsToldBy re.grant role
   pub lost : EndsOther re.link role
@@ -84,15 +84,15 @@ begins_once (Load class content) _ last q b h e = cc
 begins_once _ s last q b h e = b
 
 -- an answer to the pending call
-module _ (servers : List Bool) (last_act : ℕ) (phase : Phase) (k : ℕ) (role : Role) (l : Link) (h : SteadyLink servers last_act phase k role l) where
+module _ (servers : List Bool) (last_act : ℕ) (phase : Phase) (asked : Option (List ℕ)) (k : ℕ) (role : Role) (l : Link) (h : SteadyLink servers last_act phase asked k role l) where
   abbrev StaysSteady : Replied → Type 0
-  StaysSteady re = Stays servers last_act phase k role re
+  StaysSteady re = Stays servers last_act phase asked k role re
 
   done_is : (op : Operation) (w : States) → both.step l.states (op_of op) ≡ Ok w → done l op ≡ Ok (record { link = Some (record l { pending = None; states = w; s = next_s op l.s }); taken = None; refused = None; grant = None })
   done_is op w e = rw e refl
 
-  runs : (op : Operation) → l.pending ≡ Some op → IsOkAnd (ended (Ok l.states) (op ∷ l.waiting)) (EndsWell phase k role)
-  runs op e = subst (λ (p : Option Operation). IsOkAnd (ended (Ok l.states) (queue_of p l.waiting)) (EndsWell phase k role)) e h.queue_runs
+  runs : (op : Operation) → l.pending ≡ Some op → IsOkAnd (ended (Ok l.states) (op ∷ l.waiting)) (EndsWell phase asked k role)
+  runs op e = subst (λ (p : Option Operation). IsOkAnd (ended (Ok l.states) (queue_of p l.waiting)) (EndsWell phase asked k role)) e h.queue_runs
 
   timely : (op : Operation) → l.pending ≡ Some op → AllByRecursion (IsTimely phase l.saved) (op ∷ l.waiting)
   timely op e = subst (λ (p : Option Operation). AllByRecursion (IsTimely phase l.saved) (queue_of p l.waiting)) e h.save_in_queue
@@ -103,13 +103,13 @@ module _ (servers : List Bool) (last_act : ℕ) (phase : Phase) (k : ℕ) (role 
   window : (op : Operation) (w : States) → both.step l.states (op_of op) ≡ Ok w → object.table (op_of op) l.states.object ≡ Ok w.object
   window op w e = (joined_ok (persist.step l.states.persist (op_of op)) (object.step l.states.object (op_of op)) w e).1
 
-  goes : (op : Operation) (w : States) (later : Role) → LeavesRunning op → l.pending ≡ Some op → both.step l.states (op_of op) ≡ Ok w → IsOkAnd (ended (Ok w) l.waiting) (EndsWell phase k later) → IsShown later w.object → Plays later l.waiting
-      → SteadyLink servers last_act phase k later (next_at (record l { pending = None; states = w; s = next_s op l.s }) l.waiting).link
-  goes op w later leaves e step r x p = next_steady servers last_act phase k later l w (next_s op l.s) l.saved l.waiting h.acts_drawn h.servers_told (done_past op l.states w leaves (has_begun servers last_act phase k role l h) step) r (timely op e).1 h.saved_known h.saved_within x p
+  goes : (op : Operation) (w : States) (later : Role) → LeavesRunning op → l.pending ≡ Some op → both.step l.states (op_of op) ≡ Ok w → IsOkAnd (ended (Ok w) l.waiting) (EndsWell phase asked k later) → IsShown later w.object → Plays later l.waiting
+      → SteadyLink servers last_act phase asked k later (next_at (record l { pending = None; states = w; s = next_s op l.s }) l.waiting).link
+  goes op w later leaves e step r x p = next_steady servers last_act phase asked k later l w (next_s op l.s) l.saved l.waiting h.acts_drawn h.servers_told (done_past op l.states w leaves (has_begun servers last_act phase asked k role l h) step) r (timely op e).1 h.saved_known h.saved_within x p
 
   done_goes : (op : Operation) (re : Replied) → LeavesRunning op → IsPlain op → l.pending ≡ Some op → done l op ≡ Ok re → StaysSteady re
   done_goes op re leaves plain e g =
-      let t = taken (EndsWell phase k role) l.states op l.waiting (runs op e) in
+      let t = taken (EndsWell phase asked k role) l.states op l.waiting (runs op e) in
       let is = sym (done_is op t.0 t.1) ∙ g in
       let at : record { link = Some (record l { pending = None; states = t.0; s = next_s op l.s }); taken = None; refused = None; grant = None } ≡ re = cc in
       subst StaysSteady at (record {
@@ -122,13 +122,13 @@ module _ (servers : List Bool) (last_act : ℕ) (phase : Phase) (k : ℕ) (role 
   -- the object has its frame, or has given it up
   gets_goes : (g : ℕ) (tools : Tools) (re : Replied) → l.pending ≡ Some (UiActivate g) → granted_link (Gets g tools) (done l (UiActivate g)) ≡ Ok re → StaysSteady re
   gets_goes g tools re e q =
-      let t = taken (EndsWell phase k role) l.states (UiActivate g) l.waiting (runs (UiActivate g) e) in
+      let t = taken (EndsWell phase asked k role) l.states (UiActivate g) l.waiting (runs (UiActivate g) e) in
       let is = sym (ap (granted_link (Gets g tools)) (done_is (UiActivate g) t.0 t.1)) ∙ q in
       let at : record { link = Some (record l { pending = None; states = t.0; s = l.s }); taken = None; refused = None; grant = Some (Gets g tools) } ≡ re = cc in
       let part = getting_role role g l.waiting (plays_as (UiActivate g) e) in
       subst StaysSteady at (record {
         held = goes (UiActivate g) t.0 (Holding g tools) tt e t.1
-            (ends_otherwise (EndsWell phase k role) (EndsWell phase k (Holding g tools)) (ended (Ok t.0) l.waiting) (λ w x. record { storage = x.storage; last_save = x.last_save; running = x.running; waits = tt }) t.2)
+            (ends_otherwise (EndsWell phase asked k role) (EndsWell phase asked k (Holding g tools)) (ended (Ok t.0) l.waiting) (λ w x. record { storage = x.storage; last_save = x.last_save; running = x.running; waits = tt }) t.2)
             (activated g l.states.object t.0.object (window (UiActivate g) t.0 t.1)) part.1;
         within = tt;
         tells = part.0;
@@ -140,13 +140,13 @@ module _ (servers : List Bool) (last_act : ℕ) (phase : Phase) (k : ℕ) (role 
 
   gives_goes : (re : Replied) → l.pending ≡ Some UiDeactivate → granted_link (GivesUp l.act) (done l UiDeactivate) ≡ Ok re → StaysSteady re
   gives_goes re e q =
-      let t = taken (EndsWell phase k role) l.states UiDeactivate l.waiting (runs UiDeactivate e) in
+      let t = taken (EndsWell phase asked k role) l.states UiDeactivate l.waiting (runs UiDeactivate e) in
       let is = sym (ap (granted_link (GivesUp l.act)) (done_is UiDeactivate t.0 t.1)) ∙ q in
       let at : record { link = Some (record l { pending = None; states = t.0; s = l.s }); taken = None; refused = None; grant = Some (GivesUp l.act) } ≡ re = cc in
       let part = giving_role role l.waiting (plays_as UiDeactivate e) in
       subst StaysSteady at (record {
         held = goes UiDeactivate t.0 Other tt e t.1
-            (ends_otherwise (EndsWell phase k role) (EndsWell phase k Other) (ended (Ok t.0) l.waiting) (λ w x. record { storage = x.storage; last_save = x.last_save; running = x.running; waits = tt }) t.2)
+            (ends_otherwise (EndsWell phase asked k role) (EndsWell phase asked k Other) (ended (Ok t.0) l.waiting) (λ w x. record { storage = x.storage; last_save = x.last_save; running = x.running; waits = tt }) t.2)
             (not_ui t.0.object (deactivated l.states.object t.0.object (window UiDeactivate t.0 t.1)).1) part.2;
         within = tt;
         tells = (part.0, part.1);
@@ -162,14 +162,14 @@ module _ (servers : List Bool) (last_act : ℕ) (phase : Phase) (k : ℕ) (role 
 
   save_goes : (j : ℕ) (content : Stored) (re : Replied) → is_within content ≡ true → l.pending ≡ Some (Save j) → saved_link content (done l (Save j)) ≡ Ok re → StaysSteady re
   save_goes j content re within e g =
-      let t = taken (EndsWell phase k role) l.states (Save j) l.waiting (runs (Save j) e) in
+      let t = taken (EndsWell phase asked k role) l.states (Save j) l.waiting (runs (Save j) e) in
       let ops = timely (Save j) e in
       let is = sym (ap (saved_link content) (done_is (Save j) t.0 t.1)) ∙ g in
       let at : record { link = Some (record l { pending = None; states = t.0; s = l.s; saved = Some content }); taken = None; refused = None; grant = None } ≡ re = cc in
       let rest : AllByRecursion (IsTimely Saving None) l.waiting = subst (λ (p : Phase). AllByRecursion (IsTimely p None) l.waiting) ops.0.0 (subst (λ (z : Option Stored). AllByRecursion (IsTimely phase z) l.waiting) ops.0.1 ops.1) in
-      let again = none_asked_again j content (EndsWell phase k role) l.waiting t.0 (save_scribbles l.states t.0 j t.1) t.2 rest in
+      let again = none_asked_again j content (EndsWell phase asked k role) l.waiting t.0 (save_scribbles l.states t.0 j t.1) t.2 rest in
       subst StaysSteady at (record {
-        held = next_steady servers last_act phase k role l t.0 l.s (Some content) l.waiting h.acts_drawn h.servers_told (done_past (Save j) l.states t.0 tt (has_begun servers last_act phase k role l h) t.1) t.2
+        held = next_steady servers last_act phase asked k role l t.0 l.s (Some content) l.waiting h.acts_drawn h.servers_told (done_past (Save j) l.states t.0 tt (has_begun servers last_act phase asked k role l h) t.1) t.2
             (subst (λ (p : Phase). AllByRecursion (IsTimely p (Some content)) l.waiting) (sym ops.0.0) again)
             (subst (λ (p : Phase). IsSavedIn p (Some content)) (sym ops.0.0) tt) within
             (shown_as role l.states.object t.0.object (plain_shown (Save j) l.states.object t.0.object tt (window (Save j) t.0 t.1)) h.shown) (plays_pop role (Save j) l.waiting tt (plays_as (Save j) e));
@@ -180,8 +180,8 @@ module _ (servers : List Bool) (last_act : ℕ) (phase : Phase) (k : ℕ) (role 
 
   begins_other : (op : Operation) → l.pending ≡ Some op → IsBeginning op → role ≡ Other
   begins_other op e b = elim h.first_call [
-    | inl first ↦ first_other servers last_act phase k role l h first
-    | inr past ↦ (let t = taken (EndsWell phase k role) l.states op l.waiting (runs op e) in
+    | inl first ↦ first_other servers last_act phase asked k role l h first
+    | inr past ↦ (let t = taken (EndsWell phase asked k role) l.states op l.waiting (runs op e) in
         absurd (begins_once op l.states.persist.state l.states.persist.last_save t.0.persist b past.storage (joined_ok (persist.step l.states.persist (op_of op)) (object.step l.states.object (op_of op)) t.0 t.1).0))
   ]
 
@@ -190,14 +190,14 @@ module _ (servers : List Bool) (last_act : ℕ) (phase : Phase) (k : ℕ) (role 
 
   noted_goes : (bytes : List ℕ) (why : Refusal) (re : Replied) → l.pending ≡ Some (Edit bytes) → noted l why ≡ Ok re → StaysSteady re
   noted_goes bytes why re e g =
-      let t = taken (EndsWell phase k role) l.states (Edit bytes) l.waiting (runs (Edit bytes) e) in
+      let t = taken (EndsWell phase asked k role) l.states (Edit bytes) l.waiting (runs (Edit bytes) e) in
       let past = edit_past (Edit bytes) e (λ b. b) in
       let same = sym (edit_taken l.states past.storage past.running) ∙ t.1 in
       let v : l.states ≡ t.0 = cc in
       let at : record { link = Some (record l { pending = None }); taken = None; refused = Some why; grant = None } ≡ re = cc in
       subst StaysSteady at (record {
-        held = next_steady servers last_act phase k role l l.states l.s l.saved l.waiting h.acts_drawn h.servers_told past
-            (subst (λ (z : States). IsOkAnd (ended (Ok z) l.waiting) (EndsWell phase k role)) (sym v) t.2) (timely (Edit bytes) e).1 h.saved_known h.saved_within h.shown (plays_pop role (Edit bytes) l.waiting tt (plays_as (Edit bytes) e));
+        held = next_steady servers last_act phase asked k role l l.states l.s l.saved l.waiting h.acts_drawn h.servers_told past
+            (subst (λ (z : States). IsOkAnd (ended (Ok z) l.waiting) (EndsWell phase asked k role)) (sym v) t.2) (timely (Edit bytes) e).1 h.saved_known h.saved_within h.shown (plays_pop role (Edit bytes) l.waiting tt (plays_as (Edit bytes) e));
         within = tt;
         tells = tt;
         lost = tt;
@@ -206,7 +206,7 @@ module _ (servers : List Bool) (last_act : ℕ) (phase : Phase) (k : ℕ) (role 
   close_other : (option : CloseOption) → l.pending ≡ Some (Close option) → role ≡ Other
   close_other option e =
       let idle : phase ≡ Idle = (timely (Close option) e).0 in
-      closing_other servers last_act k role l (subst (λ (p : Phase). SteadyLink servers last_act p k role l) idle h) option e
+      closing_other servers last_act asked k role l (subst (λ (p : Phase). SteadyLink servers last_act p asked k role l) idle h) option e
 
   closed_goes_at : (option : CloseOption) (content : Option Stored) (r : Result States StateFault) (re : Replied) → MayBeStored content → l.pending ≡ Some (Close option) → closed_with content r ≡ Ok re → StaysSteady re
   closed_goes_at option content (Err refusal) re m e g = cc
@@ -238,6 +238,8 @@ module _ (servers : List Bool) (last_act : ℕ) (phase : Phase) (k : ℕ) (role 
   replied_goes (Edit bytes) _ re e f g = cc
   replied_goes (Save j) (Content content) re e f g = save_goes j content re f e g
   replied_goes (Save j) _ re e f g = cc
+  replied_goes HandsOff Done re e f g = done_goes HandsOff re tt tt e g
+  replied_goes HandsOff _ re e f g = cc
   replied_goes (SaveCompleted j storage) Done re e f g = done_goes (SaveCompleted j storage) re tt tt e g
   replied_goes (SaveDropped j) Done re e f g = done_goes (SaveDropped j) re tt tt e g
   replied_goes (SaveCompleted j storage) _ re e f g = cc
@@ -246,11 +248,10 @@ module _ (servers : List Bool) (last_act : ℕ) (phase : Phase) (k : ℕ) (role 
   replied_goes (Close SaveIfDirty) _ re e f g = cc
   replied_goes (Close NoSave) Done re e f g = closed_goes NoSave None re tt e g
   replied_goes (Close NoSave) _ re e f g = cc
-  replied_goes _ _ re e f g = cc
 
   -- no answer that fits is refused
   done_taken : (op : Operation) → l.pending ≡ Some op → IsOk (done l op)
-  done_taken op e = (let t = taken (EndsWell phase k role) l.states op l.waiting (runs op e) in ap (λ (o : Result Replied ContainerFault). is_ok o) (done_is op t.0 t.1))
+  done_taken op e = (let t = taken (EndsWell phase asked k role) l.states op l.waiting (runs op e) in ap (λ (o : Result Replied ContainerFault). is_ok o) (done_is op t.0 t.1))
 
   saved_taken : (content : Stored) (r : Result Replied ContainerFault) → IsOk r → IsOk (saved_link content r)
   saved_taken content (Ok re) o = refl
@@ -266,7 +267,7 @@ module _ (servers : List Bool) (last_act : ℕ) (phase : Phase) (k : ℕ) (role 
 
   closed_taken : (option : CloseOption) (content : Option Stored) → l.pending ≡ Some (Close option) → IsOk (closed l option content)
   closed_taken option content e =
-      let t = taken (EndsWell phase k role) l.states (Close option) l.waiting (runs (Close option) e) in
+      let t = taken (EndsWell phase asked k role) l.states (Close option) l.waiting (runs (Close option) e) in
       closed_taken_at content (both.step l.states (op_of (Close option))) t.0 t.1
 
   pub fitting_taken : (op : Operation) (answer : Answer) → l.pending ≡ Some op → Fits op answer → IsOk (replied l op answer)
@@ -291,6 +292,8 @@ module _ (servers : List Bool) (last_act : ℕ) (phase : Phase) (k : ℕ) (role 
   fitting_taken (Edit bytes) _ e f = absurd f
   fitting_taken (Save j) (Content content) e f = saved_taken content (done l (Save j)) (done_taken (Save j) e)
   fitting_taken (Save j) _ e f = absurd f
+  fitting_taken HandsOff Done e f = done_taken HandsOff e
+  fitting_taken HandsOff _ e f = absurd f
   fitting_taken (SaveCompleted j storage) Done e f = done_taken (SaveCompleted j storage) e
   fitting_taken (SaveDropped j) Done e f = done_taken (SaveDropped j) e
   fitting_taken (SaveCompleted j storage) _ e f = absurd f
@@ -299,7 +302,6 @@ module _ (servers : List Bool) (last_act : ℕ) (phase : Phase) (k : ℕ) (role 
   fitting_taken (Close SaveIfDirty) _ e f = absurd f
   fitting_taken (Close NoSave) Done e f = closed_taken NoSave None e
   fitting_taken (Close NoSave) _ e f = absurd f
-  fitting_taken _ _ e f = absurd f
 
 -- an answer that fits has a content that may be stored, if any
 pub fits_is_fit : (op : Operation) (answer : Answer) → Fits op answer → is_fit answer ≡ true

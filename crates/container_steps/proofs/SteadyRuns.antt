@@ -7,6 +7,7 @@ use Rattle.container_steps.specs.Steps.{SteadyAfter, SteadyAlways}
 use Rattle.container_steady.proofs.SteadyRecords.{empty_steady}
 use Rattle.container_steps.proofs.SteadyCommands.{on_command_keeps}
 use Rattle.container_steps.proofs.SteadyMessages.{on_message_keeps}
+use Rattle.container_steps.proofs.SteadyOpens.{opened_keeps}
 use Rattle.container_steps.proofs.SteadyReaps.{on_reap_keeps}
 use Rattle.container_steps.proofs.SteadyCommits.{commit_done_keeps, commit_failed_keeps, resolve_keeps}
 
@@ -18,6 +19,7 @@ on_input_keeps r (Input.Reaped inc) t s e = on_reap_keeps r inc t s e
 on_input_keeps r (Input.Committed f) t s e = commit_done_keeps r f t s e
 on_input_keeps r (Input.Failed f) t s e = commit_failed_keeps r f t s e
 on_input_keeps r (Input.Resolved f is_kept) t s e = resolve_keeps r f is_kept t s e
+on_input_keeps r (Input.Opened name w h given) t s e = opened_keeps r name w h given t s e
 
 runs_keep : (r : Record) (xs : List Input) (u : Record) → Steady r → Leads r xs u → Steady u
 runs_keep r [] u s e = subst Steady e s

@@ -41,18 +41,18 @@ use Rattle.container_steps.proofs.SteadySteps.{TakesFrom, hidden, placed, steps_
 use Rattle.container_steady.proofs.SteadyTests.{asked_follows, find_passes, found_numbered, link_asked}
 
 -- an object that is asked, and has another part then
-pub asked_part : (servers : List Bool) (last_act : ℕ) (phase : Phase) (k : ℕ) (one two : Role) (op : Operation) (link : Option Link) → ((l : Link) → SteadyLink servers last_act phase k one l → SteadyLink servers last_act phase k two (ask l op).link)
-    → IfSome link (SteadyLink servers last_act phase k one) → IfSome (asked_link op link) (SteadyLink servers last_act phase k two)
-asked_part servers last_act phase k one two op None h g = tt
-asked_part servers last_act phase k one two op (Some l) h g = h l g
+pub asked_part : (servers : List Bool) (last_act : ℕ) (phase : Phase) (asked : Option (List ℕ)) (k : ℕ) (one two : Role) (op : Operation) (link : Option Link) → ((l : Link) → SteadyLink servers last_act phase asked k one l → SteadyLink servers last_act phase asked k two (ask l op).link)
+    → IfSome link (SteadyLink servers last_act phase asked k one) → IfSome (asked_link op link) (SteadyLink servers last_act phase asked k two)
+asked_part servers last_act phase asked k one two op None h g = tt
+asked_part servers last_act phase asked k one two op (Some l) h g = h l g
 
 pub asked_object_steady : (r u : Record) (f : ℕ) (frame frame' : Frame) (y : Object) (one two : Role) (op : Operation) → nth r.frames f ≡ Some frame → u.frames ≡ set_nth r.frames f frame' → y.frame ≡ f → u.last_object ≡ r.last_object → u.servers ≡ r.servers → u.last_act ≡ r.last_act
-    → frame'.phase ≡ frame.phase → frame'.k ≡ frame.k → role_in frame.ui.state y.number ≡ one → role_in frame'.ui.state y.number ≡ two
-    → ((l : Link) → SteadyLink r.servers r.last_act frame.phase frame.k one l → SteadyLink r.servers r.last_act frame.phase frame.k two (ask l op).link)
+    → frame'.phase ≡ frame.phase → frame'.asked ≡ frame.asked → frame'.k ≡ frame.k → role_in frame.ui.state y.number ≡ one → role_in frame'.ui.state y.number ≡ two
+    → ((l : Link) → SteadyLink r.servers r.last_act frame.phase frame.asked frame.k one l → SteadyLink r.servers r.last_act frame.phase frame.asked frame.k two (ask l op).link)
     → SteadyObject r y → SteadyObject u (record y { link = asked_link op y.link })
-asked_object_steady r u f frame frame' y one two op at changed here last servers act phase k was now asks h =
+asked_object_steady r u f frame frame' y one two op at changed here last servers act phase named k was now asks h =
     set_object r u f frame frame' y (record y { link = asked_link op y.link }) at changed here refl refl last h.within refl h
-    (λ held. rw (servers, act, phase, k, now) (asked_part r.servers r.last_act frame.phase frame.k one two op y.link asks (subst (λ (z : Role). IfSome y.link (SteadyLink r.servers r.last_act frame.phase frame.k z)) was held)))
+    (λ held. rw (servers, act, phase, named, k, now) (asked_part r.servers r.last_act frame.phase frame.asked frame.k one two op y.link asks (subst (λ (z : Role). IfSome y.link (SteadyLink r.servers r.last_act frame.phase frame.asked frame.k z)) was held)))
 
 -- what a claim makes of a frame
 free_ask : (s : GrantState) (c : Claim) → s ≡ state.Free → kept s (table s (Ask c)) ≡ state.Granting c
@@ -85,7 +85,7 @@ module _ (r : Record) (o : Object) (frame : Frame) (l : Link) (s : Steady r) (fo
   abbrev g : ℕ
   g = r.last_g + 1
 
-  held : SteadyLink r.servers r.last_act Idle frame.k part l
+  held : SteadyLink r.servers r.last_act Idle frame.asked frame.k part l
   held = held_idle r o frame l s found at idle quiet is
 
   no_holder : (h : AtHeld frame.ui.state o.number) → ⊥
@@ -94,8 +94,8 @@ module _ (r : Record) (o : Object) (frame : Frame) (l : Link) (s : Steady r) (fo
   still : l.pending ≡ None
   still = free r o frame l s found at idle quiet is
 
-  ends : EndsWell Idle frame.k part l.states
-  ends = quiet_ends r.servers r.last_act frame.k part l held still
+  ends : EndsWell Idle frame.asked frame.k part l.states
+  ends = quiet_ends r.servers r.last_act frame.asked frame.k part l held still
 
   abbrev own : Claim
   own = claim_of o l g
@@ -104,18 +104,18 @@ module _ (r : Record) (o : Object) (frame : Frame) (l : Link) (s : Steady r) (fo
   own_claim = record { object = o; link = l; found = found; inside = refl; linked = is; act = refl; drawn = omega arith }
 
   -- where the object takes its place, with these operations asked
-  module _ (u : Record) (ui_state : GrantState) (two : Role) (ops : List Operation) (now : role_in ui_state o.number ≡ two) (w : States) (runs : ended (Ok l.states) ops ≡ Ok w) (end : EndsWell Idle frame.k two w) (timely : AllByRecursion (IsTimely Idle l.saved) ops) (shown : IsShown two l.states.object) (plays : Plays two ops) where
+  module _ (u : Record) (ui_state : GrantState) (two : Role) (ops : List Operation) (now : role_in ui_state o.number ≡ two) (w : States) (runs : ended (Ok l.states) ops ≡ Ok w) (end : EndsWell Idle frame.asked frame.k two w) (timely : AllByRecursion (IsTimely Idle l.saved) ops) (shown : IsShown two l.states.object) (plays : Plays two ops) where
     abbrev m : Link
     m = (ask_each l ops).link
 
-    pub placed_link : SteadyLink r.servers r.last_act frame.phase frame.k (role_in ui_state o.number) m
+    pub placed_link : SteadyLink r.servers r.last_act frame.phase frame.asked frame.k (role_in ui_state o.number) m
     placed_link =
-        let link : SteadyLink r.servers r.last_act Idle frame.k two m = quiet_asked r.servers r.last_act frame.k part l held still Idle frame.k two ops
-        (subst (λ (z : Result States StateFault). IsOkAnd z (EndsWell Idle frame.k two)) (sym runs) end) timely held.saved_known shown plays in
+        let link : SteadyLink r.servers r.last_act Idle frame.asked frame.k two m = quiet_asked r.servers r.last_act frame.asked frame.k part l held still Idle frame.asked frame.k two ops
+        (subst (λ (z : Result States StateFault). IsOkAnd z (EndsWell Idle frame.asked frame.k two)) (sym runs) end) timely held.saved_known shown plays in
         rw (idle, now) link
 
   put_own : (v : Record) (ui : Ui) (ops : List Operation) → v.frames ≡ set_nth r.frames o.frame (record frame { ui = ui }) → v.last_object ≡ r.last_object → v.servers ≡ r.servers → v.last_act ≡ r.last_act → SteadyBut (o.number ∷ []) v → find (is_object o.number) v.objects ≡ Some o
-      → SteadyLink r.servers r.last_act frame.phase frame.k (role_in ui.state o.number) (ask_each l ops).link → Steady (with_object v (record o { link = Some (ask_each l ops).link }))
+      → SteadyLink r.servers r.last_act frame.phase frame.asked frame.k (role_in ui.state o.number) (ask_each l ops).link → Steady (with_object v (record o { link = Some (ask_each l ops).link }))
   put_own v ui ops changed last servers acts but there link =
       let m = (ask_each l ops).link in
       let asked = asked_each l ops held.waits_behind in
@@ -132,7 +132,7 @@ module _ (r : Record) (o : Object) (frame : Frame) (l : Link) (s : Steady r) (fo
   ui = after frame.ui (Ask own)
 
   -- a free frame is being granted
-  free_keeps : (ts : List Step) (w : States) → frame.ui.state ≡ state.Free → ended (Ok l.states) (map (operation_of g) ts) ≡ Ok w → EndsWell Idle frame.k (Getting g) w → Plays (Getting g) (map (operation_of g) ts) → Steady (taking_made r frame o l ts).rec
+  free_keeps : (ts : List Step) (w : States) → frame.ui.state ≡ state.Free → ended (Ok l.states) (map (operation_of g) ts) ≡ Ok w → EndsWell Idle frame.asked frame.k (Getting g) w → Plays (Getting g) (map (operation_of g) ts) → Steady (taking_made r frame o l ts).rec
   free_keeps ts w e runs end plays =
       let to : ui.state ≡ state.Granting own = free_ask frame.ui.state own e in
       let grant : SteadyGrant (record r { last_g = g }) o.frame ui.state = subst (SteadyGrant (record r { last_g = g }) o.frame) (sym to) (record { apart = tt; holder = own_claim; next = tt }) in
@@ -144,7 +144,7 @@ module _ (r : Record) (o : Object) (frame : Frame) (l : Link) (s : Steady r) (fo
       (put_own u ui (map (operation_of g) ts) refl refl refl refl but found link)
 
   -- one that another object holds is given up first
-  held_keeps : (holder : Claim) (tools : Tools) (ts : List Step) (w : States) → frame.ui.state ≡ state.Held holder tools → ended (Ok l.states) (map (operation_of g) (before_taking ts)) ≡ Ok w → EndsWell Idle frame.k (Waiting g) w → AllByRecursion IsPlain (map (operation_of g) (before_taking ts)) → Steady (taking_made r frame o l ts).rec
+  held_keeps : (holder : Claim) (tools : Tools) (ts : List Step) (w : States) → frame.ui.state ≡ state.Held holder tools → ended (Ok l.states) (map (operation_of g) (before_taking ts)) ≡ Ok w → EndsWell Idle frame.asked frame.k (Waiting g) w → AllByRecursion IsPlain (map (operation_of g) (before_taking ts)) → Steady (taking_made r frame o l ts).rec
   held_keeps holder tools ts w e runs end plays =
       let h : IsClaim r o.frame holder = (subst (SteadyGrant r o.frame) e (s.grants o.frame frame at)).holder in
       let apart : o.number ≡ holder.object → ⊥ = λ q. no_holder (record { holder = holder; tools = tools; is = e; named = sym q }) in
@@ -161,8 +161,8 @@ module _ (r : Record) (o : Object) (frame : Frame) (l : Link) (s : Steady r) (fo
       let asked : Object = record y { link = asked_link UiDeactivate y.link } in
       let has : role_in frame.ui.state y.number ≡ Holding holder.g tools = ap (λ (z : GrantState). role_in z y.number) e ∙ has_it holder tools y.number named in
       let gives : role_in ui.state y.number ≡ Giving holder.g = ap (λ (z : GrantState). role_in z y.number) to ∙ gives_it holder (Some own) y.number named in
-      let ends : SteadyObject u asked = asked_object_steady r u o.frame frame (record frame { ui = ui }) y (Holding holder.g tools) (Giving holder.g) UiDeactivate at refl h.inside refl refl refl refl refl has gives
-      (end_asked r.servers r.last_act frame.phase frame.k holder.g tools) (each_found (SteadyObject r) (is_object y.number) r.objects y s.objects there) in
+      let ends : SteadyObject u asked = asked_object_steady r u o.frame frame (record frame { ui = ui }) y (Holding holder.g tools) (Giving holder.g) UiDeactivate at refl h.inside refl refl refl refl refl refl has gives
+      (end_asked r.servers r.last_act frame.phase frame.asked frame.k holder.g tools) (each_found (SteadyObject r) (is_object y.number) r.objects y s.objects there) in
       let told : SteadyBut (o.number ∷ []) (with_object u asked) = put_but u (o.number ∷ []) y asked but there (record { number = refl; frame = refl; link = asked_follows UiDeactivate y.link }) (link_asked UiDeactivate y.link) ends in
       let other : y.number ≡ o.number → ⊥ = λ q. apart (sym (named ∙ q)) in
       let now : role_in ui.state o.number ≡ Waiting g = ap (λ (z : GrantState). role_in z o.number) to ∙ waits_for_it holder own o.number refl (λ q. apart (sym q)) in
@@ -178,7 +178,7 @@ taking_keeps r o frame l s found at idle quiet is unclaimed v a ts e (hidden ui)
     let g = r.last_g + 1 in
     let last = l.states.persist.last_save in
     let held = held_idle r o frame l s found at idle quiet is in
-    let ends = quiet_ends r.servers r.last_act frame.k (role_in frame.ui.state o.number) l held (free r o frame l s found at idle quiet is) in
+    let ends = quiet_ends r.servers r.last_act frame.asked frame.k (role_in frame.ui.state o.number) l held (free r o frame l s found at idle quiet is) in
     let rows : l.states ≡ record { persist = record { state = Normal; last_save = last }; object = Running } = ap (λ (p : PersistState). record { persist = record { state = p; last_save = last }; object = l.states.object }) ends.storage ∙ ap (λ (z : ObjectState). record { persist = record { state = Normal; last_save = last }; object = z }) e in
     elim moves [
       | is_free q ↦ free_keeps r o frame l s found at idle quiet is unclaimed hides (step.InPlace ∷ step.UiActivate ∷ []) (record { persist = record { state = Normal; last_save = last }; object = UiActive }) q
@@ -191,7 +191,7 @@ taking_keeps r o frame l s found at idle quiet is unclaimed v a ts e (placed ui)
     let g = r.last_g + 1 in
     let last = l.states.persist.last_save in
     let held = held_idle r o frame l s found at idle quiet is in
-    let ends = quiet_ends r.servers r.last_act frame.k (role_in frame.ui.state o.number) l held (free r o frame l s found at idle quiet is) in
+    let ends = quiet_ends r.servers r.last_act frame.asked frame.k (role_in frame.ui.state o.number) l held (free r o frame l s found at idle quiet is) in
     let rows : l.states ≡ record { persist = record { state = Normal; last_save = last }; object = InPlaceActive } = ap (λ (p : PersistState). record { persist = record { state = p; last_save = last }; object = l.states.object }) ends.storage ∙ ap (λ (z : ObjectState). record { persist = record { state = Normal; last_save = last }; object = z }) e in
     elim moves [
       | is_free q ↦ free_keeps r o frame l s found at idle quiet is unclaimed hides (step.UiActivate ∷ []) (record { persist = record { state = Normal; last_save = last }; object = UiActive }) q

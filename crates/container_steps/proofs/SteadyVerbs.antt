@@ -71,20 +71,20 @@ module _ (r : Record) (o : Object) (frame : Frame) (l : Link) (s : Steady r) (fo
   abbrev part : Role
   part = role_in frame.ui.state o.number
 
-  held : SteadyLink r.servers r.last_act Idle frame.k part l
+  held : SteadyLink r.servers r.last_act Idle frame.asked frame.k part l
   held = held_idle r o frame l s found at idle quiet is
 
   still : l.pending ≡ None
   still = free r o frame l s found at idle quiet is
 
-  ends : EndsWell Idle frame.k part l.states
-  ends = quiet_ends r.servers r.last_act frame.k part l held still
+  ends : EndsWell Idle frame.asked frame.k part l.states
+  ends = quiet_ends r.servers r.last_act frame.asked frame.k part l held still
 
   rest : AtRest frame.ui.state o.number
-  rest = at_rest frame.ui.state o.number unclaimed (quiet_plays r.servers r.last_act frame.k part l held still)
+  rest = at_rest frame.ui.state o.number unclaimed (quiet_plays r.servers r.last_act frame.asked frame.k part l held still)
 
   -- the frame is given up
-  giving_steady : (ts : List Step) (w : States) (h : AtHeld frame.ui.state o.number) → ended (Ok l.states) (map (operation_of 0) (step.UiDeactivate ∷ ts)) ≡ Ok w → EndsWell Idle frame.k Other w → l.states.object ≡ UiActive → AllByRecursion IsPlain (map (operation_of 0) ts)
+  giving_steady : (ts : List Step) (w : States) (h : AtHeld frame.ui.state o.number) → ended (Ok l.states) (map (operation_of 0) (step.UiDeactivate ∷ ts)) ≡ Ok w → EndsWell Idle frame.asked frame.k Other w → l.states.object ≡ UiActive → AllByRecursion IsPlain (map (operation_of 0) ts)
       → Steady (leaving_made r frame o l (step.UiDeactivate ∷ ts)).rec
   giving_steady ts w h runs end shown plain =
       let ops = map (operation_of 0) (step.UiDeactivate ∷ ts) in
@@ -98,8 +98,8 @@ module _ (r : Record) (o : Object) (frame : Frame) (l : Link) (s : Steady r) (fo
       let m = (stepped_link 0 l (step.UiDeactivate ∷ ts)).link in
       let asked = asked_each l ops held.waits_behind in
       let role : role_in ui.state o.number ≡ Giving h.holder.g = ap (λ (z : GrantState). role_in z o.number) to ∙ gives_it h.holder None o.number h.named in
-      let link : SteadyLink r.servers r.last_act Idle frame.k (Giving h.holder.g) m = quiet_asked r.servers r.last_act frame.k part l held still Idle frame.k (Giving h.holder.g) ops
-      (subst (λ (z : Result States StateFault). IsOkAnd z (EndsWell Idle frame.k (Giving h.holder.g))) (sym runs) (record { storage = end.storage; last_save = end.last_save; running = end.running; waits = tt }))
+      let link : SteadyLink r.servers r.last_act Idle frame.asked frame.k (Giving h.holder.g) m = quiet_asked r.servers r.last_act frame.asked frame.k part l held still Idle frame.asked frame.k (Giving h.holder.g) ops
+      (subst (λ (z : Result States StateFault). IsOkAnd z (EndsWell Idle frame.asked frame.k (Giving h.holder.g))) (sym runs) (record { storage = end.storage; last_save = end.last_save; running = end.running; waits = tt }))
       (steps_timely 0 l.saved (step.UiDeactivate ∷ ts)) held.saved_known shown plain in
       let x : Object = record o { link = Some m } in
       all_steady (record u { objects = put (is_object o.number) x u.objects })
@@ -107,17 +107,17 @@ module _ (r : Record) (o : Object) (frame : Frame) (l : Link) (s : Steady r) (fo
       (record { number = refl; frame = refl; link = λ n e. (let same : m ≡ n = cc in (l, is, sym (ap (λ (z : Link). z.act) same) ∙ asked.act)) })
       (λ n e. (let both = sym is ∙ e in let same : l ≡ n = cc in (m, refl, asked.act ∙ ap (λ (z : Link). z.act) same)))
       (set_object r u o.frame frame (record frame { ui = ui }) o x at refl refl refl refl refl (was r o frame l s found at idle quiet is).within refl (was r o frame l s found at idle quiet is)
-      (λ q. subst (λ (p : Phase). SteadyLink r.servers r.last_act p frame.k (role_in ui.state o.number) m) (sym idle) (subst (λ (z : Role). SteadyLink r.servers r.last_act Idle frame.k z m) (sym role) link))))
+      (λ q. subst (λ (p : Phase). SteadyLink r.servers r.last_act p frame.asked frame.k (role_in ui.state o.number) m) (sym idle) (subst (λ (z : Role). SteadyLink r.servers r.last_act Idle frame.asked frame.k z m) (sym role) link))))
 
   -- other steps leave it to whoever has it
-  plain_steady : (ts : List Step) (w : States) → ended (Ok l.states) (map (operation_of 0) ts) ≡ Ok w → EndsWell Idle frame.k Other w → gives_up ts ≡ false → part ≡ Other → AllByRecursion IsPlain (map (operation_of 0) ts) → Steady (leaving_made r frame o l ts).rec
+  plain_steady : (ts : List Step) (w : States) → ended (Ok l.states) (map (operation_of 0) ts) ≡ Ok w → EndsWell Idle frame.asked frame.k Other w → gives_up ts ≡ false → part ≡ Other → AllByRecursion IsPlain (map (operation_of 0) ts) → Steady (leaving_made r frame o l ts).rec
   plain_steady ts w runs end keeps other plain =
       let ops = map (operation_of 0) ts in
       let m = (stepped_link 0 l ts).link in
-      let link : SteadyLink r.servers r.last_act Idle frame.k Other m = quiet_asked r.servers r.last_act frame.k part l held still Idle frame.k Other ops
-      (subst (λ (z : Result States StateFault). IsOkAnd z (EndsWell Idle frame.k Other)) (sym runs) end)
+      let link : SteadyLink r.servers r.last_act Idle frame.asked frame.k Other m = quiet_asked r.servers r.last_act frame.asked frame.k part l held still Idle frame.asked frame.k Other ops
+      (subst (λ (z : Result States StateFault). IsOkAnd z (EndsWell Idle frame.asked frame.k Other)) (sym runs) end)
       (steps_timely 0 l.saved ts) held.saved_known (subst (λ (z : Role). IsShown z l.states.object) other held.shown) plain in
-      let here : Steady (with_object r (record o { link = Some m })) = linked_keeps r o frame l s found at idle quiet is m (asked_each l ops held.waits_behind).act (subst (λ (z : Role). SteadyLink r.servers r.last_act Idle frame.k z m) (sym other) link) in
+      let here : Steady (with_object r (record o { link = Some m })) = linked_keeps r o frame l s found at idle quiet is m (asked_each l ops held.waits_behind).act (subst (λ (z : Role). SteadyLink r.servers r.last_act Idle frame.asked frame.k z m) (sym other) link) in
       subst (λ (b : Bool). Steady (with_object (if b then with_frame r o.frame (moved frame (Ask (claim_of o l (grant_of frame.ui.state)))) else r) (record o { link = Some m }))) (sym keeps) here
 
   shown_other : part ≡ Other → l.states.object ≡ UiActive → ⊥
@@ -129,7 +129,7 @@ module _ (r : Record) (o : Object) (frame : Frame) (l : Link) (s : Steady r) (fo
   nothing_steady : Steady (leaving_made r frame o l []).rec
   nothing_steady = linked_keeps r o frame l s found at idle quiet is l refl held
 
-  leaving_at : (v : ObjectState) (ts : List Step) (w : States) → l.states.object ≡ v → LeavesFrom v ts → ended (Ok l.states) (map (operation_of 0) ts) ≡ Ok w → EndsWell Idle frame.k Other w → Steady (leaving_made r frame o l ts).rec
+  leaving_at : (v : ObjectState) (ts : List Step) (w : States) → l.states.object ≡ v → LeavesFrom v ts → ended (Ok l.states) (map (operation_of 0) ts) ≡ Ok w → EndsWell Idle frame.asked frame.k Other w → Steady (leaving_made r frame o l ts).rec
   leaving_at v ts w e leaves_nothing runs end = nothing_steady
   leaving_at v ts w e (leaves_frame plain) runs end = elim rest [
     | holds h ↦ giving_steady _ w h runs end e plain

@@ -61,7 +61,7 @@ pub apart : (r : Record) (i : ℕ) (o : Object) (l : Link) (frame : Frame) (v : 
     → steps_of v l.states.object ≡ Some steps → takes steps ≡ true → IfSome (holder_of frame.ui.state) (λ n. n ≢ o.number)
 apart r i o l frame v steps h at linked there e t =
     let known : SteadyObject r o = each_at (SteadyObject r) r.objects i o h.objects at in
-    let inside : IfSome o.link (SteadyLink r.servers r.last_act frame.phase frame.k (role_in frame.ui.state o.number)) =
-    subst (λ x. IsSomeAnd x (λ (f : Frame). IfSome o.link (SteadyLink r.servers r.last_act f.phase f.k (role_in f.ui.state o.number)))) there known.linked in
-    let steady : SteadyLink r.servers r.last_act frame.phase frame.k (role_in frame.ui.state o.number) l = subst (λ x. IfSome x (SteadyLink r.servers r.last_act frame.phase frame.k (role_in frame.ui.state o.number))) linked inside in
+    let inside : IfSome o.link (SteadyLink r.servers r.last_act frame.phase frame.asked frame.k (role_in frame.ui.state o.number)) =
+    subst (λ x. IsSomeAnd x (λ (f : Frame). IfSome o.link (SteadyLink r.servers r.last_act f.phase f.asked f.k (role_in f.ui.state o.number)))) there known.linked in
+    let steady : SteadyLink r.servers r.last_act frame.phase frame.asked frame.k (role_in frame.ui.state o.number) l = subst (λ x. IfSome x (SteadyLink r.servers r.last_act frame.phase frame.asked frame.k (role_in frame.ui.state o.number))) linked inside in
     apart_in frame.ui.state o.number v l.states.object steps steady.shown e t

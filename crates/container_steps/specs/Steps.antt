@@ -4,7 +4,7 @@ use Rattle.wire_msgs.specs.Found.{find}
 use Rattle.wire_msgs.specs.declared.message.Message.{Message}
 use Rattle.wire_msgs.specs.declared.message.Message.TheVariants.{Reply}
 use Rattle.wire_msgs.specs.declared.operation.Operation.{Operation}
-use Rattle.wire_msgs.specs.declared.operation.Operation.TheVariants.{InitNew, Load, InPlace, UiActivate, UiDeactivate, InPlaceDeactivate, OpenWindow, Edit, Save, SaveCompleted, SaveDropped, Close}
+use Rattle.wire_msgs.specs.declared.operation.Operation.TheVariants.{InitNew, Load, InPlace, UiActivate, UiDeactivate, InPlaceDeactivate, OpenWindow, Edit, Save, HandsOff, SaveCompleted, SaveDropped, Close}
 use Rattle.wire_msgs.specs.declared.answer.Answer.{Answer}
 use Rattle.wire_msgs.specs.declared.answer.Answer.TheVariants.{Done, Refused, Content, Tools}
 use Rattle.object_parts.specs.Limits.{is_within}
@@ -34,6 +34,7 @@ Fits OpenWindow Done = Unit {0}
 Fits (Edit bytes) Done = Unit {0}
 Fits (Edit bytes) (Refused why) = Unit {0}
 Fits (Save k) (Content content) = is_within content ≡ true
+Fits HandsOff Done = Unit {0}
 Fits (SaveCompleted k storage) Done = Unit {0}
 Fits (SaveDropped k) Done = Unit {0}
 Fits (Close SaveIfDirty) (Content content) = is_within content ≡ true

@@ -12,6 +12,7 @@ fn operation_name(operation: &Operation) -> &'static str {
         Operation::InitNew(_) => "InitNew",
         Operation::Edit(_) => "Edit",
         Operation::Save(_) => "Save",
+        Operation::HandsOff => "HandsOff",
         Operation::SaveCompleted { .. } => "SaveCompleted",
         Operation::SaveDropped(_) => "SaveDropped",
         Operation::InPlace => "InPlace",

@@ -123,7 +123,47 @@ kill 1 => end 1
 reap 1 =>
 states => InDoubt Free passive
 resolve 1 lost =>
-states => Idle Free passive";
+states => Idle Free passive
+anew =>
+new a.ole 12 4 => frame 1
+insert 1 note 1 1 5 2 => object 1
+saveas 1 a.ole => WrongState
+new b.ole 12 4 => frame 2
+saveas 1 b.ole => Busy
+saveas 3 c.ole => NoSuch
+saveas 1 c.ole => commit 1
+states => Committing Free passive-empty
+saveas 1 d.ole => Busy
+new c.ole 12 4 => Busy
+saveas 2 c.ole => Busy
+done 1 =>
+new a.ole 12 4 => frame 3
+start => server 1 start 1
+run 1 1 => call 1 InitNew
+reply 1 done =>
+saveas 1 d.ole => call 2 Save
+states => Saving Free active-empty
+reply 2 small => call 3 HandsOff
+states => HandingOff Free active-empty
+document => WrongState
+pending => call 3 HandsOff
+reply 3 small => BadAnswer
+reply 3 done => commit 1
+fail 1 =>
+saveas 1 e.ole => InDoubt
+resolve 1 kept => call 4 SaveCompleted
+states => Idle Free active
+new c.ole 12 4 => frame 4
+reply 4 done =>
+saveas 1 e.ole => call 5 Save
+reply 5 small => call 6 HandsOff
+kill 1 => end 1
+reap 1 => commit 1
+states => Committing Free passive
+fail 1 =>
+resolve 1 lost =>
+states => Idle Free passive
+new e.ole 12 4 => frame 5";
 
 /// A container that gives numbers up to 100.
 fn container(alloc: Global) -> ContainerCore {
@@ -170,7 +210,8 @@ fn hears(
     }
 }
 
-fn tells(
+/// Whether a container answers this to a row.
+pub(crate) fn tells(
     rt: &impl Abort,
     alloc: Global,
     core: &mut ContainerCore,

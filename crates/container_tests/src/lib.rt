@@ -12,6 +12,8 @@ mod files;
 #[cfg(test)]
 mod messages;
 #[cfg(test)]
+mod opens;
+#[cfg(test)]
 mod shown;
 #[cfg(test)]
 mod words;

@@ -2,6 +2,7 @@ mod Again
 mod Carried
 mod Closed
 mod Committed
+mod Crashing
 mod Finding
 mod Gating
 mod Kept

@@ -1,6 +1,6 @@
 pub mod CallLaws
 pub mod Calls
-pub mod Files
+pub mod Crashes
 pub mod Memory
 pub mod Opened
 pub mod Resolved

@@ -7,7 +7,6 @@ mod calls;
 mod carry;
 mod compare;
 mod failures;
-pub mod file_disk;
 mod find;
 mod found;
 mod held;

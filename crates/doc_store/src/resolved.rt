@@ -1,11 +1,11 @@
 //! Commits whose end is known: after an error the disk is opened again, and its document compared.
 
 ghost use Rattle.store_model.specs.Crash.{Rose, StaysIn};
-ghost use Rattle.store_model.specs.Store.{IsBeforeOrAfter, StandsFor};
+ghost use Rattle.store_model.specs.Store.{IsBeforeOrAfter, StandsAsOneOf, StandsFor};
 ghost use Rattle.store_model.specs.declared.fault.StoreFault.TheVariants.{Device};
 ghost use Rattle.doc_store.specs.Opened.{disk_of, needs_reopen_of};
 ghost use Rattle.doc_store.specs.Resolved.{Ends, IsLostFor, IsTold, LostAs, ReopenRefuses};
-ghost use Rattle.std.specs.Prelude.{◌≡◌, false, IfErr, IfOk, length};
+ghost use Rattle.std.specs.Prelude.{◌≡◌, false, true, IfErr, IfOk, length};
 
 use crate::outcome::Outcome;
 use crate::refused::Refused;
@@ -28,6 +28,8 @@ pub fn commit_resolved<D: Disk>(
     ensures ready { IfOk result (λ r. needs_reopen_of r.1 ≡ false) }
     ensures any_moment { D.follows_model → needs_reopen_of store ≡ false → IfOk result (λ r. StaysIn D.may_leave D.moment D.left_since (disk_of store) (disk_of r.1) (IsBeforeOrAfter (D.reads (disk_of store)).document bytes.now)) }
     ensures any_moment_refused { D.follows_model → needs_reopen_of store ≡ false → IfErr result (λ refused. StaysIn D.may_leave D.moment D.left_since (disk_of store) refused.disk (IsBeforeOrAfter (D.reads (disk_of store)).document bytes.now)) }
+    ensures as_before { D.follows_model → needs_reopen_of store ≡ true → IfOk result (λ r. StaysIn D.may_leave D.moment D.left_since (disk_of store) (disk_of r.1) (StandsAsOneOf (D.may_leave (disk_of store)))) }
+    ensures as_before_refused { D.follows_model → needs_reopen_of store ≡ true → IfErr result (λ refused. StaysIn D.may_leave D.moment D.left_since (disk_of store) refused.disk (StandsAsOneOf (D.may_leave (disk_of store)))) }
     ensures refuses { IfErr result (λ refused. ReopenRefuses D.follows_model (needs_reopen_of store) (D.failed (disk_of store)) (D.failed refused.disk) refused.fault) }
 {
     let mut store = store;

@@ -29,6 +29,7 @@ impl<D: Disk> Store<D> {
     ghost use Rattle.store_model.specs.declared.journal.TheConstants.{CLOSED};
     ghost use Rattle.store_model.specs.Image.{Image};
     ghost use Rattle.store_model.specs.Journal.{restored};
+    ghost use Rattle.doc_store.specs.Crashes.{Crashed, LeavesCrashed};
     ghost use Rattle.doc_store.specs.Opened.{disk_of, needs_reopen_of};
     ghost use Rattle.doc_store.specs.Resolved.{IsEither, LeavesEither};
     ghost use Rattle.store_model.specs.Store.{CommitRefuses, CurrentRefuses, HoldsRefuses, IsBeforeOrAfter, OpenRefuses, StandsAsOneOf, StandsFor, UnlessDevice};
@@ -36,6 +37,9 @@ impl<D: Disk> Store<D> {
 
     /// Opens the store on a disk that a crash may have left, with writes pending too. Its document is that of an open
     /// journal, which is then written and the journal closed, else the document area's.
+    ///
+    /// Where a commit crashed, and then any number of opens, an open that ends gives the document from before the commit
+    /// or that of the commit.
     ///
     /// A refusal hands the disk back. `Device` where a call of the disk failed. `Damaged` where an open journal is
     /// shorter than it says, says more than `MAX_DOCUMENT` or has another form, or where its blocks don't rise, begin
@@ -47,6 +51,9 @@ impl<D: Disk> Store<D> {
         ensures rests { D.follows_model → IfOk result (λ store. Rests D.reads D.may_leave (disk_of store)) }
         ensures any_moment { D.follows_model → IfOk result (λ store. StaysIn D.may_leave D.moment D.left_since disk (disk_of store) (StandsAsOneOf (D.may_leave disk))) }
         ensures any_moment_refused { D.follows_model → IfErr result (λ refused. StaysIn D.may_leave D.moment D.left_since disk refused.disk (StandsAsOneOf (D.may_leave disk))) }
+        ensures ends { D.follows_model → (old new : List ℕ) → Crashed D.may_leave D.moment D.left_since old new disk → IfOk result (λ store. IsEither old new (D.reads (disk_of store)).document) }
+        ensures crashes { D.follows_model → (old new : List ℕ) → Crashed D.may_leave D.moment D.left_since old new disk → IfOk result (λ store. LeavesCrashed D.may_leave D.moment D.left_since disk (disk_of store) old new) }
+        ensures crashes_refused { D.follows_model → (old new : List ℕ) → Crashed D.may_leave D.moment D.left_since old new disk → IfErr result (λ refused. LeavesCrashed D.may_leave D.moment D.left_since disk refused.disk old new) }
         ensures refuses { IfErr result (λ refused. OpenRefuses D.follows_model (D.reads disk) (D.failed disk) (D.failed refused.disk) refused.fault) }
         ensures kept { D.follows_model → IfErr result (λ refused. UnlessDevice (D.reads refused.disk ≡ D.reads disk) refused.fault) }
         ensures count { IfOk result (λ store. D.failed (disk_of store) ≡ D.failed disk) }
@@ -70,6 +77,9 @@ impl<D: Disk> Store<D> {
             → IfOk result (λ store. StaysIn D.may_leave D.moment D.left_since (disk_of self) (disk_of store) (IsBeforeOrAfter old new)) }
         ensures any_moment_refused { D.follows_model → (old new : List ℕ) → LeavesEither D.may_leave (disk_of self) old new
             → IfErr result (λ refused. StaysIn D.may_leave D.moment D.left_since (disk_of self) refused.disk (IsBeforeOrAfter old new)) }
+        ensures document { D.follows_model → IfOk result (λ store. restored (D.reads (disk_of self)) ≡ Some (D.reads (disk_of store)).document) }
+        ensures as_before { D.follows_model → IfOk result (λ store. StaysIn D.may_leave D.moment D.left_since (disk_of self) (disk_of store) (StandsAsOneOf (D.may_leave (disk_of self)))) }
+        ensures as_before_refused { D.follows_model → IfErr result (λ refused. StaysIn D.may_leave D.moment D.left_since (disk_of self) refused.disk (StandsAsOneOf (D.may_leave (disk_of self)))) }
         ensures ready { IfOk result (λ store. needs_reopen_of store ≡ false) }
         ensures count { IfOk result (λ store. D.failed (disk_of store) ≡ D.failed (disk_of self)) }
         ensures refuses { IfErr result (λ refused. OpenRefuses D.follows_model (D.reads (disk_of self)) (D.failed (disk_of self)) (D.failed refused.disk) refused.fault) }
@@ -150,6 +160,7 @@ impl<D: Disk> Store<D> {
         ensures journal { D.follows_model → OnOk result ((D.reads (disk_of self.new)).journal ≡ journal_from CLOSED (D.reads (disk_of self.old)).document bytes.now) }
         ensures any_moment { D.follows_model → needs_reopen_of self.old ≡ false
             → StaysIn D.may_leave D.moment D.left_since (disk_of self.old) (disk_of self.new) (IsBeforeOrAfter (D.reads (disk_of self.old)).document bytes.now) }
+        ensures crashes { D.follows_model → needs_reopen_of self.old ≡ false → LeavesCrashed D.may_leave D.moment D.left_since (disk_of self.old) (disk_of self.new) (D.reads (disk_of self.old)).document bytes.now }
         ensures after_device { D.follows_model → needs_reopen_of self.old ≡ false
             → IsBeforeOrAfter (D.reads (disk_of self.old)).document bytes.now (D.reads (disk_of self.new)) }
         ensures ready { OnOk result ((needs_reopen_of self.old ≡ false) × (length bytes.now ≤ MAX_DOCUMENT) × (needs_reopen_of self.new ≡ false)) }

@@ -81,9 +81,19 @@ abbrev pub area_of : Option ℕ → Option ℕ → Option ℕ → Option ℕ →
 area_of (Some x) (Some y) (Some w) (Some h) = Some (record { x = x; y = y; w = w; h = h })
 area_of _ _ _ _ = None
 
-abbrev pub new_of : Option (List ℕ) → Option ℕ → Option ℕ → Option Event
-new_of (Some name) (Some w) (Some h) = Some (event.Command (command.New name w h))
-new_of _ _ _ = None
+-- a frame of a name and a size, and what makes it
+abbrev pub Sized : Type 0
+Sized = List ℕ × ℕ × ℕ
+
+abbrev pub sized_of : Option (List ℕ) → Option ℕ → Option ℕ → Option Sized
+sized_of (Some name) (Some w) (Some h) = Some (name, w, h)
+sized_of _ _ _ = None
+
+abbrev pub new_of : Sized → Event
+new_of s = event.Command (command.New s.0 s.1 s.2)
+
+abbrev pub open_of : Sized → Event
+open_of s = event.Open s.0 s.1 s.2
 
 abbrev pub insert_of : Option ℕ → Option ObjectKind → Option Area → Option Event
 insert_of (Some f) (Some kind) (Some area) = Some (event.Command (command.Insert f kind area))
@@ -125,10 +135,25 @@ edit_of bytes o = event.Command (command.Edit o bytes)
 abbrev pub save_of : ℕ → Event
 save_of f = event.Command (command.Save f)
 
+abbrev pub save_as_of : Option ℕ → Option (List ℕ) → Option Event
+save_as_of (Some f) (Some name) = Some (event.Command (command.SaveAs f name))
+save_as_of (Some f) None = None
+save_as_of None name = None
+
 -- what stands behind the event's name
+abbrev pub sized_read : List (List ℕ) → Option Sized
+sized_read (name ∷ w ∷ h ∷ []) = sized_of (name_read name) (short_read w) (short_read h)
+sized_read _ = None
+
 abbrev pub new_read : List (List ℕ) → Option Event
-new_read (name ∷ w ∷ h ∷ []) = new_of (name_read name) (short_read w) (short_read h)
-new_read _ = None
+new_read words = option_map new_of (sized_read words)
+
+abbrev pub open_read : List (List ℕ) → Option Event
+open_read words = option_map open_of (sized_read words)
+
+abbrev pub save_as_read : List (List ℕ) → Option Event
+save_as_read (f ∷ name ∷ []) = save_as_of (number_read f) (name_read name)
+save_as_read _ = None
 
 abbrev pub insert_read : List (List ℕ) → Option Event
 insert_read (f ∷ kind ∷ x ∷ y ∷ w ∷ h ∷ []) = insert_of (number_read f) (kind_read kind) (area_of (short_read x) (short_read y) (short_read w) (short_read h))
@@ -186,28 +211,42 @@ abbrev pub event_named : List ℕ → List (List ℕ) → Option Event
 event_named name others =
     cond (bytes_eq name (codes "start")) (start_read others) (
     cond (bytes_eq name (codes "new")) (new_read others) (
-    cond (bytes_eq name (codes "edit")) (edit_read others) (numbers_named name others)))
+    cond (bytes_eq name (codes "saveas")) (save_as_read others) (
+    cond (bytes_eq name (codes "edit")) (edit_read others) (numbers_named name others))))
 
 abbrev pub event_in : List (List ℕ) → Option Event
 event_in [] = None
 event_in (name ∷ others) = event_named name others
 
--- the event that a line spells
+-- the event that a line spells, but for a file that is opened
 abbrev pub event_read : List ℕ → Option Event
 event_read line = event_in (words line)
 
+-- a file that is opened
+abbrev pub open_named : List ℕ → List (List ℕ) → Option Event
+open_named name others = cond (bytes_eq name (codes "open")) (open_read others) None
+
+abbrev pub open_in : List (List ℕ) → Option Event
+open_in [] = None
+open_in (name ∷ others) = open_named name others
+
+abbrev pub or_else : Option Event → Option Event → Option Event
+or_else (Some e) other = Some e
+or_else None other = other
+
 -- the event of line n
 abbrev pub line_read : ℕ → List ℕ → Option Event
-line_read n line = event_read line
+line_read n line = or_else (open_in (words line)) (event_read line)
 
 -- the events of a text, or the first line that spells none
 abbrev pub events_read : List ℕ → Result (List Event) (ℕ × SyntaxFault)
 events_read text = text_read line_read text
 
--- Memory is taken for the name of a new frame, and for the bytes of an edit.
+-- Memory is taken for the name of a new frame, for another name of one, and for the bytes of an edit (and for the name of a file that is opened).
 abbrev pub command_takes_memory : Command → Bool
 command_takes_memory (command.New name w h) = true
 command_takes_memory (command.Edit o bytes) = true
+command_takes_memory (command.SaveAs f name) = true
 command_takes_memory (command.Insert f kind area) = false
 command_takes_memory command.Start = false
 command_takes_memory (command.Run o inc) = false
@@ -225,6 +264,7 @@ event_takes_memory (event.Reap inc) = false
 event_takes_memory (event.Done f) = false
 event_takes_memory (event.Fail f) = false
 event_takes_memory (event.Resolve f is_kept) = false
+event_takes_memory (event.Open name w h) = false
 event_takes_memory (event.Scribble inc act) = false
 event_takes_memory (event.Ask inc act) = false
 

@@ -1,9 +1,9 @@
 //! Texts of events.
 
-ghost use Rattle.event_texts.specs.Events.{area_of, close_read, commit_named, edit_read, end_named, event_named, event_read, insert_read, is_file_name, kind_read, new_read, numbers_named, object_named, option_read, outcome_read, pair_read, resolve_read, short_read, signed_read, sole_number, takes_memory, verb_read};
+ghost use Rattle.event_texts.specs.Events.{area_of, close_read, commit_named, edit_read, end_named, event_named, event_read, insert_read, is_file_name, kind_read, new_read, numbers_named, object_named, open_in, open_named, open_read, option_read, outcome_read, pair_read, resolve_read, save_as_read, short_read, signed_read, sized_read, sole_number, takes_memory, verb_read};
 ghost use Rattle.embed_core.specs.Words.{words};
 ghost use Rattle.std.specs.List.{list_all};
-ghost use Rattle.std.specs.Prelude.{◌≡◌, [], IfErr, IfOk, IsTrue};
+ghost use Rattle.std.specs.Prelude.{◌≡◌, [], IfErr, IfOk, IsSome, IsTrue};
 ghost use Rattle.texts.specs.Words.{is_visible};
 
 use container_model::command::{Command, ObjectKind};
@@ -31,14 +31,42 @@ impl Grammar for Events {
 
     #[tactic(auto, using(crate::proofs::Memory::spells_one))]
     fn parse(alloc: Global, _number: usize, line: &[u8]) -> Result<Option<Event>, AllocError> {
+        match parse_open(alloc, line)? {
+            Some(event) => return Ok(Some(event)),
+            None => {}
+        }
         let event = parse(alloc, line)?;
         Ok(event)
     }
 }
 
-/// The event that a line spells.
+/// The file to be opened that a line spells. Memory is taken for a line that spells one.
+#[tactic(auto, using(crate::proofs::Behind::open_alone))]
+fn parse_open(alloc: Global, line: &[u8]) -> Result<Option<Event>, AllocError>
+    ensures read { IfOk result (λ event. event ≡ open_in (words line.now)) }
+    ensures within { IfErr result (λ _. IsSome (open_in (words line.now))) }
+{
+    match cut(line, b' ') {
+        (name, Some(rest)) => parse_open_with(alloc, name, rest),
+        (_, None) => Ok(None),
+    }
+}
+
+/// The file to be opened that a name and what stands behind its space spell.
+fn parse_open_with(alloc: Global, name: &[u8], rest: &[u8]) -> Result<Option<Event>, AllocError>
+    ensures read { IfOk result (λ event. event ≡ open_named name.now (words rest.now)) }
+    ensures within { IfErr result (λ _. IsSome (open_named name.now (words rest.now))) }
+{
+    if name == b"open".as_slice() {
+        opened_frame(alloc, rest)
+    } else {
+        Ok(None)
+    }
+}
+
+/// The event that a line spells, but for a file that is opened.
 ///
-/// Refused for want of memory alone, which is taken for a new frame and for an edit.
+/// Refused for want of memory alone, which is taken for a new frame, for another name of one, and for an edit.
 pub fn parse(alloc: Global, line: &[u8]) -> Result<Option<Event>, AllocError>
     ensures read { IfOk result (λ event. event ≡ event_read line.now) }
     ensures within { IfErr result (λ _. IsTrue (takes_memory (event_read line.now))) }
@@ -70,6 +98,8 @@ fn parse_with(alloc: Global, name: &[u8], rest: &[u8]) -> Result<Option<Event>, 
         Ok(None)
     } else if name == b"new".as_slice() {
         new_frame(alloc, rest)
+    } else if name == b"saveas".as_slice() {
+        save_as(alloc, rest)
     } else if name == b"edit".as_slice() {
         edit(alloc, rest)
     } else {
@@ -207,10 +237,10 @@ fn is_file_name(name: &[u8]) -> bool
     !name.is_empty() && name.len() <= NAME_SIZE && are_visible(name) && !name.ends_with(b".journal")
 }
 
-/// The frame that what stands behind `new` spells.
-fn new_frame(alloc: Global, rest: &[u8]) -> Result<Option<Event>, AllocError>
-    ensures read { IfOk result (λ event. event ≡ new_read (words rest.now)) }
-    ensures within { IfErr result (λ _. IsTrue (takes_memory (new_read (words rest.now)))) }
+/// A frame's name and size.
+fn sized(alloc: Global, rest: &[u8]) -> Result<Option<(Bytes, u16, u16)>, AllocError>
+    ensures read { IfOk result (λ frame. frame ≡ sized_read (words rest.now)) }
+    ensures within { IfErr result (λ _. IsSome (sized_read (words rest.now))) }
 {
     let mut words = Pieces::new(rest, b' ');
     let (Some(name), Some(width), Some(height), None) = (
@@ -225,7 +255,51 @@ fn new_frame(alloc: Global, rest: &[u8]) -> Result<Option<Event>, AllocError>
         return Ok(None);
     };
     let name = Bytes::from_slice(alloc, name)?;
-    Ok(Some(Event::Command(Command::New(name, width, height))))
+    Ok(Some((name, width, height)))
+}
+
+/// The frame that what stands behind `new` spells.
+#[tactic(auto, using(crate::proofs::Memory::new_takes))]
+fn new_frame(alloc: Global, rest: &[u8]) -> Result<Option<Event>, AllocError>
+    ensures read { IfOk result (λ event. event ≡ new_read (words rest.now)) }
+    ensures within { IfErr result (λ _. IsTrue (takes_memory (new_read (words rest.now)))) }
+{
+    match sized(alloc, rest)? {
+        Some((name, width, height)) => Ok(Some(Event::Command(Command::New(name, width, height)))),
+        None => Ok(None),
+    }
+}
+
+/// The file to be opened that what stands behind `open` spells.
+#[tactic(auto, using(crate::proofs::Memory::open_spells))]
+fn opened_frame(alloc: Global, rest: &[u8]) -> Result<Option<Event>, AllocError>
+    ensures read { IfOk result (λ event. event ≡ open_read (words rest.now)) }
+    ensures within { IfErr result (λ _. IsSome (open_read (words rest.now))) }
+{
+    match sized(alloc, rest)? {
+        Some((name, width, height)) => Ok(Some(Event::Open(name, width, height))),
+        None => Ok(None),
+    }
+}
+
+/// The save under another name that what stands behind `saveas` spells.
+fn save_as(alloc: Global, rest: &[u8]) -> Result<Option<Event>, AllocError>
+    ensures read { IfOk result (λ event. event ≡ save_as_read (words rest.now)) }
+    ensures within { IfErr result (λ _. IsTrue (takes_memory (save_as_read (words rest.now)))) }
+{
+    let mut words = Pieces::new(rest, b' ');
+    let (Some(frame), Some(name), None) = (
+        words.next_piece(),
+        words.next_piece(),
+        words.next_piece(),
+    ) else {
+        return Ok(None);
+    };
+    let (Some(frame), true) = (number(frame), is_file_name(name)) else {
+        return Ok(None);
+    };
+    let name = Bytes::from_slice(alloc, name)?;
+    Ok(Some(Event::Command(Command::SaveAs(frame, name))))
 }
 
 /// The kind that a word spells.

@@ -1,7 +1,12 @@
 //! The commands over compound files as a program has them, carried out over the files of a system.
 #![tactic(auto)]
 
+pub mod command_lines;
+mod disk_folder;
+mod extracting;
+mod finding;
+mod packing;
 pub mod running;
 pub mod tasks;
 
-pub use program_ends::{command_lines, ends};
+pub use program_ends::ends;

@@ -28,7 +28,7 @@ pub fn make<R: Runtime + AllocGlobal>(rt: &R, path: &str) -> ExitCode {
 }
 
 /// Keeps a new file of so many bytes, and tells their number.
-fn keep<R: Runtime + AllocGlobal>(
+pub(crate) fn keep<R: Runtime + AllocGlobal>(
     rt: &R,
     new: NewFile<'_, R>,
     path: &str,

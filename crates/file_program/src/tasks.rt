@@ -1,5 +1,8 @@
 //! What a command line over files asks for.
 
+use crate::command_lines::{EXTRACT, FOLDER, FORCE, PACK};
+use crate::extracting::extract;
+use crate::packing::pack;
 use crate::running::{clean, get, list, make};
 use clap::ArgMatches;
 use program_ends::command_lines::{CLEAN, FILE, GET, LIST, MAKE, OUT, PATH};
@@ -17,6 +20,10 @@ pub enum Task<'a> {
     Get(&'a str, &'a str),
     /// The tree of the file of one path, written to that of another.
     Clean(&'a str, &'a str),
+    /// A folder of one path, made of the file of another; whether files that stand there are replaced.
+    Extract(&'a str, &'a str, bool),
+    /// A file of one path, made of the folder of another: that of the folder, and that of the file.
+    Pack(&'a str, &'a str),
 }
 
 impl<'a> Task<'a> {
@@ -31,7 +38,13 @@ impl<'a> Task<'a> {
         if let Some(got) = matches.subcommand_matches(GET) {
             return getting(got);
         }
-        cleaning(matches.subcommand_matches(CLEAN)?)
+        if let Some(cleaned) = matches.subcommand_matches(CLEAN) {
+            return cleaning(cleaned);
+        }
+        if let Some(extracted) = matches.subcommand_matches(EXTRACT) {
+            return extracting(extracted);
+        }
+        packing(matches.subcommand_matches(PACK)?)
     }
 
     /// Does what is asked for, and gives the status to end with.
@@ -41,6 +54,8 @@ impl<'a> Task<'a> {
             Task::List(path) => list(rt, path),
             Task::Get(path, word) => get(rt, path, word),
             Task::Clean(path, out) => clean(rt, path, out),
+            Task::Extract(path, folder, is_forced) => extract(rt, path, folder, is_forced),
+            Task::Pack(folder, path) => pack(rt, folder, path),
         }
     }
 }
@@ -59,4 +74,16 @@ fn getting<'a>(got: &ArgMatches<'a>) -> Option<Task<'a>> {
 
 fn cleaning<'a>(cleaned: &ArgMatches<'a>) -> Option<Task<'a>> {
     Some(Task::Clean(cleaned.get_str(FILE)?, cleaned.get_str(OUT)?))
+}
+
+fn extracting<'a>(extracted: &ArgMatches<'a>) -> Option<Task<'a>> {
+    Some(Task::Extract(
+        extracted.get_str(FILE)?,
+        extracted.get_str(FOLDER)?,
+        extracted.get_flag(FORCE),
+    ))
+}
+
+fn packing<'a>(packed: &ArgMatches<'a>) -> Option<Task<'a>> {
+    Some(Task::Pack(packed.get_str(FOLDER)?, packed.get_str(FILE)?))
 }

@@ -27,18 +27,6 @@ pub(crate) fn first_of(before: Option<Told>, next: Option<Told>) -> Option<Told>
     }
 }
 
-/// The store of a file.
-fn open<H: Host>(alloc: Global, host: &mut H, name: &[u8]) -> Result<Store<H::Disk>, StoreFault>
-    ensures told { (r : Record) → IsTold (H.told host.old) r → IsTold (H.told host.new) r }
-    ensures still { (s : ℕ) → running s (H.told host.new) ≡ running s (H.told host.old) }
-{
-    let disk = host.disk(name)?;
-    match Store::open(alloc, disk) {
-        Ok(store) => Ok(store),
-        Err(refused) => Err(refused.fault),
-    }
-}
-
 /// Makes these bytes the document of a store. After an error it is opened again, and tells by its document what became of them.
 fn replace<H: Host>(store: Store<H::Disk>, bytes: &[u8]) -> Result<Outcome, StoreFault> {
     match commit_resolved(store, bytes) {
@@ -60,6 +48,39 @@ fn compare<H: Host>(
     }
 }
 
+/// What became of these bytes where their disk wasn't given or opened at first, with that fault.
+fn try_again<H: Host>(
+    alloc: Global,
+    disk: H::Disk,
+    bytes: &[u8],
+    fault: StoreFault,
+) -> Result<Outcome, StoreFault> {
+    match Store::open(alloc, disk) {
+        Ok(store) => compare::<H>(store, bytes, fault),
+        Err(refused) => Err(refused.fault),
+    }
+}
+
+/// Makes these bytes the document of a disk. Where it isn't opened, the same disk is tried again: a new one of its name
+/// forgets that a sync failed.
+fn commit_to<H: Host>(alloc: Global, disk: H::Disk, bytes: &[u8]) -> Result<Outcome, StoreFault> {
+    match Store::open(alloc, disk) {
+        Ok(store) => replace::<H>(store, bytes),
+        Err(refused) => try_again::<H>(alloc, refused.disk, bytes, refused.fault),
+    }
+}
+
+/// The disk of a file.
+fn disk<H: Host>(host: &mut H, name: &[u8]) -> Result<H::Disk, StoreFault>
+    ensures told { (r : Record) → IsTold (H.told host.old) r → IsTold (H.told host.new) r }
+    ensures still { (s : ℕ) → running s (H.told host.new) ≡ running s (H.told host.old) }
+{
+    match host.disk(name) {
+        Ok(given) => Ok(given),
+        Err(fault) => Err(fault),
+    }
+}
+
 /// Makes these bytes the file.
 ///
 /// Refused: where its store can't be opened, also when that is tried again, so that it isn't known what the file is.
@@ -72,9 +93,9 @@ fn commit<H: Host>(
     ensures told { (r : Record) → IsTold (H.told host.old) r → IsTold (H.told host.new) r }
     ensures still { (s : ℕ) → running s (H.told host.new) ≡ running s (H.told host.old) }
 {
-    match open(alloc, host, name) {
-        Ok(store) => replace::<H>(store, bytes),
-        Err(fault) => compare::<H>(open(alloc, host, name)?, bytes, fault),
+    match disk(host, name) {
+        Ok(given) => commit_to::<H>(alloc, given, bytes),
+        Err(fault) => try_again::<H>(alloc, disk(host, name)?, bytes, fault),
     }
 }
 

@@ -15,6 +15,7 @@ of_event (Some (event.Reap inc)) t = absurd (cc)
 of_event (Some (event.Done f)) t = absurd (cc)
 of_event (Some (event.Fail f)) t = absurd (cc)
 of_event (Some (event.Resolve f is_kept)) t = absurd (cc)
+of_event (Some (event.Open name width height)) t = absurd (cc)
 of_event (Some (event.Scribble inc act)) t = absurd (cc)
 of_event (Some (event.Ask inc act)) t = absurd (cc)
 

@@ -19,6 +19,7 @@ command_of (event.Reap inc) = None
 command_of (event.Done f) = None
 command_of (event.Fail f) = None
 command_of (event.Resolve f is_kept) = None
+command_of (event.Open name width height) = None
 command_of (event.Scribble inc act) = None
 command_of (event.Ask inc act) = None
 

@@ -72,6 +72,7 @@ fn command_of(event: Event) -> Option<ScriptCommand>
         | Event::Done(_)
         | Event::Fail(_)
         | Event::Resolve(_, _)
+        | Event::Open(_, _, _)
         | Event::Scribble(_, _)
         | Event::Ask(_, _) => None,
     }

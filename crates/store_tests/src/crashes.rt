@@ -55,7 +55,13 @@ fn opens_to_either(
     true
 }
 
-fn commits(rt: &impl Abort, alloc: Global, old: &[u8], journal: &[u8], new: &[u8]) -> bool {
+pub(crate) fn commits(
+    rt: &impl Abort,
+    alloc: Global,
+    old: &[u8],
+    journal: &[u8],
+    new: &[u8],
+) -> bool {
     let (told, after) = commit(alloc, disk(rt, alloc, old, journal), new);
     told == Some(true) && opens_to_either(rt, alloc, &after, old, new)
 }
@@ -73,7 +79,13 @@ fn a_crash_of_a_commit_leaves_the_old_document_or_the_new_one(rt: HostRuntime) {
     assert!(rt; commits(&rt, alloc, b"old", open, ones));
 }
 
-fn opens(rt: &impl Abort, alloc: Global, found: &[u8], journal: &[u8], want: &[u8]) -> bool {
+pub(crate) fn opens(
+    rt: &impl Abort,
+    alloc: Global,
+    found: &[u8],
+    journal: &[u8],
+    want: &[u8],
+) -> bool {
     let (told, after) = open_only(alloc, disk(rt, alloc, found, journal));
     told == Ok(()) && opens_to_either(rt, alloc, &after, want, want)
 }

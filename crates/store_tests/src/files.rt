@@ -1,8 +1,11 @@
 //! The disk over two files.
 
+use crate::wide::bytes_of;
 use doc_store::disk::Disk;
-use doc_store::file_disk::FileDisk;
+use doc_store::fault::StoreFault;
 use doc_store::store::Store;
+use file_disk::file_disk::FileDisk;
+use file_disk::system_files::SystemFiles;
 use std::alloc::Global;
 use std::hash::{BuildHasher, RandomState};
 use std::{env, fs};
@@ -15,26 +18,26 @@ fn opens_to(rt: &HostRuntime, name: &str, new: Option<&[u8]>, want: &[u8]) -> bo
     }
 }
 
-fn has(alloc: Global, disk: FileDisk, new: Option<&[u8]>, want: &[u8]) -> bool {
+fn has(alloc: Global, disk: FileDisk<SystemFiles>, new: Option<&[u8]>, want: &[u8]) -> bool {
     match Store::open(alloc, disk) {
         Ok(store) => tells(store, new, want),
         Err(_) => false,
     }
 }
 
-fn tells(mut store: Store<FileDisk>, new: Option<&[u8]>, want: &[u8]) -> bool {
+fn tells(mut store: Store<FileDisk<SystemFiles>>, new: Option<&[u8]>, want: &[u8]) -> bool {
     let is_told = is_committed(&mut store, new) && is_current(&mut store, want);
     is_told && store.into_disk().failures() == 0
 }
 
-fn is_committed(store: &mut Store<FileDisk>, new: Option<&[u8]>) -> bool {
+fn is_committed(store: &mut Store<FileDisk<SystemFiles>>, new: Option<&[u8]>) -> bool {
     match new {
         Some(bytes) => store.commit(bytes).is_ok(),
         None => true,
     }
 }
 
-fn is_current(store: &mut Store<FileDisk>, want: &[u8]) -> bool {
+fn is_current(store: &mut Store<FileDisk<SystemFiles>>, want: &[u8]) -> bool {
     match store.current() {
         Ok(found) => found.as_slice() == want,
         Err(_) => false,
@@ -68,11 +71,53 @@ fn is_short_journal(rt: &HostRuntime, name: &str) -> bool {
     }
 }
 
-/// Whether a journal that a crash left open is carried out.
+/// Whether a journal of a whole document that a crash left open is carried out.
 fn is_carried_out(rt: &HostRuntime, name: &str, journal: &str) -> bool {
     fs::write(rt, journal, b"\x01\x03\0\0\0\0\0\0\0new").is_ok()
         && opens_to(rt, name, None, b"new")
         && is_file(rt, name, b"new")
+}
+
+/// Opens the gate of a journal.
+fn open_gate(rt: &HostRuntime, journal: &str) -> bool {
+    match fs::read(rt, journal) {
+        Ok(mut found) => {
+            if let Some(gate) = found.first_mut() {
+                *gate = 1;
+            }
+            fs::write(rt, journal, &found).is_ok()
+        }
+        Err(_) => false,
+    }
+}
+
+/// Whether the journal of a commit is carried out where its gate is opened again and the document is what it was before.
+fn are_blocks_carried_out(rt: &HostRuntime, name: &str, journal: &str, long: &[u8]) -> bool {
+    opens_to(rt, name, Some(b"before"), b"before")
+        && opens_to(rt, name, Some(long), long)
+        && open_gate(rt, journal)
+        && fs::write(rt, name, b"before").is_ok()
+        && opens_to(rt, name, None, long)
+        && is_file(rt, name, long)
+}
+
+/// Whether a name without files is found as none, and nothing is made.
+fn is_found_as_none(rt: &HostRuntime, name: &str) -> bool {
+    match FileDisk::find(rt, name) {
+        Ok(None) => fs::symlink_metadata(rt, name).is_err(),
+        _ => false,
+    }
+}
+
+/// Whether a document is found, and isn't opened a second time as long as it is open.
+fn is_found_and_locked(rt: &HostRuntime, name: &str, want: &[u8]) -> bool {
+    match FileDisk::find(rt, name) {
+        Ok(Some(disk)) => {
+            let is_locked = matches!(FileDisk::open(rt, name), Err(StoreFault::Device));
+            is_locked && has(rt.alloc(), disk, None, want)
+        }
+        _ => false,
+    }
 }
 
 fn are_removed(rt: &HostRuntime, name: &str, journal: &str, folder: &str) -> bool {
@@ -90,10 +135,13 @@ fn files_are_made_committed_and_opened_again(rt: HostRuntime) {
     fs::create_dir(&rt, folder.as_str()).expect(&rt, "a new folder");
     let name = format!(in alloc; "{folder}/a.doc").expect(&rt, "memory");
     let journal = format!(in alloc; "{name}.journal").expect(&rt, "memory");
-    let long = vec![in alloc; 9u8; 200_000].expect(&rt, "memory");
+    let long = bytes_of(alloc, 200_000, 0).expect(&rt, "memory");
+    assert!(rt; is_found_as_none(&rt, name.as_str()));
     assert!(rt; are_committed(&rt, name.as_str(), &long));
     assert!(rt; is_short_journal(&rt, journal.as_str()));
+    assert!(rt; is_found_and_locked(&rt, name.as_str(), b"short"));
     assert!(rt; is_carried_out(&rt, name.as_str(), journal.as_str()));
+    assert!(rt; are_blocks_carried_out(&rt, name.as_str(), journal.as_str(), &long));
     // A folder isn't opened.
     assert!(rt; FileDisk::open(&rt, folder.as_str()).is_err());
     assert!(rt; are_removed(&rt, name.as_str(), journal.as_str(), folder.as_str()));

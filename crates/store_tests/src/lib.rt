@@ -13,3 +13,9 @@ mod images;
 mod resolving;
 #[cfg(test)]
 mod runs;
+#[cfg(test)]
+mod short;
+#[cfg(test)]
+mod short_files;
+#[cfg(test)]
+mod wide;

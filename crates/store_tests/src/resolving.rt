@@ -34,35 +34,65 @@ fn opens_so(alloc: Global, disk: MemoryDisk, outcome: Outcome) -> bool {
     }
 }
 
-/// Whether a commit ends as it is told, and whether no call failed.
-fn resolves(alloc: Global, store: Store<MemoryDisk>) -> (bool, bool) {
+/// How a run ended.
+#[derive(Clone, Copy, PartialEq, Eq)]
+enum Ended {
+    /// The open before the commit failed.
+    Unopened,
+    /// No call failed.
+    Whole,
+    /// A call failed, and the bytes are the document.
+    Kept,
+    /// A call failed, and they aren't.
+    Lost,
+    /// Not as it was told.
+    Badly,
+}
+
+/// How a commit ends that a store takes.
+fn resolves(alloc: Global, store: Store<MemoryDisk>) -> Ended {
     match commit_resolved(store, b"another") {
         Ok((outcome, store)) => {
             let disk = store.into_disk();
             let whole = disk.failures() == 0;
-            (opens_so(alloc, disk, outcome), whole)
+            if !opens_so(alloc, disk, outcome) {
+                return Ended::Badly;
+            }
+            match outcome {
+                Outcome::Kept if whole => Ended::Whole,
+                Outcome::Kept => Ended::Kept,
+                Outcome::Lost(_) => Ended::Lost,
+            }
         }
-        Err(_) => (false, false),
+        Err(_) => Ended::Badly,
     }
 }
 
-/// With one call that fails after so many. An open that fails is none of a commit's.
-fn run(rt: &impl Abort, alloc: Global, calls: u64) -> (bool, bool) {
+/// With one call that fails after so many.
+fn run(rt: &impl Abort, alloc: Global, calls: u64) -> Ended {
     let mut found = disk(rt, alloc, b"old", b"");
     found.set_faults(Faults::Once(calls));
     match Store::open(alloc, found) {
         Ok(store) => resolves(alloc, store),
-        Err(_) => (true, false),
+        Err(_) => Ended::Unopened,
     }
+}
+
+/// Whether a run with some number of calls before the one that fails ends so.
+fn some_ends(rt: &impl Abort, alloc: Global, how: Ended) -> bool {
+    for calls in 0..40u64 {
+        if run(rt, alloc, calls) == how {
+            return true;
+        }
+    }
+    false
 }
 
 #[test]
 fn a_commit_that_fails_once_ends_as_it_is_told(rt: HostRuntime) {
-    let mut ended = false;
-    for calls in 0..40u64 {
-        let (well, whole) = run(&rt, rt.alloc(), calls);
-        assert!(rt; well, "after {calls} calls");
-        ended = ended || whole;
-    }
-    assert!(rt; ended);
+    let alloc = rt.alloc();
+    assert!(rt; !some_ends(&rt, alloc, Ended::Badly));
+    assert!(rt; some_ends(&rt, alloc, Ended::Lost));
+    assert!(rt; some_ends(&rt, alloc, Ended::Kept));
+    assert!(rt; some_ends(&rt, alloc, Ended::Whole));
 }

@@ -5,7 +5,8 @@ ghost use Rattle.std.specs.Prelude.{◌≡◌, ◌≤◌, [], IfOk, length};
 
 use crate::port::read_port;
 use crate::running::Running;
-use doc_store::file_disk::FileDisk;
+use file_disk::file_disk::FileDisk;
+use file_disk::system_files::SystemFiles;
 use script_model::history::History;
 use script_model::host::{Host, HostFault};
 use script_model::step::Step;
@@ -161,19 +162,15 @@ fn connect_again<R: Net + Processes>(
 fn open_disk<R: Files<File = File> + AllocGlobal>(
     rt: &R,
     name: &[u8],
-) -> Result<FileDisk, StoreFault> {
+) -> Result<FileDisk<SystemFiles>, StoreFault> {
     let Ok(path) = std::str::from_utf8(name) else {
         return Err(StoreFault::Device);
     };
-    match FileDisk::open(rt, path) {
-        Ok(disk) => Ok(disk),
-        Err(error) if error.kind() == ErrorKind::OutOfMemory => Err(StoreFault::NoMemory),
-        Err(_) => Err(StoreFault::Device),
-    }
+    FileDisk::open(rt, path)
 }
 
 impl<'a, R: Net + Processes + Files<File = File> + AllocGlobal> Host for SystemHost<'a, R> {
-    type Disk = FileDisk;
+    type Disk = FileDisk<SystemFiles>;
 
     ghost use Rattle.script_model.specs.Histories.{told_in};
 
@@ -227,7 +224,7 @@ impl<'a, R: Net + Processes + Files<File = File> + AllocGlobal> Host for SystemH
         self.history.ended(inc);
     }
 
-    fn disk(&mut self, name: &[u8]) -> Result<FileDisk, StoreFault> {
+    fn disk(&mut self, name: &[u8]) -> Result<FileDisk<SystemFiles>, StoreFault> {
         let result = open_disk(self.rt, name);
         self.history.opened(name, result.is_ok());
         result

@@ -2,6 +2,8 @@
 use Rattle.std.proofs.Common.{◌≡◌, ◌≢◌, ◌==◌, ℕ, ◌+◌, ◌<◌, ◌≤◌, Bool, true, false, List, [], ◌∷◌, ◌++◌, map, Some, refl, sym, ap, ◌∙◌, inl, inr, arith, subst, if◌then◌else◌}
 use Rattle.std.proofs.lemmas.Bool.{eqb-true}
 use Rattle.wire_msgs.specs.Found.{nth, set_nth}
+use Rattle.document_model.specs.declared.object.DocObject.{DocObject}
+use Rattle.container_model.specs.Opens.{opened_objects}
 use Rattle.container_model.specs.Record.{without_first}
 use Rattle.container_model.specs.Saves.{parts_in, part_of, committed_frame}
 use Rattle.container_model.specs.declared.record.Frame.{Frame}
@@ -13,12 +15,25 @@ use Rattle.world_model.specs.Safe.{Among, IsAnother, CountedOnce}
 use Rattle.world_files.specs.Files.{Id, id_of, IsBelow, Distinct, AreNumbered, CountedBounded, AreSameFrames}
 use Rattle.world_facts.proofs.Lookups.{among_join, among_map, nth_old, nth_set_apart}
 
-pub bounded_same : (frames after : List Frame) (ids : List Id) (last : ℕ) (dones : List Done) → AreSameFrames frames after → CountedBounded frames ids last dones → CountedBounded after ids last dones
-bounded_same frames after ids last dones s b = record {
+-- frames whose last saves are as they were, or later ones
+pub bounded_by : (frames after : List Frame) (ids : List Id) (last : ℕ) (dones : List Done) → ((f : ℕ) (frame : Frame) → nth after f ≡ Some frame → (before : Frame) × (nth frames f ≡ Some before) × ((n : ℕ) → IsBelow before n → IsBelow frame n))
+    → CountedBounded frames ids last dones → CountedBounded after ids last dones
+bounded_by frames after ids last dones s b = record {
   counted = b.counted;
-  below = λ x d frame h g e at. (let old = s.from x.frame frame at in old.2.below d.k (b.below x d old.0 h g e old.1));
+  below = λ x d frame h g e at. (let old = s x.frame frame at in old.2 d.k (b.below x d old.0 h g e old.1));
   counted_once = b.counted_once;
 }
+
+pub bounded_same : (frames after : List Frame) (ids : List Id) (last : ℕ) (dones : List Done) → AreSameFrames frames after → CountedBounded frames ids last dones → CountedBounded after ids last dones
+bounded_same frames after ids last dones s b = bounded_by frames after ids last dones (λ f frame at. (let old = s.from f frame at in (old.0, old.1, old.2.below))) b
+
+-- a frame asks for a name
+pub bounded_asking : (frames : List Frame) (f : ℕ) (frame : Frame) (name : List ℕ) (ids : List Id) (last : ℕ) (dones : List Done) → nth frames f ≡ Some frame → CountedBounded frames ids last dones
+    → CountedBounded (set_nth frames f (record frame { asked = Some name })) ids last dones
+bounded_asking frames f frame name ids last dones at b = bounded_by frames (set_nth frames f (record frame { asked = Some name })) ids last dones (λ g x e. elim (nth_set_apart frames f g (record frame { asked = Some name }) x e) [
+  | inl h ↦ (frame, ap (nth frames) h.0 ∙ at, (λ n w. subst (λ v. IsBelow v n) (sym h.1) (record { last = w.last; under = w.under })))
+  | inr h ↦ (x, h.1, (λ n w. w))
+]) b
 
 -- a new frame
 pub bounded_framed : (frames : List Frame) (new : Frame) (ids : List Id) (last : ℕ) (dones : List Done) → AreNumbered frames ids last → CountedBounded frames ids last dones → CountedBounded (frames ++ new ∷ []) ids last dones
@@ -31,23 +46,30 @@ bounded_framed frames new ids last dones a b = record {
   counted_once = b.counted_once;
 }
 
--- a new object
-one_of : {A : Type 0} (y x : A) → Among (y ∷ []) x → x ≡ y
-one_of y x (inl e) = e
-one_of y x (inr h) = absurd h
+-- new objects, whose numbers are behind all that were drawn
+pub bounded_more : (frames : List Frame) (ids news : List Id) (last more : ℕ) (dones : List Done) → ((x : Id) → Among news x → last < x.number) → CountedBounded frames ids last dones
+    → CountedBounded frames (ids ++ news) (last + more) dones
+bounded_more frames ids news last more dones past b = record {
+  counted = λ d g. (let le : d.object ≤ last = b.counted d g in omega arith);
+  below = λ x d fr h g e here. elim (among_join ids news x h) [
+    | inl old ↦ b.below x d fr old g e here
+    | inr new ↦ (let lt : last < x.number = past x new in let le : d.object ≤ last = b.counted d g in absurd (omega arith))
+  ];
+  counted_once = b.counted_once;
+}
 
 pub bounded_object : (frames : List Frame) (ids : List Id) (last f : ℕ) (dones : List Done) → CountedBounded frames ids last dones
     → CountedBounded frames (ids ++ record { number = last + 1; frame = f } ∷ []) (last + 1) dones
-bounded_object frames ids last f dones b =
-    let new : Id = record { number = last + 1; frame = f } in
-    record {
-      counted = λ d g. (let le : d.object ≤ last = b.counted d g in omega arith);
-      below = λ x d fr h g e here. elim (among_join ids (new ∷ []) x h) [
-        | inl old ↦ b.below x d fr old g e here
-        | inr one ↦ (let n : x.number ≡ last + 1 = ap (λ (v : Id). v.number) (one_of new x one) in let le : d.object ≤ last = b.counted d g in absurd (omega arith))
-      ];
-      counted_once = b.counted_once;
-    }
+bounded_object frames ids last f dones b = bounded_more frames ids (record { number = last + 1; frame = f } ∷ []) last 1 dones (past last f) b
+  where
+    past : (last f : ℕ) (x : Id) → Among (record { number = last + 1; frame = f } ∷ []) x → last < x.number
+    past last f x (inl e) = (let n : x.number ≡ last + 1 = ap (λ (v : Id). v.number) e in omega arith)
+    past last f x (inr h) = absurd h
+
+pub opened_past : (last f : ℕ) (ds : List DocObject) (x : Id) → Among (map id_of (opened_objects last f ds)) x → last < x.number
+opened_past last f [] x h = absurd h
+opened_past last f (d ∷ ds) x (inl e) = (let n : x.number ≡ last + 1 = ap (λ (v : Id). v.number) e in omega arith)
+opened_past last f (d ∷ ds) x (inr h) = (let lt : last + 1 < x.number = opened_past (last + 1) f ds x h in omega arith)
 
 -- an object goes
 pub bounded_fewer : (frames : List Frame) (ids fewer : List Id) (last : ℕ) (dones : List Done) → ((x : Id) → Among fewer x → Among ids x) → CountedBounded frames ids last dones → CountedBounded frames fewer last dones

@@ -1,10 +1,12 @@
 -- The files of frames after each step.
-use Rattle.std.proofs.Common.{◌≡◌, ◌≢◌, ◌||◌, ℕ, zero, suc, Bool, true, false, List, [], ◌∷◌, ◌++◌, length, map, Option, Some, None, refl, sym, ap, ◌∙◌, inl, inr, subst, slice_get, if◌then◌else◌, bytes_eq}
+use Rattle.std.proofs.Common.{◌≡◌, ◌≢◌, ◌⊎◌, ◌&&◌, ◌||◌, ◌==◌, ◌+◌, not, ℕ, zero, suc, Bool, true, false, List, [], ◌∷◌, ◌++◌, length, map, Option, Some, None, refl, sym, ap, ◌∙◌, inl, inr, arith, subst, slice_get, if◌then◌else◌, bytes_eq}
+use Rattle.std.proofs.lemmas.Bool.{ne_eqb}
+use Rattle.std.proofs.lemmas.Bool.Decides.{eqb_tells}
 use Rattle.std.proofs.lemmas.Slice.Eq.{bytes_eq-Decides}
 use Rattle.wire_msgs.specs.Found.{find, nth, set_nth}
 use Rattle.file_model.specs.Denotes.{Denotes}
 use Rattle.container_model.specs.Saves.{document_tree, committed_frame, name_after}
-use Rattle.container_model.specs.Commands.{is_named, is_name, new_frame}
+use Rattle.container_model.specs.Commands.{is_named, is_named_beside, is_name}
 use Rattle.container_model.specs.declared.answer.Part.{Part}
 use Rattle.container_steady.proofs.SteadyRecords.{or_false}
 use Rattle.container_model.specs.declared.record.Frame.{Frame}
@@ -56,28 +58,28 @@ unborne : (name : List ℕ) (frames : List Frame) (f : ℕ) (frame : Frame) → 
 unborne name frames zero frame e at h = cc
 unborne name frames (suc i) frame e at h = unborne_in name frames i frame e at h
 
-bears_new : (name other : List ℕ) (w h : ℕ) → Bears (new_frame name w h) other → name ≡ other
-bears_new name other w h (inl e) = e
-bears_new name other w h (inr e) = cc
+-- a frame that asks for no name
+bears_own : (new : Frame) (other : List ℕ) → new.asked ≡ None → Bears new other → new.name ≡ other
+bears_own new other own (inl e) = e
+bears_own new other own (inr e) = (let z : None ≡ Some other = sym own ∙ e in cc)
 
 pub length_more : {A : Type 0} (xs : List A) (y : A) → length (xs ++ y ∷ []) ≡ suc (length xs)
 length_more [] y = refl
 length_more (x ∷ xs) y = ap suc (length_more xs y)
 
 -- a new frame, which has no counted commit
-pub stored_framed : (frames : List Frame) (name : List ℕ) (w h : ℕ) (files : List File) (counted : List (Option Document)) (dones : List Done) → is_named name frames ≡ false
-    → FilesCounted frames files counted dones → FilesCounted (frames ++ new_frame name w h ∷ []) files (counted ++ None ∷ []) dones
-stored_framed frames name w h files counted dones un s =
-    let new = new_frame name w h in
+pub stored_framed : (frames : List Frame) (new : Frame) (files : List File) (counted : List (Option Document)) (dones : List Done) → is_named new.name frames ≡ false → new.asked ≡ None
+    → FilesCounted frames files counted dones → FilesCounted (frames ++ new ∷ []) files (counted ++ None ∷ []) dones
+stored_framed frames new files counted dones un own s =
     record {
       aligned = length_more counted None ∙ (ap suc s.aligned ∙ sym (length_more frames new));
       names_apart = λ f g a b other fa gb x y. elim (nth_one frames new f a fa) [
         | inl fo ↦ elim (nth_one frames new g b gb) [
           | inl go ↦ s.names_apart f g a b other fo go x y
-          | inr gn ↦ absurd (unborne name frames f a un fo (subst (Bears a) (sym (bears_new name other w h (subst (λ v. Bears v other) gn.0 y))) x))
+          | inr gn ↦ absurd (unborne new.name frames f a un fo (subst (Bears a) (sym (bears_own new other own (subst (λ v. Bears v other) gn.0 y))) x))
         ]
         | inr fn ↦ elim (nth_one frames new g b gb) [
-          | inl go ↦ absurd (unborne name frames g b un go (subst (Bears b) (sym (bears_new name other w h (subst (λ v. Bears v other) fn.0 x))) y))
+          | inl go ↦ absurd (unborne new.name frames g b un go (subst (Bears b) (sym (bears_own new other own (subst (λ v. Bears v other) fn.0 x))) y))
           | inr gn ↦ fn.1 ∙ sym gn.1
         ]
       ];
@@ -89,6 +91,67 @@ stored_framed frames name w h files counted dones un s =
         | inr none ↦ absurd (let e = none.0 in cc)
       ];
     }
+
+-- a name that no other frame bears; of these frames the first has number i
+unborne_from : (f : ℕ) (name : List ℕ) (i : ℕ) (frames : List Frame) (k : ℕ) (frame : Frame) → is_named_beside f name i frames ≡ false → slice_get frames k ≡ Some frame → i + k ≢ f → Bears frame name → ⊥
+unborne_from f name i [] k frame e at ne h = cc
+unborne_from f name i (x ∷ xs) zero frame e at ne h =
+    let apart : i ≢ f = λ q. ne (let z : i + 0 ≡ f = omega arith in z) in
+    let own = (if_false (not (i == f) && (bytes_eq x.name name || is_name name x.asked)) (is_named_beside f name (i + 1) xs) e).0 in
+    let free : (bytes_eq x.name name || is_name name x.asked) ≡ false = subst (λ b. (not b && (bytes_eq x.name name || is_name name x.asked)) ≡ false) (ne_eqb i f apart) own in
+    let is : x ≡ frame = cc in
+    unborne_by name x free (subst (λ v. Bears v name) (sym is) h)
+unborne_from f name i (x ∷ xs) (suc k) frame e at ne h =
+    unborne_from f name (i + 1) xs k frame (if_false (not (i == f) && (bytes_eq x.name name || is_name name x.asked)) (is_named_beside f name (i + 1) xs) e).1 at (λ q. ne (let z : i + suc k ≡ f = omega arith in z)) h
+
+unborne_beside : (f : ℕ) (name : List ℕ) (frames : List Frame) (g : ℕ) (frame : Frame) → is_named_beside f name 1 frames ≡ false → nth frames g ≡ Some frame → g ≢ f → Bears frame name → ⊥
+unborne_beside f name frames zero frame e at ne h = cc
+unborne_beside f name frames (suc k) frame e at ne h = unborne_from f name 1 frames k frame e at (λ q. ne (let z : suc k ≡ f = omega arith in z)) h
+
+-- a frame asks for a name that no other frame bears or asked for
+module _ (frames : List Frame) (f : ℕ) (frame : Frame) (name : List ℕ) (files : List File) (counted : List (Option Document)) (dones : List Done) (at : nth frames f ≡ Some frame) (free : is_named_beside f name 1 frames ≡ false)
+    (s : FilesCounted frames files counted dones) where
+  abbrev pub asks : Frame
+  asks = record frame { asked = Some name }
+
+  -- what a frame bears then it bore before, or it is the name asked for
+  bore : (g : ℕ) (a : Frame) (n : List ℕ) → nth (set_nth frames f (record frame { asked = Some name })) g ≡ Some a → Bears a n → ((b : Frame) × (nth frames g ≡ Some b) × Bears b n) ⊎ ((g ≡ f) × (name ≡ n))
+  bore g a n e x = elim (nth_set_apart frames f g asks a e) [
+    | inl h ↦ elim (subst (λ v. Bears v n) h.1 x) [
+      | inl own ↦ inl (frame, ap (nth frames) h.0 ∙ at, inl own)
+      | inr new ↦ inr (h.0, (let z : Some name ≡ Some n = new in cc))
+    ]
+    | inr h ↦ inl (a, h.1, x)
+  ]
+
+  -- whoever bears the name that is asked for is the frame itself
+  own_name : (g : ℕ) (b : Frame) (n : List ℕ) → nth frames g ≡ Some b → Bears b n → name ≡ n → g ≡ f
+  own_name g b n e x is = elim (eqb_tells g f) [
+    | inl h ↦ h.1
+    | inr h ↦ absurd (unborne_beside f name frames g b free e h.1 (subst (Bears b) (sym is) x))
+  ]
+
+  asks_filed : (d : Document) → IsFiled files frame d dones → IsFiled files (record frame { asked = Some name }) d dones
+  asks_filed d h = record { stored = h.stored; file = h.file; found = h.found; denotes = h.denotes; counted_with = h.counted_with }
+
+  pub stored_asking : FilesCounted (set_nth frames f (record frame { asked = Some name })) files counted dones
+  stored_asking = record {
+    aligned = s.aligned ∙ sym (length_set_nth frames f asks);
+    names_apart = λ g h a b n ga hb x y. elim (bore g a n ga x) [
+      | inl p ↦ elim (bore h b n hb y) [
+        | inl q ↦ s.names_apart g h p.0 q.0 n p.1 q.1 p.2 q.2
+        | inr q ↦ own_name g p.0 n p.1 p.2 q.1 ∙ sym q.0
+      ]
+      | inr p ↦ elim (bore h b n hb y) [
+        | inl q ↦ p.0 ∙ sym (own_name h q.0 n q.1 q.2 p.1)
+        | inr q ↦ p.0 ∙ sym q.0
+      ]
+    ];
+    file_counted = λ g d fr c e. elim (nth_set_apart frames f g asks fr e) [
+      | inl h ↦ subst (λ v. IsFiled files v d dones) (sym h.1) (asks_filed d (s.file_counted g d frame c (ap (nth frames) h.0 ∙ at)))
+      | inr h ↦ s.file_counted g d fr c h.1
+    ];
+  }
 
 -- files by name
 found_put : (name bytes : List ℕ) (files : List File) → find (is_file name) (put_file name bytes files) ≡ Some (record { name = name; bytes = bytes })

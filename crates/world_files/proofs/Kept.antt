@@ -1,5 +1,5 @@
 -- Each event keeps the files and what was counted.
-use Rattle.std.proofs.Common.{◌≡◌, ◌≢◌, ◌||◌, ◌==◌, ℕ, zero, suc, ◌+◌, Bool, true, false, not, ◌⊎◌, inl, inr, List, [], ◌∷◌, ◌++◌, length, map, Option, Some, None, is_some, Result, Ok, Err, refl, sym, ap, ◌∙◌, subst, nat_le, if◌then◌else◌}
+use Rattle.std.proofs.Common.{◌≡◌, ◌==◌, ℕ, zero, suc, ◌+◌, Bool, true, false, inl, List, [], ◌∷◌, ◌++◌, length, map, Option, Some, None, Result, Ok, Err, refl, sym, ap, ◌∙◌, subst, nat_le, if◌then◌else◌}
 use Rattle.std.proofs.lemmas.List.{append-nil}
 use Rattle.wire_msgs.specs.Found.{find, nth, set_nth}
 use Rattle.wire_msgs.specs.declared.message.Message.{Message}
@@ -12,20 +12,17 @@ use Rattle.embed_core.specs.Kinds.{Kind}
 use Rattle.server_model.specs.Server.{Served, Told, on_call, wanted}
 use Rattle.server_model.specs.Server as server
 use Rattle.server_model.specs.declared.fault.ServerFault.{ServerFault}
-use Rattle.container_model.specs.Record.{Record, Took, MOST_FRAMES, MOST_OBJECTS, is_doubtful, is_saving, is_busy, is_object, count_objects, without_first}
-use Rattle.container_model.specs.Saves.{image, image_at, has_image, fitting, fitting_in, is_document, document, parts_in, document_tree, commit_done, commit_failed, commit_made, resolve, committed_frame, completed, completion, counted_object, is_committing, cleared, kept}
+use Rattle.container_model.specs.Record.{Record, Took, is_doubtful, is_object, without_first}
+use Rattle.container_model.specs.Saves.{image, image_at, has_image, fitting, fitting_in, is_document, document, parts_in, document_tree, commit_done, commit_failed, commit_made, resolve, committed_frame, completed, completion, counted_object, cleared, kept}
 use Rattle.container_model.specs.Messages.{on_message, on_reap}
-use Rattle.container_model.specs.Commands.{on_command, new_frame}
+use Rattle.container_model.specs.Commands.{on_command, new_frame, save_made}
+use Rattle.container_model.specs.Opens.{Given, opened, opened_frame, opened_objects}
 use Rattle.container_model.specs.declared.command.Command.{Command}
-use Rattle.container_model.specs.declared.command.Command.TheVariants as command
-use Rattle.object_parts.specs.declared.area.Area.{Area}
 use Rattle.container_model.specs.declared.record.Frame.{Frame}
 use Rattle.container_model.specs.declared.record.Object.{Object}
-use Rattle.container_model.specs.declared.record.Phase.{Phase}
-use Rattle.container_model.specs.declared.record.Phase.TheVariants.{Idle, Saving, HandingOff, Committing, InDoubt}
 use Rattle.container_model.specs.declared.answer.Part.{Part}
 use Rattle.container_model.specs.declared.fault.ContainerFault.{ContainerFault}
-use Rattle.container_model.specs.declared.fault.ContainerFault.TheVariants.{Busy, InDoubt as Doubtful, Full, NumbersSpent, WrongState}
+use Rattle.container_model.specs.declared.fault.ContainerFault.TheVariants.{Full, WrongState}
 use Rattle.world_model.specs.declared.logs.Sent.{Sent}
 use Rattle.world_model.specs.declared.logs.Taken.{Taken}
 use Rattle.world_model.specs.declared.logs.Document.{Document}
@@ -39,17 +36,18 @@ use Rattle.world_model.specs.declared.event.Stop.TheVariants.{EventLimit}
 use Rattle.world_model.specs.World.{World, Instance, document_in, empty_world, joined, took, commanded, served, stocked, called_wanting, called_in, called, delivered, taken_at, with_taken, deliver, spoken_by, spoken, scribble, ask, crashed, crash, ended, reap, kept_commit, done_taken, done_imaged, done_in, only_taken, resolved, happened, limited, IsImage, IsImageOf, is_of, frame_file_in, is_file, MOST_EVENTS, Choice}
 use Rattle.world_model.specs.Safe.{Commit, IsCounted, IsKept}
 use Rattle.container_steady.specs.Steady.{Steady}
-use Rattle.container_steady.proofs.SteadyRecords.{unless_ok}
 use Rattle.container_steady.proofs.Settling.{IsCommitOf, done_commits, is_dropped, is_failed, kept_commits, not_idle}
 use Rattle.world_files.specs.Files.{id_of, CountedBounded, FilesCounted, HasCommits, Files}
-use Rattle.world_facts.proofs.Lookups.{map_map_same, nth_aligned}
+use Rattle.world_facts.proofs.Lookups.{map_map_same}
 use Rattle.world_files.proofs.Numbering.{numbered}
-use Rattle.world_files.proofs.Quiet.{IsQuiet, command_quiet, doubt_quiet, drop_quiet, message_quiet, reap_quiet, id_asked}
-use Rattle.container_steady.specs.Taken.{IsTakenAs, as_close, as_delete, as_edit, as_insert, as_kill, as_new, as_run, as_save, as_start, as_verb}
+use Rattle.world_files.proofs.Moving.{id_asked}
+use Rattle.world_files.proofs.Quiet.{IsQuiet, command_quiet, doubt_quiet, drop_quiet, message_quiet, named, reap_quiet, renaming_quiet}
+use Rattle.container_steady.specs.Taken.{IsTakenAs, as_close, as_delete, as_edit, as_insert, as_kill, as_new, as_run, as_save, as_save_as, as_start, as_verb}
+use Rattle.container_steady.proofs.Opening.{is_opened}
 use Rattle.container_steady.proofs.Taken.{command_taken}
-use Rattle.world_files.proofs.Bounding.{bounded_same, bounded_framed, bounded_object, bounded_fewer, bounded_committed, among_without}
+use Rattle.world_files.proofs.Bounding.{bounded_asking, bounded_same, bounded_framed, bounded_more, bounded_object, bounded_fewer, bounded_committed, among_without, opened_past}
 use Rattle.world_files.proofs.Commits.{counted_framed, counted_committed}
-use Rattle.world_files.proofs.Filing.{stored_same, stored_framed, stored_committed}
+use Rattle.world_files.proofs.Filing.{stored_asking, stored_same, stored_framed, stored_committed}
 
 -- the world in which nothing has happened
 pub empty_files : (numbers : ℕ) (stock : List Kind) → Files (empty_world numbers stock)
@@ -78,9 +76,12 @@ files_quiet w t k q = record {
   commits = rw q.frame (subst (λ cs. HasCommits cs w.container_done) (sym (append-nil w.counted)) k.commits);
 }
 
+files_told : (w : World) (told : Result Took ContainerFault) → Files w → ((t : Took) → told ≡ Ok t → Files (joined w t)) → Files (took w told)
+files_told w (Err fault) k q = record { counted_bounded = k.counted_bounded; filed = k.filed; commits = k.commits }
+files_told w (Ok t) k q = q t refl
+
 files_took : (w : World) (told : Result Took ContainerFault) → Files w → ((t : Took) → told ≡ Ok t → IsQuiet w.rec t) → Files (took w told)
-files_took w (Err fault) k q = record { counted_bounded = k.counted_bounded; filed = k.filed; commits = k.commits }
-files_took w (Ok t) k q = files_quiet w t k (q t refl)
+files_took w told k q = files_told w told k (λ t e. files_quiet w t k (q t e))
 
 files_commanded : (w : World) (c : Command) (told : Result Took ContainerFault) → Files w → ((t : Took) → told ≡ Ok t → Files (joined w t)) → Files (commanded w c told)
 files_commanded w c (Err fault) k q = record { counted_bounded = k.counted_bounded; filed = k.filed; commits = k.commits }
@@ -96,7 +97,7 @@ files_taken w _ t s k (as_new name x y new made) =
     let r = w.rec in
     subst (λ (v : Took). Files (joined w v)) made (record {
       counted_bounded = bounded_framed r.frames (new_frame name x y) (map id_of r.objects) r.last_object w.container_done (numbered r s) k.counted_bounded;
-      filed = stored_framed r.frames name x y w.files w.counted w.container_done new.unnamed k.filed;
+      filed = stored_framed r.frames (new_frame name x y) w.files w.counted w.container_done new.unnamed refl k.filed;
       commits = counted_framed w.counted w.container_done k.commits;
     })
 files_taken w _ t s k (as_insert f kind area at made) =
@@ -106,6 +107,16 @@ files_taken w _ t s k (as_insert f kind area at made) =
       filed = subst (λ cs. FilesCounted r.frames w.files cs w.container_done) (sym (append-nil w.counted)) k.filed;
       commits = subst (λ cs. HasCommits cs w.container_done) (sym (append-nil w.counted)) k.commits;
     })
+files_taken w _ t s k (as_save_as f name at free other made) =
+    let r = w.rec in
+    let asking : World = record w { rec = named r f at.frame name } in
+    let asked : Files asking = record {
+      counted_bounded = bounded_asking r.frames f at.frame name (map id_of r.objects) r.last_object w.container_done at.there k.counted_bounded;
+      filed = stored_asking r.frames f at.frame name w.files w.counted w.container_done at.there free k.filed;
+      commits = k.commits;
+    } in
+    let h : Files (joined asking (save_made r f at.frame (Some name))) = files_quiet asking (save_made r f at.frame (Some name)) asked (renaming_quiet r f at.frame name at.there) in
+    subst (λ (v : Took). Files (joined w v)) made (record { counted_bounded = h.counted_bounded; filed = h.filed; commits = h.commits })
 files_taken w _ t s k (as_delete n at passive made) =
     let r = w.rec in
     let x = at.object in
@@ -124,6 +135,25 @@ files_taken w _ t s k (as_verb n number go verb) = files_quiet w t k (command_qu
 
 files_command : (w : World) (c : Command) (t : Took) → Steady w.rec → Files w → on_command w.rec c ≡ Ok t → Files (joined w t)
 files_command w c t s k e = files_taken w c t s k (command_taken w.rec c t e)
+
+-- a file that is opened
+map_join : {A B : Type 0} (f : A → B) (xs ys : List A) → map f (xs ++ ys) ≡ map f xs ++ map f ys
+map_join f [] ys = refl
+map_join f (x ∷ xs) ys = ap (λ vs. f x ∷ vs) (map_join f xs ys)
+
+files_opened : (w : World) (name : List ℕ) (x y : ℕ) (given : Given) (t : Took) → Steady w.rec → Files w → opened w.rec name x y given ≡ Ok t → Files (joined w t)
+files_opened w name x y given t s k e =
+    let r = w.rec in
+    let o = is_opened r name x y given t e in
+    let new = opened_frame name x y in
+    let framed = bounded_framed r.frames new (map id_of r.objects) r.last_object w.container_done (numbered r s) k.counted_bounded in
+    let news = opened_objects r.last_object (length r.frames + 1) o.ds in
+    subst (λ (v : Took). Files (joined w v)) o.made (record {
+      counted_bounded = subst (λ ids. CountedBounded (r.frames ++ new ∷ []) ids (r.last_object + length o.ds) w.container_done) (sym (map_join id_of r.objects news))
+          (bounded_more (r.frames ++ new ∷ []) (map id_of r.objects) (map id_of news) r.last_object (length o.ds) w.container_done (opened_past r.last_object (length r.frames + 1) o.ds) framed);
+      filed = stored_framed r.frames new w.files w.counted w.container_done o.unnamed refl k.filed;
+      commits = counted_framed w.counted w.container_done k.commits;
+    })
 
 -- deliveries
 files_served : (w : World) (inc act n : ℕ) (i : Instance) (stock : List Kind) (told : Result Served ServerFault) → Files w → Files (served w inc act n i stock told)
@@ -285,6 +315,7 @@ files_happened w choice (event.Ask inc act) v s k im e = files_ask w inc act (nt
 files_happened w choice (event.Done f) v s k im e = files_done_in w f choice.file (commit_done w.rec f) (nth w.rec.frames f) v s k refl (λ x at. done_commits w.rec f x at) im e
 files_happened w choice (event.Fail f) v s k im e = files_only w (commit_failed w.rec f) v k (failed_quiet w.rec f) e
 files_happened w choice (event.Resolve f is_kept) v s k im e = files_resolved w choice f is_kept v s k im e
+files_happened w choice (event.Open name x y) v s k im e = subst Files (ok_is _ v e) (files_told w (opened w.rec name x y choice.given) k (λ t g. files_opened w name x y choice.given t s k g))
 
 pub limited_ok : (w : World) (told : Result World Stop) (v : World) → limited w told ≡ Ok v → told ≡ Ok v
 limited_ok w (Err stop) v e = cc

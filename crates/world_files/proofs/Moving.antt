@@ -1,21 +1,22 @@
 -- Steps that move grants and ask objects: frames keep all but their grants, and objects their numbers and frames.
-use Rattle.std.proofs.Common.{◌≡◌, ◌==◌, ℕ, zero, suc, true, false, List, [], ◌∷◌, length, map, Option, Some, None, refl, sym, ap, ◌∙◌, subst, slice_get, if◌then◌else◌}
+use Rattle.std.proofs.Common.{◌≡◌, ◌==◌, ℕ, zero, suc, ◌+◌, Bool, true, false, List, [], ◌∷◌, length, map, Option, Some, None, refl, sym, ap, ◌∙◌, subst, slice_get, if◌then◌else◌}
 use Rattle.std.proofs.lemmas.Bool.{eqb-true}
 use Rattle.wire_msgs.specs.Found.{find, put, nth}
 use Rattle.wire_msgs.specs.declared.operation.Operation.{Operation}
-use Rattle.wire_msgs.specs.declared.operation.Operation.TheVariants.{UiActivate}
+use Rattle.wire_msgs.specs.declared.operation.Operation.TheVariants.{HandsOff, UiActivate}
 use Rattle.grant_core.specs.Grants.{Event}
 use Rattle.grant_core.specs.Frames.{Ui, after}
 use Rattle.grant_core.specs.declared.grant_states.Claim.{Claim}
 use Rattle.container_model.specs.declared.grants.Tells.{Tells}
 use Rattle.container_model.specs.declared.record.Object.{Object}
 use Rattle.container_model.specs.declared.record.Frame.{Frame}
-use Rattle.container_model.specs.Record.{Record, is_object, asked_link, with_frame, with_object}
+use Rattle.container_model.specs.Record.{Record, is_object, asked_link, asked_object, with_frame, with_object}
 use Rattle.container_model.specs.Grants.{requested, request, grant_each, passed_to, moved, event_of, regranted_by, regranted_in, regranted, freed_frame, freed_claims, free_grants}
+use Rattle.container_model.specs.HandOffs.{hand_off, hand_off_at, hand_off_each, hand_off_in, handed_off, handing_frame, hands_off, unasked as not_handed}
 use Rattle.container_model.specs.Saves.{settle}
 use Rattle.world_files.specs.Files.{Id, id_of, IsSameFrame, AreSameFrames}
-use Rattle.world_facts.proofs.Lookups.{map_put, find_passes}
-use Rattle.world_files.proofs.Frames.{same_frames, same_frames_after, settled_same, set_same}
+use Rattle.world_facts.proofs.Lookups.{map_put, map_map_same, find_passes}
+use Rattle.world_files.proofs.Frames.{handing_same, same_frames, same_frames_after, settled_same, set_same}
 
 pub record IsMoved (r v : Record) : Type 0 where
   pub frames : AreSameFrames r.frames v.frames
@@ -87,6 +88,36 @@ told_moved r f told (Some frame) at = event_moved r f frame (event_of frame.ui.s
 pub regranted_moved : (r : Record) (f : ℕ) (told : Option Tells) → IsMoved r (regranted r f told).rec
 regranted_moved r f None = unmoved r
 regranted_moved r f (Some told) = told_moved r f told (nth r.frames f) refl
+
+-- an object that is asked keeps its number and frame
+pub id_asked : (f : ℕ) (op : Operation) (o : Object) → id_of (asked_object f op o) ≡ id_of o
+id_asked f op o = elim (o.frame == f) as (λ b. id_of (if b then record o { link = asked_link op o.link } else o) ≡ id_of o) [ true ↦ refl | false ↦ refl ]
+
+-- saves under another name go on
+handed_moved_at : (r : Record) (f : ℕ) (frame : Option Frame) → nth r.frames f ≡ frame → IsMoved r (hand_off_at r f frame).rec
+handed_moved_at r f None at = unmoved r
+handed_moved_at r f (Some frame) at = elim (hands_off f r.objects frame) as (λ b. hands_off f r.objects frame ≡ b → IsMoved r (if b then handed_off r f frame else not_handed r).rec) [
+  | true ↦ (λ t. record {
+    frames = set_same r.frames f frame (handing_frame frame) at (handing_same f r.objects frame t);
+    ids = map_map_same id_of (asked_object f HandsOff) r.objects (id_asked f HandsOff);
+    last = refl;
+  })
+  | false ↦ (λ t. unmoved r)
+] refl
+
+pub handed_moved : (r : Record) (f : ℕ) → IsMoved r (hand_off_in r f).rec
+handed_moved r f = handed_moved_at r f (nth r.frames f) refl
+
+pub handed_moved_if : (b : Bool) (r : Record) (f : ℕ) → IsMoved r (if b then hand_off_in r f else not_handed r).rec
+handed_moved_if true r f = handed_moved r f
+handed_moved_if false r f = unmoved r
+
+handed_moved_each : (f : ℕ) (frames : List Frame) (r : Record) → IsMoved r (hand_off_each f frames r).rec
+handed_moved_each f [] r = unmoved r
+handed_moved_each f (frame ∷ frames) r = (let v = (hand_off_in r f).rec in moved_after r v (hand_off_each (f + 1) frames v).rec (handed_moved r f) (handed_moved_each (f + 1) frames v))
+
+pub all_handed_moved : (r : Record) → IsMoved r (hand_off r).rec
+all_handed_moved r = handed_moved_each 1 r.frames r
 
 -- the end of a server frees frames
 mapped_at : (g : Frame → Frame) (xs : List Frame) (i : ℕ) (new : Frame) → slice_get (map g xs) i ≡ Some new → (old : Frame) × (slice_get xs i ≡ Some old) × (g old ≡ new)

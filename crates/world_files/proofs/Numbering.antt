@@ -36,6 +36,6 @@ numbered r s = record {
       let le : m.0.number ≤ r.last_object = (each_among (SteadyObject r) r.objects m.0 s.objects m.1).drawn in
       subst (λ n. n ≤ r.last_object) (sym (ap (λ (z : Id). z.number) m.2)) le);
   placed = λ x g. (let m = among_mapped id_of r.objects x g in
-      let p = some_and (λ (frame : Frame). IfSome m.0.link (SteadyLink r.servers r.last_act frame.phase frame.k (role_in frame.ui.state m.0.number))) (nth r.frames m.0.frame) (each_among (SteadyObject r) r.objects m.0 s.objects m.1).linked in
+      let p = some_and (λ (frame : Frame). IfSome m.0.link (SteadyLink r.servers r.last_act frame.phase frame.asked frame.k (role_in frame.ui.state m.0.number))) (nth r.frames m.0.frame) (each_among (SteadyObject r) r.objects m.0 s.objects m.1).linked in
       (p.0, ap (λ (z : Id). nth r.frames z.frame) m.2 ∙ p.1));
 }

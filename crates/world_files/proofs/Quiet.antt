@@ -1,5 +1,5 @@
 -- Steps of the container that leave files and what was counted alone.
-use Rattle.std.proofs.Common.{◌≡◌, ◌≢◌, ◌&&◌, ◌||◌, ◌==◌, ℕ, ℤ, ◌+◌, Bool, true, false, not, List, [], ◌∷◌, length, map, Option, Some, None, is_some, Result, Ok, Err, refl, ◌∙◌, subst, nat_le, nat_lt, if◌then◌else◌}
+use Rattle.std.proofs.Common.{◌≡◌, ◌≢◌, ◌==◌, ℕ, ◌+◌, Bool, true, false, List, map, Option, Some, None, Result, Ok, Err, refl, sym, ap, ◌∙◌, subst, if◌then◌else◌}
 use Rattle.wire_msgs.specs.Found.{find, nth}
 use Rattle.wire_msgs.specs.declared.message.Message.{Message}
 use Rattle.wire_msgs.specs.declared.message.Message.TheVariants.{Call, Reply, Write}
@@ -8,33 +8,30 @@ use Rattle.wire_msgs.specs.declared.operation.Operation.{Operation}
 use Rattle.wire_msgs.specs.declared.operation.Operation.TheVariants.{Save, SaveDropped, UiDeactivate}
 use Rattle.wire_msgs.specs.declared.answer.Answer.{Answer}
 use Rattle.object_parts.specs.Limits.{is_within}
-use Rattle.object_state.specs.Verbs.{close_steps, verb_of}
-use Rattle.object_state.specs.declared.verbs.Verb.{Verb}
 use Rattle.grant_core.specs.Grants.{Ask}
 use Rattle.grant_core.specs.Grants as grant
-use Rattle.object_state.specs.declared.operations.CloseOption.{CloseOption}
 use Rattle.object_state.specs.declared.verbs.Step.{Step}
 use Rattle.storage_tree.specs.declared.stored.Stored.{Stored}
-use Rattle.container_model.specs.declared.answer.Action.TheVariants.{End}
 use Rattle.container_model.specs.declared.record.Link.{Link}
 use Rattle.container_model.specs.declared.record.Object.{Object}
 use Rattle.container_model.specs.declared.record.Frame.{Frame}
 use Rattle.container_model.specs.declared.fault.ContainerFault.{ContainerFault}
 use Rattle.container_model.specs.declared.record.Phase.TheVariants.{Idle}
-use Rattle.container_model.specs.declared.fault.ContainerFault.TheVariants.{WrongLink, Stale, BadAnswer, NoSuch, Busy, InDoubt, Full, NumbersSpent, WrongState, UnknownClass}
+use Rattle.container_model.specs.declared.fault.ContainerFault.TheVariants.{WrongLink, Stale, BadAnswer, NoSuch}
 use Rattle.container_model.specs.declared.command.Command.{Command}
 use Rattle.container_model.specs.declared.command.Command.TheVariants as command
-use Rattle.container_steady.specs.Taken.{IsStepped, IsTakenAs, as_close, as_delete, as_edit, as_insert, as_kill, as_new, as_run, as_save, as_start, as_verb, steps_leave, steps_nothing, steps_take}
-use Rattle.container_model.specs.Record.{Record, Took, MOST_SERVERS, MARGIN, quiet_answer, counts_none, acts, sends, has_numbers, with_frame, count_alive, is_doubtful, is_saving, is_busy, is_moving, is_object, is_linked, is_alive, asked_link, asked_object}
-use Rattle.container_model.specs.Saves.{commit_doubted, doubted_frame, dropped_frame, dropped_object, forgotten_object, save_dropped, settled_frames, cleared, kept}
+use Rattle.container_steady.specs.Taken.{IsStepped, IsTakenAs, as_close, as_delete, as_edit, as_insert, as_kill, as_new, as_run, as_save, as_save_as, as_start, as_verb, steps_leave, steps_nothing, steps_take}
+use Rattle.container_model.specs.Record.{Record, Took, quiet_answer, counts_none, acts, sends, with_frame, is_object, is_linked, is_alive, asked_link, asked_object}
+use Rattle.container_model.specs.Saves.{commit_doubted, doubted_frame, dropped_frame, dropped_object, forgotten_object, save_dropped, cleared, kept}
 use Rattle.container_model.specs.Grants.{grant_of, moved, request}
 use Rattle.container_model.specs.Verbs.{claim_of, gives_up, left, stepped_link, leaving_made, holder_of, revoked_at, claimed, revoked, steps_now, taking_made}
-use Rattle.container_model.specs.Messages.{Replied, reply_link, reply_found, reply_taken, reply_made, replied_object, replied_record, replied_grant, on_reply, is_held_by, relieved, ask_framed, ask_found, on_ask, is_open_to, written_object, write_made, write_link, write_found, on_write, on_message, on_reap, reaped, reaped_object, reaped_grants, reap_made}
-use Rattle.container_model.specs.Commands.{save_made, saving, saving_frame}
+use Rattle.container_model.specs.Messages.{Replied, reply_link, reply_found, reply_taken, reply_made, replied_object, replied_record, replied_grant, replied_saving, on_reply, is_held_by, relieved, ask_framed, ask_found, on_ask, is_open_to, written_object, write_made, write_link, write_found, on_write, on_message, on_reap, reaped, reaped_object, reaped_grants, reaped_saving, reap_made}
+use Rattle.container_model.specs.Commands.{save_made, saving, saving_frame, saving_on}
+use Rattle.container_model.specs.HandOffs.{is_answered}
 use Rattle.world_files.specs.Files.{id_of, AreSameFrames}
 use Rattle.world_facts.proofs.Lookups.{map_put, map_map_same}
-use Rattle.world_files.proofs.Moving.{IsMoved, unmoved, moved_after, moved_settled, frame_moved, ids_linked, object_moved, request_moved, regranted_moved, freed_moved}
-use Rattle.world_files.proofs.Frames.{doubted_same, dropped_same, same_frames, same_frames_after, settled_same, saving_same, set_same}
+use Rattle.world_files.proofs.Moving.{IsMoved, unmoved, moved_after, moved_settled, frame_moved, all_handed_moved, handed_moved, handed_moved_if, id_asked, ids_linked, object_moved, request_moved, regranted_moved, freed_moved}
+use Rattle.world_files.proofs.Frames.{again_same, doubted_same, dropped_same, same_frames, saving_same, set_same}
 
 pub record IsQuiet (r : Record) (t : Took) : Type 0 where
   pub frames : AreSameFrames r.frames t.rec.frames
@@ -42,19 +39,35 @@ pub record IsQuiet (r : Record) (t : Took) : Type 0 where
   pub last : t.rec.last_object ≡ r.last_object
   pub frame : t.answer.frame ≡ None
 
--- an object that is asked keeps its number and frame
-pub id_asked : (f : ℕ) (op : Operation) (o : Object) → id_of (asked_object f op o) ≡ id_of o
-id_asked f op o = elim (o.frame == f) as (λ b. id_of (if b then record o { link = asked_link op o.link } else o) ≡ id_of o) [ true ↦ refl | false ↦ refl ]
+-- a step that moves grants and asks objects
+moved_quiet : (r : Record) (t : Took) → IsMoved r t.rec → t.answer.frame ≡ None → IsQuiet r t
+moved_quiet r t h e = record { frames = h.frames; ids = h.ids; last = h.last; frame = e }
 
-save_quiet : (r : Record) (f : ℕ) (frame : Frame) → nth r.frames f ≡ Some frame → IsQuiet r (save_made r f frame)
-save_quiet r f frame at =
-    let v = saving r f frame in
-    record {
-      frames = same_frames_after r.frames v.frames (settled_frames 1 v.objects v.frames) (set_same r.frames f frame (saving_frame frame) at (saving_same frame)) (settled_same 1 v.objects v.frames);
-      ids = map_map_same id_of (asked_object f (Save (frame.k + 1))) r.objects (id_asked f (Save (frame.k + 1)));
-      last = refl;
-      frame = refl;
-    }
+-- a save of a frame that asks for no name; one under another name is one of a frame that had asked for it already
+saving_quiet : (r w : Record) (f : ℕ) (frame : Frame) (name : Option (List ℕ)) → AreSameFrames w.frames (saving r f frame name).frames → w.objects ≡ r.objects → w.last_object ≡ r.last_object → IsQuiet w (save_made r f frame name)
+saving_quiet r w f frame name same os last =
+    let v = saving r f frame name in
+    let u = (saving_on r f frame name).rec in
+    let begun : IsMoved w v = record {
+      frames = same;
+      ids = map_map_same id_of (asked_object f (Save (frame.k + 1))) r.objects (id_asked f (Save (frame.k + 1))) ∙ ap (map id_of) (sym os);
+      last = sym last;
+    } in
+    moved_quiet w (save_made r f frame name) (moved_settled w u (moved_after w v u begun (handed_moved v f))) refl
+
+save_quiet : (r : Record) (f : ℕ) (frame : Frame) → nth r.frames f ≡ Some frame → IsQuiet r (save_made r f frame None)
+save_quiet r f frame at = saving_quiet r r f frame None (set_same r.frames f frame (saving_frame None frame) at (saving_same frame None (λ name h. cc))) refl refl
+
+-- the record in which a frame asked for a name
+abbrev pub named_frame : List ℕ → Frame → Frame
+named_frame name frame = record frame { asked = Some name }
+
+abbrev pub named : Record → ℕ → Frame → List ℕ → Record
+named r f frame name = with_frame r f (named_frame name frame)
+
+pub renaming_quiet : (r : Record) (f : ℕ) (frame : Frame) (name : List ℕ) → nth r.frames f ≡ Some frame → IsQuiet (named r f frame name) (save_made r f frame (Some name))
+renaming_quiet r f frame name at = saving_quiet r (named r f frame name) f frame (Some name)
+    (again_same r.frames f frame (named_frame name frame) (saving_frame (Some name) frame) at (saving_same (named_frame name frame) (Some name) (λ n h. h))) refl refl
 
 -- a commit that failed, and a save that is dropped
 pub doubt_quiet : (r : Record) (f : ℕ) (frame : Frame) → nth r.frames f ≡ Some frame → frame.phase ≢ Idle → IsQuiet r (commit_doubted r f frame)
@@ -74,10 +87,6 @@ drop_quiet r f frame at = record {
 if_ok : {A : Type 0} (b : Bool) (next : Result A ContainerFault) (fault : ContainerFault) (t : A) → (if b then next else Err fault) ≡ Ok t → next ≡ Ok t
 if_ok true next fault t e = e
 if_ok false next fault t e = cc
-
--- a step that moves grants and asks objects
-moved_quiet : (r : Record) (t : Took) → IsMoved r t.rec → t.answer.frame ≡ None → IsQuiet r t
-moved_quiet r t h e = record { frames = h.frames; ids = h.ids; last = h.last; frame = e }
 
 ok_took : (x y : Took) → ◌≡◌ {A = Result Took ContainerFault} (Ok x) (Ok y) → x ≡ y
 ok_took x y e = cc
@@ -117,6 +126,7 @@ abbrev pub IsCalm : Command → Type 0
 IsCalm (command.New name w h) = ⊥
 IsCalm (command.Insert f kind area) = ⊥
 IsCalm (command.Delete n) = ⊥
+IsCalm (command.SaveAs f name) = ⊥
 IsCalm c = Unit {0}
 
 pub command_quiet : (r : Record) (c : Command) (t : Took) → IsCalm c → IsTakenAs r t c → IsQuiet r t
@@ -126,6 +136,7 @@ command_quiet r _ t calm (as_start started made) = subst (IsQuiet r) made (recor
 command_quiet r _ t calm (as_run n inc at run made) = subst (IsQuiet r) made (record { frames = same_frames r.frames; ids = ids_linked r n at.object _ at.found refl; last = refl; frame = refl })
 command_quiet r _ t calm (as_edit n bytes go small has made) = subst (IsQuiet r) made (record { frames = same_frames r.frames; ids = ids_linked r n go.at.object _ go.at.found refl; last = refl; frame = refl })
 command_quiet r _ t calm (as_save f at made) = subst (IsQuiet r) made (save_quiet r f at.frame at.there)
+command_quiet r _ t calm (as_save_as f name at free other made) = absurd calm
 command_quiet r _ t calm (as_delete n at passive made) = absurd calm
 command_quiet r _ t calm (as_kill inc alive made) = subst (IsQuiet r) made (record { frames = same_frames r.frames; ids = refl; last = refl; frame = refl })
 command_quiet r _ t calm (as_close n option go ts has row made) = subst (IsQuiet r) made (leaving_quiet r n go.at.frame go.at.object go.link ts go.at.found go.at.inside)
@@ -137,9 +148,10 @@ reply_quiet_taken r inc act x (Err fault) t f e = cc
 reply_quiet_taken r inc act x (Ok p) t f e =
     let u = replied_record r inc act x p in
     let v = (replied_grant r inc act x p).rec in
+    let w = (replied_saving r inc act x p).rec in
     let ids : map id_of u.objects ≡ map id_of r.objects = map_put id_of (is_linked inc act) (replied_object x p) x r.objects f refl in
     let h : IsMoved r u = record { frames = same_frames r.frames; ids = ids; last = refl } in
-    subst (IsQuiet r) (ok_took (reply_made r inc act x p) t e) (moved_quiet r (reply_made r inc act x p) (moved_settled r v (moved_after r u v h (regranted_moved u x.frame p.grant))) refl)
+    subst (IsQuiet r) (ok_took (reply_made r inc act x p) t e) (moved_quiet r (reply_made r inc act x p) (moved_settled r w (moved_after r v w (moved_after r u v h (regranted_moved u x.frame p.grant)) (handed_moved_if (is_answered x.link p.link) v x.frame))) refl)
 
 reply_quiet_found : (r : Record) (inc act n : ℕ) (answer : Answer) (x : Option Object) (t : Took) → find (is_linked inc act) r.objects ≡ x → reply_found r inc act n answer x ≡ Ok t → IsQuiet r t
 reply_quiet_found r inc act n answer None t f e = cc
@@ -197,7 +209,8 @@ pub reap_quiet : (r : Record) (inc : ℕ) (t : Took) → on_reap r inc ≡ Ok t 
 reap_quiet r inc t e =
     let u = reaped r inc in
     let v = (reaped_grants r inc).rec in
+    let w = (reaped_saving r inc).rec in
     let made = reap_made r inc in
     let a : Ok made ≡ Ok t = if_ok (is_alive r inc) (Ok made) NoSuch t e in
     let h : IsMoved r u = record { frames = same_frames r.frames; ids = map_map_same id_of (λ o. reaped_object inc o o.link) r.objects (λ o. id_reaped inc o o.link); last = refl } in
-    subst (IsQuiet r) (ok_took made t a) (moved_quiet r made (moved_settled r v (moved_after r u v h (freed_moved inc r.objects u))) refl)
+    subst (IsQuiet r) (ok_took made t a) (moved_quiet r made (moved_settled r w (moved_after r v w (moved_after r u v h (freed_moved inc r.objects u)) (all_handed_moved v))) refl)

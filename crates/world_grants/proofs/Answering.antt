@@ -20,7 +20,8 @@ use Rattle.container_model.specs.declared.record.Frame.{Frame}
 use Rattle.container_model.specs.Record.{Record, Took, is_object, is_linked, with_frame}
 use Rattle.container_model.specs.Saves.{settle}
 use Rattle.container_model.specs.Grants.{moved, regrant, regranted, regranted_by, regranted_in, event_of, grant_of, is_by, passed_to}
-use Rattle.container_model.specs.Messages.{replied_object, replied_record, replied_grant}
+use Rattle.container_model.specs.HandOffs.{is_answered}
+use Rattle.container_model.specs.Messages.{replied_object, replied_record, replied_grant, replied_saving}
 use Rattle.container_steady.specs.Roles.{Role, Other, Getting, Holding, Giving, Waiting, Plays, waits_as, role_in, queue_of}
 use Rattle.container_steady.specs.Steady.{SteadyLink, Steady}
 use Rattle.container_steady.proofs.SteadyFinds.{found_by_number}
@@ -29,6 +30,7 @@ use Rattle.world_model.specs.Safe.{Among, link_at, links_of}
 use Rattle.world_facts.specs.Words.{Links}
 use Rattle.world_grants.specs.Grants.{Roles, RolesMove, IsReadyFor, NoClaim, NoTools, roles_of}
 use Rattle.world_grants.proofs.States.{granted, revoked, IsGetting, IsGiving}
+use Rattle.world_grants.proofs.Handing.{handed_on_if}
 use Rattle.world_grants.proofs.Objects.{Keeps, AreKept, all_kept, kept_further, put_kept, grants_kept, grants_frames, Stay, kept_stay}
 use Rattle.world_grants.proofs.Frames.{AllMove, none_move, one_moves, settled_move}
 use Rattle.world_grants.proofs.Moving.{in_frame, linked_there, named_by, held_by, plain_move, holders_linked}
@@ -90,8 +92,8 @@ played r n l s e =
     let i = in_frame r n x.0 s x.1 in
     let sameo : x.0 ≡ i.object = (let z : Some x.0 ≡ Some i.object = sym x.1 ∙ i.found in cc) in
     let number : i.object.number ≡ n = number_of_found n r.objects i.object i.found in
-    let held : SteadyLink r.servers r.last_act i.frame.phase i.frame.k (role_in i.frame.ui.state i.object.number) l =
-    if_at (SteadyLink r.servers r.last_act i.frame.phase i.frame.k (role_in i.frame.ui.state i.object.number)) i.object.link l (ap (λ (z : Object). z.link) (sym sameo) ∙ x.2) i.linked in
+    let held : SteadyLink r.servers r.last_act i.frame.phase i.frame.asked i.frame.k (role_in i.frame.ui.state i.object.number) l =
+    if_at (SteadyLink r.servers r.last_act i.frame.phase i.frame.asked i.frame.k (role_in i.frame.ui.state i.object.number)) i.object.link l (ap (λ (z : Object). z.link) (sym sameo) ∙ x.2) i.linked in
     record { frame = i.frame; object = i.object; found = i.found; inside = i.inside; role = i.role; plays = subst (λ k. Plays (role_in i.frame.ui.state k) (queue_of l.pending l.waiting)) number held.plays }
 
 pub ready_for : (r : Record) → Steady r → IsReadyFor (links_of r.objects) (roles_of r)
@@ -153,8 +155,17 @@ module _ (r : Record) (s : Steady r) (inc act n : ℕ) (answer : Answer) (t : To
   abbrev end : Record
   end = (replied_grant r inc act x h.replied).rec
 
-  end_stays : Stay r.objects end.objects
-  end_stays = kept_stay r.objects end.objects (kept_further r.objects middle.objects end.objects replied_kept (regranted_kept middle x.frame h.replied.grant))
+  -- and the record once its frame's save went on
+  abbrev on : Record
+  on = (replied_saving r inc act x h.replied).rec
+
+  on_stays : Stay r.objects on.objects
+  on_stays = kept_stay r.objects on.objects (kept_further r.objects end.objects on.objects (kept_further r.objects middle.objects end.objects replied_kept (regranted_kept middle x.frame h.replied.grant))
+      (handed_on_if NoClaim NoTools (is_answered x.link h.replied.link) end x.frame).objects)
+
+  -- frames that moved before the save went on, moved so after it
+  on_frames : (Gone : Claim → Type 0) (New : Claim → Tools → Type 0) → AllMove Gone New r.frames end.frames → AllMove Gone New r.frames (settle on).frames
+  on_frames Gone New k = settled_move Gone New on.objects r.frames on.frames ((handed_on_if Gone New (is_answered x.link h.replied.link) end x.frame).frames r.frames k)
 
   -- its frame's grant moves so
   event_frames : (told : Tells) → h.replied.grant ≡ Some told → end.frames ≡ (regranted_by middle x.frame it.frame (event_of it.frame.ui.state told)).rec.frames
@@ -163,7 +174,7 @@ module _ (r : Record) (s : Steady r) (inc act n : ℕ) (answer : Answer) (t : To
   frames_by : (told : Tells) (event : Event) → h.replied.grant ≡ Some told → event_of it.frame.ui.state told ≡ Some event → end.frames ≡ set_nth r.frames x.frame (moved it.frame event)
   frames_by told event e is = event_frames told e ∙ (ap (λ v. (regranted_by middle x.frame it.frame v).rec.frames) is ∙ regrant_frames middle x.frame it.frame event)
 
-  made_is : (settle end ≡ t.rec)
+  made_is : (settle on ≡ t.rec)
   made_is = ap (λ (v : Took). v.rec) h.made
 
   abbrev Moved : Record → Type 0
@@ -173,21 +184,21 @@ module _ (r : Record) (s : Steady r) (inc act n : ℕ) (answer : Answer) (t : To
   answered_by : (told : Answer) → answer ≡ told → Among (Reply inc act n answer ∷ []) (Reply h.link.inc h.link.act h.link.last told)
   answered_by told e = inl (ap (λ i. Reply i h.link.act h.link.last told) h.inc_is ∙ (ap (λ a. Reply inc a h.link.last told) h.act_is ∙ (ap (λ k. Reply inc act k told) (sym h.number) ∙ ap (Reply inc act n) (sym e))))
 
-  quiet_moves : h.replied.grant ≡ None → Moved (settle end)
-  quiet_moves e = move_more (links_of r.objects) (links_of end.objects) (roles_of r) (roles_of (settle end)) (Reply inc act n answer ∷ []) (plain_move r (settle end) s end_stays
-      (settled_move NoClaim NoTools end.objects r.frames end.frames (subst (λ g. AllMove NoClaim NoTools r.frames (regranted middle x.frame g).rec.frames) (sym e) (none_move NoClaim NoTools r.frames))))
+  quiet_moves : h.replied.grant ≡ None → Moved (settle on)
+  quiet_moves e = move_more (links_of r.objects) (links_of on.objects) (roles_of r) (roles_of (settle on)) (Reply inc act n answer ∷ []) (plain_move r (settle on) s on_stays
+      (on_frames NoClaim NoTools (subst (λ g. AllMove NoClaim NoTools r.frames (regranted middle x.frame g).rec.frames) (sym e) (none_move NoClaim NoTools r.frames))))
 
-  gets_moves : (g : ℕ) (tools : Tools) → h.op ≡ UiActivate g → answer ≡ told.Tools tools.menus tools.border → h.replied.grant ≡ Some (Gets g tools) → Moved (settle end)
+  gets_moves : (g : ℕ) (tools : Tools) → h.op ≡ UiActivate g → answer ≡ told.Tools tools.menus tools.border → h.replied.grant ≡ Some (Gets g tools) → Moved (settle on)
   gets_moves g tools eo ea e =
       let state = it.frame.ui.state in
       let New : Claim → Tools → Type 0 = IsGetting state g tools in
       let getting : role_in state x.number ≡ Getting g = sym it.role ∙ (ready_for r s).getting x.number g h.link at_x (h.pending ∙ ap Some eo) in
-      let moves : AllMove NoClaim (IsGetting state g tools) r.frames (settle end).frames = settled_move NoClaim (IsGetting state g tools) end.objects r.frames end.frames
+      let moves : AllMove NoClaim (IsGetting state g tools) r.frames (settle on).frames = on_frames NoClaim (IsGetting state g tools)
       (subst (AllMove NoClaim (IsGetting state g tools) r.frames) (sym (frames_by (Gets g tools) (Granted g tools) e refl))
       (one_moves NoClaim (IsGetting state g tools) r.frames x.frame it.frame (moved it.frame (Granted g tools)) inside (granted state g tools))) in
       record {
-        named = λ o k m em nm. elim (named_by r (settle end) NoClaim (IsGetting state g tools) s end_stays moves o k m em nm) [ inl y ↦ inl y | inr z ↦ absurd z.3 ];
-        held = λ o k ts m em hd. elim (held_by r (settle end) NoClaim (IsGetting state g tools) s end_stays moves o k ts m em hd) [
+        named = λ o k m em nm. elim (named_by r (settle on) NoClaim (IsGetting state g tools) s on_stays moves o k m em nm) [ inl y ↦ inl y | inr z ↦ absurd z.3 ];
+        held = λ o k ts m em hd. elim (held_by r (settle on) NoClaim (IsGetting state g tools) s on_stays moves o k ts m em hd) [
           | inl y ↦ inl y
           | inr z ↦ (let new = z.3 in
               let mine : z.0.object ≡ x.number = getting_is z.0 x.number g (ap (λ q. role_in q x.number) (sym new.0) ∙ getting) in
@@ -212,13 +223,13 @@ module _ (r : Record) (s : Steady r) (inc act n : ℕ) (answer : Answer) (t : To
       let stays : end.frames ≡ r.frames = event_frames (GivesUp act) e ∙ ap (λ b. (regranted_by middle x.frame it.frame (if b then Some (Revoked (grant_of state)) else None)).rec.frames) by in
       subst (AllMove (IsGiving state) NoTools r.frames) (sym stays) (none_move (IsGiving state) NoTools r.frames)
 
-  gives_moves : (act : ℕ) → h.op ≡ UiDeactivate → answer ≡ told.Done → h.replied.grant ≡ Some (GivesUp act) → Moved (settle end)
+  gives_moves : (act : ℕ) → h.op ≡ UiDeactivate → answer ≡ told.Done → h.replied.grant ≡ Some (GivesUp act) → Moved (settle on)
   gives_moves act eo ea e =
       let state = it.frame.ui.state in
       let giving = plays_giving (role_in state x.number) h.link.waiting (subst (λ q. Plays (role_in state x.number) (queue_of q h.link.waiting)) (h.pending ∙ ap Some eo) it.plays) in
-      let moves : AllMove (IsGiving state) NoTools r.frames (settle end).frames = settled_move (IsGiving state) NoTools end.objects r.frames end.frames (given_moves act (is_by act (who state)) refl e) in
+      let moves : AllMove (IsGiving state) NoTools r.frames (settle on).frames = on_frames (IsGiving state) NoTools (given_moves act (is_by act (who state)) refl e) in
       record {
-        named = λ o k m em nm. elim (named_by r (settle end) (IsGiving state) NoTools s end_stays moves o k m em nm) [
+        named = λ o k m em nm. elim (named_by r (settle on) (IsGiving state) NoTools s on_stays moves o k m em nm) [
           | inl y ↦ inl y
           | inr z ↦ (let gone = z.3 in
               let mine : z.0.object ≡ x.number = giving_is z.0 gone.0 x.number giving.0 (ap (λ q. role_in q x.number) (sym gone.1) ∙ giving.1) in
@@ -229,10 +240,10 @@ module _ (r : Record) (s : Steady r) (inc act n : ℕ) (answer : Answer) (t : To
                 answered = answered_by told.Done ea;
               }))
         ];
-        held = λ o k ts m em hd. elim (held_by r (settle end) (IsGiving state) NoTools s end_stays moves o k ts m em hd) [ inl y ↦ inl y | inr z ↦ absurd z.3 ];
+        held = λ o k ts m em hd. elim (held_by r (settle on) (IsGiving state) NoTools s on_stays moves o k ts m em hd) [ inl y ↦ inl y | inr z ↦ absurd z.3 ];
       }
 
-  told_moves : Told h.op answer h.replied → Moved (settle end)
+  told_moves : Told h.op answer h.replied → Moved (settle on)
   told_moves (tells_none e) = quiet_moves e
   told_moves (tells_gets g tools eo ea e) = gets_moves g tools eo ea e
   told_moves (tells_gives act eo ea e) = gives_moves act eo ea e

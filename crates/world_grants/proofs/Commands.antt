@@ -1,5 +1,5 @@
 -- Commands that leave frames to whoever has them; a commit, one that fails, and a save that is dropped.
-use Rattle.std.proofs.Common.{◌≡◌, ◌||◌, ◌==◌, ◌+◌, ℕ, Bool, true, false, not, List, [], ◌∷◌, length, Option, Some, None, is_some, Ok, Err, refl, sym, ◌∙◌, subst, nat_le, nat_lt, if◌then◌else◌}
+use Rattle.std.proofs.Common.{◌≡◌, ◌==◌, ℕ, Bool, true, false, List, Some, refl, sym, ◌∙◌, subst, if◌then◌else◌, Option, None}
 use Rattle.wire_msgs.specs.Found.{find, put, nth, set_nth}
 use Rattle.wire_msgs.specs.declared.operation.Operation.{Operation}
 use Rattle.wire_msgs.specs.declared.operation.Operation.TheVariants.{SaveDropped}
@@ -7,11 +7,12 @@ use Rattle.container_model.specs.declared.record.Object.{Object}
 use Rattle.container_model.specs.declared.record.Frame.{Frame}
 use Rattle.container_model.specs.Record.{Record, is_object, asked_link, asked_object}
 use Rattle.container_model.specs.Saves.{kept, cleared, completion, completed, counted_object, commit_doubted, commit_made, committed_frame, doubted_frame, dropped_frame, dropped_object, forgotten_object, save_dropped}
-use Rattle.container_model.specs.Commands.{saving_frame, save_made}
+use Rattle.container_model.specs.Commands.{saving, saving_frame, saving_on, save_made}
 use Rattle.world_grants.specs.Grants.{NoClaim, NoTools}
 use Rattle.world_grants.proofs.States.{same}
-use Rattle.world_grants.proofs.Objects.{Keeps, all_kept, map_kept, with_found, Stay, kept_stay, more_stay, without_stay}
-use Rattle.world_grants.proofs.Frames.{AllMove, none_move, one_moves, settled_move, more_move}
+use Rattle.world_grants.proofs.Handing.{asked_keeps, handed_on}
+use Rattle.world_grants.proofs.Objects.{Keeps, all_kept, kept_further, map_kept, with_found, Stay, kept_stay}
+use Rattle.world_grants.proofs.Frames.{AllMove, none_move, one_moves, settled_move}
 
 -- objects stay in their frames, and frames with whoever has them
 abbrev pub Leaves : Record → Record → Type 0
@@ -25,18 +26,14 @@ pub linked_leaves : (r : Record) (n : ℕ) (x a : Object) → find (is_object n)
 linked_leaves r n x a e k = kept_stay r.objects _ (with_found n r.objects r.objects x a (all_kept r.objects) e k)
 
 -- a whole frame is asked
-asked_keeps : (f : ℕ) (op : Operation) (o : Object) → Keeps o (asked_object f op o)
-asked_keeps f op o = at (o.frame == f)
-  where
-    at : (b : Bool) → Keeps o (if b then record o { link = asked_link op o.link } else o)
-    at true = record { number = refl; frame = refl }
-    at false = record { number = refl; frame = refl }
-
-pub save_leaves : (r : Record) (f : ℕ) (frame : Frame) → nth r.frames f ≡ Some frame → Leaves r (save_made r f frame).rec
-save_leaves r f frame at = (
-  kept_stay r.objects _ (map_kept _ r.objects (λ o. asked_keeps f _ o)),
-  settled_move NoClaim NoTools _ r.frames (set_nth r.frames f (saving_frame frame)) (one_moves NoClaim NoTools r.frames f frame (saving_frame frame) at (same frame.ui.state)),
-)
+pub save_leaves : (r : Record) (f : ℕ) (frame : Frame) (name : Option (List ℕ)) → nth r.frames f ≡ Some frame → Leaves r (save_made r f frame name).rec
+save_leaves r f frame name at =
+    let v = saving r f frame name in
+    let u = (saving_on r f frame name).rec in
+    let k = handed_on NoClaim NoTools v f in (
+      kept_stay r.objects u.objects (kept_further r.objects v.objects u.objects (map_kept _ r.objects (λ o. asked_keeps f _ o)) k.objects),
+      settled_move NoClaim NoTools u.objects r.frames u.frames (k.frames r.frames (one_moves NoClaim NoTools r.frames f frame (saving_frame name frame) at (same frame.ui.state))),
+    )
 
 -- a commit is counted
 completed_keeps : (f : ℕ) (frame : Frame) (o : Object) → Keeps o (completed f frame o)

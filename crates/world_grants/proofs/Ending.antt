@@ -12,7 +12,7 @@ use Rattle.container_model.specs.declared.fault.ContainerFault.TheVariants.{NoSu
 use Rattle.container_model.specs.Record.{Record, Took, asked_link, is_object, is_alive}
 use Rattle.container_model.specs.Saves.{settle, kept}
 use Rattle.container_model.specs.Grants.{requested, request, grant_each, is_hosted, is_hosted_object, freed_frame, freed_claims}
-use Rattle.container_model.specs.Messages.{reaped_object, reaped, reaped_grants, reap_made, on_reap}
+use Rattle.container_model.specs.Messages.{reaped_object, reaped, reaped_grants, reaped_saving, reap_made, on_reap}
 use Rattle.container_steady.specs.Steady.{Steady}
 use Rattle.container_steady.proofs.SteadyFinds.{find-put_same, find-put_other, find-map}
 use Rattle.world_model.specs.Safe.{link_at, links_of}
@@ -20,6 +20,7 @@ use Rattle.world_facts.proofs.Lookups.{find_passes}
 use Rattle.std.proofs.lemmas.Bool.{eqb-true}
 use Rattle.world_grants.specs.Grants.{RolesMove, NoTools, roles_of}
 use Rattle.world_grants.proofs.States.{IsHosted}
+use Rattle.world_grants.proofs.Handing.{IsKeptOn, all_handed_on}
 use Rattle.world_grants.proofs.Objects.{Keeps, kept_further, map_kept, grants_kept, grants_frames, Stay, kept_stay}
 use Rattle.world_grants.proofs.Frames.{AllMove, settled_move, freed_move}
 use Rattle.world_grants.proofs.Moving.{named_by, held_by}
@@ -76,22 +77,29 @@ module _ (r : Record) (inc : ℕ) where
   abbrev claims : List Claim
   claims = freed_claims inc r.objects r.frames
 
-  reaped_stays : Stay r.objects (reaped_grants r inc).rec.objects
-  reaped_stays = kept_stay r.objects (grant_each freed claims).rec.objects
-      (kept_further r.objects freed.objects (grant_each freed claims).rec.objects (map_kept after r.objects (λ x. after_keeps x x.link)) (grants_kept freed claims))
+  -- and once saves went on
+  abbrev on : Record
+  on = (reaped_saving r inc).rec
 
-  reaped_move : Steady r → AllMove (IsHosted inc r.objects) NoTools r.frames (settle (reaped_grants r inc).rec).frames
-  reaped_move s = settled_move (IsHosted inc r.objects) NoTools (reaped_grants r inc).rec.objects r.frames (reaped_grants r inc).rec.frames
-      (subst (AllMove (IsHosted inc r.objects) NoTools r.frames) (sym (grants_frames freed claims))
-      (freed_move inc r.objects r.frames (λ f frame e. (s.grants f frame e).apart)))
+  goes_on : IsKeptOn (IsHosted inc r.objects) NoTools (grant_each freed claims).rec (reaped_saving r inc).rec
+  goes_on = all_handed_on (IsHosted inc r.objects) NoTools (reaped_grants r inc).rec
+
+  reaped_stays : Stay r.objects (reaped_saving r inc).rec.objects
+  reaped_stays = kept_stay r.objects on.objects (kept_further r.objects (grant_each freed claims).rec.objects on.objects
+      (kept_further r.objects freed.objects (grant_each freed claims).rec.objects (map_kept after r.objects (λ x. after_keeps x x.link)) (grants_kept freed claims)) goes_on.objects)
+
+  reaped_move : Steady r → AllMove (IsHosted inc r.objects) NoTools r.frames (settle (reaped_saving r inc).rec).frames
+  reaped_move s = settled_move (IsHosted inc r.objects) NoTools on.objects r.frames on.frames
+      (goes_on.frames r.frames (subst (AllMove (IsHosted inc r.objects) NoTools r.frames) (sym (grants_frames freed claims))
+      (freed_move inc r.objects r.frames (λ f frame e. (s.grants f frame e).apart))))
 
   reaped_roles : Steady r → RolesMove (links_of r.objects) (links_of (reap_made r inc).rec.objects) (roles_of r) (roles_of (reap_made r inc).rec) []
   reaped_roles s =
-      let u = settle (reaped_grants r inc).rec in
+      let u = settle (reaped_saving r inc).rec in
       record {
         named = λ o g m e n. elim (named_by r u (IsHosted inc r.objects) NoTools s reaped_stays (reaped_move s) o g m e n) [
           | inl k ↦ inl k
-          | inr z ↦ absurd (let over : links_of u.objects o ≡ None = passive_each freed claims o (gone o (ap (λ k. is_hosted_object inc (find (is_object k) r.objects)) (sym z.1) ∙ z.3)) in
+          | inr z ↦ absurd (let over : links_of u.objects o ≡ None = goes_on.passive o (passive_each freed claims o (gone o (ap (λ k. is_hosted_object inc (find (is_object k) r.objects)) (sym z.1) ∙ z.3))) in
               let y : None ≡ Some m = sym over ∙ e in cc)
         ];
         held = λ o g tools m e n. elim (held_by r u (IsHosted inc r.objects) NoTools s reaped_stays (reaped_move s) o g tools m e n) [ inl k ↦ inl k | inr z ↦ absurd z.3 ];

@@ -12,3 +12,4 @@ pub mod Replies
 pub mod Answering
 pub mod Ending
 pub mod Taking
+pub mod Handing

@@ -28,11 +28,11 @@ pub record IsIn (r : Record) (n : ℕ) : Type 0 where
   pub found : find (is_object n) r.objects ≡ Some object
   pub inside : nth r.frames object.frame ≡ Some frame
   pub role : roles_of r n ≡ role_in frame.ui.state n
-  pub linked : IfSome object.link (SteadyLink r.servers r.last_act frame.phase frame.k (role_in frame.ui.state object.number))
+  pub linked : IfSome object.link (SteadyLink r.servers r.last_act frame.phase frame.asked frame.k (role_in frame.ui.state object.number))
 
 pub in_frame : (r : Record) (n : ℕ) (x : Object) → Steady r → find (is_object n) r.objects ≡ Some x → IsIn r n
 in_frame r n x s e =
-    let held = some_and (λ (frame : Frame). IfSome x.link (SteadyLink r.servers r.last_act frame.phase frame.k (role_in frame.ui.state x.number))) (nth r.frames x.frame)
+    let held = some_and (λ (frame : Frame). IfSome x.link (SteadyLink r.servers r.last_act frame.phase frame.asked frame.k (role_in frame.ui.state x.number))) (nth r.frames x.frame)
     (each_found (SteadyObject r) (is_object n) r.objects x s.objects e).linked in
     record {
       object = x;

@@ -1,5 +1,6 @@
 -- Objects that changed, each under its number and in its frame.
 use Rattle.std.proofs.Common.{◌≡◌, ◌⊎◌, ◌==◌, ℕ, Bool, true, false, List, [], ◌∷◌, ◌++◌, map, Option, Some, None, refl, sym, ap, ◌∙◌, inl, inr, subst, if◌then◌else◌}
+use Rattle.std.specs.List.{AllByRecursion}
 use Rattle.std.proofs.lemmas.Bool.{eqb-true}
 use Rattle.std.proofs.lemmas.Bool.Decides.{eqb_tells}
 use Rattle.wire_msgs.specs.Found.{find, put}
@@ -105,15 +106,22 @@ Stay os us = (n : ℕ) (y : Object) → find (is_object n) us ≡ Some y → (y.
 pub kept_stay : (os us : List Object) → AreKept os us → Stay os us
 kept_stay os us h n y e = (let x = found_before n os us y h e in inr (x.0, x.1, x.2.frame))
 
-pub more_stay : (os : List Object) (a : Object) → a.link ≡ None → Stay os (os ++ a ∷ [])
-more_stay [] a q n y e = at (a.number == n) e
-  where
-    at : (b : Bool) → (if b then Some a else None) ≡ Some y → (y.link ≡ None) ⊎ ((x : Object) × (None ≡ Some x) × (y.frame ≡ x.frame))
-    at true g = (let ay : a ≡ y = cc in inl (ap (λ (z : Object). z.link) (sym ay) ∙ q))
-    at false g = cc
-more_stay (o ∷ os) a q n y e = elim (o.number == n) as (λ b. (if b then Some o else find (is_object n) (os ++ a ∷ [])) ≡ Some y → (y.link ≡ None) ⊎ ((x : Object) × ((if b then Some o else find (is_object n) os) ≡ Some x) × (y.frame ≡ x.frame))) [
+-- new ones are passive
+abbrev pub ArePassive : List Object → Type 0
+ArePassive news = AllByRecursion (λ (a : Object). a.link ≡ None) news
+
+passive_found : (news : List Object) (n : ℕ) (y : Object) → ArePassive news → find (is_object n) news ≡ Some y → y.link ≡ None
+passive_found [] n y q e = cc
+passive_found (a ∷ news) n y q e = elim (a.number == n) as (λ b. (if b then Some a else find (is_object n) news) ≡ Some y → y.link ≡ None) [
+  | true ↦ (λ g. (let ay : a ≡ y = cc in ap (λ (z : Object). z.link) (sym ay) ∙ q.0))
+  | false ↦ (λ g. passive_found news n y q.1 g)
+] e
+
+pub more_stay : (os news : List Object) → ArePassive news → Stay os (os ++ news)
+more_stay [] news q n y e = inl (passive_found news n y q e)
+more_stay (o ∷ os) news q n y e = elim (o.number == n) as (λ b. (if b then Some o else find (is_object n) (os ++ news)) ≡ Some y → (y.link ≡ None) ⊎ ((x : Object) × ((if b then Some o else find (is_object n) os) ≡ Some x) × (y.frame ≡ x.frame))) [
   | true ↦ (λ g. inr (y, g, refl))
-  | false ↦ (λ g. more_stay os a q n y g)
+  | false ↦ (λ g. more_stay os news q n y g)
 ] e
 
 pub without_stay : (os : List Object) (m : ℕ) → EachPair InOrder os → Stay os (without_first (is_object m) os)

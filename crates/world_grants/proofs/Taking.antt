@@ -1,28 +1,29 @@
 -- What each step of the container makes of roles.
-use Rattle.std.proofs.Common.{◌≡◌, ◌==◌, ℕ, Bool, true, false, List, [], ◌∷◌, Option, Some, None, Result, Ok, Err, refl, sym, ◌∙◌, subst, if◌then◌else◌}
+use Rattle.std.proofs.Common.{◌≡◌, ◌==◌, ℕ, ◌+◌, Bool, true, false, List, [], ◌∷◌, length, Option, Some, None, Result, Ok, Err, refl, sym, ◌∙◌, subst, if◌then◌else◌}
 use Rattle.wire_msgs.specs.Found.{find, nth}
 use Rattle.wire_msgs.specs.declared.message.Message.{Message}
 use Rattle.wire_msgs.specs.declared.message.Message.TheVariants.{Call, Reply, Write, Ask}
-use Rattle.object_state.specs.Verbs.{verb_of}
 use Rattle.object_parts.specs.Limits.{is_within}
+use Rattle.document_model.specs.declared.object.DocObject.{DocObject}
 use Rattle.storage_tree.specs.declared.stored.Stored.{Stored}
 use Rattle.container_model.specs.declared.record.Link.{Link}
 use Rattle.container_model.specs.declared.record.Object.{Object}
 use Rattle.container_model.specs.declared.command.Command.{Command}
-use Rattle.container_model.specs.declared.command.Command.TheVariants as command
 use Rattle.container_model.specs.declared.fault.ContainerFault.{ContainerFault}
 use Rattle.container_model.specs.declared.fault.ContainerFault.TheVariants.{Stale, WrongLink, BadAnswer}
-use Rattle.container_model.specs.Record.{Record, Took, is_object, is_linked, is_alive}
+use Rattle.container_model.specs.Record.{Record, Took, is_linked, is_alive}
 use Rattle.container_model.specs.declared.record.Frame.{Frame}
 use Rattle.container_model.specs.Saves.{commit_doubted, commit_failed, commit_made, resolve, save_dropped}
-use Rattle.container_model.specs.Commands.{on_command, kind_of}
+use Rattle.container_model.specs.Commands.{on_command}
 use Rattle.container_model.specs.Messages.{is_open_to, written_object, write_made, write_link, write_found, on_message, on_ask}
+use Rattle.container_model.specs.Opens.{Given, opened, opened_made, opened_objects}
 use Rattle.container_steady.specs.Steady.{Steady}
+use Rattle.container_steady.proofs.Opening.{is_opened}
 use Rattle.container_steady.proofs.Settling.{is_dropped, is_failed}
 use Rattle.world_model.specs.Safe.{links_of}
 use Rattle.world_grants.specs.Grants.{RolesMove, NoClaim, NoTools, roles_of}
-use Rattle.world_grants.proofs.Objects.{Keeps, put_kept, kept_stay}
-use Rattle.world_grants.proofs.Frames.{none_move}
+use Rattle.world_grants.proofs.Objects.{ArePassive, Keeps, put_kept, kept_stay, more_stay}
+use Rattle.world_grants.proofs.Frames.{none_move, more_move}
 use Rattle.world_grants.proofs.Moving.{plain_move}
 use Rattle.world_grants.proofs.Commands.{Leaves, commit_leaves, doubt_leaves, drop_leaves}
 use Rattle.world_grants.proofs.Verbs.{command_leaves, ask_leaves}
@@ -46,6 +47,16 @@ failed_moves r f t s e = (let h = is_failed r f t e in subst (λ (x : Took). Mov
 
 pub dropped_moves : (r : Record) (f : ℕ) (t : Took) → Steady r → resolve r f false ≡ Ok t → MovesBy r t.rec []
 dropped_moves r f t s e = (let h = is_dropped r f t e in subst (λ (x : Took). MovesBy r x.rec []) h.made (left_moves r (save_dropped r f h.frame).rec s (drop_leaves r f h.frame h.there)))
+
+-- a file that is opened
+opened_passive : (last f : ℕ) (ds : List DocObject) → ArePassive (opened_objects last f ds)
+opened_passive last f [] = tt
+opened_passive last f (d ∷ ds) = (refl, opened_passive (last + 1) f ds)
+
+pub opened_moves : (r : Record) (name : List ℕ) (w h : ℕ) (given : Given) (t : Took) → Steady r → opened r name w h given ≡ Ok t → MovesBy r t.rec []
+opened_moves r name w h given t s e =
+    let o = is_opened r name w h given t e in
+    subst (λ (x : Took). MovesBy r x.rec []) o.made (left_moves r (opened_made r name w h o.ds).rec s (more_stay r.objects _ (opened_passive r.last_object (length r.frames + 1) o.ds), more_move NoClaim NoTools r.frames _))
 
 -- a write
 module _ (r : Record) (inc act s w : ℕ) (content : Stored) (t : Took) where

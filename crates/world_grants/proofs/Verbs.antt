@@ -1,10 +1,7 @@
 -- Verbs, closes and asks: a frame's grant is asked for or offered back, so nobody loses it and nobody holds it newly.
-use Rattle.std.proofs.Common.{◌≡◌, ◌||◌, ◌&&◌, ◌+◌, ℕ, Bool, true, false, not, List, [], ◌∷◌, Option, Some, None, Ok, Err, refl, sym, subst, nat_le, if◌then◌else◌}
+use Rattle.std.proofs.Common.{◌≡◌, ◌+◌, ℕ, Bool, true, false, List, [], ◌∷◌, Option, Some, None, Ok, Err, refl, sym, subst, if◌then◌else◌}
 use Rattle.wire_msgs.specs.Found.{find, nth, set_nth}
 use Rattle.wire_msgs.specs.declared.operation.Operation.TheVariants.{UiDeactivate}
-use Rattle.object_state.specs.Verbs.{close_steps}
-use Rattle.object_state.specs.declared.operations.CloseOption.{CloseOption}
-use Rattle.object_state.specs.declared.verbs.Verb.{Verb}
 use Rattle.object_state.specs.declared.verbs.Step.{Step}
 use Rattle.grant_core.specs.declared.grant_states.Claim.{Claim}
 use Rattle.grant_core.specs.Grants as grant
@@ -15,9 +12,9 @@ use Rattle.container_model.specs.declared.fault.ContainerFault.TheVariants.{Stal
 use Rattle.container_model.specs.declared.command.Command.{Command}
 use Rattle.container_model.specs.Commands.{kind_of, new_object, on_command, start_made}
 use Rattle.container_steady.specs.Steady.{Steady}
-use Rattle.container_steady.specs.Taken.{IsStepped, IsTakenAs, as_close, as_delete, as_edit, as_insert, as_kill, as_new, as_run, as_save, as_start, as_verb, steps_leave, steps_nothing, steps_take}
+use Rattle.container_steady.specs.Taken.{IsStepped, IsTakenAs, as_close, as_delete, as_edit, as_insert, as_kill, as_new, as_run, as_save, as_save_as, as_start, as_verb, steps_leave, steps_nothing, steps_take}
 use Rattle.container_steady.proofs.Taken.{command_taken}
-use Rattle.container_model.specs.Record.{Record, Took, is_object, is_linked, is_alive, is_busy, is_moving, is_saving, is_doubtful, has_numbers, counts_none, quiet_answer, with_frame, acts, sends}
+use Rattle.container_model.specs.Record.{Record, Took, is_object, is_linked, is_alive, counts_none, with_frame, acts, sends}
 use Rattle.container_model.specs.Grants.{moved, grant_of}
 use Rattle.container_model.specs.Verbs.{gives_up, left, claim_of, leaving_made, holder_of, revoked_at, claimed, revoked, taking_made}
 use Rattle.container_model.specs.Messages.{is_held_by, relieved, ask_framed, ask_found, on_ask}
@@ -64,11 +61,12 @@ stepped_leaves r n frame o l ts t f at (steps_take has takes lt holder made) = s
 -- each command leaves frames to whoever has them
 taken_leaves : (r : Record) (c : Command) (t : Took) → Steady r → IsTakenAs r t c → Leaves r t.rec
 taken_leaves r _ t s (as_new name w h new made) = subst (λ (v : Took). Leaves r v.rec) made (kept_stay r.objects r.objects (all_kept r.objects), more_move NoClaim NoTools r.frames _)
-taken_leaves r _ t s (as_insert f kind area at made) = subst (λ (v : Took). Leaves r v.rec) made (more_stay r.objects (new_object (r.last_object + 1) f (kind_of kind) area) refl, none_move NoClaim NoTools r.frames)
+taken_leaves r _ t s (as_insert f kind area at made) = subst (λ (v : Took). Leaves r v.rec) made (more_stay r.objects (new_object (r.last_object + 1) f (kind_of kind) area ∷ []) (refl, tt), none_move NoClaim NoTools r.frames)
 taken_leaves r _ t s (as_start started made) = subst (λ (v : Took). Leaves r v.rec) made (leaves_all r (start_made r).rec refl refl)
 taken_leaves r _ t s (as_run n inc at run made) = subst (λ (v : Took). Leaves r v.rec) made (linked_leaves r n at.object _ at.found (record { number = refl; frame = refl }), none_move NoClaim NoTools r.frames)
 taken_leaves r _ t s (as_edit n bytes go small has made) = subst (λ (v : Took). Leaves r v.rec) made (linked_leaves r n go.at.object _ go.at.found (record { number = refl; frame = refl }), none_move NoClaim NoTools r.frames)
-taken_leaves r _ t s (as_save f at made) = subst (λ (v : Took). Leaves r v.rec) made (save_leaves r f at.frame at.there)
+taken_leaves r _ t s (as_save f at made) = subst (λ (v : Took). Leaves r v.rec) made (save_leaves r f at.frame None at.there)
+taken_leaves r _ t s (as_save_as f name at free other made) = subst (λ (v : Took). Leaves r v.rec) made (save_leaves r f at.frame (Some name) at.there)
 taken_leaves r _ t s (as_delete n at passive made) = subst (λ (v : Took). Leaves r v.rec) made (without_stay r.objects at.object.number s.order, none_move NoClaim NoTools r.frames)
 taken_leaves r _ t s (as_kill inc alive made) = subst (λ (v : Took). Leaves r v.rec) made (leaves_all r r refl refl)
 taken_leaves r _ t s (as_close n option go ts has row made) = subst (λ (v : Took). Leaves r v.rec) made (leaving_leaves r n go.at.frame go.at.object go.link ts go.at.found go.at.inside)

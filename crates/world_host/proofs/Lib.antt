@@ -1,4 +1,5 @@
 pub mod Counting
+pub mod Opening
 pub mod NumberedRanges
 pub mod Joins
 pub mod Filed

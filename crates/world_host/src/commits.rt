@@ -13,6 +13,7 @@ ghost use Rattle.world_host.specs.Servers.{ends_in};
 ghost use Rattle.world_host.specs.View.{bare, started};
 
 use crate::host::{Host, Room, Servers, add, add_all};
+use crate::opens::file_bytes;
 use container_model::answer::{Done, Part};
 use container_model::fault::ContainerFault;
 use container_model::record::{Frame, Phase};
@@ -33,7 +34,7 @@ pub(crate) fn name_after(alloc: Global, frame: &Frame) -> Result<Bytes, AllocErr
 }
 
 // Where the file of this name stands.
-fn file_place(files: &[File], name: &[u8]) -> Option<usize>
+pub(crate) fn file_place(files: &[File], name: &[u8]) -> Option<usize>
     ensures fits { IfSome result (λ i. i < length files.now) }
     ensures place { MatchOption result (IsNoFile name.now files.now) (λ i. IsFileAt name.now files.now i) }
 {
@@ -224,9 +225,6 @@ impl Host {
         if !frame.stored {
             return None;
         }
-        match file_place(&self.files, frame.name.as_slice()) {
-            Some(i) => Some(self.files[i].bytes.as_slice()),
-            None => None,
-        }
+        file_bytes(&self.files, frame.name.as_slice())
     }
 }

@@ -283,7 +283,7 @@ impl Host {
     }
 
     // Keeps why the container refused an event; no server ends or starts.
-    fn refuse(&mut self, fault: ContainerFault, room: Room) -> Servers
+    pub(crate) fn refuse(&mut self, fault: ContainerFault, room: Room) -> Servers
         requires { vec_len self.old.answers < vec_capacity self.old.answers }
         ensures kept { bare self.new ≡ record (bare self.old) { answers = self.old.answers.items ++ told.Refused fault ∷ [] } }
         ensures none { result ≡ room.servers }

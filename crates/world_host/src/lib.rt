@@ -4,6 +4,7 @@
 mod commits;
 mod doubts;
 pub mod host;
+mod opens;
 mod replying;
 mod taking;
 

@@ -11,6 +11,7 @@ use Rattle.server_model.specs.Server as server
 use Rattle.server_model.specs.declared.fault.ServerFault.{ServerFault}
 use Rattle.container_model.specs.Commands.{on_command}
 use Rattle.container_model.specs.Messages.{on_message, on_reap}
+use Rattle.container_model.specs.Opens.{opened}
 use Rattle.container_model.specs.Record.{Took}
 use Rattle.container_model.specs.Saves.{commit_done, commit_failed, image, resolve}
 use Rattle.container_model.specs.declared.answer.Part.{Part}
@@ -145,6 +146,7 @@ happened-taken w choice (event.Reap inc) = reap-taken w inc (nth w.instances inc
 happened-taken w choice (event.Done f) = done_in-taken w f choice.file (commit_done w.rec f) (nth w.rec.frames f)
 happened-taken w choice (event.Fail f) = only_taken-taken w (commit_failed w.rec f)
 happened-taken w choice (event.Resolve f is_kept) = resolved-taken w f is_kept choice.file
+happened-taken w choice (event.Open name width height) = took-more w (opened w.rec name width height choice.given)
 happened-taken w choice (event.Ask inc act) = ask-taken w inc act (nth w.instances inc)
 happened-taken w choice (event.Scribble inc act) = scribble-taken w inc act (nth w.instances inc)
 

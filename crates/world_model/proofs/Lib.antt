@@ -1,3 +1,5 @@
 pub mod Computed
 pub mod Counted
 pub mod Granted
+pub mod Opened
+pub mod Renamed

@@ -4,3 +4,5 @@ pub mod Runs
 pub mod GrantRuns
 pub mod StopNames
 pub mod Report
+pub mod OpenRuns
+pub mod RenameRuns

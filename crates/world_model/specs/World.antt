@@ -14,8 +14,9 @@ use Rattle.server_model.specs.declared.counted.Counted.{Counted}
 use Rattle.server_model.specs.declared.fault.ServerFault.{ServerFault}
 pub use Rattle.container_model.specs.Record.{without_first}
 use Rattle.container_model.specs.Record.{Record, Took, empty, is_doubtful, is_linked}
-use Rattle.container_model.specs.Commands.{on_command}
+use Rattle.container_model.specs.Commands.{is_named, is_size, on_command}
 use Rattle.container_model.specs.Messages.{on_message, on_reap, awaits_save}
+use Rattle.container_model.specs.Opens.{Given, IsReadAs, opened}
 pub use Rattle.container_model.specs.Saves.{done_entry}
 use Rattle.container_model.specs.Saves.{commit_done, commit_failed, image, document_tree, name_after, resolve}
 use Rattle.container_model.specs.declared.answer.Action.{Action}
@@ -151,6 +152,7 @@ owners_by command.Start = []
 owners_by (command.Run o inc) = o ∷ []
 owners_by (command.Edit o bytes) = []
 owners_by (command.Save f) = []
+owners_by (command.SaveAs f name) = []
 owners_by (command.Delete o) = []
 owners_by (command.Kill inc) = []
 owners_by (command.Close o option) = []
@@ -335,12 +337,17 @@ abbrev pub resolved : World → ℕ → Bool → List ℕ → Result World Stop
 resolved w f true bytes = done_in w f bytes (resolve w.rec f true) (nth w.rec.frames f)
 resolved w f false bytes = only_taken w (resolve w.rec f false)
 
--- What the definitions leave open in a step: of a commit that is done, or resolved as kept, the bytes that it makes the file.
+-- What the definitions leave open in a step: of a commit that is done, or resolved as kept, the bytes that it makes the file;
+-- of a file that is opened, what it gives.
 pub record Choice : Type 0 where
   pub file : List ℕ
+  pub given : Given
 
 abbrev pub making : List ℕ → Choice
-making bytes = record { file = bytes }
+making bytes = record { file = bytes; given = Given.Missing }
+
+abbrev pub giving : Given → Choice
+giving given = record { file = []; given = given }
 
 -- for the events that leave nothing open
 abbrev pub no_choice : Choice
@@ -355,6 +362,7 @@ happened w choice (event.Reap inc) = reap w inc (nth w.instances inc)
 happened w choice (event.Done f) = done w f choice.file
 happened w choice (event.Fail f) = only_taken w (commit_failed w.rec f)
 happened w choice (event.Resolve f is_kept) = resolved w f is_kept choice.file
+happened w choice (event.Open name width height) = Ok (took w (opened w.rec name width height choice.given))
 happened w choice (event.Scribble inc act) = scribble w inc act (nth w.instances inc)
 happened w choice (event.Ask inc act) = ask w inc act (nth w.instances inc)
 
@@ -369,7 +377,16 @@ limited w (Ok after) = if nat_le MOST_EVENTS (length w.answers) then Err EventLi
 abbrev pub step : World → Choice → Event → Result World Stop
 step w choice e = limited w (happened w choice e)
 
--- What may be chosen: the bytes that a commit makes the file denote the document.
+-- The file of a name.
+abbrev pub file_bytes : Option File → Option (List ℕ)
+file_bytes None = None
+file_bytes (Some file) = Some file.bytes
+
+abbrev pub file_of : World → List ℕ → Option (List ℕ)
+file_of w name = file_bytes (find (is_file name) w.files)
+
+-- What may be chosen: the bytes that a commit makes the file denote the document; a file gives what it is read as, where it is
+-- looked at: its name is no frame's, and the size is one.
 abbrev pub IsImageOf : World → ℕ → List ℕ → Type 0
 IsImageOf w f bytes = (parts : List Part) → image w.rec f ≡ Ok parts → ∥ Denotes bytes (document_tree parts) ∥₁
 
@@ -384,6 +401,7 @@ IsImage w choice (event.Done f) = IsImageOf w f choice.file
 IsImage w choice (event.Fail f) = ⊤
 IsImage w choice (event.Resolve f true) = IsImageOf w f choice.file
 IsImage w choice (event.Resolve f false) = ⊤
+IsImage w choice (event.Open name width height) = is_named name w.rec.frames ≡ false → is_size width height ≡ true → IsReadAs (file_of w name) choice.given
 
 -- The worlds that these events reach; they differ in the bytes of files alone.
 abbrev pub Run : World → List Event → World → Type 0
@@ -399,13 +417,9 @@ abbrev pub StopsAt : World → Event → Stop → Type 0
 StopsAt w e stop = (choice : Choice) → Refuses (step w choice e) stop
 
 -- The file of a frame, where it is known which: not while it is in doubt whether its last commit was done.
-abbrev pub file_bytes : Option File → Option (List ℕ)
-file_bytes None = None
-file_bytes (Some file) = Some file.bytes
-
 abbrev pub frame_file_in : World → Option Frame → Option (List ℕ)
 frame_file_in w None = None
-frame_file_in w (Some frame) = if is_doubtful frame.phase then None else if frame.stored then file_bytes (find (is_file frame.name) w.files) else None
+frame_file_in w (Some frame) = if is_doubtful frame.phase then None else if frame.stored then file_of w frame.name else None
 
 abbrev pub frame_file : World → ℕ → Option (List ℕ)
 frame_file w f = frame_file_in w (nth w.rec.frames f)

@@ -4,6 +4,7 @@ ghost use Rattle.std.specs.Prelude.{◌≡◌, IfOk};
 
 use container_model::command::Command;
 use std::alloc::{AllocError, Global};
+use storage_tree::bytes::Bytes;
 
 /// What happens in a world.
 #[derive(Drop)]
@@ -22,6 +23,8 @@ pub enum Event {
     Fail(u32),
     /// It is known of a frame in doubt whether its file was committed.
     Resolve(u32, bool),
+    /// The file of this name is opened as a frame, so many columns wide and so many lines high.
+    Open(Bytes, u16, u16),
     /// An activation of a server writes the content that it has now.
     Scribble(u32, u32),
     /// An activation of a server asks to be relieved of its frame's menus and border.
@@ -69,6 +72,7 @@ pub fn copy_command(alloc: Global, command: &Command) -> Result<Command, AllocEr
         Command::Run(object, inc) => Ok(Command::Run(*object, *inc)),
         Command::Edit(object, bytes) => Ok(Command::Edit(*object, bytes.copy(alloc)?)),
         Command::Save(frame) => Ok(Command::Save(*frame)),
+        Command::SaveAs(frame, name) => Ok(Command::SaveAs(*frame, name.copy(alloc)?)),
         Command::Delete(object) => Ok(Command::Delete(*object)),
         Command::Kill(inc) => Ok(Command::Kill(*inc)),
         Command::Close(object, option) => Ok(Command::Close(*object, *option)),

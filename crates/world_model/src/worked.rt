@@ -1,6 +1,8 @@
 //! Worked runs, computed by the definitions. Each function is empty: its contract is the law, which is proved.
 
 ghost use Rattle.world_model.specs.GrantRuns.{IsGranted};
+ghost use Rattle.world_model.specs.OpenRuns.{IsOpened};
+ghost use Rattle.world_model.specs.RenameRuns.{AreRenamed};
 ghost use Rattle.world_model.specs.Runs.{IsWorked};
 
 /// A note that is made, edited and saved: what each event is answered, and what is reported. The same where its server
@@ -15,4 +17,15 @@ pub fn worked_runs()
 /// that gets no border and offers them back; a save of a note that holds them, and its close.
 pub fn worked_grants()
     ensures { IsGranted }
+{}
+
+/// A file that is opened beside a note that runs: its objects, what runs of them, and what isn't opened, each for its reason.
+pub fn worked_opens()
+    ensures { IsOpened }
+{}
+
+/// A note that is saved under another name: each answer and the report, and files that are opened then. The same where its
+/// server ends meanwhile, where it is passive, and where the commit is lost; and names that are busy.
+pub fn worked_renames()
+    ensures { AreRenamed }
 {}

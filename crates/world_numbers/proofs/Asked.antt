@@ -6,7 +6,7 @@ use Rattle.std.specs.List.{AllByRecursion}
 use Rattle.wire_msgs.specs.Found.{nth}
 use Rattle.wire_msgs.specs.declared.message.Message.TheVariants.{Call}
 use Rattle.wire_msgs.specs.declared.operation.Operation.{Operation}
-use Rattle.wire_msgs.specs.declared.operation.Operation.TheVariants.{InitNew, Load, InPlace, UiActivate, UiDeactivate, InPlaceDeactivate, OpenWindow, Edit, Save, SaveCompleted, SaveDropped, Close}
+use Rattle.wire_msgs.specs.declared.operation.Operation.TheVariants.{InitNew, Load, InPlace, UiActivate, UiDeactivate, InPlaceDeactivate, OpenWindow, Edit, Save, HandsOff, SaveCompleted, SaveDropped, Close}
 use Rattle.object_state.specs.Both as both
 use Rattle.object_state.specs.Persists as persist
 use Rattle.object_state.specs.Objects as object
@@ -51,9 +51,9 @@ SavesAs j p = p ≡ record { state = NoScribble; last_save = Some j }
 scribbles : (j : ℕ) (p : Persist) → SavesAs j p → p.state ≡ NoScribble
 scribbles j p e = ap (λ (x : Persist). x.state) e
 
-module _ (k j : ℕ) (role : Role) (saved : Option Stored) where
+module _ (name : Option (List ℕ)) (k j : ℕ) (role : Role) (saved : Option Stored) where
   abbrev Ends : States → Type 0
-  Ends = EndsWell Saving k role
+  Ends = EndsWell Saving name k role
 
   last_one : (ops : List Operation) (v : States) → SavesAs j v.persist → IsOkAnd (ended (Ok v) ops) Ends → AllByRecursion (IsTimely Saving saved) ops → j ≡ k
   last_one [] v s h t = (let last = h.last_save in let now : Some j ≡ Some k = sym (ap (λ (x : Persist). x.last_save) s) ∙ last in cc)
@@ -69,7 +69,7 @@ module _ (k j : ℕ) (role : Role) (saved : Option Stored) where
   last_one (InPlaceDeactivate ∷ ops) v s h t = (let g = goes_on InPlaceDeactivate tt Ends v ops (rw s tt) h in last_one ops g.0 (g.1 ∙ s) g.2 t.1)
   last_one (OpenWindow ∷ ops) v s h t = (let g = goes_on OpenWindow tt Ends v ops (rw s tt) h in last_one ops g.0 (g.1 ∙ s) g.2 t.1)
   last_one (Edit bytes ∷ ops) v s h t = (let g = goes_on (Edit bytes) tt Ends v ops (rw s tt) h in last_one ops g.0 (g.1 ∙ s) g.2 t.1)
-  last_one (_ ∷ ops) v s h t = absurd t.0
+  last_one (HandsOff ∷ ops) v s h t = absurd (let e = t.0 in cc)
 
 saves_at : (s : PersistState) (last : Option ℕ) (o : ObjectState) (k : ℕ) (w : States) → both.step (record { persist = record { state = s; last_save = last }; object = o }) (op.Save k) ≡ Ok w → SavesAs k w.persist
 saves_at Normal last o k w e = (let j = joined_ok (persist.step (record { state = Normal; last_save = last }) (op.Save k)) (object.step o (op.Save k)) w e in
@@ -102,9 +102,9 @@ drops_at away.HandsOff last o k w e = drops_numbered last k w.persist (joined_ok
 open_at : (j : ℕ) (p : Persist) → p ≡ opened j → p.state ≡ Normal
 open_at j p e = ap (λ (x : Persist). x.state) e
 
-module _ (k j : ℕ) (role : Role) (saved : Option Stored) where
+module _ (name : Option (List ℕ)) (k j : ℕ) (role : Role) (saved : Option Stored) where
   abbrev EndsIdle : States → Type 0
-  EndsIdle = EndsWell Idle k role
+  EndsIdle = EndsWell Idle name k role
 
   dropped_last : (ops : List Operation) (v : States) → v.persist ≡ opened j → IsOkAnd (ended (Ok v) ops) EndsIdle → AllByRecursion (IsTimely Idle saved) ops → j ≤ k
   dropped_last [] v s h t = subst (λ (p : Persist). IfSome p.last_save (λ (n : ℕ). n ≤ k)) s h.last_save
@@ -121,7 +121,7 @@ module _ (k j : ℕ) (role : Role) (saved : Option Stored) where
   dropped_last (InPlaceDeactivate ∷ ops) v s h t = (let g = goes_on InPlaceDeactivate tt EndsIdle v ops (rw s tt) h in dropped_last ops g.0 (g.1 ∙ s) g.2 t.1)
   dropped_last (OpenWindow ∷ ops) v s h t = (let g = goes_on OpenWindow tt EndsIdle v ops (rw s tt) h in dropped_last ops g.0 (g.1 ∙ s) g.2 t.1)
   dropped_last (Edit bytes ∷ ops) v s h t = (let g = goes_on (Edit bytes) tt EndsIdle v ops (rw s tt) h in dropped_last ops g.0 (g.1 ∙ s) g.2 t.1)
-  dropped_last (_ ∷ ops) v s h t = absurd t.0
+  dropped_last (HandsOff ∷ ops) v s h t = absurd (let e = t.0 in cc)
 
 -- whoever is asked to take its frame is to get it
 grant_named : (grant : GrantState) (n g : ℕ) (ops : List Operation) → Plays (role_in grant n) (UiActivate g ∷ ops) → (claim : Claim) × (who grant ≡ Some claim) × (g ≡ claim.g)
@@ -155,7 +155,7 @@ unreaped_there servers inc None f e = cc
 unreaped_there servers inc (Some b) f e = nth_bound servers inc b f
 
 module _ (limit : ℕ) (r : Record) (steady : Steady r) (numbers : IsNumbered limit r) (n : ℕ) (l : Link) (asked : Operation) (held : IsHeld r n l) (pending : l.pending ≡ Some asked) where
-  link : SteadyLink r.servers r.last_act held.frame.phase held.frame.k (role_in held.frame.ui.state held.object.number) l
+  link : SteadyLink r.servers r.last_act held.frame.phase held.frame.asked held.frame.k (role_in held.frame.ui.state held.object.number) l
   link = held.steady
 
   same : r.numbers ≡ limit
@@ -196,11 +196,11 @@ module _ (limit : ℕ) (r : Record) (steady : Steady r) (numbers : IsNumbered li
       let role = role_in held.frame.ui.state held.object.number in
       let timely : AllByRecursion (IsTimely held.frame.phase l.saved) (Save k ∷ l.waiting) = subst (λ (o : Operation). AllByRecursion (IsTimely held.frame.phase l.saved) (o ∷ l.waiting)) is queue_timely in
       let saving : held.frame.phase ≡ Saving = timely.0.0 in
-      let runs : IsOkAnd (ended (Ok l.states) (Save k ∷ l.waiting)) (EndsWell Saving held.frame.k role) =
-      subst (λ (p : Phase). IsOkAnd (ended (Ok l.states) (Save k ∷ l.waiting)) (EndsWell p held.frame.k role)) saving
-      (subst (λ (p : Option Operation). IsOkAnd (ended (Ok l.states) (queue_of p l.waiting)) (EndsWell held.frame.phase held.frame.k role)) (pending ∙ ap Some is) link.queue_runs) in
-      let t = taken (EndsWell Saving held.frame.k role) l.states (Save k) l.waiting runs in
-      last_one held.frame.k k role l.saved l.waiting t.0 (saves_at l.states.persist.state l.states.persist.last_save l.states.object k t.0 t.1) t.2
+      let runs : IsOkAnd (ended (Ok l.states) (Save k ∷ l.waiting)) (EndsWell Saving held.frame.asked held.frame.k role) =
+      subst (λ (p : Phase). IsOkAnd (ended (Ok l.states) (Save k ∷ l.waiting)) (EndsWell p held.frame.asked held.frame.k role)) saving
+      (subst (λ (p : Option Operation). IsOkAnd (ended (Ok l.states) (queue_of p l.waiting)) (EndsWell held.frame.phase held.frame.asked held.frame.k role)) (pending ∙ ap Some is) link.queue_runs) in
+      let t = taken (EndsWell Saving held.frame.asked held.frame.k role) l.states (Save k) l.waiting runs in
+      last_one held.frame.asked held.frame.k k role l.saved l.waiting t.0 (saves_at l.states.persist.state l.states.persist.last_save l.states.object k t.0 t.1) t.2
       (subst (λ (p : Phase). AllByRecursion (IsTimely p l.saved) l.waiting) saving timely.1)
 
   dropped_within : (k : ℕ) → asked ≡ SaveDropped k → k ≤ held.frame.k
@@ -208,11 +208,11 @@ module _ (limit : ℕ) (r : Record) (steady : Steady r) (numbers : IsNumbered li
       let role = role_in held.frame.ui.state held.object.number in
       let timely : AllByRecursion (IsTimely held.frame.phase l.saved) (SaveDropped k ∷ l.waiting) = subst (λ (o : Operation). AllByRecursion (IsTimely held.frame.phase l.saved) (o ∷ l.waiting)) is queue_timely in
       let idle : held.frame.phase ≡ Idle = timely.0 in
-      let runs : IsOkAnd (ended (Ok l.states) (SaveDropped k ∷ l.waiting)) (EndsWell Idle held.frame.k role) =
-      subst (λ (p : Phase). IsOkAnd (ended (Ok l.states) (SaveDropped k ∷ l.waiting)) (EndsWell p held.frame.k role)) idle
-      (subst (λ (p : Option Operation). IsOkAnd (ended (Ok l.states) (queue_of p l.waiting)) (EndsWell held.frame.phase held.frame.k role)) (pending ∙ ap Some is) link.queue_runs) in
-      let t = taken (EndsWell Idle held.frame.k role) l.states (SaveDropped k) l.waiting runs in
-      dropped_last held.frame.k k role l.saved l.waiting t.0 (drops_at l.states.persist.state l.states.persist.last_save l.states.object k t.0 t.1) t.2
+      let runs : IsOkAnd (ended (Ok l.states) (SaveDropped k ∷ l.waiting)) (EndsWell Idle held.frame.asked held.frame.k role) =
+      subst (λ (p : Phase). IsOkAnd (ended (Ok l.states) (SaveDropped k ∷ l.waiting)) (EndsWell p held.frame.asked held.frame.k role)) idle
+      (subst (λ (p : Option Operation). IsOkAnd (ended (Ok l.states) (queue_of p l.waiting)) (EndsWell held.frame.phase held.frame.asked held.frame.k role)) (pending ∙ ap Some is) link.queue_runs) in
+      let t = taken (EndsWell Idle held.frame.asked held.frame.k role) l.states (SaveDropped k) l.waiting runs in
+      dropped_last held.frame.asked held.frame.k k role l.saved l.waiting t.0 (drops_at l.states.persist.state l.states.persist.last_save l.states.object k t.0 t.1) t.2
       (subst (λ (p : Phase). AllByRecursion (IsTimely p l.saved) l.waiting) idle timely.1)
 
   carries : (op : Operation) → asked ≡ op → ((k : ℕ) (storage : Bool) → op ≡ SaveCompleted k storage → k ≤ limit) → CarriesWithin limit op

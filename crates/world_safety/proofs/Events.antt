@@ -6,6 +6,7 @@ use Rattle.wire_msgs.specs.declared.message.Message.{Message}
 use Rattle.wire_msgs.specs.declared.message.Message.TheVariants.{Call, Reply, Write, Ask}
 use Rattle.container_model.specs.Record.{Took}
 use Rattle.container_model.specs.Inputs.{Input}
+use Rattle.container_model.specs.Opens.{Given, opened}
 use Rattle.container_model.specs.Saves.{image, image_at, parts_in, commit_done, commit_failed, commit_made, done_entry, resolve}
 use Rattle.container_model.specs.Messages.{on_message, on_reap}
 use Rattle.container_model.specs.Commands.{on_command, kind_of}
@@ -38,9 +39,10 @@ use Rattle.world_files.specs.Files.{id_of, Files}
 use Rattle.world_files.proofs.Bounding.{parts_of_frame}
 use Rattle.world_files.proofs.Kept.{image_is_at}
 use Rattle.world_steps.proofs.Instances.{nth_same}
-use Rattle.world_steps.proofs.Asking.{new_asks, insert_asks, edit_asks, save_asks}
+use Rattle.world_steps.proofs.Asking.{new_asks, insert_asks, edit_asks}
+use Rattle.world_steps.proofs.Handing.{save_asks}
 use Rattle.world_grants.proofs.Ending.{reap_moves}
-use Rattle.world_grants.proofs.Taking.{command_moves, committed_moves, dropped_moves, failed_moves, message_moves}
+use Rattle.world_grants.proofs.Taking.{command_moves, committed_moves, dropped_moves, failed_moves, message_moves, opened_moves}
 use Rattle.world_numbers.specs.Numbers.{ArePending}
 use Rattle.world_numbers.proofs.Pending.{asks_pending}
 use Rattle.world_steps.specs.Steps.{IsTurned}
@@ -52,6 +54,7 @@ use Rattle.world_steps.proofs.Taking.{write_asks}
 use Rattle.world_steps.proofs.Reaping.{reap_ends}
 use Rattle.world_steps.proofs.Committing.{commit_counts, commit_plain}
 use Rattle.world_steps.proofs.Dropping.{dropped_asks, failed_asks}
+use Rattle.world_steps.proofs.Opening.{open_asks}
 use Rattle.world_safety.proofs.Honest.{all_honest}
 use Rattle.world_safety.specs.Holding.{Agrees, AgreesIn}
 use Rattle.world_safety.proofs.Joining.{plain_joined, asked_views, joined_grants, turned_joined, asks_turned, answered_joined, reaped_joined, run_joined, start_joined, stopped_agrees, kill_joined}
@@ -75,7 +78,8 @@ agrees_command w (command.Insert f kind area) t h e = turned_command w (command.
 agrees_command w command.Start t h e = plain_owners w t (start_joined w t h e)
 agrees_command w (command.Run o inc) t h e = run_joined w o inc t h e
 agrees_command w (command.Edit o bytes) t h e = turned_command w (command.Edit o bytes) t h e (asks_turned w.rec t (edit_asks w.rec o bytes t h.steady e))
-agrees_command w (command.Save f) t h e = turned_command w (command.Save f) t h e (asks_turned w.rec t (save_asks w.rec f t h.steady e))
+agrees_command w (command.Save f) t h e = turned_command w (command.Save f) t h e (save_asks w.rec (command.Save f) t h.steady tt e)
+agrees_command w (command.SaveAs f name) t h e = turned_command w (command.SaveAs f name) t h e (save_asks w.rec (command.SaveAs f name) t h.steady tt e)
 agrees_command w (command.Delete o) t h e = turned_command w (command.Delete o) t h e (asks_turned w.rec t (delete_asks w.rec o t h.steady e))
 agrees_command w (command.Kill inc) t h e = plain_owners w t (kill_joined w inc t h e)
 agrees_command w (command.Close o option) t h e = turned_command w (command.Close o option) t h e (close_asks w.rec o option t h.steady e)
@@ -231,6 +235,10 @@ agrees_resolved : (w : World) (f : ℕ) (is_kept : Bool) (bytes : List ℕ) (v :
 agrees_resolved w f true bytes v k h e = agrees_done_in w f bytes (resolve w.rec f true) (nth w.rec.frames f) v k h refl (λ x at. kept_commits w.rec f x at) (λ t q. on_input_keeps w.rec (Input.Resolved f true) t h.steady q) e
 agrees_resolved w f false bytes v k h e = agrees_only w (resolve w.rec f false) v (λ t q. agrees_dropped w f t h q) e
 
+-- a file that is opened
+agrees_opened : (w : World) (name : List ℕ) (x y : ℕ) (given : Given) (t : Took) → AgreesIn w → opened w.rec name x y given ≡ Ok t → AgreesIn (joined w t)
+agrees_opened w name x y given t h e = turned_joined w t [] h (on_input_keeps w.rec (Input.Opened name x y given) t h.steady e) (opened_moves w.rec name x y given t h.steady e) (λ m z. absurd z) (asks_turned w.rec t (open_asks w.rec name x y given t e))
+
 pub agrees_happened : (w : World) (choice : Choice) (e : Event) (v : World) → Files w → AgreesIn w → happened w choice e ≡ Ok v → AgreesIn v
 agrees_happened w choice (event.Command c) v k h e = subst AgreesIn (ok_is _ v e) (agrees_commanded w c (on_command w.rec c) h refl)
 agrees_happened w choice (event.Deliver p) v k h e = agrees_deliver w p (nth w.sent p) v h refl e
@@ -241,3 +249,4 @@ agrees_happened w choice (event.Ask inc act) v k h e = agrees_ask w inc act (nth
 agrees_happened w choice (event.Done f) v k h e = agrees_done_in w f choice.file (commit_done w.rec f) (nth w.rec.frames f) v k h refl (λ x at. done_commits w.rec f x at) (λ t q. on_input_keeps w.rec (Input.Committed f) t h.steady q) e
 agrees_happened w choice (event.Fail f) v k h e = agrees_only w (commit_failed w.rec f) v (λ t q. agrees_failed w f t h q) e
 agrees_happened w choice (event.Resolve f is_kept) v k h e = agrees_resolved w f is_kept choice.file v k h e
+agrees_happened w choice (event.Open name x y) v k h e = subst AgreesIn (ok_is _ v e) (agrees_took w (opened w.rec name x y choice.given) h (λ t q. agrees_opened w name x y choice.given t h q))

@@ -19,6 +19,7 @@ use Rattle.container_model.specs.Record.{Record, Took, acts, counts_none, sends,
 use Rattle.container_model.specs.Saves.{image, commit_done, commit_failed, resolve}
 use Rattle.container_model.specs.Messages.{awaits_save, is_held_by, relieved, ask_framed, ask_found, on_message, on_reap}
 use Rattle.container_model.specs.Commands.{on_command}
+use Rattle.container_model.specs.Opens.{opened}
 use Rattle.container_model.specs.declared.answer.Part.{Part}
 use Rattle.container_model.specs.declared.command.Command.{Command}
 use Rattle.container_model.specs.declared.record.Frame.{Frame}
@@ -331,3 +332,4 @@ granted_happened w choice (event.Ask inc act) v k h e = granted_grew w v (grew_a
 granted_happened w choice (event.Done f) v k h e = granted_grew w v (grew_done w f choice.file (commit_done w.rec f) (nth w.rec.frames f) v e) h
 granted_happened w choice (event.Fail f) v k h e = granted_grew w v (grew_only w (commit_failed w.rec f) v e) h
 granted_happened w choice (event.Resolve f is_kept) v k h e = granted_grew w v (grew_resolved w f is_kept choice.file v e) h
+granted_happened w choice (event.Open name x y) v k h e = granted_grew w v (subst (Grew w) (ok_is _ v e) (grew_took w (opened w.rec name x y choice.given))) h

@@ -40,8 +40,9 @@ use Rattle.world_steps.proofs.Instances.{nth_same, nth_other}
 use Rattle.world_steps.proofs.Objects.{messages_of_log, messages_told}
 use Rattle.world_steps.proofs.Closing.{kill_ends}
 use Rattle.world_steps.proofs.Running.{run_begins}
+use Rattle.world_steps.proofs.Turns.{one_turn}
 use Rattle.world_safety.specs.Holding.{Agrees, AgreesIn}
-use Rattle.world_safety.proofs.Shaping.{IsFollowed, one_turn, turned_followed, replied_followed, reaped_followed}
+use Rattle.world_safety.proofs.Shaping.{IsFollowed, turned_followed, replied_followed, reaped_followed}
 
 -- a step that starts and ends no server
 module _ (w : World) (t : Took) (h : AgreesIn w) (steady : Steady t.rec) (servers : length t.rec.servers ≡ length w.rec.servers) (starts : (numbers : ℕ) → started_by numbers t.answer.actions ≡ [])

@@ -27,6 +27,7 @@ use Rattle.container_steady.proofs.Settling.{IsCommitOf, done_commits, kept_comm
 use Rattle.container_steady.proofs.SteadyRecords.{unless_ok}
 use Rattle.container_numbers.specs.Sound.{IsNumbered}
 use Rattle.container_model.specs.Inputs.{Input}
+use Rattle.container_model.specs.Opens.{Given, opened}
 use Rattle.container_numbers.proofs.SoundInputs.{numbers_after}
 use Rattle.container_numbers.proofs.SoundRooms.{IsSaved, all_of}
 use Rattle.world_model.specs.declared.event.Event.{Event}
@@ -48,11 +49,13 @@ use Rattle.world_numbers.proofs.Pending.{begins_pending, none_pending, reaped_pe
 use Rattle.world_numbers.proofs.Serving.{served_within}
 use Rattle.world_numbers.proofs.Speaking.{SpeaksWithin, asks_within, writes_within}
 use Rattle.world_steps.specs.Steps.{IsTurned}
-use Rattle.world_steps.proofs.Asking.{new_asks, insert_asks, edit_asks, save_asks}
+use Rattle.world_steps.proofs.Asking.{new_asks, insert_asks, edit_asks}
+use Rattle.world_steps.proofs.Handing.{save_asks}
 use Rattle.world_steps.proofs.Closing.{delete_asks, close_asks, kill_ends}
 use Rattle.world_steps.proofs.Committing.{commit_plain}
 use Rattle.world_steps.proofs.Dropping.{dropped_asks, failed_asks}
 use Rattle.world_steps.proofs.Instances.{nth_same}
+use Rattle.world_steps.proofs.Opening.{open_asks}
 use Rattle.world_steps.proofs.Objects.{IsHeld, found_number, link_held}
 use Rattle.world_steps.proofs.Reaping.{reap_ends}
 use Rattle.world_steps.proofs.Relieving.{ask_asks}
@@ -95,7 +98,8 @@ module _ (limit : ℕ) (w : World) (h : AgreesIn w) (k : Numbers limit w) where
   command_taken (command.Run o inc) t e = (let b = run_begun w o inc t h e in
       plain_taken limit t (numbered (command.Run o inc) t e) (begins_pending (links_of w.rec.objects) (links_of t.rec.objects) (lives_of w.instances) (w.owners ++ o ∷ []) w.rec.last_act o (messages_of t.answer.actions) b.begins) b.starts)
   command_taken (command.Edit o bytes) t e = turned_taken t (numbered (command.Edit o bytes) t e) (asks_turned w.rec t (edit_asks w.rec o bytes t h.steady e))
-  command_taken (command.Save f) t e = turned_taken t (numbered (command.Save f) t e) (asks_turned w.rec t (save_asks w.rec f t h.steady e))
+  command_taken (command.Save f) t e = turned_taken t (numbered (command.Save f) t e) (save_asks w.rec (command.Save f) t h.steady tt e)
+  command_taken (command.SaveAs f name) t e = turned_taken t (numbered (command.SaveAs f name) t e) (save_asks w.rec (command.SaveAs f name) t h.steady tt e)
   command_taken (command.Delete o) t e = turned_taken t (numbered (command.Delete o) t e) (asks_turned w.rec t (delete_asks w.rec o t h.steady e))
   command_taken (command.Kill inc) t e = subst (IsTaken limit) (kill_ends w.rec inc t e) (record { recorded = k.recorded; pending = none_pending (links_of w.rec.objects) [] refl; starts = tt })
   command_taken (command.Close o option) t e = turned_taken t (numbered (command.Close o option) t e) (close_asks w.rec o option t h.steady e)
@@ -133,6 +137,9 @@ module _ (limit : ℕ) (w : World) (h : AgreesIn w) (k : Numbers limit w) where
 
   dropped_taken : (f : ℕ) (t : Took) → resolve w.rec f false ≡ Ok t → IsTaken limit t
   dropped_taken f t e = turned_taken t (numbers_after limit w.rec (Input.Resolved f false) t h.steady k.recorded e) (asks_turned w.rec t (dropped_asks w.rec f t h.steady e))
+
+  opened_taken : (name : List ℕ) (x y : ℕ) (given : Given) (t : Took) → opened w.rec name x y given ≡ Ok t → IsTaken limit t
+  opened_taken name x y given t e = turned_taken t (numbers_after limit w.rec (Input.Opened name x y given) t h.steady k.recorded e) (asks_turned w.rec t (open_asks w.rec name x y given t e))
 
 -- ---- what the world is then
 stays : (limit : ℕ) (w v : World) → v.rec ≡ w.rec → v.sent ≡ w.sent → v.instances ≡ w.instances → Numbers limit w → Numbers limit v
@@ -276,6 +283,7 @@ module _ (limit : ℕ) (w : World) (h : AgreesIn w) (k : Numbers limit w) where
   follows choice (event.Done f) v files e = done_follows files f choice.file (commit_done w.rec f) (nth w.rec.frames f) v refl (λ x at. done_commits w.rec f x at) (λ t q. numbers_after limit w.rec (Input.Committed f) t h.steady k.recorded q) e
   follows choice (event.Fail f) v files e = only_follows (commit_failed w.rec f) v (λ t q. failed_taken limit w h k f t q) e
   follows choice (event.Resolve f is_kept) v files e = resolved_follows files f is_kept choice.file v e
+  follows choice (event.Open name x y) v files e = subst (Follow limit) (ok_is _ v e) (took_follows limit w (opened w.rec name x y choice.given) k (λ t q. opened_taken limit w h k name x y choice.given t q))
 
 -- ---- what is sent of pending calls
 module _ (limit : ℕ) (w : World) (h : AgreesIn w) (files : Files w) (numbers : IsNumbered limit w.rec) (m : Message) (p : IsPending (links_of w.rec.objects) m) (sent : WasSent w m) where

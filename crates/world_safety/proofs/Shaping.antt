@@ -1,6 +1,5 @@
 -- What lists of shapes send, and which links they leave.
-use Rattle.std.proofs.Common.{◌≡◌, ℕ, List, [], ◌++◌, refl, sym, inl, inr, subst}
-use Rattle.std.proofs.lemmas.List.{append-nil}
+use Rattle.std.proofs.Common.{◌≡◌, ℕ, List, [], ◌++◌, inl, inr, subst}
 use Rattle.wire_msgs.specs.declared.message.Message.{Message}
 use Rattle.wire_msgs.specs.declared.operation.Operation.{Operation}
 use Rattle.world_model.specs.Safe.{Among}
@@ -44,7 +43,3 @@ replied_followed links after acts lives more h = followed_further links h.betwee
 pub reaped_followed : (links after : Links) (acts : Acts) (lives : Lives) (more : List Message) → IsReaped links after acts lives more → IsFollowed links after more
 reaped_followed links after acts lives more h = (let k = turned_followed h.between after more h.asked in
     record { follows = follows_further links h.between after (ends_follow links h.between acts lives h.ends) k.follows; calls = k.calls })
-
--- operations that are asked at once are asked in turn
-pub one_turn : (links after : Links) (more : List Message) → AsksAll (λ o op. IsQuiet op) links after more → AsksInTurn links after more
-one_turn links after more h = asks_first links after after more [] more h (asks_none after after [] (λ o. refl) refl) (sym (append-nil more))

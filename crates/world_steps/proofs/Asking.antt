@@ -1,9 +1,10 @@
--- Commands that ask operations, or nothing: new frames and objects, edits and saves.
-use Rattle.std.proofs.Common.{◌≡◌, ◌⊎◌, ◌||◌, ◌==◌, ℕ, ◌+◌, true, false, not, List, [], ◌∷◌, ◌++◌, length, map, Option, Some, None, option_map, Ok, refl, sym, ◌∙◌, inl, subst, nat_le, if◌then◌else◌, eq-eqb}
+-- Commands that ask operations, or nothing: new frames and objects, edits; and what is asked of whole frames.
+use Rattle.std.proofs.Common.{◌≡◌, ◌⊎◌, ◌||◌, ◌==◌, ℕ, ◌+◌, ◌<◌, Bool, true, false, not, List, [], ◌∷◌, ◌++◌, length, map, Option, Some, None, option_map, Ok, refl, sym, ap, ◌∙◌, inl, inr, arith, subst, nat_le, if◌then◌else◌, eq-eqb}
+use Rattle.std.specs.List.{AllByRecursion}
 use Rattle.wire_msgs.specs.Found.{find, put, nth}
 use Rattle.wire_msgs.specs.declared.message.Message.{Message}
 use Rattle.wire_msgs.specs.declared.operation.Operation.{Operation}
-use Rattle.wire_msgs.specs.declared.operation.Operation.TheVariants.{Edit, Save}
+use Rattle.wire_msgs.specs.declared.operation.Operation.TheVariants.{Edit}
 use Rattle.storage_tree.specs.declared.stored.Stored.{Stored}
 use Rattle.embed_core.specs.Kinds.{Kind}
 use Rattle.object_parts.specs.declared.area.Area.{Area}
@@ -11,22 +12,22 @@ use Rattle.container_model.specs.declared.record.Link.{Link}
 use Rattle.container_model.specs.declared.record.Object.{Object}
 use Rattle.container_model.specs.declared.record.Frame.{Frame}
 use Rattle.container_model.specs.declared.fault.ContainerFault.TheVariants.{Busy, InDoubt as Doubtful, Full, NumbersSpent, WrongState}
-use Rattle.container_model.specs.Record.{Record, Took, MOST_FRAMES, MOST_OBJECTS, is_object, is_busy, is_saving, is_moving, is_doubtful, count_objects, ask, ask_at, asked_link, asked_sent, asked_object, asked_all}
-use Rattle.container_model.specs.Saves.{settle_actions}
-use Rattle.container_model.specs.Commands.{new, new_made, insert, insert_at, insert_made, new_object, is_named, is_size, is_empty_area, any_busy, all_have_numbers, edit, edit_linked, save, save_at, save_made, saving}
-use Rattle.container_steady.specs.Steady.{WaitsBehind, Steady}
+use Rattle.container_model.specs.Record.{Record, Took, MOST_FRAMES, MOST_OBJECTS, is_object, is_saving, is_doubtful, count_objects, ask, ask_at, asked_link, asked_sent, asked_object, asked_all}
+use Rattle.container_model.specs.Commands.{new, new_made, insert, insert_at, insert_made, new_object, is_named, is_size, is_empty_area, edit, edit_linked}
+use Rattle.container_steady.specs.Steady.{EachPair, InOrder, WaitsBehind, Steady}
 use Rattle.container_steady.specs.Taken.{edited}
 use Rattle.container_steady.proofs.Taken.{edited_by, ready_at}
-use Rattle.std.proofs.lemmas.Bool.{eqb-true, eqb-false}
+use Rattle.std.proofs.lemmas.Bool.{eqb-true, eqb-false, ne_eqb}
 use Rattle.container_steady.proofs.SteadyRecords.{if_told, unless_ok}
 use Rattle.container_steady.proofs.SteadyTests.{found_numbered}
-use Rattle.container_steady.proofs.SteadyShapes.{asked_of, call_of}
+use Rattle.container_steady.proofs.SteadyShapes.{asked_of}
 use Rattle.world_model.specs.World.{messages_of}
 use Rattle.world_model.specs.Safe.{Among, link_at, links_of}
 use Rattle.world_facts.specs.Words.{Links}
 use Rattle.world_facts.specs.Shapes.{IsSame, AskedAt, none, stays, queues, sends as sent, AsksAll, IsQuiet}
+use Rattle.world_facts.proofs.Lookups.{among_join}
 use Rattle.world_steps.specs.Steps.{IsPlain}
-use Rattle.world_steps.proofs.Objects.{IsHeld, found_held, link_mapped, link_was, put_here, put_there, to_laws, from_laws, messages_sends, sent_of, no_start, no_start_sent, no_start_settled, no_end, no_end_sent, no_end_settled}
+use Rattle.world_steps.proofs.Objects.{IsHeld, Waits, found_held, link_mapped, link_was, put_here, put_there, messages_sends, no_start_sent, no_end_sent}
 
 -- an object of which nothing is asked
 same_link : (l : Link) → IsSame l l
@@ -73,9 +74,43 @@ module _ (Asks : ℕ → Operation → Type 0) (os : List Object) (g : Object �
     from = λ m h. (let c = from m h in (c.0.number, subst (λ z. Among (news_in z) m) (sym c.1) c.2));
   }
 
+-- objects whose numbers rise, as a container's do
+abbrev pub numbers : List Object → List ℕ
+numbers os = map (λ (o : Object). o.number) os
+
+abbrev pub Rising : List Object → Type 0
+Rising os = EachPair ◌<◌ (numbers os)
+
+numbers_above : (n : ℕ) (x : Object) (os : List Object) → x.number ≡ n → AllByRecursion (InOrder x) os → AllByRecursion (λ (m : ℕ). n < m) (numbers os)
+numbers_above n x [] e h = tt
+numbers_above n x (o ∷ os) e h = (subst (λ m. m < o.number) e h.0.rising, numbers_above n x os e h.1)
+
+pub ordered_rise : (os : List Object) → EachPair InOrder os → Rising os
+ordered_rise [] h = tt
+ordered_rise (o ∷ os) h = (numbers_above o.number o os refl h.0, ordered_rise os h.1)
+
+found_above : (n k : ℕ) (os : List Object) (o : Object) → AllByRecursion (λ (m : ℕ). n < m) (numbers os) → find (is_object k) os ≡ Some o → n < o.number
+found_above n k [] o h e = cc
+found_above n k (x ∷ os) o h e = elim (x.number == k) as (λ b. (if b then Some x else find (is_object k) os) ≡ Some o → n < o.number) [
+  | true ↦ (λ g. let is : x ≡ o = cc in subst (λ (y : Object). n < y.number) is h.0)
+  | false ↦ (λ g. found_above n k os o h.1 g)
+] e
+
 -- who is asked by a message to a whole frame
-pub who_is_asked : (r : Record) (f : ℕ) (op : Operation) (m : Message) → Steady r → Among (asked_all f op r.objects) m → (o : Object) × (find (is_object o.number) r.objects ≡ Some o) × Among (asked_of f op o) m
-who_is_asked r f op m s h = (let c = call_of f op r.objects m s.order (to_laws (asked_all f op r.objects) m h) in (c.0, c.1, from_laws (asked_of f op c.0) m c.2))
+pub who_is_asked : (os : List Object) (f : ℕ) (op : Operation) (m : Message) → Rising os → Among (asked_all f op os) m → (o : Object) × (find (is_object o.number) os ≡ Some o) × Among (asked_of f op o) m
+who_is_asked [] f op m s h = absurd h
+who_is_asked (x ∷ os) f op m s h =
+    let later : Among (asked_all f op os) m → (o : Object) × (find (is_object o.number) (x ∷ os) ≡ Some o) × Among (asked_of f op o) m = λ g.
+    (let c = who_is_asked os f op m s.1 g in
+    let above : x.number < c.0.number = found_above x.number c.0.number os c.0 s.0 c.1 in
+    (c.0, ap (λ b. if b then Some x else find (is_object c.0.number) os) (ne_eqb x.number c.0.number (λ e. absurd (omega arith))) ∙ c.1, c.2)) in
+    elim (x.frame == f) as (λ b. (x.frame == f) ≡ b → Among (if b then asked_sent op x.link ++ asked_all f op os else asked_all f op os) m → (o : Object) × (find (is_object o.number) (x ∷ os) ≡ Some o) × Among (asked_of f op o) m) [
+      | true ↦ (λ t g. elim (among_join (asked_sent op x.link) (asked_all f op os) m g) [
+        | inl here ↦ (x, ap (λ b. if b then Some x else find (is_object x.number) os) (eq-eqb x.number x.number refl), subst (λ (b : Bool). Among (if b then asked_sent op x.link else []) m) (sym t) here)
+        | inr more ↦ later more
+      ])
+      | false ↦ (λ t g. later g)
+    ] refl h
 
 -- New and Insert
 pub new_asks : (r : Record) (name : List ℕ) (w h : ℕ) (t : Took) → new r name w h ≡ Ok t → AsksAll (λ o op. IsQuiet op) (links_of r.objects) (links_of t.rec.objects) (messages_of t.answer.actions) × IsPlain r t
@@ -147,40 +182,21 @@ edit_asks_linked r n bytes x (Some l) t s f xl e =
 pub edit_asks : (r : Record) (n : ℕ) (bytes : List ℕ) (t : Took) → Steady r → edit r n bytes ≡ Ok t → AsksAll (λ o op. IsQuiet op) (links_of r.objects) (links_of t.rec.objects) (messages_of t.answer.actions) × IsPlain r t
 edit_asks r n bytes t s e = (let at = ready_at r n (λ o frame. edit_linked r o bytes o.link) t e in edit_asks_linked r n bytes at.0.object at.0.object.link t s at.0.found refl at.1)
 
--- Save
-save_quiet : (k : ℕ) → IsQuiet (Save k)
-save_quiet k = λ j storage e. cc
-
-asked_number : (f : ℕ) (op : Operation) (o : Object) → (asked_object f op o).number ≡ o.number
+-- whole frames
+pub asked_number : (f : ℕ) (op : Operation) (o : Object) → (asked_object f op o).number ≡ o.number
 asked_number f op o = if_told (λ (z : Object). z.number ≡ o.number) (o.frame == f) (record o { link = asked_link op o.link }) o (λ e. refl) (λ e. refl)
 
-module _ (r : Record) (f : ℕ) (op : Operation) (s : Steady r) (quiet : IsQuiet op) where
-  asked_one : (n : ℕ) (o : Object) (x : Option Link) → find (is_object n) r.objects ≡ Some o → o.link ≡ x → AskedAt IsQuiet x (asked_link op x) (asked_sent op x)
+-- each object of a frame that isn't passive is asked
+module _ (os : List Object) (f : ℕ) (op : Operation) (w : Waits (links_of os)) (rise : Rising os) (quiet : IsQuiet op) where
+  asked_one : (n : ℕ) (o : Object) (x : Option Link) → find (is_object n) os ≡ Some o → o.link ≡ x → AskedAt IsQuiet x (asked_link op x) (asked_sent op x)
   asked_one n o None e q = none refl refl refl
-  asked_one n o (Some l) e q = is_asked IsQuiet l l.saved op quiet (inl refl) (found_held r n l o s e q).steady.waits_behind
+  asked_one n o (Some l) e q = is_asked IsQuiet l l.saved op quiet (inl refl) (w n l (ap link_at e ∙ q))
 
-  asked_each : (n : ℕ) (o : Object) → find (is_object n) r.objects ≡ Some o → AskedAt IsQuiet o.link (asked_object f op o).link (asked_of f op o)
+  asked_each : (n : ℕ) (o : Object) → find (is_object n) os ≡ Some o → AskedAt IsQuiet o.link (asked_object f op o).link (asked_of f op o)
   asked_each n o e = elim (o.frame == f) as (λ b. AskedAt IsQuiet o.link (if b then record o { link = asked_link op o.link } else o).link (if b then asked_sent op o.link else [])) [
     | true ↦ asked_one n o o.link e refl
     | false ↦ unasked IsQuiet o.link
   ]
 
-  pub frame_asked : AsksAll (λ o p. IsQuiet p) (links_of r.objects) (links_of (map (asked_object f op) r.objects)) (asked_all f op r.objects)
-  frame_asked = all_mapped (λ o p. IsQuiet p) r.objects (asked_object f op) (asked_of f op) (asked_all f op r.objects) (asked_number f op) asked_each (λ m h. who_is_asked r f op m s h)
-
-save_asks_in : (r : Record) (f : ℕ) (frame : Option Frame) (t : Took) → Steady r → save_at r f frame ≡ Ok t → AsksAll (λ o op. IsQuiet op) (links_of r.objects) (links_of t.rec.objects) (messages_of t.answer.actions) × IsPlain r t
-save_asks_in r f None t s e = cc
-save_asks_in r f (Some frame) t s e =
-    let a = unless_ok (is_doubtful frame.phase) Doubtful _ t e in
-    let b = unless_ok (is_saving frame.phase || is_moving frame.ui.state || any_busy f frame.ui.state r.objects) Busy _ t a.1 in
-    let c : Ok (save_made r f frame) ≡ Ok t = (unless_ok (nat_le r.numbers frame.k || not (all_have_numbers f r.numbers r.objects)) NumbersSpent _ t b.1).1 in
-    let is : save_made r f frame ≡ t = cc in
-    let op = Save (frame.k + 1) in
-    let v = saving r f frame in
-    subst (λ (x : Took). AsksAll (λ o p. IsQuiet p) (links_of r.objects) (links_of x.rec.objects) (messages_of x.answer.actions) × IsPlain r x) is (
-      subst (λ ms. AsksAll (λ o p. IsQuiet p) (links_of r.objects) (links_of v.objects) ms) (sym (sent_of (asked_all f op r.objects) 1 v.objects v.frames)) (frame_asked r f op s (save_quiet (frame.k + 1))),
-      record { last_act = refl; servers = refl; starts = λ numbers. no_start numbers (asked_all f op r.objects) (settle_actions v) (no_start_settled numbers 1 v.objects v.frames); ends = λ is. no_end (asked_all f op r.objects) (settle_actions v) is (no_end_settled 1 v.objects v.frames is) },
-    )
-
-pub save_asks : (r : Record) (f : ℕ) (t : Took) → Steady r → save r f ≡ Ok t → AsksAll (λ o op. IsQuiet op) (links_of r.objects) (links_of t.rec.objects) (messages_of t.answer.actions) × IsPlain r t
-save_asks r f t s e = save_asks_in r f (nth r.frames f) t s e
+  pub frame_asked : AsksAll (λ o p. IsQuiet p) (links_of os) (links_of (map (asked_object f op) os)) (asked_all f op os)
+  frame_asked = all_mapped (λ o p. IsQuiet p) os (asked_object f op) (asked_of f op) (asked_all f op os) (asked_number f op) asked_each (λ m h. who_is_asked os f op m rise h)

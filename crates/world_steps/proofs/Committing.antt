@@ -19,7 +19,7 @@ use Rattle.world_facts.specs.Shapes.{AskedAt, none, AsksAll, IsTold, CountsAll}
 use Rattle.world_facts.proofs.Lookups.{among_map, find_among}
 use Rattle.world_steps.specs.Steps.{IsPlain}
 use Rattle.world_steps.proofs.Objects.{found_held, found_number, messages_sends, no_start_sent, no_end_sent}
-use Rattle.world_steps.proofs.Asking.{unasked, is_asked, all_mapped, who_is_asked}
+use Rattle.world_steps.proofs.Asking.{unasked, is_asked, all_mapped, ordered_rise, who_is_asked}
 
 module _ (r : Record) (f : ℕ) (frame : Frame) (s : Steady r) (at : nth r.frames f ≡ Some frame) (unsettled : IsUnsettled frame.phase) where
   abbrev pub op : Operation
@@ -64,7 +64,7 @@ module _ (r : Record) (f : ℕ) (frame : Frame) (s : Steady r) (at : nth r.frame
       → CountsAll (links_of r.objects) (links_of (commit_made r f frame).rec.objects) counted frame.k fresh (messages_of (commit_made r f frame).answer.actions)
   commit_counts counted apart = record {
     tells = subst (λ ms. AsksAll (IsTold (links_of r.objects) frame.k fresh) (links_of r.objects) (links_of (map (completed f frame) r.objects)) ms) (sym (messages_sends (asked_all f op r.objects)))
-        (all_mapped (IsTold (links_of r.objects) frame.k fresh) r.objects (completed f frame) (asked_of f op) (asked_all f op r.objects) (λ o. completed_if (λ (z : Object). z.number ≡ o.number) f frame o (λ e. refl) (λ e. refl)) each (λ m h. who_is_asked r f op m s h));
+        (all_mapped (IsTold (links_of r.objects) frame.k fresh) r.objects (completed f frame) (asked_of f op) (asked_all f op r.objects) (λ o. completed_if (λ (z : Object). z.number ≡ o.number) f frame o (λ e. refl) (λ e. refl)) each (λ m h. who_is_asked r.objects f op m (ordered_rise r.objects s.order) h));
     apart = apart;
   }
 

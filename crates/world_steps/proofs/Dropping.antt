@@ -18,7 +18,7 @@ use Rattle.world_model.specs.Safe.{links_of}
 use Rattle.world_facts.specs.Shapes.{AskedAt, none, AsksAll, IsQuiet}
 use Rattle.world_steps.specs.Steps.{IsPlain}
 use Rattle.world_steps.proofs.Objects.{found_held, messages_sends, no_start_sent, no_end_sent}
-use Rattle.world_steps.proofs.Asking.{unasked, is_asked, all_mapped, none_asked, who_is_asked}
+use Rattle.world_steps.proofs.Asking.{unasked, is_asked, all_mapped, none_asked, ordered_rise, who_is_asked}
 
 abbrev pub AsksQuietly : Record → Took → Type 0
 AsksQuietly r t = AsksAll (λ o op. IsQuiet op) (links_of r.objects) (links_of t.rec.objects) (messages_of t.answer.actions) × IsPlain r t
@@ -47,7 +47,7 @@ module _ (r : Record) (f : ℕ) (frame : Frame) (s : Steady r) where
   drop_asks : AsksQuietly r (save_dropped r f frame)
   drop_asks = (
     subst (λ ms. AsksAll (λ o p. IsQuiet p) (links_of r.objects) (links_of (save_dropped r f frame).rec.objects) ms) (sym (messages_sends (asked_all f op r.objects)))
-        (all_mapped (λ o p. IsQuiet p) r.objects (dropped_object f frame) (asked_of f op) (asked_all f op r.objects) (λ o. dropped_if (λ (z : Object). z.number ≡ o.number) f frame o (λ e. refl) (λ e. refl)) each (λ m h. who_is_asked r f op m s h)),
+        (all_mapped (λ o p. IsQuiet p) r.objects (dropped_object f frame) (asked_of f op) (asked_all f op r.objects) (λ o. dropped_if (λ (z : Object). z.number ≡ o.number) f frame o (λ e. refl) (λ e. refl)) each (λ m h. who_is_asked r.objects f op m (ordered_rise r.objects s.order) h)),
     record { last_act = refl; servers = refl; starts = λ numbers. no_start_sent numbers (asked_all f op r.objects); ends = no_end_sent (asked_all f op r.objects) },
   )
 

@@ -15,3 +15,5 @@ pub mod Replying
 pub mod Reaping
 pub mod Committing
 pub mod Dropping
+pub mod Opening
+pub mod Handing

@@ -13,14 +13,14 @@ use Rattle.container_model.specs.declared.record.Frame.{Frame}
 use Rattle.container_model.specs.declared.record.Link.{Link}
 use Rattle.container_model.specs.declared.record.Object.{Object}
 use Rattle.container_steady.specs.Roles.{role_in}
-use Rattle.container_steady.specs.Steady.{EachPair, InOrder, SteadyLink, SteadyObject, Steady}
+use Rattle.container_steady.specs.Steady.{EachPair, InOrder, SteadyLink, SteadyObject, Steady, WaitsBehind}
 use Rattle.container_steady.proofs.SteadyLookups.{each_found}
 use Rattle.container_steady.proofs.SteadyRecords.{if_at, some_and}
 use Rattle.container_steady.proofs.SteadyFinds.{found_by_number, put_by_number, find-put_same, find-put_other, find-map}
-use Rattle.container_steady.proofs.SteadyShapes as laws
 use Rattle.world_model.specs.World.{Instance, messages_of, of_container, started_by, ended_by}
 use Rattle.world_model.specs.declared.logs.Sent.{Sent}
-use Rattle.world_model.specs.Safe.{Among, link_at, links_of, messages}
+use Rattle.world_model.specs.Safe.{link_at, links_of, messages}
+use Rattle.world_facts.specs.Words.{Links}
 use Rattle.world_facts.proofs.Lookups.{find_passes}
 
 -- a link is an object's, in a frame, and steady there
@@ -30,13 +30,13 @@ pub record IsHeld (r : Record) (n : ℕ) (l : Link) : Type 0 where
   pub found : find (is_object n) r.objects ≡ Some object
   pub linked : object.link ≡ Some l
   pub framed : nth r.frames object.frame ≡ Some frame
-  pub steady : SteadyLink r.servers r.last_act frame.phase frame.k (role_in frame.ui.state object.number) l
+  pub steady : SteadyLink r.servers r.last_act frame.phase frame.asked frame.k (role_in frame.ui.state object.number) l
 
 pub found_held : (r : Record) (n : ℕ) (l : Link) (o : Object) → Steady r → find (is_object n) r.objects ≡ Some o → o.link ≡ Some l → IsHeld r n l
 found_held r n l o s e is =
     let h = each_found (SteadyObject r) (is_object n) r.objects o s.objects e in
-    let f = some_and (λ (frame : Frame). IfSome o.link (SteadyLink r.servers r.last_act frame.phase frame.k (role_in frame.ui.state o.number))) (nth r.frames o.frame) h.linked in
-    record { object = o; frame = f.0; found = e; linked = is; framed = f.1; steady = if_at (SteadyLink r.servers r.last_act f.0.phase f.0.k (role_in f.0.ui.state o.number)) o.link l is f.2 }
+    let f = some_and (λ (frame : Frame). IfSome o.link (SteadyLink r.servers r.last_act frame.phase frame.asked frame.k (role_in frame.ui.state o.number))) (nth r.frames o.frame) h.linked in
+    record { object = o; frame = f.0; found = e; linked = is; framed = f.1; steady = if_at (SteadyLink r.servers r.last_act f.0.phase f.0.asked f.0.k (role_in f.0.ui.state o.number)) o.link l is f.2 }
 
 pub linked_object : (os : List Object) (n : ℕ) (l : Link) → links_of os n ≡ Some l → (o : Object) × (find (is_object n) os ≡ Some o) × (o.link ≡ Some l)
 linked_object os n l e = at (find (is_object n) os) refl e
@@ -47,6 +47,13 @@ linked_object os n l e = at (find (is_object n) os) refl e
 
 pub link_held : (r : Record) (n : ℕ) (l : Link) → Steady r → links_of r.objects n ≡ Some l → IsHeld r n l
 link_held r n l s e = (let o = linked_object r.objects n l e in found_held r n l o.0 s o.1 o.2)
+
+-- no operation waits where none is pending, at any link
+abbrev pub Waits : Links → Type 0
+Waits links = (o : ℕ) (l : Link) → links o ≡ Some l → WaitsBehind l.pending l.waiting
+
+pub steady_waits : (r : Record) → Steady r → Waits (links_of r.objects)
+steady_waits r s o l e = (link_held r o l s e).steady.waits_behind
 
 pub found_number : (os : List Object) (n : ℕ) (o : Object) → find (is_object n) os ≡ Some o → o.number ≡ n
 found_number os n o e = eqb-true o.number n (find_passes (is_object n) os o e)
@@ -68,17 +75,6 @@ module _ (os : List Object) (test : Object → Bool) (x a : Object) (order : Eac
 -- each object is changed under its number
 pub link_mapped : (g : Object → Object) (os : List Object) (n : ℕ) → ((o : Object) → (g o).number ≡ o.number) → links_of (map g os) n ≡ link_at (option_map g (find (is_object n) os))
 link_mapped g os n number = ap link_at (find-map n g os number)
-
--- what stands in a list, in the words of the container's laws
-pub to_laws : {A : Type 0} (xs : List A) (x : A) → Among xs x → laws.Among xs x
-to_laws [] x h = h
-to_laws (y ∷ ys) x (inl e) = inl e
-to_laws (y ∷ ys) x (inr h) = inr (to_laws ys x h)
-
-pub from_laws : {A : Type 0} (xs : List A) (x : A) → laws.Among xs x → Among xs x
-from_laws [] x h = h
-from_laws (y ∷ ys) x (inl e) = inl e
-from_laws (y ∷ ys) x (inr h) = inr (from_laws ys x h)
 
 -- messages of actions
 pub messages_sends : (ms : List Message) → messages_of (sends ms) ≡ ms

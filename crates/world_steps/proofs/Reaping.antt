@@ -1,5 +1,5 @@
 -- The end of a server that doesn't run any more: links end, and whoever waits for a frame that is free by it is told.
-use Rattle.std.proofs.Common.{◌≡◌, ◌≢◌, ◌⊎◌, ◌==◌, ℕ, Bool, true, false, length, map, Option, Some, None, option_map, Result, Ok, Err, refl, sym, ap, ◌∙◌, inl, inr, subst, if◌then◌else◌}
+use Rattle.std.proofs.Common.{◌≡◌, ◌≢◌, ◌⊎◌, ◌==◌, ℕ, Bool, true, false, ◌++◌, length, map, Option, Some, None, option_map, Result, Ok, Err, refl, sym, ap, ◌∙◌, inl, inr, subst, if◌then◌else◌}
 use Rattle.std.proofs.lemmas.Bool.{eqb-true}
 use Rattle.wire_msgs.specs.Found.{find}
 use Rattle.container_model.specs.declared.record.Link.{Link}
@@ -9,7 +9,7 @@ use Rattle.container_model.specs.declared.fault.ContainerFault.TheVariants.{NoSu
 use Rattle.container_model.specs.Record.{Record, Took, is_object, is_alive}
 use Rattle.container_model.specs.Grants.{freed_frame, freed_claims}
 use Rattle.container_model.specs.Saves.{settle_actions, kept}
-use Rattle.container_model.specs.Messages.{reaped_object, reaped, reaped_grants, reap_made, on_reap}
+use Rattle.container_model.specs.Messages.{reaped_object, reaped, reaped_grants, reaped_saving, reap_made, on_reap}
 use Rattle.container_steady.specs.Steady.{Steady}
 use Rattle.container_steady.proofs.SteadyRecords.{if_told}
 use Rattle.world_model.specs.declared.life.Life.TheVariants.{Running}
@@ -17,10 +17,12 @@ use Rattle.world_model.specs.World.{messages_of}
 use Rattle.world_model.specs.Safe.{link_at, links_of}
 use Rattle.world_facts.specs.Words.{Acts, Lives, IsClosed}
 use Rattle.world_facts.specs.Shapes.{EndsSome}
-use Rattle.world_facts.proofs.Lookups.{length_set_nth}
+use Rattle.world_facts.proofs.Lookups.{length_set_nth, map_map_same}
 use Rattle.world_steps.specs.Steps.{IsPlain, AsksInTurn, IsReaped}
-use Rattle.world_steps.proofs.Objects.{link_mapped, sent_of, no_start, no_start_settled, no_end, no_end_settled}
-use Rattle.world_steps.proofs.Turns.{Waits, steady_waits, waits_ended, grants_keep, grants_asked}
+use Rattle.world_steps.proofs.Asking.{Rising, ordered_rise}
+use Rattle.world_steps.proofs.Handing.{IsOrderly, all_handed, grants_numbers, rises_same}
+use Rattle.world_steps.proofs.Objects.{Waits, steady_waits, link_mapped, sent_of, no_start, no_start_settled, no_end, no_end_settled}
+use Rattle.world_steps.proofs.Turns.{waits_ended, grants_keep, grants_asked, turns_join, turns_wait}
 
 reaped_number : (inc : ℕ) (o : Object) (x : Option Link) → (reaped_object inc o x).number ≡ o.number
 reaped_number inc o None = refl
@@ -56,7 +58,7 @@ module _ (r : Record) (acts0 : Acts) (lives : Lives) (inc : ℕ) (steady : Stead
   taken true m t g = cc
   taken false m t g = cc
 
-  -- whoever waits for a frame that is free by it is told of its grant
+  -- whoever waits for a frame that is free by it is told of its grant, and then storages may be asked for
   made_reaped : IsReaped (links_of r.objects) (links_of (reap_made r inc).rec.objects) acts0 lives (messages_of (reap_made r inc).answer.actions) × IsPlain r (reap_made r inc)
   made_reaped =
       let u = reaped r inc in
@@ -64,17 +66,27 @@ module _ (r : Record) (acts0 : Acts) (lives : Lives) (inc : ℕ) (steady : Stead
       let claims = freed_claims inc r.objects u.frames in
       let v = reaped_grants r inc in
       let rest = grants_keep claims freed in
-      let waits : Waits (links_of u.objects) = waits_ended (links_of r.objects) (links_of u.objects) acts0 lives over (steady_waits r steady) in (
+      let waits : Waits (links_of u.objects) = waits_ended (links_of r.objects) (links_of u.objects) acts0 lives over (steady_waits r steady) in
+      let granted = grants_asked claims freed waits in
+      let rises : Rising u.objects = rises_same r.objects u.objects (map_map_same (λ (o : Object). o.number) after r.objects (λ o. reaped_number inc o o.link)) (ordered_rise r.objects steady.order) in
+      let orderly : IsOrderly v.rec = record {
+        waits = turns_wait (links_of u.objects) (links_of v.rec.objects) v.sent granted waits;
+        rises = rises_same u.objects v.rec.objects (grants_numbers claims freed) rises;
+      } in
+      let w = reaped_saving r inc in
+      let k = all_handed v.rec orderly in
+      let ms = v.sent ++ w.sent in (
         record {
           between = links_of u.objects;
           ends = over;
-          asked = subst (AsksInTurn (links_of u.objects) (links_of v.rec.objects)) (sym (sent_of v.sent 1 v.rec.objects v.rec.frames)) (grants_asked claims freed waits);
+          asked = subst (AsksInTurn (links_of u.objects) (links_of w.rec.objects)) (sym (sent_of ms 1 w.rec.objects w.rec.frames))
+              (turns_join (links_of u.objects) (links_of v.rec.objects) (links_of w.rec.objects) v.sent w.sent granted k.asked);
         },
         record {
-          last_act = rest.last_act;
-          servers = ap length rest.servers ∙ length_set_nth r.servers inc true;
-          starts = λ numbers. no_start numbers v.sent (settle_actions v.rec) (no_start_settled numbers 1 v.rec.objects v.rec.frames);
-          ends = λ is. no_end v.sent (settle_actions v.rec) is (no_end_settled 1 v.rec.objects v.rec.frames is);
+          last_act = k.last_act ∙ rest.last_act;
+          servers = ap length (k.servers ∙ rest.servers) ∙ length_set_nth r.servers inc true;
+          starts = λ count. no_start count ms (settle_actions w.rec) (no_start_settled count 1 w.rec.objects w.rec.frames);
+          ends = λ is. no_end ms (settle_actions w.rec) is (no_end_settled 1 w.rec.objects w.rec.frames is);
         },
       )
 

@@ -17,8 +17,8 @@ use Rattle.world_model.specs.World.{messages_of}
 use Rattle.world_model.specs.Safe.{links_of}
 use Rattle.world_facts.specs.Shapes.{AsksAll, IsQuiet}
 use Rattle.world_steps.specs.Steps.{IsPlain}
-use Rattle.world_steps.proofs.Objects.{messages_sends, no_start_sent, no_end_sent}
-use Rattle.world_steps.proofs.Turns.{steady_waits, request_keeps, request_asks}
+use Rattle.world_steps.proofs.Objects.{messages_sends, no_start_sent, no_end_sent, steady_waits}
+use Rattle.world_steps.proofs.Turns.{request_keeps, request_asks}
 use Rattle.world_steps.proofs.Verbing.{ok_took}
 
 ui_quiet : IsQuiet UiDeactivate

@@ -1,6 +1,7 @@
 -- A reply that is taken: it settles the pending operation, which was done, and the next that waits is sent; or the link ends.
 use Rattle.std.proofs.Common.{◌≡◌, ◌≢◌, ◌&&◌, ◌==◌, ℕ, ◌+◌, ◌≤◌, Bool, true, false, List, [], ◌∷◌, ◌++◌, length, Option, Some, None, is_some, Result, Ok, Err, refl, sym, ap, ◌∙◌, inl, inr, arith, subst, if◌then◌else◌}
 use Rattle.std.proofs.lemmas.Bool.{eqb-true}
+use Rattle.std.proofs.lemmas.List.{append_assoc}
 use Rattle.std.proofs.lemmas.Bool.Decides.{eqb_tells}
 use Rattle.wire_msgs.specs.Found.{find, put}
 use Rattle.wire_msgs.specs.declared.message.Message.{Message}
@@ -19,7 +20,8 @@ use Rattle.container_model.specs.declared.fault.ContainerFault.{ContainerFault}
 use Rattle.container_model.specs.declared.fault.ContainerFault.TheVariants.{Stale, WrongLink, BadAnswer}
 use Rattle.container_model.specs.Record.{Record, Took, is_linked, is_link, is_alive}
 use Rattle.container_model.specs.Saves.{settle_actions, kept_in}
-use Rattle.container_model.specs.Messages.{Replied, is_fit, replied, next_at, next_link, next_sent, replied_record, replied_grant, reply_made, reply_taken, reply_pending, reply_link, reply_found, on_message}
+use Rattle.container_model.specs.HandOffs.{is_answered}
+use Rattle.container_model.specs.Messages.{Replied, is_fit, replied, next_at, next_link, next_sent, replied_object, replied_record, replied_grant, replied_saving, reply_made, reply_taken, reply_pending, reply_link, reply_found, on_message}
 use Rattle.container_model.specs.declared.answer.Done.{Done}
 use Rattle.container_steady.specs.Steady.{IsOpenWhileClosing, WaitsBehind, Steady}
 use Rattle.container_steady.proofs.SteadyCloses.{closes-are_open}
@@ -31,11 +33,13 @@ use Rattle.world_facts.specs.Words.{Links, Acts, Lives, IsHonest, IsClosed}
 use Rattle.world_facts.specs.Facts.{InStep, not_begun, level, behind, ahead, Did, HasSaved, Facts}
 use Rattle.world_facts.specs.Shapes.{Settles, SendsNext}
 use Rattle.world_facts.specs.Views.{IsSeen, Views}
-use Rattle.world_facts.proofs.Lookups.{find_passes}
+use Rattle.world_facts.proofs.Lookups.{find_passes, map_put}
 use Rattle.world_steps.specs.Steps.{IsPlain, IsAnswered, settled, goes_on, ended, IsReplied}
-use Rattle.world_steps.proofs.Objects.{link_was, put_here, put_there, sent_of, no_start, no_start_settled, no_end, no_end_settled}
+use Rattle.world_steps.proofs.Asking.{Rising, ordered_rise}
+use Rattle.world_steps.proofs.Handing.{IsOrderly, handed_if, regranted_numbers, rises_same}
+use Rattle.world_steps.proofs.Objects.{Waits, steady_waits, link_was, put_here, put_there, sent_of, no_start, no_start_settled, no_end, no_end_settled}
 use Rattle.world_steps.proofs.Taking.{brought}
-use Rattle.world_steps.proofs.Turns.{Waits, steady_waits, regrants}
+use Rattle.world_steps.proofs.Turns.{regrants, turns_join, turns_wait}
 use Rattle.world_steps.proofs.Verbing.{ok_took}
 use Rattle.world_steps.proofs.Answers.{IsSettled, Outcome, settles, gone, reply_outcome}
 
@@ -280,19 +284,35 @@ module _ {hostile : List ℕ} (r : Record) (acts : Acts) (lives : Lives) (sent :
   abbrev pub Result_of : Took → Type 0
   Result_of t = IsReplied (links_of r.objects) (links_of t.rec.objects) acts lives (messages_of t.answer.actions) × IsPlain r t
 
-  -- the next one that waits is sent, and then whoever waits for the frame may be told of its grant
+  -- the next one that waits is sent, then whoever waits for the frame may be told of its grant, and then storages may be
+  -- asked for
   made_shows : (x : Object) (p : Replied) → IsAnswer inc act n answer x p → find (is_linked inc act) r.objects ≡ Some x → Result_of (reply_made r inc act x p)
   made_shows x p h found =
       let u = replied_record r inc act x p in
       let v = replied_grant r inc act x p in
-      let g = regrants u x.frame (waits_on x p h found) p.grant in
-      let ms = next_sent p.link ++ v.sent in (
-        record { between = links_of u.objects; first = next_sent p.link; rest = v.sent; answered = is_shown x p h found; asked = g.asked; joined = sent_of ms 1 v.rec.objects v.rec.frames },
+      let w = replied_saving r inc act x p in
+      let waits = waits_on x p h found in
+      let g = regrants u x.frame waits p.grant in
+      let rises : Rising u.objects = rises_same r.objects u.objects (map_put (λ (o : Object). o.number) (is_linked inc act) (replied_object x p) x r.objects found refl) (ordered_rise r.objects s.order) in
+      let orderly : IsOrderly v.rec = record {
+        waits = turns_wait (links_of u.objects) (links_of v.rec.objects) v.sent g.asked waits;
+        rises = rises_same u.objects v.rec.objects (regranted_numbers u x.frame p.grant) rises;
+      } in
+      let k = handed_if (is_answered x.link p.link) v.rec x.frame orderly in
+      let ms = next_sent p.link ++ v.sent ++ w.sent in (
         record {
-          last_act = g.last_act;
-          servers = ap length g.servers;
-          starts = λ numbers. no_start numbers ms (settle_actions v.rec) (no_start_settled numbers 1 v.rec.objects v.rec.frames);
-          ends = λ is. no_end ms (settle_actions v.rec) is (no_end_settled 1 v.rec.objects v.rec.frames is);
+          between = links_of u.objects;
+          first = next_sent p.link;
+          rest = v.sent ++ w.sent;
+          answered = is_shown x p h found;
+          asked = turns_join (links_of u.objects) (links_of v.rec.objects) (links_of w.rec.objects) v.sent w.sent g.asked k.asked;
+          joined = sent_of ms 1 w.rec.objects w.rec.frames ∙ append_assoc (next_sent p.link) v.sent w.sent;
+        },
+        record {
+          last_act = k.last_act ∙ g.last_act;
+          servers = ap length (k.servers ∙ g.servers);
+          starts = λ count. no_start count ms (settle_actions w.rec) (no_start_settled count 1 w.rec.objects w.rec.frames);
+          ends = λ is. no_end ms (settle_actions w.rec) is (no_end_settled 1 w.rec.objects w.rec.frames is);
         },
       )
 

@@ -2,7 +2,7 @@
 use Rattle.std.proofs.Common.{◌≡◌, ◌≢◌, ◌==◌, ℕ, false, List, [], ◌∷◌, ◌++◌, Option, Some, None, refl, sym, ap, ◌∙◌, inl, inr, subst, if◌then◌else◌, eq-eqb}
 use Rattle.std.proofs.lemmas.Bool.{eqb-true, eqb-false, ne_eqb}
 use Rattle.std.proofs.lemmas.Bool.Decides.{eqb_tells}
-use Rattle.std.proofs.lemmas.List.{append_assoc}
+use Rattle.std.proofs.lemmas.List.{append_assoc, append-nil}
 use Rattle.std.specs.List.{AllByRecursion}
 use Rattle.wire_msgs.specs.Found.{find, put, nth}
 use Rattle.wire_msgs.specs.declared.message.Message.{Message}
@@ -17,7 +17,7 @@ use Rattle.container_model.specs.declared.record.Object.{Object}
 use Rattle.container_model.specs.declared.record.Frame.{Frame}
 use Rattle.container_model.specs.Record.{Record, is_object, ask, ask_at, ask_each, asked_link, asked_sent, with_frame}
 use Rattle.container_model.specs.Grants.{requested, request, grant_each, passed_to, moved, event_of, Regranted, regranted_by, regranted_in, regranted}
-use Rattle.container_steady.specs.Steady.{WaitsBehind, Steady}
+use Rattle.container_steady.specs.Steady.{WaitsBehind}
 use Rattle.container_steady.proofs.SteadyRecords.{if_told}
 use Rattle.container_steady.proofs.SteadyFinds.{find-put_same, find-put_other}
 use Rattle.container_steady.proofs.SteadyTests.{found_numbered}
@@ -25,15 +25,8 @@ use Rattle.world_model.specs.Safe.{Among, link_at, links_of}
 use Rattle.world_facts.specs.Words.{Links, Acts, Lives}
 use Rattle.world_facts.specs.Shapes.{AskedAt, none, stays, queues, sends as sent, AsksAll, IsQuiet, EndsSome}
 use Rattle.world_steps.specs.Steps.{AsksInTurn, asks_none, asks_first}
-use Rattle.world_steps.proofs.Objects.{link_held, found_number}
+use Rattle.world_steps.proofs.Objects.{Waits, found_number}
 use Rattle.world_steps.proofs.Asking.{none_asked, is_asked, unasked_as}
-
--- no operation waits where none is pending, at any link
-abbrev pub Waits : Links → Type 0
-Waits links = (o : ℕ) (l : Link) → links o ≡ Some l → WaitsBehind l.pending l.waiting
-
-pub steady_waits : (r : Record) → Steady r → Waits (links_of r.objects)
-steady_waits r s o l e = (link_held r o l s e).steady.waits_behind
 
 waits_at : (Asks : Operation → Type 0) (before after : Option Link) (news : List Message) → AskedAt Asks before after news → ((l : Link) → before ≡ Some l → WaitsBehind l.pending l.waiting) → (m : Link) → after ≡ Some m
     → WaitsBehind m.pending m.waiting
@@ -59,6 +52,14 @@ waits_ended links after acts lives h w o l e = elim (h.each o) [
   | inl same ↦ w o l (sym same ∙ e)
   | inr over ↦ absurd (let z : None ≡ Some l = sym over.0 ∙ e in cc)
 ]
+
+-- operations that are asked at once are asked in turn
+pub one_turn : (links after : Links) (more : List Message) → AsksAll (λ o op. IsQuiet op) links after more → AsksInTurn links after more
+one_turn links after more h = asks_first links after after more [] more h (asks_none after after [] (λ o. refl) refl) (sym (append-nil more))
+
+pub turns_wait : (links after : Links) (more : List Message) → AsksInTurn links after more → Waits links → Waits after
+turns_wait _ _ _ (asks_none links after more same e) w = λ o l q. w o l (sym (same o) ∙ q)
+turns_wait _ _ _ (asks_first links between after first rest more h t e) w = turns_wait between after rest t (waits_asked (λ o op. IsQuiet op) links between first h w)
 
 -- the same links, told another way
 asks_from : (a b after : Links) (more : List Message) → ((o : ℕ) → b o ≡ a o) → AsksAll (λ o op. IsQuiet op) b after more → AsksAll (λ o op. IsQuiet op) a after more

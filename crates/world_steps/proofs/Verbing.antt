@@ -31,8 +31,8 @@ use Rattle.world_model.specs.World.{messages_of}
 use Rattle.world_model.specs.Safe.{link_at, links_of}
 use Rattle.world_facts.specs.Shapes.{IsQuiet}
 use Rattle.world_steps.specs.Steps.{IsPlain, AsksInTurn, asks_none, asks_first, IsTurned}
-use Rattle.world_steps.proofs.Objects.{found_held, linked_object, messages_sends, no_start_sent, no_end_sent}
-use Rattle.world_steps.proofs.Turns.{steady_waits, each_turns, placed_here, placed_there, KeepsRest, rest_same, request_keeps, request_others, request_asks, turns_join}
+use Rattle.world_steps.proofs.Objects.{found_held, linked_object, messages_sends, no_start_sent, no_end_sent, steady_waits}
+use Rattle.world_steps.proofs.Turns.{each_turns, placed_here, placed_there, KeepsRest, rest_same, request_keeps, request_others, request_asks, turns_join}
 
 pub ok_took : (x y : Took) → ◌≡◌ {A = Result Took ContainerFault} (Ok x) (Ok y) → x ≡ y
 ok_took x y e = cc

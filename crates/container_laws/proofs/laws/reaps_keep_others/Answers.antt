@@ -1,4 +1,4 @@
-use Rattle.container_laws.proofs.KeepLaws.{reaps-keep_others}
+use Rattle.container_laws.proofs.ReapLaws.{reaps-keep_others}
 use Rattle.container_laws.proofs.laws.reaps_keep_others.Goals as goal
 
 pub returns : goal.returns

@@ -1,7 +1,8 @@
-use Rattle.std.proofs.Common.{◌≡◌, ◌++◌, ℕ, List, Option, Some, IfSome, slice_get, slice_set, ap, subst, sym, ◌∙◌, map}
+use Rattle.std.proofs.Common.{◌≡◌, ◌++◌, ℕ, false, List, Option, Some, IfSome, slice_get, slice_set, ap, subst, sym, ◌∙◌, map}
 use Rattle.std.proofs.lemmas.List.{get_or_default}
 use Rattle.std.proofs.lemmas.Option.{slice_get-get_or}
 use Rattle.wire_msgs.specs.Found.{find, nth, put, IsPlace}
+use Rattle.container_links.specs.Handing.{answers}
 use Rattle.container_links.specs.Relieving.{gives_up}
 use Rattle.container_model.specs.Messages.{reply_link}
 use Rattle.container_model.specs.Record.{Record, is_linked}
@@ -32,22 +33,24 @@ returns-clause-taken c =
     let o : Object = c.index_mut.result.now in
     let g : slice_get r.objects c.args.place ≡ Some o = slice_get-get_or r.objects c.args.place o p.fits ∙ ap Some (sym c.index_mut.ensures.value) in
     let found : find (is_linked c.args.inc c.args.act) r.objects ≡ Some o = p.found ∙ g in
-    let before : c.index-2.result.now ≡ o = c.index-2.ensures ∙ (get_or_default r.objects c.args.place c.index-2.result.now o p.fits ∙ sym c.index_mut.ensures.value) in
-    let at : c.index.result.now.frame ≡ o.frame = ap (λ (x : Object). x.frame) (c.index.ensures ∙ (get_or_default r.objects c.args.place c.index.result.now o p.fits ∙ sym c.index_mut.ensures.value)) in
+    let before : c.index-3.result.now ≡ o = c.index-3.ensures ∙ (get_or_default r.objects c.args.place c.index-3.result.now o p.fits ∙ sym c.index_mut.ensures.value) in
+    let at : c.index-2.result.now.frame ≡ o.frame = ap (λ (x : Object). x.frame) (c.index-2.ensures ∙ (get_or_default r.objects c.args.place c.index-2.result.now o p.fits ∙ sym c.index_mut.ensures.value)) in
     let w : ToldObject = record { object = c.told_object.new.object; taken = c.in-Ok-told_object.replied.taken; refused = c.in-Ok-told_object.replied.refused; grant = c.in-Ok-told_object.replied.grant; actions = c.in-Ok-told_object.replied.actions.items } in
     let gives : Option ℕ = c.gives_up-gives.result in
     let given : gives ≡ gives_up (reply_link c.args.n c.args.answer o.link) = c.gives_up-gives.ensures.told ∙ ap (λ (x : Object). gives_up (reply_link c.args.n c.args.answer x.link)) before in
     let asked : IfSome gives (λ act. IfSome o.link (λ l. l.pending ≡ Some UiDeactivate)) = subst (λ (x : Object). IfSome gives (λ act. IfSome x.link (λ l. l.pending ≡ Some UiDeactivate))) before c.gives_up-gives.ensures.asked in
     let ready_is : c.in-Ok.grants.items ≡ map (ready r.objects) (claims_if gives (nth r.frames o.frame)) =
     c.in-Ok.ensures.ready
-    ∙ (ap (λ (os : List Object). map (ready os) (claims_if gives (nth c.as_slice-frames.result.now c.index.result.now.frame))) c.as_slice.ensures.value
-    ∙ (ap (λ (fs : List Frame). map (ready r.objects) (claims_if gives (nth fs c.index.result.now.frame))) c.as_slice-frames.ensures.value
+    ∙ (ap (λ (os : List Object). map (ready os) (claims_if gives (nth c.as_slice-frames.result.now c.index-2.result.now.frame))) c.as_slice.ensures.value
+    ∙ (ap (λ (fs : List Frame). map (ready r.objects) (claims_if gives (nth fs c.index-2.result.now.frame))) c.as_slice-frames.ensures.value
     ∙ ap (λ (f : ℕ). map (ready r.objects) (claims_if gives (nth r.frames f))) at)) in
+    let first : c.index.result.now ≡ o = c.index.ensures ∙ (get_or_default r.objects c.args.place c.index.result.now o p.fits ∙ sym c.index_mut.ensures.value) in
+    let quiet : answers o.link (reply_link c.args.n c.args.answer o.link) ≡ false = ap (λ (x : Object). answers x.link (reply_link c.args.n c.args.answer x.link)) (sym first) ∙ (sym c.is_content.ensures ∙ c.if-is_content.false) in
     let steady : Steady r = subst Steady v c.requires.steady in
     let number : w.object.number ≡ o.number = c.in-Ok-told_object.ensures.same in
     let puts : put (is_linked c.args.inc c.args.act) w.object r.objects ≡ slice_set r.objects c.args.place w.object = p.puts w.object in
     let agrees : _ = subst (λ (os : List Object). Agrees r.objects os (claims_if gives (nth r.frames o.frame))) puts (reply_agrees r steady (is_linked c.args.inc c.args.act) o w.object found number c.args.n c.args.answer gives given asked) in
-    rw v (reply_is r c.args.inc c.args.act c.args.n c.args.answer o w (slice_set r.objects c.args.place w.object) gives found given
+    rw v (reply_is r c.args.inc c.args.act c.args.n c.args.answer o w (slice_set r.objects c.args.place w.object) gives found given quiet
     c.take_grants.new.objects.items c.tell_frame-no_tools.new.frames.items c.settle_into.new.frames.items c.take_grants.new.actions.items c.settle_into.new.actions.items c.answered.result c.tell_frame-no_tools.result
     c.in-Ok-told_object.ensures.taken puts agrees (reply_differs gives (nth r.frames o.frame))
     (c.take_grants.ensures.objects ∙ ap (λ qs. installed_each qs (slice_set r.objects c.args.place w.object)) ready_is)

@@ -1,6 +1,7 @@
 use Rattle.std.proofs.Common.{inl, subst, sym}
 use Rattle.store_model.specs.Store.{IsBeforeOrAfter, StandsFor}
 use Rattle.doc_store.proofs.Gating.{closed_stands}
+use Rattle.doc_store.proofs.Crashing.{starts}
 use Rattle.doc_store.proofs.Moments.{begun}
 use Rattle.doc_store.specs.Opened.{disk_of}
 use Rattle.doc_store.proofs.store.Store.commit.Goals as goal
@@ -12,3 +13,22 @@ returns-then-bytes-gt-MAX_DOCUMENT-clause-any_moment g c model ready =
     let rests = c.args.self.now.rests ready model in
     begun g.D.Disk.may_leave g.D.Disk.moment g.D.Disk.left_since disk (IsBeforeOrAfter (reads disk).document c.args.bytes.now) (g.met.D.Disk.only_now disk)
     (λ i left. inl (subst (λ b. StandsFor (reads disk).document b) (sym (rests.durable i left)) (closed_stands (reads disk) rests.closed)))
+
+pub returns-then-bytes-gt-MAX_DOCUMENT-clause-crashes : goal.returns-then-bytes-gt-MAX_DOCUMENT-clause-crashes
+returns-then-bytes-gt-MAX_DOCUMENT-clause-crashes g c model ready =
+    let disk = disk_of c.args.self.now in
+    let reads = g.D.Disk.reads in
+    let rests = c.args.self.now.rests ready model in
+    starts g.D.Disk.may_leave g.D.Disk.moment g.D.Disk.left_since (reads disk).document c.args.bytes.now disk disk
+    (begun g.D.Disk.may_leave g.D.Disk.moment g.D.Disk.left_since disk (IsBeforeOrAfter (reads disk).document c.args.bytes.now) (g.met.D.Disk.only_now disk)
+    (λ i left. inl (subst (λ b. StandsFor (reads disk).document b) (sym (rests.durable i left)) (closed_stands (reads disk) rests.closed))))
+
+pub returns-in-Ok-clause-crashes : goal.returns-in-Ok-clause-crashes
+returns-in-Ok-clause-crashes g c model ready =
+    let disk = disk_of c.args.self.now in
+    starts g.D.Disk.may_leave g.D.Disk.moment g.D.Disk.left_since (g.D.Disk.reads disk).document c.args.bytes.now disk c.replace.new.disk (c.replace.ensures.stays model)
+
+pub returns-in-Err-clause-crashes : goal.returns-in-Err-clause-crashes
+returns-in-Err-clause-crashes g c model ready =
+    let disk = disk_of c.args.self.now in
+    starts g.D.Disk.may_leave g.D.Disk.moment g.D.Disk.left_since (g.D.Disk.reads disk).document c.args.bytes.now disk c.replace.new.disk (c.replace.ensures.stays model)

@@ -1,0 +1,148 @@
+-- What files give, and that the file of a commit gives its objects again.
+use Rattle.std.proofs.Common.{◌≡◌, ◌≢◌, ◌≤◌, ◌<◌, ◌+◌, ◌==◌, ◌++◌, ℕ, Bool, true, false, not, List, [], ◌∷◌, length, map, Option, Some, None, Result, Ok, Err, refl, sym, ◌∙◌, ap, arith, subst, if◌then◌else◌, eq-eqb}
+use Rattle.std.proofs.Math.Logic.{∥∥₁_elim}
+use Rattle.std.proofs.lemmas.Bool.{le-leb, leb-false, leb-true, ne_eqb}
+use Rattle.std.proofs.lemmas.List.{length-append}
+use Rattle.std.specs.Prelude.{◌&&◌, cond, nat_le, nat_lt}
+use Rattle.std.specs.List.{AllByRecursion}
+use Rattle.cfb_names.specs.Names.{key}
+use Rattle.file_model.specs.Denotes.{Denotes}
+use Rattle.file_model.proofs.Unique.{one_tree}
+use Rattle.object_parts.specs.declared.area.Area.{Area}
+use Rattle.ole_parts.specs.Fields.{on_ok}
+use Rattle.ole_parts.specs.declared.fault.OleFault.{OleFault}
+use Rattle.ole_parts.specs.declared.fault.OleFault.TheVariants.{NotADocument, TooManyObjects}
+use Rattle.storage_tree.specs.Tree.{Tree, Children, none, storage, stream, tree}
+use Rattle.storage_tree.specs.Change.{find, without}
+use Rattle.document_model.specs.DocOf.{DocOf, as_storage, as_stream, doc_read, is_object, object_pushed, object_read, objects_behind, pushed}
+use Rattle.document_model.specs.DocTree.{LAYOUT, object_name}
+use Rattle.document_model.specs.Layouts.{MOST_OBJECTS, layout_read}
+use Rattle.document_model.specs.declared.object.DocObject.{DocObject}
+use Rattle.container_model.specs.declared.answer.Part.{Part}
+use Rattle.container_model.specs.declared.fault.ContainerFault.{ContainerFault}
+use Rattle.container_model.specs.declared.fault.ContainerFault.TheVariants.{BadFile, Busy, Full, NumbersSpent, WrongState}
+use Rattle.container_model.specs.declared.record.Object.{Object}
+use Rattle.container_model.specs.Record.{Record, Took, MOST_FRAMES, unless}
+use Rattle.container_model.specs.Saves.{are_objects, document, document_tree, held_part, is_document, part_of, parts_in}
+use Rattle.container_model.specs.Commands.{is_named, is_size}
+use Rattle.container_model.specs.Opens.{Given, IsReadAs, opened, opened_document, opened_given, opened_made, opened_objects, opening}
+use Rattle.container_steady.specs.Steady.{Steady, SteadyObject}
+use Rattle.container_steady.proofs.Opening.{is_opened}
+use Rattle.container_steady.proofs.SteadyTells.{and_both}
+use Rattle.container_steps.proofs.SteadyOpens.{elsewhere}
+use Rattle.container_laws.specs.OpenLaws.{CommitsAreOpenedAgain, FilesGiveOne, FilesGiveTheirs, HeldIsWithin, IsFileOf, IsOpenedAgain}
+use Rattle.container_laws.proofs.DocumentSets.{Document-set}
+
+-- ---- what a tree holds is within its limits
+both_hold : (a b : Bool) → a ≡ true → b ≡ true → (a && b) ≡ true
+both_hold true b e g = g
+both_hold false b e g = cc
+
+on_ok_gives : {A B : Type 0} (f : A → Result B OleFault) (r : Result A OleFault) (y : B) → on_ok f r ≡ Ok y → (x : A) × (r ≡ Ok x) × (f x ≡ Ok y)
+on_ok_gives f (Ok x) y e = (x, refl, e)
+on_ok_gives f (Err fault) y e = cc
+
+cond_err : {A : Type 0} (b : Bool) (fault : OleFault) (next : Result A OleFault) (y : A) → cond b (Err fault) next ≡ Ok y → (b ≡ false) × (next ≡ Ok y)
+cond_err true fault next y e = cc
+cond_err false fault next y e = (refl, e)
+
+cond_ok : {A : Type 0} (b : Bool) (fault : OleFault) (x y : A) → cond b (Ok x) (Err fault) ≡ Ok y → (b ≡ true) × (x ≡ y)
+cond_ok true fault x y e = (let same : x ≡ y = cc in (refl, same))
+cond_ok false fault x y e = cc
+
+objects_more : (ds : List DocObject) (d : DocObject) → are_objects ds ≡ true → is_object d ≡ true → are_objects (ds ++ d ∷ []) ≡ true
+objects_more [] d h k = both_hold (is_object d) true k refl
+objects_more (x ∷ ds) d h k = (let b = and_both (is_object x) (are_objects ds) h in both_hold (is_object x) (are_objects (ds ++ d ∷ [])) b.0 (objects_more ds d b.1 k))
+
+pushed_within : (ds : List DocObject) (d : DocObject) (more : List DocObject) → is_document ds ≡ true → pushed ds d ≡ Ok more → is_document more ≡ true
+pushed_within ds d more h e =
+    let a = cond_err (nat_le MOST_OBJECTS (length ds)) TooManyObjects (cond (is_object d) (Ok (ds ++ d ∷ [])) (Err NotADocument)) more e in
+    let b = cond_ok (is_object d) NotADocument (ds ++ d ∷ []) more a.1 in
+    let was = and_both (nat_le (length ds) MOST_OBJECTS) (are_objects ds) h in
+    let few : length ds < MOST_OBJECTS = leb-false MOST_OBJECTS (length ds) a.0 in
+    let long : length (ds ++ d ∷ []) ≡ length ds + 1 = length-append ds (d ∷ []) in
+    let most : length (ds ++ d ∷ []) ≤ MOST_OBJECTS = omega (arith, few, long) in
+    subst (λ (x : List DocObject). is_document x ≡ true) b.1
+    (both_hold (nat_le (length (ds ++ d ∷ [])) MOST_OBJECTS) (are_objects (ds ++ d ∷ [])) (le-leb (length (ds ++ d ∷ [])) MOST_OBJECTS most) (objects_more ds d was.1 b.0))
+
+behind_within : (ds : List DocObject) (number : ℕ) (areas : List Area) (cs : Children) (more : List DocObject) → is_document ds ≡ true → objects_behind ds number areas cs ≡ Ok more → is_document more ≡ true
+behind_within ds number [] none more h e = (let same : ds ≡ more = cc in subst (λ (x : List DocObject). is_document x ≡ true) same h)
+behind_within ds number [] (stream k name b cs) more h e = cc
+behind_within ds number [] (storage k name t cs) more h e = cc
+behind_within ds number (area ∷ areas) cs more h e =
+    let p = on_ok_gives (λ objects. objects_behind objects (number + 1) areas (without (key (object_name number)) cs)) (object_pushed ds number area cs) more e in
+    let o = on_ok_gives (λ o. pushed ds o) (on_ok (λ t. object_read area t) (as_storage (find (key (object_name number)) cs))) p.0 p.1 in
+    behind_within p.0 (number + 1) areas (without (key (object_name number)) cs) more (pushed_within ds o.0 p.0 h o.2) p.2
+
+pub held-is_within : HeldIsWithin
+held-is_within (tree class state cs) ds e =
+    let a = on_ok_gives (λ areas. objects_behind [] 1 areas (without (key LAYOUT) cs)) (on_ok layout_read (as_stream (find (key LAYOUT) cs))) ds e in
+    behind_within [] 1 a.0 (without (key LAYOUT) cs) ds refl a.2
+
+-- ---- a file gives one thing
+same_held : (bytes : List ℕ) (t u : Tree) (ds es : List DocObject) → Denotes bytes t → Denotes bytes u → DocOf t ds → DocOf u es → ds ≡ es
+same_held bytes t u ds es a b p q =
+    let both : ◌≡◌ {A = Result (List DocObject) OleFault} (Ok ds) (Ok es) = sym p ∙ (ap doc_read (one_tree bytes t u a b) ∙ q) in
+    cc
+
+⊥_prop : (a b : ⊥) → a ≡ b
+⊥_prop a b = absurd a
+
+not_broken : (bytes : List ℕ) (ds : List DocObject) → IsReadAs (Some bytes) Given.Broken → IsReadAs (Some bytes) (Given.Holding ds) → ⊥
+not_broken bytes ds broken holds = ∥∥₁_elim holds ⊥_prop (λ x. broken x.0 ds x.1 x.2)
+
+pub files-give_one : FilesGiveOne
+files-give_one None Given.Missing Given.Missing a b = refl
+files-give_one None Given.Missing Given.Broken a b = absurd b
+files-give_one None Given.Missing (Given.Holding es) a b = absurd b
+files-give_one None Given.Broken other a b = absurd a
+files-give_one None (Given.Holding ds) other a b = absurd a
+files-give_one (Some bytes) Given.Missing other a b = absurd a
+files-give_one (Some bytes) Given.Broken Given.Missing a b = absurd b
+files-give_one (Some bytes) Given.Broken Given.Broken a b = refl
+files-give_one (Some bytes) Given.Broken (Given.Holding es) a b = absurd (not_broken bytes es a b)
+files-give_one (Some bytes) (Given.Holding ds) Given.Missing a b = absurd b
+files-give_one (Some bytes) (Given.Holding ds) Given.Broken a b = absurd (not_broken bytes ds b a)
+files-give_one (Some bytes) (Given.Holding ds) (Given.Holding es) a b =
+    ap Given.Holding (∥∥₁_elim a (Document-set ds es) (λ x. ∥∥₁_elim b (Document-set ds es) (λ y. same_held bytes x.0 y.0 ds es x.1 y.1 x.2 y.2)))
+
+pub files-give_theirs : FilesGiveTheirs
+files-give_theirs bytes parts Given.Missing f a = absurd a
+files-give_theirs bytes parts Given.Broken f a = absurd (∥∥₁_elim f.denotes ⊥_prop (λ d. a (document_tree parts) (document parts) d f.holds))
+files-give_theirs bytes parts (Given.Holding ds) f a =
+    ap Given.Holding (∥∥₁_elim a (Document-set ds (document parts)) (λ x. ∥∥₁_elim f.denotes (Document-set ds (document parts)) (λ d. same_held bytes x.0 (document_tree parts) ds (document parts) x.1 d x.2 f.holds)))
+
+-- ---- the file of a commit is opened
+not_bad : (a b c d : Bool) (t : Took) → unless a Busy (unless b WrongState (unless c Full (unless d NumbersSpent (Ok t)))) ≢ Err BadFile
+not_bad true b c d t = λ e. cc
+not_bad false true c d t = λ e. cc
+not_bad false false true d t = λ e. cc
+not_bad false false false true t = λ e. cc
+not_bad false false false false t = λ e. cc
+
+good_document : (u : Record) (name : List ℕ) (w h : ℕ) (ds : List DocObject) → is_document ds ≡ true → opened u name w h (Given.Holding ds) ≢ Err BadFile
+good_document u name w h ds within = rw within (not_bad (is_named name u.frames) (not (is_size w h)) _ _ (opened_made u name w h ds))
+
+-- what the new frame has
+others_out : (u : Record) (os ps : List Object) → AllByRecursion (SteadyObject u) os → parts_in (length u.frames + 1) (os ++ ps) ≡ parts_in (length u.frames + 1) ps
+others_out u [] ps h = refl
+others_out u (o ∷ os) ps h = rw (ne_eqb o.frame (length u.frames + 1) (elsewhere u o h.0)) (others_out u os ps h.1)
+
+new_in : (last f : ℕ) (ds : List DocObject) → document (parts_in f (opened_objects last f ds)) ≡ ds
+new_in last f [] = refl
+new_in last f (d ∷ ds) = rw (eq-eqb f f refl) (ap (λ (es : List DocObject). d ∷ es) (new_in (last + 1) f ds))
+
+pub commits-are_opened_again : CommitsAreOpenedAgain
+commits-are_opened_again r u f parts bytes name w h given image file read steady =
+    let is : given ≡ Given.Holding (document parts) = files-give_theirs bytes parts given file read in
+    record {
+      good = subst (λ (g : Given). opened u name w h g ≢ Err BadFile) (sym is) (good_document u name w h (document parts) (held-is_within (document_tree parts) (document parts) file.holds));
+      again = λ t e.
+          (let o = is_opened u name w h given t e in
+          let same : ◌≡◌ {A = Given} (Given.Holding o.ds) (Given.Holding (document parts)) = sym o.holds ∙ is in
+          let theirs : o.ds ≡ document parts = cc in
+          let n : ℕ = length u.frames + 1 in
+          ap (λ (z : Took). document (parts_in n z.rec.objects)) (sym o.made)
+          ∙ (ap document (others_out u u.objects (opened_objects u.last_object n o.ds) steady.objects)
+          ∙ (new_in u.last_object n o.ds ∙ theirs)));
+    }

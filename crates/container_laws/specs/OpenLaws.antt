@@ -1,0 +1,37 @@
+-- What files give, and that the file of a commit gives its objects again.
+use Rattle.std.specs.Prelude.{◌≡◌, ◌≢◌, ◌+◌, ◌++◌, ℕ, true, List, length, Option, Some, Ok, Err}
+use Rattle.storage_tree.specs.Tree.{Tree}
+use Rattle.file_model.specs.Denotes.{Denotes}
+use Rattle.document_model.specs.DocOf.{DocOf}
+use Rattle.document_model.specs.declared.object.DocObject.{DocObject}
+use Rattle.container_model.specs.declared.answer.Part.{Part}
+use Rattle.container_model.specs.declared.fault.ContainerFault.TheVariants.{BadFile}
+use Rattle.container_model.specs.Record.{Record, Took}
+use Rattle.container_model.specs.Saves.{document, document_tree, image, is_document, parts_in}
+use Rattle.container_model.specs.Opens.{Given, IsReadAs, opened}
+use Rattle.container_steady.specs.Steady.{Steady}
+
+-- What a tree holds is a document within its limits.
+abbrev pub HeldIsWithin : Type 0
+HeldIsWithin = (t : Tree) (ds : List DocObject) → DocOf t ds → is_document ds ≡ true
+
+-- A file gives one thing.
+abbrev pub FilesGiveOne : Type 0
+FilesGiveOne = (file : Option (List ℕ)) (given other : Given) → IsReadAs file given → IsReadAs file other → given ≡ other
+
+-- Bytes are the file of a document.
+pub record IsFileOf (bytes : List ℕ) (parts : List Part) : Type 0 where
+  pub denotes : ∥ Denotes bytes (document_tree parts) ∥₁
+  pub holds : DocOf (document_tree parts) (document parts)
+
+-- The file of a document gives it.
+abbrev pub FilesGiveTheirs : Type 0
+FilesGiveTheirs = (bytes : List ℕ) (parts : List Part) (given : Given) → IsFileOf bytes parts → IsReadAs (Some bytes) given → given ≡ Given.Holding (document parts)
+
+-- So it is never a bad file, and where it is opened, what the new frame has is that document again.
+pub record IsOpenedAgain (u : Record) (name : List ℕ) (w h : ℕ) (given : Given) (parts : List Part) : Type 0 where
+  pub good : opened u name w h given ≢ Err BadFile
+  pub again : (t : Took) → opened u name w h given ≡ Ok t → document (parts_in (length u.frames + 1) t.rec.objects) ≡ document parts
+
+abbrev pub CommitsAreOpenedAgain : Type 0
+CommitsAreOpenedAgain = (r u : Record) (f : ℕ) (parts : List Part) (bytes name : List ℕ) (w h : ℕ) (given : Given) → image r f ≡ Ok parts → IsFileOf bytes parts → IsReadAs (Some bytes) given → Steady u → IsOpenedAgain u name w h given parts

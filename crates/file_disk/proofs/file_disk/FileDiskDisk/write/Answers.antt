@@ -1,0 +1,7 @@
+use Rattle.file_disk.proofs.file_disk.FileDiskDisk.write.Goals as goal
+
+pub invariant_of-self : goal.invariant_of-self
+invariant_of-self g c = record { sound = λ is. c.write_whole.ensures.sound.sound (c.args.self.now.sound is); named = λ is. c.write_whole.ensures.sound.named (c.args.self.now.named is) }
+
+pub invariant_of-self-in-Err : goal.invariant_of-self-in-Err
+invariant_of-self-in-Err g c = record { sound = λ is. c.write_whole.ensures.sound.sound (c.args.self.now.sound is); named = λ is. c.write_whole.ensures.sound.named (c.args.self.now.named is) }

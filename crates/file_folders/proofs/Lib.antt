@@ -1,0 +1,5 @@
+pub mod Bytes
+pub mod Components
+pub mod Folded
+pub mod Planned
+pub mod Adding

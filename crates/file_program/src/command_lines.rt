@@ -1,0 +1,98 @@
+//! The command lines of the commands between files and folders, and the help that they print.
+
+use clap::{Arg, ArgAction, Command};
+use program_ends::command_lines;
+pub use program_ends::command_lines::FILE;
+use std::alloc::{AllocError, Global};
+
+/// The names of the command and of its other arguments.
+pub const EXTRACT: &str = "extract";
+
+pub const PACK: &str = "pack";
+
+pub const FOLDER: &str = "folder";
+
+pub const FORCE: &str = "force";
+
+const ABOUT_EXTRACT: &str =
+    "Makes a folder of a compound file: a folder for each storage, a file for each stream";
+
+const ABOUT_PACK: &str = "Makes a compound file of a folder: extract the other way round";
+
+const FOLDERS: &str =
+    "Names are spelled as list prints them, and a dot at a name's end as \\2e, so that none leads
+out of FOLDER. A storage whose class id or state bits aren't zero has them in a file !storage
+of its folder; no stream has such a name. FOLDER is made if it isn't there.
+
+What stands in FOLDER already is left as it was, and stops the command, unless --force is
+given: then a file or a link of such a name is replaced, and a folder is taken as it is. How
+many folders and files were made is printed, FOLDER among them, also where it was stopped:
+then these are the first in the order in which list prints them.
+
+Example: olecon extract mail.msg mail";
+
+const PACKED: &str =
+    "Each folder in FOLDER becomes a storage and each file a stream, under the names that extract
+spells so: a backslash and two lower-case hexadecimal digits are a byte up to 32, 127 or a dot.
+A file !storage of a folder has the class id and the state bits of its storage, which are zero
+without it. Links, and what is neither a folder nor a file, are refused.
+
+FILE is replaced only once all of it is written; until then the old one stays as it was.
+
+Example: olecon pack mail mail.msg";
+
+fn file_argument<'a>(alloc: Global, help: &'a str) -> Arg<'a> {
+    Arg::new(alloc, FILE)
+        .value_name("FILE")
+        .help(help)
+        .required(true)
+}
+
+fn folder_argument<'a>(alloc: Global, help: &'a str) -> Arg<'a> {
+    Arg::new(alloc, FOLDER)
+        .value_name("FOLDER")
+        .help(help)
+        .required(true)
+}
+
+fn force_argument<'a>(alloc: Global) -> Arg<'a> {
+    Arg::new(alloc, FORCE)
+        .long(FORCE)
+        .help("Replaces what stands in FOLDER under such a name")
+        .action(ArgAction::SetTrue)
+}
+
+fn extract_command<'a>(alloc: Global) -> Result<Command<'a>, AllocError> {
+    Command::new(alloc, EXTRACT)
+        .about(ABOUT_EXTRACT)
+        .after_help(FOLDERS)
+        .arg(file_argument(alloc, "The file to read"))?
+        .arg(folder_argument(alloc, "The folder to make"))?
+        .arg(force_argument(alloc))
+}
+
+fn pack_command<'a>(alloc: Global) -> Result<Command<'a>, AllocError> {
+    Command::new(alloc, PACK)
+        .about(ABOUT_PACK)
+        .after_help(PACKED)
+        .arg(folder_argument(alloc, "The folder to read"))?
+        .arg(file_argument(alloc, "The file to write"))
+}
+
+/// Adds the command that this makes.
+fn with_command<'a>(
+    program: Command<'a>,
+    command: Result<Command<'a>, AllocError>,
+) -> Result<Command<'a>, AllocError> {
+    program.subcommand(command?)
+}
+
+/// The command line of the program `olecon` with its commands over files: `make`, `list`, `get`, `clean`, `extract` and
+/// `pack`. A program with more commands adds them. `Task::of` tells what a parsed one asks for.
+///
+/// Refused for want of memory alone.
+pub fn command_line<'a>(alloc: Global) -> Result<Command<'a>, AllocError> {
+    let files = command_lines::command_line(alloc);
+    let extracts = with_command(files?, extract_command(alloc));
+    with_command(extracts?, pack_command(alloc))
+}

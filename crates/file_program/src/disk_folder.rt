@@ -1,0 +1,136 @@
+//! Folders of a system.
+
+use file_folders::folder::{Folder, FolderFault};
+use file_folders::notes::{NOTES, is_plain, notes};
+use file_folders::plan::{Content, Entry};
+use std::alloc::{AllocError, Global};
+use std::fs::{self, OpenOptions};
+use std::io::{self, ErrorKind, Write};
+use std::rt::Files;
+use storage_tree::class_id::ClassId;
+
+/// A folder of a system in which entries are made. Each folder below it is made new, and each file too, so no link that
+/// stands in it is followed, unless what stands there is to be replaced: then a folder that is none by a link is taken as it
+/// is, and a file or a link is removed before a new file is made.
+#[derive(Drop)]
+pub struct DiskFolder<'a, R: Files + AllocGlobal> {
+    rt: &'a R,
+    path: &'a str,
+    is_forced: bool,
+}
+
+impl<'a, R: Files + AllocGlobal> DiskFolder<'a, R> {
+    /// The folder of this path, and whether what stands there is to be replaced.
+    pub fn new(rt: &'a R, path: &'a str, is_forced: bool) -> DiskFolder<'a, R> {
+        DiskFolder {
+            rt,
+            path,
+            is_forced,
+        }
+    }
+
+    /// Makes a folder at a path; the folder itself may be there.
+    fn make_folder(&self, path: &str, is_top: bool) -> Result<(), FolderFault> {
+        match fs::create_dir(self.rt, path) {
+            Ok(()) => Ok(()),
+            Err(error) if error.kind() == ErrorKind::AlreadyExists => {
+                if self.may_take(path, is_top) {
+                    Ok(())
+                } else {
+                    Err(FolderFault::Exists)
+                }
+            }
+            Err(_) => Err(FolderFault::Unwritable),
+        }
+    }
+
+    /// Whether a folder that stands at a path is taken as it is. The folder itself may be one by a link.
+    fn may_take(&self, path: &str, is_top: bool) -> bool {
+        if is_top {
+            return match fs::metadata(self.rt, path) {
+                Ok(about) => about.is_dir(),
+                Err(_) => false,
+            };
+        }
+        match fs::symlink_metadata(self.rt, path) {
+            Ok(about) => self.is_forced && about.is_dir(),
+            Err(_) => false,
+        }
+    }
+
+    /// Writes what a folder tells of its storage.
+    fn tell(&self, path: &str, class: &ClassId, state: u32) -> Result<(), FolderFault> {
+        let alloc = self.rt.alloc();
+        let Ok(file) = format!(in alloc; "{path}/{NOTES}") else {
+            return Err(FolderFault::NoMemory);
+        };
+        if is_plain(class, state) {
+            self.clear(file.as_str());
+            return Ok(());
+        }
+        match notes(alloc, class, state) {
+            Ok(text) => self.make_file(file.as_str(), &text),
+            Err(_) => Err(FolderFault::NoMemory),
+        }
+    }
+
+    /// Writes a new file at a path.
+    fn make_file(&self, path: &str, bytes: &[u8]) -> Result<(), FolderFault> {
+        self.clear(path);
+        match create_new(self.rt, path) {
+            Ok(mut file) => match write(&mut file, bytes) {
+                Ok(()) => Ok(()),
+                Err(_) => {
+                    let _ = fs::remove_file(self.rt, path);
+                    Err(FolderFault::Unwritable)
+                }
+            },
+            Err(error) if error.kind() == ErrorKind::AlreadyExists => Err(FolderFault::Exists),
+            Err(_) => Err(FolderFault::Unwritable),
+        }
+    }
+
+    /// Removes the file or the link at a path, where what stands there is to be replaced. What can't be removed is met where
+    /// the new file is made.
+    fn clear(&self, path: &str) {
+        if self.is_forced {
+            let _ = fs::remove_file(self.rt, path);
+        }
+    }
+}
+
+fn create_new<R: Files>(rt: &R, path: &str) -> io::Result<R::File> {
+    OpenOptions::new()
+        .write(true)
+        .create_new(true)
+        .open(rt, path)
+}
+
+fn write<W: Write>(file: &mut W, bytes: &[u8]) -> io::Result<()> {
+    file.write_all(bytes)?;
+    file.flush()
+}
+
+/// The path of what has this path in a folder.
+pub(crate) fn path_in(alloc: Global, folder: &str, path: &[u8]) -> Result<String, AllocError> {
+    match str::from_utf8(path) {
+        Ok(path) if !path.is_empty() => format!(in alloc; "{folder}/{path}"),
+        _ => String::from_str(alloc, folder),
+    }
+}
+
+impl<'a, R: Files + AllocGlobal> Folder for DiskFolder<'a, R> {
+    fn make(&mut self, entry: &Entry) -> Result<(), FolderFault> {
+        let spelled = entry.path.as_bytes();
+        let Ok(path) = path_in(self.rt.alloc(), self.path, spelled) else {
+            return Err(FolderFault::NoMemory);
+        };
+        match &entry.content {
+            Content::Folder(class, state) => {
+                self.make_folder(path.as_str(), spelled.is_empty())?;
+                self.tell(path.as_str(), class, *state)
+            }
+            Content::File(bytes) => self.make_file(path.as_str(), bytes.as_slice()),
+        }
+    }
+}

@@ -1,0 +1,56 @@
+//! Making folders of files.
+
+use crate::disk_folder::{DiskFolder, path_in};
+use folder_commands::extracting::extract_file;
+use folder_commands::fault::{ExtractFault, Stop};
+use program_ends::ends::refuse;
+use std::fs;
+use std::process::ExitCode;
+use std::rt::Runtime;
+use texts::report::{Report, STANDARD};
+
+/// Makes a folder of a file.
+pub fn extract<R: Runtime + AllocGlobal>(
+    rt: &R,
+    path: &str,
+    folder: &str,
+    is_forced: bool,
+) -> ExitCode {
+    let Ok(mut source) = fs::open(rt, path) else {
+        return refuse(rt, &Report::File(path, "Unreadable"));
+    };
+    let mut made = DiskFolder::new(rt, folder, is_forced);
+    match extract_file(rt.alloc(), &mut source, &mut made) {
+        Ok(count) => tell(rt, count, ExitCode::SUCCESS),
+        Err(stop) => stopped(rt, path, folder, &stop),
+    }
+}
+
+/// Prints how many folders and files were made, and gives the status to end with.
+fn tell<R: Runtime>(rt: &R, count: usize, code: ExitCode) -> ExitCode {
+    match println!(rt; "{count} made") {
+        Ok(()) => code,
+        Err(_) => refuse(rt, &Report::File(STANDARD, "Unwritable")),
+    }
+}
+
+/// Tells what was made of a file before it was stopped, and why it was.
+fn stopped<R: Runtime + AllocGlobal>(rt: &R, path: &str, folder: &str, stop: &Stop) -> ExitCode {
+    match &stop.fault {
+        ExtractFault::Input(fault) => refuse(rt, &Report::File(path, fault.name())),
+        ExtractFault::Read(fault) => refuse(rt, &Report::File(path, fault.name())),
+        ExtractFault::NoMemory => refuse(rt, &Report::File(path, "NoMemory")),
+        ExtractFault::Entry(at, fault) => match path_in(rt.alloc(), folder, at.as_bytes()) {
+            Ok(at) => tell(
+                rt,
+                stop.made,
+                refuse(rt, &Report::File(at.as_str(), fault.name())),
+            ),
+            Err(_) => tell(
+                rt,
+                stop.made,
+                refuse(rt, &Report::File(folder, fault.name())),
+            ),
+        },
+    }
+}

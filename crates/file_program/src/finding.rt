@@ -1,0 +1,268 @@
+//! What stands in a folder of a system.
+
+use cfb_names::name::Name;
+use file_folders::notes::NOTES;
+use file_folders::plan::Content;
+use folder_packing::names::read_component;
+use folder_packing::notes::read_notes;
+use folder_packing::packing::Found;
+use std::alloc::{AllocError, Global};
+use std::fs::{self, DirEntry};
+use std::io::ErrorKind;
+use std::rt::Runtime;
+use storage_tree::bytes::Bytes;
+use storage_tree::class_id::ClassId;
+use texts::input::read_all;
+
+/// How many folders are looked into.
+const MOST_FOLDERS: u32 = 1_000_000;
+
+/// How many bytes the files may have together: no compound file that is written has more.
+const MOST_BYTES: u64 = 134_217_728;
+
+/// What stands in a folder, and what it tells of the root.
+#[derive(Drop)]
+pub(crate) struct Whole {
+    pub class: ClassId,
+    pub state: u32,
+    pub found: Vec<Found>,
+}
+
+/// Why a folder isn't read: the path at which it was stopped, and the fault's name.
+#[derive(Drop)]
+pub(crate) struct Refusal {
+    pub path: String,
+    pub fault: &'static str,
+}
+
+/// A folder that is still to be looked into: its path, and the names of its storage.
+#[derive(Drop)]
+struct Pending {
+    path: String,
+    names: Vec<Name>,
+}
+
+/// What is looked for.
+#[derive(Drop)]
+struct Search {
+    found: Vec<Found>,
+    pending: Vec<Pending>,
+    bytes: u64,
+}
+
+const NO_MEMORY: &str = "NoMemory";
+
+const UNREADABLE: &str = "Unreadable";
+
+/// All that stands in a folder, each storage before what it holds.
+pub(crate) fn find_all<R: Runtime + AllocGlobal>(rt: &R, folder: &str) -> Result<Whole, Refusal> {
+    let alloc = rt.alloc();
+    let mut search = Search {
+        found: Vec::new(alloc),
+        pending: Vec::new(alloc),
+        bytes: 0,
+    };
+    let told = match told_of(rt, folder) {
+        Ok(told) => told,
+        Err(fault) => return Err(refused_at(alloc, folder, fault)),
+    };
+    if begin(alloc, &mut search, folder).is_err() {
+        return Err(refused_at(alloc, folder, NO_MEMORY));
+    }
+    for _ in 0..MOST_FOLDERS {
+        let Some(next) = search.pending.pop() else {
+            return Ok(Whole {
+                class: told.0,
+                state: told.1,
+                found: search.found,
+            });
+        };
+        look_into(rt, &mut search, &next)?;
+    }
+    Err(refused_at(alloc, folder, "TooBig"))
+}
+
+/// The refusal at a path; without memory for that, one of no path.
+fn refused_at(alloc: Global, path: &str, fault: &'static str) -> Refusal {
+    match String::from_str(alloc, path) {
+        Ok(path) => Refusal { path, fault },
+        Err(_) => Refusal {
+            path: String::new(alloc),
+            fault: NO_MEMORY,
+        },
+    }
+}
+
+fn begin(alloc: Global, search: &mut Search, folder: &str) -> Result<(), AllocError> {
+    search.pending.push(Pending {
+        path: String::from_str(alloc, folder)?,
+        names: Vec::new(alloc),
+    })?;
+    Ok(())
+}
+
+/// Takes all that stands in one folder.
+fn look_into<R: Runtime + AllocGlobal>(
+    rt: &R,
+    search: &mut Search,
+    folder: &Pending,
+) -> Result<(), Refusal> {
+    let alloc = rt.alloc();
+    let Ok(entries) = fs::read_dir(rt, folder.path.as_str()) else {
+        return Err(refused_at(alloc, folder.path.as_str(), UNREADABLE));
+    };
+    for entry in entries {
+        let Ok(entry) = entry else {
+            return Err(refused_at(alloc, folder.path.as_str(), UNREADABLE));
+        };
+        if let Err(fault) = take(rt, search, &folder.names, &entry) {
+            return Err(refused_at(alloc, entry.path().as_str(), fault));
+        }
+    }
+    Ok(())
+}
+
+/// Takes what stands under a name of a folder.
+fn take<R: Runtime + AllocGlobal>(
+    rt: &R,
+    search: &mut Search,
+    within: &[Name],
+    entry: &DirEntry<R, Global>,
+) -> Result<(), &'static str> {
+    if entry.file_name() == NOTES {
+        return Ok(());
+    }
+    let Ok(kind) = entry.file_type() else {
+        return Err(UNREADABLE);
+    };
+    let path = path_of(rt.alloc(), within, entry.file_name())?;
+    if kind.is_dir() {
+        take_folder(rt, search, path, entry.path().as_str())
+    } else if kind.is_file() {
+        take_file(rt, search, path, entry.path().as_str())
+    } else {
+        Err("NotAFile")
+    }
+}
+
+/// The names of what stands under a name of a folder.
+fn path_of(alloc: Global, within: &[Name], text: &str) -> Result<Vec<Name>, &'static str> {
+    let name = name_of(alloc, text)?;
+    match behind(alloc, within, name) {
+        Ok(path) => Ok(path),
+        Err(_) => Err(NO_MEMORY),
+    }
+}
+
+fn name_of(alloc: Global, text: &str) -> Result<Name, &'static str> {
+    let mut buffer = Vec::new(alloc);
+    match read_component(&mut buffer, text.as_bytes()) {
+        Ok(true) => match Name::new(&buffer) {
+            Ok(name) => Ok(name),
+            Err(fault) => Err(fault.name()),
+        },
+        Ok(false) => Err("Bad"),
+        Err(_) => Err(NO_MEMORY),
+    }
+}
+
+fn behind(alloc: Global, within: &[Name], name: Name) -> Result<Vec<Name>, AllocError> {
+    let mut path = Vec::new(alloc);
+    for above in within {
+        path.push(above.copy())?;
+    }
+    path.push(name)?;
+    Ok(path)
+}
+
+/// Takes a folder, which is to be looked into then.
+fn take_folder<R: Runtime + AllocGlobal>(
+    rt: &R,
+    search: &mut Search,
+    path: Vec<Name>,
+    place: &str,
+) -> Result<(), &'static str> {
+    let (class, state) = told_of(rt, place)?;
+    match add_folder(
+        rt.alloc(),
+        search,
+        path,
+        place,
+        Content::Folder(class, state),
+    ) {
+        Ok(()) => Ok(()),
+        Err(_) => Err(NO_MEMORY),
+    }
+}
+
+fn add_folder(
+    alloc: Global,
+    search: &mut Search,
+    path: Vec<Name>,
+    place: &str,
+    content: Content,
+) -> Result<(), AllocError> {
+    let mut names = Vec::new(alloc);
+    for name in &path {
+        names.push(name.copy())?;
+    }
+    search.pending.push(Pending {
+        path: String::from_str(alloc, place)?,
+        names,
+    })?;
+    search.found.push(Found { path, content })?;
+    Ok(())
+}
+
+/// Takes a file.
+fn take_file<R: Runtime + AllocGlobal>(
+    rt: &R,
+    search: &mut Search,
+    path: Vec<Name>,
+    place: &str,
+) -> Result<(), &'static str> {
+    let bytes = bytes_of(rt, place)?;
+    search.bytes = search.bytes.saturating_add(bytes.len() as u64);
+    if search.bytes > MOST_BYTES {
+        return Err("TooBig");
+    }
+    let Ok(bytes) = Bytes::from_vec(rt.alloc(), bytes) else {
+        return Err(NO_MEMORY);
+    };
+    match search.found.push(Found {
+        path,
+        content: Content::File(bytes),
+    }) {
+        Ok(()) => Ok(()),
+        Err(_) => Err(NO_MEMORY),
+    }
+}
+
+/// The bytes of a file.
+fn bytes_of<R: Runtime + AllocGlobal>(rt: &R, place: &str) -> Result<Vec<u8>, &'static str> {
+    let Ok(mut file) = fs::open(rt, place) else {
+        return Err(UNREADABLE);
+    };
+    match read_all(rt.alloc(), &mut file) {
+        Ok(bytes) => Ok(bytes),
+        Err(fault) => Err(fault.name()),
+    }
+}
+
+/// The class id and state bits that a folder tells of its storage: zeros where it has no file that does.
+fn told_of<R: Runtime + AllocGlobal>(rt: &R, folder: &str) -> Result<(ClassId, u32), &'static str> {
+    let alloc = rt.alloc();
+    let Ok(place) = format!(in alloc; "{folder}/{NOTES}") else {
+        return Err(NO_MEMORY);
+    };
+    match fs::symlink_metadata(rt, place.as_str()) {
+        Ok(_) => match read_notes(&bytes_of(rt, place.as_str())?) {
+            Some(told) => Ok(told),
+            None => Err("Bad"),
+        },
+        Err(error) if error.kind() == ErrorKind::NotFound => {
+            Ok((ClassId::from_bytes([0; 16]), 0))
+        }
+        Err(_) => Err(UNREADABLE),
+    }
+}

@@ -1,0 +1,28 @@
+//! Why a folder isn't made.
+
+use file_folders::folder::FolderFault;
+use file_folders::path::FolderPath;
+use stream_io::fault::ReadFault;
+use texts::input::InputFault;
+
+/// Why a file isn't made into a folder.
+#[derive(Drop)]
+pub enum ExtractFault {
+    /// The file isn't read whole.
+    Input(InputFault),
+    /// The bytes denote no tree.
+    Read(ReadFault),
+    /// No memory was left before anything was made.
+    NoMemory,
+    /// What has this path in the folder isn't made.
+    Entry(FolderPath, FolderFault),
+}
+
+/// Where it was stopped.
+#[derive(Drop)]
+pub struct Stop {
+    /// How many folders and files were made before, the folder itself among them.
+    pub made: usize,
+    /// Why it was stopped.
+    pub fault: ExtractFault,
+}
