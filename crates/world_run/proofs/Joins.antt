@@ -7,6 +7,7 @@ use Rattle.wire_msgs.specs.declared.message.Message.{Message}
 use Rattle.container_model.specs.Record.{Took}
 use Rattle.container_model.specs.Commands.{on_command}
 use Rattle.container_model.specs.Messages.{on_message, on_reap}
+use Rattle.container_model.specs.Opens.{Given, opened}
 use Rattle.container_model.specs.Saves.{image, commit_done, resolve}
 use Rattle.container_model.specs.declared.answer.Part.{Part}
 use Rattle.container_model.specs.declared.command.Command.{Command}
@@ -22,6 +23,7 @@ use Rattle.world_host.specs.Logging.{heard, heard_as, brought}
 use Rattle.world_host.specs.Servers.{ends_by, ends_in, ends_of}
 use Rattle.world_host.specs.View.{started}
 use Rattle.world_host.proofs.Joins.{ends_same, none_ended}
+use Rattle.world_host.proofs.Opening.{opens_end_none}
 use Rattle.world_run.proofs.Lifts.{emptied}
 
 -- a world whose servers were told of, with those that ended and started
@@ -91,6 +93,10 @@ only_lifted w b (Ok t) numbers ends starts h e = limit_lifted w b w t (nat_le MO
 pub command_taken : (w b v : World) (c : Command) (numbers : ℕ) (ends starts : List ℕ) → nat_le MOST_EVENTS (length w.answers) ≡ false → commanded (emptied w) c (on_command w.rec c) ≡ started b numbers starts → ends ≡ ends_in (on_command w.rec c)
     → v ≡ finished w b numbers ends starts → limited w (Ok (commanded w c (on_command w.rec c))) ≡ Ok v
 command_taken w b v c numbers ends starts room h e is = free w _ room ∙ ap Ok (commanded_lifted w b c (on_command w.rec c) numbers ends starts h e ∙ sym is)
+
+pub open_taken : (w b v : World) (name : List ℕ) (x y : ℕ) (given : Given) (numbers : ℕ) (ends starts : List ℕ) → nat_le MOST_EVENTS (length w.answers) ≡ false → took (emptied w) (opened w.rec name x y given) ≡ started b numbers starts → ends ≡ []
+    → v ≡ finished w b numbers ends starts → limited w (Ok (took w (opened w.rec name x y given))) ≡ Ok v
+open_taken w b v name x y given numbers ends starts room h e is = free w _ room ∙ ap Ok (took_lifted w b (opened w.rec name x y given) numbers ends starts h (e ∙ sym (opens_end_none w.rec name x y given)) ∙ sym is)
 
 pub told_taken : (w b v : World) (p inc : ℕ) (m : Message) (numbers : ℕ) (ends starts : List ℕ) → nat_le MOST_EVENTS (length w.answers) ≡ false → heard (emptied w) p inc m ≡ started b numbers starts → ends ≡ ends_in (on_message w.rec inc m)
     → v ≡ finished w b numbers ends starts → limited w (Ok (heard w p inc m)) ≡ Ok v

@@ -17,6 +17,7 @@ use container_model::command::Command;
 use embed_core::embedded::Embedded;
 use server_core::server::ServerCore;
 use std::alloc::Global;
+use storage_tree::bytes::Bytes;
 use wire_msgs::message::Message;
 use world_host::container::Limits;
 use world_host::host::{Host, Servers, add};
@@ -277,6 +278,31 @@ impl State {
         }
     }
 
+    // A file is opened.
+    fn open_file(
+        &mut self,
+        alloc: Global,
+        name: &Bytes,
+        width: u16,
+        height: u16,
+    ) -> Result<(), Stop>
+        ensures taken { OnOk result ((choice : Choice) × IsImage (seen (λ s. content s.boxed) self.old) choice (event.Open name.now width height) × (step (seen (λ s. content s.boxed) self.old) choice (event.Open name.now width height) ≡ Ok (seen (λ s. content s.boxed) self.new))) }
+        ensures refused { IfErr result (StopsAt (seen (λ s. content s.boxed) self.old) (event.Open name.now width height)) }
+        ensures kept { OnErr result (seen (λ s. content s.boxed) self.new ≡ seen (λ s. content s.boxed) self.old) }
+    {
+        self.host.open()?;
+        if self.instances.reserve(self.host.most()).is_err() {
+            return Err(Stop::NoMemory);
+        }
+        match self.host.open_file(alloc, name, width, height) {
+            Ok(servers) => {
+                self.finish(alloc, servers);
+                Ok(())
+            }
+            Err(_) => Err(Stop::NoMemory),
+        }
+    }
+
     // The state of an activation of the server that stands at i.
     pub(crate) fn view(&self, i: usize, act: u32) -> Option<View>
         requires { i < length self.now.instances.items }
@@ -309,6 +335,7 @@ impl State {
                 true => self.keep(alloc, *f),
                 false => self.lose(alloc, *f),
             },
+            Event::Open(name, width, height) => self.open_file(alloc, name, *width, *height),
             Event::Scribble(inc, act) => self.scribble(alloc, *inc, *act),
             Event::Ask(inc, act) => self.ask(alloc, *inc, *act),
         }
