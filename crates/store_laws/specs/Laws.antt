@@ -1,0 +1,16 @@
+-- Laws between the store's limit and the files that the writer makes.
+use Rattle.std.specs.Prelude.{◌≡◌, ◌≤◌, ℕ, List, length, Ok}
+use Rattle.storage_tree.specs.Tree.{Tree}
+use Rattle.file_model.specs.Denotes.{Denotes}
+use Rattle.file_model.specs.Limits.{MOST_BYTES}
+use Rattle.file_model.specs.Refusals.{writable}
+use Rattle.file_writer.specs.Laid.{IsLaidOut}
+use Rattle.store_model.specs.declared.limit.TheConstants.{MAX_DOCUMENT}
+
+-- What a store takes is what a file can have: its header, and a sector for each entry of the greatest FAT.
+abbrev pub LimitIs : Type 0
+LimitIs = MAX_DOCUMENT ≡ MOST_BYTES
+
+-- No file that the writer lays out is longer than that. The premises are what the writer says of a file.
+abbrev pub FilesAreTaken : Type 0
+FilesAreTaken = (t : Tree) (file : List ℕ) → ∥ Denotes file t ∥₁ → IsLaidOut t file → writable t ≡ Ok tt → length file ≤ MAX_DOCUMENT
