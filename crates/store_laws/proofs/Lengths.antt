@@ -1,10 +1,11 @@
 -- How long a file is that is laid out of a tree.
 use Rattle.std.proofs.Common.{◌≡◌, ◌<◌, ◌≤◌, ◌+◌, ◌-◌, ◌*◌, ℕ, zero, suc, Bool, true, false, List, [], ◌∷◌, ◌++◌, min, length, drop, replicate, Result, Ok, Err, cond, nat_lt, inl, inr, refl, ◌∙◌, ap, arith, length-append, length-drop, lit≤}
 use Rattle.std.proofs.Math.Logic.{∥∥₁_elim}
-use Rattle.std.proofs.lemmas.Bool.{cases_lt, lt-ltb}
+use Rattle.std.proofs.lemmas.Bool.{cases_lt, le-ltb, lt-ltb}
 use Rattle.std.proofs.lemmas.List.{length-take}
 use Rattle.std.proofs.lemmas.List.FromFn.{length-range_with_len}
 use Rattle.std.specs.List.{concat, sum}
+use Rattle.std.specs.Prelude.{if◌then◌else◌}
 use Rattle.cfb_chain.specs.Header.{header_bytes}
 use Rattle.cfb_chain.proofs.Blocks.{length_block}
 use Rattle.cfb_chain.proofs.Written.{length_written}
@@ -13,12 +14,12 @@ use Rattle.cfb_directory.specs.Written.{entry_bytes, free_entry_bytes}
 use Rattle.cfb_directory.specs.declared.write.EntryFields.{EntryFields}
 use Rattle.cfb_directory.proofs.Fields.{length-entry_bytes, length-free_entry_bytes}
 use Rattle.storage_tree.specs.Tree.{Tree, Children, tree, none, stream, storage}
-use Rattle.storage_tree.specs.Whole.{AreTrees, IsTree}
+use Rattle.storage_tree.specs.Whole.{AreTrees, IsNamed, IsTree}
 use Rattle.file_model.specs.Denotes.{Denotes, Holds, HoldsEach, Layout, Used, directory_of, entry}
 use Rattle.file_model.specs.Directory.{Siblings, balanced, class_in, each_entry, entries_below, ids_from, long_start, parts_of, root_says, short_streams, storage_says, stream_says}
 use Rattle.file_model.specs.Image.{Parts, behind_fat, difat_numbers, image, own_entries, pieces_of, runs, table_bytes, whole_pieces}
 use Rattle.file_model.specs.Limits.{MOST_FAT_SECTORS}
-use Rattle.file_model.specs.Need.{data_sectors, difat_sectors, directory_sectors, entries, entries_of, fat_sectors, long_pieces, long_sectors, mini_fat_sectors, mini_sectors, mini_stream_sectors, short_pieces}
+use Rattle.file_model.specs.Need.{data_sectors, difat_sectors, directory_sectors, entries, entries_of, fat_sectors, long_pieces, long_sectors, mini_fat_sectors, mini_sectors, mini_stream_sectors, pieces, short_pieces}
 use Rattle.file_model.specs.Refusals.{writable}
 use Rattle.file_model.specs.declared.fault.WriteFault.{WriteFault}
 use Rattle.file_model.specs.declared.fault.WriteFault.TheVariants.{TooBig}
@@ -30,7 +31,8 @@ use Rattle.file_model.proofs.ListsLaid.{length-difat}
 use Rattle.file_model.proofs.Placed.{header_value, length-own}
 use Rattle.file_model.proofs.PlacedParts.{IsJoined, joined_parts}
 use Rattle.file_model.proofs.Tables.{length-numbers_bytes, length-runs, length-table_bytes, numbers_bytes}
-use Rattle.file_writer.specs.Laid.{IsLaidOut}
+use Rattle.file_writer.specs.Laid.{IsLaidOut, file_of}
+use Rattle.store_laws.specs.Laws.{LimitIsMet}
 use Rattle.store_model.specs.declared.limit.TheConstants.{MAX_DOCUMENT}
 
 -- class ids of 16 bytes
@@ -183,3 +185,62 @@ files-taken t file denotes laid taken =
       | inl more ↦ absurd (∥∥₁_elim denotes ⊥_prop (λ (d : Denotes file t). clash MAX_DOCUMENT (length file) more (length-laid t file d laid taken)))
       | inr within ↦ within
     ]
+
+-- a root with one stream that lies in sectors
+module _ (class k n b : List ℕ) (state : ℕ) (long : 4096 ≤ length b) where
+  abbrev one : Tree
+  one = tree class state (stream k n b none)
+
+  in-sectors : long_pieces b ≡ pieces 512 (length b)
+  in-sectors = ap (λ short. if short then 0 else pieces 512 (length b)) (le-ltb (length b) 4096 long)
+
+  in-minis : short_pieces b ≡ 0
+  in-minis = ap (λ short. if short then pieces 64 (length b) else 0) (le-ltb (length b) 4096 long)
+
+  data-one : data_sectors one ≡ 1 + pieces 512 (length b)
+  data-one = omega (arith, in-sectors, in-minis)
+
+  is-allowed : (f : ℕ) → fat_sectors (data_sectors one) ≡ f → ◌≡◌ {A = Result (Unit {0}) WriteFault} (writable one) (cond (nat_lt MOST_FAT_SECTORS f) (Err TooBig) (Ok tt))
+  is-allowed f e = ap (λ x. cond (nat_lt MOST_FAT_SECTORS x) (Err TooBig) (Ok tt)) e
+
+  length-one : length class ≡ 16 → IsNamed k n → length (file_of one) ≡ 512 * (1 + behind_fat (fat_sectors (data_sectors one)) + data_sectors one)
+  length-one has named =
+      length-image balanced (fat_sectors (data_sectors one)) one (named, tt, tt) (has, tt) (covers (data_sectors one))
+
+greatest-fat : (d : ℕ) → d ≡ 142867 → fat_sectors d ≡ 1125
+greatest-fat d e = ap fat_sectors e
+
+past-fat : (d : ℕ) → d ≡ 142868 → fat_sectors d ≡ 1126
+past-fat d e = ap fat_sectors e
+
+data-most : (d size : ℕ) → d ≡ 1 + pieces 512 size → size ≡ 73147392 → d ≡ 142867
+data-most d size e s = omega (arith, e, s)
+
+data-past : (d size : ℕ) → d ≡ 1 + pieces 512 size → size ≡ 73147393 → d ≡ 142868
+data-past d size e s = omega (arith, e, s)
+
+roomy : (size : ℕ) → size ≡ 73147392 → 4096 ≤ size
+roomy size s = omega (arith, s)
+
+past-roomy : (size : ℕ) → size ≡ 73147393 → 4096 ≤ size
+past-roomy size s = omega (arith, s)
+
+just : (d f length : ℕ) → d ≡ 142867 → f ≡ 1125 → length ≡ 512 * (1 + behind_fat f + d) → length ≡ MAX_DOCUMENT
+just d f length e g h = h ∙ (λ i. 512 * (1 + behind_fat (g i) + e i))
+
+pub limit-met : LimitIsMet
+limit-met = record {
+  most = λ class k n b state has named size.
+      let t : Tree = tree class state (stream k n b none) in
+      let d : data_sectors t ≡ 142867 = data-most (data_sectors t) (length b) (data-one class k n b state (roomy (length b) size)) size in
+      just (data_sectors t) (fat_sectors (data_sectors t)) (length (file_of t)) d (greatest-fat (data_sectors t) d)
+      (length-one class k n b state (roomy (length b) size) has named);
+  allowed = λ class k n b state size.
+      let t : Tree = tree class state (stream k n b none) in
+      let d : data_sectors t ≡ 142867 = data-most (data_sectors t) (length b) (data-one class k n b state (roomy (length b) size)) size in
+      is-allowed class k n b state (roomy (length b) size) 1125 (greatest-fat (data_sectors t) d);
+  refused = λ class k n b state size.
+      let t : Tree = tree class state (stream k n b none) in
+      let d : data_sectors t ≡ 142868 = data-past (data_sectors t) (length b) (data-one class k n b state (past-roomy (length b) size)) size in
+      is-allowed class k n b state (past-roomy (length b) size) 1126 (past-fat (data_sectors t) d);
+}
