@@ -9,9 +9,8 @@ use Rattle.world_model.specs.World.{World, empty_world, Run}
 use Rattle.world_model.specs.declared.event.Event.{Event}
 use Rattle.world_model.specs.declared.event.Stop.{Stop}
 use Rattle.event_texts.specs.Answers.{answer_lines, stop_line}
-use Rattle.event_texts.specs.Events.{events_read, line_read}
+use Rattle.event_texts.specs.Events.{RefusesEvents, events_read}
 use Rattle.texts.specs.Input.{MayRefuseInput}
-use Rattle.texts.specs.Lines.{RefusesText}
 use Rattle.container_cli.specs.declared.fault.SimulateFault.{SimulateFault}
 use Rattle.container_cli.specs.declared.fault.SimulateFault.TheVariants as simulate
 
@@ -52,6 +51,6 @@ pub record Simulates (numbers : ℕ) (stock : List Kind) (text : List ℕ) (stop
 -- When a text may be refused. What stands behind its reading can fail only where all its lines spell events.
 abbrev pub MayRefuseSimulate : List ℕ → SimulateFault → Type 0
 MayRefuseSimulate text (simulate.Input fault) = MayRefuseInput text fault
-MayRefuseSimulate text (simulate.Line n fault) = RefusesText line_read text (n, fault)
+MayRefuseSimulate text (simulate.Line n fault) = RefusesEvents text (n, fault)
 MayRefuseSimulate text simulate.NoMemory = IsOk (events_read text)
 MayRefuseSimulate text simulate.Unwritable = IsOk (events_read text)

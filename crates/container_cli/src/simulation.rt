@@ -8,11 +8,10 @@ ghost use Rattle.std.specs.Prelude.{◌≡◌, ◌<◌, ◌++◌, IfErr, IfOk, I
 
 use crate::fault::SimulateFault;
 use event_texts::answers::push_stop;
-use event_texts::events::Events;
+use event_texts::lines::parse_events;
 use std::alloc::{AllocError, Global};
 use std::io::{Read, Write};
 use texts::input::read_all;
-use texts::lines::parse_lines;
 use texts::output::write_all;
 use world_model::event::{Event, Stop};
 
@@ -27,7 +26,7 @@ pub fn read_events<R: Read>(alloc: Global, reader: &mut R) -> Result<Vec<Event>,
         Ok(text) => text,
         Err(fault) => return Err(SimulateFault::Input(fault)),
     };
-    match parse_lines::<Events>(alloc, &text) {
+    match parse_events(alloc, &text) {
         Ok(events) => Ok(events),
         Err((line, fault)) => Err(SimulateFault::Line(line, fault)),
     }

@@ -2,7 +2,7 @@
 use Rattle.std.proofs.Common.{◌≡◌, ℕ, List, [], ◌∷◌, true, false, None, bytes_eq, codes, cond, option_map, refl, ap}
 use Rattle.embed_core.specs.Words.{words, number_read}
 use Rattle.embed_core.proofs.Cuts.{pieces-known, pieces-joined}
-use Rattle.event_texts.specs.Events.{edit_of, edit_read, open_named, open_read, start_read}
+use Rattle.event_texts.specs.Events.{edit_of, edit_read, forge_named, forge_read, open_named, open_read, start_read}
 
 pub edit_read-rest : (o rest : List ℕ) → edit_read (o ∷ words rest) ≡ option_map (edit_of rest) (number_read o)
 edit_read-rest o rest =
@@ -16,5 +16,9 @@ start_read-rest rest = pieces-known 32 rest start_read None (λ p ps e. refl)
 -- nothing is opened without a name
 pub open_alone : (name : List ℕ) → open_named name [] ≡ None
 open_alone name = elim (bytes_eq name (codes "open")) as (λ b. cond b (open_read []) None ≡ None) [ true ↦ refl | false ↦ refl ]
+
+-- nor is a message forged
+pub forge_alone : (name : List ℕ) → forge_named name [] ≡ None
+forge_alone name = elim (bytes_eq name (codes "forge")) as (λ b. cond b (forge_read []) None ≡ None) [ true ↦ refl | false ↦ refl ]
 
 pub ruleset readings = (edit_read-rest, start_read-rest)

@@ -1,11 +1,7 @@
--- A line that takes memory spells an event.
-use Rattle.std.proofs.Common.{Option, Some, None, IsTrue, IsSome, option_map, refl}
+-- A line that takes memory spells an event, or forges bytes.
+use Rattle.std.proofs.Common.{◌||◌, Bool, Option, Some, None, IsTrue, IsSome, is_some, option_map, refl}
 use Rattle.world_model.specs.declared.event.Event.{Event}
-use Rattle.event_texts.specs.Events.{Sized, new_of, open_of, takes_memory}
-
-pub spells_one : (e : Option Event) → IsTrue (takes_memory e) → IsSome e
-spells_one None t = absurd (cc)
-spells_one (Some e) t = refl
+use Rattle.event_texts.specs.Events.{Sized, new_of, open_of, or_else, takes_memory}
 
 -- so does a frame of a name and a size, new or opened
 pub new_takes : (s : Option Sized) → IsSome s → IsTrue (takes_memory (option_map new_of s))
@@ -15,3 +11,22 @@ new_takes (Some s) t = refl
 pub open_spells : (s : Option Sized) → IsSome s → IsSome (option_map open_of s)
 open_spells None t = absurd (cc)
 open_spells (Some s) t = refl
+
+-- whichever of the three ways of reading a line takes it
+pub open_wants : (o f e : Option Event) (b : Bool) → IsSome o → IsTrue (is_some (or_else o (or_else f e)) || b)
+open_wants None f e b t = absurd (cc)
+open_wants (Some x) f e b t = refl
+
+pub forge_wants : (o f e : Option Event) (b : Bool) → IsTrue b → IsTrue (is_some (or_else o (or_else f e)) || b)
+forge_wants (Some x) f e b t = refl
+forge_wants None (Some x) e b t = refl
+forge_wants None None (Some x) b t = refl
+forge_wants None None None b t = t
+
+pub event_wants : (o f e : Option Event) (b : Bool) → IsTrue (takes_memory e) → IsTrue (is_some (or_else o (or_else f e)) || b)
+event_wants (Some x) f e b t = refl
+event_wants None (Some x) e b t = refl
+event_wants None None (Some x) b t = refl
+event_wants None None None b t = absurd (cc)
+
+pub ruleset wanting = (open_wants, forge_wants, event_wants)

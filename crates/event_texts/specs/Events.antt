@@ -1,8 +1,8 @@
 -- The lines of a text of events and the events that they spell.
-use Rattle.std.specs.Prelude.{◌&&◌, ℕ, ℤ, pos, negsuc, zero, suc, Bool, true, false, not, List, [], ◌∷◌, length, nat_le, nat_eq, cond, codes, if◌then◌else◌, Option, Some, None, option_map, Result}
+use Rattle.std.specs.Prelude.{◌≡◌, ◌-◌, ◌&&◌, ◌||◌, ℕ, ℤ, pos, negsuc, zero, suc, Bool, true, false, not, List, [], ◌∷◌, length, nat_le, nat_eq, cond, codes, if◌then◌else◌, Option, Some, None, option_map, is_some, slice_get, take, Result, Err, IsOk, IsTrue}
 use Rattle.std.specs.List.{ends_with, join_with_byte, list_all}
 use Rattle.std.specs.Str.{bytes_eq}
-use Rattle.embed_core.specs.Words.{words, number_read}
+use Rattle.embed_core.specs.Words.{lines, words, number_read}
 use Rattle.object_parts.specs.declared.area.Area.{Area}
 use Rattle.object_state.specs.declared.operations.CloseOption.{CloseOption}
 use Rattle.object_state.specs.declared.operations.CloseOption.TheVariants.{SaveIfDirty, NoSave}
@@ -10,11 +10,14 @@ use Rattle.container_model.specs.declared.command.Command.{Command}
 use Rattle.container_model.specs.declared.command.Command.TheVariants as command
 use Rattle.container_model.specs.declared.command.ObjectKind.{ObjectKind}
 use Rattle.container_model.specs.declared.command.ObjectKind.TheVariants.{Note, Table, Drawing}
+use Rattle.wire_msgs.specs.declared.message.Message.{Message}
 use Rattle.world_model.specs.declared.event.Event.{Event}
 use Rattle.world_model.specs.declared.event.Event.TheVariants as event
-use Rattle.texts.specs.Lines.{text_read}
-use Rattle.texts.specs.Words.{is_visible}
+use Rattle.texts.specs.Lines.{is_skipped, lines_read, text_read}
+use Rattle.texts.specs.Words.{content_read, is_visible}
 use Rattle.texts.specs.declared.lines.SyntaxFault.{SyntaxFault}
+use Rattle.texts.specs.declared.lines.SyntaxFault.TheVariants.{Bad, NoMemory}
+use Rattle.event_texts.specs.Forged.{message_in}
 
 -- a number of 16 bits
 abbrev pub short_of : Option ℕ → Option ℕ
@@ -230,19 +233,79 @@ abbrev pub open_in : List (List ℕ) → Option Event
 open_in [] = None
 open_in (name ∷ others) = open_named name others
 
+-- a message that is forged on the link of a server: the message of which the hexadecimal bytes are the byte form
+abbrev pub forge_of : Option ℕ → Option Message → Option Event
+forge_of (Some inc) (Some m) = Some (event.Forge inc m)
+forge_of (Some inc) None = None
+forge_of None m = None
+
+abbrev pub message_told : Option (List ℕ) → Option Message
+message_told None = None
+message_told (Some bytes) = message_in bytes
+
+abbrev pub forge_read : List (List ℕ) → Option Event
+forge_read (inc ∷ bytes ∷ []) = forge_of (number_read inc) (message_told (content_read bytes))
+forge_read _ = None
+
+abbrev pub forge_named : List ℕ → List (List ℕ) → Option Event
+forge_named name others = cond (bytes_eq name (codes "forge")) (forge_read others) None
+
+abbrev pub forge_in : List (List ℕ) → Option Event
+forge_in [] = None
+forge_in (name ∷ others) = forge_named name others
+
 abbrev pub or_else : Option Event → Option Event → Option Event
 or_else (Some e) other = Some e
 or_else None other = other
 
+-- the event that a line spells
+abbrev pub event_of : List ℕ → Option Event
+event_of line = or_else (open_in (words line)) (or_else (forge_in (words line)) (event_read line))
+
 -- the event of line n
 abbrev pub line_read : ℕ → List ℕ → Option Event
-line_read n line = or_else (open_in (words line)) (event_read line)
+line_read n line = event_of line
 
 -- the events of a text, or the first line that spells none
 abbrev pub events_read : List ℕ → Result (List Event) (ℕ × SyntaxFault)
 events_read text = text_read line_read text
 
--- Memory is taken for the name of a new frame, for another name of one, and for the bytes of an edit (and for the name of a file that is opened).
+-- a server, and hexadecimal bytes, whatever these are
+abbrev pub forge_told : Option ℕ → Option (List ℕ) → Bool
+forge_told (Some inc) (Some bytes) = true
+forge_told (Some inc) None = false
+forge_told None bytes = false
+
+abbrev pub forge_spelled : List (List ℕ) → Bool
+forge_spelled (inc ∷ bytes ∷ []) = forge_told (number_read inc) (content_read bytes)
+forge_spelled _ = false
+
+abbrev pub forge_tells : List ℕ → List (List ℕ) → Bool
+forge_tells name others = cond (bytes_eq name (codes "forge")) (forge_spelled others) false
+
+abbrev pub is_forge : List (List ℕ) → Bool
+is_forge [] = false
+is_forge (name ∷ others) = forge_tells name others
+
+-- Lines that may want memory: those that spell an event, and those that forge bytes, of which it isn't known before what message
+-- they are.
+abbrev pub may_want : List ℕ → Bool
+may_want line = is_some (event_of line) || is_forge (words line)
+
+-- Memory may have run out at line n: it may want some, and all lines before it spell events.
+pub record MayWantMemory (text : List ℕ) (n : ℕ) : Type 0 where
+  pub line : List ℕ
+  pub stands : slice_get (lines text) (n - 1) ≡ Some line
+  pub asks : is_skipped line ≡ false
+  pub before : IsOk (lines_read line_read 1 (take (n - 1) (lines text)))
+  pub wants : IsTrue (may_want line)
+
+-- when a text of events may be refused
+abbrev pub RefusesEvents : List ℕ → ℕ × SyntaxFault → Type 0
+RefusesEvents text (n, Bad) = events_read text ≡ Err (n, Bad)
+RefusesEvents text (n, NoMemory) = MayWantMemory text n
+
+-- Memory is taken for the name of a new frame, for another name of one, and for the bytes of an edit (and for the name of a file that is opened, and a forged message).
 abbrev pub command_takes_memory : Command → Bool
 command_takes_memory (command.New name w h) = true
 command_takes_memory (command.Edit o bytes) = true
@@ -259,6 +322,7 @@ command_takes_memory (command.Verb o number) = false
 abbrev pub event_takes_memory : Event → Bool
 event_takes_memory (event.Command c) = command_takes_memory c
 event_takes_memory (event.Deliver p) = false
+event_takes_memory (event.Forge inc m) = false
 event_takes_memory (event.Crash inc) = false
 event_takes_memory (event.Reap inc) = false
 event_takes_memory (event.Done f) = false

@@ -1,2 +1,3 @@
+pub mod Forged
 pub mod Events
 pub mod Answers

@@ -1,4 +1,4 @@
-//! Texts of events.
+//! Lines of events.
 
 ghost use Rattle.event_texts.specs.Events.{area_of, close_read, commit_named, edit_read, end_named, event_named, event_read, insert_read, is_file_name, kind_read, new_read, numbers_named, object_named, open_in, open_named, open_read, option_read, outcome_read, pair_read, resolve_read, save_as_read, short_read, signed_read, sized_read, sole_number, takes_memory, verb_read};
 ghost use Rattle.embed_core.specs.Words.{words};
@@ -12,37 +12,15 @@ use object_parts::area::Area;
 use object_state::CloseOption;
 use std::alloc::{AllocError, Global};
 use storage_tree::bytes::Bytes;
-use texts::lines::Grammar;
 use texts::words::is_visible;
 use world_model::event::Event;
 
 /// The most characters that the name of a file has.
 const NAME_SIZE: usize = 64;
 
-/// The events of a text.
-pub struct Events;
-
-impl Grammar for Events {
-    type Line = Event;
-
-    ghost use Rattle.event_texts.specs.Events.{line_read};
-
-    ghost read = { line_read };
-
-    #[tactic(auto, using(crate::proofs::Memory::spells_one))]
-    fn parse(alloc: Global, _number: usize, line: &[u8]) -> Result<Option<Event>, AllocError> {
-        match parse_open(alloc, line)? {
-            Some(event) => return Ok(Some(event)),
-            None => {}
-        }
-        let event = parse(alloc, line)?;
-        Ok(event)
-    }
-}
-
 /// The file to be opened that a line spells. Memory is taken for a line that spells one.
 #[tactic(auto, using(crate::proofs::Behind::open_alone))]
-fn parse_open(alloc: Global, line: &[u8]) -> Result<Option<Event>, AllocError>
+pub(crate) fn parse_open(alloc: Global, line: &[u8]) -> Result<Option<Event>, AllocError>
     ensures read { IfOk result (λ event. event ≡ open_in (words line.now)) }
     ensures within { IfErr result (λ _. IsSome (open_in (words line.now))) }
 {
@@ -64,7 +42,7 @@ fn parse_open_with(alloc: Global, name: &[u8], rest: &[u8]) -> Result<Option<Eve
     }
 }
 
-/// The event that a line spells, but for a file that is opened.
+/// The event that a line spells, but for a file that is opened and a message that is forged.
 ///
 /// Refused for want of memory alone, which is taken for a new frame, for another name of one, and for an edit.
 pub fn parse(alloc: Global, line: &[u8]) -> Result<Option<Event>, AllocError>

@@ -3,3 +3,5 @@
 
 pub mod answers;
 pub mod events;
+pub mod forge;
+pub mod lines;

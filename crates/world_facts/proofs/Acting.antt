@@ -1,4 +1,5 @@
--- A server takes a call: what stays of numbers, calls, replies and what is in step.
+-- A server takes a call: what stays of numbers, calls, replies and what is in step. Where it is hostile, its link says nothing
+-- of its activation, and only what speaks of all servers is kept of it.
 use Rattle.std.proofs.Common.{◌≡◌, ◌⊎◌, ℕ, Bool, slice_get, ◌+◌, ◌<◌, ◌≤◌, List, [], ◌∷◌, ◌++◌, Option, Some, None, refl, sym, ap, ◌∙◌, inl, inr, arith, subst}
 use Rattle.wire_msgs.specs.Found.{nth}
 use Rattle.wire_msgs.specs.Operations.{op_of}
@@ -25,7 +26,7 @@ use Rattle.world_facts.proofs.Issuing.{same_act, once_join, once_entries}
 
 module _ {hostile : List ℕ} (links : Links) (acts after : Acts) (lives : Lives) (sent : List Message) (owners : List ℕ) (last : ℕ) (counted : List Done) (served : List ServerDone)
     (inc act n : ℕ) (op : Operation) (a : Activation) (r : Answer) (told : Option Counted)
-    (f : Facts hostile links acts lives sent owners last counted served) (ready : IsReady links) (honest : IsHonest hostile inc)
+    (f : Facts hostile links acts lives sent owners last counted served) (ready : IsReady links)
     (call : Among sent (Call inc act n op)) (runs : lives inc ≡ Some Running) (ch : IsChanged acts after inc act a) (how : ActsOn acts inc act n op a r told) where
   abbrev pub more : List Message
   more = sent ++ Reply inc act n r ∷ []
@@ -33,7 +34,7 @@ module _ {hostile : List ℕ} (links : Links) (acts after : Acts) (lives : Lives
   pub old_call : (i x m : ℕ) (p : Operation) → Among more (Call i x m p) → Among sent (Call i x m p)
   old_call i x m p g = elim (among_join sent (Reply inc act n r ∷ []) (Call i x m p) g) [ inl old ↦ old | inr new ↦ elim new [ inl e ↦ absurd (cc) | inr z ↦ absurd z ] ]
 
-  -- the call is of a link, whose pending operation it is, unless the activation is closed
+  -- at an honest server the call is of a link, whose pending operation it is, unless the activation is closed
   pub record IsPending (o : ℕ) (l : Link) : Type 0 where
     pub at : links o ≡ Some l
     pub inc_is : l.inc ≡ inc
@@ -42,8 +43,8 @@ module _ {hostile : List ℕ} (links : Links) (acts after : Acts) (lives : Lives
     pub bound : n ≤ l.last
     pub pending : (asked : Operation) → l.pending ≡ Some asked → n ≡ l.last → op ≡ asked
 
-  pub of_link : (o : ℕ) (l : Link) → links o ≡ Some l → l.inc ≡ inc → l.act ≡ act → IsPending o l
-  of_link o l at ei ea =
+  pub of_link : (o : ℕ) (l : Link) → links o ≡ Some l → l.inc ≡ inc → l.act ≡ act → IsHonest hostile inc → IsPending o l
+  of_link o l at ei ea honest =
       let mine : Among sent (Call inc l.act n op) = subst (λ x. Among sent (Call inc x n op)) (sym ea) call in
       record {
         at = at;
@@ -54,8 +55,8 @@ module _ {hostile : List ℕ} (links : Links) (acts after : Acts) (lives : Lives
         pending = λ asked p e. f.calls.pending o inc op asked l at p (subst (λ x. Among sent (Call inc l.act x op)) e mine);
       }
 
-  pub linked_or_closed : IsLinked links inc act ⊎ IsClosed (acts inc act)
-  linked_or_closed = f.unlinked.called inc act n op honest runs call
+  pub linked_or_closed : IsHonest hostile inc → IsLinked links inc act ⊎ IsClosed (acts inc act)
+  linked_or_closed honest = f.unlinked.called inc act n op honest runs call
 
   -- the next call of an activation is the pending one of its link, which is at the activation's states
   pub record IsNextOf (l : Link) (b : Activation) : Type 0 where
@@ -103,7 +104,7 @@ module _ {hostile : List ℕ} (links : Links) (acts after : Acts) (lives : Lives
 
   pub in_step : InSteps hostile links after
   in_step o l e h = elim (same_act l.inc l.act inc act) [
-    | inl s ↦ subst (λ x. InStep l (after x l.act)) (sym s.0) (subst (λ x. InStep l (after inc x)) (sym s.1) (subst (InStep l) (sym ch.here) (step_here o l (of_link o l e s.0 s.1) how)))
+    | inl s ↦ subst (λ x. InStep l (after x l.act)) (sym s.0) (subst (λ x. InStep l (after inc x)) (sym s.1) (subst (InStep l) (sym ch.here) (step_here o l (of_link o l e s.0 s.1 (subst (IsHonest hostile) s.0 h)) how)))
     | inr d ↦ subst (InStep l) (sym (ch.others l.inc l.act d)) (f.in_step o l e h)
   ]
 
@@ -141,8 +142,8 @@ module _ {hostile : List ℕ} (links : Links) (acts after : Acts) (lives : Lives
   closed_here c (next b at en opened m) = absurd (let z : b.content ≡ None = subst IsClosed at c in let y : None ≡ Some opened.0 = sym z ∙ opened.1 in cc)
   closed_here c (makes at en fo al ar d ec eg) = absurd (subst IsClosed at c)
 
-  known_here : ActsOn acts inc act n op a r told → IsLinked links inc act ⊎ (a.content ≡ None)
-  known_here h = elim linked_or_closed [ inl g ↦ inl g | inr c ↦ inr (closed_here c h) ]
+  known_here : IsHonest hostile inc → ActsOn acts inc act n op a r told → IsLinked links inc act ⊎ (a.content ≡ None)
+  known_here honest h = elim (linked_or_closed honest) [ inl g ↦ inl g | inr c ↦ inr (closed_here c h) ]
 
   pub unlinked : UnlinkedClosed hostile links after lives more
   unlinked = record {
@@ -156,7 +157,7 @@ module _ {hostile : List ℕ} (links : Links) (acts after : Acts) (lives : Lives
     ];
     known = λ i x b h lv e. elim (same_act i x inc act) [
       | inl s ↦ (let z : Some a ≡ Some b = sym ch.here ∙ (ap (after inc) (sym s.1) ∙ (ap (λ y. after y x) (sym s.0) ∙ e)) in let is : a ≡ b = cc in
-          elim (known_here how) [
+          elim (known_here (subst (IsHonest hostile) s.0 h) how) [
             | inl k ↦ inl (k.0, k.1, k.2, k.3 ∙ sym s.0, k.4 ∙ sym s.1)
             | inr c ↦ inr (subst (λ (y : Activation). y.content ≡ None) is c)
           ])
@@ -189,8 +190,8 @@ module _ {hostile : List ℕ} (links : Links) (acts after : Acts) (lives : Lives
   reply_here (next b at en opened k) = (let el : a.last ≡ n = k.last ∙ sym en in (omega arith, (λ e. sym k.reply), (el, k.reply)))
   reply_here (makes at en fo al ar d ec eg) = (let el : a.last ≡ n = al ∙ sym en in (omega arith, (λ e. sym ar), (el, ar)))
 
-  replies_kept_now : (i x m : ℕ) (q : Answer) → IsHonest hostile i → Among sent (Reply i x m q) → (b : Activation) × (after i x ≡ Some b) × (m ≤ b.last) × (m ≡ b.last → q ≡ b.reply)
-  replies_kept_now i x m q h g = (let k = f.replies.replies_kept i x m q h g in elim (same_act i x inc act) [
+  replies_kept_now : (i x m : ℕ) (q : Answer) → Among sent (Reply i x m q) → (b : Activation) × (after i x ≡ Some b) × (m ≤ b.last) × (m ≡ b.last → q ≡ b.reply)
+  replies_kept_now i x m q g = (let k = f.replies.replies_kept i x m q g in elim (same_act i x inc act) [
     | inl s ↦ (let at : acts inc act ≡ Some k.0 = ap (acts inc) (sym s.1) ∙ (ap (λ y. acts y x) (sym s.0) ∙ k.1) in
         let c = come_before m q k.0 at k.2 k.3 how in
         (a, ap (λ y. after y x) s.0 ∙ (ap (after inc) s.1 ∙ ch.here), c.0, c.1))
@@ -198,29 +199,29 @@ module _ {hostile : List ℕ} (links : Links) (acts after : Acts) (lives : Lives
   ])
 
   same_reply : (q : Answer) → Among sent (Reply inc act n q) → q ≡ r
-  same_reply q g = (let k = f.replies.replies_kept inc act n q honest g in (come_before n q k.0 k.1 k.2 k.3 how).2 refl)
+  same_reply q g = (let k = f.replies.replies_kept inc act n q g in (come_before n q k.0 k.1 k.2 k.3 how).2 refl)
 
   moved : (i x m : ℕ) (q : Answer) → (i ≡ inc) × (x ≡ act) × (m ≡ n) × (q ≡ r) → Among sent (Reply i x m q) → Among sent (Reply inc act n q)
   moved i x m q e g = subst (λ y. Among sent (Reply y act n q)) e.0 (subst (λ y. Among sent (Reply i y n q)) e.1 (subst (λ y. Among sent (Reply i x y q)) e.2 g))
 
-  pub replies : Replies hostile after more
+  pub replies : Replies after more
   replies = record {
-    reply_numbered = λ i x b h e. elim (same_act i x inc act) [
+    reply_numbered = λ i x b e. elim (same_act i x inc act) [
       | inl s ↦ (let z : Some a ≡ Some b = sym ch.here ∙ (ap (after inc) (sym s.1) ∙ (ap (λ y. after y x) (sym s.0) ∙ e)) in
           let is : a ≡ b = cc in
           let w = (reply_here how).2 in
           let now : Among more (Reply inc act a.last a.reply) = among_new sent (Reply inc act n r ∷ []) (Reply inc act a.last a.reply) (inl (ap (λ y. Reply inc act y a.reply) w.0 ∙ ap (λ y. Reply inc act n y) w.1)) in
           subst (λ (y : Activation). Among more (Reply i x y.last y.reply)) is (subst (λ y. Among more (Reply y x a.last a.reply)) (sym s.0) (subst (λ y. Among more (Reply inc y a.last a.reply)) (sym s.1) now)))
-      | inr d ↦ among_old sent (Reply inc act n r ∷ []) (Reply i x b.last b.reply) (f.replies.reply_numbered i x b h (sym (ch.others i x d) ∙ e))
+      | inr d ↦ among_old sent (Reply inc act n r ∷ []) (Reply i x b.last b.reply) (f.replies.reply_numbered i x b (sym (ch.others i x d) ∙ e))
     ];
-    replies_kept = λ i x m q h g. elim (which_reply i x m q g) [
-      | inl old ↦ replies_kept_now i x m q h old
+    replies_kept = λ i x m q g. elim (which_reply i x m q g) [
+      | inl old ↦ replies_kept_now i x m q old
       | inr e ↦ (let w = reply_here how in
           (a, ap (λ y. after y x) e.0 ∙ (ap (after inc) e.1 ∙ ch.here), subst (λ y. y ≤ a.last) (sym e.2) w.0, (λ z. e.3 ∙ w.1 (sym e.2 ∙ z))))
     ];
-    one_reply = λ i x m q p h g g'. elim (which_reply i x m q g) [
+    one_reply = λ i x m q p g g'. elim (which_reply i x m q g) [
       | inl old ↦ elim (which_reply i x m p g') [
-        | inl old' ↦ f.replies.one_reply i x m q p h old old'
+        | inl old' ↦ f.replies.one_reply i x m q p old old'
         | inr e ↦ same_reply q (subst (λ y. Among sent (Reply y act n q)) e.0 (subst (λ y. Among sent (Reply i y n q)) e.1 (subst (λ y. Among sent (Reply i x y q)) e.2 old))) ∙ sym e.3
       ]
       | inr e ↦ elim (which_reply i x m p g') [
@@ -242,7 +243,7 @@ module _ {hostile : List ℕ} (links : Links) (acts after : Acts) (lives : Lives
   pub saved_same : SavedSame hostile links after
   saved_same o l c e h ls = elim (same_act l.inc l.act inc act) [
     | inl s ↦ (let was : HasSaved c (acts inc act) = subst (λ y. HasSaved c (acts inc y)) s.1 (subst (λ y. HasSaved c (acts y l.act)) s.0 (f.saved_same o l c e h ls)) in
-        let now : HasSaved c (after inc act) = subst (HasSaved c) (sym ch.here) (saved_here o l c (of_link o l e s.0 s.1) ls was how) in
+        let now : HasSaved c (after inc act) = subst (HasSaved c) (sym ch.here) (saved_here o l c (of_link o l e s.0 s.1 (subst (IsHonest hostile) s.0 h)) ls was how) in
         subst (λ y. HasSaved c (after y l.act)) (sym s.0) (subst (λ y. HasSaved c (after inc y)) (sym s.1) now))
     | inr d ↦ subst (HasSaved c) (sym (ch.others l.inc l.act d)) (f.saved_same o l c e h ls)
   ]
@@ -277,9 +278,9 @@ module _ {hostile : List ℕ} (links : Links) (acts after : Acts) (lives : Lives
       let z : None ≡ Some (SaveCompleted k s) = ap (λ xs. slice_get xs i) (sym none1) ∙ (ap (λ (x : Link). slice_get x.waiting i) (sym q.1) ∙ at) in absurd (cc))
 
   -- the link of an activation that takes its next call, or its first
-  link_of : IsOpen a → ((b : Activation) → acts inc act ≡ Some b → IsOpen b) → (o : ℕ) × (l : Link) × IsPending o l
-  link_of opened before = elim linked_or_closed [
-    | inl g ↦ (g.0, g.1, of_link g.0 g.1 g.2 g.3 g.4)
+  link_of : IsHonest hostile inc → IsOpen a → ((b : Activation) → acts inc act ≡ Some b → IsOpen b) → (o : ℕ) × (l : Link) × IsPending o l
+  link_of honest opened before = elim (linked_or_closed honest) [
+    | inl g ↦ (g.0, g.1, of_link g.0 g.1 g.2 g.3 g.4 honest)
     | inr c ↦ absurd (at (acts inc act) refl c)
   ]
     where
@@ -293,20 +294,20 @@ module _ {hostile : List ℕ} (links : Links) (acts after : Acts) (lives : Lives
   first_alone o l p one fo _ e (behind y q g el v) = absurd (let z : Some y ≡ None = e in cc)
   first_alone o l p one fo _ e (ahead y q g el v) = absurd (let z : Some y ≡ None = e in cc)
 
-  content_here : (m k o : ℕ) (s : Bool) → Issued links sent inc act m (SaveCompleted k s) → IsOpen a → a.last < m → nth owners act ≡ Some o → ActsOn acts inc act n op a r told
+  content_here : IsHonest hostile inc → (m k o : ℕ) (s : Bool) → Issued links sent inc act m (SaveCompleted k s) → IsOpen a → a.last < m → nth owners act ≡ Some o → ActsOn acts inc act n op a r told
       → (c : Stored) × (a.saved ≡ Some c) × Among counted (record { object = o; k = k; content = c })
-  content_here m k o s i opened lt e (again at en er ec) = f.counts.completed_content inc act m k o s a i honest at opened lt e
-  content_here m k o s i opened lt e (next b at en bo w) =
+  content_here honest m k o s i opened lt e (again at en er ec) = f.counts.completed_content inc act m k o s a i honest at opened lt e
+  content_here honest m k o s i opened lt e (next b at en bo w) =
       let el = w.last in
       let before = f.counts.completed_content inc act m k o s b i honest at bo (omega arith) e in
       elim w.saved [
-        | inl sv ↦ (let lk = link_of opened (λ b' e'. (let z : Some b ≡ Some b' = sym at ∙ e' in let is : b ≡ b' = cc in subst IsOpen is bo)) in
+        | inl sv ↦ (let lk = link_of honest opened (λ b' e'. (let z : Some b ≡ Some b' = sym at ∙ e' in let is : b ≡ b' = cc in subst IsOpen is bo)) in
             let x = next_of lk.0 lk.1 b lk.2 en _ at lk.2.step in
             absurd (not_saving lk.0 lk.1 sv.0 k m s lk.2 (x.asked ∙ ap Some sv.1) x.number (omega arith) i))
         | inr same ↦ (before.0, same ∙ before.1, before.2)
       ]
-  content_here m k o s i opened lt e (makes at en fo al ar d ec eg) =
-      let lk = link_of opened (λ b' e'. absurd (let z : None ≡ Some b' = sym at ∙ e' in cc)) in
+  content_here honest m k o s i opened lt e (makes at en fo al ar d ec eg) =
+      let lk = link_of honest opened (λ b' e'. absurd (let z : None ≡ Some b' = sym at ∙ e' in cc)) in
       let x = first_alone lk.0 lk.1 lk.2 en fo _ at lk.2.step in
       absurd (not_beginning lk.0 lk.1 k m s lk.2 x.0 x.1 (omega arith) i)
 
@@ -326,14 +327,14 @@ module _ {hostile : List ℕ} (links : Links) (acts after : Acts) (lives : Lives
     | inr d ↦ (c.0, c.1, c.2, c.3, among_old sent (Reply inc act n r ∷ []) (Call e.inc c.0 c.1 (SaveCompleted e.k c.2)) c.4, c.5, ch.others e.inc c.0 d ∙ c.6, c.7)
   ])
 
-  -- the save that is counted now: its call, and what the container counted
+  -- the save that is counted now: its call, and what the container counted of an honest server
   record CountsNow (e : ServerDone) : Type 0 where
     pub storage : Bool
     pub is_inc : e.inc ≡ inc
     pub told_of : Among sent (Call inc act n (SaveCompleted e.k storage))
     pub owner : nth owners act ≡ Some e.object
     pub before : (b : Activation) × (acts inc act ≡ Some b) × (n ≡ b.last + 1) × (a.last ≡ n)
-    pub same : Among counted (record { object = e.object; k = e.k; content = e.content })
+    pub same : IsHonest hostile inc → Among counted (record { object = e.object; k = e.k; content = e.content })
 
   counts_at : (v : Option Counted) → told ≡ v → (e : ServerDone) → Among (entries_of inc act owners v) e → ActsOn acts inc act n op a r told → CountsNow e
   counts_at None c e h k = absurd h
@@ -345,13 +346,13 @@ module _ {hostile : List ℕ} (links : Links) (acts after : Acts) (lives : Lives
       let told_of : Among sent (Call inc act n (SaveCompleted v.k w.0)) = subst (λ (y : Operation). Among sent (Call inc act n y)) w.1 call in
       let d = f.counts.completed_counted inc act n v.k w.0 (called told_of) in
       let own : nth owners act ≡ Some d.0.object = d.2 in
-      let ct = f.counts.completed_content inc act n v.k d.0.object w.0 b (called told_of) honest at opened (omega arith) own in
-      let content : ct.0 ≡ v.content = (let z : Some ct.0 ≡ Some v.content = sym ct.1 ∙ w.2 in cc) in
       let ob : nth_or_zero (nth owners act) ≡ d.0.object = ap nth_or_zero own in
       let new : ServerDone = record { inc = inc; object = nth_or_zero (nth owners act); k = v.k; content = v.content } in
-      let sames : Among counted (record { object = new.object; k = new.k; content = new.content }) =
+      let sames : IsHonest hostile inc → Among counted (record { object = new.object; k = new.k; content = new.content }) =
+      (λ honest. let ct = f.counts.completed_content inc act n v.k d.0.object w.0 b (called told_of) honest at opened (omega arith) own in
+      let content : ct.0 ≡ v.content = (let z : Some ct.0 ≡ Some v.content = sym ct.1 ∙ w.2 in cc) in
       subst (λ y. Among counted (record { object = y; k = v.k; content = v.content })) (sym ob)
-      (subst (λ y. Among counted (record { object = d.0.object; k = v.k; content = y })) content ct.2) in
+      (subst (λ y. Among counted (record { object = d.0.object; k = v.k; content = y })) content ct.2)) in
       let all : CountsNow new = record { storage = w.0; is_inc = refl; told_of = told_of; owner = own ∙ ap Some (sym ob); before = (b, at, en, k.last ∙ sym en); same = sames } in
       subst CountsNow (sym is) all
 
@@ -372,7 +373,7 @@ module _ {hostile : List ℕ} (links : Links) (acts after : Acts) (lives : Lives
       | inl q ↦ (let z : Some a ≡ Some b = sym ch.here ∙ (ap (after inc) (sym q.1) ∙ (ap (λ y. after y x) (sym q.0) ∙ e)) in
           let is : a ≡ b = cc in
           let g0 : Issued links sent inc act m (SaveCompleted k s) = subst (λ y. Issued links sent inc y m (SaveCompleted k s)) q.1 (subst (λ y. Issued links sent y x m (SaveCompleted k s)) q.0 (issued_old i x m (SaveCompleted k s) g)) in
-          let c = content_here m k o s g0 (subst IsOpen (sym is) opened) (subst (λ (y : Activation). y.last < m) (sym is) lt) (ap (nth owners) (sym q.1) ∙ ow) how in
+          let c = content_here (subst (IsHonest hostile) q.0 h) m k o s g0 (subst IsOpen (sym is) opened) (subst (λ (y : Activation). y.last < m) (sym is) lt) (ap (nth owners) (sym q.1) ∙ ow) how in
           (c.0, ap (λ (y : Activation). y.saved) (sym is) ∙ c.1, c.2))
       | inr d ↦ f.counts.completed_content i x m k o s b (issued_old i x m (SaveCompleted k s) g) h (sym (ch.others i x d) ∙ e) opened lt ow
     ];
@@ -388,7 +389,7 @@ module _ {hostile : List ℕ} (links : Links) (acts after : Acts) (lives : Lives
         let em : n ≡ c.before.0.last + 1 = c.before.2 in
         let mn : n ≡ p.1 = one.2 in
         absurd (omega arith)));
-    server_counted = λ e g h. elim (among_join served entries e g) [ inl old ↦ f.counts.server_counted e old h | inr new ↦ (counts_of e new).same ];
+    server_counted = λ e g h. elim (among_join served entries e g) [ inl old ↦ f.counts.server_counted e old h | inr new ↦ (let c = counts_of e new in c.same (subst (IsHonest hostile) c.is_inc h)) ];
   }
 
   pub acted : Facts hostile links after lives more owners last counted (served ++ entries)

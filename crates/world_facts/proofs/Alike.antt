@@ -144,9 +144,9 @@ module _ {hostile : List ℕ} (links : Links) (acts after : Acts) (lives now : L
       known = λ inc act b honest lv e. (let p = was inc act b e in let k = p.2 in elim (f.unlinked.known inc act p.0 honest (sym (still inc) ∙ lv) p.1) [ inl x ↦ inl x | inr c ↦ inr (k.closed c) ]);
     };
     replies = record {
-      reply_numbered = λ inc act b honest e. (let p = was inc act b e in let k = p.2 in
-          subst (λ r. Among sent (Reply inc act b.last r)) (sym k.reply) (subst (λ n. Among sent (Reply inc act n p.0.reply)) (sym k.last) (f.replies.reply_numbered inc act p.0 honest p.1)));
-      replies_kept = λ inc act n r honest g. (let c = f.replies.replies_kept inc act n r honest g in
+      reply_numbered = λ inc act b e. (let p = was inc act b e in let k = p.2 in
+          subst (λ r. Among sent (Reply inc act b.last r)) (sym k.reply) (subst (λ n. Among sent (Reply inc act n p.0.reply)) (sym k.last) (f.replies.reply_numbered inc act p.0 p.1)));
+      replies_kept = λ inc act n r g. (let c = f.replies.replies_kept inc act n r g in
           let p = is inc act c.0 c.1 in let k = p.2 in
           (p.0, p.1, subst (λ m. n ≤ m) (sym k.last) c.2, (λ z. c.3 (z ∙ k.last) ∙ sym k.reply)));
       one_reply = f.replies.one_reply;

@@ -122,7 +122,7 @@ asks_leave hostile Asks links after acts more h steps o l a option e honest k p 
     at (sends b m op w i c wb wm ak n) = (let z : Some m ≡ Some l = sym i ∙ e in let q : m ≡ l = cc in
         absurd (called_answered hostile links acts o b l op a steps w (subst (λ x. IsCalled b x op) q c) honest k el))
 
-pub settles_leave : (hostile : List ℕ) (links after : Links) (acts : Acts) (o : ℕ) → Settles links after acts o → LeavesCloses hostile links after acts acts
+pub settles_leave : (hostile : List ℕ) (links after : Links) (acts : Acts) (o : ℕ) → Settles hostile links after acts o → LeavesCloses hostile links after acts acts
 settles_leave hostile links after acts o h n l a option e honest k p el = elim (which links after o n h.link l h.is h.others e) [
   | inl s ↦ absurd (let z : None ≡ Some (Close option) = sym h.pending ∙ (ap (λ (x : Link). x.pending) (sym s.1) ∙ p) in cc)
   | inr s ↦ was_same links acts n l l a s.1 k (same_link l)
@@ -141,7 +141,7 @@ begins_leave hostile links after acts lives owners last o more h drawn n l a opt
   | inr s ↦ was_same links acts n l l a s.1 k (same_link l)
 ]
 
-pub ends_leave : (hostile : List ℕ) (links after : Links) (acts : Acts) (lives : Lives) → EndsSome links after acts lives → LeavesCloses hostile links after acts acts
+pub ends_leave : (hostile : List ℕ) (links after : Links) (acts : Acts) (lives : Lives) → EndsSome hostile links after acts lives → LeavesCloses hostile links after acts acts
 ends_leave hostile links after acts lives h o l a option e honest k p el = elim (h.each o) [
   | inl s ↦ was_same links acts o l l a (sym s ∙ e) k (same_link l)
   | inr g ↦ absurd (let z : None ≡ Some l = sym g.0 ∙ e in cc)

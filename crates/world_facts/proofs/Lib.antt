@@ -13,3 +13,4 @@ pub mod Alike
 pub mod Telling
 pub mod Leaving
 pub mod Viewing
+pub mod Honest

@@ -35,11 +35,11 @@ saved_kept acts b m c ei ea k h g = elim k [
 ]
 
 -- replies stay where only calls are sent
-pub only_calls : {hostile : List ℕ} (acts : Acts) (sent more : List Message) → ((inc act n : ℕ) (r : Answer) → Among more (Reply inc act n r) → ⊥) → Replies hostile acts sent → Replies hostile acts (sent ++ more)
+pub only_calls : (acts : Acts) (sent more : List Message) → ((inc act n : ℕ) (r : Answer) → Among more (Reply inc act n r) → ⊥) → Replies acts sent → Replies acts (sent ++ more)
 only_calls acts sent more no_reply h = record {
-  reply_numbered = λ inc act a honest e. among_old sent more (Reply inc act a.last a.reply) (h.reply_numbered inc act a honest e);
-  replies_kept = λ inc act n r honest g. h.replies_kept inc act n r honest (old inc act n r g);
-  one_reply = λ inc act n r q honest g p. h.one_reply inc act n r q honest (old inc act n r g) (old inc act n q p);
+  reply_numbered = λ inc act a e. among_old sent more (Reply inc act a.last a.reply) (h.reply_numbered inc act a e);
+  replies_kept = λ inc act n r g. h.replies_kept inc act n r (old inc act n r g);
+  one_reply = λ inc act n r q g p. h.one_reply inc act n r q (old inc act n r g) (old inc act n q p);
 }
   where
     old : (inc act n : ℕ) (r : Answer) → Among (sent ++ more) (Reply inc act n r) → Among sent (Reply inc act n r)

@@ -16,7 +16,7 @@ use Rattle.world_facts.specs.Shapes.{Settles}
 use Rattle.world_facts.proofs.Issuing.{NoMoreEnds, counts_kept, which, linked_kept}
 
 module _ {hostile : List ℕ} (links after : Links) (acts : Acts) (lives : Lives) (sent : List Message) (owners : List ℕ) (last : ℕ) (counted : List Done) (served : List ServerDone) (o : ℕ)
-    (h : Settles links after acts o) (f : Facts hostile links acts lives sent owners last counted served) where
+    (h : Settles hostile links after acts o) (f : Facts hostile links acts lives sent owners last counted served) where
   find_link : (k : ℕ) (l : Link) → after k ≡ Some l → ((k ≡ o) × (l ≡ h.link)) ⊎ ((k ≢ o) × (links k ≡ Some l))
   find_link k l e = which links after o k h.link l h.is h.others e
 
@@ -49,13 +49,13 @@ module _ {hostile : List ℕ} (links after : Links) (acts : Acts) (lives : Lives
 
   in_step : (k : ℕ) (l : Link) → after k ≡ Some l → IsHonest hostile l.inc → InStep l (acts l.inc l.act)
   in_step k l e honest = elim (find_link k l e) [
-    | inl s ↦ subst (λ (x : Link). InStep x (acts x.inc x.act)) (sym s.1) h.in_step
+    | inl s ↦ subst (λ (x : Link). InStep x (acts x.inc x.act)) (sym s.1) (h.in_step (subst (λ (x : Link). IsHonest hostile x.inc) s.1 honest))
     | inr s ↦ f.in_step k l s.1 honest
   ]
 
   saved_same : (k : ℕ) (l : Link) (c : Stored) → after k ≡ Some l → IsHonest hostile l.inc → l.saved ≡ Some c → HasSaved c (acts l.inc l.act)
   saved_same k l c e honest g = elim (find_link k l e) [
-    | inl s ↦ subst (λ (x : Link). HasSaved c (acts x.inc x.act)) (sym s.1) (h.saved c (ap (λ (x : Link). x.saved) (sym s.1) ∙ g))
+    | inl s ↦ subst (λ (x : Link). HasSaved c (acts x.inc x.act)) (sym s.1) (h.saved (subst (λ (x : Link). IsHonest hostile x.inc) s.1 honest) c (ap (λ (x : Link). x.saved) (sym s.1) ∙ g))
     | inr s ↦ f.saved_same k l c s.1 honest g
   ]
 

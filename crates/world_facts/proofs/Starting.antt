@@ -30,8 +30,8 @@ module _ {hostile : List ℕ} (links : Links) (acts after : Acts) (lives now : L
           f.unlinked.known inc act a honest (h.runs inc p.0 p.1 lv) was);
     };
     replies = record {
-      reply_numbered = λ inc act a honest e. f.replies.reply_numbered inc act a honest (sym (h.same inc act) ∙ e);
-      replies_kept = λ inc act n r honest g. (let k = f.replies.replies_kept inc act n r honest g in (k.0, h.same inc act ∙ k.1, k.2, k.3));
+      reply_numbered = λ inc act a e. f.replies.reply_numbered inc act a (sym (h.same inc act) ∙ e);
+      replies_kept = λ inc act n r g. (let k = f.replies.replies_kept inc act n r g in (k.0, h.same inc act ∙ k.1, k.2, k.3));
       one_reply = f.replies.one_reply;
     };
     saved_same = λ o l c e honest g. subst (HasSaved c) (sym (h.same l.inc l.act)) (f.saved_same o l c e honest g);

@@ -94,13 +94,13 @@ pub record UnlinkedClosed (hostile : List ℕ) (links : Links) (acts : Acts) (li
   pub called : (inc act n : ℕ) (op : Operation) → IsHonest hostile inc → lives inc ≡ Some Running → Among sent (Call inc act n op) → IsLinked links inc act ⊎ IsClosed (acts inc act)
   pub known : (inc act : ℕ) (a : Activation) → IsHonest hostile inc → lives inc ≡ Some Running → acts inc act ≡ Some a → IsLinked links inc act ⊎ (a.content ≡ None)
 
--- Replies of honest servers: the kept one was sent as the reply to the last call, a reply is of an activation that came so
--- far, and no call has two.
-pub record Replies (hostile : List ℕ) (acts : Acts) (sent : List Message) : Type 0 where
-  pub reply_numbered : (inc act : ℕ) (a : Activation) → IsHonest hostile inc → acts inc act ≡ Some a → Among sent (Reply inc act a.last a.reply)
-  pub replies_kept : (inc act n : ℕ) (r : Answer) → IsHonest hostile inc → Among sent (Reply inc act n r)
+-- Replies that servers sent, hostile ones too, since they compare a server with what it really sent: the kept one was sent
+-- as the reply to the last call, a reply is of an activation that came so far, and no call has two.
+pub record Replies (acts : Acts) (sent : List Message) : Type 0 where
+  pub reply_numbered : (inc act : ℕ) (a : Activation) → acts inc act ≡ Some a → Among sent (Reply inc act a.last a.reply)
+  pub replies_kept : (inc act n : ℕ) (r : Answer) → Among sent (Reply inc act n r)
       → (a : Activation) × (acts inc act ≡ Some a) × (n ≤ a.last) × (n ≡ a.last → r ≡ a.reply)
-  pub one_reply : (inc act n : ℕ) (r q : Answer) → IsHonest hostile inc → Among sent (Reply inc act n r) → Among sent (Reply inc act n q) → r ≡ q
+  pub one_reply : (inc act n : ℕ) (r q : Answer) → Among sent (Reply inc act n r) → Among sent (Reply inc act n q) → r ≡ q
 
 -- the content that an object's save was answered is the one that its activation keeps
 abbrev pub HasSaved : Stored → Option Activation → Type 0
@@ -131,6 +131,6 @@ pub record Facts (hostile : List ℕ) (links : Links) (acts : Acts) (lives : Liv
   pub calls : CallsBounded links sent
   pub in_step : InSteps hostile links acts
   pub unlinked : UnlinkedClosed hostile links acts lives sent
-  pub replies : Replies hostile acts sent
+  pub replies : Replies acts sent
   pub saved_same : SavedSame hostile links acts
   pub counts : Counts hostile links acts sent owners counted served

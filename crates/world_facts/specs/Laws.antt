@@ -12,7 +12,7 @@ use Rattle.world_model.specs.declared.logs.ServerDone.{ServerDone}
 use Rattle.world_model.specs.declared.logs.Sent.{Sent}
 use Rattle.world_model.specs.World.{view_of}
 use Rattle.world_model.specs.Safe.{Among}
-use Rattle.world_facts.specs.Words.{Links, Acts, Lives, IsHonest}
+use Rattle.world_facts.specs.Words.{Links, Acts, Lives}
 use Rattle.world_facts.specs.Facts.{Facts}
 use Rattle.world_facts.specs.Shapes.{AsksAll, IsQuiet, CountsAll, Settles, SendsNext, Begins, EndsSome, StartsOrEnds, IsChanged, ActsOn, IsReady, entries_of, Tells, IsOwn}
 use Rattle.world_facts.specs.Views.{Views, Grows, LeavesCloses}
@@ -20,7 +20,7 @@ use Rattle.world_facts.specs.Views.{Views, Grows, LeavesCloses}
 -- the pending operation of one object was answered
 abbrev pub SettlingKeeps : Type 0
 SettlingKeeps = (hostile : List ℕ) (links after : Links) (acts : Acts) (lives : Lives) (sent : List Message) (owners : List ℕ) (last : ℕ) (counted : List Done) (served : List ServerDone) (o : ℕ)
-    → Settles links after acts o → Facts hostile links acts lives sent owners last counted served → Facts hostile after acts lives sent owners last counted served
+    → Settles hostile links after acts o → Facts hostile links acts lives sent owners last counted served → Facts hostile after acts lives sent owners last counted served
 
 -- the first operation that waits is sent
 abbrev pub SendingNextKeeps : Type 0
@@ -43,21 +43,21 @@ BeginningKeeps = (hostile : List ℕ) (links after : Links) (acts : Acts) (lives
     → Begins links after lives (owners ++ extra) last o more → length (owners ++ extra) ≡ last + 1 → Facts hostile links acts lives sent owners last counted served
     → Facts hostile after acts lives (sent ++ more) (owners ++ extra) (last + 1) counted served
 
--- links go whose activation is closed or whose server doesn't run
+-- links go whose activation is closed, or whose server doesn't run or is hostile
 abbrev pub EndingKeeps : Type 0
 EndingKeeps = (hostile : List ℕ) (links after : Links) (acts : Acts) (lives : Lives) (sent : List Message) (owners : List ℕ) (last : ℕ) (counted : List Done) (served : List ServerDone)
-    → EndsSome links after acts lives → Facts hostile links acts lives sent owners last counted served → Facts hostile after acts lives sent owners last counted served
+    → EndsSome hostile links after acts lives → Facts hostile links acts lives sent owners last counted served → Facts hostile after acts lives sent owners last counted served
 
 -- a server starts or ends
 abbrev pub StartingKeeps : Type 0
 StartingKeeps = (hostile : List ℕ) (links : Links) (acts after : Acts) (lives now : Lives) (sent : List Message) (owners : List ℕ) (last : ℕ) (counted : List Done) (served : List ServerDone)
     → StartsOrEnds acts after lives now → Facts hostile links acts lives sent owners last counted served → Facts hostile links after now sent owners last counted served
 
--- a server that runs takes a call that was sent: it acts, or answers again
+-- a server that runs, honest or not, takes a call that was sent: it acts, or answers again
 abbrev pub ActingKeeps : Type 0
 ActingKeeps = (hostile : List ℕ) (links : Links) (acts after : Acts) (lives : Lives) (sent : List Message) (owners : List ℕ) (last : ℕ) (counted : List Done) (served : List ServerDone)
     (inc act n : ℕ) (op : Operation) (a : Activation) (r : Answer) (told : Option Counted)
-    → Facts hostile links acts lives sent owners last counted served → IsReady links → IsHonest hostile inc → Among sent (Call inc act n op) → lives inc ≡ Some Running → IsChanged acts after inc act a → ActsOn acts inc act n op a r told
+    → Facts hostile links acts lives sent owners last counted served → IsReady links → Among sent (Call inc act n op) → lives inc ≡ Some Running → IsChanged acts after inc act a → ActsOn acts inc act n op a r told
     → Facts hostile links after lives (sent ++ Reply inc act n r ∷ []) owners last counted (served ++ entries_of inc act owners told)
 
 -- an activation wrote or asked
@@ -73,5 +73,13 @@ LeavingKeepsViews = (hostile : List ℕ) (links now : Links) (acts after : Acts)
 abbrev pub ActingKeepsViews : Type 0
 ActingKeepsViews = (hostile : List ℕ) (links : Links) (acts after : Acts) (lives : Lives) (sent : List Message) (owners : List ℕ) (last : ℕ) (counted : List Done) (served : List ServerDone)
     (inc act n : ℕ) (op : Operation) (a : Activation) (r : Answer) (told : Option Counted)
-    → Facts hostile links acts lives sent owners last counted served → IsReady links → IsHonest hostile inc → Among sent (Call inc act n op) → lives inc ≡ Some Running → IsChanged acts after inc act a → ActsOn acts inc act n op a r told
+    → Facts hostile links acts lives sent owners last counted served → IsReady links → Among sent (Call inc act n op) → lives inc ≡ Some Running → IsChanged acts after inc act a → ActsOn acts inc act n op a r told
     → (log : List Sent) → Views hostile links acts log → Views hostile links after (log ++ record { message = Reply inc act n r; view = option_map view_of (acts inc act) } ∷ [])
+
+-- What holds of honest servers holds where one of them is hostile from now on.
+abbrev pub TurningHostileKeeps : Type 0
+TurningHostileKeeps = (hostile : List ℕ) (inc : ℕ) (links : Links) (acts : Acts) (lives : Lives) (sent : List Message) (owners : List ℕ) (last : ℕ) (counted : List Done) (served : List ServerDone)
+    → Facts hostile links acts lives sent owners last counted served → Facts (hostile ++ inc ∷ []) links acts lives sent owners last counted served
+
+abbrev pub TurningHostileKeepsViews : Type 0
+TurningHostileKeepsViews = (hostile : List ℕ) (inc : ℕ) (links : Links) (acts : Acts) (log : List Sent) → Views hostile links acts log → Views (hostile ++ inc ∷ []) links acts log

@@ -1,5 +1,5 @@
 -- The shapes of change, over the lookups. An event of the world is a list of these; each fact is kept once by each.
-use Rattle.std.specs.Prelude.{Bool, ◌≡◌, ◌≢◌, ◌⊎◌, ◌+◌, ℕ, List, [], ◌∷◌, ◌++◌, Option, Some, None, Ok, slice_get, ⊤}
+use Rattle.std.specs.Prelude.{Bool, true, ◌≡◌, ◌≢◌, ◌⊎◌, ◌+◌, ℕ, List, [], ◌∷◌, ◌++◌, Option, Some, None, Ok, slice_get, ⊤}
 use Rattle.wire_msgs.specs.Found.{nth}
 use Rattle.wire_msgs.specs.declared.message.Message.{Message}
 use Rattle.wire_msgs.specs.Operations.{op_of}
@@ -19,8 +19,8 @@ use Rattle.world_model.specs.declared.life.Life.TheVariants.{Running}
 use Rattle.container_model.specs.declared.answer.Done.{Done}
 use Rattle.world_model.specs.declared.logs.ServerDone.{ServerDone}
 use Rattle.world_model.specs.World.{nth_or_zero}
-use Rattle.world_model.specs.Safe.{Among}
-use Rattle.world_facts.specs.Words.{Links, Acts, Lives, IsOpen, IsClosed}
+use Rattle.world_model.specs.Safe.{Among, is_hostile}
+use Rattle.world_facts.specs.Words.{Links, Acts, Lives, IsHonest, IsOpen, IsClosed}
 use Rattle.world_facts.specs.Facts.{InStep, HasSaved, Did}
 
 -- the same activation and calls, whose save is as it was or over
@@ -70,8 +70,9 @@ pub record CountsAll (links after : Links) (counted : List Done) (k : ℕ) (fres
   pub tells : AsksAll (IsTold links k fresh) links after more
   pub apart : (d e : Done) → Among counted d → Among fresh e → d.object ≡ e.object → d.k ≡ k → ⊥
 
--- Settles: the pending operation of one object was answered, and nothing else of its queue changed.
-pub record Settles (links after : Links) (acts : Acts) (o : ℕ) : Type 0 where
+-- Settles: the pending operation of one object was answered, and nothing else of its queue changed. What a hostile server
+-- answered says nothing of its activation.
+pub record Settles (hostile : List ℕ) (links after : Links) (acts : Acts) (o : ℕ) : Type 0 where
   pub before : Link
   pub link : Link
   pub was : links o ≡ Some before
@@ -82,8 +83,8 @@ pub record Settles (links after : Links) (acts : Acts) (o : ℕ) : Type 0 where
   pub last : link.last ≡ before.last
   pub pending : link.pending ≡ None
   pub waiting : link.waiting ≡ before.waiting
-  pub in_step : InStep link (acts link.inc link.act)
-  pub saved : (c : _) → link.saved ≡ Some c → HasSaved c (acts link.inc link.act)
+  pub in_step : IsHonest hostile link.inc → InStep link (acts link.inc link.act)
+  pub saved : IsHonest hostile link.inc → (c : _) → link.saved ≡ Some c → HasSaved c (acts link.inc link.act)
 
 -- Sends next: the first operation that waits at one object is sent, by the number that it had.
 pub record SendsNext (links after : Links) (o : ℕ) (more : List Message) : Type 0 where
@@ -111,9 +112,14 @@ pub record Begins (links after : Links) (lives : Lives) (owners : List ℕ) (las
   pub hosted : (life : Life) × (lives inc ≡ Some life)
   pub sends : more ≡ Call inc (last_act + 1) 1 op ∷ []
 
--- Ends: links go whose activation is closed or whose server doesn't run; all others are as they were.
-pub record EndsSome (links after : Links) (acts : Acts) (lives : Lives) : Type 0 where
-  pub each : (o : ℕ) → (after o ≡ links o) ⊎ ((after o ≡ None) × ((l : Link) → links o ≡ Some l → IsClosed (acts l.inc l.act) ⊎ (lives l.inc ≢ Some Running)))
+-- Ends: links go, each for one of these reasons; all others are as they were.
+pub data MayGo (hostile : List ℕ) (acts : Acts) (lives : Lives) (l : Link) : Type 0 where
+  is_closed : IsClosed (acts l.inc l.act) → MayGo hostile acts lives l
+  is_over : lives l.inc ≢ Some Running → MayGo hostile acts lives l
+  of_hostile : is_hostile hostile l.inc ≡ true → MayGo hostile acts lives l
+
+pub record EndsSome (hostile : List ℕ) (links after : Links) (acts : Acts) (lives : Lives) : Type 0 where
+  pub each : (o : ℕ) → (after o ≡ links o) ⊎ ((after o ≡ None) × ((l : Link) → links o ≡ Some l → MayGo hostile acts lives l))
 
 -- Starts or ends: a server is started, which has no activations yet, or one that ran has ended. All activations stay.
 pub record StartsOrEnds (acts after : Acts) (lives now : Lives) : Type 0 where

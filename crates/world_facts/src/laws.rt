@@ -1,6 +1,6 @@
 //! Laws: each shape of change keeps the facts. Each function is empty: its contract is the law, which is proved.
 
-ghost use Rattle.world_facts.specs.Laws.{ActingKeeps, ActingKeepsViews, AskingKeeps, BeginningKeeps, CountingKeeps, EndingKeeps, LeavingKeepsViews, SendingNextKeeps, SettlingKeeps, StartingKeeps, TellingKeeps};
+ghost use Rattle.world_facts.specs.Laws.{ActingKeeps, ActingKeepsViews, AskingKeeps, BeginningKeeps, CountingKeeps, EndingKeeps, LeavingKeepsViews, SendingNextKeeps, SettlingKeeps, StartingKeeps, TellingKeeps, TurningHostileKeeps, TurningHostileKeepsViews};
 
 /// The facts stay where the pending operation of an object was answered.
 pub fn settling_keeps()
@@ -37,7 +37,7 @@ pub fn starting_keeps()
     ensures { StartingKeeps }
 {}
 
-/// The facts stay where a server acts on a call, or answers it again.
+/// The facts stay where a server, honest or not, acts on a call, or answers it again.
 pub fn acting_keeps()
     ensures { ActingKeeps }
 {}
@@ -52,7 +52,17 @@ pub fn leaving_keeps_views()
     ensures { LeavingKeepsViews }
 {}
 
-/// What senders saw stays where a server acts on a call, or answers it again.
+/// What senders saw stays where a server, honest or not, acts on a call, or answers it again.
 pub fn acting_keeps_views()
     ensures { ActingKeepsViews }
+{}
+
+/// The facts stay where a server is hostile from now on: they then speak of fewer servers.
+pub fn turning_hostile_keeps()
+    ensures { TurningHostileKeeps }
+{}
+
+/// What senders saw stays where a server is hostile from now on.
+pub fn turning_hostile_keeps_views()
+    ensures { TurningHostileKeepsViews }
 {}

@@ -5,6 +5,8 @@ use Rattle.std.proofs.lemmas.Bool.Decides.{eqb_tells}
 use Rattle.std.proofs.lemmas.Slice.Eq.{bytes_eq-Decides}
 use Rattle.wire_msgs.specs.Found.{find, nth, set_nth}
 use Rattle.file_model.specs.Denotes.{Denotes}
+use Rattle.document_model.specs.DocOf.{DocOf}
+use Rattle.container_model.specs.Saves as saves
 use Rattle.container_model.specs.Saves.{document_tree, committed_frame, name_after}
 use Rattle.container_model.specs.Commands.{is_named, is_named_beside, is_name}
 use Rattle.container_model.specs.declared.answer.Part.{Part}
@@ -14,15 +16,16 @@ use Rattle.container_model.specs.declared.answer.Done.{Done}
 use Rattle.world_model.specs.declared.logs.Document.{Document}
 use Rattle.world_model.specs.declared.logs.File.{File}
 use Rattle.world_model.specs.World.{done_entry, is_file, put_file}
-use Rattle.world_files.specs.Files.{Bears, IsFiled, FilesCounted, IsSameFrame, AreSameFrames}
+use Rattle.world_model.specs.Safe.{Among}
+use Rattle.world_files.specs.Files.{Bears, IsFiled, IsOfCommit, FilesCounted, IsSameFrame, AreSameFrames}
 use Rattle.world_facts.proofs.Lookups.{among_old, among_new, among_map, nth_old, nth_one, nth_aligned, nth_set_apart, length_set_nth}
 
 -- what is counted stays counted
 filed_more : (files : List File) (frame : Frame) (document : Document) (dones more : List Done) → IsFiled files frame document dones → IsFiled files frame document (dones ++ more)
-filed_more files frame document dones more s = record { stored = s.stored; file = s.file; found = s.found; denotes = s.denotes; counted_with = λ p g. among_old dones more (done_entry document.k p) (s.counted_with p g) }
+filed_more files frame document dones more s = record { stored = s.stored; file = s.file; found = s.found; denotes = s.denotes; holds = s.holds; counted_with = λ p g. among_old dones more (done_entry document.k p) (s.counted_with p g) }
 
 filed_same : (files : List File) (old new : Frame) (document : Document) (dones : List Done) → IsSameFrame old new → IsFiled files old document dones → IsFiled files new document dones
-filed_same files old new document dones e s = record { stored = e.stored ∙ s.stored; file = s.file; found = ap (λ n. find (is_file n) files) e.name ∙ s.found; denotes = s.denotes; counted_with = s.counted_with }
+filed_same files old new document dones e s = record { stored = e.stored ∙ s.stored; file = s.file; found = ap (λ n. find (is_file n) files) e.name ∙ s.found; denotes = s.denotes; holds = s.holds; counted_with = s.counted_with }
 
 bears_same : (old new : Frame) (name : List ℕ) → IsSameFrame old new → Bears new name → Bears old name
 bears_same old new name e (inl h) = inl (sym e.name ∙ h)
@@ -34,6 +37,7 @@ stored_same frames after files counted dones s h = record {
   names_apart = λ f g a b name fa gb x y. (let p = s.from f a fa in let q = s.from g b gb in
       h.names_apart f g p.0 q.0 name p.1 q.1 (bears_same p.0 a name p.2 x) (bears_same q.0 b name q.2 y));
   file_counted = λ f document frame c at. (let p = s.from f frame at in filed_same files p.0 frame document dones p.2 (h.file_counted f document p.0 c p.1));
+  each_counted = h.each_counted;
 }
 
 -- a name that no frame bears
@@ -90,6 +94,7 @@ stored_framed frames new files counted dones un own s =
             subst (λ v. IsFiled files v document dones) is (s.file_counted f document p.0 old p.1))
         | inr none ↦ absurd (let e = none.0 in cc)
       ];
+      each_counted = s.each_counted;
     }
 
 -- a name that no other frame bears; of these frames the first has number i
@@ -132,7 +137,7 @@ module _ (frames : List Frame) (f : ℕ) (frame : Frame) (name : List ℕ) (file
   ]
 
   asks_filed : (d : Document) → IsFiled files frame d dones → IsFiled files (record frame { asked = Some name }) d dones
-  asks_filed d h = record { stored = h.stored; file = h.file; found = h.found; denotes = h.denotes; counted_with = h.counted_with }
+  asks_filed d h = record { stored = h.stored; file = h.file; found = h.found; denotes = h.denotes; holds = h.holds; counted_with = h.counted_with }
 
   pub stored_asking : FilesCounted (set_nth frames f (record frame { asked = Some name })) files counted dones
   stored_asking = record {
@@ -151,6 +156,7 @@ module _ (frames : List Frame) (f : ℕ) (frame : Frame) (name : List ℕ) (file
       | inl h ↦ subst (λ v. IsFiled files v d dones) (sym h.1) (asks_filed d (s.file_counted g d frame c (ap (nth frames) h.0 ∙ at)))
       | inr h ↦ s.file_counted g d fr c h.1
     ];
+    each_counted = s.each_counted;
   }
 
 -- files by name
@@ -174,6 +180,23 @@ found_other name other bytes (file ∷ files) ne =
       | false ↦ (λ t. ap (λ v. if is_file other file then Some file else v) (found_other name other bytes files ne))
     ] refl
 
+-- a file after a commit is the one that it made, or it was there
+put_one : (name bytes : List ℕ) (files : List File) (file : File) → Among (put_file name bytes files) file → (file ≡ record { name = name; bytes = bytes }) ⊎ Among files file
+put_one name bytes [] file (inl e) = inl e
+put_one name bytes [] file (inr z) = absurd z
+put_one name bytes (old ∷ files) file h =
+    elim (is_file name old) as (λ b. Among (if b then record { name = name; bytes = bytes } ∷ files else old ∷ put_file name bytes files) file → (file ≡ record { name = name; bytes = bytes }) ⊎ (file ≡ old) ⊎ Among files file) [
+      | true ↦ (λ g. elim g [ inl e ↦ inl e | inr k ↦ inr (inr k) ])
+      | false ↦ (λ g. elim g [
+        | inl e ↦ inr (inl e)
+        | inr k ↦ elim (put_one name bytes files file k) [ inl e ↦ inl e | inr m ↦ inr (inr m) ]
+      ])
+    ] h
+
+-- what is counted of a file stays counted
+of_commit_more : (file : File) (dones more : List Done) → IsOfCommit file dones → IsOfCommit file (dones ++ more)
+of_commit_more file dones more h = record { document = h.document; denotes = h.denotes; holds = h.holds; counted = λ p g. among_old dones more (done_entry h.document.k p) (h.counted p g) }
+
 -- the name after a commit was the frame's
 bears_after : (frame : Frame) (name : List ℕ) → Bears (committed_frame frame) name → Bears frame name
 bears_after frame name (inl e) = elim frame.asked as (λ v. frame.asked ≡ v → name_after frame.name v ≡ name → Bears frame name) [ None ↦ (λ q g. inl g) | Some a ↦ (λ q g. inr (q ∙ ap Some g)) ] refl e
@@ -181,7 +204,7 @@ bears_after frame name (inr e) = cc
 
 -- a commit of a frame
 module _ (frames : List Frame) (f : ℕ) (frame : Frame) (files : List File) (counted : List (Option Document)) (dones : List Done) (parts : List Part) (bytes : List ℕ)
-    (at : nth frames f ≡ Some frame) (denotes : ∥ Denotes bytes (document_tree parts) ∥₁) (s : FilesCounted frames files counted dones) where
+    (at : nth frames f ≡ Some frame) (denotes : ∥ Denotes bytes (document_tree parts) ∥₁) (holds : DocOf (document_tree parts) (saves.document parts)) (s : FilesCounted frames files counted dones) where
   abbrev pub name : List ℕ
   name = name_after frame.name frame.asked
 
@@ -197,6 +220,7 @@ module _ (frames : List Frame) (f : ℕ) (frame : Frame) (files : List File) (co
     file = record { name = name; bytes = bytes };
     found = found_put name bytes files;
     denotes = denotes;
+    holds = holds;
     counted_with = λ p g. among_new dones entries (done_entry frame.k p) (among_map (done_entry frame.k) parts p g);
   }
 
@@ -206,7 +230,17 @@ module _ (frames : List Frame) (f : ℕ) (frame : Frame) (files : List File) (co
     file = more.file;
     found = found_other name other.name bytes files (λ q. ne (s.names_apart g f other frame name e at (inl q) (bears_after frame name (inl refl)))) ∙ more.found;
     denotes = more.denotes;
+    holds = more.holds;
     counted_with = more.counted_with;
+  })
+
+  -- the file that the commit made
+  made : (file : File) → file ≡ record { name = name; bytes = bytes } → IsOfCommit file (dones ++ entries)
+  made file e = subst (λ v. IsOfCommit v (dones ++ entries)) (sym e) (record {
+    document = document;
+    denotes = denotes;
+    holds = holds;
+    counted = λ p g. among_new dones entries (done_entry frame.k p) (among_map (done_entry frame.k) parts p g);
   })
 
   bears_at : (g : ℕ) (a : Frame) (n : List ℕ) → nth (set_nth frames f (committed_frame frame)) g ≡ Some a → Bears a n → (b : Frame) × (nth frames g ≡ Some b) × Bears b n
@@ -229,5 +263,9 @@ module _ (frames : List Frame) (f : ℕ) (frame : Frame) (files : List File) (co
         | inl y ↦ absurd (x.0 y.0)
         | inr y ↦ elsewhere g d fr x.0 y.1 (s.file_counted g d fr x.1 y.1)
       ]
+    ];
+    each_counted = λ file h. elim (put_one name bytes files file h) [
+      | inl e ↦ made file e
+      | inr old ↦ of_commit_more file dones entries (s.each_counted file old)
     ];
   }

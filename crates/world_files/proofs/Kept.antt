@@ -6,13 +6,14 @@ use Rattle.wire_msgs.specs.declared.message.Message.{Message}
 use Rattle.wire_msgs.specs.declared.message.Message.TheVariants.{Call, Reply, Write, Ask}
 use Rattle.wire_msgs.specs.declared.operation.Operation.{Operation}
 use Rattle.file_model.specs.Denotes.{Denotes}
+use Rattle.document_model.specs.DocOf.{DocOf}
 use Rattle.file_model.specs.Refusals.{writable}
 use Rattle.file_model.specs.declared.fault.WriteFault.{WriteFault}
 use Rattle.embed_core.specs.Kinds.{Kind}
 use Rattle.server_model.specs.Server.{Served, Told, on_call, wanted}
 use Rattle.server_model.specs.Server as server
 use Rattle.server_model.specs.declared.fault.ServerFault.{ServerFault}
-use Rattle.container_model.specs.Record.{Record, Took, is_doubtful, is_object, without_first}
+use Rattle.container_model.specs.Record.{Record, Took, is_object, without_first}
 use Rattle.container_model.specs.Saves.{image, image_at, has_image, fitting, fitting_in, is_document, document, parts_in, document_tree, commit_done, commit_failed, commit_made, resolve, committed_frame, completed, completion, counted_object, cleared, kept}
 use Rattle.container_model.specs.Messages.{on_message, on_reap}
 use Rattle.container_model.specs.Commands.{on_command, new_frame, save_made}
@@ -33,8 +34,8 @@ use Rattle.world_model.specs.declared.event.Event.{Event}
 use Rattle.world_model.specs.declared.event.Event.TheVariants as event
 use Rattle.world_model.specs.declared.event.Stop.{Stop}
 use Rattle.world_model.specs.declared.event.Stop.TheVariants.{EventLimit}
-use Rattle.world_model.specs.World.{World, Instance, document_in, empty_world, joined, took, commanded, served, stocked, called_wanting, called_in, called, delivered, taken_at, with_taken, deliver, spoken_by, spoken, scribble, ask, crashed, crash, ended, reap, kept_commit, done_taken, done_imaged, done_in, only_taken, resolved, happened, limited, IsImage, IsImageOf, is_of, frame_file_in, is_file, MOST_EVENTS, Choice}
-use Rattle.world_model.specs.Safe.{Commit, IsCounted, IsKept}
+use Rattle.world_model.specs.World.{World, Instance, document_in, empty_world, joined, took, commanded, served, stocked, called_wanting, called_in, called, delivered, taken_at, with_taken, server_of, deliver, forged_on, forged, forge, spoken_by, spoken, scribble, ask, crashed, crash, ended, reap, kept_commit, done_taken, done_imaged, done_in, only_taken, resolved, happened, limited, IsImage, IsImageOf, is_of, MOST_EVENTS, Choice}
+use Rattle.world_model.specs.Safe.{Commit, IsCounted}
 use Rattle.container_steady.specs.Steady.{Steady}
 use Rattle.container_steady.proofs.Settling.{IsCommitOf, done_commits, is_dropped, is_failed, kept_commits, not_idle}
 use Rattle.world_files.specs.Files.{id_of, CountedBounded, FilesCounted, HasCommits, Files}
@@ -53,7 +54,7 @@ use Rattle.world_files.proofs.Filing.{stored_asking, stored_same, stored_framed,
 pub empty_files : (numbers : ℕ) (stock : List Kind) → Files (empty_world numbers stock)
 empty_files numbers stock = record {
   counted_bounded = record { counted = λ d h. absurd h; below = λ x d frame h g e at. absurd h; counted_once = tt };
-  filed = record { aligned = refl; names_apart = λ f g a b name fa gb x y. none_there f a fa; file_counted = λ f d frame c at. none_there f frame at };
+  filed = record { aligned = refl; names_apart = λ f g a b name fa gb x y. none_there f a fa; file_counted = λ f d frame c at. none_there f frame at; each_counted = λ file h. absurd h };
   commits = ([], record { entries = refl; last = λ f. none_counted f });
 }
   where
@@ -194,9 +195,22 @@ files_logged : (w : World) (more : List Taken) (told : Result World Stop) (v : W
 files_logged w more (Err stop) v h e = cc
 files_logged w more (Ok u) v h e = (let k = h u refl in subst Files (ok_is _ v e) (record { counted_bounded = k.counted_bounded; filed = k.filed; commits = k.commits }))
 
+-- a forged message, which the container takes as one that was delivered
+files_forged_on : (w : World) (inc : ℕ) (m : Message) → Files w → Files (forged_on w inc m)
+files_forged_on w inc m k = (let h = files_took w (on_message w.rec inc m) k (message_quiet w.rec inc m) in record { counted_bounded = h.counted_bounded; filed = h.filed; commits = h.commits })
+
+files_forged : (w : World) (inc : ℕ) (m : Message) (life : Life) (v : World) → Files w → forged w inc m life ≡ Ok v → Files v
+files_forged w inc m Running v k e = subst Files (ok_is _ v e) (files_forged_on w inc m k)
+files_forged w inc m Ended v k e = subst Files (ok_is _ v e) (files_forged_on w inc m k)
+files_forged w inc m Reaped v k e = cc
+
+files_forge : (w : World) (inc : ℕ) (m : Message) (i : Option Instance) (v : World) → Files w → forge w inc m i ≡ Ok v → Files v
+files_forge w inc m None v k e = cc
+files_forge w inc m (Some i) v k e = files_forged w inc m i.life v k e
+
 files_deliver : (w : World) (p : ℕ) (sent : Option Sent) (v : World) → Files w → deliver w p sent ≡ Ok v → Files v
 files_deliver w p None v k e = cc
-files_deliver w p (Some sent) v k e = files_logged w (taken_at w.rec p sent.message) (delivered w sent.message) v (λ u g. files_delivered w sent.message u k g) e
+files_deliver w p (Some sent) v k e = files_logged w (taken_at w.rec (Some p) (server_of sent.message) sent.message) (delivered w sent.message) v (λ u g. files_delivered w sent.message u k g) e
 
 -- what an activation says of its own accord
 files_spoken_by : (w : World) (inc act : ℕ) (i : Instance) (told : Result Told ServerFault) → Files w → Files (spoken_by w inc act i told)
@@ -259,20 +273,21 @@ image_is_at r f frame got e = elim (has_image frame.phase) as (λ b. (if b then 
 ] e
 
 files_done_taken : (w : World) (f : ℕ) (bytes : List ℕ) (frame : Frame) (parts : List Part) (told : Result Took ContainerFault) (v : World) → Steady w.rec → Files w → nth w.rec.frames f ≡ Some frame
-    → image w.rec f ≡ Ok parts → IsCommitOf w.rec f frame told → ∥ Denotes bytes (document_tree parts) ∥₁ → done_taken w f bytes frame parts told ≡ Ok v → Files v
-files_done_taken w f bytes frame parts (Err fault) v s k at im commits den e = cc
-files_done_taken w f bytes frame parts (Ok t) v s k at im commits den e =
+    → image w.rec f ≡ Ok parts → IsCommitOf w.rec f frame told → ∥ Denotes bytes (document_tree parts) ∥₁ → DocOf (document_tree parts) (document parts) → done_taken w f bytes frame parts told ≡ Ok v → Files v
+files_done_taken w f bytes frame parts (Err fault) v s k at im commits den held e = cc
+files_done_taken w f bytes frame parts (Ok t) v s k at im commits den held e =
     let r = w.rec in
     let c = commits t refl in
     let ps : parts_in f r.objects ≡ parts = image_is_at r f frame parts (ap (image_at r f) (sym at) ∙ im) in
     let ids : map id_of (map (completed f frame) r.objects) ≡ map id_of r.objects = map_map_same id_of (completed f frame) r.objects (id_completed f frame) in
     let den2 : ∥ Denotes bytes (document_tree (parts_in f r.objects)) ∥₁ = subst (λ x. ∥ Denotes bytes (document_tree x) ∥₁) (sym ps) den in
+    let held2 : DocOf (document_tree (parts_in f r.objects)) (document (parts_in f r.objects)) = subst (λ x. DocOf (document_tree x) (document x)) (sym ps) held in
     let after : World = joined (kept_commit w f frame (parts_in f r.objects) (commit_made r f frame).counted bytes) (commit_made r f frame) in
     let keeps : Files after = record {
       counted_bounded = subst (λ x. CountedBounded (set_nth r.frames f (committed_frame frame)) x r.last_object after.container_done) (sym ids)
           (bounded_committed r.frames f frame r.objects r.last_object w.container_done at (not_idle frame.phase c.0) (numbered r s) k.counted_bounded);
       filed = subst (λ cs. FilesCounted (set_nth r.frames f (committed_frame frame)) after.files cs after.container_done) (sym (append-nil _))
-          (stored_committed r.frames f frame w.files w.counted w.container_done (parts_in f r.objects) bytes at den2 k.filed);
+          (stored_committed r.frames f frame w.files w.counted w.container_done (parts_in f r.objects) bytes at den2 held2 k.filed);
       commits = subst (λ cs. HasCommits cs after.container_done) (sym (append-nil _))
           (counted_committed w.counted r.frames f frame w.container_done (parts_in f r.objects) k.filed.aligned at k.commits);
     } in
@@ -283,7 +298,7 @@ files_done_taken w f bytes frame parts (Ok t) v s k at im commits den e =
 files_imaged : (w : World) (f : ℕ) (bytes : List ℕ) (frame : Frame) (counted : Result Took ContainerFault) (told : Result (List Part) ContainerFault) (v : World) → Steady w.rec → Files w → nth w.rec.frames f ≡ Some frame → image w.rec f ≡ told
     → IsCommitOf w.rec f frame counted → IsImageOf w f bytes → done_imaged w f bytes frame counted told ≡ Ok v → Files v
 files_imaged w f bytes frame counted (Err fault) v s k at im commits den e = cc
-files_imaged w f bytes frame counted (Ok parts) v s k at im commits den e = files_done_taken w f bytes frame parts counted v s k at im commits (den parts im) e
+files_imaged w f bytes frame counted (Ok parts) v s k at im commits den e = (let d = den parts im in files_done_taken w f bytes frame parts counted v s k at im commits d.0 d.1 e)
 
 files_done_in : (w : World) (f : ℕ) (bytes : List ℕ) (counted : Result Took ContainerFault) (frame : Option Frame) (v : World) → Steady w.rec → Files w → nth w.rec.frames f ≡ frame
     → ((x : Frame) → nth w.rec.frames f ≡ Some x → IsCommitOf w.rec f x counted) → IsImageOf w f bytes → done_in w f bytes counted frame ≡ Ok v → Files v
@@ -308,6 +323,7 @@ files_resolved w choice f false v s k im e = files_only w (resolve w.rec f false
 pub files_happened : (w : World) (choice : Choice) (e : Event) (v : World) → Steady w.rec → Files w → IsImage w choice e → happened w choice e ≡ Ok v → Files v
 files_happened w choice (event.Command c) v s k im e = subst Files (ok_is _ v e) (files_commanded w c (on_command w.rec c) k (λ t g. files_command w c t s k g))
 files_happened w choice (event.Deliver p) v s k im e = files_deliver w p (nth w.sent p) v k e
+files_happened w choice (event.Forge inc m) v s k im e = files_forge w inc m (nth w.instances inc) v k e
 files_happened w choice (event.Crash inc) v s k im e = files_crash w inc (nth w.instances inc) v k e
 files_happened w choice (event.Reap inc) v s k im e = files_reap w inc (nth w.instances inc) v k e
 files_happened w choice (event.Scribble inc act) v s k im e = files_scribble w inc act (nth w.instances inc) v k e
@@ -324,17 +340,3 @@ limited_ok w (Ok u) v e = elim (nat_le MOST_EVENTS (length w.answers)) as (λ b.
 -- the commits of a world
 pub commits_kept : (w : World) → Files w → (commits : List Commit) × IsCounted w commits
 commits_kept w k = (k.commits.0, record { entries = k.commits.1.entries; last = k.commits.1.last })
-
--- the files of a world
-file_known : (w : World) (frame : Frame) (file : File) → is_doubtful frame.phase ≡ false → frame.stored ≡ true → find (is_file frame.name) w.files ≡ Some file → frame_file_in w (Some frame) ≡ Some file.bytes
-file_known w frame file sure stored found = rw (sure, stored, found) refl
-
-pub files_kept : (w : World) → Files w → (f : ℕ) (frame : Frame) (document : Document) → nth w.rec.frames f ≡ Some frame → is_doubtful frame.phase ≡ false → nth w.counted f ≡ Some (Some document) → IsKept w f document
-files_kept w k f frame document at sure c =
-    let s = k.filed.file_counted f document frame c at in
-    record {
-      bytes = s.file.bytes;
-      file = ap (frame_file_in w) at ∙ file_known w frame s.file sure s.stored s.found;
-      denotes = s.denotes;
-      counted = s.counted_with;
-    }

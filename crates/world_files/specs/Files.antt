@@ -4,6 +4,8 @@ use Rattle.std.specs.Prelude.{◌≡◌, ◌≢◌, ◌⊎◌, ◌≤◌, ◌<�
 use Rattle.std.specs.List.{flat_map}
 use Rattle.wire_msgs.specs.Found.{find, nth}
 use Rattle.file_model.specs.Denotes.{Denotes}
+use Rattle.document_model.specs.DocOf.{DocOf}
+use Rattle.container_model.specs.Saves as saves
 use Rattle.container_model.specs.Saves.{document_tree}
 use Rattle.container_model.specs.declared.answer.Part.{Part}
 use Rattle.container_model.specs.declared.record.Frame.{Frame}
@@ -59,12 +61,21 @@ pub record IsFiled (files : List File) (frame : Frame) (document : Document) (do
   pub file : File
   pub found : find (is_file frame.name) files ≡ Some file
   pub denotes : ∥ Denotes file.bytes (document_tree document.parts) ∥₁
+  pub holds : DocOf (document_tree document.parts) (saves.document document.parts)
   pub counted_with : (p : Part) → Among document.parts p → Among dones (done_entry document.k p)
+
+-- A file that holds the document of a commit that was counted, whichever frame it was of.
+pub record IsOfCommit (file : File) (dones : List Done) : Type 0 where
+  pub document : Document
+  pub denotes : ∥ Denotes file.bytes (document_tree document.parts) ∥₁
+  pub holds : DocOf (document_tree document.parts) (saves.document document.parts)
+  pub counted : (p : Part) → Among document.parts p → Among dones (done_entry document.k p)
 
 pub record FilesCounted (frames : List Frame) (files : List File) (counted : List (Option Document)) (dones : List Done) : Type 0 where
   pub aligned : length counted ≡ length frames
   pub names_apart : Apart frames
   pub file_counted : (f : ℕ) (document : Document) (frame : Frame) → nth counted f ≡ Some (Some document) → nth frames f ≡ Some frame → IsFiled files frame document dones
+  pub each_counted : (file : File) → Among files file → IsOfCommit file dones
 
 -- what was counted, commit by commit
 pub record CommitsCounted (counted : List (Option Document)) (dones : List Done) (commits : List Commit) : Type 0 where

@@ -128,7 +128,7 @@ took before a (Close NoSave) (told.Tools menus border) = λ nf g m d has. absurd
 
 module _ {hostile : List ℕ} (links : Links) (acts after : Acts) (lives : Lives) (sent : List Message) (owners : List ℕ) (last : ℕ) (counted : List Done) (served : List ServerDone)
     (inc act n : ℕ) (op : Operation) (a : Activation) (r : Answer) (told : Option Counted)
-    (f : Facts hostile links acts lives sent owners last counted served) (ready : IsReady links) (honest : IsHonest hostile inc)
+    (f : Facts hostile links acts lives sent owners last counted served) (ready : IsReady links)
     (call : Among sent (Call inc act n op)) (runs : lives inc ≡ Some Runs) (ch : IsChanged acts after inc act a) (how : ActsOn acts inc act n op a r told)
     (roles : Roles) (getting : (o g : ℕ) (l : Link) → links o ≡ Some l → l.pending ≡ Some (UiActivate g) → roles o ≡ Getting g) (h : Grants hostile links roles acts sent) where
   -- the next call of an open activation, which is linked
@@ -141,40 +141,40 @@ module _ {hostile : List ℕ} (links : Links) (acts after : Acts) (lives : Lives
     asked : link.pending ≡ Some op
     took : (g : ℕ) → a.g ≡ Some g → Given g before op a
 
-  next_linked : (before : Activation) → acts inc act ≡ Some before → n ≡ before.last + 1 → IsOpen before → Makes before op a r told → IsNext before
-  next_linked before at en opened m = elim (linked_or_closed links acts after lives sent owners last counted served inc act n op a r told f ready honest call runs ch how) [
-    | inl k ↦ (let p = of_link links acts after lives sent owners last counted served inc act n op a r told f ready honest call runs ch how k.0 k.1 k.2 k.3 k.4 in
-        let x = next_of links acts after lives sent owners last counted served inc act n op a r told f ready honest call runs ch how k.0 k.1 before p en _ at p.step in
-        let nf = not_first links acts after lives sent owners last counted served inc act n op a r told f ready honest call runs ch how k.0 k.1 before at k.2 en x in
+  next_linked : IsHonest hostile inc → (before : Activation) → acts inc act ≡ Some before → n ≡ before.last + 1 → IsOpen before → Makes before op a r told → IsNext before
+  next_linked honest before at en opened m = elim (linked_or_closed links acts after lives sent owners last counted served inc act n op a r told f ready call runs ch how honest) [
+    | inl k ↦ (let p = of_link links acts after lives sent owners last counted served inc act n op a r told f ready call runs ch how k.0 k.1 k.2 k.3 k.4 honest in
+        let x = next_of links acts after lives sent owners last counted served inc act n op a r told f ready call runs ch how k.0 k.1 before p en _ at p.step in
+        let nf = not_first links acts after lives sent owners last counted served inc act n op a r told f ready call runs ch how k.0 k.1 before at k.2 en x in
         let v = ready.runs k.0 k.1 op k.2 x.asked in
         let d : Did before.states before.s op a r = m.did v.0 (ap (λ y. both.step y (op_of op)) x.states ∙ v.1) nf in
         record { object = k.0; link = k.1; linked = k.2; inc_is = k.3; act_is = k.4; asked = x.asked; took = λ g has. took before a op r nf g m.grant d has })
     | inr c ↦ absurd (let z : before.content ≡ None = subst IsClosed at c in let y : None ≡ Some opened.0 = sym z ∙ opened.1 in cc)
   ]
 
-  ui_here : (g : ℕ) → a.g ≡ Some g → ActsOn acts inc act n op a r told → IsUi a
-  ui_here g has (again at en er ec) = h.g_is_ui inc act g a honest at has
-  ui_here g has (next before at en opened m) = elim ((next_linked before at en opened m).took g has) [
+  ui_here : IsHonest hostile inc → (g : ℕ) → a.g ≡ Some g → ActsOn acts inc act n op a r told → IsUi a
+  ui_here honest g has (again at en er ec) = h.g_is_ui inc act g a honest at has
+  ui_here honest g has (next before at en opened m) = elim ((next_linked honest before at en opened m).took g has) [
     | inl k ↦ k.1
     | inr k ↦ k.1 (h.g_is_ui inc act g before honest at k.0)
   ]
-  ui_here g has (makes at en fo al ar d ec eg) = absurd (let z : None ≡ Some g = sym eg ∙ has in cc)
+  ui_here honest g has (makes at en fo al ar d ec eg) = absurd (let z : None ≡ Some g = sym eg ∙ has in cc)
 
-  named_here : (o g : ℕ) (l : Link) → links o ≡ Some l → l.inc ≡ inc → l.act ≡ act → a.g ≡ Some g → ActsOn acts inc act n op a r told → Names (roles o) g
-  named_here o g l e ei ea has (again at en er ec) = h.holder_named o g l a e (subst (IsHonest hostile) (sym ei) honest) (ap (λ x. acts x l.act) ei ∙ (ap (acts inc) ea ∙ at)) has
-  named_here o g l e ei ea has (next before at en opened m) =
-      let x = next_linked before at en opened m in
+  named_here : IsHonest hostile inc → (o g : ℕ) (l : Link) → links o ≡ Some l → l.inc ≡ inc → l.act ≡ act → a.g ≡ Some g → ActsOn acts inc act n op a r told → Names (roles o) g
+  named_here honest o g l e ei ea has (again at en er ec) = h.holder_named o g l a e (subst (IsHonest hostile) (sym ei) honest) (ap (λ x. acts x l.act) ei ∙ (ap (acts inc) ea ∙ at)) has
+  named_here honest o g l e ei ea has (next before at en opened m) =
+      let x = next_linked honest before at en opened m in
       elim (x.took g has) [
-        | inl k ↦ (let p = of_link links acts after lives sent owners last counted served inc act n op a r told f ready honest call runs ch how o l e ei ea in
-            let y = next_of links acts after lives sent owners last counted served inc act n op a r told f ready honest call runs ch how o l before p en _ at p.step in
+        | inl k ↦ (let p = of_link links acts after lives sent owners last counted served inc act n op a r told f ready call runs ch how o l e ei ea honest in
+            let y = next_of links acts after lives sent owners last counted served inc act n op a r told f ready call runs ch how o l before p en _ at p.step in
             subst (λ z. Names z g) (sym (getting o g l e (y.asked ∙ ap Some k.0))) refl)
         | inr k ↦ h.holder_named o g l before e (subst (IsHonest hostile) (sym ei) honest) (ap (λ z. acts z l.act) ei ∙ (ap (acts inc) ea ∙ at)) k.0
       ]
-  named_here o g l e ei ea has (makes at en fo al ar d ec eg) = absurd (let z : None ≡ Some g = sym eg ∙ has in cc)
+  named_here honest o g l e ei ea has (makes at en fo al ar d ec eg) = absurd (let z : None ≡ Some g = sym eg ∙ has in cc)
 
-  called_now : (i x m : ℕ) (q : Answer) → IsHonest hostile i → Among (sent ++ Reply inc act n r ∷ []) (Reply i x m q) → (p : Operation) × Among (sent ++ Reply inc act n r ∷ []) (Call i x m p)
-  called_now i x m q hon k = elim (among_join sent (Reply inc act n r ∷ []) _ k) [
-    | inl old ↦ (let c = h.replied_called i x m q hon old in (c.0, among_old sent (Reply inc act n r ∷ []) _ c.1))
+  called_now : (i x m : ℕ) (q : Answer) → Among (sent ++ Reply inc act n r ∷ []) (Reply i x m q) → (p : Operation) × Among (sent ++ Reply inc act n r ∷ []) (Call i x m p)
+  called_now i x m q k = elim (among_join sent (Reply inc act n r ∷ []) _ k) [
+    | inl old ↦ (let c = h.replied_called i x m q old in (c.0, among_old sent (Reply inc act n r ∷ []) _ c.1))
     | inr new ↦ elim new [
       | inl e ↦ (
         op,
@@ -189,12 +189,12 @@ module _ {hostile : List ℕ} (links : Links) (acts after : Acts) (lives : Lives
   grants_acted = record {
     g_is_ui = λ i x g b hon e has. elim (same_act i x inc act) [
       | inl s ↦ (let z : Some a ≡ Some b = sym ch.here ∙ (ap (after inc) (sym s.1) ∙ (ap (λ y. after y x) (sym s.0) ∙ e)) in let is : a ≡ b = cc in
-          subst IsUi is (ui_here g (ap (λ (y : Activation). y.g) is ∙ has) how))
+          subst IsUi is (ui_here (subst (IsHonest hostile) s.0 hon) g (ap (λ (y : Activation). y.g) is ∙ has) how))
       | inr d ↦ h.g_is_ui i x g b hon (sym (ch.others i x d) ∙ e) has
     ];
     holder_named = λ o g l b e hon at has. elim (same_act l.inc l.act inc act) [
       | inl s ↦ (let z : Some a ≡ Some b = sym ch.here ∙ (ap (after inc) (sym s.1) ∙ (ap (λ y. after y l.act) (sym s.0) ∙ at)) in let is : a ≡ b = cc in
-          named_here o g l e s.0 s.1 (ap (λ (y : Activation). y.g) is ∙ has) how)
+          named_here (subst (IsHonest hostile) s.0 hon) o g l e s.0 s.1 (ap (λ (y : Activation). y.g) is ∙ has) how)
       | inr d ↦ h.holder_named o g l b e hon (sym (ch.others l.inc l.act d) ∙ at) has
     ];
     replied_called = called_now;

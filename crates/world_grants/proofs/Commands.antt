@@ -1,11 +1,10 @@
 -- Commands that leave frames to whoever has them; a commit, one that fails, and a save that is dropped.
-use Rattle.std.proofs.Common.{◌≡◌, ◌==◌, ℕ, Bool, true, false, List, Some, refl, sym, ◌∙◌, subst, if◌then◌else◌, Option, None}
-use Rattle.wire_msgs.specs.Found.{find, put, nth, set_nth}
-use Rattle.wire_msgs.specs.declared.operation.Operation.{Operation}
+use Rattle.std.proofs.Common.{◌≡◌, ◌==◌, ℕ, Bool, true, false, List, Some, refl, sym, ◌∙◌, subst, if◌then◌else◌, Option}
+use Rattle.wire_msgs.specs.Found.{find, put, nth}
 use Rattle.wire_msgs.specs.declared.operation.Operation.TheVariants.{SaveDropped}
 use Rattle.container_model.specs.declared.record.Object.{Object}
 use Rattle.container_model.specs.declared.record.Frame.{Frame}
-use Rattle.container_model.specs.Record.{Record, is_object, asked_link, asked_object}
+use Rattle.container_model.specs.Record.{Record, is_object}
 use Rattle.container_model.specs.Saves.{kept, cleared, completion, completed, counted_object, commit_doubted, commit_made, committed_frame, doubted_frame, dropped_frame, dropped_object, forgotten_object, save_dropped}
 use Rattle.container_model.specs.Commands.{saving, saving_frame, saving_on, save_made}
 use Rattle.world_grants.specs.Grants.{NoClaim, NoTools}

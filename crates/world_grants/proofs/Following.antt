@@ -23,8 +23,8 @@ asks_follow Asks links after more h o m e = at (h.each o)
     at (queues b l op p w i s pe wt ak n) = (let z : Some l ≡ Some m = sym i ∙ e in let q : l ≡ m = cc in (b, w, ap (λ (x : Link). x.inc) (sym q) ∙ s.inc, ap (λ (x : Link). x.act) (sym q) ∙ s.act))
     at (sends b l op w i s wb wm ak n) = (let z : Some l ≡ Some m = sym i ∙ e in let q : l ≡ m = cc in (b, w, ap (λ (x : Link). x.inc) (sym q) ∙ s.inc, ap (λ (x : Link). x.act) (sym q) ∙ s.act))
 
-pub settles_follow : (links after : Links) (acts : Acts) (o : ℕ) → Settles links after acts o → Follows links after
-settles_follow links after acts o h n m e = elim (which links after o n h.link m h.is h.others e) [
+pub settles_follow : (hostile : List ℕ) (links after : Links) (acts : Acts) (o : ℕ) → Settles hostile links after acts o → Follows links after
+settles_follow hostile links after acts o h n m e = elim (which links after o n h.link m h.is h.others e) [
   | inl s ↦ (h.before, ap links s.0 ∙ h.was, ap (λ (x : Link). x.inc) s.1 ∙ h.inc, ap (λ (x : Link). x.act) s.1 ∙ h.act)
   | inr s ↦ (m, s.1, refl, refl)
 ]
@@ -35,8 +35,8 @@ next_follows links after o more h n m e = elim (which links after o n h.link m h
   | inr s ↦ (m, s.1, refl, refl)
 ]
 
-pub ends_follow : (links after : Links) (acts : Acts) (lives : Lives) → EndsSome links after acts lives → Follows links after
-ends_follow links after acts lives h o m e = elim (h.each o) [
+pub ends_follow : (hostile : List ℕ) (links after : Links) (acts : Acts) (lives : Lives) → EndsSome hostile links after acts lives → Follows links after
+ends_follow hostile links after acts lives h o m e = elim (h.each o) [
   | inl s ↦ (m, sym s ∙ e, refl, refl)
   | inr g ↦ absurd (let z : None ≡ Some m = sym g.0 ∙ e in cc)
 ]

@@ -19,7 +19,7 @@ use Rattle.world_facts.specs.Shapes.{Begins}
 use Rattle.world_facts.proofs.Issuing.{which}
 use Rattle.world_facts.proofs.Leaving.{AreCalls}
 use Rattle.world_facts.proofs.Lookups.{among_join, among_old}
-use Rattle.world_grants.specs.Grants.{Roles, Names, WasTold, Grants, Follows, GaveUp, RolesMove}
+use Rattle.world_grants.specs.Grants.{Roles, Names, WasTold, Grants, AreSent, Follows, GaveUp, RolesMove}
 
 -- more was sent
 pub told_more : (sent more : List Message) (inc act g : ℕ) (tools : Tools) → WasTold sent inc act g tools → WasTold (sent ++ more) inc act g tools
@@ -46,14 +46,14 @@ module _ {hostile : List ℕ} (links : Links) (acts : Acts) (lives : Lives) (sen
   pub did_answer : (o : ℕ) (l : Link) (op : Operation) (answer : Answer) (a : Activation) → links o ≡ Some l → IsHonest hostile l.inc → l.pending ≡ Some op → Among sent (Reply l.inc l.act l.last answer) → acts l.inc l.act ≡ Some a
       → Did l.states l.s op a answer
   did_answer o l op answer a e honest p g at =
-      let k = f.replies.replies_kept l.inc l.act l.last answer honest g in
+      let k = f.replies.replies_kept l.inc l.act l.last answer g in
       let same : k.0 ≡ a = (let z : Some k.0 ≡ Some a = sym k.1 ∙ at in cc) in
       subst (λ y. Did l.states l.s op y answer) same (ahead_by l op answer k.0 p k.2 k.3 (acts l.inc l.act) k.1 (f.in_step o l e honest))
 
   -- and the call was sent
-  pub pending_called : (o : ℕ) (l : Link) (op : Operation) (roles : Roles) (answer : Answer) → Grants hostile links roles acts sent → links o ≡ Some l → IsHonest hostile l.inc → l.pending ≡ Some op → Among sent (Reply l.inc l.act l.last answer) → Among sent (Call l.inc l.act l.last op)
-  pending_called o l op roles answer g e honest p k =
-      let c = g.replied_called l.inc l.act l.last answer honest k in
+  pub pending_called : (o : ℕ) (l : Link) (op : Operation) (roles : Roles) (answer : Answer) → Grants hostile links roles acts sent → links o ≡ Some l → l.pending ≡ Some op → Among sent (Reply l.inc l.act l.last answer) → Among sent (Call l.inc l.act l.last op)
+  pending_called o l op roles answer g e p k =
+      let c = g.replied_called l.inc l.act l.last answer k in
       subst (λ x. Among sent (Call l.inc l.act l.last x)) (f.calls.pending o l.inc c.0 op l e p c.1) c.1
 
   -- a link after a step: of an activation that the object had before, or of one that nobody knows
@@ -61,12 +61,12 @@ module _ {hostile : List ℕ} (links : Links) (acts : Acts) (lives : Lives) (sen
   Before o m = ((l : Link) × (links o ≡ Some l) × (m.inc ≡ l.inc) × (m.act ≡ l.act)) ⊎ ((links o ≡ None) × ((a : Activation) → acts m.inc m.act ≡ Some a → ⊥))
 
   module _ (after : Links) (more : List Message) (roles now : Roles) (taken : List Message) (g : Grants hostile links roles acts sent) (linked : (o k : ℕ) (tools : Tools) → roles o ≡ Holding k tools → (l : Link) × (links o ≡ Some l))
-      (moves : RolesMove links after roles now taken) (sends : (m : Message) → Among taken m → Among sent m) (calls : AreCalls more) (back : (o : ℕ) (m : Link) → after o ≡ Some m → Before o m) where
+      (moves : RolesMove links after roles now taken) (sends : AreSent hostile sent taken) (calls : AreCalls more) (back : (o : ℕ) (m : Link) → after o ≡ Some m → Before o m) where
     no_g : (o k : ℕ) (l : Link) (a : Activation) → links o ≡ Some l → IsHonest hostile l.inc → acts l.inc l.act ≡ Some a → a.g ≡ Some k → GaveUp links taken o → ⊥
     no_g o k l a e honest at has gave =
         let same : gave.link ≡ l = (let z : Some gave.link ≡ Some l = sym gave.linked ∙ e in cc) in
         let d : Did l.states l.s UiDeactivate a told.Done = did_answer o l UiDeactivate told.Done a e honest (ap (λ (x : Link). x.pending) (sym same) ∙ gave.pending)
-        (sends _ (subst (λ (x : Link). Among taken (Reply x.inc x.act x.last told.Done)) same gave.answered)) at in
+        (sends _ (subst (λ (x : Link). Among taken (Reply x.inc x.act x.last told.Done)) same gave.answered) honest) at in
         let z : None ≡ Some k = sym d.1 ∙ has in
         cc
 
@@ -89,8 +89,8 @@ module _ {hostile : List ℕ} (links : Links) (acts : Acts) (lives : Lives) (sen
           told_more sent more m.inc m.act k tools (told_as sent l.inc l.act m.inc m.act k tools b.2 b.3 (elim (moves.held o k tools m e r) [
             | inl was ↦ g.held_told o k tools l b.1 h was
             | inr got ↦ (let same : got.link ≡ l = (let z : Some got.link ≡ Some l = sym got.linked ∙ b.1 in cc) in
-                let replied : Among sent (Reply l.inc l.act l.last (told.Tools tools.menus tools.border)) = sends _ (subst (λ (x : Link). Among taken (Reply x.inc x.act x.last (told.Tools tools.menus tools.border))) same got.answered) in
-                record { n = l.last; called = pending_called o l (UiActivate k) roles _ g b.1 h (ap (λ (x : Link). x.pending) (sym same) ∙ got.pending) replied; replied = replied })
+                let replied : Among sent (Reply l.inc l.act l.last (told.Tools tools.menus tools.border)) = sends _ (subst (λ (x : Link). Among taken (Reply x.inc x.act x.last (told.Tools tools.menus tools.border))) same got.answered) h in
+                record { n = l.last; called = pending_called o l (UiActivate k) roles _ g b.1 (ap (λ (x : Link). x.pending) (sym same) ∙ got.pending) replied; replied = replied })
           ])))
       | inr n ↦ absurd (elim (moves.held o k tools m e r) [
         | inl was ↦ (let l = linked o k tools was in let z : None ≡ Some l.0 = sym n.0 ∙ l.1 in cc)
@@ -98,9 +98,9 @@ module _ {hostile : List ℕ} (links : Links) (acts : Acts) (lives : Lives) (sen
       ])
     ]
 
-    called_now : (inc act n : ℕ) (r : Answer) → IsHonest hostile inc → Among (sent ++ more) (Reply inc act n r) → (op : Operation) × Among (sent ++ more) (Call inc act n op)
-    called_now inc act n r honest k = elim (among_join sent more _ k) [
-      | inl old ↦ (let c = g.replied_called inc act n r honest old in (c.0, among_old sent more _ c.1))
+    called_now : (inc act n : ℕ) (r : Answer) → Among (sent ++ more) (Reply inc act n r) → (op : Operation) × Among (sent ++ more) (Call inc act n op)
+    called_now inc act n r k = elim (among_join sent more _ k) [
+      | inl old ↦ (let c = g.replied_called inc act n r old in (c.0, among_old sent more _ c.1))
       | inr new ↦ absurd (let c = calls _ new in let z : Reply inc act n r ≡ Call c.0 c.1 c.2 c.3 = c.4 in cc)
     ]
 
@@ -110,7 +110,7 @@ module _ {hostile : List ℕ} (links : Links) (acts : Acts) (lives : Lives) (sen
 -- the links follow those before
 pub followed : {hostile : List ℕ} (links after : Links) (acts : Acts) (lives : Lives) (sent more : List Message) (owners : List ℕ) (last : ℕ) (counted : List Done) (served : List ServerDone) (roles now : Roles) (taken : List Message)
     → Facts hostile links acts lives sent owners last counted served → Grants hostile links roles acts sent → ((o k : ℕ) (tools : Tools) → roles o ≡ Holding k tools → (l : Link) × (links o ≡ Some l))
-    → RolesMove links after roles now taken → ((m : Message) → Among taken m → Among sent m) → AreCalls more → Follows links after → Grants hostile after now acts (sent ++ more)
+    → RolesMove links after roles now taken → AreSent hostile sent taken → AreCalls more → Follows links after → Grants hostile after now acts (sent ++ more)
 followed links after acts lives sent more owners last counted served roles now taken f g linked moves sends calls follows =
     stepped links acts lives sent owners last counted served f after more roles now taken g linked moves sends calls (λ o m e. inl (follows o m e))
 
@@ -119,7 +119,7 @@ pub begun : {hostile : List ℕ} (links after : Links) (acts : Acts) (lives : Li
     → Facts hostile links acts lives sent owners last counted served → Grants hostile links roles acts sent → ((o k : ℕ) (tools : Tools) → roles o ≡ Holding k tools → (l : Link) × (links o ≡ Some l))
     → RolesMove links after roles now [] → AreCalls more → Begins links after lives (owners ++ extra) last o more → Grants hostile after now acts (sent ++ more)
 begun links after acts lives sent more owners extra last o counted served roles now f g linked moves calls h =
-    stepped links acts lives sent owners last counted served f after more roles now [] g linked moves (λ m z. absurd z) calls (λ k m e. elim (which links after o k _ m h.is h.others e) [
+    stepped links acts lives sent owners last counted served f after more roles now [] g linked moves (λ m z h. absurd z) calls (λ k m e. elim (which links after o k _ m h.is h.others e) [
       | inl s ↦ inr (ap links s.0 ∙ h.was, (λ a at. let ea : m.act ≡ last + 1 = ap (λ (x : Link). x.act) s.1 in let le : m.act ≤ last = f.drawn.acts_drawn m.inc m.act a at in omega arith))
       | inr s ↦ inl (m, s.1, refl, refl)
     ])

@@ -20,6 +20,7 @@ use Rattle.container_model.specs.declared.record.Object.{Object}
 use Rattle.container_model.specs.declared.record.Frame.{Frame}
 use Rattle.container_model.specs.Record.{Record, is_object}
 use Rattle.container_steady.specs.Roles.{Role, Other, Getting, Holding, Giving, Waiting, role_in}
+use Rattle.world_model.specs.World.{server_of}
 use Rattle.world_model.specs.Safe.{Among}
 use Rattle.world_facts.specs.Words.{Links, Acts, IsHonest, IsOpen}
 
@@ -61,8 +62,8 @@ pub record Grants (hostile : List ℕ) (links : Links) (roles : Roles) (acts : A
   pub g_is_ui : (inc act g : ℕ) (a : Activation) → IsHonest hostile inc → acts inc act ≡ Some a → a.g ≡ Some g → IsUi a
   -- and its frame names it
   pub holder_named : (o g : ℕ) (l : Link) (a : Activation) → links o ≡ Some l → IsHonest hostile l.inc → acts l.inc l.act ≡ Some a → a.g ≡ Some g → Names (roles o) g
-  -- what was replied was called; so whatever is pending was sent once it is answered
-  pub replied_called : (inc act n : ℕ) (r : Answer) → IsHonest hostile inc → Among sent (Reply inc act n r) → (op : Operation) × Among sent (Call inc act n op)
+  -- what was replied was called, at a hostile server too; so whatever is pending was sent once it is answered
+  pub replied_called : (inc act n : ℕ) (r : Answer) → Among sent (Reply inc act n r) → (op : Operation) × Among sent (Call inc act n op)
   -- whoever holds its frame answered the tools that it holds it with
   pub held_told : (o g : ℕ) (tools : Tools) (l : Link) → links o ≡ Some l → IsHonest hostile l.inc → roles o ≡ Holding g tools → WasTold sent l.inc l.act g tools
 
@@ -74,6 +75,10 @@ pub record IsReadyFor (links : Links) (roles : Roles) : Type 0 where
 -- each link is of an activation that was linked to the same object before
 abbrev pub Follows : Links → Links → Type 0
 Follows links after = (o : ℕ) (m : Link) → after o ≡ Some m → (l : Link) × (links o ≡ Some l) × (m.inc ≡ l.inc) × (m.act ≡ l.act)
+
+-- What a step took of honest servers was sent. Of hostile ones it takes what was forged.
+abbrev pub AreSent : List ℕ → List Message → List Message → Type 0
+AreSent hostile sent taken = (m : Message) → Among taken m → IsHonest hostile (server_of m) → Among sent m
 
 -- A step took the answer of an object that it gave its frame up, or with which tools it holds its frame.
 pub record GaveUp (links : Links) (taken : List Message) (o : ℕ) : Type 0 where

@@ -9,7 +9,7 @@ use Rattle.container_model.specs.declared.fault.ContainerFault.{ContainerFault}
 use Rattle.container_model.specs.declared.fault.ContainerFault.TheVariants.{NoSuch, Busy, NotRunning, InDoubt, WrongLink, Stale, Full, NumbersSpent, WrongState, BadFile, BadAnswer, UnknownClass, NoMemory}
 use Rattle.container_model.specs.declared.record.Frame.{Frame}
 use Rattle.container_model.specs.Record.{Record, Refuses, Took}
-use Rattle.container_model.specs.Saves.{commit_at, commit_done, commit_failed, commit_fitting, commit_made, counted_at, counted_of, document, document_tree, done_entry, fitting, fitting_in, has_image, image, image_at, is_committing, is_document, parts_in, failed_at, resolve, resolved_as, resolved_at}
+use Rattle.container_model.specs.Saves.{commit_at, commit_done, commit_failed, counted_at, counted_of, document, document_tree, done_entry, fitting, fitting_in, has_image, image, image_at, is_document, parts_in, failed_at, resolve, resolved_at}
 use Rattle.world_host.specs.Files.{is_committing_in, is_doubtful_in}
 
 fits_by : (ps parts : List Part) (b : Bool) (told : Result (Unit {0}) WriteFault) → ◌≡◌ {A = Result (List Part) ContainerFault} (if b then fitting_in ps told else Err Full) (Ok parts) → ps ≡ parts

@@ -17,8 +17,8 @@ listed (Some x) = x ∷ []
 abbrev pub if_taken : {A : Type 0} → Bool → List A → List A
 if_taken taken xs = if taken then xs else []
 
--- what is held of the object of a message at this place, which may bring a content of it
-abbrev pub brought : ℕ → List Object → Message → List Taken
+-- what is held of the object of a message at this place, or of one that is forged, which may bring a content of it
+abbrev pub brought : Option ℕ → List Object → Message → List Taken
 brought p objects (Call inc act n op) = []
 brought p objects (Reply inc act n answer) = taken_of p (find (is_linked inc act) objects)
 brought p objects (Write inc act s number content) = taken_of p (find (is_linked inc act) objects)
@@ -28,9 +28,16 @@ abbrev pub logged : List Taken → Result Took ContainerFault → List Taken
 logged entry (Err fault) = []
 logged entry (Ok t) = if_taken t.answer.taken entry
 
--- a message at this place comes to the container: what it brought is logged, if it is taken
+-- a message at this place, or one that is forged, comes to the container: what it brought is logged, if it is taken
 abbrev pub heard_as : World → List Taken → Result Took ContainerFault → World
 heard_as w entry told = record (took w told) { taken = w.taken ++ logged entry told }
 
-abbrev pub heard : World → ℕ → ℕ → Message → World
+abbrev pub heard : World → Option ℕ → ℕ → Message → World
 heard w p inc m = heard_as w (brought p w.rec.objects m) (on_message w.rec inc m)
+
+-- a forged message comes to the container: its server is hostile from then on
+abbrev pub forged_as : World → ℕ → List Taken → Result Took ContainerFault → World
+forged_as w inc entry told = record (heard_as w entry told) { hostile = w.hostile ++ inc ∷ [] }
+
+abbrev pub forged : World → ℕ → Message → World
+forged w inc m = forged_as w inc (brought None w.rec.objects m) (on_message w.rec inc m)

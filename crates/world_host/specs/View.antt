@@ -17,7 +17,7 @@ bare l = record {
   container_done = l.container_done.items;
   server_done = l.server_done.items;
   counted = l.counted.items;
-  hostile = [];
+  hostile = l.hostile.items;
 }
 
 -- the same with new servers of these incarnations

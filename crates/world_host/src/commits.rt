@@ -2,8 +2,10 @@
 
 ghost use Rattle.std.specs.Prelude.{◌++◌, ◌∷◌, [], ◌+◌, ◌<◌, ◌≤◌, ◌≡◌, IfOk, IfErr, IfSome, MatchOption, length, true, OnErr, OnOk, Ok, Some, None, List, ℕ, map, option_copied, vec_len, vec_capacity};
 ghost use Rattle.wire_msgs.specs.Found.{nth, set_nth, find};
-ghost use Rattle.container_model.specs.Saves.{commit_done, counted_of, done_entry, image, document_tree, name_after};
+ghost use Rattle.container_model.specs.Record as container;
+ghost use Rattle.container_model.specs.Saves.{commit_done, counted_of, document, done_entry, image, document_tree, name_after};
 ghost use Rattle.container_model.specs.declared.record.Phase.TheVariants as phase;
+ghost use Rattle.document_model.specs.DocOf.{DocOf};
 ghost use Rattle.file_model.specs.Denotes.{Denotes};
 ghost use Rattle.world_model.specs.World.{IsImage, Refuses, done, frame_file, is_file, kept_commit, limited, put_file, making};
 ghost use Rattle.world_model.specs.declared.event.Event.TheVariants as event;
@@ -118,6 +120,21 @@ impl Host {
         }
     }
 
+    // The document of a frame whose commit is asked for or in doubt, and the file that is committed: of its clauses those that
+    // a world speaks of.
+    pub(crate) fn image(
+        &self,
+        alloc: Global,
+        f: u32,
+    ) -> Result<(Items<Part>, Vec<u8>), ContainerFault>
+        ensures document { IfOk result (λ w. image self.now.core f ≡ Ok w.0) }
+        ensures denotes { IfOk result (λ w. ∥ Denotes w.1.items (document_tree w.0) ∥₁) }
+        ensures holds { IfOk result (λ w. DocOf (document_tree w.0) (document w.0)) }
+        ensures refused { IfErr result (container.Refuses (image self.now.core f)) }
+    {
+        self.core.commit_image(alloc, f)
+    }
+
     // What a commit of the frame counts: the contents of its document, under the number of its save. That number, too.
     pub(crate) fn counted(
         &self,
@@ -187,7 +204,7 @@ impl Host {
         if !self.is_committing(f) {
             return Err(Stop::NotEnabled);
         }
-        match self.core.commit_image(alloc, f) {
+        match self.image(alloc, f) {
             Ok((parts, bytes)) => {
                 if self.is_full() {
                     return Err(Stop::EventLimit);

@@ -169,7 +169,7 @@ impl Host {
         if !self.is_doubtful(f) {
             return Err(Stop::NotEnabled);
         }
-        match self.core.commit_image(alloc, f) {
+        match self.image(alloc, f) {
             Ok((parts, bytes)) => {
                 if self.is_full() {
                     return Err(Stop::EventLimit);

@@ -1,13 +1,13 @@
 //! The host of a container: what a world keeps besides its servers and its stock.
 
-ghost use Rattle.std.specs.Prelude.{[], ◌∷◌, ◌++◌, ◌+◌, ◌≤◌, ◌<◌, ◌^◌, ◌≡◌, IfErr, IfOk, OnErr, OnOk, Ok, length, map, nat_le, false, vec_len, vec_capacity};
+ghost use Rattle.std.specs.Prelude.{Some, [], ◌∷◌, ◌++◌, ◌+◌, ◌≤◌, ◌<◌, ◌^◌, ◌≡◌, IfErr, IfOk, OnErr, OnOk, Ok, length, map, nat_le, false, vec_len, vec_capacity};
 ghost use Rattle.std.specs.List.{range_with_len};
 ghost use Rattle.container_model.specs.Commands.{on_command};
 ghost use Rattle.container_model.specs.Messages.{on_message, on_reap};
 ghost use Rattle.container_model.specs.Record.{counts_none};
 ghost use Rattle.world_model.specs.World.{messages_of, commits_of, of_container, joined, uncounted, took, commanded, owners_by, empty_world, MOST_EVENTS};
 ghost use Rattle.world_model.specs.declared.logs.EventAnswer.TheVariants as told;
-ghost use Rattle.world_host.specs.Logging.{heard};
+ghost use Rattle.world_host.specs.Logging.{forged, heard};
 ghost use Rattle.world_host.specs.Servers.{ends_in, ends_of, starts_of};
 ghost use Rattle.world_host.specs.Rooms.{HasLogRoom, IsBarred, IsRoom, most};
 ghost use Rattle.world_host.specs.View.{bare, started};
@@ -45,6 +45,8 @@ pub struct Host {
     pub server_done: Vec<ServerDone>,
     /// The document of each frame's last counted commit.
     pub counted: Vec<Option<Document>>,
+    /// The servers, by their incarnations, of which messages were forged.
+    pub hostile: Vec<u32>,
 }
 
 /// The servers that a step of the container ends, and those that it starts.
@@ -190,6 +192,7 @@ impl Host {
             container_done: Vec::new(alloc),
             server_done: Vec::new(alloc),
             counted: Vec::new(alloc),
+            hostile: Vec::new(alloc),
         }
     }
 
@@ -324,14 +327,14 @@ impl Host {
         inc: u32,
         message: Message,
     ) -> Result<Servers, AllocError>
-        ensures taken { IfOk result (λ s. heard (bare self.old) place inc message ≡ started (bare self.new) self.new.core.numbers s.starts.items) }
+        ensures taken { IfOk result (λ s. heard (bare self.old) (Some place) inc message ≡ started (bare self.new) self.new.core.numbers s.starts.items) }
         ensures ends { IfOk result (λ s. s.ends.items ≡ ends_in (on_message self.old.core inc message)) }
         ensures few { IfOk result (λ s. vec_len s.starts ≤ most self.old.core) }
         ensures kept { OnErr result (bare self.new ≡ bare self.old) }
     {
         let room = self.make_room(alloc)?;
         self.taken.reserve(1)?;
-        let entry = entry(place, &message, self.core.all_objects());
+        let entry = entry(Some(place), &message, self.core.all_objects());
         match self.core.on_message(alloc, inc, message) {
             Ok(answer) => {
                 log(&mut self.taken, answer.taken, entry);
@@ -339,6 +342,39 @@ impl Host {
             }
             Err(ContainerFault::NoMemory) => Err(AllocError),
             Err(fault) => Ok(self.refuse(fault, room)),
+        }
+    }
+
+    /// A message comes to the container on the link of a server that needn't have sent it, and so is hostile from now on. A
+    /// content of it that is taken is logged, without a place. Gives the servers that are ended and started.
+    ///
+    /// Refused for want of memory alone. Then nothing changes.
+    pub fn forge(
+        &mut self,
+        alloc: Global,
+        inc: u32,
+        message: Message,
+    ) -> Result<Servers, AllocError>
+        ensures taken { IfOk result (λ s. forged (bare self.old) inc message ≡ started (bare self.new) self.new.core.numbers s.starts.items) }
+        ensures ends { IfOk result (λ s. s.ends.items ≡ ends_in (on_message self.old.core inc message)) }
+        ensures few { IfOk result (λ s. vec_len s.starts ≤ most self.old.core) }
+        ensures kept { OnErr result (bare self.new ≡ bare self.old) }
+    {
+        let room = self.make_room(alloc)?;
+        self.taken.reserve(1)?;
+        self.hostile.reserve(1)?;
+        let entry = entry(None, &message, self.core.all_objects());
+        match self.core.on_message(alloc, inc, message) {
+            Ok(answer) => {
+                log(&mut self.taken, answer.taken, entry);
+                add(&mut self.hostile, inc);
+                Ok(self.join(answer, room))
+            }
+            Err(ContainerFault::NoMemory) => Err(AllocError),
+            Err(fault) => {
+                add(&mut self.hostile, inc);
+                Ok(self.refuse(fault, room))
+            }
         }
     }
 

@@ -14,7 +14,7 @@ use wire_msgs::message::Message;
 use world_model::logs::Taken;
 
 // What is held of an object that isn't passive.
-fn held(place: u32, object: &Object) -> Option<Taken>
+fn held(place: Option<u32>, object: &Object) -> Option<Taken>
     ensures { listed result ≡ taken_link place object.now.number object.now.link }
 {
     match &object.link {
@@ -32,7 +32,7 @@ fn held(place: u32, object: &Object) -> Option<Taken>
 }
 
 // What is held of the object of an activation.
-fn held_of(place: u32, inc: u32, act: u32, objects: &[Object]) -> Option<Taken>
+fn held_of(place: Option<u32>, inc: u32, act: u32, objects: &[Object]) -> Option<Taken>
     ensures { listed result ≡ taken_of place (find (is_linked inc act) objects.now) }
 {
     match place_linked(objects, inc, act) {
@@ -41,8 +41,8 @@ fn held_of(place: u32, inc: u32, act: u32, objects: &[Object]) -> Option<Taken>
     }
 }
 
-// The entry of a message at this place, where a content of it is taken: what is held of its object now.
-pub(crate) fn entry(place: u32, message: &Message, objects: &[Object]) -> Option<Taken>
+// The entry of a message at this place, or of one that is forged, where a content of it is taken: what is held of its object now.
+pub(crate) fn entry(place: Option<u32>, message: &Message, objects: &[Object]) -> Option<Taken>
     ensures { listed result ≡ brought place objects.now message.now }
 {
     match message {

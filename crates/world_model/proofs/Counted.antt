@@ -18,7 +18,7 @@ use Rattle.container_model.specs.declared.answer.Part.{Part}
 use Rattle.container_model.specs.declared.command.Command.{Command}
 use Rattle.container_model.specs.declared.fault.ContainerFault.{ContainerFault}
 use Rattle.container_model.specs.declared.record.Frame.{Frame}
-use Rattle.world_model.specs.World.{World, Instance, took, commanded, served, stocked, called_wanting, called_in, called, delivered, taken_at, with_taken, deliver, spoken_by, spoken, scribble, ask, crashed, crash, ended, reap, done_taken, done_imaged, done_in, only_taken, resolved, happened, limited, Run, MOST_EVENTS, is_of, Choice}
+use Rattle.world_model.specs.World.{World, Instance, took, commanded, served, stocked, called_wanting, called_in, called, delivered, taken_at, with_taken, server_of, deliver, forged, forge, spoken_by, spoken, scribble, ask, crashed, crash, ended, reap, done_taken, done_imaged, done_in, only_taken, resolved, happened, limited, Run, MOST_EVENTS, is_of, Choice}
 use Rattle.world_model.specs.declared.event.Event.{Event}
 use Rattle.world_model.specs.declared.event.Event.TheVariants as event
 use Rattle.world_model.specs.declared.event.Stop.{Stop}
@@ -81,7 +81,16 @@ with_taken-taken w taken (Ok next) one = one
 
 deliver-taken : (w : World) (p : ℕ) (sent : Option Sent) → IfTaken w (deliver w p sent)
 deliver-taken w p None = tt
-deliver-taken w p (Some sent) = with_taken-taken w (taken_at w.rec p sent.message) (delivered w sent.message) (delivered-taken w sent.message)
+deliver-taken w p (Some sent) = with_taken-taken w (taken_at w.rec (Some p) (server_of sent.message) sent.message) (delivered w sent.message) (delivered-taken w sent.message)
+
+forged-taken : (w : World) (inc : ℕ) (m : Message) (life : Life) → IfTaken w (forged w inc m life)
+forged-taken w inc m Running = took-more w (on_message w.rec inc m)
+forged-taken w inc m Ended = took-more w (on_message w.rec inc m)
+forged-taken w inc m Reaped = tt
+
+forge-taken : (w : World) (inc : ℕ) (m : Message) (i : Option Instance) → IfTaken w (forge w inc m i)
+forge-taken w inc m None = tt
+forge-taken w inc m (Some i) = forged-taken w inc m i.life
 
 spoken_by-more : (w : World) (inc act : ℕ) (i : Instance) (r : Result Told ServerFault) → More w (spoken_by w inc act i r)
 spoken_by-more w inc act i (Err fault) = more w.answers _
@@ -141,6 +150,7 @@ resolved-taken w f false bytes = only_taken-taken w (resolve w.rec f false)
 happened-taken : (w : World) (choice : Choice) (e : Event) → IfTaken w (happened w choice e)
 happened-taken w choice (event.Command c) = commanded-more w c (on_command w.rec c)
 happened-taken w choice (event.Deliver p) = deliver-taken w p (nth w.sent p)
+happened-taken w choice (event.Forge inc m) = forge-taken w inc m (nth w.instances inc)
 happened-taken w choice (event.Crash inc) = crash-taken w inc (nth w.instances inc)
 happened-taken w choice (event.Reap inc) = reap-taken w inc (nth w.instances inc)
 happened-taken w choice (event.Done f) = done_in-taken w f choice.file (commit_done w.rec f) (nth w.rec.frames f)

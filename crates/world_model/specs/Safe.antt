@@ -19,6 +19,8 @@ use Rattle.storage_tree.specs.declared.stored.Stored.{Stored}
 use Rattle.file_model.specs.Denotes.{Denotes}
 use Rattle.server_model.specs.Server.{Activation, is_act}
 use Rattle.container_model.specs.Record.{is_doubtful, is_object}
+use Rattle.container_model.specs.Opens.{Given, IsReadAs}
+use Rattle.container_model.specs.Saves as saves
 use Rattle.container_model.specs.Saves.{document_tree}
 use Rattle.container_model.specs.declared.answer.Part.{Part}
 use Rattle.container_model.specs.declared.record.Link.{Link}
@@ -31,7 +33,7 @@ use Rattle.world_model.specs.declared.logs.View.{View}
 use Rattle.container_model.specs.declared.answer.Done.{Done}
 use Rattle.world_model.specs.declared.logs.ServerDone.{ServerDone}
 use Rattle.world_model.specs.declared.logs.Document.{Document}
-use Rattle.world_model.specs.World.{World, Instance, counted_document, delivered, done_entry, frame_file, owner}
+use Rattle.world_model.specs.World.{World, Instance, counted_document, delivered, done_entry, file_of, frame_file, owner}
 
 -- A server of which no message was forged: it sends what the server's step says, and nothing else.
 abbrev pub is_hostile : List ℕ → ℕ → Bool
@@ -111,7 +113,9 @@ Brings w (Ask inc act g) t = ⊥
 -- it, with no save asked.
 pub record IsGranted (w : World) (t : Taken) : Type 0 where
   pub message : Message
-  pub delivered : nth (messages w.sent) t.place ≡ Some message
+  pub place : ℕ
+  pub placed : t.place ≡ Some place
+  pub delivered : nth (messages w.sent) place ≡ Some message
   pub brings : Brings w message t
   pub sent : (view : View) × Among w.sent (record { message = message; view = Some view }) × (view.opened ≡ true) × (view.states.persist.state ≡ Normal) × (view.s ≡ t.s)
   pub held_open : t.persist ≡ Normal
@@ -174,12 +178,21 @@ pub record IsCounted (w : World) (commits : List Commit) : Type 0 where
   pub entries : w.container_done ≡ flat_map entries_of commits
   pub last : (f : ℕ) → counted_document w f ≡ last_commit f commits
 
--- The file of a frame holds the document of its last counted commit, whose contents are those counted with it.
+-- The file of a frame holds the document of its last counted commit, whose contents are those counted with it. Where it is
+-- opened it gives that commit's objects again, and nothing else.
 pub record IsKept (w : World) (f : ℕ) (document : Document) : Type 0 where
   pub bytes : List ℕ
   pub file : frame_file w f ≡ Some bytes
   pub denotes : ∥ Denotes bytes (document_tree document.parts) ∥₁
   pub counted : (p : Part) → Among document.parts p → Among w.container_done (done_entry document.k p)
+  pub again : (given : Given) → IsReadAs (Some bytes) given → given ≡ Given.Holding (saves.document document.parts)
+
+-- What a file gives where it is opened: the objects of a commit that was counted, with the contents that were counted. It is
+-- never a bad one.
+abbrev pub GivesCommit : World → Given → Type 0
+GivesCommit w Given.Missing = ⊤
+GivesCommit w Given.Broken = ⊥
+GivesCommit w (Given.Holding ds) = (document : Document) × (ds ≡ saves.document document.parts) × ((p : Part) → Among document.parts p → Among w.container_done (done_entry document.k p))
 
 pub record Safe (w : World) : Type 0 where
   -- a call acts at most once: delivered again once it is answered, it leaves every server as it is and counts nothing
@@ -207,3 +220,5 @@ pub record Safe (w : World) : Type 0 where
   pub commits : (commits : List Commit) × IsCounted w commits
   -- the file of each frame with a counted commit, unless it is in doubt whether a later one was done
   pub files : (f : ℕ) (frame : Frame) (document : Document) → nth w.rec.frames f ≡ Some frame → is_doubtful frame.phase ≡ false → nth w.counted f ≡ Some (Some document) → IsKept w f document
+  -- and any file of the world, also one that is no frame's any more
+  pub opened : (name : List ℕ) (given : Given) → IsReadAs (file_of w name) given → GivesCommit w given

@@ -7,6 +7,7 @@ use Rattle.wire_msgs.specs.declared.message.Message.{Message}
 use Rattle.wire_msgs.specs.declared.message.Message.TheVariants.{Call, Reply, Write, Ask}
 use Rattle.wire_msgs.specs.declared.operation.Operation.{Operation}
 use Rattle.file_model.specs.Denotes.{Denotes}
+use Rattle.document_model.specs.DocOf.{DocOf}
 use Rattle.embed_core.specs.Kinds.{Kind, class_of}
 use Rattle.server_model.specs.Server.{Server, Activation, Served, Told, on_call, wanted, is_act}
 use Rattle.server_model.specs.Server as server
@@ -18,7 +19,7 @@ use Rattle.container_model.specs.Commands.{is_named, is_size, on_command}
 use Rattle.container_model.specs.Messages.{on_message, on_reap, awaits_save}
 use Rattle.container_model.specs.Opens.{Given, IsReadAs, opened}
 pub use Rattle.container_model.specs.Saves.{done_entry}
-use Rattle.container_model.specs.Saves.{commit_done, commit_failed, image, document_tree, name_after, resolve}
+use Rattle.container_model.specs.Saves.{commit_done, commit_failed, document, document_tree, image, name_after, resolve}
 use Rattle.container_model.specs.declared.answer.Action.{Action}
 use Rattle.container_model.specs.declared.answer.Action.TheVariants.{Send, Start, End, Commit}
 use Rattle.container_model.specs.declared.answer.Answer.{Answer}
@@ -53,8 +54,8 @@ pub record Instance : Type 0 where
 -- A world. Servers stand by their incarnations, from 1, and stay after their end. The kinds of the objects in stock. All
 -- messages that were ever sent, by their places, from 1. The object of each activation that was ever made, by its
 -- number, from 1. What each event was answered. The contents that the container took as work contents. What each side
--- counted; and of each frame the document of its last counted commit. The servers, by their incarnations, that may have
--- sent what no server's step sends: none of them has yet.
+-- counted; and of each frame the document of its last counted commit. The servers, by their incarnations, of which messages
+-- were forged.
 pub record World : Type 0 where
   pub rec : Record
   pub instances : List Instance
@@ -227,32 +228,54 @@ delivered w (Write inc act s number content) = Ok (took w (on_message w.rec inc 
 delivered w (Ask inc act g) = Ok (took w (on_message w.rec inc (Ask inc act g)))
 
 -- what the container's record holds of an object just before it takes a content of it
-abbrev pub taken_link : ℕ → ℕ → Option Link → List Taken
+abbrev pub taken_link : Option ℕ → ℕ → Option Link → List Taken
 taken_link p o None = []
 taken_link p o (Some l) = record { place = p; object = o; inc = l.inc; act = l.act; persist = l.states.persist.state; s = l.s; awaits_save = awaits_save l } ∷ []
 
-abbrev pub taken_of : ℕ → Option Object → List Taken
+abbrev pub taken_of : Option ℕ → Option Object → List Taken
 taken_of p None = []
 taken_of p (Some o) = taken_link p o.number o.link
 
--- the content of a message at this place, if the container takes it
-abbrev pub taken_by : Record → ℕ → ℕ → ℕ → Result Took ContainerFault → List Taken
+-- the content of a message, at this place or forged, if the container takes it
+abbrev pub taken_by : Record → Option ℕ → ℕ → ℕ → Result Took ContainerFault → List Taken
 taken_by r p inc act (Err fault) = []
 taken_by r p inc act (Ok t) = if t.answer.taken then taken_of p (find (is_linked inc act) r.objects) else []
 
-abbrev pub taken_at : Record → ℕ → Message → List Taken
-taken_at r p (Call inc act n op) = []
-taken_at r p (Reply inc act n answer) = taken_by r p inc act (on_message r inc (Reply inc act n answer))
-taken_at r p (Write inc act s number content) = taken_by r p inc act (on_message r inc (Write inc act s number content))
-taken_at r p (Ask inc act g) = taken_by r p inc act (on_message r inc (Ask inc act g))
+-- on the link of an incarnation
+abbrev pub taken_at : Record → Option ℕ → ℕ → Message → List Taken
+taken_at r p link (Call inc act n op) = []
+taken_at r p link (Reply inc act n answer) = taken_by r p inc act (on_message r link (Reply inc act n answer))
+taken_at r p link (Write inc act s number content) = taken_by r p inc act (on_message r link (Write inc act s number content))
+taken_at r p link (Ask inc act g) = taken_by r p inc act (on_message r link (Ask inc act g))
 
 abbrev pub with_taken : World → List Taken → Result World Stop → Result World Stop
 with_taken w more (Err stop) = Err stop
 with_taken w more (Ok after) = Ok (record after { taken = w.taken ++ more })
 
+-- the server that a message is of, or for
+abbrev pub server_of : Message → ℕ
+server_of (Call inc act n op) = inc
+server_of (Reply inc act n answer) = inc
+server_of (Write inc act s number content) = inc
+server_of (Ask inc act g) = inc
+
 abbrev pub deliver : World → ℕ → Option Sent → Result World Stop
 deliver w p None = Err NotEnabled
-deliver w p (Some sent) = with_taken w (taken_at w.rec p sent.message) (delivered w sent.message)
+deliver w p (Some sent) = with_taken w (taken_at w.rec (Some p) (server_of sent.message) sent.message) (delivered w sent.message)
+
+-- A forged message: any message at all, on the link of a server that was started and isn't reaped. The container takes it as
+-- one that was delivered, and it isn't among those that were sent. From then on the server is hostile.
+abbrev pub forged_on : World → ℕ → Message → World
+forged_on w inc m = record (took w (on_message w.rec inc m)) { taken = w.taken ++ taken_at w.rec None inc m; hostile = w.hostile ++ inc ∷ [] }
+
+abbrev pub forged : World → ℕ → Message → Life → Result World Stop
+forged w inc m Running = Ok (forged_on w inc m)
+forged w inc m Ended = Ok (forged_on w inc m)
+forged w inc m Reaped = Err NotEnabled
+
+abbrev pub forge : World → ℕ → Message → Option Instance → Result World Stop
+forge w inc m None = Err NotEnabled
+forge w inc m (Some i) = forged w inc m i.life
 
 -- A message of its own accord that a server that runs sends: an activation writes, or asks to be relieved of its frame.
 abbrev pub spoken_by : World → ℕ → ℕ → Instance → Result Told ServerFault → World
@@ -357,6 +380,7 @@ no_choice = making []
 abbrev pub happened : World → Choice → Event → Result World Stop
 happened w choice (event.Command c) = Ok (commanded w c (on_command w.rec c))
 happened w choice (event.Deliver p) = deliver w p (nth w.sent p)
+happened w choice (event.Forge inc m) = forge w inc m (nth w.instances inc)
 happened w choice (event.Crash inc) = crash w inc (nth w.instances inc)
 happened w choice (event.Reap inc) = reap w inc (nth w.instances inc)
 happened w choice (event.Done f) = done w f choice.file
@@ -385,14 +409,15 @@ file_bytes (Some file) = Some file.bytes
 abbrev pub file_of : World → List ℕ → Option (List ℕ)
 file_of w name = file_bytes (find (is_file name) w.files)
 
--- What may be chosen: the bytes that a commit makes the file denote the document; a file gives what it is read as, where it is
--- looked at: its name is no frame's, and the size is one.
+-- What may be chosen: the bytes that a commit makes the file denote the document, in a tree that holds it; a file gives what
+-- it is read as, where it is looked at: its name is no frame's, and the size is one.
 abbrev pub IsImageOf : World → ℕ → List ℕ → Type 0
-IsImageOf w f bytes = (parts : List Part) → image w.rec f ≡ Ok parts → ∥ Denotes bytes (document_tree parts) ∥₁
+IsImageOf w f bytes = (parts : List Part) → image w.rec f ≡ Ok parts → ∥ Denotes bytes (document_tree parts) ∥₁ × DocOf (document_tree parts) (document parts)
 
 abbrev pub IsImage : World → Choice → Event → Type 0
 IsImage w choice (event.Command c) = ⊤
 IsImage w choice (event.Deliver p) = ⊤
+IsImage w choice (event.Forge inc m) = ⊤
 IsImage w choice (event.Crash inc) = ⊤
 IsImage w choice (event.Reap inc) = ⊤
 IsImage w choice (event.Scribble inc act) = ⊤

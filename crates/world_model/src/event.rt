@@ -5,6 +5,7 @@ ghost use Rattle.std.specs.Prelude.{◌≡◌, IfOk};
 use container_model::command::Command;
 use std::alloc::{AllocError, Global};
 use storage_tree::bytes::Bytes;
+use wire_msgs::message::Message;
 
 /// What happens in a world.
 #[derive(Drop)]
@@ -13,6 +14,8 @@ pub enum Event {
     Command(Command),
     /// The message at this place of those that were sent, from 1, is delivered, for the first time or again.
     Deliver(u32),
+    /// This message comes on the link of a server, whatever it is, and whether or not the server has sent it.
+    Forge(u32, Message),
     /// A server crashes.
     Crash(u32),
     /// The end of a server is told.

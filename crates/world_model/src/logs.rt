@@ -38,8 +38,8 @@ pub struct Sent {
 /// A content that the container took as an object's work content, and what its record held of the object just before.
 #[derive(Clone, Copy, PartialEq, Eq)]
 pub struct Taken {
-    /// The place of the message that brought it, in the list of messages sent.
-    pub place: u32,
+    /// The place of the message that brought it, in the list of messages sent; none where it was forged.
+    pub place: Option<u32>,
     /// The object.
     pub object: u32,
     /// The incarnation of its server.

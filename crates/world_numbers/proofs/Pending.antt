@@ -72,20 +72,20 @@ turned_pending _ _ _ (asks_first links between after first rest more h t e) = λ
 ]
 
 -- an answer is taken, and what waits is sent
-answered_pending : (links after : Links) (acts : Acts) (lives : Lives) (more : List Message) → IsAnswered links after acts lives more → ArePending after more
-answered_pending links after acts lives more (settled o s e) = none_pending after more e
-answered_pending links after acts lives more (goes_on o between s n) = one_pending after o n.link n.op more n.is n.called.pending n.sends
-answered_pending links after acts lives more (ended s e) = none_pending after more e
+answered_pending : (hostile : List ℕ) (links after : Links) (acts : Acts) (lives : Lives) (more : List Message) → IsAnswered hostile links after acts lives more → ArePending after more
+answered_pending hostile links after acts lives more (settled o s e) = none_pending after more e
+answered_pending hostile links after acts lives more (goes_on o between s n) = one_pending after o n.link n.op more n.is n.called.pending n.sends
+answered_pending hostile links after acts lives more (ended s e) = none_pending after more e
 
-pub replied_pending : (links after : Links) (acts : Acts) (lives : Lives) (more : List Message) → IsReplied links after acts lives more → ArePending after more
-replied_pending links after acts lives more h = λ m g. elim (among_join h.first h.rest m (subst (λ ms. Among ms m) h.joined g)) [
-  | inl a ↦ turned_keeps h.between after h.rest m h.asked (answered_pending links h.between acts lives h.first h.answered m a)
+pub replied_pending : (hostile : List ℕ) (links after : Links) (acts : Acts) (lives : Lives) (more : List Message) → IsReplied hostile links after acts lives more → ArePending after more
+replied_pending hostile links after acts lives more h = λ m g. elim (among_join h.first h.rest m (subst (λ ms. Among ms m) h.joined g)) [
+  | inl a ↦ turned_keeps h.between after h.rest m h.asked (answered_pending hostile links h.between acts lives h.first h.answered m a)
   | inr a ↦ turned_pending h.between after h.rest h.asked m a
 ]
 
 -- a server ends
-pub reaped_pending : (links after : Links) (acts : Acts) (lives : Lives) (more : List Message) → IsReaped links after acts lives more → ArePending after more
-reaped_pending links after acts lives more h = turned_pending h.between after more h.asked
+pub reaped_pending : (hostile : List ℕ) (links after : Links) (acts : Acts) (lives : Lives) (more : List Message) → IsReaped hostile links after acts lives more → ArePending after more
+reaped_pending hostile links after acts lives more h = turned_pending h.between after more h.asked
 
 -- an activation begins
 pub begins_pending : (links after : Links) (lives : Lives) (owners : List ℕ) (last o : ℕ) (more : List Message) → Begins links after lives owners last o more → ArePending after more

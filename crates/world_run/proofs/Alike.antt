@@ -4,7 +4,8 @@ use Rattle.std.specs.List.{AllByRecursion}
 use Rattle.wire_msgs.specs.Found.{find}
 use Rattle.embed_core.specs.Content.{Content}
 use Rattle.server_model.specs.Server.{is_act}
-use Rattle.server_core.specs.View.{seen_activation}
+use Rattle.server_core.specs.View.{seat_at, seen_activation}
+use Rattle.server_core.specs.declared.seats.Owned.{Owned}
 use Rattle.server_core.specs.declared.server.Seat.{Seat}
 use Rattle.server_core.specs.declared.server.Activation as code
 use Rattle.world_run.specs.declared.instance.Instance as held
@@ -28,12 +29,14 @@ module _ {X : Type 0} {V : X → Type 0} (c d : Seat X V → Content) where
   was_seen None h = absurd (let e = h.1 in cc)
   was_seen (Some s) h = (c s, refl)
 
-  found_alike : (act : ℕ) (xs : List (code.Activation X V)) → Alike (find (is_act act) (map (seen_activation c) xs)) (find (is_act act) (map (seen_activation d) xs))
-  found_alike act [] = tt
-  found_alike act (x ∷ xs) =
-      elim (nat_eq (seen_activation c x).act act) as (λ t. Alike (if t then Some (seen_activation c x) else find (is_act act) (map (seen_activation c) xs)) (if t then Some (seen_activation d x) else find (is_act act) (map (seen_activation d) xs))) [
-        | true ↦ record { last = refl; reply = refl; states = refl; saved = refl; s = refl; g = refl; closed = closed_seen x.seat; opened = open_seen x.seat; was_open = was_seen x.seat }
-        | false ↦ found_alike act xs
+  found_alike : (act : ℕ) (slots : List (Option (Owned X V))) (xs : List (ℕ × code.Activation)) → Alike (find (is_act act) (map (seen_activation c slots) xs)) (find (is_act act) (map (seen_activation d slots) xs))
+  found_alike act slots [] = tt
+  found_alike act slots (x ∷ xs) =
+      elim (nat_eq x.0 act) as (λ t. Alike (if t then Some (seen_activation c slots x) else find (is_act act) (map (seen_activation c slots) xs)) (if t then Some (seen_activation d slots x) else find (is_act act) (map (seen_activation d slots) xs))) [
+        | true ↦
+            (let seat = seat_at slots x.0 x.1.key in
+            record { last = refl; reply = refl; states = refl; saved = refl; s = refl; g = refl; closed = closed_seen seat; opened = open_seen seat; was_open = was_seen seat })
+        | false ↦ found_alike act slots xs
       ]
 
   pub acts_alike : (xs : List (held.Instance X V)) (inc act : ℕ) → Alike (acts_of (map (seen_instance c) xs) inc act) (acts_of (map (seen_instance d) xs) inc act)
@@ -42,7 +45,7 @@ module _ {X : Type 0} {V : X → Type 0} (c d : Seat X V → Content) where
     where
       at : (xs : List (held.Instance X V)) (k : ℕ) → Alike (act_at act (slice_get (map (seen_instance c) xs) k)) (act_at act (slice_get (map (seen_instance d) xs) k))
       at [] k = tt
-      at (x ∷ xs) zero = found_alike act x.core.acts.items
+      at (x ∷ xs) zero = found_alike act x.core.seats.slab.slots x.core.acts.entries
       at (x ∷ xs) (suc k) = at xs k
 
   pub lives_alike : (xs : List (held.Instance X V)) (inc : ℕ) → lives_of (map (seen_instance d) xs) inc ≡ lives_of (map (seen_instance c) xs) inc
@@ -59,10 +62,10 @@ module _ {X : Type 0} {V : X → Type 0} (c d : Seat X V → Content) where
   many_alike (x ∷ xs) = ap suc (many_alike xs)
 
   -- their numbers
-  activations_alike : (limit : ℕ) (xs : List (code.Activation X V)) → AllByRecursion (IsActivationWithin limit) (map (seen_activation c) xs) → AllByRecursion (IsActivationWithin limit) (map (seen_activation d) xs)
-  activations_alike limit [] h = tt
-  activations_alike limit (x ∷ xs) h = (record { act = h.0.act; last = h.0.last; s = h.0.s; granted = h.0.granted }, activations_alike limit xs h.1)
+  activations_alike : (limit : ℕ) (slots : List (Option (Owned X V))) (xs : List (ℕ × code.Activation)) → AllByRecursion (IsActivationWithin limit) (map (seen_activation c slots) xs) → AllByRecursion (IsActivationWithin limit) (map (seen_activation d slots) xs)
+  activations_alike limit slots [] h = tt
+  activations_alike limit slots (x ∷ xs) h = (record { act = h.0.act; last = h.0.last; s = h.0.s; granted = h.0.granted }, activations_alike limit slots xs h.1)
 
   pub servers_alike : (limit : ℕ) (xs : List (held.Instance X V)) → AllByRecursion (RunsWithin limit) (map (seen_instance c) xs) → AllByRecursion (RunsWithin limit) (map (seen_instance d) xs)
   servers_alike limit [] h = tt
-  servers_alike limit (x ∷ xs) h = (record { inc = h.0.inc; numbers = h.0.numbers; acts = activations_alike limit x.core.acts.items h.0.acts }, servers_alike limit xs h.1)
+  servers_alike limit (x ∷ xs) h = (record { inc = h.0.inc; numbers = h.0.numbers; acts = activations_alike limit x.core.seats.slab.slots x.core.acts.entries h.0.acts }, servers_alike limit xs h.1)

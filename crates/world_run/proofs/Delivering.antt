@@ -1,5 +1,5 @@
 -- What the delivery of a message makes of a world, with what is logged of it.
-use Rattle.std.proofs.Common.{◌≡◌, ◌<◌, ℕ, length, get_or, List, [], ◌++◌, Option, Some, None, Result, Ok, Err, refl, ap, sym, ◌∙◌, slice_get}
+use Rattle.std.proofs.Common.{◌≡◌, ◌<◌, ℕ, length, get_or, List, [], ◌∷◌, ◌++◌, Option, Some, None, Result, Ok, Err, refl, ap, sym, ◌∙◌, slice_get}
 use Rattle.std.specs.List.{remove}
 use Rattle.std.proofs.lemmas.List.{append-nil}
 use Rattle.wire_msgs.specs.Found.{find, nth}
@@ -13,8 +13,8 @@ use Rattle.container_model.specs.Record.{Record, Took, is_linked}
 use Rattle.container_model.specs.Messages.{on_message}
 use Rattle.container_model.specs.declared.fault.ContainerFault.{ContainerFault}
 use Rattle.world_model.specs.declared.logs.Sent.{Sent}
-use Rattle.world_model.specs.World.{World, Instance, served, delivered, deliver, taken_at, taken_by, taken_of, took, with_taken}
-use Rattle.world_host.specs.Logging.{brought, heard_as}
+use Rattle.world_model.specs.World.{World, Instance, served, server_of, delivered, deliver, forged_on, taken_at, taken_by, taken_of, took, with_taken}
+use Rattle.world_host.specs.Logging.{brought, forged, forged_as, heard_as}
 use Rattle.world_host.specs.Logging as entry
 use Rattle.world_run.specs.declared.plan.Plan.{Plan}
 use Rattle.world_run.specs.declared.plan.Plan.TheVariants.{Quiet, Tell, Serve, Begin}
@@ -40,21 +40,32 @@ carried_keeps w inc act n op (Serve i) = serving_keeps w inc act n op w.stock No
 carried_keeps w inc act n op (Begin i at) = serving_keeps w inc act n op (remove w.stock at) (slice_get w.stock at) (slice_get w.instances i)
 
 -- what the container takes of a message is what is logged
-same_log : (r : Record) (p inc act : ℕ) (told : Result Took ContainerFault) → taken_by r p inc act told ≡ entry.logged (taken_of p (find (is_linked inc act) r.objects)) told
+same_log : (r : Record) (p : Option ℕ) (inc act : ℕ) (told : Result Took ContainerFault) → taken_by r p inc act told ≡ entry.logged (taken_of p (find (is_linked inc act) r.objects)) told
 same_log r p inc act (Err fault) = refl
 same_log r p inc act (Ok t) = refl
 
-heard_same : (w : World) (p inc act : ℕ) (told : Result Took ContainerFault) → with_taken w (taken_by w.rec p inc act told) (Ok (took w told)) ≡ Ok (heard_as w (taken_of p (find (is_linked inc act) w.rec.objects)) told)
+heard_same : (w : World) (p : Option ℕ) (inc act : ℕ) (told : Result Took ContainerFault) → with_taken w (taken_by w.rec p inc act told) (Ok (took w told)) ≡ Ok (heard_as w (taken_of p (find (is_linked inc act) w.rec.objects)) told)
 heard_same w p inc act told = ap (λ more. with_taken w more (Ok (took w told))) (same_log w.rec p inc act told)
 
-delivers : (w : World) (p : ℕ) (m : Message) (plan : Plan) → delivered w m ≡ carried w m plan → with_taken w (taken_at w.rec p m) (delivered w m) ≡ logged w p m plan
+delivers : (w : World) (p : ℕ) (m : Message) (plan : Plan) → delivered w m ≡ carried w m plan → with_taken w (taken_at w.rec (Some p) (server_of m) m) (delivered w m) ≡ logged w p m plan
 delivers w p (Call inc act n op) plan e = ap (with_taken w []) e ∙ carried_keeps w inc act n op plan
-delivers w p (Reply inc act n answer) plan e = heard_same w p inc act (on_message w.rec inc (Reply inc act n answer))
-delivers w p (Write inc act s number content) plan e = heard_same w p inc act (on_message w.rec inc (Write inc act s number content))
-delivers w p (Ask inc act g) plan e = heard_same w p inc act (on_message w.rec inc (Ask inc act g))
+delivers w p (Reply inc act n answer) plan e = heard_same w (Some p) inc act (on_message w.rec inc (Reply inc act n answer))
+delivers w p (Write inc act s number content) plan e = heard_same w (Some p) inc act (on_message w.rec inc (Write inc act s number content))
+delivers w p (Ask inc act g) plan e = heard_same w (Some p) inc act (on_message w.rec inc (Ask inc act g))
 
 pub deliver_is : (w : World) (p : ℕ) (x : Sent) (plan : Plan) → nth w.sent p ≡ Some x → delivered w x.message ≡ carried w x.message plan → deliver w p (nth w.sent p) ≡ logged w p x.message plan
 deliver_is w p x plan at e = ap (deliver w p) at ∙ delivers w p x.message plan e
+
+-- so it is of a forged message
+forged_same_at : (w : World) (link inc act : ℕ) (told : Result Took ContainerFault)
+    → record (took w told) { taken = w.taken ++ taken_by w.rec None inc act told; hostile = w.hostile ++ link ∷ [] } ≡ forged_as w link (taken_of None (find (is_linked inc act) w.rec.objects)) told
+forged_same_at w link inc act told = ap (λ more. record (took w told) { taken = w.taken ++ more; hostile = w.hostile ++ link ∷ [] }) (same_log w.rec None inc act told)
+
+pub forged_same : (w : World) (inc : ℕ) (m : Message) → forged_on w inc m ≡ forged w inc m
+forged_same w inc (Call i act n op) = refl
+forged_same w inc (Reply i act n answer) = forged_same_at w inc i act (on_message w.rec inc (Reply i act n answer))
+forged_same w inc (Write i act s number content) = forged_same_at w inc i act (on_message w.rec inc (Write i act s number content))
+forged_same w inc (Ask i act g) = forged_same_at w inc i act (on_message w.rec inc (Ask i act g))
 
 -- a message that is read twice
 pub same_at : {A : Type 0} (xs ys : List A) (i : ℕ) (x y : A) → xs ≡ ys → i < length ys → x ≡ get_or ys i x → y ≡ get_or xs i y → y ≡ x

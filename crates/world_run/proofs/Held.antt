@@ -14,5 +14,5 @@ module _ {X : Type 0} {V : X → Type 0} (c d : Seat X V → Content) where
     agrees = agrees_alike _ _ _ _ _ _ _ _ (many_alike c d st.instances.items) (acts_alike c d st.instances.items) (lives_alike c d st.instances.items) h.agrees;
     files = record { counted_bounded = h.files.counted_bounded; filed = h.files.filed; commits = h.files.commits };
     numbers = record { recorded = h.numbers.recorded; sent = h.numbers.sent; servers = servers_alike c d _ st.instances.items h.numbers.servers };
-    taken_held = λ t a honest. (let g = h.taken_held t a honest in record { message = g.message; delivered = g.delivered; brings = g.brings; sent = g.sent; held_open = g.held_open; unasked = g.unasked });
+    taken_held = λ t a honest. (let g = h.taken_held t a honest in record { message = g.message; place = g.place; placed = g.placed; delivered = g.delivered; brings = g.brings; sent = g.sent; held_open = g.held_open; unasked = g.unasked });
   }

@@ -19,11 +19,13 @@ use Rattle.world_model.specs.declared.life.Life.{Life}
 use Rattle.world_model.specs.declared.life.Life.TheVariants.{Ended, Reaped}
 use Rattle.world_model.specs.declared.event.Stop.TheVariants.{EventLimit}
 use Rattle.world_model.specs.World.{World, Instance, joined, took, commanded, started_by, ended, ended_by, fresh, limited, reap, done, done_in, done_imaged, done_taken, kept_commit, only_taken, resolved, MOST_EVENTS}
-use Rattle.world_host.specs.Logging.{heard, heard_as, brought}
+use Rattle.world_host.specs.Logging.{heard, heard_as, forged, forged_as, brought}
 use Rattle.world_host.specs.Servers.{ends_by, ends_in, ends_of}
 use Rattle.world_host.specs.View.{started}
 use Rattle.world_host.proofs.Joins.{ends_same, none_ended}
 use Rattle.world_host.proofs.Opening.{opens_end_none}
+use Rattle.world_run.specs.Plans.{forging}
+use Rattle.world_run.proofs.Delivering.{forged_same}
 use Rattle.world_run.proofs.Lifts.{emptied}
 
 -- a world whose servers were told of, with those that ended and started
@@ -56,6 +58,11 @@ pub heard_lifted : (w b : World) (entry : List Taken) (told : Result Took Contai
     → heard_as w entry told ≡ finished w b numbers ends starts
 heard_lifted w b entry (Err fault) numbers ends starts h e = sym (ap (λ is. record (heard_as w entry (Err fault)) { instances = is }) (none_lifted w ends e)) ∙ ap (lifted w ends) h
 heard_lifted w b entry (Ok t) numbers ends starts h e = sym (ap (λ is. record (heard_as w entry (Ok t)) { instances = is }) (joins_lifted w t ends e)) ∙ ap (lifted w ends) h
+
+forged_lifted : (w b : World) (inc : ℕ) (entry : List Taken) (told : Result Took ContainerFault) (numbers : ℕ) (ends starts : List ℕ) → forged_as (emptied w) inc entry told ≡ started b numbers starts → ends ≡ ends_in told
+    → forged_as w inc entry told ≡ finished w b numbers ends starts
+forged_lifted w b inc entry (Err fault) numbers ends starts h e = sym (ap (λ is. record (forged_as w inc entry (Err fault)) { instances = is }) (none_lifted w ends e)) ∙ ap (lifted w ends) h
+forged_lifted w b inc entry (Ok t) numbers ends starts h e = sym (ap (λ is. record (forged_as w inc entry (Ok t)) { instances = is }) (joins_lifted w t ends e)) ∙ ap (lifted w ends) h
 
 -- the same of a commit that is done, and of a world that takes no more
 free : (w v : World) → nat_le MOST_EVENTS (length w.answers) ≡ false → limited w (Ok v) ≡ Ok v
@@ -98,9 +105,14 @@ pub open_taken : (w b v : World) (name : List ℕ) (x y : ℕ) (given : Given) (
     → v ≡ finished w b numbers ends starts → limited w (Ok (took w (opened w.rec name x y given))) ≡ Ok v
 open_taken w b v name x y given numbers ends starts room h e is = free w _ room ∙ ap Ok (took_lifted w b (opened w.rec name x y given) numbers ends starts h (e ∙ sym (opens_end_none w.rec name x y given)) ∙ sym is)
 
-pub told_taken : (w b v : World) (p inc : ℕ) (m : Message) (numbers : ℕ) (ends starts : List ℕ) → nat_le MOST_EVENTS (length w.answers) ≡ false → heard (emptied w) p inc m ≡ started b numbers starts → ends ≡ ends_in (on_message w.rec inc m)
+pub told_taken : (w b v : World) (p : Option ℕ) (inc : ℕ) (m : Message) (numbers : ℕ) (ends starts : List ℕ) → nat_le MOST_EVENTS (length w.answers) ≡ false → heard (emptied w) p inc m ≡ started b numbers starts → ends ≡ ends_in (on_message w.rec inc m)
     → v ≡ finished w b numbers ends starts → limited w (Ok (heard w p inc m)) ≡ Ok v
 told_taken w b v p inc m numbers ends starts room h e is = free w _ room ∙ ap Ok (heard_lifted w b (brought p w.rec.objects m) (on_message w.rec inc m) numbers ends starts h e ∙ sym is)
+
+pub forge_taken : (w b v : World) (inc : ℕ) (m : Message) (numbers : ℕ) (ends starts : List ℕ) → nat_le MOST_EVENTS (length w.answers) ≡ false → forged (emptied w) inc m ≡ started b numbers starts → ends ≡ ends_in (on_message w.rec inc m)
+    → v ≡ finished w b numbers ends starts → forging w inc m ≡ Ok v
+forge_taken w b v inc m numbers ends starts room h e is =
+    free w _ room ∙ ap Ok (forged_same w inc m ∙ forged_lifted w b inc (brought None w.rec.objects m) (on_message w.rec inc m) numbers ends starts h e ∙ sym is)
 
 reap_some : (w b m v : World) (inc : ℕ) (life : Life) (z : Instance) (numbers : ℕ) (ends starts : List ℕ) → nth w.instances inc ≡ Some z → z.life ≡ Ended → nat_le MOST_EVENTS (length w.answers) ≡ false
     → took (emptied w) (on_reap w.rec inc) ≡ started b numbers starts → ends ≡ ends_in (on_reap w.rec inc)

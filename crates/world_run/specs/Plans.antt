@@ -14,7 +14,7 @@ use Rattle.world_run.specs.declared.plan.Plan.TheVariants.{Quiet, Tell, Serve, B
 use Rattle.world_model.specs.declared.logs.EventAnswer.TheVariants as told
 use Rattle.world_model.specs.declared.event.Stop.{Stop}
 use Rattle.world_model.specs.declared.event.Stop.TheVariants.{NotEnabled}
-use Rattle.world_model.specs.World.{World, Instance, limited, served, spoken_by, took, quiet_outcome, is_of, without_first}
+use Rattle.world_model.specs.World.{World, Instance, forged_on, limited, served, spoken_by, took, quiet_outcome, is_of, without_first}
 use Rattle.server_model.specs.Server.{Server, Told, ask_deactivate, scribble}
 use Rattle.server_model.specs.declared.fault.ServerFault.{ServerFault}
 use Rattle.world_host.specs.Logging.{heard}
@@ -42,9 +42,9 @@ carried w (Ask inc act g) plan = Ok (took w (on_message w.rec inc (Ask inc act g
 -- the same for the message at a place, where what the container takes is logged
 abbrev pub logged : World → ℕ → Message → Plan → Result World Stop
 logged w p (Call inc act n op) plan = carried_call w inc act n op plan
-logged w p (Reply inc act n answer) plan = Ok (heard w p inc (Reply inc act n answer))
-logged w p (Write inc act s number content) plan = Ok (heard w p inc (Write inc act s number content))
-logged w p (Ask inc act g) plan = Ok (heard w p inc (Ask inc act g))
+logged w p (Reply inc act n answer) plan = Ok (heard w (Some p) inc (Reply inc act n answer))
+logged w p (Write inc act s number content) plan = Ok (heard w (Some p) inc (Write inc act s number content))
+logged w p (Ask inc act g) plan = Ok (heard w (Some p) inc (Ask inc act g))
 
 -- what is made of a world that takes no more events than it may
 abbrev pub carry_call : World → ℕ → ℕ → ℕ → Operation → Plan → Result World Stop
@@ -55,7 +55,11 @@ carry w p message plan = limited w (logged w p message plan)
 
 -- a message that comes to the container
 abbrev pub tell : World → ℕ → ℕ → Message → Result World Stop
-tell w p inc message = limited w (Ok (heard w p inc message))
+tell w p inc message = limited w (Ok (heard w (Some p) inc message))
+
+-- a message that comes on the link of a server, whether or not it was sent
+abbrev pub forging : World → ℕ → Message → Result World Stop
+forging w inc message = limited w (Ok (forged_on w inc message))
 
 -- an activation of a server sends a message of its own accord
 abbrev pub speaking : World → ℕ → ℕ → (Server → Result Told ServerFault) → Option Instance → Result World Stop

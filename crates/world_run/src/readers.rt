@@ -51,6 +51,13 @@ impl World {
         &self.state.host.taken
     }
 
+    /// The servers of which messages were forged, by their incarnations, one for each message, in order.
+    pub fn hostile(&self) -> &[u32]
+        ensures { result.now ≡ (shown (λ s. content s.boxed) self.now).hostile }
+    {
+        &self.state.host.hostile
+    }
+
     /// What the container counted.
     pub fn container_done(&self) -> &[Done]
         ensures { result.now ≡ (shown (λ s. content s.boxed) self.now).container_done }

@@ -6,7 +6,7 @@ ghost use Rattle.wire_msgs.specs.Found.{nth, set_nth};
 ghost use Rattle.world_model.specs.declared.event.Event.{Event};
 ghost use Rattle.world_host.specs.Servers.{ends_by};
 ghost use Rattle.world_run.specs.Lives.{Lives};
-ghost use Rattle.world_run.specs.Plans.{tell};
+ghost use Rattle.world_run.specs.Plans.{forging, tell};
 ghost use Rattle.world_run.specs.View.{seen, seen_instance, seen_stocked};
 ghost use Rattle.world_model.specs.World.{IsImage, Refuses, Run, StopsAt, empty_world, ended_at, fresh, step, view_in, no_choice, Choice};
 ghost use Rattle.world_model.specs.declared.event.Event.TheVariants as event;
@@ -117,6 +117,44 @@ impl State {
                 Ok(())
             }
             Err(_) => Err(Stop::NoMemory),
+        }
+    }
+
+    // A message comes to the container on the link of a server, whether or not it has sent it.
+    fn forge_on(&mut self, alloc: Global, inc: u32, message: &Message) -> Result<(), Stop>
+        ensures taken { OnOk result (forging (seen (λ s. content s.boxed) self.old) inc message.now ≡ Ok (seen (λ s. content s.boxed) self.new)) }
+        ensures refused { IfErr result (Refuses (forging (seen (λ s. content s.boxed) self.old) inc message.now)) }
+        ensures kept { OnErr result (seen (λ s. content s.boxed) self.new ≡ seen (λ s. content s.boxed) self.old) }
+    {
+        self.host.open()?;
+        if self.instances.reserve(self.host.most()).is_err() {
+            return Err(Stop::NoMemory);
+        }
+        let Ok(copied) = message.copy(alloc) else {
+            return Err(Stop::NoMemory);
+        };
+        match self.host.forge(alloc, inc, copied) {
+            Ok(servers) => {
+                self.finish(alloc, servers);
+                Ok(())
+            }
+            Err(_) => Err(Stop::NoMemory),
+        }
+    }
+
+    // A message is forged on the link of a server that was started.
+    fn forge(&mut self, alloc: Global, inc: u32, message: &Message) -> Result<(), Stop>
+        ensures taken { OnOk result (step (seen (λ s. content s.boxed) self.old) no_choice (event.Forge inc message.now) ≡ Ok (seen (λ s. content s.boxed) self.new)) }
+        ensures refused { IfErr result (Refuses (step (seen (λ s. content s.boxed) self.old) no_choice (event.Forge inc message.now))) }
+        ensures kept { OnErr result (seen (λ s. content s.boxed) self.new ≡ seen (λ s. content s.boxed) self.old) }
+    {
+        let Some((_, life)) = self.life(inc) else {
+            return Err(Stop::NotEnabled);
+        };
+        match life {
+            Life::Running => self.forge_on(alloc, inc, message),
+            Life::Ended => self.forge_on(alloc, inc, message),
+            Life::Reaped => Err(Stop::NotEnabled),
         }
     }
 
@@ -327,6 +365,7 @@ impl State {
         match event {
             Event::Command(command) => self.command(alloc, command),
             Event::Deliver(p) => self.deliver(alloc, *p),
+            Event::Forge(inc, message) => self.forge(alloc, *inc, message),
             Event::Crash(inc) => self.crash(alloc, *inc),
             Event::Reap(inc) => self.reap(alloc, *inc),
             Event::Done(f) => self.done(alloc, *f),

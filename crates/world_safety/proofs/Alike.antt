@@ -18,7 +18,6 @@ pub agrees_alike : (hostile : List ℕ) (rec : Record) (is js : List Instance) (
     → length js ≡ length is → ((inc act : ℕ) → Alike (acts_of is inc act) (acts_of js inc act)) → ((inc : ℕ) → lives_of js inc ≡ lives_of is inc)
     → Agrees hostile rec is sent owners counted served → Agrees hostile rec js sent owners counted served
 agrees_alike hostile rec is js sent owners counted served many same still h = record {
-  none_hostile = h.none_hostile;
   steady = h.steady;
   servers = h.servers ∙ sym many;
   facts = facts_alike (links_of rec.objects) (acts_of is) (acts_of js) (lives_of is) (lives_of js) (messages sent) owners rec.last_act counted served same still h.facts;

@@ -29,18 +29,21 @@ use Rattle.world_model.specs.declared.life.Life.TheVariants.{Running, Ended, Rea
 use Rattle.world_model.specs.declared.event.Event.{Event}
 use Rattle.world_model.specs.declared.event.Event.TheVariants as event
 use Rattle.world_model.specs.declared.event.Stop.{Stop}
-use Rattle.world_model.specs.World.{World, Instance, messages_of, of_container, started_by, ended_by, joined, took, commanded, owners_by, delivered, taken_at, with_taken, deliver, crashed, crash, ended, reap, kept_commit, done_taken, done_imaged, done_in, only_taken, resolved, happened, Choice}
-use Rattle.world_model.specs.Safe.{Among, links_of, acts_of, messages}
+use Rattle.world_model.specs.World.{World, Instance, messages_of, of_container, started_by, ended_by, joined, took, commanded, owners_by, delivered, taken_at, with_taken, server_of, deliver, forged_on, forged, forge, crashed, crash, ended, reap, kept_commit, done_taken, done_imaged, done_in, only_taken, resolved, happened, Choice}
+use Rattle.world_model.specs.Safe.{Among, IsHonest, is_hostile, links_of, acts_of, messages}
 use Rattle.world_facts.specs.Words.{life_at, lives_of}
 use Rattle.world_facts.specs.Shapes.{IsTold}
 use Rattle.world_facts.proofs.Lookups.{among_map}
 use Rattle.world_facts.proofs.Counting.{all_counted}
+use Rattle.world_facts.proofs.Honest.{honest_before, just_hostile, turned_facts, turned_views}
 use Rattle.world_files.specs.Files.{id_of, Files}
 use Rattle.world_files.proofs.Bounding.{parts_of_frame}
 use Rattle.world_files.proofs.Kept.{image_is_at}
 use Rattle.world_steps.proofs.Instances.{nth_same}
 use Rattle.world_steps.proofs.Asking.{new_asks, insert_asks, edit_asks}
 use Rattle.world_steps.proofs.Handing.{save_asks}
+use Rattle.world_grants.specs.Grants.{AreSent, roles_of}
+use Rattle.world_grants.proofs.Alike.{fewer_grants}
 use Rattle.world_grants.proofs.Ending.{reap_moves}
 use Rattle.world_grants.proofs.Taking.{command_moves, committed_moves, dropped_moves, failed_moves, message_moves, opened_moves}
 use Rattle.world_numbers.specs.Numbers.{ArePending}
@@ -49,13 +52,13 @@ use Rattle.world_steps.specs.Steps.{IsTurned}
 use Rattle.world_steps.proofs.Closing.{delete_asks, close_asks}
 use Rattle.world_steps.proofs.Verbing.{verb_asks}
 use Rattle.world_steps.proofs.Relieving.{ask_asks}
+use Rattle.world_steps.proofs.Forging.{own_link}
 use Rattle.world_steps.proofs.Replying.{reply_answers}
 use Rattle.world_steps.proofs.Taking.{write_asks}
 use Rattle.world_steps.proofs.Reaping.{reap_ends}
 use Rattle.world_steps.proofs.Committing.{commit_counts, commit_plain}
 use Rattle.world_steps.proofs.Dropping.{dropped_asks, failed_asks}
 use Rattle.world_steps.proofs.Opening.{open_asks}
-use Rattle.world_safety.proofs.Honest.{all_honest}
 use Rattle.world_safety.specs.Holding.{Agrees, AgreesIn}
 use Rattle.world_safety.proofs.Joining.{plain_joined, asked_views, joined_grants, turned_joined, asks_turned, answered_joined, reaped_joined, run_joined, start_joined, stopped_agrees, kill_joined}
 use Rattle.world_safety.proofs.Serving.{agrees_called}
@@ -70,7 +73,7 @@ plain_owners : (w : World) (t : Took) → AgreesIn (joined w t) → AgreesIn (re
 plain_owners w t h = subst (λ o. Agrees w.hostile t.rec (ended_by t.answer.actions w.instances ++ started_by t.rec.numbers t.answer.actions) (w.sent ++ map of_container (messages_of t.answer.actions)) o w.container_done w.server_done) (sym (append-nil w.owners)) h
 
 turned_command : (w : World) (c : Command) (t : Took) → AgreesIn w → on_command w.rec c ≡ Ok t → IsTurned w.rec t → AgreesIn (record (joined w t) { owners = w.owners ++ [] })
-turned_command w c t h e m = plain_owners w t (turned_joined w t [] h (on_command_keeps w.rec c t h.steady e) (command_moves w.rec c t h.steady e) (λ x z. absurd z) m)
+turned_command w c t h e m = plain_owners w t (turned_joined w t [] h (on_command_keeps w.rec c t h.steady e) (command_moves w.rec c t h.steady e) (λ x z honest. absurd z) m)
 
 agrees_command : (w : World) (c : Command) (t : Took) → AgreesIn w → on_command w.rec c ≡ Ok t → AgreesIn (record (joined w t) { owners = w.owners ++ owners_by c })
 agrees_command w (command.New name x y) t h e = turned_command w (command.New name x y) t h e (asks_turned w.rec t (new_asks w.rec name x y t e))
@@ -103,28 +106,70 @@ agrees_took : (w : World) (told : Result Took ContainerFault) → AgreesIn w →
 agrees_took w (Err fault) h g = h
 agrees_took w (Ok t) h g = g t refl
 
--- the message that is taken was sent
-sent_one : (sent : List Message) (m : Message) → Among sent m → (x : Message) → Among (m ∷ []) x → Among sent x
-sent_one sent m g x (inl e) = subst (Among sent) (sym e) g
-sent_one sent m g x (inr z) = absurd z
+-- the message that is taken was sent, or it is of a hostile server
+sent_one : (w : World) (m : Message) → (IsHonest w.hostile (server_of m) → Among (messages w.sent) m) → AreSent w.hostile (messages w.sent) (m ∷ [])
+sent_one w m g x (inl e) honest = subst (Among (messages w.sent)) (sym e) (g (subst (λ v. IsHonest w.hostile (server_of v)) e honest))
+sent_one w m g x (inr z) honest = absurd z
 
-agrees_replied : (w : World) (inc act n : ℕ) (answer : _) (t : Took) → AgreesIn w → Among (messages w.sent) (Reply inc act n answer) → on_message w.rec inc (Reply inc act n answer) ≡ Ok t → AgreesIn (joined w t)
+agrees_replied : (w : World) (inc act n : ℕ) (answer : _) (t : Took) → AgreesIn w → (IsHonest w.hostile inc → Among (messages w.sent) (Reply inc act n answer)) → on_message w.rec inc (Reply inc act n answer) ≡ Ok t → AgreesIn (joined w t)
 agrees_replied w inc act n answer t h g e =
     let m = Reply inc act n answer in
-    answered_joined w t (m ∷ []) h (on_message_keeps w.rec inc m t h.steady e) (message_moves w.rec inc m t h.steady e) (sent_one (messages w.sent) m g)
-    (reply_answers w.rec (acts_of w.instances) (lives_of w.instances) (messages w.sent) w.owners w.rec.last_act w.container_done w.server_done inc act n answer h.steady h.facts (all_honest w.hostile h.none_hostile inc) g t e)
+    answered_joined w t (m ∷ []) h (on_message_keeps w.rec inc m t h.steady e) (message_moves w.rec inc m t h.steady e) (sent_one w m g)
+    (reply_answers w.rec (acts_of w.instances) (lives_of w.instances) (messages w.sent) w.owners w.rec.last_act w.container_done w.server_done inc act n answer h.steady h.facts g t e)
 
 -- a message that asks, or nothing
-agrees_asked : (w : World) (inc : ℕ) (m : Message) (t : Took) → AgreesIn w → Among (messages w.sent) m → on_message w.rec inc m ≡ Ok t → IsTurned w.rec t → AgreesIn (joined w t)
-agrees_asked w inc m t h g e turned = turned_joined w t (m ∷ []) h (on_message_keeps w.rec inc m t h.steady e) (message_moves w.rec inc m t h.steady e) (sent_one (messages w.sent) m g) turned
+agrees_asked : (w : World) (inc : ℕ) (m : Message) (t : Took) → AgreesIn w → (IsHonest w.hostile (server_of m) → Among (messages w.sent) m) → on_message w.rec inc m ≡ Ok t → IsTurned w.rec t → AgreesIn (joined w t)
+agrees_asked w inc m t h g e turned = turned_joined w t (m ∷ []) h (on_message_keeps w.rec inc m t h.steady e) (message_moves w.rec inc m t h.steady e) (sent_one w m g) turned
+
+-- a message on the link of its own server
+agrees_own : (w : World) (m : Message) (t : Took) → AgreesIn w → (IsHonest w.hostile (server_of m) → Among (messages w.sent) m) → on_message w.rec (server_of m) m ≡ Ok t → AgreesIn (joined w t)
+agrees_own w (Call inc act n op) t h g e = cc
+agrees_own w (Reply inc act n answer) t h g e = agrees_replied w inc act n answer t h g e
+agrees_own w (Write inc act s n content) t h g e = agrees_asked w inc (Write inc act s n content) t h g e (asks_turned w.rec t (write_asks w.rec inc act s n content t h.steady e))
+agrees_own w (Ask inc act j) t h g e = agrees_asked w inc (Ask inc act j) t h g e (asks_turned w.rec t (ask_asks w.rec inc act j t h.steady e))
 
 agrees_delivered : (w : World) (m : Message) (v : World) → AgreesIn w → Among (messages w.sent) m → delivered w m ≡ Ok v → AgreesIn v
 agrees_delivered w (Call inc act n op) v h g e = agrees_called w h inc act n op g (nth w.instances inc) v refl e
-agrees_delivered w (Reply inc act n answer) v h g e = subst AgreesIn (ok_is _ v e) (agrees_took w (on_message w.rec inc (Reply inc act n answer)) h (λ t q. agrees_replied w inc act n answer t h g q))
-agrees_delivered w (Write inc act s n content) v h g e = subst AgreesIn (ok_is _ v e) (agrees_took w (on_message w.rec inc (Write inc act s n content)) h
-    (λ t q. agrees_asked w inc (Write inc act s n content) t h g q (asks_turned w.rec t (write_asks w.rec inc act s n content t h.steady q))))
-agrees_delivered w (Ask inc act j) v h g e = subst AgreesIn (ok_is _ v e) (agrees_took w (on_message w.rec inc (Ask inc act j)) h
-    (λ t q. agrees_asked w inc (Ask inc act j) t h g q (asks_turned w.rec t (ask_asks w.rec inc act j t h.steady q))))
+agrees_delivered w (Reply inc act n answer) v h g e = subst AgreesIn (ok_is _ v e) (agrees_took w (on_message w.rec inc (Reply inc act n answer)) h (λ t q. agrees_own w (Reply inc act n answer) t h (λ honest. g) q))
+agrees_delivered w (Write inc act s n content) v h g e = subst AgreesIn (ok_is _ v e) (agrees_took w (on_message w.rec inc (Write inc act s n content)) h (λ t q. agrees_own w (Write inc act s n content) t h (λ honest. g) q))
+agrees_delivered w (Ask inc act j) v h g e = subst AgreesIn (ok_is _ v e) (agrees_took w (on_message w.rec inc (Ask inc act j)) h (λ t q. agrees_own w (Ask inc act j) t h (λ honest. g) q))
+
+-- A server is hostile from now on.
+abbrev pub turned : World → ℕ → World
+turned w inc = record w { hostile = w.hostile ++ inc ∷ [] }
+
+pub agrees_turned : (w : World) (inc : ℕ) → AgreesIn w → AgreesIn (turned w inc)
+agrees_turned w inc h = record {
+  steady = h.steady;
+  servers = h.servers;
+  facts = turned_facts w.hostile inc (links_of w.rec.objects) (acts_of w.instances) (lives_of w.instances) (messages w.sent) w.owners w.rec.last_act w.container_done w.server_done h.facts;
+  views = turned_views w.hostile inc (links_of w.rec.objects) (acts_of w.instances) w.sent h.views;
+  grants = fewer_grants w.hostile (w.hostile ++ inc ∷ []) (links_of w.rec.objects) (roles_of w.rec) (acts_of w.instances) (messages w.sent) (honest_before w.hostile inc) h.grants;
+}
+
+-- so no message of it has to be one that was sent
+pub none_honest : (w : World) (inc i : ℕ) (m : Message) → i ≡ inc → IsHonest (w.hostile ++ inc ∷ []) i → Among (messages w.sent) m
+none_honest w inc i m e honest = absurd (let z : true ≡ false = sym (just_hostile w.hostile inc) ∙ (ap (is_hostile (w.hostile ++ inc ∷ [])) (sym e) ∙ honest) in cc)
+
+-- a forged message
+agrees_forged_as : (w : World) (hostile : List ℕ) (taken : List Taken) (told : Result Took ContainerFault) → AgreesIn (took (record w { hostile = hostile }) told) → AgreesIn (record (took w told) { taken = taken; hostile = hostile })
+agrees_forged_as w hostile taken (Err fault) h = h
+agrees_forged_as w hostile taken (Ok t) h = h
+
+agrees_forged_on : (w : World) (inc : ℕ) (m : Message) → AgreesIn w → AgreesIn (forged_on w inc m)
+agrees_forged_on w inc m h =
+    let now = agrees_turned w inc h in
+    agrees_forged_as w (w.hostile ++ inc ∷ []) (w.taken ++ taken_at w.rec None inc m) (on_message w.rec inc m) (agrees_took (turned w inc) (on_message w.rec inc m) now (λ t q. (let own = own_link w.rec inc m t q in
+    agrees_own (turned w inc) m t now (none_honest w inc (server_of m) m own) (subst (λ i. on_message w.rec i m ≡ Ok t) (sym own) q))))
+
+agrees_forged : (w : World) (inc : ℕ) (m : Message) (life : Life) (v : World) → AgreesIn w → forged w inc m life ≡ Ok v → AgreesIn v
+agrees_forged w inc m Running v h e = subst AgreesIn (ok_is _ v e) (agrees_forged_on w inc m h)
+agrees_forged w inc m Ended v h e = subst AgreesIn (ok_is _ v e) (agrees_forged_on w inc m h)
+agrees_forged w inc m Reaped v h e = cc
+
+agrees_forge : (w : World) (inc : ℕ) (m : Message) (i : Option Instance) (v : World) → AgreesIn w → forge w inc m i ≡ Ok v → AgreesIn v
+agrees_forge w inc m None v h e = cc
+agrees_forge w inc m (Some i) v h e = agrees_forged w inc m i.life v h e
 
 -- what was taken is logged
 agrees_logged : (w : World) (more : List Taken) (told : Result World Stop) (v : World) → ((u : World) → told ≡ Ok u → AgreesIn u) → with_taken w more told ≡ Ok v → AgreesIn v
@@ -133,7 +178,7 @@ agrees_logged w more (Ok u) v h e = subst AgreesIn (ok_is _ v e) (h u refl)
 
 agrees_deliver : (w : World) (p : ℕ) (sent : Option Sent) (v : World) → AgreesIn w → nth w.sent p ≡ sent → deliver w p sent ≡ Ok v → AgreesIn v
 agrees_deliver w p None v h f e = cc
-agrees_deliver w p (Some sent) v h f e = agrees_logged w (taken_at w.rec p sent.message) (delivered w sent.message) v (λ u g. agrees_delivered w sent.message u h (among_place w.sent p sent f) g) e
+agrees_deliver w p (Some sent) v h f e = agrees_logged w (taken_at w.rec (Some p) (server_of sent.message) sent.message) (delivered w sent.message) v (λ u g. agrees_delivered w sent.message u h (among_place w.sent p sent f) g) e
 
 -- crashes, and ends that are told
 agrees_crashed : (w : World) (inc : ℕ) (i : Instance) (life : Life) (v : World) → AgreesIn w → nth w.instances inc ≡ Some i → crashed w inc i life ≡ Ok v → AgreesIn v
@@ -146,7 +191,7 @@ agrees_crash w inc None v h at e = cc
 agrees_crash w inc (Some i) v h at e = agrees_crashed w inc i i.life v h at e
 
 reap_joined : (w : World) (inc : ℕ) (t : Took) → AgreesIn w → (lives_of w.instances inc ≡ Some Running → ⊥) → on_reap w.rec inc ≡ Ok t → AgreesIn (joined w t)
-reap_joined w inc t h over e = reaped_joined w t h (on_reap_keeps w.rec inc t h.steady e) (reap_moves w.rec inc t h.steady e) (reap_ends w.rec (acts_of w.instances) (lives_of w.instances) inc h.steady over t e)
+reap_joined w inc t h over e = reaped_joined w t h (on_reap_keeps w.rec inc t h.steady e) (reap_moves w.rec inc t h.steady e) (reap_ends w.hostile w.rec (acts_of w.instances) (lives_of w.instances) inc h.steady over t e)
 
 agrees_ended : (w : World) (inc : ℕ) (i : Instance) (life : Life) (v : World) → AgreesIn w → nth w.instances inc ≡ Some i → ended w inc i life ≡ Ok v → AgreesIn v
 agrees_ended w inc i Running v h at e = cc
@@ -190,7 +235,7 @@ module _ (w : World) (k : Files w) (h : AgreesIn w) (f : ℕ) (frame : Frame) (a
       (all_counted (links_of w.rec.objects) (links_of made.rec.objects) (acts_of w.instances) (lives_of w.instances) (messages w.sent) (messages_of made.answer.actions) w.owners w.rec.last_act w.container_done fresh w.server_done frame.k
       counts h.facts)
       (asked_views (IsTold (links_of w.rec.objects) frame.k fresh) w made h counts.tells)
-      (joined_grants w made [] h (committed_moves w.rec f frame h.steady at) (λ x z. absurd z) (asks_followed (IsTold (links_of w.rec.objects) frame.k fresh) (links_of w.rec.objects) (links_of made.rec.objects) (messages_of made.answer.actions) counts.tells)))
+      (joined_grants w made [] h (committed_moves w.rec f frame h.steady at) (λ x z honest. absurd z) (asks_followed (IsTold (links_of w.rec.objects) frame.k fresh) (links_of w.rec.objects) (links_of made.rec.objects) (messages_of made.answer.actions) counts.tells)))
 
 -- a step that keeps a record steady
 abbrev Keeps : Result Took ContainerFault → Type 0
@@ -226,10 +271,10 @@ agrees_only w (Err fault) v g e = cc
 agrees_only w (Ok t) v g e = subst AgreesIn (ok_is _ v e) (g t refl)
 
 agrees_failed : (w : World) (f : ℕ) (t : Took) → AgreesIn w → commit_failed w.rec f ≡ Ok t → AgreesIn (joined w t)
-agrees_failed w f t h e = turned_joined w t [] h (on_input_keeps w.rec (Input.Failed f) t h.steady e) (failed_moves w.rec f t h.steady e) (λ x z. absurd z) (asks_turned w.rec t (failed_asks w.rec f t e))
+agrees_failed w f t h e = turned_joined w t [] h (on_input_keeps w.rec (Input.Failed f) t h.steady e) (failed_moves w.rec f t h.steady e) (λ x z honest. absurd z) (asks_turned w.rec t (failed_asks w.rec f t e))
 
 agrees_dropped : (w : World) (f : ℕ) (t : Took) → AgreesIn w → resolve w.rec f false ≡ Ok t → AgreesIn (joined w t)
-agrees_dropped w f t h e = turned_joined w t [] h (on_input_keeps w.rec (Input.Resolved f false) t h.steady e) (dropped_moves w.rec f t h.steady e) (λ x z. absurd z) (asks_turned w.rec t (dropped_asks w.rec f t h.steady e))
+agrees_dropped w f t h e = turned_joined w t [] h (on_input_keeps w.rec (Input.Resolved f false) t h.steady e) (dropped_moves w.rec f t h.steady e) (λ x z honest. absurd z) (asks_turned w.rec t (dropped_asks w.rec f t h.steady e))
 
 agrees_resolved : (w : World) (f : ℕ) (is_kept : Bool) (bytes : List ℕ) (v : World) → Files w → AgreesIn w → resolved w f is_kept bytes ≡ Ok v → AgreesIn v
 agrees_resolved w f true bytes v k h e = agrees_done_in w f bytes (resolve w.rec f true) (nth w.rec.frames f) v k h refl (λ x at. kept_commits w.rec f x at) (λ t q. on_input_keeps w.rec (Input.Resolved f true) t h.steady q) e
@@ -237,11 +282,12 @@ agrees_resolved w f false bytes v k h e = agrees_only w (resolve w.rec f false) 
 
 -- a file that is opened
 agrees_opened : (w : World) (name : List ℕ) (x y : ℕ) (given : Given) (t : Took) → AgreesIn w → opened w.rec name x y given ≡ Ok t → AgreesIn (joined w t)
-agrees_opened w name x y given t h e = turned_joined w t [] h (on_input_keeps w.rec (Input.Opened name x y given) t h.steady e) (opened_moves w.rec name x y given t h.steady e) (λ m z. absurd z) (asks_turned w.rec t (open_asks w.rec name x y given t e))
+agrees_opened w name x y given t h e = turned_joined w t [] h (on_input_keeps w.rec (Input.Opened name x y given) t h.steady e) (opened_moves w.rec name x y given t h.steady e) (λ m z honest. absurd z) (asks_turned w.rec t (open_asks w.rec name x y given t e))
 
 pub agrees_happened : (w : World) (choice : Choice) (e : Event) (v : World) → Files w → AgreesIn w → happened w choice e ≡ Ok v → AgreesIn v
 agrees_happened w choice (event.Command c) v k h e = subst AgreesIn (ok_is _ v e) (agrees_commanded w c (on_command w.rec c) h refl)
 agrees_happened w choice (event.Deliver p) v k h e = agrees_deliver w p (nth w.sent p) v h refl e
+agrees_happened w choice (event.Forge inc m) v k h e = agrees_forge w inc m (nth w.instances inc) v h e
 agrees_happened w choice (event.Crash inc) v k h e = agrees_crash w inc (nth w.instances inc) v h refl e
 agrees_happened w choice (event.Reap inc) v k h e = agrees_reap w inc (nth w.instances inc) v h refl e
 agrees_happened w choice (event.Scribble inc act) v k h e = agrees_scribble w inc act (nth w.instances inc) v h refl e

@@ -34,11 +34,13 @@ use Rattle.world_model.specs.declared.life.Life.{Life}
 use Rattle.world_model.specs.declared.life.Life.TheVariants.{Running, Ended, Reaped}
 use Rattle.world_model.specs.declared.logs.Sent.{Sent}
 use Rattle.world_model.specs.declared.logs.Taken.{Taken}
-use Rattle.world_model.specs.World.{World, Instance, messages_of, of_container, took, commanded, view_in, served, is_of, stocked, called_wanting, called_in, called, delivered, taken_link, taken_of, taken_by, taken_at, with_taken, deliver, spoken_by, spoken, scribble, ask, crashed, crash, ended, reap, done_taken, done_imaged, done_in, only_taken, resolved, happened, Choice}
-use Rattle.world_model.specs.Safe.{Among, WasSent, link_at, links_of, acts_of, messages, Brings, IsGranted, IsHonest}
+use Rattle.world_model.specs.World.{World, Instance, messages_of, of_container, took, commanded, view_in, served, is_of, stocked, called_wanting, called_in, called, delivered, taken_link, taken_of, taken_by, taken_at, with_taken, server_of, deliver, forged_on, forged, forge, spoken_by, spoken, scribble, ask, crashed, crash, ended, reap, done_taken, done_imaged, done_in, only_taken, resolved, happened, Choice}
+use Rattle.world_model.specs.Safe.{Among, WasSent, link_at, links_of, acts_of, messages, Brings, IsGranted, IsHonest, is_hostile}
 use Rattle.world_facts.specs.Words.{lives_of}
 use Rattle.world_facts.specs.Views.{IsSentOpen}
+use Rattle.world_facts.proofs.Honest.{honest_before, just_hostile}
 use Rattle.world_facts.proofs.Lookups.{among_join, among_map, among_old, nth_old, find_passes}
+use Rattle.world_steps.proofs.Forging.{own_link}
 use Rattle.world_steps.proofs.Objects.{messages_of_log}
 use Rattle.container_steady.proofs.SteadyFinds.{found_by_number}
 use Rattle.world_grants.specs.Grants.{roles_of}
@@ -170,7 +172,9 @@ brings_more w v more (Ask inc act g) t e b = absurd b
 pub granted_more : (w v : World) (more : List Sent) (t : Taken) → v.sent ≡ w.sent ++ more → IsGranted w t → IsGranted v t
 granted_more w v more t e g = (let s = g.sent in record {
   message = g.message;
-  delivered = ap (λ xs. nth (messages xs) t.place) e ∙ (ap (λ xs. nth xs t.place) (messages_of_log w.sent more) ∙ nth_old (messages w.sent) (messages more) t.place g.message g.delivered);
+  place = g.place;
+  placed = g.placed;
+  delivered = ap (λ xs. nth (messages xs) g.place) e ∙ (ap (λ xs. nth xs g.place) (messages_of_log w.sent more) ∙ nth_old (messages w.sent) (messages more) g.place g.message g.delivered);
   brings = brings_more w v more g.message t e g.brings;
   sent = (s.0, subst (λ xs. Among xs (record { message = g.message; view = Some s.0 })) (sym e) (among_old w.sent more _ s.1), s.2, s.3, s.4);
   held_open = g.held_open;
@@ -191,17 +195,17 @@ message_among : (xs : List Sent) (x : Sent) → Among xs x → Among (messages x
 message_among xs x h = among_map (λ (y : Sent). y.message) xs x h
 
 -- the entry of what is taken
-abbrev entry_of : (p : ℕ) (o : Object) (l : Link) → Taken
+abbrev entry_of : (p : Option ℕ) (o : Object) (l : Link) → Taken
 entry_of p o l = record { place = p; object = o.number; inc = l.inc; act = l.act; persist = l.states.persist.state; s = l.s; awaits_save = awaits_save l }
 
-taken_is : (p : ℕ) (x : Option Object) (o : Object) (l : Link) (t : Taken) → x ≡ Some o → o.link ≡ Some l → Among (taken_of p x) t → t ≡ entry_of p o l
+taken_is : (p : Option ℕ) (x : Option Object) (o : Object) (l : Link) (t : Taken) → x ≡ Some o → o.link ≡ Some l → Among (taken_of p x) t → t ≡ entry_of p o l
 taken_is p x o l t f q g = (let y : Among (taken_link p o.number (Some l)) t = subst (λ z. Among (taken_link p o.number z) t) q (subst (λ z. Among (taken_of p z) t) f g) in at y)
   where
     at : Among (entry_of p o l ∷ []) t → t ≡ entry_of p o l
     at (inl e) = e
     at (inr z) = absurd z
 
-took_some : (r : Record) (p inc act : ℕ) (told : Result Took ContainerFault) (t : Taken) → Among (taken_by r p inc act told) t → (u : Took) × (told ≡ Ok u) × (u.answer.taken ≡ true) × Among (taken_of p (find (is_linked inc act) r.objects)) t
+took_some : (r : Record) (p : Option ℕ) (inc act : ℕ) (told : Result Took ContainerFault) (t : Taken) → Among (taken_by r p inc act told) t → (u : Took) × (told ≡ Ok u) × (u.answer.taken ≡ true) × Among (taken_of p (find (is_linked inc act) r.objects)) t
 took_some r p inc act (Err fault) t g = absurd g
 took_some r p inc act (Ok u) t g = elim (u.answer.taken) as (λ b. u.answer.taken ≡ b → Among (if b then taken_of p (find (is_linked inc act) r.objects) else []) t → (v : Took) × (◌≡◌ {A = Result Took ContainerFault} (Ok u) (Ok v)) × (v.answer.taken ≡ true) × Among (taken_of p (find (is_linked inc act) r.objects)) t) [
   | true ↦ (λ q h. (u, refl, q, h))
@@ -233,36 +237,38 @@ module _ (r : Record) (act g : ℕ) (u : Took) where
       at true false k = cc
       at false b k = cc
 
+named_by : (r : Record) (inc act : ℕ) (o : Object) (l : Link) → find (is_linked inc act) r.objects ≡ Some o → o.link ≡ Some l → (l.inc ≡ inc) × (l.act ≡ act)
+named_by r inc act o l f q = linked_is inc act o.link l q (find_passes (is_linked inc act) r.objects o f)
+
+-- what is taken is of the server whose message it is
+taken_inc : (r : Record) (p : Option ℕ) (inc act : ℕ) (t : Taken) (found : Option Object) → find (is_linked inc act) r.objects ≡ found → Among (taken_of p found) t → t.inc ≡ inc
+taken_inc r p inc act t None f g = absurd g
+taken_inc r p inc act t (Some o) f g = at_link o.link refl g
+  where
+    at_link : (link : Option Link) → o.link ≡ link → Among (taken_link p o.number link) t → t.inc ≡ inc
+    at_link None q g = absurd g
+    at_link (Some l) q (inl is) = ap (λ (z : Taken). z.inc) is ∙ (named_by r inc act o l f q).0
+    at_link (Some l) q (inr z) = absurd z
+
 module _ (w : World) (h : AgreesIn w) (p : ℕ) (x : Sent) (at : nth w.sent p ≡ Some x) where
-  named_by : (inc act : ℕ) (o : Object) (l : Link) → find (is_linked inc act) w.rec.objects ≡ Some o → o.link ≡ Some l → (l.inc ≡ inc) × (l.act ≡ act)
-  named_by inc act o l f q = linked_is inc act o.link l q (find_passes (is_linked inc act) w.rec.objects o f)
-
-  -- what is taken is of the server whose message it is
-  taken_inc : (inc act : ℕ) (t : Taken) (found : Option Object) → find (is_linked inc act) w.rec.objects ≡ found → Among (taken_of p found) t → t.inc ≡ inc
-  taken_inc inc act t None f g = absurd g
-  taken_inc inc act t (Some o) f g = at_link o.link refl g
-    where
-      at_link : (link : Option Link) → o.link ≡ link → Among (taken_link p o.number link) t → t.inc ≡ inc
-      at_link None q g = absurd g
-      at_link (Some l) q (inl is) = ap (λ (z : Taken). z.inc) is ∙ (named_by inc act o l f q).0
-      at_link (Some l) q (inr z) = absurd z
-
   message_at : (m : Message) → x.message ≡ m → nth (messages w.sent) p ≡ Some m
   message_at m e = (nth_message w.sent p x at).0 ∙ ap Some e
 
-  write_granted : (inc act s n : ℕ) (content : Stored) (t : Taken) → x.message ≡ Write inc act s n content → Among (taken_by w.rec p inc act (on_message w.rec inc (Write inc act s n content))) t → IsGranted w t
+  write_granted : (inc act s n : ℕ) (content : Stored) (t : Taken) → x.message ≡ Write inc act s n content → Among (taken_by w.rec (Some p) inc act (on_message w.rec inc (Write inc act s n content))) t → IsGranted w t
   write_granted inc act s n content t e g =
       let m : Message = Write inc act s n content in
-      let k = took_some w.rec p inc act (on_message w.rec inc m) t g in
+      let k = took_some w.rec (Some p) inc act (on_message w.rec inc m) t g in
       let b = write_is w.rec inc act s n content k.0 k.1 in
       let open_now = held_open b.link s n b.granted in
-      let name = named_by inc act b.object b.link b.found b.linked in
+      let name = named_by w.rec inc act b.object b.link b.found b.linked in
       let seen : IsSentOpen m x.view = subst (λ y. IsSentOpen y x.view) e (h.views.writes_sent x (nth_message w.sent p x at).1) in
       let view = seen.0 in
       let under = seen.2 in
       let is : x ≡ record { message = m; view = Some view } = ap (λ y. record { message = y; view = x.view }) e ∙ ap (λ y. record { message = m; view = y }) seen.1 in
-      subst (IsGranted w) (sym (taken_is p (find (is_linked inc act) w.rec.objects) b.object b.link t b.found b.linked k.3)) (record {
+      subst (IsGranted w) (sym (taken_is (Some p) (find (is_linked inc act) w.rec.objects) b.object b.link t b.found b.linked k.3)) (record {
         message = m;
+        place = p;
+        placed = refl;
         delivered = message_at m e;
         brings = (sym name.0, sym name.1, sym open_now.grant);
         sent = (view, subst (Among w.sent) is (nth_message w.sent p x at).1, under.opened, under.storage, under.grant ∙ sym open_now.grant);
@@ -279,19 +285,21 @@ module _ (w : World) (h : AgreesIn w) (p : ℕ) (x : Sent) (at : nth w.sent p �
       let replied : Among (messages w.sent) (Reply l.inc l.act l.last answer) = subst (λ i. Among (messages w.sent) (Reply i l.act l.last answer)) (sym c.inc_is)
       (subst (λ a. Among (messages w.sent) (Reply inc a l.last answer)) (sym c.act_is) (subst (λ k. Among (messages w.sent) (Reply inc act k answer)) c.number there)) in
       subst (λ i. WasSent w (Call i act n (Close SaveIfDirty))) c.inc_is (subst (λ a. WasSent w (Call l.inc a n (Close SaveIfDirty))) c.act_is (subst (λ k. WasSent w (Call l.inc l.act k (Close SaveIfDirty))) (sym c.number)
-      (pending_called (links_of w.rec.objects) (acts_of w.instances) (lives_of w.instances) (messages w.sent) w.owners w.rec.last_act w.container_done w.server_done h.facts c.object.number l (Close SaveIfDirty) (roles_of w.rec) answer h.grants at_l (subst (IsHonest w.hostile) (sym c.inc_is) honest) c.pending replied)))
+      (pending_called (links_of w.rec.objects) (acts_of w.instances) (lives_of w.instances) (messages w.sent) w.owners w.rec.last_act w.container_done w.server_done h.facts c.object.number l (Close SaveIfDirty) (roles_of w.rec) answer h.grants at_l c.pending replied)))
 
-  close_granted : (inc act n : ℕ) (answer : Answer) (t : Taken) → x.message ≡ Reply inc act n answer → Among (taken_by w.rec p inc act (on_message w.rec inc (Reply inc act n answer))) t → IsHonest w.hostile t.inc → IsGranted w t
+  close_granted : (inc act n : ℕ) (answer : Answer) (t : Taken) → x.message ≡ Reply inc act n answer → Among (taken_by w.rec (Some p) inc act (on_message w.rec inc (Reply inc act n answer))) t → IsHonest w.hostile t.inc → IsGranted w t
   close_granted inc act n answer t e g honest_taken =
-      let k = took_some w.rec p inc act (on_message w.rec inc (Reply inc act n answer)) t g in
+      let k = took_some w.rec (Some p) inc act (on_message w.rec inc (Reply inc act n answer)) t g in
       let there : Among (messages w.sent) (Reply inc act n answer) = subst (Among (messages w.sent)) e (message_among w.sent x (nth_message w.sent p x at).1) in
-      let honest : IsHonest w.hostile inc = subst (IsHonest w.hostile) (taken_inc inc act t (find (is_linked inc act) w.rec.objects) refl k.3) honest_taken in
+      let honest : IsHonest w.hostile inc = subst (IsHonest w.hostile) (taken_inc w.rec (Some p) inc act t (find (is_linked inc act) w.rec.objects) refl k.3) honest_taken in
       let c = reply_closes w.rec (acts_of w.instances) (lives_of w.instances) (messages w.sent) w.owners w.rec.last_act w.container_done w.server_done inc act n answer h.steady h.facts honest there w.sent k.0 k.1 k.2 h.views in
       let m : Message = Reply inc act n (Content c.content) in
       let same : Reply inc act n answer ≡ m = ap (Reply inc act n) c.brings in
       let normal = normal_of c.link.states.persist.state c.held.storage in
-      subst (IsGranted w) (sym (taken_is p (find (is_linked inc act) w.rec.objects) c.object c.link t c.found c.linked k.3)) (record {
+      subst (IsGranted w) (sym (taken_is (Some p) (find (is_linked inc act) w.rec.objects) c.object c.link t c.found c.linked k.3)) (record {
         message = m;
+        place = p;
+        placed = refl;
         delivered = message_at m (e ∙ same);
         brings = (sym c.inc_is, sym c.act_is, close_called inc act n answer honest there c);
         sent = (c.seen.view, subst (λ y. Among w.sent (record { message = y; view = Some c.seen.view })) same c.seen.among, c.seen.opened, ap (λ v. v.persist.state) c.seen.states ∙ normal, c.seen.grant);
@@ -299,11 +307,11 @@ module _ (w : World) (h : AgreesIn w) (p : ℕ) (x : Sent) (at : nth w.sent p �
         unasked = c.held.unasked;
       })
 
-  granted_at : (m : Message) (t : Taken) → x.message ≡ m → Among (taken_at w.rec p m) t → IsHonest w.hostile t.inc → IsGranted w t
+  granted_at : (m : Message) (t : Taken) → x.message ≡ m → Among (taken_at w.rec (Some p) (server_of m) m) t → IsHonest w.hostile t.inc → IsGranted w t
   granted_at (Call inc act n op) t e g honest = absurd g
   granted_at (Reply inc act n answer) t e g honest = close_granted inc act n answer t e g honest
   granted_at (Write inc act s n content) t e g honest = write_granted inc act s n content t e g
-  granted_at (Ask inc act j) t e g honest = (let k = took_some w.rec p inc act (on_message w.rec inc (Ask inc act j)) t g in let z : false ≡ true = sym (untaken w.rec act j k.0 inc inc k.1) ∙ k.2 in cc)
+  granted_at (Ask inc act j) t e g honest = (let k = took_some w.rec (Some p) inc act (on_message w.rec inc (Ask inc act j)) t g in let z : false ≡ true = sym (untaken w.rec act j k.0 inc inc k.1) ∙ k.2 in cc)
 
 -- what was taken after an event
 abbrev AreGranted : World → Type 0
@@ -320,11 +328,41 @@ granted_logged w more (Ok u) v new grew h e = (let g = grew u refl in
 
 granted_deliver : (w : World) (p : ℕ) (sent : Option Sent) (v : World) → AgreesIn w → nth w.sent p ≡ sent → AreGranted w → deliver w p sent ≡ Ok v → AreGranted v
 granted_deliver w p None v k at h e = cc
-granted_deliver w p (Some x) v k at h e = granted_logged w (taken_at w.rec p x.message) (delivered w x.message) v (λ t g. granted_at w k p x at x.message t refl g) (λ u g. grew_delivered w x.message u g) h e
+granted_deliver w p (Some x) v k at h e = granted_logged w (taken_at w.rec (Some p) (server_of x.message) x.message) (delivered w x.message) v (λ t g. granted_at w k p x at x.message t refl g) (λ u g. grew_delivered w x.message u g) h e
+
+-- What is taken of a forged message is of a hostile server, so nothing is owed of it; and what was granted before stays so.
+taken_told : (w : World) (inc i act : ℕ) (m : Message) (t : Taken) → server_of m ≡ i → Among (taken_by w.rec None i act (on_message w.rec inc m)) t → t.inc ≡ inc
+taken_told w inc i act m t is g =
+    let k = took_some w.rec None i act (on_message w.rec inc m) t g in
+    taken_inc w.rec None i act t (find (is_linked i act) w.rec.objects) refl k.3 ∙ (sym is ∙ own_link w.rec inc m k.0 k.1)
+
+forged_inc : (w : World) (inc : ℕ) (m : Message) (t : Taken) → Among (taken_at w.rec None inc m) t → t.inc ≡ inc
+forged_inc w inc (Call i act n op) t g = absurd g
+forged_inc w inc (Reply i act n answer) t g = taken_told w inc i act (Reply i act n answer) t refl g
+forged_inc w inc (Write i act s n content) t g = taken_told w inc i act (Write i act s n content) t refl g
+forged_inc w inc (Ask i act j) t g = taken_told w inc i act (Ask i act j) t refl g
+
+granted_forged_on : (w : World) (inc : ℕ) (m : Message) → AreGranted w → AreGranted (forged_on w inc m)
+granted_forged_on w inc m h t a honest =
+    let g = grew_took w (on_message w.rec inc m) in
+    granted_more w (forged_on w inc m) g.more t g.sent (elim (among_join w.taken (taken_at w.rec None inc m) t a) [
+      | inl old ↦ h t old (honest_before w.hostile inc t.inc honest)
+      | inr now ↦ absurd (let z : true ≡ false = sym (just_hostile w.hostile inc) ∙ (ap (is_hostile (w.hostile ++ inc ∷ [])) (sym (forged_inc w inc m t now)) ∙ honest) in cc)
+    ])
+
+granted_forged : (w : World) (inc : ℕ) (m : Message) (life : Life) (v : World) → AreGranted w → forged w inc m life ≡ Ok v → AreGranted v
+granted_forged w inc m Running v h e = subst AreGranted (ok_is _ v e) (granted_forged_on w inc m h)
+granted_forged w inc m Ended v h e = subst AreGranted (ok_is _ v e) (granted_forged_on w inc m h)
+granted_forged w inc m Reaped v h e = cc
+
+granted_forge : (w : World) (inc : ℕ) (m : Message) (i : Option Instance) (v : World) → AreGranted w → forge w inc m i ≡ Ok v → AreGranted v
+granted_forge w inc m None v h e = cc
+granted_forge w inc m (Some i) v h e = granted_forged w inc m i.life v h e
 
 pub granted_happened : (w : World) (choice : Choice) (e : Event) (v : World) → AgreesIn w → AreGranted w → happened w choice e ≡ Ok v → AreGranted v
 granted_happened w choice (event.Command c) v k h e = granted_grew w v (subst (Grew w) (ok_is _ v e) (grew_commanded w c (on_command w.rec c))) h
 granted_happened w choice (event.Deliver p) v k h e = granted_deliver w p (nth w.sent p) v k refl h e
+granted_happened w choice (event.Forge inc m) v k h e = granted_forge w inc m (nth w.instances inc) v h e
 granted_happened w choice (event.Crash inc) v k h e = granted_grew w v (grew_crash w inc (nth w.instances inc) v e) h
 granted_happened w choice (event.Reap inc) v k h e = granted_grew w v (grew_reap w inc (nth w.instances inc) v e) h
 granted_happened w choice (event.Scribble inc act) v k h e = granted_grew w v (grew_scribble w inc act (nth w.instances inc) v e) h

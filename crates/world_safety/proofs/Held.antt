@@ -12,13 +12,13 @@ use Rattle.wire_msgs.specs.declared.operation.Operation.{Operation}
 use Rattle.wire_msgs.specs.declared.operation.Operation.TheVariants.{SaveCompleted}
 use Rattle.world_facts.specs.Words.{Issued, called, waits}
 use Rattle.world_facts.specs.Facts.{HasSaved}
-use Rattle.world_files.proofs.Kept.{empty_files, files_happened, limited_ok, commits_kept, files_kept}
-use Rattle.world_safety.proofs.Honest.{all_honest}
+use Rattle.world_files.proofs.Kept.{empty_files, files_happened, limited_ok, commits_kept}
 use Rattle.world_safety.specs.Holding.{AgreesIn, Holds}
 use Rattle.world_safety.proofs.Events.{agrees_happened}
 use Rattle.world_safety.proofs.Granting.{granted_happened}
 use Rattle.world_safety.proofs.Holders.{holder, one_holder}
 use Rattle.world_safety.proofs.Numbering.{empty_numbers, numbers_happened}
+use Rattle.world_safety.proofs.Opened.{files_kept, files_opened_give}
 use Rattle.world_safety.proofs.Once.{once_answered}
 
 has_saved : (a : Option Activation) (c : Stored) → HasSaved c a → (b : Activation) × (a ≡ Some b) × (b.saved ≡ Some c)
@@ -28,8 +28,8 @@ has_saved (Some b) c h = (b, refl, h)
 pub safe_held : (w : World) → Holds w → Safe w
 safe_held w h = (let f = h.agrees.facts in record {
   acts_once = λ inc act n op r next g e. once_answered w inc act n op r h.agrees g next e;
-  one_reply = λ inc act n r q g k. f.replies.one_reply inc act n r q (all_honest w.hostile h.agrees.none_hostile inc) g k;
-  kept_reply = λ inc act a r e g. (let k = f.replies.replies_kept inc act a.last r (all_honest w.hostile h.agrees.none_hostile inc) g in
+  one_reply = λ inc act n r q g k. f.replies.one_reply inc act n r q g k;
+  kept_reply = λ inc act a r e g. (let k = f.replies.replies_kept inc act a.last r g in
       let is : a ≡ k.0 = (let z : Some a ≡ Some k.0 = sym e ∙ k.1 in cc) in
       k.3 (ap (λ (x : Activation). x.last) is) ∙ ap (λ (x : Activation). x.reply) (sym is));
   answered = λ n l content e honest s. has_saved (acts_of w.instances l.inc l.act) content (f.saved_same n l content e honest s);
@@ -42,6 +42,7 @@ safe_held w h = (let f = h.agrees.facts in record {
   numbered = h.numbers.sent;
   commits = commits_kept w h.files;
   files = λ f frame document at sure. files_kept w h.files f frame document at sure;
+  opened = λ name given read. files_opened_give w h.files name given read;
 })
 
 -- the world in which nothing has happened
@@ -61,7 +62,6 @@ none_issued inc act n op (waits o l i e ei ea at en) = no_link o l e
 
 empty_agrees : (numbers : ℕ) (stock : List Kind) → AgreesIn (empty_world numbers stock)
 empty_agrees numbers stock = record {
-  none_hostile = refl;
   steady = empty_steady numbers;
   servers = refl;
   facts = record {
@@ -77,7 +77,7 @@ empty_agrees numbers stock = record {
     calls = record { bounded = λ o inc n op l e h. absurd h; pending = λ o inc op asked l e q h. absurd h };
     in_step = λ o l e. absurd (no_link o l e);
     unlinked = record { called = λ inc act n op honest runs h. absurd h; known = λ inc act a honest runs e. absurd (absent inc act a e) };
-    replies = record { reply_numbered = λ inc act a honest e. absurd (absent inc act a e); replies_kept = λ inc act n r honest h. absurd h; one_reply = λ inc act n r q honest h. absurd h };
+    replies = record { reply_numbered = λ inc act a e. absurd (absent inc act a e); replies_kept = λ inc act n r h. absurd h; one_reply = λ inc act n r q h. absurd h };
     saved_same = λ o l c e. absurd (no_link o l e);
     counts = record {
       completed_counted = λ inc act n k s i. absurd (none_issued inc act n (SaveCompleted k s) i);
@@ -92,7 +92,7 @@ empty_agrees numbers stock = record {
   grants = record {
     g_is_ui = λ inc act g a honest e. absurd (absent inc act a e);
     holder_named = λ o g l a e. absurd (no_link o l e);
-    replied_called = λ inc act n r honest h. absurd h;
+    replied_called = λ inc act n r h. absurd h;
     held_told = λ o g tools l e. absurd (no_link o l e);
   };
 }

@@ -18,7 +18,7 @@ use Rattle.container_steps.proofs.SteadyCommands.{on_command_keeps}
 use Rattle.world_model.specs.declared.life.Life.{Life}
 use Rattle.world_model.specs.declared.life.Life.TheVariants.{Running, Ended, Reaped}
 use Rattle.world_model.specs.World.{World, Instance, fresh, messages_of, of_container, started_by, end_of, ended_at, ended_by, joined}
-use Rattle.world_model.specs.Safe.{Among, links_of, act_at, acts_of, messages}
+use Rattle.world_model.specs.Safe.{links_of, act_at, acts_of, messages}
 use Rattle.world_facts.specs.Words.{life_at, lives_of}
 use Rattle.world_facts.specs.Facts.{Facts}
 use Rattle.world_facts.specs.Shapes.{AsksAll, IsQuiet, StartsOrEnds}
@@ -28,7 +28,7 @@ use Rattle.world_facts.proofs.Beginning.{begun}
 use Rattle.world_facts.proofs.Leaving.{AreCalls, asks_calls, asks_leave, begins_calls, begins_leave, grows_calls, grows_none, starts_leave, views_kept}
 use Rattle.world_facts.proofs.Starting.{started}
 use Rattle.world_files.proofs.Filing.{length_more}
-use Rattle.world_grants.specs.Grants.{Grants, roles_of}
+use Rattle.world_grants.specs.Grants.{AreSent, Grants, roles_of}
 use Rattle.world_grants.proofs.Alike.{grants_same}
 use Rattle.world_grants.proofs.Answering.{ready_for}
 use Rattle.world_grants.proofs.Stepping as starting
@@ -58,7 +58,6 @@ module _ (w : World) (t : Took) (h : AgreesIn w) (steady : Steady t.rec) (server
       let same : ended_by t.answer.actions w.instances ++ started_by t.rec.numbers t.answer.actions ≡ w.instances =
       ap (λ v. ended_by t.answer.actions w.instances ++ v) (starts t.rec.numbers) ∙ (append-nil (ended_by t.answer.actions w.instances) ∙ ends w.instances) in
       let base : Agrees w.hostile t.rec w.instances (w.sent ++ map of_container more) owners counted w.server_done = record {
-        none_hostile = h.none_hostile;
         steady = steady;
         servers = servers ∙ h.servers;
         facts = subst (λ s. Facts w.hostile (links_of t.rec.objects) (acts_of w.instances) (lives_of w.instances) s owners t.rec.last_act counted w.server_done) (sym ms) f;
@@ -87,14 +86,14 @@ asked_views Asks w t h m =
     views_kept links after acts acts w.sent (w.sent ++ map of_container more) (asks_leave w.hostile Asks links after acts more m h.facts.in_step) (grows_calls w.sent more (asks_calls Asks links after more m)) h.views
 
 -- who has frames, after a step whose links follow those before
-pub joined_grants : (w : World) (t : Took) (taken : List Message) → AgreesIn w → MovesBy w.rec t.rec taken → ((m : Message) → Among taken m → Among (messages w.sent) m) → IsFollowed (links_of w.rec.objects) (links_of t.rec.objects) (messages_of t.answer.actions)
+pub joined_grants : (w : World) (t : Took) (taken : List Message) → AgreesIn w → MovesBy w.rec t.rec taken → AreSent w.hostile (messages w.sent) taken → IsFollowed (links_of w.rec.objects) (links_of t.rec.objects) (messages_of t.answer.actions)
     → Grants w.hostile (links_of t.rec.objects) (roles_of t.rec) (acts_of w.instances) (messages w.sent ++ messages_of t.answer.actions)
 joined_grants w t taken h moves sends k =
     followed (links_of w.rec.objects) (links_of t.rec.objects) (acts_of w.instances) (lives_of w.instances) (messages w.sent) (messages_of t.answer.actions) w.owners w.rec.last_act w.container_done w.server_done (roles_of w.rec) (roles_of t.rec) taken
     h.facts h.grants (ready_for w.rec h.steady).linked moves sends k.calls k.follows
 
 -- a step that is a list of shapes
-kept_joined : (w : World) (t : Took) (taken : List Message) → AgreesIn w → Steady t.rec → IsPlain w.rec t → MovesBy w.rec t.rec taken → ((m : Message) → Among taken m → Among (messages w.sent) m)
+kept_joined : (w : World) (t : Took) (taken : List Message) → AgreesIn w → Steady t.rec → IsPlain w.rec t → MovesBy w.rec t.rec taken → AreSent w.hostile (messages w.sent) taken
     → IsFollowed (links_of w.rec.objects) (links_of t.rec.objects) (messages_of t.answer.actions)
     → AreKept w.hostile (acts_of w.instances) (lives_of w.instances) w.owners w.rec.last_act w.container_done w.server_done (links_of t.rec.objects) (longer w.sent (messages_of t.answer.actions)) → AgreesIn (joined w t)
 kept_joined w t taken h steady p moves sends k now =
@@ -107,7 +106,7 @@ kept_before : (w : World) → AgreesIn w → AreKept w.hostile (acts_of w.instan
 kept_before w h = record { facts = h.facts; views = h.views }
 
 -- operations are asked, in turn
-pub turned_joined : (w : World) (t : Took) (taken : List Message) → AgreesIn w → Steady t.rec → MovesBy w.rec t.rec taken → ((m : Message) → Among taken m → Among (messages w.sent) m) → IsTurned w.rec t → AgreesIn (joined w t)
+pub turned_joined : (w : World) (t : Took) (taken : List Message) → AgreesIn w → Steady t.rec → MovesBy w.rec t.rec taken → AreSent w.hostile (messages w.sent) taken → IsTurned w.rec t → AgreesIn (joined w t)
 turned_joined w t taken h steady moves sends m = kept_joined w t taken h steady m.1 moves sends (turned_followed (links_of w.rec.objects) (links_of t.rec.objects) (messages_of t.answer.actions) m.0)
     (turned_kept w.hostile (acts_of w.instances) (lives_of w.instances) w.owners w.rec.last_act w.container_done w.server_done (links_of w.rec.objects) (links_of t.rec.objects) w.sent (messages_of t.answer.actions) m.0 (kept_before w h))
 
@@ -116,17 +115,17 @@ pub asks_turned : (r : Record) (t : Took) → AsksAll (λ o op. IsQuiet op) (lin
 asks_turned r t m = (one_turn (links_of r.objects) (links_of t.rec.objects) (messages_of t.answer.actions) m.0, m.1)
 
 -- an answer is taken
-pub answered_joined : (w : World) (t : Took) (taken : List Message) → AgreesIn w → Steady t.rec → MovesBy w.rec t.rec taken → ((m : Message) → Among taken m → Among (messages w.sent) m)
-    → IsReplied (links_of w.rec.objects) (links_of t.rec.objects) (acts_of w.instances) (lives_of w.instances) (messages_of t.answer.actions) × IsPlain w.rec t → AgreesIn (joined w t)
+pub answered_joined : (w : World) (t : Took) (taken : List Message) → AgreesIn w → Steady t.rec → MovesBy w.rec t.rec taken → AreSent w.hostile (messages w.sent) taken
+    → IsReplied w.hostile (links_of w.rec.objects) (links_of t.rec.objects) (acts_of w.instances) (lives_of w.instances) (messages_of t.answer.actions) × IsPlain w.rec t → AgreesIn (joined w t)
 answered_joined w t taken h steady moves sends m =
-    kept_joined w t taken h steady m.1 moves sends (replied_followed (links_of w.rec.objects) (links_of t.rec.objects) (acts_of w.instances) (lives_of w.instances) (messages_of t.answer.actions) m.0)
+    kept_joined w t taken h steady m.1 moves sends (replied_followed w.hostile (links_of w.rec.objects) (links_of t.rec.objects) (acts_of w.instances) (lives_of w.instances) (messages_of t.answer.actions) m.0)
     (replied_kept w.hostile (acts_of w.instances) (lives_of w.instances) w.owners w.rec.last_act w.container_done w.server_done (links_of w.rec.objects) (links_of t.rec.objects) w.sent (messages_of t.answer.actions) m.0 (kept_before w h))
 
 -- the end of a server
 pub reaped_joined : (w : World) (t : Took) → AgreesIn w → Steady t.rec → MovesBy w.rec t.rec []
-    → IsReaped (links_of w.rec.objects) (links_of t.rec.objects) (acts_of w.instances) (lives_of w.instances) (messages_of t.answer.actions) × IsPlain w.rec t → AgreesIn (joined w t)
+    → IsReaped w.hostile (links_of w.rec.objects) (links_of t.rec.objects) (acts_of w.instances) (lives_of w.instances) (messages_of t.answer.actions) × IsPlain w.rec t → AgreesIn (joined w t)
 reaped_joined w t h steady moves m =
-    kept_joined w t [] h steady m.1 moves (λ x z. absurd z) (reaped_followed (links_of w.rec.objects) (links_of t.rec.objects) (acts_of w.instances) (lives_of w.instances) (messages_of t.answer.actions) m.0)
+    kept_joined w t [] h steady m.1 moves (λ x z honest. absurd z) (reaped_followed w.hostile (links_of w.rec.objects) (links_of t.rec.objects) (acts_of w.instances) (lives_of w.instances) (messages_of t.answer.actions) m.0)
     (reaped_kept w.hostile (acts_of w.instances) (lives_of w.instances) w.owners w.rec.last_act w.container_done w.server_done (links_of w.rec.objects) (links_of t.rec.objects) w.sent (messages_of t.answer.actions) m.0 (kept_before w h))
 
 -- an activation is made for an object
@@ -211,7 +210,6 @@ start_joined w t h e =
     let begins : StartsOrEnds (acts_of w.instances) (acts_of (w.instances ++ new ∷ [])) (lives_of w.instances) (lives_of (w.instances ++ new ∷ [])) =
     subst (λ i. StartsOrEnds (acts_of w.instances) (acts_of (w.instances ++ i ∷ [])) (lives_of w.instances) (lives_of (w.instances ++ i ∷ []))) one (server_starts w.instances r.numbers) in
     let made : Agrees w.hostile (start_made r).rec (w.instances ++ new ∷ []) w.sent w.owners w.container_done w.server_done = record {
-      none_hostile = h.none_hostile;
       steady = steady;
       servers = length_more r.servers false ∙ (ap suc h.servers ∙ sym (length_more w.instances new));
       facts = started (links_of r.objects) (acts_of w.instances) (acts_of (w.instances ++ new ∷ [])) (lives_of w.instances) (lives_of (w.instances ++ new ∷ [])) (messages w.sent) w.owners r.last_act w.container_done w.server_done begins h.facts;
@@ -248,7 +246,6 @@ pub stopped_agrees : (w : World) (inc : ℕ) (i : Instance) (life : Life) → nt
 stopped_agrees w inc i life at over h =
     let js = set_nth w.instances inc (record i { life = life }) in
     record {
-      none_hostile = h.none_hostile;
       steady = h.steady;
       servers = h.servers ∙ sym (length_set_nth w.instances inc (record i { life = life }));
       facts = started (links_of w.rec.objects) (acts_of w.instances) (acts_of js) (lives_of w.instances) (lives_of js) (messages w.sent) w.owners w.rec.last_act w.container_done w.server_done (server_ends w.instances inc i life at over) h.facts;

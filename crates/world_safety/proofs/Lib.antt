@@ -1,4 +1,3 @@
-pub mod Honest
 pub mod Shaping
 pub mod Joining
 pub mod Serving
@@ -10,4 +9,5 @@ pub mod Once
 pub mod Alike
 pub mod Holders
 pub mod Numbering
+pub mod Opened
 pub mod Held

@@ -37,8 +37,8 @@ use Rattle.world_model.specs.declared.life.Life.{Life}
 use Rattle.world_model.specs.declared.life.Life.TheVariants.{Running, Ended, Reaped}
 use Rattle.world_model.specs.declared.logs.Sent.{Sent}
 use Rattle.world_model.specs.declared.logs.Taken.{Taken}
-use Rattle.world_model.specs.World.{World, Instance, called, called_in, called_wanting, commanded, crash, crashed, deliver, delivered, done_imaged, done_in, done_taken, empty_world, ended, happened, is_of, joined, kept_commit, messages_of, only_taken, reap, resolved, served, spoken, spoken_by, scribble, ask, started_by, stocked, taken_at, took, view_in, with_taken, Choice}
-use Rattle.world_model.specs.Safe.{Among, IsWithin, WasSent, acts_of, links_of, messages}
+use Rattle.world_model.specs.World.{World, Instance, called, called_in, called_wanting, commanded, crash, crashed, deliver, delivered, done_imaged, done_in, done_taken, empty_world, ended, forge, forged, forged_on, happened, is_of, joined, kept_commit, messages_of, only_taken, reap, resolved, served, server_of, spoken, spoken_by, scribble, ask, started_by, stocked, taken_at, took, view_in, with_taken, Choice}
+use Rattle.world_model.specs.Safe.{Among, IsHonest, IsWithin, WasSent, acts_of, links_of, messages}
 use Rattle.world_facts.specs.Words.{called as was_called, life_at, lives_of}
 use Rattle.world_facts.proofs.Lookups.{among_map, find_among}
 use Rattle.world_files.specs.Files.{Files, id_of}
@@ -54,6 +54,7 @@ use Rattle.world_steps.proofs.Handing.{save_asks}
 use Rattle.world_steps.proofs.Closing.{delete_asks, close_asks, kill_ends}
 use Rattle.world_steps.proofs.Committing.{commit_plain}
 use Rattle.world_steps.proofs.Dropping.{dropped_asks, failed_asks}
+use Rattle.world_steps.proofs.Forging.{own_link}
 use Rattle.world_steps.proofs.Instances.{nth_same}
 use Rattle.world_steps.proofs.Opening.{open_asks}
 use Rattle.world_steps.proofs.Objects.{IsHeld, found_number, link_held}
@@ -62,9 +63,8 @@ use Rattle.world_steps.proofs.Relieving.{ask_asks}
 use Rattle.world_steps.proofs.Replying.{reply_answers}
 use Rattle.world_steps.proofs.Taking.{write_asks}
 use Rattle.world_steps.proofs.Verbing.{verb_asks}
-use Rattle.world_safety.proofs.Honest.{all_honest}
 use Rattle.world_safety.specs.Holding.{AgreesIn}
-use Rattle.world_safety.proofs.Events.{among_place, commit_pending}
+use Rattle.world_safety.proofs.Events.{agrees_turned, among_place, commit_pending, none_honest, turned}
 use Rattle.world_safety.proofs.Joining.{asks_turned, run_begun}
 
 ok_is : (x y : World) → ◌≡◌ {A = Result World Stop} (Ok x) (Ok y) → x ≡ y
@@ -108,12 +108,12 @@ module _ (limit : ℕ) (w : World) (h : AgreesIn w) (k : Numbers limit w) where
   message_numbered : (inc : ℕ) (m : Message) (t : Took) → on_message w.rec inc m ≡ Ok t → IsNumbered limit t.rec
   message_numbered inc m t e = numbers_after limit w.rec (Input.Told inc m) t h.steady k.recorded e
 
-  reply_taken : (inc act n : ℕ) (answer : _) (t : Took) → WasSent w (Reply inc act n answer) → on_message w.rec inc (Reply inc act n answer) ≡ Ok t → IsTaken limit t
+  reply_taken : (inc act n : ℕ) (answer : _) (t : Took) → (IsHonest w.hostile inc → WasSent w (Reply inc act n answer)) → on_message w.rec inc (Reply inc act n answer) ≡ Ok t → IsTaken limit t
   reply_taken inc act n answer t g e =
       let acts = acts_of w.instances in
       let lives = lives_of w.instances in
-      let m = reply_answers w.rec acts lives (messages w.sent) w.owners w.rec.last_act w.container_done w.server_done inc act n answer h.steady h.facts (all_honest w.hostile h.none_hostile inc) g t e in
-      plain_taken limit t (message_numbered inc (Reply inc act n answer) t e) (replied_pending (links_of w.rec.objects) (links_of t.rec.objects) acts lives (messages_of t.answer.actions) m.0) m.1.starts
+      let m = reply_answers w.rec acts lives (messages w.sent) w.owners w.rec.last_act w.container_done w.server_done inc act n answer h.steady h.facts g t e in
+      plain_taken limit t (message_numbered inc (Reply inc act n answer) t e) (replied_pending w.hostile (links_of w.rec.objects) (links_of t.rec.objects) acts lives (messages_of t.answer.actions) m.0) m.1.starts
 
   write_taken : (inc act s n : ℕ) (content : _) (t : Took) → on_message w.rec inc (Write inc act s n content) ≡ Ok t → IsTaken limit t
   write_taken inc act s n content t e = turned_taken t (message_numbered inc (Write inc act s n content) t e) (asks_turned w.rec t (write_asks w.rec inc act s n content t h.steady e))
@@ -121,10 +121,17 @@ module _ (limit : ℕ) (w : World) (h : AgreesIn w) (k : Numbers limit w) where
   ask_taken : (inc act g : ℕ) (t : Took) → on_message w.rec inc (Ask inc act g) ≡ Ok t → IsTaken limit t
   ask_taken inc act g t e = turned_taken t (message_numbered inc (Ask inc act g) t e) (asks_turned w.rec t (ask_asks w.rec inc act g t h.steady e))
 
+  -- a message on the link of its own server
+  own_taken : (m : Message) (t : Took) → (IsHonest w.hostile (server_of m) → WasSent w m) → on_message w.rec (server_of m) m ≡ Ok t → IsTaken limit t
+  own_taken (Call inc act n op) t g e = cc
+  own_taken (Reply inc act n answer) t g e = reply_taken inc act n answer t g e
+  own_taken (Write inc act s n content) t g e = write_taken inc act s n content t e
+  own_taken (Ask inc act j) t g e = ask_taken inc act j t e
+
   reap_taken : (is : List Instance) (inc : ℕ) (t : Took) → (lives_of is inc ≡ Some Running → ⊥) → on_reap w.rec inc ≡ Ok t → IsTaken limit t
   reap_taken is inc t over e =
-      let m = reap_ends w.rec (acts_of is) (lives_of is) inc h.steady over t e in
-      plain_taken limit t (numbers_after limit w.rec (Input.Reaped inc) t h.steady k.recorded e) (reaped_pending (links_of w.rec.objects) (links_of t.rec.objects) (acts_of is) (lives_of is) (messages_of t.answer.actions) m.0) m.1.starts
+      let m = reap_ends w.hostile w.rec (acts_of is) (lives_of is) inc h.steady over t e in
+      plain_taken limit t (numbers_after limit w.rec (Input.Reaped inc) t h.steady k.recorded e) (reaped_pending w.hostile (links_of w.rec.objects) (links_of t.rec.objects) (acts_of is) (lives_of is) (messages_of t.answer.actions) m.0) m.1.starts
 
   commit_taken : (f : ℕ) (frame : Frame) (told : Result Took ContainerFault) (t : Took) → Files w → nth w.rec.frames f ≡ Some frame → IsCommitOf w.rec f frame told → IsNumbered limit t.rec → told ≡ Ok t → IsTaken limit t
   commit_taken f frame told t files at commits numbered e =
@@ -189,7 +196,7 @@ module _ (limit : ℕ) (w : World) (h : AgreesIn w) (k : Numbers limit w) where
   -- deliveries
   delivered_follows : (m : Message) (v : World) → WasSent w m → delivered w m ≡ Ok v → Follow limit v
   delivered_follows (Call inc act n op) v g e = called_follows inc act n op (k.sent (Call inc act n op) g) (nth w.instances inc) v refl e
-  delivered_follows (Reply inc act n answer) v g e = subst (Follow limit) (ok_is _ v e) (took_follows limit w (on_message w.rec inc (Reply inc act n answer)) k (λ t q. reply_taken limit w h k inc act n answer t g q))
+  delivered_follows (Reply inc act n answer) v g e = subst (Follow limit) (ok_is _ v e) (took_follows limit w (on_message w.rec inc (Reply inc act n answer)) k (λ t q. reply_taken limit w h k inc act n answer t (λ honest. g) q))
   delivered_follows (Write inc act s n content) v g e = subst (Follow limit) (ok_is _ v e) (took_follows limit w (on_message w.rec inc (Write inc act s n content)) k (λ t q. write_taken limit w h k inc act s n content t q))
   delivered_follows (Ask inc act j) v g e = subst (Follow limit) (ok_is _ v e) (took_follows limit w (on_message w.rec inc (Ask inc act j)) k (λ t q. ask_taken limit w h k inc act j t q))
 
@@ -199,7 +206,24 @@ module _ (limit : ℕ) (w : World) (h : AgreesIn w) (k : Numbers limit w) where
 
   deliver_follows : (p : ℕ) (sent : Option Sent) (v : World) → nth w.sent p ≡ sent → deliver w p sent ≡ Ok v → Follow limit v
   deliver_follows p None v at e = cc
-  deliver_follows p (Some x) v at e = logged_follows (taken_at w.rec p x.message) (delivered w x.message) v (λ u g. delivered_follows x.message u (among_place w.sent p x at) g) e
+  deliver_follows p (Some x) v at e = logged_follows (taken_at w.rec (Some p) (server_of x.message) x.message) (delivered w x.message) v (λ u g. delivered_follows x.message u (among_place w.sent p x at) g) e
+
+  -- a forged message
+  forged_taken : (inc : ℕ) (m : Message) (t : Took) → on_message w.rec inc m ≡ Ok t → IsTaken limit t
+  forged_taken inc m t e = (let own = own_link w.rec inc m t e in
+      own_taken limit (turned w inc) (agrees_turned w inc h) (stays limit w (turned w inc) refl refl refl k) m t (none_honest w inc (server_of m) m own) (subst (λ i. on_message w.rec i m ≡ Ok t) (sym own) e))
+
+  forged_on_follows : (inc : ℕ) (m : Message) → Follow limit (forged_on w inc m)
+  forged_on_follows inc m within = stays limit (took w (on_message w.rec inc m)) _ refl refl refl (took_follows limit w (on_message w.rec inc m) k (λ t q. forged_taken inc m t q) within)
+
+  forged_follows : (inc : ℕ) (m : Message) (life : Life) (v : World) → forged w inc m life ≡ Ok v → Follow limit v
+  forged_follows inc m Running v e = subst (Follow limit) (ok_is _ v e) (forged_on_follows inc m)
+  forged_follows inc m Ended v e = subst (Follow limit) (ok_is _ v e) (forged_on_follows inc m)
+  forged_follows inc m Reaped v e = cc
+
+  forge_follows : (inc : ℕ) (m : Message) (i : Option Instance) (v : World) → forge w inc m i ≡ Ok v → Follow limit v
+  forge_follows inc m None v e = cc
+  forge_follows inc m (Some i) v e = forged_follows inc m i.life v e
 
   -- crashes, and ends that are told
   lives_within : (inc : ℕ) (i : Instance) (life : Life) → nth w.instances inc ≡ Some i → Numbers limit (record w { instances = set_nth w.instances inc (record i { life = life }) })
@@ -276,6 +300,7 @@ module _ (limit : ℕ) (w : World) (h : AgreesIn w) (k : Numbers limit w) where
   follows : (choice : Choice) (e : Event) (v : World) → Files w → happened w choice e ≡ Ok v → Follow limit v
   follows choice (event.Command c) v files e = subst (Follow limit) (ok_is _ v e) (commanded_follows c (on_command w.rec c) refl)
   follows choice (event.Deliver p) v files e = deliver_follows p (nth w.sent p) v refl e
+  follows choice (event.Forge inc m) v files e = forge_follows inc m (nth w.instances inc) v e
   follows choice (event.Crash inc) v files e = crash_follows inc (nth w.instances inc) v refl e
   follows choice (event.Reap inc) v files e = reap_follows inc (nth w.instances inc) v refl e
   follows choice (event.Scribble inc act) v files e = scribble_follows inc act (nth w.instances inc) v refl e

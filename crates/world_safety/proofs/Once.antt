@@ -14,7 +14,6 @@ use Rattle.world_model.specs.declared.life.Life.{Life}
 use Rattle.world_model.specs.declared.life.Life.TheVariants.{Running, Ended, Reaped}
 use Rattle.world_model.specs.World.{World, Instance, delivered, called, called_in, called_wanting, stocked, served, counted_by, is_of, without_first}
 use Rattle.world_model.specs.Safe.{WasSent, act_at}
-use Rattle.world_safety.proofs.Honest.{all_honest}
 use Rattle.world_safety.specs.Holding.{AgreesIn}
 
 -- the servers are as they were, and they counted nothing
@@ -64,5 +63,5 @@ called_same w inc act n op (Some i) a e known le = in_same w inc act n op i e a 
 
 pub once_answered : (w : World) (inc act n : ℕ) (op : Operation) (r : Answer) → AgreesIn w → WasSent w (Reply inc act n r) → Same w (delivered w (Call inc act n op))
 once_answered w inc act n op r h g =
-    let k = h.facts.replies.replies_kept inc act n r (all_honest w.hostile h.none_hostile inc) g in
+    let k = h.facts.replies.replies_kept inc act n r g in
     called_same w inc act n op (nth w.instances inc) k.0 refl k.1 k.2

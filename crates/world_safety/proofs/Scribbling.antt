@@ -58,7 +58,6 @@ module _ (w : World) (h : AgreesIn w) (inc act : ℕ) (i : Instance) (at : nth w
         let links = links_of w.rec.objects in
         let ms : messages (w.sent ++ entry ∷ []) ≡ messages w.sent ++ t.message ∷ [] = messages_of_log w.sent (entry ∷ []) in
         record {
-          none_hostile = h.none_hostile;
           steady = h.steady;
           servers = h.servers ∙ sym (length_set_nth w.instances inc later);
           facts = subst (λ s. Facts w.hostile links (acts_of js) (lives_of js) s w.owners w.rec.last_act w.container_done w.server_done) (sym ms)

@@ -30,7 +30,6 @@ use Rattle.world_steps.proofs.Ready.{ready}
 use Rattle.world_grants.specs.Grants.{Grants, roles_of}
 use Rattle.world_grants.proofs.Acting.{grants_acted}
 use Rattle.world_grants.proofs.Answering.{ready_for}
-use Rattle.world_safety.proofs.Honest.{all_honest}
 use Rattle.world_safety.specs.Holding.{Agrees, AgreesIn}
 use Rattle.world_safety.proofs.Joining.{hosted}
 
@@ -62,7 +61,7 @@ module _ (w : World) (h : AgreesIn w) (inc act n : ℕ) (op : Operation) (call :
     views_served : Views w.hostile (links_of w.rec.objects) (acts_of (set_nth w.instances inc (record i { core = told.server }))) (w.sent ++ record { message = Reply inc act n told.answer; view = view_in i.core act } ∷ [])
     views_served = subst (λ y. Views w.hostile (links_of w.rec.objects) (acts_of (set_nth w.instances inc (record i { core = told.server }))) (w.sent ++ y ∷ [])) reply_seen
         (views_acted (links_of w.rec.objects) (acts_of w.instances) (acts_of (set_nth w.instances inc (record i { core = told.server }))) (lives_of w.instances) (messages w.sent) w.owners w.rec.last_act w.container_done w.server_done inc act n op taken.after told.answer told.counted
-        h.facts (ready w.rec h.steady) (all_honest w.hostile h.none_hostile inc) call (ap life_at at ∙ ap Some runs) taken.changed taken.how w.sent h.views)
+        h.facts (ready w.rec h.steady) call (ap life_at at ∙ ap Some runs) taken.changed taken.how w.sent h.views)
 
     pub served_agrees : Agrees w.hostile w.rec (set_nth w.instances inc (record i { core = told.server })) (w.sent ++ record { message = Reply inc act n told.answer; view = view_in i.core act } ∷ []) w.owners w.container_done (w.server_done ++ counted_by w inc told.counted)
     served_agrees =
@@ -74,12 +73,11 @@ module _ (w : World) (h : AgreesIn w) (inc act n : ℕ) (op : Operation) (call :
         let es : entries_of inc act w.owners told.counted ≡ counted_by w inc told.counted = entries_same w inc act told.counted taken.of in
         let f : Facts w.hostile links (acts_of js) (lives_of w.instances) more w.owners w.rec.last_act w.container_done (w.server_done ++ entries_of inc act w.owners told.counted) =
         acted links (acts_of w.instances) (acts_of js) (lives_of w.instances) (messages w.sent) w.owners w.rec.last_act w.container_done w.server_done inc act n op taken.after told.answer told.counted
-        h.facts (ready w.rec h.steady) (all_honest w.hostile h.none_hostile inc) call (ap life_at at ∙ ap Some runs) taken.changed taken.how in
+        h.facts (ready w.rec h.steady) call (ap life_at at ∙ ap Some runs) taken.changed taken.how in
         let g : Facts w.hostile links (acts_of js) (lives_of js) more w.owners w.rec.last_act w.container_done (w.server_done ++ entries_of inc act w.owners told.counted) =
         started links (acts_of js) (acts_of js) (lives_of w.instances) (lives_of js) more w.owners w.rec.last_act w.container_done (w.server_done ++ entries_of inc act w.owners told.counted)
         (record { same = λ y z. refl; there = λ y life q. (life, lives_same y ∙ q); runs = λ y life q r. sym (lives_same y) ∙ r; hosted = hosted_still }) f in
         record {
-          none_hostile = h.none_hostile;
           steady = h.steady;
           servers = h.servers ∙ sym (length_set_nth w.instances inc (record i { core = told.server }));
           facts = subst (λ s. Facts w.hostile links (acts_of js) (lives_of js) s w.owners w.rec.last_act w.container_done (w.server_done ++ counted_by w inc told.counted)) (sym ms)
@@ -87,7 +85,7 @@ module _ (w : World) (h : AgreesIn w) (inc act n : ℕ) (op : Operation) (call :
           views = views_served;
           grants = subst (λ s. Grants w.hostile links (roles_of w.rec) (acts_of js) s) (sym ms)
               (grants_acted links (acts_of w.instances) (acts_of js) (lives_of w.instances) (messages w.sent) w.owners w.rec.last_act w.container_done w.server_done inc act n op taken.after told.answer told.counted
-              h.facts (ready w.rec h.steady) (all_honest w.hostile h.none_hostile inc) call (ap life_at at ∙ ap Some runs) taken.changed taken.how (roles_of w.rec) (ready_for w.rec h.steady).getting h.grants);
+              h.facts (ready w.rec h.steady) call (ap life_at at ∙ ap Some runs) taken.changed taken.how (roles_of w.rec) (ready_for w.rec h.steady).getting h.grants);
         }
 
   agrees_served : (i : Instance) (stock : List Kind) (box : Option Kind) (told : Result Served ServerFault) → nth w.instances inc ≡ Some i → i.life ≡ Running → on_call i.core (Call inc act n op) box ≡ told → AgreesIn (served w inc act n i stock told)

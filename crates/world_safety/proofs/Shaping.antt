@@ -32,14 +32,14 @@ pub turned_followed : (links after : Links) (more : List Message) → AsksInTurn
 turned_followed _ _ _ (asks_none links after more same e) = record { follows = same_follow links after same; calls = no_calls more e }
 turned_followed _ _ _ (asks_first links between after first rest more m t e) = followed_further links between after first rest more e (asks_followed (λ o op. IsQuiet op) links between first m) (turned_followed between after rest t)
 
-answered_followed : (links after : Links) (acts : Acts) (lives : Lives) (more : List Message) → IsAnswered links after acts lives more → IsFollowed links after more
-answered_followed links after acts lives more (settled o s e) = record { follows = settles_follow links after acts o s; calls = no_calls more e }
-answered_followed links after acts lives more (goes_on o between s n) = record { follows = follows_further links between after (settles_follow links between acts o s) (next_follows between after o more n); calls = next_calls between after o more n }
-answered_followed links after acts lives more (ended s e) = record { follows = ends_follow links after acts lives s; calls = no_calls more e }
+answered_followed : (hostile : List ℕ) (links after : Links) (acts : Acts) (lives : Lives) (more : List Message) → IsAnswered hostile links after acts lives more → IsFollowed links after more
+answered_followed hostile links after acts lives more (settled o s e) = record { follows = settles_follow hostile links after acts o s; calls = no_calls more e }
+answered_followed hostile links after acts lives more (goes_on o between s n) = record { follows = follows_further links between after (settles_follow hostile links between acts o s) (next_follows between after o more n); calls = next_calls between after o more n }
+answered_followed hostile links after acts lives more (ended s e) = record { follows = ends_follow hostile links after acts lives s; calls = no_calls more e }
 
-pub replied_followed : (links after : Links) (acts : Acts) (lives : Lives) (more : List Message) → IsReplied links after acts lives more → IsFollowed links after more
-replied_followed links after acts lives more h = followed_further links h.between after h.first h.rest more h.joined (answered_followed links h.between acts lives h.first h.answered) (turned_followed h.between after h.rest h.asked)
+pub replied_followed : (hostile : List ℕ) (links after : Links) (acts : Acts) (lives : Lives) (more : List Message) → IsReplied hostile links after acts lives more → IsFollowed links after more
+replied_followed hostile links after acts lives more h = followed_further links h.between after h.first h.rest more h.joined (answered_followed hostile links h.between acts lives h.first h.answered) (turned_followed h.between after h.rest h.asked)
 
-pub reaped_followed : (links after : Links) (acts : Acts) (lives : Lives) (more : List Message) → IsReaped links after acts lives more → IsFollowed links after more
-reaped_followed links after acts lives more h = (let k = turned_followed h.between after more h.asked in
-    record { follows = follows_further links h.between after (ends_follow links h.between acts lives h.ends) k.follows; calls = k.calls })
+pub reaped_followed : (hostile : List ℕ) (links after : Links) (acts : Acts) (lives : Lives) (more : List Message) → IsReaped hostile links after acts lives more → IsFollowed links after more
+reaped_followed hostile links after acts lives more h = (let k = turned_followed h.between after more h.asked in
+    record { follows = follows_further links h.between after (ends_follow hostile links h.between acts lives h.ends) k.follows; calls = k.calls })

@@ -1,5 +1,5 @@
 -- What every world keeps, so that it is safe. No reader has to believe it.
-use Rattle.std.specs.Prelude.{◌≡◌, ℕ, List, [], length}
+use Rattle.std.specs.Prelude.{◌≡◌, ℕ, List, length}
 use Rattle.container_model.specs.Record.{Record}
 use Rattle.container_model.specs.declared.answer.Done.{Done}
 use Rattle.container_steady.specs.Steady.{Steady}
@@ -18,8 +18,6 @@ use Rattle.world_numbers.specs.Numbers.{Numbers}
 -- The container's record, the servers, the messages and the logs agree: the record is steady by itself, the servers are
 -- those that it started, and the facts hold of what is looked up, of what senders saw, and of who has frames.
 pub record Agrees (hostile : List ℕ) (rec : Record) (instances : List Instance) (sent : List Sent) (owners : List ℕ) (counted : List Done) (served : List ServerDone) : Type 0 where
-  -- no message was forged yet
-  pub none_hostile : hostile ≡ []
   pub steady : Steady rec
   pub servers : length rec.servers ≡ length instances
   pub facts : Facts hostile (links_of rec.objects) (acts_of instances) (lives_of instances) (messages sent) owners rec.last_act counted served

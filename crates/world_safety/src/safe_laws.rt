@@ -6,11 +6,12 @@ ghost use Rattle.world_model.specs.Safe.{Safe};
 ghost use Rattle.world_model.specs.World.{Run, World, empty_world};
 ghost use Rattle.world_model.specs.declared.event.Event.{Event};
 
-/// Every world that events reach is safe, whatever the events, their number and their order: no call acts twice, at most
-/// one activation of a server that runs has a frame's menus and border, and the frame names it, each content that the
-/// container took was sent under the storage grant that it held open, no save is counted twice, what a server counts the
-/// container has counted with the same content, the file of a frame holds the document of its last counted commit, and every
-/// number of a message that was sent is at most the limit of the world's numbers.
+/// Every world that events reach is safe, whatever the events, their number and their order, and whatever messages were
+/// forged: no call acts twice, at most one activation of an honest server that runs has a frame's menus and border, and the
+/// frame names it, each content that the container took of an honest server was sent under the storage grant that it held
+/// open, no save is counted twice, what an honest server counts the container has counted with the same content, the file of
+/// a frame holds the document of its last counted commit, any file gives the objects of a counted commit where it is opened,
+/// and every number of a message that was sent is at most the limit of the world's numbers.
 pub fn every_world_is_safe()
     ensures { (numbers : ℕ) (stock : List Kind) (events : List Event) (w : World) → Run (empty_world numbers stock) events w → Safe w }
 {}

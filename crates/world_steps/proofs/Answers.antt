@@ -1,5 +1,5 @@
--- What an answer makes of a link, where it is what the activation answered.
-use Rattle.std.proofs.Common.{◌≡◌, ◌⊎◌, ℕ, Option, Some, None, Ok, refl, sym, ap, ◌∙◌, inl, inr}
+-- What an answer makes of a link, and how that is level with an activation that answered so.
+use Rattle.std.proofs.Common.{◌≡◌, ◌⊎◌, ℕ, List, Option, Some, None, Result, Ok, Err, refl, sym, ap, ◌∙◌, inl, inr}
 use Rattle.wire_msgs.specs.Operations.{op_of}
 use Rattle.wire_msgs.specs.declared.operation.Operation.{Operation}
 use Rattle.wire_msgs.specs.declared.operation.Operation.TheVariants.{InitNew, Load, InPlace, UiActivate, UiDeactivate, InPlaceDeactivate, OpenWindow, Edit, Save, HandsOff, SaveCompleted, SaveDropped, Close}
@@ -7,6 +7,7 @@ use Rattle.wire_msgs.specs.declared.answer.Answer.{Answer}
 use Rattle.wire_msgs.specs.declared.answer.Answer.TheVariants as told
 use Rattle.object_state.specs.Both as both
 use Rattle.object_state.specs.declared.both_states.States.{States}
+use Rattle.object_state.specs.declared.faults.StateFault.{StateFault}
 use Rattle.object_state.specs.declared.operations.CloseOption.{CloseOption}
 use Rattle.object_state.specs.declared.operations.CloseOption.TheVariants.{SaveIfDirty, NoSave}
 use Rattle.storage_tree.specs.declared.stored.Stored.{Stored}
@@ -14,116 +15,130 @@ use Rattle.server_model.specs.Server.{Activation}
 use Rattle.container_model.specs.declared.record.Link.{Link}
 use Rattle.container_model.specs.declared.grants.Tells.{Tells}
 use Rattle.container_model.specs.declared.grants.Tells.TheVariants.{Gets, GivesUp}
-use Rattle.container_model.specs.Messages.{Replied, replied, done, done_link, saved_link, granted_link, lost, noted, closed, closed_with, next_s}
-use Rattle.world_facts.specs.Facts.{IsEven, HasStepped, HasDone, Did}
+use Rattle.container_model.specs.Messages.{Replied, replied, done_link, saved_link, granted_link, lost, noted, closed_with, next_s}
+use Rattle.world_facts.specs.Facts.{IsEven, HasDone, Did}
 
--- The link after the reply: it is level with the activation again, and has the content that the activation saved.
-pub record IsSettled (l : Link) (a : Activation) (after : Link) : Type 0 where
+-- The link after the reply: nothing is pending, and what waited waits.
+pub record IsSettled (l after : Link) : Type 0 where
   pub inc : after.inc ≡ l.inc
   pub act : after.act ≡ l.act
   pub last : after.last ≡ l.last
   pub pending : after.pending ≡ None
   pub waiting : after.waiting ≡ l.waiting
+
+-- and it is level again with an activation that did what was answered, and has the content that the activation saved
+pub record IsLevel (l : Link) (a : Activation) (after : Link) : Type 0 where
   pub even : IsEven after.states after.s a
   pub saved : (after.saved ≡ l.saved) ⊎ ((c : Stored) × (after.saved ≡ Some c) × (a.saved ≡ Some c))
 
--- the link is settled, or it is gone and the activation is closed
-pub data Outcome (l : Link) (a : Activation) (p : Replied) : Type 0 where
-  settles : (after : Link) → p.link ≡ Some after → IsSettled l a after → Outcome l a p
-  gone : p.link ≡ None → a.content ≡ None → Outcome l a p
+-- Whatever is answered, by whom: the link is settled, or it is gone. Where the activation did what was answered, the link is
+-- level with it, or the activation is closed.
+pub data Outcome (l : Link) (op : Operation) (answer : Answer) (p : Replied) : Type 0 where
+  settles : (after : Link) → p.link ≡ Some after → IsSettled l after → ((a : Activation) → Did l.states l.s op a answer → IsLevel l a after) → Outcome l op answer p
+  gone : p.link ≡ None → ((a : Activation) → Did l.states l.s op a answer → a.content ≡ None) → Outcome l op answer p
 
-done_is : (l : Link) (op : Operation) (v : States) (p : Replied) → both.step l.states (op_of op) ≡ Ok v → done l op ≡ Ok p → p.link ≡ Some (record l { pending = None; states = v; s = next_s op l.s })
-done_is l op v p e h = (let z : done_link l (next_s op l.s) (Ok v) ≡ Ok p = ap (done_link l (next_s op l.s)) (sym e) ∙ h in
-    let q : record { link = Some (record l { pending = None; states = v; s = next_s op l.s }); taken = None; refused = None; grant = None } ≡ p = cc in
-    ap (λ (x : Replied). x.link) (sym q))
+-- what an activation has done that did what was answered
+abbrev Dones : Link → Operation → Answer → Type 0
+Dones l op answer = (a : Activation) → Did l.states l.s op a answer → HasDone l.states l.s op a
 
-done_settles : (l : Link) (op : Operation) (a : Activation) (p : Replied) → HasDone l.states l.s op a → done l op ≡ Ok p → Outcome l a p
-done_settles l op a p d h = settles (record l { pending = None; states = a.states; s = next_s op l.s }) (done_is l op a.states p d.1.states h)
-    (record { inc = refl; act = refl; last = refl; pending = refl; waiting = refl; even = record { opened = d.0; states = refl; grant = d.1.grant }; saved = inl refl })
+even_done : (l : Link) (op : Operation) (v : States) (a : Activation) → both.step l.states (op_of op) ≡ Ok v → HasDone l.states l.s op a → IsEven v (next_s op l.s) a
+even_done l op v a e d = record { opened = d.0; states = (let z : Ok a.states ≡ Ok v = sym d.1.states ∙ e in cc); grant = d.1.grant }
 
-saved_settles : (l : Link) (k : ℕ) (content : Stored) (a : Activation) (p : Replied) → HasDone l.states l.s (Save k) a → a.saved ≡ Some content → saved_link content (done l (Save k)) ≡ Ok p → Outcome l a p
-saved_settles l k content a p d s h =
-    let e = d.1.states in
-    let z : saved_link content (done_link l (next_s (Save k) l.s) (Ok a.states)) ≡ Ok p = ap (λ x. saved_link content (done_link l (next_s (Save k) l.s) x)) (sym e) ∙ h in
-    let new : Link = record l { pending = None; states = a.states; s = next_s (Save k) l.s; saved = Some content } in
+done_settles : (l : Link) (op : Operation) (answer : Answer) (x : Result States StateFault) (p : Replied) → both.step l.states (op_of op) ≡ x → Dones l op answer → done_link l (next_s op l.s) x ≡ Ok p → Outcome l op answer p
+done_settles l op answer (Err fault) p e did h = cc
+done_settles l op answer (Ok v) p e did h =
+    let new : Link = record l { pending = None; states = v; s = next_s op l.s } in
     let q : record { link = Some new; taken = None; refused = None; grant = None } ≡ p = cc in
-    settles new (ap (λ (x : Replied). x.link) (sym q)) (record { inc = refl; act = refl; last = refl; pending = refl; waiting = refl; even = record { opened = d.0; states = refl; grant = d.1.grant }; saved = inr (content, refl, s) })
+    settles new (ap (λ (y : Replied). y.link) (sym q)) (record { inc = refl; act = refl; last = refl; pending = refl; waiting = refl })
+    (λ a d. record { even = even_done l op v a e (did a d); saved = inl refl })
+
+saved_settles : (l : Link) (k : ℕ) (content : Stored) (x : Result States StateFault) (p : Replied) → both.step l.states (op_of (Save k)) ≡ x → saved_link content (done_link l (next_s (Save k) l.s) x) ≡ Ok p → Outcome l (Save k) (told.Content content) p
+saved_settles l k content (Err fault) p e h = cc
+saved_settles l k content (Ok v) p e h =
+    let new : Link = record l { pending = None; states = v; s = next_s (Save k) l.s; saved = Some content } in
+    let q : record { link = Some new; taken = None; refused = None; grant = None } ≡ p = cc in
+    settles new (ap (λ (y : Replied). y.link) (sym q)) (record { inc = refl; act = refl; last = refl; pending = refl; waiting = refl })
+    (λ a d. record { even = even_done l (Save k) v a e d.0; saved = inr (content, refl, d.1) })
 
 -- what is told of the frame's grant comes beside
-granted_settles : (l : Link) (op : Operation) (tells : Tells) (a : Activation) (p : Replied) → HasDone l.states l.s op a → granted_link tells (done l op) ≡ Ok p → Outcome l a p
-granted_settles l op tells a p d h =
-    let z : granted_link tells (done_link l (next_s op l.s) (Ok a.states)) ≡ Ok p = ap (λ x. granted_link tells (done_link l (next_s op l.s) x)) (sym d.1.states) ∙ h in
-    let new : Link = record l { pending = None; states = a.states; s = next_s op l.s } in
+granted_settles : (l : Link) (op : Operation) (answer : Answer) (tells : Tells) (x : Result States StateFault) (p : Replied) → both.step l.states (op_of op) ≡ x → Dones l op answer → granted_link tells (done_link l (next_s op l.s) x) ≡ Ok p
+    → Outcome l op answer p
+granted_settles l op answer tells (Err fault) p e did h = cc
+granted_settles l op answer tells (Ok v) p e did h =
+    let new : Link = record l { pending = None; states = v; s = next_s op l.s } in
     let q : record { link = Some new; taken = None; refused = None; grant = Some tells } ≡ p = cc in
-    settles new (ap (λ (x : Replied). x.link) (sym q)) (record { inc = refl; act = refl; last = refl; pending = refl; waiting = refl; even = record { opened = d.0; states = refl; grant = d.1.grant }; saved = inl refl })
+    settles new (ap (λ (y : Replied). y.link) (sym q)) (record { inc = refl; act = refl; last = refl; pending = refl; waiting = refl })
+    (λ a d. record { even = even_done l op v a e (did a d); saved = inl refl })
 
-lost_gone : (l : Link) (a : Activation) (why : _) (p : Replied) → a.content ≡ None → lost why ≡ Ok p → Outcome l a p
-lost_gone l a why p e h = (let q : record { link = None; taken = None; refused = Some why; grant = None } ≡ p = cc in gone (ap (λ (x : Replied). x.link) (sym q)) e)
+-- an activation that did what was answered is closed
+abbrev Closes : Link → Operation → Answer → Type 0
+Closes l op answer = (a : Activation) → Did l.states l.s op a answer → a.content ≡ None
 
-noted_settles : (l : Link) (a : Activation) (why : _) (p : Replied) → IsEven l.states l.s a → noted l why ≡ Ok p → Outcome l a p
-noted_settles l a why p e h = (let q : record { link = Some (record l { pending = None }); taken = None; refused = Some why; grant = None } ≡ p = cc in
-    settles (record l { pending = None }) (ap (λ (x : Replied). x.link) (sym q)) (record { inc = refl; act = refl; last = refl; pending = refl; waiting = refl; even = e; saved = inl refl }))
+lost_gone : (l : Link) (op : Operation) (answer : Answer) (why : _) (p : Replied) → Closes l op answer → lost why ≡ Ok p → Outcome l op answer p
+lost_gone l op answer why p did h = (let q : record { link = None; taken = None; refused = Some why; grant = None } ≡ p = cc in gone (ap (λ (y : Replied). y.link) (sym q)) did)
 
-closed_gone : (l : Link) (option : CloseOption) (content : Option Stored) (a : Activation) (p : Replied) → a.content ≡ None → HasStepped l.states l.s (Close option) a → closed l option content ≡ Ok p → Outcome l a p
-closed_gone l option content a p e d h =
-    let z : closed_with content (Ok a.states) ≡ Ok p = ap (closed_with content) (sym d.states) ∙ h in
-    let q : record { link = None; taken = content; refused = None; grant = None } ≡ p = cc in
-    gone (ap (λ (x : Replied). x.link) (sym q)) e
+noted_settles : (l : Link) (bytes : List ℕ) (why : _) (p : Replied) → noted l why ≡ Ok p → Outcome l (Edit bytes) (told.Refused why) p
+noted_settles l bytes why p h = (let q : record { link = Some (record l { pending = None }); taken = None; refused = Some why; grant = None } ≡ p = cc in
+    settles (record l { pending = None }) (ap (λ (y : Replied). y.link) (sym q)) (record { inc = refl; act = refl; last = refl; pending = refl; waiting = refl }) (λ a d. record { even = d; saved = inl refl }))
 
-pub reply_outcome : (l : Link) (op : Operation) (answer : Answer) (a : Activation) (p : Replied) → replied l op answer ≡ Ok p → Did l.states l.s op a answer → Outcome l a p
-reply_outcome l (InitNew class) told.Done a p e h = done_settles l (InitNew class) a p h e
-reply_outcome l (InitNew class) (told.Refused why) a p e h = lost_gone l a why p h e
-reply_outcome l (InitNew class) (told.Content c) a p e h = cc
-reply_outcome l (InitNew class) (told.Tools x y) a p e h = cc
-reply_outcome l (Load class content) told.Done a p e h = done_settles l (Load class content) a p h e
-reply_outcome l (Load class content) (told.Refused why) a p e h = lost_gone l a why p h e
-reply_outcome l (Load class content) (told.Content c) a p e h = cc
-reply_outcome l (Load class content) (told.Tools x y) a p e h = cc
-reply_outcome l (Edit bytes) told.Done a p e h = done_settles l (Edit bytes) a p h e
-reply_outcome l (Edit bytes) (told.Refused why) a p e h = noted_settles l a why p h e
-reply_outcome l (Edit bytes) (told.Content c) a p e h = cc
-reply_outcome l (Edit bytes) (told.Tools x y) a p e h = cc
-reply_outcome l (Save k) told.Done a p e h = cc
-reply_outcome l (Save k) (told.Refused why) a p e h = cc
-reply_outcome l (Save k) (told.Content c) a p e h = saved_settles l k c a p h.0 h.1 e
-reply_outcome l (Save k) (told.Tools x y) a p e h = cc
-reply_outcome l (SaveCompleted k storage) told.Done a p e h = done_settles l (SaveCompleted k storage) a p h e
-reply_outcome l (SaveCompleted k storage) (told.Refused why) a p e h = cc
-reply_outcome l (SaveCompleted k storage) (told.Content c) a p e h = cc
-reply_outcome l (SaveCompleted k storage) (told.Tools x y) a p e h = cc
-reply_outcome l InPlace told.Done a p e h = done_settles l InPlace a p h e
-reply_outcome l InPlace (told.Refused why) a p e h = cc
-reply_outcome l InPlace (told.Content c) a p e h = cc
-reply_outcome l InPlace (told.Tools x y) a p e h = cc
-reply_outcome l (UiActivate g) told.Done a p e h = cc
-reply_outcome l (UiActivate g) (told.Refused why) a p e h = cc
-reply_outcome l (UiActivate g) (told.Content c) a p e h = cc
-reply_outcome l (UiActivate g) (told.Tools x y) a p e h = granted_settles l (UiActivate g) (Gets g (record { menus = x; border = y })) a p h.0 e
-reply_outcome l UiDeactivate told.Done a p e h = granted_settles l UiDeactivate (GivesUp l.act) a p h.0 e
-reply_outcome l UiDeactivate (told.Refused why) a p e h = cc
-reply_outcome l UiDeactivate (told.Content c) a p e h = cc
-reply_outcome l UiDeactivate (told.Tools x y) a p e h = cc
-reply_outcome l InPlaceDeactivate told.Done a p e h = done_settles l InPlaceDeactivate a p h e
-reply_outcome l InPlaceDeactivate (told.Refused why) a p e h = cc
-reply_outcome l InPlaceDeactivate (told.Content c) a p e h = cc
-reply_outcome l InPlaceDeactivate (told.Tools x y) a p e h = cc
-reply_outcome l OpenWindow told.Done a p e h = done_settles l OpenWindow a p h e
-reply_outcome l OpenWindow (told.Refused why) a p e h = cc
-reply_outcome l OpenWindow (told.Content c) a p e h = cc
-reply_outcome l OpenWindow (told.Tools x y) a p e h = cc
-reply_outcome l HandsOff told.Done a p e h = done_settles l HandsOff a p h e
-reply_outcome l HandsOff (told.Refused why) a p e h = cc
-reply_outcome l HandsOff (told.Content c) a p e h = cc
-reply_outcome l HandsOff (told.Tools x y) a p e h = cc
-reply_outcome l (SaveDropped k) told.Done a p e h = done_settles l (SaveDropped k) a p h e
-reply_outcome l (SaveDropped k) (told.Refused why) a p e h = cc
-reply_outcome l (SaveDropped k) (told.Content c) a p e h = cc
-reply_outcome l (SaveDropped k) (told.Tools x y) a p e h = cc
-reply_outcome l (Close SaveIfDirty) told.Done a p e h = cc
-reply_outcome l (Close SaveIfDirty) (told.Refused why) a p e h = cc
-reply_outcome l (Close SaveIfDirty) (told.Content c) a p e h = closed_gone l SaveIfDirty (Some c) a p h.0 h.1 e
-reply_outcome l (Close SaveIfDirty) (told.Tools x y) a p e h = cc
-reply_outcome l (Close NoSave) told.Done a p e h = closed_gone l NoSave None a p h.0 h.1 e
-reply_outcome l (Close NoSave) (told.Refused why) a p e h = cc
-reply_outcome l (Close NoSave) (told.Content c) a p e h = cc
-reply_outcome l (Close NoSave) (told.Tools x y) a p e h = cc
+closed_gone : (l : Link) (option : CloseOption) (answer : Answer) (content : Option Stored) (x : Result States StateFault) (p : Replied) → Closes l (Close option) answer → closed_with content x ≡ Ok p → Outcome l (Close option) answer p
+closed_gone l option answer content (Err fault) p did h = cc
+closed_gone l option answer content (Ok v) p did h = (let q : record { link = None; taken = content; refused = None; grant = None } ≡ p = cc in gone (ap (λ (y : Replied). y.link) (sym q)) did)
+
+pub reply_outcome : (l : Link) (op : Operation) (answer : Answer) (p : Replied) → replied l op answer ≡ Ok p → Outcome l op answer p
+reply_outcome l (InitNew class) told.Done p e = done_settles l (InitNew class) told.Done (both.step l.states (op_of (InitNew class))) p refl (λ a d. d) e
+reply_outcome l (InitNew class) (told.Refused why) p e = lost_gone l (InitNew class) (told.Refused why) why p (λ a d. d) e
+reply_outcome l (InitNew class) (told.Content c) p e = cc
+reply_outcome l (InitNew class) (told.Tools x y) p e = cc
+reply_outcome l (Load class content) told.Done p e = done_settles l (Load class content) told.Done (both.step l.states (op_of (Load class content))) p refl (λ a d. d) e
+reply_outcome l (Load class content) (told.Refused why) p e = lost_gone l (Load class content) (told.Refused why) why p (λ a d. d) e
+reply_outcome l (Load class content) (told.Content c) p e = cc
+reply_outcome l (Load class content) (told.Tools x y) p e = cc
+reply_outcome l (Edit bytes) told.Done p e = done_settles l (Edit bytes) told.Done (both.step l.states (op_of (Edit bytes))) p refl (λ a d. d) e
+reply_outcome l (Edit bytes) (told.Refused why) p e = noted_settles l bytes why p e
+reply_outcome l (Edit bytes) (told.Content c) p e = cc
+reply_outcome l (Edit bytes) (told.Tools x y) p e = cc
+reply_outcome l (Save k) told.Done p e = cc
+reply_outcome l (Save k) (told.Refused why) p e = cc
+reply_outcome l (Save k) (told.Content c) p e = saved_settles l k c (both.step l.states (op_of (Save k))) p refl e
+reply_outcome l (Save k) (told.Tools x y) p e = cc
+reply_outcome l (SaveCompleted k storage) told.Done p e = done_settles l (SaveCompleted k storage) told.Done (both.step l.states (op_of (SaveCompleted k storage))) p refl (λ a d. d) e
+reply_outcome l (SaveCompleted k storage) (told.Refused why) p e = cc
+reply_outcome l (SaveCompleted k storage) (told.Content c) p e = cc
+reply_outcome l (SaveCompleted k storage) (told.Tools x y) p e = cc
+reply_outcome l InPlace told.Done p e = done_settles l InPlace told.Done (both.step l.states (op_of InPlace)) p refl (λ a d. d) e
+reply_outcome l InPlace (told.Refused why) p e = cc
+reply_outcome l InPlace (told.Content c) p e = cc
+reply_outcome l InPlace (told.Tools x y) p e = cc
+reply_outcome l (UiActivate g) told.Done p e = cc
+reply_outcome l (UiActivate g) (told.Refused why) p e = cc
+reply_outcome l (UiActivate g) (told.Content c) p e = cc
+reply_outcome l (UiActivate g) (told.Tools x y) p e = granted_settles l (UiActivate g) (told.Tools x y) (Gets g (record { menus = x; border = y })) (both.step l.states (op_of (UiActivate g))) p refl (λ a d. d.0) e
+reply_outcome l UiDeactivate told.Done p e = granted_settles l UiDeactivate told.Done (GivesUp l.act) (both.step l.states (op_of UiDeactivate)) p refl (λ a d. d.0) e
+reply_outcome l UiDeactivate (told.Refused why) p e = cc
+reply_outcome l UiDeactivate (told.Content c) p e = cc
+reply_outcome l UiDeactivate (told.Tools x y) p e = cc
+reply_outcome l InPlaceDeactivate told.Done p e = done_settles l InPlaceDeactivate told.Done (both.step l.states (op_of InPlaceDeactivate)) p refl (λ a d. d) e
+reply_outcome l InPlaceDeactivate (told.Refused why) p e = cc
+reply_outcome l InPlaceDeactivate (told.Content c) p e = cc
+reply_outcome l InPlaceDeactivate (told.Tools x y) p e = cc
+reply_outcome l OpenWindow told.Done p e = done_settles l OpenWindow told.Done (both.step l.states (op_of OpenWindow)) p refl (λ a d. d) e
+reply_outcome l OpenWindow (told.Refused why) p e = cc
+reply_outcome l OpenWindow (told.Content c) p e = cc
+reply_outcome l OpenWindow (told.Tools x y) p e = cc
+reply_outcome l HandsOff told.Done p e = done_settles l HandsOff told.Done (both.step l.states (op_of HandsOff)) p refl (λ a d. d) e
+reply_outcome l HandsOff (told.Refused why) p e = cc
+reply_outcome l HandsOff (told.Content c) p e = cc
+reply_outcome l HandsOff (told.Tools x y) p e = cc
+reply_outcome l (SaveDropped k) told.Done p e = done_settles l (SaveDropped k) told.Done (both.step l.states (op_of (SaveDropped k))) p refl (λ a d. d) e
+reply_outcome l (SaveDropped k) (told.Refused why) p e = cc
+reply_outcome l (SaveDropped k) (told.Content c) p e = cc
+reply_outcome l (SaveDropped k) (told.Tools x y) p e = cc
+reply_outcome l (Close SaveIfDirty) told.Done p e = cc
+reply_outcome l (Close SaveIfDirty) (told.Refused why) p e = cc
+reply_outcome l (Close SaveIfDirty) (told.Content c) p e = closed_gone l SaveIfDirty (told.Content c) (Some c) (both.step l.states (op_of (Close SaveIfDirty))) p (λ a d. d.0) e
+reply_outcome l (Close SaveIfDirty) (told.Tools x y) p e = cc
+reply_outcome l (Close NoSave) told.Done p e = closed_gone l NoSave told.Done None (both.step l.states (op_of (Close NoSave))) p (λ a d. d.0) e
+reply_outcome l (Close NoSave) (told.Refused why) p e = cc
+reply_outcome l (Close NoSave) (told.Content c) p e = cc
+reply_outcome l (Close NoSave) (told.Tools x y) p e = cc

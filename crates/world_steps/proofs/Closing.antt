@@ -1,8 +1,8 @@
 -- Commands that end things: a passive object is deleted, a server is killed, an object is closed.
-use Rattle.std.proofs.Common.{◌≡◌, ◌<◌, ◌||◌, ◌==◌, ℕ, Bool, true, false, not, List, [], ◌∷◌, Option, Some, None, is_some, Result, Ok, Err, refl, sym, ap, ◌∙◌, arith, subst, if◌then◌else◌}
+use Rattle.std.proofs.Common.{◌≡◌, ◌<◌, ◌==◌, ℕ, Bool, true, false, not, List, [], ◌∷◌, Option, Some, None, is_some, Result, Ok, Err, refl, sym, ap, ◌∙◌, arith, subst, if◌then◌else◌}
 use Rattle.std.specs.List.{AllByRecursion}
 use Rattle.std.proofs.lemmas.Bool.{eqb-true, ne_eqb}
-use Rattle.wire_msgs.specs.Found.{find, nth}
+use Rattle.wire_msgs.specs.Found.{find}
 use Rattle.object_state.specs.Verbs.{close_steps}
 use Rattle.object_state.specs.declared.operations.CloseOption.{CloseOption}
 use Rattle.object_state.specs.declared.verbs.Step.{Step}
@@ -11,8 +11,8 @@ use Rattle.container_model.specs.declared.record.Object.{Object}
 use Rattle.container_model.specs.declared.record.Frame.{Frame}
 use Rattle.container_model.specs.declared.answer.Action.TheVariants.{End}
 use Rattle.container_model.specs.declared.fault.ContainerFault.{ContainerFault}
-use Rattle.container_model.specs.declared.fault.ContainerFault.TheVariants.{Busy, InDoubt as Doubtful, NoSuch, NumbersSpent, WrongState}
-use Rattle.container_model.specs.Record.{Record, Took, acts, counts_none, has_numbers, is_object, is_alive, is_busy, is_saving, is_doubtful, without_first}
+use Rattle.container_model.specs.declared.fault.ContainerFault.TheVariants.{NoSuch, NumbersSpent, WrongState}
+use Rattle.container_model.specs.Record.{Record, Took, acts, counts_none, has_numbers, is_object, is_alive, without_first}
 use Rattle.container_model.specs.Commands.{delete, delete_made, delete_object, kill}
 use Rattle.container_model.specs.Verbs.{close, close_linked, close_steps_made}
 use Rattle.container_steady.specs.Steady.{EachPair, InOrder, Steady}

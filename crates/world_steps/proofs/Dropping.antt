@@ -1,14 +1,14 @@
 -- A commit that fails, and a save that is dropped: activations are told of it, and nothing is counted.
-use Rattle.std.proofs.Common.{◌≡◌, ◌==◌, ℕ, Bool, true, false, List, [], Option, Some, None, Ok, refl, sym, inr, subst, if◌then◌else◌, eq-eqb}
+use Rattle.std.proofs.Common.{◌≡◌, ℕ, Bool, false, [], Option, Some, None, Ok, refl, sym, inr, subst, if◌then◌else◌, eq-eqb}
 use Rattle.std.proofs.lemmas.Bool.{ne_eqb}
-use Rattle.wire_msgs.specs.Found.{find, nth}
+use Rattle.wire_msgs.specs.Found.{find}
 use Rattle.wire_msgs.specs.declared.operation.Operation.{Operation}
 use Rattle.wire_msgs.specs.declared.operation.Operation.TheVariants.{SaveDropped}
 use Rattle.container_model.specs.declared.record.Link.{Link}
 use Rattle.container_model.specs.declared.record.Object.{Object}
 use Rattle.container_model.specs.declared.record.Frame.{Frame}
 use Rattle.container_model.specs.Record.{Record, Took, is_object, asked_link, asked_sent, asked_all}
-use Rattle.container_model.specs.Saves.{cleared, commit_doubted, commit_failed, dropped_object, resolve, save_dropped}
+use Rattle.container_model.specs.Saves.{cleared, commit_failed, dropped_object, resolve, save_dropped}
 use Rattle.container_steady.specs.Steady.{Steady}
 use Rattle.container_steady.proofs.Settling.{is_dropped, is_failed}
 use Rattle.container_steady.proofs.SteadyContents.{dropped_if}

@@ -1,6 +1,6 @@
 -- Saves that are asked for and that go on: each object of a frame is asked for its content, and in a save under another name
 -- then for its storage.
-use Rattle.std.proofs.Common.{◌≡◌, ◌==◌, ℕ, ◌+◌, Bool, true, false, List, [], ◌∷◌, ◌++◌, length, map, Option, Some, None, Ok, refl, sym, ap, ◌∙◌, subst, if◌then◌else◌, ◌<◌}
+use Rattle.std.proofs.Common.{◌≡◌, ℕ, ◌+◌, Bool, true, false, List, [], ◌∷◌, ◌++◌, length, map, Option, Some, None, Ok, refl, sym, ap, ◌∙◌, subst, if◌then◌else◌, ◌<◌}
 use Rattle.wire_msgs.specs.Found.{find, nth}
 use Rattle.wire_msgs.specs.declared.operation.Operation.{Operation}
 use Rattle.wire_msgs.specs.declared.operation.Operation.TheVariants.{HandsOff, Save, UiActivate}
@@ -13,7 +13,7 @@ use Rattle.container_model.specs.declared.grants.Tells.{Tells}
 use Rattle.container_model.specs.declared.record.Frame.{Frame}
 use Rattle.container_model.specs.declared.record.Object.{Object}
 use Rattle.container_model.specs.Record.{Record, Took, asked_all, asked_link, asked_object, is_object, with_frame}
-use Rattle.container_model.specs.Grants.{Regranted, Requested, event_of, further, grant_each, moved, passed_to, regranted, regranted_by, regranted_in, request, requested}
+use Rattle.container_model.specs.Grants.{Requested, event_of, further, grant_each, moved, passed_to, regranted, regranted_by, regranted_in, request, requested}
 use Rattle.container_model.specs.Saves.{settle_actions}
 use Rattle.container_model.specs.HandOffs.{hand_off, hand_off_at, hand_off_each, hand_off_in, handed_off, hands_off, unasked as not_handed}
 use Rattle.container_model.specs.Commands.{on_command, save_made, saving, saving_on}
@@ -24,7 +24,7 @@ use Rattle.container_steady.proofs.SteadyTests.{found_numbered}
 use Rattle.world_model.specs.Safe.{links_of}
 use Rattle.world_facts.specs.Shapes.{IsQuiet}
 use Rattle.world_facts.proofs.Lookups.{map_put, map_map_same}
-use Rattle.world_steps.specs.Steps.{AsksInTurn, asks_first, asks_none, IsPlain, IsTurned}
+use Rattle.world_steps.specs.Steps.{AsksInTurn, asks_first, asks_none, IsTurned}
 use Rattle.world_steps.proofs.Objects.{Waits, steady_waits, sent_of, no_start, no_start_settled, no_end, no_end_settled}
 use Rattle.world_steps.proofs.Asking.{Rising, asked_number, frame_asked, numbers, ordered_rise}
 use Rattle.world_steps.proofs.Turns.{one_turn, turns_join, waits_asked}

@@ -46,7 +46,7 @@ module _ (hostile : List ℕ) (acts : Acts) (lives : Lives) (owners : List ℕ) 
     views = views_kept links after acts acts log (longer log more) (asks_leave hostile (λ o op. IsQuiet op) links after acts more m k.facts.in_step) (grows_calls log more (asks_calls (λ o op. IsQuiet op) links after more m)) k.views;
   }
 
-  settled_kept : (links after : Links) (log : List Sent) (o : ℕ) → Settles links after acts o → AreKept links log → AreKept after log
+  settled_kept : (links after : Links) (log : List Sent) (o : ℕ) → Settles hostile links after acts o → AreKept links log → AreKept after log
   settled_kept links after log o s k = record {
     facts = settling.settled links after acts lives (messages log) owners last counted served o s k.facts;
     views = views_kept links after acts acts log log (settles_leave hostile links after acts o s) (grows_none log) k.views;
@@ -58,14 +58,14 @@ module _ (hostile : List ℕ) (acts : Acts) (lives : Lives) (owners : List ℕ) 
     views = views_kept links after acts acts log (longer log more) (next_leaves hostile links after acts o more n k.facts.in_step) (grows_calls log more (next_calls links after o more n)) k.views;
   }
 
-  ended_kept : (links after : Links) (log : List Sent) → EndsSome links after acts lives → AreKept links log → AreKept after log
+  ended_kept : (links after : Links) (log : List Sent) → EndsSome hostile links after acts lives → AreKept links log → AreKept after log
   ended_kept links after log e k = record {
     facts = some_ended links after acts lives (messages log) owners last counted served e k.facts;
     views = views_kept links after acts acts log log (ends_leave hostile links after acts lives e) (grows_none log) k.views;
   }
 
   -- lists of them
-  pub answered_kept : (links after : Links) (log : List Sent) (more : List Message) → IsAnswered links after acts lives more → AreKept links log → AreKept after (longer log more)
+  pub answered_kept : (links after : Links) (log : List Sent) (more : List Message) → IsAnswered hostile links after acts lives more → AreKept links log → AreKept after (longer log more)
   answered_kept links after log more (settled o s e) k = subst (AreKept after) (longer_none log more e) (settled_kept links after log o s k)
   answered_kept links after log more (goes_on o between s n) k = next_kept between after log o more n (settled_kept links between log o s k)
   answered_kept links after log more (ended s e) k = subst (AreKept after) (longer_none log more e) (ended_kept links after log s k)
@@ -74,8 +74,8 @@ module _ (hostile : List ℕ) (acts : Acts) (lives : Lives) (owners : List ℕ) 
   turned_kept _ _ log _ (asks_none links after more same e) k = subst (λ ms. AreKept after (longer log ms)) (sym e) (asked_kept links after log [] (none_asked links after same) k)
   turned_kept _ _ log _ (asks_first links between after first rest more m t e) k = subst (AreKept after) (longer_joined log first rest more e) (turned_kept between after (longer log first) rest t (asked_kept links between log first m k))
 
-  pub replied_kept : (links after : Links) (log : List Sent) (more : List Message) → IsReplied links after acts lives more → AreKept links log → AreKept after (longer log more)
+  pub replied_kept : (links after : Links) (log : List Sent) (more : List Message) → IsReplied hostile links after acts lives more → AreKept links log → AreKept after (longer log more)
   replied_kept links after log more h k = subst (AreKept after) (longer_joined log h.first h.rest more h.joined) (turned_kept h.between after (longer log h.first) h.rest h.asked (answered_kept links h.between log h.first h.answered k))
 
-  pub reaped_kept : (links after : Links) (log : List Sent) (more : List Message) → IsReaped links after acts lives more → AreKept links log → AreKept after (longer log more)
+  pub reaped_kept : (links after : Links) (log : List Sent) (more : List Message) → IsReaped hostile links after acts lives more → AreKept links log → AreKept after (longer log more)
   reaped_kept links after log more h k = turned_kept h.between after log more h.asked (ended_kept links h.between log h.ends k)

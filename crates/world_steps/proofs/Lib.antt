@@ -17,3 +17,4 @@ pub mod Committing
 pub mod Dropping
 pub mod Opening
 pub mod Handing
+pub mod Forging

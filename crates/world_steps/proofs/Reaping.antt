@@ -1,5 +1,5 @@
 -- The end of a server that doesn't run any more: links end, and whoever waits for a frame that is free by it is told.
-use Rattle.std.proofs.Common.{◌≡◌, ◌≢◌, ◌⊎◌, ◌==◌, ℕ, Bool, true, false, ◌++◌, length, map, Option, Some, None, option_map, Result, Ok, Err, refl, sym, ap, ◌∙◌, inl, inr, subst, if◌then◌else◌}
+use Rattle.std.proofs.Common.{◌≡◌, ◌⊎◌, ◌==◌, ℕ, Bool, true, false, List, ◌++◌, length, map, Option, Some, None, option_map, Result, Ok, Err, refl, sym, ap, ◌∙◌, inl, inr, subst, if◌then◌else◌}
 use Rattle.std.proofs.lemmas.Bool.{eqb-true}
 use Rattle.wire_msgs.specs.Found.{find}
 use Rattle.container_model.specs.declared.record.Link.{Link}
@@ -15,8 +15,8 @@ use Rattle.container_steady.proofs.SteadyRecords.{if_told}
 use Rattle.world_model.specs.declared.life.Life.TheVariants.{Running}
 use Rattle.world_model.specs.World.{messages_of}
 use Rattle.world_model.specs.Safe.{link_at, links_of}
-use Rattle.world_facts.specs.Words.{Acts, Lives, IsClosed}
-use Rattle.world_facts.specs.Shapes.{EndsSome}
+use Rattle.world_facts.specs.Words.{Acts, Lives}
+use Rattle.world_facts.specs.Shapes.{MayGo, is_over, EndsSome}
 use Rattle.world_facts.proofs.Lookups.{length_set_nth, map_map_same}
 use Rattle.world_steps.specs.Steps.{IsPlain, AsksInTurn, IsReaped}
 use Rattle.world_steps.proofs.Asking.{Rising, ordered_rise}
@@ -28,13 +28,13 @@ reaped_number : (inc : ℕ) (o : Object) (x : Option Link) → (reaped_object in
 reaped_number inc o None = refl
 reaped_number inc o (Some l) = if_told (λ (z : Object). z.number ≡ o.number) (l.inc == inc) (record o { work = kept o; link = None }) o (λ e. refl) (λ e. refl)
 
-module _ (r : Record) (acts0 : Acts) (lives : Lives) (inc : ℕ) (steady : Steady r) (stopped : lives inc ≡ Some Running → ⊥) where
+module _ (hostile : List ℕ) (r : Record) (acts0 : Acts) (lives : Lives) (inc : ℕ) (steady : Steady r) (stopped : lives inc ≡ Some Running → ⊥) where
   abbrev after : Object → Object
   after o = reaped_object inc o o.link
 
   -- a link after it: as it was, or gone with its server
   abbrev IsOver : Option Link → Option Link → Type 0
-  IsOver before now = (now ≡ before) ⊎ ((now ≡ None) × ((l : Link) → before ≡ Some l → IsClosed (acts0 l.inc l.act) ⊎ (lives l.inc ≢ Some Running)))
+  IsOver before now = (now ≡ before) ⊎ ((now ≡ None) × ((l : Link) → before ≡ Some l → MayGo hostile acts0 lives l))
 
   over_at : (o : Object) (x : Option Link) → o.link ≡ x → IsOver o.link (reaped_object inc o x).link
   over_at o None e = inl refl
@@ -42,7 +42,7 @@ module _ (r : Record) (acts0 : Acts) (lives : Lives) (inc : ℕ) (steady : Stead
     | true ↦ (λ t. inr (
       refl,
       (λ m g. let z : Some l ≡ Some m = sym e ∙ g in let lm : l ≡ m = cc in
-          inr (λ runs. stopped (ap lives (sym (ap (λ (v : Link). v.inc) (sym lm) ∙ eqb-true l.inc inc t)) ∙ runs))),
+          is_over (λ runs. stopped (ap lives (sym (ap (λ (v : Link). v.inc) (sym lm) ∙ eqb-true l.inc inc t)) ∙ runs))),
     ))
     | false ↦ (λ t. inl refl)
   ] refl
@@ -51,7 +51,7 @@ module _ (r : Record) (acts0 : Acts) (lives : Lives) (inc : ℕ) (steady : Stead
   over_in None = inl refl
   over_in (Some o) = over_at o o.link refl
 
-  over : EndsSome (links_of r.objects) (links_of (reaped r inc).objects) acts0 lives
+  over : EndsSome hostile (links_of r.objects) (links_of (reaped r inc).objects) acts0 lives
   over = record { each = λ n. subst (λ z. IsOver (links_of r.objects n) z) (sym (link_mapped after r.objects n (λ o. reaped_number inc o o.link))) (over_in (find (is_object n) r.objects)) }
 
   taken : (b : Bool) (m t : Took) → ◌≡◌ {A = Result Took ContainerFault} (if b then Ok m else Err NoSuch) (Ok t) → m ≡ t
@@ -59,7 +59,7 @@ module _ (r : Record) (acts0 : Acts) (lives : Lives) (inc : ℕ) (steady : Stead
   taken false m t g = cc
 
   -- whoever waits for a frame that is free by it is told of its grant, and then storages may be asked for
-  made_reaped : IsReaped (links_of r.objects) (links_of (reap_made r inc).rec.objects) acts0 lives (messages_of (reap_made r inc).answer.actions) × IsPlain r (reap_made r inc)
+  made_reaped : IsReaped hostile (links_of r.objects) (links_of (reap_made r inc).rec.objects) acts0 lives (messages_of (reap_made r inc).answer.actions) × IsPlain r (reap_made r inc)
   made_reaped =
       let u = reaped r inc in
       let freed = record u { frames = map (freed_frame inc r.objects) u.frames } in
@@ -90,5 +90,5 @@ module _ (r : Record) (acts0 : Acts) (lives : Lives) (inc : ℕ) (steady : Stead
         },
       )
 
-  pub reap_ends : (t : Took) → on_reap r inc ≡ Ok t → IsReaped (links_of r.objects) (links_of t.rec.objects) acts0 lives (messages_of t.answer.actions) × IsPlain r t
-  reap_ends t e = subst (λ (x : Took). IsReaped (links_of r.objects) (links_of x.rec.objects) acts0 lives (messages_of x.answer.actions) × IsPlain r x) (taken (is_alive r inc) (reap_made r inc) t e) made_reaped
+  pub reap_ends : (t : Took) → on_reap r inc ≡ Ok t → IsReaped hostile (links_of r.objects) (links_of t.rec.objects) acts0 lives (messages_of t.answer.actions) × IsPlain r t
+  reap_ends t e = subst (λ (x : Took). IsReaped hostile (links_of r.objects) (links_of x.rec.objects) acts0 lives (messages_of x.answer.actions) × IsPlain r x) (taken (is_alive r inc) (reap_made r inc) t e) made_reaped

@@ -1,5 +1,5 @@
 -- Run: an activation begins.
-use Rattle.std.proofs.Common.{◌≡◌, ◌||◌, ℕ, ◌+◌, true, not, List, [], ◌∷◌, Option, Some, None, is_some, Ok, refl, sym, ap, ◌∙◌, subst, nat_le, nat_lt}
+use Rattle.std.proofs.Common.{◌≡◌, ◌||◌, ℕ, ◌+◌, true, not, List, [], ◌∷◌, Some, is_some, Ok, refl, sym, ap, ◌∙◌, subst, nat_le, nat_lt}
 use Rattle.wire_msgs.specs.Found.{find, put, nth}
 use Rattle.wire_msgs.specs.declared.operation.Operation.{Operation}
 use Rattle.storage_tree.specs.declared.streams.NamedStream.{NamedStream}

@@ -47,7 +47,7 @@ waits_at Asks before after news (sent l k op b a called lw kw asks q) w m e =
 pub waits_asked : (Asks : ℕ → Operation → Type 0) (links after : Links) (more : List Message) → AsksAll Asks links after more → Waits links → Waits after
 waits_asked Asks links after more h w o m e = waits_at (Asks o) (links o) (after o) (h.news o) (h.each o) (w o) m e
 
-pub waits_ended : (links after : Links) (acts : Acts) (lives : Lives) → EndsSome links after acts lives → Waits links → Waits after
+pub waits_ended : {hostile : List ℕ} (links after : Links) (acts : Acts) (lives : Lives) → EndsSome hostile links after acts lives → Waits links → Waits after
 waits_ended links after acts lives h w o l e = elim (h.each o) [
   | inl same ↦ w o l (sym same ∙ e)
   | inr over ↦ absurd (let z : None ≡ Some l = sym over.0 ∙ e in cc)

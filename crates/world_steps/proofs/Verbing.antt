@@ -18,8 +18,8 @@ use Rattle.container_model.specs.declared.record.Link.{Link}
 use Rattle.container_model.specs.declared.record.Object.{Object}
 use Rattle.container_model.specs.declared.record.Frame.{Frame}
 use Rattle.container_model.specs.declared.fault.ContainerFault.{ContainerFault}
-use Rattle.container_model.specs.declared.fault.ContainerFault.TheVariants.{Busy, InDoubt as Doubtful, NumbersSpent}
-use Rattle.container_model.specs.Record.{Record, Took, acts, counts_none, quiet_answer, sends, with_frame, with_object, has_numbers, is_busy, is_doubtful, is_moving, is_object, is_saving}
+use Rattle.container_model.specs.declared.fault.ContainerFault.TheVariants.{Busy, NumbersSpent}
+use Rattle.container_model.specs.Record.{Record, Took, acts, counts_none, quiet_answer, sends, with_frame, with_object, has_numbers, is_moving, is_object}
 use Rattle.container_model.specs.Grants.{Requested, grant_of, moved, request}
 use Rattle.container_model.specs.Verbs.{operation_of, claim_of, takes, gives_up, stepped_link, leaving_made, holder_of, holder_has_numbers, revoked_at, claimed, steps_now, taking_made, taking, stepping, verb_steps, steps_of, verb_linked, wants_ui, verb_framed, verb}
 use Rattle.container_steady.specs.Roles.{Holding, Other, IsShown, role_in}

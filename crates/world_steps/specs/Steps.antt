@@ -22,11 +22,12 @@ pub record IsBegun (r : Record) (lives : Lives) (owners : List ℕ) (o : ℕ) (t
   pub starts : (numbers : ℕ) → started_by numbers t.answer.actions ≡ []
   pub ends : (instances : List Instance) → ended_by t.answer.actions instances ≡ instances
 
--- A reply that is taken settles the pending operation, and then the next one that waits is sent; or its object's link ends.
-pub data IsAnswered (links after : Links) (acts : Acts) (lives : Lives) (more : List Message) : Type 0 where
-  settled : (o : ℕ) → Settles links after acts o → more ≡ [] → IsAnswered links after acts lives more
-  goes_on : (o : ℕ) (between : Links) → Settles links between acts o → SendsNext between after o more → IsAnswered links after acts lives more
-  ended : EndsSome links after acts lives → more ≡ [] → IsAnswered links after acts lives more
+-- A reply that is taken settles the pending operation, and then the next one that waits is sent; or its object's link ends. A
+-- forged one does the same: its server is hostile.
+pub data IsAnswered (hostile : List ℕ) (links after : Links) (acts : Acts) (lives : Lives) (more : List Message) : Type 0 where
+  settled : (o : ℕ) → Settles hostile links after acts o → more ≡ [] → IsAnswered hostile links after acts lives more
+  goes_on : (o : ℕ) (between : Links) → Settles hostile links between acts o → SendsNext between after o more → IsAnswered hostile links after acts lives more
+  ended : EndsSome hostile links after acts lives → more ≡ [] → IsAnswered hostile links after acts lives more
 
 -- Operations are asked one after the other, of one object or of several.
 pub data AsksInTurn : Links → Links → List Message → Type 0 where
@@ -38,16 +39,16 @@ abbrev pub IsTurned : Record → Took → Type 0
 IsTurned r t = AsksInTurn (links_of r.objects) (links_of t.rec.objects) (messages_of t.answer.actions) × IsPlain r t
 
 -- A reply that is taken, after which whoever waits for the frame may be told of its grant.
-pub record IsReplied (links after : Links) (acts : Acts) (lives : Lives) (more : List Message) : Type 0 where
+pub record IsReplied (hostile : List ℕ) (links after : Links) (acts : Acts) (lives : Lives) (more : List Message) : Type 0 where
   pub between : Links
   pub first : List Message
   pub rest : List Message
-  pub answered : IsAnswered links between acts lives first
+  pub answered : IsAnswered hostile links between acts lives first
   pub asked : AsksInTurn between after rest
   pub joined : more ≡ first ++ rest
 
 -- The end of a server: its links go, and then whoever waits for a frame that is free by it is told of its grant.
-pub record IsReaped (links after : Links) (acts : Acts) (lives : Lives) (more : List Message) : Type 0 where
+pub record IsReaped (hostile : List ℕ) (links after : Links) (acts : Acts) (lives : Lives) (more : List Message) : Type 0 where
   pub between : Links
-  pub ends : EndsSome links between acts lives
+  pub ends : EndsSome hostile links between acts lives
   pub asked : AsksInTurn between after more

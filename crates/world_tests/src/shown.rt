@@ -11,17 +11,19 @@ fn counts(words: &mut SplitWhitespace<'_>, name: &str, count: usize) -> bool {
     word(words) == name && number(words) as usize == count
 }
 
-/// Whether the next words are this name and these numbers.
-fn tells(words: &mut SplitWhitespace<'_>, name: &str, numbers: &[u32]) -> bool {
-    if word(words) != name {
-        return false;
-    }
+/// Whether the next words are these numbers.
+fn are_next(words: &mut SplitWhitespace<'_>, numbers: &[u32]) -> bool {
     for of in numbers {
         if number(words) != *of {
             return false;
         }
     }
     true
+}
+
+/// Whether the next words are this name and these numbers.
+fn tells(words: &mut SplitWhitespace<'_>, name: &str, numbers: &[u32]) -> bool {
+    word(words) == name && are_next(words, numbers)
 }
 
 /// Whether so many events were taken, messages sent, and frames there are.
@@ -49,9 +51,13 @@ fn are_server_done(done: &[ServerDone], words: &mut SplitWhitespace<'_>) -> bool
     true
 }
 
+/// A content that was taken, behind the place of its message, if that was sent.
 fn is_taken(taken: &Taken, words: &mut SplitWhitespace<'_>) -> bool {
-    let place = [taken.place, taken.object, taken.inc, taken.act, taken.s];
-    tells(words, "taken", &place)
+    let of = [taken.object, taken.inc, taken.act, taken.s];
+    match taken.place {
+        Some(place) => tells(words, "taken", &[place]) && are_next(words, &of),
+        None => tells(words, "forged", &of),
+    }
 }
 
 fn are_taken(taken: &[Taken], words: &mut SplitWhitespace<'_>) -> bool {
@@ -63,6 +69,11 @@ fn are_taken(taken: &[Taken], words: &mut SplitWhitespace<'_>) -> bool {
     true
 }
 
+/// Whether the next words are these servers of which messages were forged, if there are any.
+fn are_hostile(hostile: &[u32], words: &mut SplitWhitespace<'_>) -> bool {
+    hostile.is_empty() || tells(words, "hostile", hostile)
+}
+
 fn is_document(document: Option<&Document>, words: &mut SplitWhitespace<'_>) -> bool {
     match document {
         Some(document) => tells(words, "counted", &[document.k])
@@ -71,13 +82,14 @@ fn is_document(document: Option<&Document>, words: &mut SplitWhitespace<'_>) -> 
     }
 }
 
-/// Whether there are so many of all; then whether these are each content that was counted, by its object and save, each that was
-/// taken, by its place, object, server, activation and storage grant, and the document of frame 1, by its save and how many
-/// objects it has.
+/// Whether there are so many of all; then whether these are each content that was counted, by its object and save, the servers of
+/// which messages were forged, each content that was taken, by its place, object, server, activation and storage grant, and the
+/// document of frame 1, by its save and how many objects it has.
 pub(crate) fn is_shown(world: &World, words: &mut SplitWhitespace<'_>) -> bool {
     are_counted(world, words)
         && are_container_done(world.container_done(), words)
         && are_server_done(world.server_done(), words)
+        && are_hostile(world.hostile(), words)
         && are_taken(world.taken(), words)
         && is_document(world.counted(1), words)
         && word(words).is_empty()

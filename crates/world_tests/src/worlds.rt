@@ -8,10 +8,9 @@ use crate::words::{number, word};
 use embed_core::embedded::Embedded;
 use embed_core::tally::Tally;
 use embed_note::note::Note;
-use event_texts::events::Events;
+use event_texts::lines::parse_line;
 use std::alloc::Global;
 use std::process::Abort;
-use texts::lines::Grammar;
 use world_model::event::{Event, Stop};
 use world_run::container::Limits;
 use world_run::stock::Stock;
@@ -50,6 +49,12 @@ done 2
 save 3
 deliver 1";
 
+/// A content that is forged is taken, and the one that the note then writes under the same number isn't.
+const FORGED: &str =
+    "forge 1 4f4c434d01031f00000001000000010000000200000001000000010454657874010000007a00000000
+scribble 1 1
+deliver 9";
+
 /// What is looked at, and what it is: how many events, messages and frames there are, and the contents that were counted or
 /// taken; the text of the note in a frame's file; what an event was answered.
 const NEW_SHOWS: &str = "shown events 0 sent 0 frames 0
@@ -65,6 +70,11 @@ file 2 empty
 answer 1 took
 answer 24 refused
 answer 25 dropped";
+
+const FORGED_SHOWS: &str =
+    "shown events 18 sent 9 frames 1 container 1 1 server 1 1 1 hostile 1 forged 1 1 1 2 counted 1 1
+answer 16 took
+answer 18 refused";
 
 fn boxed(rt: &impl Abort, alloc: Global) -> Box<dyn Embedded> {
     let tally = Tally::new(alloc).expect(rt, "memory");
@@ -83,7 +93,7 @@ fn world(rt: &impl Abort, alloc: Global) -> World {
 }
 
 fn event(rt: &impl Abort, alloc: Global, line: &str) -> Event {
-    Events::parse(alloc, 1, line.as_bytes())
+    parse_line(alloc, line.as_bytes())
         .expect(rt, "memory")
         .expect(rt, "an event")
 }
@@ -134,6 +144,13 @@ fn worlds_show_what_happened(rt: HostRuntime) {
     let mut world = world(&rt, rt.alloc());
     play(&rt, rt.alloc(), &mut world, SAVED, SAVED_SHOWS);
     play(&rt, rt.alloc(), &mut world, CLOSED, CLOSED_SHOWS);
+}
+
+#[test]
+fn a_forged_content_has_no_place(rt: HostRuntime) {
+    let mut world = world(&rt, rt.alloc());
+    play(&rt, rt.alloc(), &mut world, SAVED, SAVED_SHOWS);
+    play(&rt, rt.alloc(), &mut world, FORGED, FORGED_SHOWS);
 }
 
 /// Runs events one after the other, and each again where memory ran out: whether all were taken.

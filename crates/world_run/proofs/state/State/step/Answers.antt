@@ -15,6 +15,9 @@ returns-in-Command-clause-taken g c = chosen (seen (λ s. (goal.Embedded-dyn g (
 pub returns-in-Deliver-clause-taken : goal.returns-in-Deliver-clause-taken
 returns-in-Deliver-clause-taken g c = chosen (seen (λ s. (goal.Embedded-dyn g (s.boxed.vtable, s.boxed.value)).content s.boxed.value) c.args.self.now) (seen (λ s. (goal.Embedded-dyn g (s.boxed.vtable, s.boxed.value)).content s.boxed.value) c.deliver.new.self) _ _ c.deliver.result c.in-Deliver.is tt c.deliver.ensures.taken
 
+pub returns-in-Forge-clause-taken : goal.returns-in-Forge-clause-taken
+returns-in-Forge-clause-taken g c = chosen (seen (λ s. (goal.Embedded-dyn g (s.boxed.vtable, s.boxed.value)).content s.boxed.value) c.args.self.now) (seen (λ s. (goal.Embedded-dyn g (s.boxed.vtable, s.boxed.value)).content s.boxed.value) c.forge.new.self) _ _ c.forge.result c.in-Forge.is tt c.forge.ensures.taken
+
 pub returns-in-Crash-clause-taken : goal.returns-in-Crash-clause-taken
 returns-in-Crash-clause-taken g c = chosen (seen (λ s. (goal.Embedded-dyn g (s.boxed.vtable, s.boxed.value)).content s.boxed.value) c.args.self.now) (seen (λ s. (goal.Embedded-dyn g (s.boxed.vtable, s.boxed.value)).content s.boxed.value) c.crash.new.self) _ _ c.crash.result c.in-Crash.is tt c.crash.ensures.taken
 
