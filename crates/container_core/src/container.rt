@@ -2,6 +2,7 @@
 
 use crate::state::State;
 use container_checks::lookups::{frame_numbers, object_numbers};
+use container_laws::apart_laws::messages_stay_apart;
 use container_links::resending::pending_calls;
 use container_model::answer::{Answer, Part};
 use container_model::command::Command;
@@ -45,6 +46,7 @@ impl Model for ContainerCore {
 impl ContainerCore {
     ghost use Rattle.std.specs.Prelude.{◌≡◌, ◌≤◌, ◌+◌, IfErr, IfOk, List, Ok, OnErr, length, map, option_copied, if◌then◌else◌, []};
     ghost use Rattle.container_core.specs.Opening.{MayRefuse, looked_at};
+    ghost use Rattle.container_laws.specs.Apart.{StaysApart};
     ghost use Rattle.container_model.specs.Opens.{Given, IsReadAs, opened};
     ghost use Rattle.std.specs.List.{range_with_len};
     ghost use Rattle.container_steady.specs.Steady.{Steady};
@@ -59,6 +61,8 @@ impl ContainerCore {
     ghost use Rattle.container_screen.specs.Screen.{shown};
     ghost use Rattle.document_model.specs.DocOf.{DocOf};
     ghost use Rattle.file_model.specs.Denotes.{Denotes};
+    ghost use Rattle.file_model.specs.Limits.{MOST_BYTES};
+    ghost use Rattle.file_writer.specs.Laid.{IsLaidOut};
     ghost use Rattle.wire_msgs.specs.Found.{find, nth};
 
     /// A container without frames, objects and servers.
@@ -183,6 +187,11 @@ impl ContainerCore {
     /// - `BadAnswer` where its content is past what may be stored, or it doesn't fit the call.
     ///
     /// Last of all `NoMemory`. A refusal changes nothing.
+    ///
+    /// Whatever comes on the link of a server, true or forged, it leaves the objects as they are that this server doesn't run, but
+    /// for what they are asked, and the frames that none of its objects has, is to get or is to give up, but for how far their
+    /// saves are. It isn't promised that a server tells the truth of its own objects, gives up a frame that it was told to give
+    /// up, or answers a save: what waits for that waits until the server's end is told (`on_reap`).
     pub fn on_message(
         &mut self,
         alloc: Global,
@@ -193,11 +202,13 @@ impl ContainerCore {
         ensures few { IfOk result (λ a. length a.actions ≤ length self.old.objects + length self.old.frames + 1) }
         ensures refused { IfErr result (Refuses (on_message self.old link message)) }
         ensures kept { OnErr result (self.new ≡ self.old) }
+        ensures others { StaysApart link self.old self.new }
         ensures steady { Steady self.new }
         ensures sound { IsSound self.new }
     {
         steady_after();
         sound_after();
+        messages_stay_apart();
         self.state.on_message(alloc, link, message)
     }
 
@@ -340,7 +351,8 @@ impl ContainerCore {
     }
 
     /// The document of a frame, as `document`, and the file that is to be committed: it denotes a tree that holds the document, so
-    /// it gives it again where it is opened.
+    /// it gives it again where it is opened. It is laid out of that tree alone, so that nothing else stands in it, and is no longer
+    /// than a store takes.
     ///
     /// Refused: as `document`.
     pub fn commit_image(
@@ -350,6 +362,8 @@ impl ContainerCore {
     ) -> Result<(Items<Part>, Vec<u8>), ContainerFault>
         ensures document { IfOk result (λ w. image self.now f ≡ Ok w.0) }
         ensures denotes { IfOk result (λ w. ∥ Denotes w.1.items (document_tree w.0) ∥₁) }
+        ensures laid_out { IfOk result (λ w. IsLaidOut (document_tree w.0) w.1.items) }
+        ensures few { IfOk result (λ w. length w.1.items ≤ MOST_BYTES) }
         ensures holds { IfOk result (λ w. DocOf (document_tree w.0) (saves.document w.0)) }
         ensures refused { IfErr result (Refuses (image self.now f)) }
     {
@@ -357,11 +371,12 @@ impl ContainerCore {
     }
 
     /// The file that is to be committed for a frame, which denotes its document (MS-CFB 2), and so gives it again where it is
-    /// opened.
+    /// opened. It is no longer than a store takes.
     ///
     /// Refused: as `document`.
     pub fn image(&self, alloc: Global, f: u32) -> Result<Vec<u8>, ContainerFault>
         ensures denotes { IfOk result (λ v. (parts : List Part) × (image self.now f ≡ Ok parts) × ∥ Denotes v.items (document_tree parts) ∥₁ × DocOf (document_tree parts) (saves.document parts)) }
+        ensures few { IfOk result (λ v. length v.items ≤ MOST_BYTES) }
         ensures refused { IfErr result (Refuses (image self.now f)) }
     {
         let (_, file) = self.commit_image(alloc, f)?;

@@ -1,12 +1,14 @@
 //! The documents of frames whose commits are asked for or in doubt, and their files.
 
-ghost use Rattle.std.specs.Prelude.{◌≡◌, IfErr, IfOk, List, Ok, OnOk};
+ghost use Rattle.std.specs.Prelude.{◌≡◌, ◌≤◌, IfErr, IfOk, List, Ok, OnOk, length};
 ghost use Rattle.container_model.specs.Record.{Refuses};
 ghost use Rattle.container_model.specs.Saves as saves;
 ghost use Rattle.container_model.specs.Saves.{document_tree, image, parts_in};
 ghost use Rattle.container_model.specs.declared.answer.Part.{Part};
 ghost use Rattle.document_model.specs.DocOf.{DocOf};
 ghost use Rattle.file_model.specs.Denotes.{Denotes};
+ghost use Rattle.file_model.specs.Limits.{MOST_BYTES};
+ghost use Rattle.file_writer.specs.Laid.{IsLaidOut};
 
 use crate::state::State;
 use container_checks::checks::has_image;
@@ -57,6 +59,8 @@ impl State {
     ) -> Result<(Items<Part>, Vec<u8>), ContainerFault>
         ensures document { IfOk result (λ w. image self.now f ≡ Ok w.0) }
         ensures denotes { IfOk result (λ w. ∥ Denotes w.1.items (document_tree w.0) ∥₁) }
+        ensures laid_out { IfOk result (λ w. IsLaidOut (document_tree w.0) w.1.items) }
+        ensures few { IfOk result (λ w. length w.1.items ≤ MOST_BYTES) }
         ensures holds { IfOk result (λ w. DocOf (document_tree w.0) (saves.document w.0)) }
         ensures refused { IfErr result (Refuses (image self.now f)) }
     {

@@ -1,9 +1,11 @@
 //! The document of a frame: its objects, each with the content that a save counts, and the file that holds them.
 
-ghost use Rattle.std.specs.Prelude.{◌≡◌, IfOk, Ok, is_ok, length, true};
+ghost use Rattle.std.specs.Prelude.{◌≡◌, ◌≤◌, IfOk, Ok, is_ok, length, true};
 ghost use Rattle.container_model.specs.Saves.{are_objects, document, document_tree, fitting, held_part, is_document, part_of, parts_in};
 ghost use Rattle.document_model.specs.DocOf.{DocOf, is_object};
 ghost use Rattle.file_model.specs.Denotes.{Denotes};
+ghost use Rattle.file_model.specs.Limits.{MOST_BYTES};
+ghost use Rattle.file_writer.specs.Laid.{IsLaidOut};
 
 use crate::room::has_room;
 use container_checks::contents::kept;
@@ -17,6 +19,7 @@ use ole_streams::doc::{Doc, DocObject, MOST_OBJECTS};
 use ole_streams::document_tree::document_tree;
 use ole_streams::laws::document_is_read_again;
 use std::alloc::{AllocError, Global};
+use store_laws::laws::files_are_taken;
 
 /// The first length that a user type can't have, so that its size with the closing zero fits four bytes.
 const PAST_USER_TYPE: usize = 0xffff_ffff;
@@ -128,16 +131,20 @@ fn document(alloc: Global, parts: &[Part]) -> Result<Doc, AllocError>
     Ok(doc)
 }
 
-/// The file of a document that a file can hold: it denotes the document's tree (MS-CFB 2), which holds the document.
+/// The file of a document that a file can hold: it denotes the document's tree (MS-CFB 2), which holds the document, and is laid
+/// out of that tree alone, so that nothing else stands in it. It is no longer than a store takes.
 ///
 /// Refused for want of memory alone.
 pub fn file_of(alloc: Global, parts: &[Part]) -> Result<Vec<u8>, AllocError>
     requires { fitting parts.now ≡ Ok parts.now }
     ensures denotes { IfOk result (λ v. ∥ Denotes v.items (document_tree parts.now) ∥₁) }
+    ensures laid_out { IfOk result (λ v. IsLaidOut (document_tree parts.now) v.items) }
+    ensures few { IfOk result (λ v. length v.items ≤ MOST_BYTES) }
     ensures holds { IfOk result (λ v. DocOf (document_tree parts.now) (document parts.now)) }
 {
     let doc = document(alloc, parts)?;
     document_is_read_again();
+    files_are_taken();
     let _ = doc.as_slice();
     let tree = document_tree(alloc, doc)?;
     match write_file(alloc, &tree) {

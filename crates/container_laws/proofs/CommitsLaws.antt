@@ -14,8 +14,7 @@ use Rattle.file_model.specs.declared.fault.WriteFault.{WriteFault}
 use Rattle.container_model.specs.declared.record.Link.{Link}
 use Rattle.container_model.specs.declared.record.Object.{Object}
 use Rattle.container_model.specs.declared.record.Frame.{Frame}
-use Rattle.container_model.specs.declared.record.Phase.{Phase}
-use Rattle.container_model.specs.declared.record.Phase.TheVariants.{Idle, Saving, HandingOff, Committing, InDoubt}
+use Rattle.container_model.specs.declared.record.Phase.TheVariants.{Saving, HandingOff, Committing}
 use Rattle.container_model.specs.declared.answer.Part.{Part}
 use Rattle.container_model.specs.declared.fault.ContainerFault.{ContainerFault}
 use Rattle.container_model.specs.declared.fault.ContainerFault.TheVariants.{Full, WrongState}

@@ -143,7 +143,7 @@ saving_has : (b : Bool) (v : Record) (g f : ℕ) (holder : Claim) → Kept v.fra
 saving_has true v g f holder h = handed_has v g f holder h
 saving_has false v g f holder h = h
 
-requested_frames : (v : Record) (op : Operation) (z : Option Object) → (requested v op z).rec.frames ≡ v.frames
+pub requested_frames : (v : Record) (op : Operation) (z : Option Object) → (requested v op z).rec.frames ≡ v.frames
 requested_frames v op None = refl
 requested_frames v op (Some y) = refl
 

@@ -1,5 +1,5 @@
 -- What hand-off makes of an object that was told of a grant, or wasn't.
-use Rattle.std.proofs.Common.{◌≡◌, inl, inr, ℕ, zero, suc, true, List, [], ◌∷◌, map, Option, Some, None, refl, sym, ap, ◌∙◌, subst}
+use Rattle.std.proofs.Common.{◌≡◌, inl, inr, ℕ, zero, suc, List, [], ◌∷◌, map, Option, Some, None, refl, sym, ap, ◌∙◌}
 use Rattle.std.specs.Prelude.{is_some, slice_get}
 use Rattle.wire_msgs.specs.Found.{nth, set_nth}
 use Rattle.grant_core.specs.Frames.{after}
@@ -7,9 +7,9 @@ use Rattle.grant_core.specs.Grants.{Event}
 use Rattle.container_model.specs.declared.grants.Tells.{Tells}
 use Rattle.container_model.specs.declared.record.Frame.{Frame}
 use Rattle.container_model.specs.declared.record.Object.{Object}
-use Rattle.container_model.specs.Grants.{event_of, freed_frame, grant_each, moved, passed_to, regranted, regranted_by, regranted_in}
+use Rattle.container_model.specs.Grants.{event_of, freed_frame, moved, passed_to, regranted, regranted_by, regranted_in}
 use Rattle.container_model.specs.Record.{Record}
-use Rattle.container_laws.specs.Laws.{IsHandedOff, StaysOrIsAsked, StaysOrIsGranted}
+use Rattle.container_laws.specs.Laws.{StaysOrIsAsked, StaysOrIsGranted}
 use Rattle.container_laws.proofs.FreedLaws.{granted_frames}
 use Rattle.container_steady.proofs.SteadyClaims.{set_back}
 use Rattle.container_steps.proofs.HandedOff.{StaysOrHanded}

@@ -1,3 +1,4 @@
+pub mod ApartLaws
 pub mod CommitsLaws
 pub mod DocumentSets
 pub mod FreedLaws

@@ -1,9 +1,9 @@
 -- What files give, and that the file of a commit gives its objects again.
-use Rattle.std.proofs.Common.{◌≡◌, ◌≢◌, ◌≤◌, ◌<◌, ◌+◌, ◌==◌, ◌++◌, ℕ, Bool, true, false, not, List, [], ◌∷◌, length, map, Option, Some, None, Result, Ok, Err, refl, sym, ◌∙◌, ap, arith, subst, if◌then◌else◌, eq-eqb}
+use Rattle.std.proofs.Common.{◌≡◌, ◌≢◌, ◌≤◌, ◌<◌, ◌+◌, ◌++◌, ℕ, Bool, true, false, not, List, [], ◌∷◌, length, Some, None, Result, Ok, Err, refl, sym, ◌∙◌, ap, arith, subst, eq-eqb}
 use Rattle.std.proofs.Math.Logic.{∥∥₁_elim}
-use Rattle.std.proofs.lemmas.Bool.{le-leb, leb-false, leb-true, ne_eqb}
+use Rattle.std.proofs.lemmas.Bool.{le-leb, leb-false, ne_eqb}
 use Rattle.std.proofs.lemmas.List.{length-append}
-use Rattle.std.specs.Prelude.{◌&&◌, cond, nat_le, nat_lt}
+use Rattle.std.specs.Prelude.{◌&&◌, cond, nat_le}
 use Rattle.std.specs.List.{AllByRecursion}
 use Rattle.cfb_names.specs.Names.{key}
 use Rattle.file_model.specs.Denotes.{Denotes}
@@ -18,19 +18,17 @@ use Rattle.document_model.specs.DocOf.{DocOf, as_storage, as_stream, doc_read, i
 use Rattle.document_model.specs.DocTree.{LAYOUT, object_name}
 use Rattle.document_model.specs.Layouts.{MOST_OBJECTS, layout_read}
 use Rattle.document_model.specs.declared.object.DocObject.{DocObject}
-use Rattle.container_model.specs.declared.answer.Part.{Part}
-use Rattle.container_model.specs.declared.fault.ContainerFault.{ContainerFault}
 use Rattle.container_model.specs.declared.fault.ContainerFault.TheVariants.{BadFile, Busy, Full, NumbersSpent, WrongState}
 use Rattle.container_model.specs.declared.record.Object.{Object}
-use Rattle.container_model.specs.Record.{Record, Took, MOST_FRAMES, unless}
-use Rattle.container_model.specs.Saves.{are_objects, document, document_tree, held_part, is_document, part_of, parts_in}
+use Rattle.container_model.specs.Record.{Record, Took, unless}
+use Rattle.container_model.specs.Saves.{are_objects, document, document_tree, is_document, parts_in}
 use Rattle.container_model.specs.Commands.{is_named, is_size}
-use Rattle.container_model.specs.Opens.{Given, IsReadAs, opened, opened_document, opened_given, opened_made, opened_objects, opening}
-use Rattle.container_steady.specs.Steady.{Steady, SteadyObject}
+use Rattle.container_model.specs.Opens.{Given, IsReadAs, opened, opened_made, opened_objects}
+use Rattle.container_steady.specs.Steady.{SteadyObject}
 use Rattle.container_steady.proofs.Opening.{is_opened}
 use Rattle.container_steady.proofs.SteadyTells.{and_both}
 use Rattle.container_steps.proofs.SteadyOpens.{elsewhere}
-use Rattle.container_laws.specs.OpenLaws.{CommitsAreOpenedAgain, FilesGiveOne, FilesGiveTheirs, HeldIsWithin, IsFileOf, IsOpenedAgain}
+use Rattle.container_laws.specs.OpenLaws.{CommitsAreOpenedAgain, FilesGiveOne, FilesGiveTheirs, HeldIsWithin}
 use Rattle.container_laws.proofs.DocumentSets.{Document-set}
 
 -- ---- what a tree holds is within its limits

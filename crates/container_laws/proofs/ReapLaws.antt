@@ -1,9 +1,9 @@
 -- The end of a server, with frames that hand off after it.
-use Rattle.std.proofs.Common.{◌≡◌, ◌⊎◌, inl, inr, ℕ, true, List, map, Some, None, refl, sym, ap, ◌∙◌, subst, slice_get}
+use Rattle.std.proofs.Common.{◌≡◌, inl, inr, ℕ, List, map, Some, None, sym, ap, ◌∙◌, subst, slice_get}
 use Rattle.wire_msgs.specs.Found.{nth}
 use Rattle.container_model.specs.declared.record.Frame.{Frame}
 use Rattle.container_model.specs.declared.record.Object.{Object}
-use Rattle.container_model.specs.Grants.{freed_claims, freed_frame, is_hosted}
+use Rattle.container_model.specs.Grants.{freed_claims, freed_frame}
 use Rattle.container_model.specs.Messages.{reaped, reaped_grants}
 use Rattle.container_model.specs.Record.{Record}
 use Rattle.container_model.specs.Saves.{kept}

@@ -1,3 +1,4 @@
 pub mod Laws
 pub mod CommitLaws
 pub mod OpenLaws
+pub mod Apart

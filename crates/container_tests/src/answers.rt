@@ -17,20 +17,29 @@ fn operation_name(operation: &Operation) -> &'static str {
         Operation::SaveDropped(_) => "SaveDropped",
         Operation::InPlace => "InPlace",
         Operation::UiActivate(_) => "UiActivate",
+        Operation::UiDeactivate => "UiDeactivate",
         Operation::Close(_) => "Close",
         _ => "another",
     }
 }
 
-/// Whether a message is this call of activation 1 of server 1.
+fn call_name(inc: u32, act: u32) -> &'static str {
+    match (inc, act) {
+        (1, 1) => "call",
+        (2, 2) => "other",
+        _ => "astray",
+    }
+}
+
+/// Whether a message is this call: of activation 1 of server 1 a `call`, of activation 2 of server 2 an `other` one.
 fn is_call(message: &Message, words: &mut SplitWhitespace<'_>) -> bool {
     match message {
         Message::Call {
-            inc: 1,
-            act: 1,
+            inc,
+            act,
             n,
             operation,
-        } => names(words, "call", *n) && word(words) == operation_name(operation),
+        } => names(words, call_name(*inc, *act), *n) && word(words) == operation_name(operation),
         _ => false,
     }
 }

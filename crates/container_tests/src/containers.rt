@@ -6,13 +6,15 @@ use crate::events::{event, happens};
 use crate::files::{is_document, is_file};
 use crate::messages::messaged;
 use crate::shown::{are_numbers, are_pending, are_sizes, are_states, is_screen};
-use crate::words::{halves, word};
+use crate::words::{halves, number, word};
 use container_core::container::{ContainerCore, Limits};
 use std::alloc::Global;
 use std::process::Abort;
 use std::str::SplitWhitespace;
 
-/// `anew` is a new container. Messages come on the link of server 1, those behind `astray` on that of server 2.
+/// `anew N` is a new container that gives numbers up to N, or 100 where no smaller number is told. Messages come on the link of
+/// server 1 and are of its activation 1; on the link of server 2 come those behind `astray`, which say the same, those behind
+/// `forged`, which say that activation 1 is of server 2, and those behind `second`, which are of activation 2 of server 2.
 const ROWS: &str = "document => NoSuch
 file => NoSuch
 done 1 => NoSuch
@@ -165,9 +167,87 @@ resolve 1 lost =>
 states => Idle Free passive
 new e.ole 12 4 => frame 5";
 
-/// A container that gives numbers up to 100.
-fn container(alloc: Global) -> ContainerCore {
-    ContainerCore::new(alloc, Limits { numbers: 100 })
+/// A server that sends what is another's, and what it didn't do.
+const FORGED: &str = "new a.ole 12 4 => frame 1
+insert 1 note 1 1 5 2 => object 1
+insert 1 note 6 1 5 2 => object 2
+start => server 1 start 1
+start => server 2 start 2
+run 1 1 => call 1 InitNew
+run 2 2 => other 1 InitNew
+astray reply 1 done => WrongLink
+forged reply 1 done => Stale
+pending => call 1 InitNew other 1 InitNew
+reply 1 done =>
+second reply 1 done =>
+astray write 1 small => WrongLink
+forged write 1 small => Stale
+states => Idle Free active-empty
+write 1 small => taken
+write 1 small => Stale
+verb 1 -4 => call 2 InPlace
+reply 2 done => call 3 UiActivate
+forged reply 3 tools => Stale
+second reply 3 tools => Stale
+reply 3 tools =>
+states => Idle Held active
+astray ask 1 => WrongLink
+forged ask 1 => Stale
+second ask 1 => Stale
+ask 2 => Stale
+states => Idle Held active
+verb 2 -4 => call 4 UiDeactivate other 2 InPlace
+second reply 2 done =>
+second ask 2 => Stale
+forged reply 4 done => Stale
+states => Idle Revoking active
+reply 4 done => other 3 UiActivate
+states => Idle Granting active
+reply 4 done => Stale
+states => Idle Granting active";
+
+/// An object that has its frame may be told four things by a save under another name: to answer its content, to give its storage
+/// away, meanwhile to give the frame up, and that the save is counted.
+const SPENT: &str = "anew 12 =>
+new a.ole 12 4 => frame 1
+insert 1 note 1 1 5 2 => object 1
+start => server 1 start 1
+run 1 1 => call 1 InitNew
+reply 1 done =>
+verb 1 -4 => call 2 InPlace
+reply 2 done => call 3 UiActivate
+reply 3 tools =>
+edit 1 x => call 4 Edit
+reply 4 done =>
+saveas 1 b.ole => call 5 Save
+reply 5 small => call 6 HandsOff
+ask 1 =>
+reply 6 done => call 7 UiDeactivate commit 1
+done 1 =>
+reply 7 done => call 8 SaveCompleted
+reply 8 done =>
+saveas 1 c.ole => NumbersSpent
+anew 12 =>
+new a.ole 12 4 => frame 1
+insert 1 note 1 1 5 2 => object 1
+start => server 1 start 1
+run 1 1 => call 1 InitNew
+reply 1 done =>
+verb 1 -4 => call 2 InPlace
+reply 2 done => call 3 UiActivate
+reply 3 tools =>
+edit 1 x => call 4 Edit
+reply 4 done =>
+edit 1 x => call 5 Edit
+reply 5 done =>
+saveas 1 b.ole => NumbersSpent
+save 1 => NumbersSpent
+states => Idle Held active-empty";
+
+/// A container that gives numbers up to this one, and at most 100.
+fn container(alloc: Global, numbers: u32) -> ContainerCore {
+    let numbers = if numbers < 100 { numbers } else { 100 };
+    ContainerCore::new(alloc, Limits { numbers })
 }
 
 /// Whether a container shows this.
@@ -189,9 +269,24 @@ fn shows(
     }
 }
 
-fn renew(alloc: Global, core: &mut ContainerCore) -> bool {
-    *core = container(alloc);
+fn renew(alloc: Global, core: &mut ContainerCore, numbers: u32) -> bool {
+    *core = container(alloc, numbers);
     true
+}
+
+/// Whether a container answers this to a message on the link of server 2.
+fn hears_second(
+    rt: &impl Abort,
+    alloc: Global,
+    core: &mut ContainerCore,
+    from: (u32, u32),
+    row: &str,
+    words: &mut SplitWhitespace<'_>,
+) -> bool {
+    is_answered(
+        messaged(rt, alloc, core, 2, from, halves(row, " ").1),
+        words,
+    )
 }
 
 /// Whether a container answers this to a row that spells no event, or shows it.
@@ -203,9 +298,13 @@ fn hears(
     words: &mut SplitWhitespace<'_>,
 ) -> bool {
     match row.as_bytes() {
-        [b'a', b'n', ..] => renew(alloc, core),
-        [b'a', ..] => is_answered(messaged(rt, alloc, core, 2, halves(row, " ").1), words),
-        [b'r', ..] | [b'w', ..] => is_answered(messaged(rt, alloc, core, 1, row), words),
+        [b'a', b'n', ..] => renew(alloc, core, number(halves(row, " ").1)),
+        [b'a', b's', b't', ..] => hears_second(rt, alloc, core, (1, 1), row, words),
+        [b'f', b'o', ..] => hears_second(rt, alloc, core, (2, 1), row, words),
+        [b's', b'e', ..] => hears_second(rt, alloc, core, (2, 2), row, words),
+        [b'a', ..] | [b'r', ..] | [b'w', ..] => {
+            is_answered(messaged(rt, alloc, core, 1, (1, 1), row), words)
+        }
         _ => shows(rt, alloc, core, row, words),
     }
 }
@@ -232,8 +331,10 @@ fn answers(rt: &impl Abort, alloc: Global, core: &mut ContainerCore, row: &str) 
 
 #[test]
 fn containers_answer_what_they_are_told(rt: HostRuntime) {
-    let mut core = container(rt.alloc());
-    for row in ROWS.split('\n') {
-        assert!(rt; answers(&rt, rt.alloc(), &mut core, row), "{row}");
+    for rows in [ROWS, FORGED, SPENT] {
+        let mut core = container(rt.alloc(), 100);
+        for row in rows.split('\n') {
+            assert!(rt; answers(&rt, rt.alloc(), &mut core, row), "{row}");
+        }
     }
 }

@@ -5,11 +5,10 @@ use container_core::container::ContainerCore;
 use container_model::answer::Answer;
 use container_model::command::Command;
 use container_model::fault::ContainerFault;
-use event_texts::events::Events;
+use event_texts::lines::parse_line;
 use std::alloc::Global;
 use std::process::Abort;
 use std::str::SplitWhitespace;
-use texts::lines::Grammar;
 use world_model::event::Event;
 
 fn carry_out(
@@ -43,7 +42,7 @@ fn resolve(
 
 /// The event that a row spells.
 pub(crate) fn event(rt: &impl Abort, alloc: Global, row: &str) -> Option<Event> {
-    Events::parse(alloc, 1, row.as_bytes()).expect(rt, "memory")
+    parse_line(alloc, row.as_bytes()).expect(rt, "memory")
 }
 
 /// Whether a container answers this to a command, the end of a server or a commit that is done, that fails or is resolved.

@@ -6,6 +6,7 @@ use container_core::container::ContainerCore;
 use container_model::answer::Answer;
 use container_model::fault::ContainerFault;
 use object_parts::limits::MOST_BYTES;
+use object_state::Menus;
 use std::alloc::Global;
 use std::process::Abort;
 use storage_tree::bytes::Bytes;
@@ -51,18 +52,32 @@ fn content(rt: &impl Abort, alloc: Global, word: &str) -> Stored {
     }
 }
 
+/// Three texts, and no border space.
+fn tools(rt: &impl Abort) -> Said {
+    let menus = Menus::new(b"Edit", b"Note", b"Help").expect(rt, "three texts");
+    Said::Tools {
+        menus,
+        border: [0; 4],
+    }
+}
+
 fn said(rt: &impl Abort, alloc: Global, word: &str) -> Said {
     match word.as_bytes() {
         [b'd', ..] => Said::Done,
+        [b't', ..] => tools(rt),
         _ => Said::Content(content(rt, alloc, word)),
     }
 }
 
-/// `reply N WORD` to call N: `done`, or a content that is `small` or `large`; `write S WORD` of a content under grant S, with S
-/// as its number. They are of activation 1 of server 1.
-fn message(rt: &impl Abort, alloc: Global, verb: &str, n: u32, word: &str) -> Message {
-    let (inc, act) = (1, 1);
+/// `reply N WORD` to call N: `done`, `tools`, or a content that is `small` or `large`; `write S WORD` of a content under grant S,
+/// with S as its number; `ask G` to be relieved of the frame that is held under grant G.
+fn message(rt: &impl Abort, alloc: Global, from: (u32, u32), row: &str) -> Message {
+    let (verb, rest) = halves(row, " ");
+    let (n, word) = halves(rest, " ");
+    let n = number(n);
+    let (inc, act) = from;
     match verb.as_bytes() {
+        [b'a', ..] => Message::Ask { inc, act, g: n },
         [b'r', ..] => Message::Reply {
             inc,
             act,
@@ -88,16 +103,15 @@ fn told(
     core.on_message(alloc, link, message)
 }
 
-/// What a container answers to a message on the link of a server.
+/// What a container answers to a message on the link of a server, which says that it is of this server and this activation.
 pub(crate) fn messaged(
     rt: &impl Abort,
     alloc: Global,
     core: &mut ContainerCore,
     link: u32,
+    from: (u32, u32),
     row: &str,
 ) -> Result<Answer, ContainerFault> {
-    let (verb, rest) = halves(row, " ");
-    let (n, word) = halves(rest, " ");
-    let message = message(rt, alloc, verb, number(n), word);
+    let message = message(rt, alloc, from, row);
     told(alloc, core, link, message)
 }

@@ -1,10 +1,19 @@
-use Rattle.std.proofs.Common.{[]}
+use Rattle.std.proofs.Common.{[], subst}
 use Rattle.container_steady.specs.Steady.{Steady}
 use Rattle.container_model.specs.Inputs.{Input}
 use Rattle.container_model.specs.Messages.{on_message}
+use Rattle.container_model.specs.Record.{Record}
 use Rattle.container_model.specs.Room.{IsSound}
 use Rattle.container_steps.proofs.StepsKeep.{step_keeps}
+use Rattle.container_laws.specs.Apart.{StaysApart}
+use Rattle.container_laws.proofs.ApartLaws.{stays_as_it_was}
 use Rattle.container_core.proofs.container.ContainerCore.on_message.Goals as goal
+
+pub returns-clause-others : goal.returns-clause-others
+returns-clause-others c =
+    subst (λ (z : Record). StaysApart c.args.link z c.on_message.new.self) c.self.view_is
+    (step_keeps (StaysApart c.args.link c.self.inside.state) c.self.inside.state c.on_message.new.self (on_message c.self.inside.state c.args.link c.args.message) [] (stays_as_it_was c.args.link c.self.inside.state)
+    (λ t e. c.messages_stay_apart.ensures c.self.inside.state c.args.link c.args.message t c.self.invariant.0 e) c.on_message.result c.on_message.ensures.taken c.on_message.ensures.kept)
 
 pub returns-clause-steady : goal.returns-clause-steady
 returns-clause-steady c =
