@@ -1,3 +1,5 @@
 pub mod Gathering
+pub mod Known
 pub mod NextCalls
 pub mod OwnCalls
+pub mod Standing

@@ -1,5 +1,5 @@
 -- The next call of an activation, by what the tables say to it.
-use Rattle.std.proofs.Common.{◌≡◌, Option, Some, None, Result, Ok, Err, refl, ap, sym, subst}
+use Rattle.std.proofs.Common.{◌≡◌, Option, Some, None, Result, Ok, refl, ap, sym, subst}
 use Rattle.std.specs.Prelude.{IfOk, IfErr}
 use Rattle.object_state.specs.Both as both
 use Rattle.object_state.specs.declared.both_states.States.{States}

@@ -1,7 +1,7 @@
 -- Calls for a server's own incarnation.
-use Rattle.std.proofs.Common.{◌≡◌, ℕ, List, refl, ap, sym, subst, ◌∙◌, eq-eqb, Option, Result}
+use Rattle.std.proofs.Common.{◌≡◌, ℕ, List, refl, ap, sym, subst, ◌∙◌, eq-eqb, Option, Some, None, Result}
 use Rattle.std.specs.Prelude.{IfOk, IfErr}
-use Rattle.std.proofs.lemmas.Result.{IfOk-weaker, IfErr-weaker}
+use Rattle.std.proofs.lemmas.Result.{IfOk-weaker}
 use Rattle.wire_msgs.specs.Found.{find}
 use Rattle.wire_msgs.specs.declared.operation.Operation.{Operation}
 use Rattle.wire_msgs.specs.declared.message.Message.{Message}
@@ -18,6 +18,11 @@ call_here v inc act n op box e = rw (eq-eqb inc v.inc e) refl
 
 wanted_here : (v : Server) (inc act n : ℕ) (op : Operation) → inc ≡ v.inc → wanted v (Call inc act n op) ≡ wanted_unknown v (begun_class n op) (find (is_act act) v.acts)
 wanted_here v inc act n op e = rw (eq-eqb inc v.inc e) refl
+
+-- one of an activation that is known wants no object
+pub unwanted_known : (v : Server) (m : Message) (inc act n : ℕ) (op : Operation) (a : Activation) → m ≡ Call inc act n op → inc ≡ v.inc → find (is_act act) v.acts ≡ Some a → None ≡ wanted v m
+unwanted_known v m inc act n op a is e known =
+    sym (ap (wanted v) is ∙ (wanted_here v inc act n op e ∙ ap (wanted_unknown v (begun_class n op)) known))
 
 -- a call for this incarnation was taken
 takes_here : (v : Server) (inc act n : ℕ) (op : Operation) (box : Option Kind) (a : Option Activation) (after : Server) (reply : Message) (counted : Option Counted)

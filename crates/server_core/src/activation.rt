@@ -1,13 +1,15 @@
 //! What an activation does with a call.
 
-ghost use Rattle.std.specs.Prelude.{◌≡◌, ◌+◌, Some, None, IfErr, IfOk, OnErr};
+ghost use Rattle.std.specs.Prelude.{◌≡◌, ◌+◌, Some, None, IfErr, IfOk, OnErr, option_map};
 ghost use Rattle.wire_msgs.specs.declared.operation.Operation.TheVariants as op;
 ghost use Rattle.server_model.specs.Opened.{Acts, Writes, does_now, stored_open, write_open};
 ghost use Rattle.server_model.specs.Server.{Refuses, known_call, next_call, refuses};
-ghost use Rattle.server_core.specs.View.{seen_activation};
+ghost use Rattle.server_core.specs.Kept.{whole};
+ghost use Rattle.server_core.specs.View.{KeepsOthers, seen_activation};
 
-use crate::facts::Answered;
-use crate::server::Activation;
+use crate::facts::{Answered, Facts};
+use crate::seats::Seats;
+use crate::server::{Activation, Seat};
 use embed_core::fault::EmbedFault;
 use object_state::{CloseOption, States};
 use server_model::fault::ServerFault;
@@ -19,45 +21,45 @@ use wire_msgs::message::Message;
 use wire_msgs::operation::Operation;
 use wire_msgs::refusal::Refusal;
 
-impl Activation {
-    // What is stored of the object.
-    fn stored(&self, alloc: Global) -> Result<Stored, ServerFault>
-        ensures stored { IfOk result (λ s. stored_open (seen_activation (λ s. content s.boxed) self.now).content ≡ Ok s) }
-        ensures refused { IfErr result (Refuses (stored_open (seen_activation (λ s. content s.boxed) self.now).content)) }
-    {
-        match &self.seat {
-            Some(seat) => match seat.stored(alloc) {
-                Ok(stored) => Ok(stored),
-                Err(_) => Err(ServerFault::NoMemory),
-            },
-            None => Err(ServerFault::Ignored),
-        }
+// What is stored of an object, where there is one.
+fn stored(alloc: Global, seat: &Option<Seat>) -> Result<Stored, ServerFault>
+    ensures stored { IfOk result (λ s. stored_open (option_map (λ s. content s.boxed) seat.now) ≡ Ok s) }
+    ensures refused { IfErr result (Refuses (stored_open (option_map (λ s. content s.boxed) seat.now))) }
+{
+    match seat {
+        Some(seat) => match seat.stored(alloc) {
+            Ok(stored) => Ok(stored),
+            Err(_) => Err(ServerFault::NoMemory),
+        },
+        None => Err(ServerFault::Ignored),
     }
+}
 
+impl Facts {
     fn edit(
         &mut self,
         alloc: Global,
+        act: u32,
+        seat: &mut Option<Seat>,
         n: u32,
         states: States,
         edit: Bytes,
     ) -> Result<Answered, ServerFault>
-        requires { n ≡ self.old.facts.last + 1 }
-        ensures acted { IfOk result (λ t. Acts (does_now (seen_activation (λ s. content s.boxed) self.old) states (op.Edit edit)) (seen_activation (λ s. content s.boxed) self.new) t.answer t.counted) }
-        ensures refused { IfErr result (Refuses (does_now (seen_activation (λ s. content s.boxed) self.old) states (op.Edit edit))) }
-        ensures kept { OnErr result (seen_activation (λ s. content s.boxed) self.new ≡ seen_activation (λ s. content s.boxed) self.old) }
+        requires { n ≡ self.old.last + 1 }
+        ensures acted { IfOk result (λ t. Acts (does_now (whole act self.old (option_map (λ s. content s.boxed) seat.old)) states (op.Edit edit)) (whole act self.new (option_map (λ s. content s.boxed) seat.new)) t.answer t.counted) }
+        ensures refused { IfErr result (Refuses (does_now (whole act self.old (option_map (λ s. content s.boxed) seat.old)) states (op.Edit edit))) }
+        ensures kept { OnErr result (whole act self.new (option_map (λ s. content s.boxed) seat.new) ≡ whole act self.old (option_map (λ s. content s.boxed) seat.old)) }
     {
-        let Some(mut seat) = self.seat.take() else {
+        let Some(mut taken) = seat.take() else {
             return Err(ServerFault::Ignored);
         };
-        let edited = seat.boxed.edit(alloc, edit.as_slice());
-        self.seat = Some(seat);
+        let edited = taken.boxed.edit(alloc, edit.as_slice());
+        *seat = Some(taken);
         match edited {
-            Ok(()) => Ok(self.facts.done(n, states)),
-            Err(EmbedFault::BadEdit) => Ok(self.facts.refused_in(n, states, Refusal::BadEdit)),
-            Err(EmbedFault::BadContent) => Ok(
-                self.facts.refused_in(n, states, Refusal::BadContent),
-            ),
-            Err(EmbedFault::TooBig) => Ok(self.facts.refused_in(n, states, Refusal::TooBig)),
+            Ok(()) => Ok(self.done(n, states)),
+            Err(EmbedFault::BadEdit) => Ok(self.refused_in(n, states, Refusal::BadEdit)),
+            Err(EmbedFault::BadContent) => Ok(self.refused_in(n, states, Refusal::BadContent)),
+            Err(EmbedFault::TooBig) => Ok(self.refused_in(n, states, Refusal::TooBig)),
             Err(EmbedFault::NoMemory) => Err(ServerFault::NoMemory),
         }
     }
@@ -65,86 +67,98 @@ impl Activation {
     fn save(
         &mut self,
         alloc: Global,
+        act: u32,
+        seat: &mut Option<Seat>,
         n: u32,
         states: States,
         k: u32,
     ) -> Result<Answered, ServerFault>
-        requires { n ≡ self.old.facts.last + 1 }
-        ensures acted { IfOk result (λ t. Acts (does_now (seen_activation (λ s. content s.boxed) self.old) states (op.Save k)) (seen_activation (λ s. content s.boxed) self.new) t.answer t.counted) }
-        ensures refused { IfErr result (Refuses (does_now (seen_activation (λ s. content s.boxed) self.old) states (op.Save k))) }
-        ensures kept { OnErr result (seen_activation (λ s. content s.boxed) self.new ≡ seen_activation (λ s. content s.boxed) self.old) }
+        requires { n ≡ self.old.last + 1 }
+        ensures acted { IfOk result (λ t. Acts (does_now (whole act self.old (option_map (λ s. content s.boxed) seat.old)) states (op.Save k)) (whole act self.new (option_map (λ s. content s.boxed) seat.new)) t.answer t.counted) }
+        ensures refused { IfErr result (Refuses (does_now (whole act self.old (option_map (λ s. content s.boxed) seat.old)) states (op.Save k))) }
+        ensures kept { OnErr result (whole act self.new (option_map (λ s. content s.boxed) seat.new) ≡ whole act self.old (option_map (λ s. content s.boxed) seat.old)) }
     {
-        let saved = self.stored(alloc)?;
+        let saved = stored(alloc, seat)?;
         let kept = saved.copy(alloc)?;
         let told = saved.copy(alloc)?;
-        self.facts
-            .settle_save(n, states, saved, Answer::Content(kept));
+        self.settle_save(n, states, saved, Answer::Content(kept));
         Ok(Answered::alone(Answer::Content(told)))
     }
 
     fn completed(
         &mut self,
         alloc: Global,
+        act: u32,
+        seat: &mut Option<Seat>,
         n: u32,
         states: States,
         k: u32,
         storage: bool,
     ) -> Result<Answered, ServerFault>
-        requires { n ≡ self.old.facts.last + 1 }
-        ensures acted { IfOk result (λ t. Acts (does_now (seen_activation (λ s. content s.boxed) self.old) states (op.SaveCompleted k storage)) (seen_activation (λ s. content s.boxed) self.new) t.answer t.counted) }
-        ensures refused { IfErr result (Refuses (does_now (seen_activation (λ s. content s.boxed) self.old) states (op.SaveCompleted k storage))) }
-        ensures kept { OnErr result (seen_activation (λ s. content s.boxed) self.new ≡ seen_activation (λ s. content s.boxed) self.old) }
+        requires { n ≡ self.old.last + 1 }
+        ensures acted { IfOk result (λ t. Acts (does_now (whole act self.old (option_map (λ s. content s.boxed) seat.old)) states (op.SaveCompleted k storage)) (whole act self.new (option_map (λ s. content s.boxed) seat.new)) t.answer t.counted) }
+        ensures refused { IfErr result (Refuses (does_now (whole act self.old (option_map (λ s. content s.boxed) seat.old)) states (op.SaveCompleted k storage))) }
+        ensures kept { OnErr result (whole act self.new (option_map (λ s. content s.boxed) seat.new) ≡ whole act self.old (option_map (λ s. content s.boxed) seat.old)) }
     {
-        if self.seat.is_none() {
+        if seat.is_none() {
             return Err(ServerFault::Ignored);
         }
-        let counted = self.facts.counted(alloc, k)?;
-        self.facts.settle_end(n, states);
+        let counted = self.counted(alloc, act, k)?;
+        self.settle_end(n, states);
         Ok(Answered {
             answer: Answer::Done,
             counted,
         })
     }
 
-    fn ui_activate(&mut self, n: u32, states: States, grant: u32) -> Result<Answered, ServerFault>
-        requires { n ≡ self.old.facts.last + 1 }
-        ensures acted { IfOk result (λ t. Acts (does_now (seen_activation (λ s. content s.boxed) self.old) states (op.UiActivate grant)) (seen_activation (λ s. content s.boxed) self.new) t.answer t.counted) }
-        ensures refused { IfErr result (Refuses (does_now (seen_activation (λ s. content s.boxed) self.old) states (op.UiActivate grant))) }
-        ensures kept { OnErr result (seen_activation (λ s. content s.boxed) self.new ≡ seen_activation (λ s. content s.boxed) self.old) }
+    fn ui_activate(
+        &mut self,
+        act: u32,
+        seat: &mut Option<Seat>,
+        n: u32,
+        states: States,
+        grant: u32,
+    ) -> Result<Answered, ServerFault>
+        requires { n ≡ self.old.last + 1 }
+        ensures acted { IfOk result (λ t. Acts (does_now (whole act self.old (option_map (λ s. content s.boxed) seat.old)) states (op.UiActivate grant)) (whole act self.new (option_map (λ s. content s.boxed) seat.new)) t.answer t.counted) }
+        ensures refused { IfErr result (Refuses (does_now (whole act self.old (option_map (λ s. content s.boxed) seat.old)) states (op.UiActivate grant))) }
+        ensures kept { OnErr result (whole act self.new (option_map (λ s. content s.boxed) seat.new) ≡ whole act self.old (option_map (λ s. content s.boxed) seat.old)) }
     {
-        let (menus, border) = match &self.seat {
+        let (menus, border) = match &*seat {
             Some(seat) => (seat.boxed.menus(), seat.boxed.border()),
             None => return Err(ServerFault::Ignored),
         };
-        Ok(self.facts.ui_active(n, states, grant, &menus, border))
+        Ok(self.ui_active(n, states, grant, &menus, border))
     }
 
     fn close(
         &mut self,
         alloc: Global,
+        act: u32,
+        seat: &mut Option<Seat>,
         n: u32,
         states: States,
         option: CloseOption,
     ) -> Result<Answered, ServerFault>
-        requires { n ≡ self.old.facts.last + 1 }
-        ensures acted { IfOk result (λ t. Acts (does_now (seen_activation (λ s. content s.boxed) self.old) states (op.Close option)) (seen_activation (λ s. content s.boxed) self.new) t.answer t.counted) }
-        ensures refused { IfErr result (Refuses (does_now (seen_activation (λ s. content s.boxed) self.old) states (op.Close option))) }
-        ensures kept { OnErr result (seen_activation (λ s. content s.boxed) self.new ≡ seen_activation (λ s. content s.boxed) self.old) }
+        requires { n ≡ self.old.last + 1 }
+        ensures acted { IfOk result (λ t. Acts (does_now (whole act self.old (option_map (λ s. content s.boxed) seat.old)) states (op.Close option)) (whole act self.new (option_map (λ s. content s.boxed) seat.new)) t.answer t.counted) }
+        ensures refused { IfErr result (Refuses (does_now (whole act self.old (option_map (λ s. content s.boxed) seat.old)) states (op.Close option))) }
+        ensures kept { OnErr result (whole act self.new (option_map (λ s. content s.boxed) seat.new) ≡ whole act self.old (option_map (λ s. content s.boxed) seat.old)) }
     {
         match option {
             CloseOption::SaveIfDirty => {
-                let kept = self.stored(alloc)?;
+                let kept = stored(alloc, seat)?;
                 let told = kept.copy(alloc)?;
-                self.seat = None;
-                self.facts.settle(n, states, Answer::Content(kept));
+                *seat = None;
+                self.settle(n, states, Answer::Content(kept));
                 Ok(Answered::alone(Answer::Content(told)))
             }
             CloseOption::NoSave => {
-                if self.seat.is_none() {
+                if seat.is_none() {
                     return Err(ServerFault::Ignored);
                 }
-                self.seat = None;
-                Ok(self.facts.done(n, states))
+                *seat = None;
+                Ok(self.done(n, states))
             }
         }
     }
@@ -153,64 +167,106 @@ impl Activation {
     fn act(
         &mut self,
         alloc: Global,
+        act: u32,
+        seat: &mut Option<Seat>,
         n: u32,
         states: States,
         operation: Operation,
     ) -> Result<Answered, ServerFault>
-        requires { n ≡ self.old.facts.last + 1 }
-        ensures acted { IfOk result (λ t. Acts (does_now (seen_activation (λ s. content s.boxed) self.old) states operation) (seen_activation (λ s. content s.boxed) self.new) t.answer t.counted) }
-        ensures refused { IfErr result (Refuses (does_now (seen_activation (λ s. content s.boxed) self.old) states operation)) }
-        ensures kept { OnErr result (seen_activation (λ s. content s.boxed) self.new ≡ seen_activation (λ s. content s.boxed) self.old) }
+        requires { n ≡ self.old.last + 1 }
+        ensures acted { IfOk result (λ t. Acts (does_now (whole act self.old (option_map (λ s. content s.boxed) seat.old)) states operation) (whole act self.new (option_map (λ s. content s.boxed) seat.new)) t.answer t.counted) }
+        ensures refused { IfErr result (Refuses (does_now (whole act self.old (option_map (λ s. content s.boxed) seat.old)) states operation)) }
+        ensures kept { OnErr result (whole act self.new (option_map (λ s. content s.boxed) seat.new) ≡ whole act self.old (option_map (λ s. content s.boxed) seat.old)) }
     {
-        if self.seat.is_none() {
+        if seat.is_none() {
             return Err(ServerFault::Ignored);
         }
         match operation {
-            Operation::UiActivate(grant) => self.ui_activate(n, states, grant),
-            Operation::UiDeactivate => Ok(self.facts.ui_inactive(n, states)),
-            Operation::Edit(edit) => self.edit(alloc, n, states, edit),
-            Operation::Save(k) => self.save(alloc, n, states, k),
+            Operation::UiActivate(grant) => self.ui_activate(act, seat, n, states, grant),
+            Operation::UiDeactivate => Ok(self.ui_inactive(n, states)),
+            Operation::Edit(edit) => self.edit(alloc, act, seat, n, states, edit),
+            Operation::Save(k) => self.save(alloc, act, seat, n, states, k),
             Operation::SaveCompleted { save, storage } => self.completed(
-                alloc, n, states, save, storage,
+                alloc, act, seat, n, states, save, storage,
             ),
-            Operation::SaveDropped(_) => Ok(self.facts.dropped(n, states)),
-            Operation::Close(option) => self.close(alloc, n, states, option),
+            Operation::SaveDropped(_) => Ok(self.dropped(n, states)),
+            Operation::Close(option) => self.close(alloc, act, seat, n, states, option),
             Operation::InitNew(_)
             | Operation::Load(_, _)
             | Operation::InPlace
             | Operation::InPlaceDeactivate
             | Operation::OpenWindow
-            | Operation::HandsOff => Ok(self.facts.done(n, states)),
+            | Operation::HandsOff => Ok(self.done(n, states)),
         }
     }
 
     // An operation that the tables don't take. It closes the activation where it is InitNew or Load.
-    fn refuse(&mut self, n: u32, operation: &Operation, refusal: Refusal) -> Answered
-        requires { n ≡ self.old.facts.last + 1 }
-        ensures { refuses (seen_activation (λ s. content s.boxed) self.old) operation.now refusal ≡ record { activation = seen_activation (λ s. content s.boxed) self.new; answer = result.answer; counted = result.counted } }
+    fn refuse(
+        &mut self,
+        act: u32,
+        seat: &mut Option<Seat>,
+        n: u32,
+        operation: &Operation,
+        refusal: Refusal,
+    ) -> Answered
+        requires { n ≡ self.old.last + 1 }
+        ensures { refuses (whole act self.old (option_map (λ s. content s.boxed) seat.old)) operation.now refusal ≡ record { activation = whole act self.new (option_map (λ s. content s.boxed) seat.new); answer = result.answer; counted = result.counted } }
     {
         if let Operation::InitNew(_) | Operation::Load(_, _) = operation {
-            self.seat = None;
+            *seat = None;
         }
-        self.facts.refused(n, refusal)
+        self.refused(n, refusal)
     }
 
     // The next call.
-    fn next(&mut self, alloc: Global, n: u32, operation: Operation) -> Result<Answered, ServerFault>
-        requires { n ≡ self.old.facts.last + 1 }
-        ensures acted { IfOk result (λ t. Acts (next_call (seen_activation (λ s. content s.boxed) self.old) operation (seen_activation (λ s. content s.boxed) self.old).content) (seen_activation (λ s. content s.boxed) self.new) t.answer t.counted) }
-        ensures refused { IfErr result (Refuses (next_call (seen_activation (λ s. content s.boxed) self.old) operation (seen_activation (λ s. content s.boxed) self.old).content)) }
-        ensures kept { OnErr result (seen_activation (λ s. content s.boxed) self.new ≡ seen_activation (λ s. content s.boxed) self.old) }
+    fn next(
+        &mut self,
+        alloc: Global,
+        act: u32,
+        seat: &mut Option<Seat>,
+        n: u32,
+        operation: Operation,
+    ) -> Result<Answered, ServerFault>
+        requires { n ≡ self.old.last + 1 }
+        ensures acted { IfOk result (λ t. Acts (next_call (whole act self.old (option_map (λ s. content s.boxed) seat.old)) operation (whole act self.old (option_map (λ s. content s.boxed) seat.old)).content) (whole act self.new (option_map (λ s. content s.boxed) seat.new)) t.answer t.counted) }
+        ensures refused { IfErr result (Refuses (next_call (whole act self.old (option_map (λ s. content s.boxed) seat.old)) operation (whole act self.old (option_map (λ s. content s.boxed) seat.old)).content)) }
+        ensures kept { OnErr result (whole act self.new (option_map (λ s. content s.boxed) seat.new) ≡ whole act self.old (option_map (λ s. content s.boxed) seat.old)) }
     {
-        if self.seat.is_none() {
+        if seat.is_none() {
             return Err(ServerFault::Ignored);
         }
-        match self.facts.step(operation.op()) {
-            Ok(states) => self.act(alloc, n, states, operation),
-            Err(fault) => Ok(self.refuse(n, &operation, Refusal::of_state(fault))),
+        match self.step(operation.op()) {
+            Ok(states) => self.act(alloc, act, seat, n, states, operation),
+            Err(fault) => Ok(self.refuse(act, seat, n, &operation, Refusal::of_state(fault))),
         }
     }
 
+    // Call n: the next acts, the last is answered again.
+    fn on_call(
+        &mut self,
+        alloc: Global,
+        act: u32,
+        seat: &mut Option<Seat>,
+        n: u32,
+        operation: Operation,
+    ) -> Result<Answered, ServerFault>
+        ensures acted { IfOk result (λ t. Acts (known_call (whole act self.old (option_map (λ s. content s.boxed) seat.old)) n operation) (whole act self.new (option_map (λ s. content s.boxed) seat.new)) t.answer t.counted) }
+        ensures refused { IfErr result (Refuses (known_call (whole act self.old (option_map (λ s. content s.boxed) seat.old)) n operation)) }
+        ensures kept { OnErr result (whole act self.new (option_map (λ s. content s.boxed) seat.new) ≡ whole act self.old (option_map (λ s. content s.boxed) seat.old)) }
+        ensures closed { seat.old ≡ None → seat.new ≡ None }
+    {
+        if n == self.last() {
+            let reply = self.reply(alloc)?;
+            return Ok(Answered::alone(reply));
+        }
+        if !self.is_next(n) {
+            return Err(ServerFault::Ignored);
+        }
+        self.next(alloc, act, seat, n, operation)
+    }
+}
+
+impl Activation {
     /// Call n: the next acts, the last is answered again.
     ///
     /// Refused: `Ignored` any other call, and the next one where the activation is closed; then `NoMemory`. Then
@@ -218,21 +274,20 @@ impl Activation {
     pub(crate) fn on_call(
         &mut self,
         alloc: Global,
+        act: u32,
+        seats: &mut Seats,
         n: u32,
         operation: Operation,
     ) -> Result<Answered, ServerFault>
-        ensures acted { IfOk result (λ t. Acts (known_call (seen_activation (λ s. content s.boxed) self.old) n operation) (seen_activation (λ s. content s.boxed) self.new) t.answer t.counted) }
-        ensures refused { IfErr result (Refuses (known_call (seen_activation (λ s. content s.boxed) self.old) n operation)) }
-        ensures kept { OnErr result (seen_activation (λ s. content s.boxed) self.new ≡ seen_activation (λ s. content s.boxed) self.old) }
+        ensures acted { IfOk result (λ t. Acts (known_call (seen_activation (λ s. content s.boxed) seats.old.slab.slots (act, self.old)) n operation) (seen_activation (λ s. content s.boxed) seats.new.slab.slots (act, self.new)) t.answer t.counted) }
+        ensures refused { IfErr result (Refuses (known_call (seen_activation (λ s. content s.boxed) seats.old.slab.slots (act, self.old)) n operation)) }
+        ensures kept { OnErr result (seen_activation (λ s. content s.boxed) seats.new.slab.slots (act, self.new) ≡ seen_activation (λ s. content s.boxed) seats.old.slab.slots (act, self.old)) }
+        ensures others { KeepsOthers act seats.old.slab.slots seats.new.slab.slots }
     {
-        if n == self.facts.last() {
-            let reply = self.facts.reply(alloc)?;
-            return Ok(Answered::alone(reply));
-        }
-        if !self.facts.is_next(n) {
-            return Err(ServerFault::Ignored);
-        }
-        self.next(alloc, n, operation)
+        let mut seat = seats.take(act, self.key);
+        let told = self.facts.on_call(alloc, act, &mut seat, n, operation);
+        self.key = seats.put(act, seat);
+        told
     }
 
     /// A write of its own accord, of the content that it has now.
@@ -242,20 +297,27 @@ impl Activation {
     pub(crate) fn write(
         &mut self,
         alloc: Global,
+        act: u32,
+        seats: &Seats,
         inc: u32,
         numbers: u32,
     ) -> Result<Message, ServerFault>
-        ensures written { IfOk result (λ m. Writes (write_open inc numbers (seen_activation (λ s. content s.boxed) self.old) (seen_activation (λ s. content s.boxed) self.old).content) (seen_activation (λ s. content s.boxed) self.new) m) }
-        ensures refused { IfErr result (Refuses (write_open inc numbers (seen_activation (λ s. content s.boxed) self.old) (seen_activation (λ s. content s.boxed) self.old).content)) }
-        ensures kept { OnErr result (seen_activation (λ s. content s.boxed) self.new ≡ seen_activation (λ s. content s.boxed) self.old) }
+        ensures written { IfOk result (λ m. Writes (write_open inc numbers (seen_activation (λ s. content s.boxed) seats.now.slab.slots (act, self.old)) (seen_activation (λ s. content s.boxed) seats.now.slab.slots (act, self.old)).content) (seen_activation (λ s. content s.boxed) seats.now.slab.slots (act, self.new)) m) }
+        ensures refused { IfErr result (Refuses (write_open inc numbers (seen_activation (λ s. content s.boxed) seats.now.slab.slots (act, self.old)) (seen_activation (λ s. content s.boxed) seats.now.slab.slots (act, self.old)).content)) }
+        ensures kept { OnErr result (self.new ≡ self.old) }
     {
-        if self.seat.is_none() || !self.facts.may_write() {
+        let Some(seat) = seats.get(act, self.key) else {
+            return Err(ServerFault::Ignored);
+        };
+        if !self.facts.may_write() {
             return Err(ServerFault::Ignored);
         }
         if self.facts.writes() >= numbers {
             return Err(ServerFault::NumbersSpent);
         }
-        let content = self.stored(alloc)?;
-        Ok(self.facts.write(inc, content))
+        match seat.stored(alloc) {
+            Ok(content) => Ok(self.facts.write(inc, act, content)),
+            Err(_) => Err(ServerFault::NoMemory),
+        }
     }
 }

@@ -1,10 +1,14 @@
 //! What a server does with calls.
 
-ghost use Rattle.std.specs.Prelude.{◌≡◌, ◌≢◌, ◌++◌, ◌∷◌, [], Some, None, Option, true, IfErr, IfOk, OnErr, Ok, option_map, is_some, vec_capacity, vec_len, ◌<◌};
-ghost use Rattle.wire_msgs.specs.Found.{IsPlace, find};
+ghost use Rattle.std.specs.Prelude.{◌≡◌, ◌≢◌, ◌++◌, ◌∷◌, [], Some, None, Option, true, IfErr, IfOk, OnErr, Ok, OnOk, option_map, is_some, ◌<◌};
+ghost use Rattle.indexmap.specs.IndexMap.{spare};
+ghost use Rattle.slab.specs.Slab.{HasRoomFor};
+ghost use Rattle.wire_msgs.specs.Found.{find};
 ghost use Rattle.embed_core.specs.Kinds.{Kind, kind_of};
 ghost use Rattle.server_model.specs.Server.{Refuses, Takes, after_begun, begins, begun_class, begun_content, begun_states, called, answers, fresh, offered, is_act, on_call, unknown_call, unless_wanted, wanted, wanted_unknown};
 ghost use Rattle.server_model.specs.Opened.{TakesCall, TakesKnown, first_class};
+ghost use Rattle.server_core.specs.Kept.{whole};
+ghost use Rattle.server_core.specs.Places.{IsAt};
 ghost use Rattle.server_core.specs.View.{seen};
 ghost use Rattle.wire_msgs.specs.declared.answer.Answer.TheVariants as answer;
 
@@ -15,7 +19,7 @@ use embed_core::embedded::Embedded;
 use embed_core::fault::EmbedFault;
 use object_state::States;
 use server_model::fault::ServerFault;
-use std::alloc::Global;
+use std::alloc::{AllocError, Global};
 use storage_tree::class_id::ClassId;
 use wire_msgs::answer::Answer;
 use wire_msgs::message::Message;
@@ -53,31 +57,45 @@ impl ServerCore {
         n: u32,
         operation: Operation,
     ) -> Result<Answered, ServerFault>
-        requires { IsPlace (is_act act) (seen (λ s. content s.boxed) self.old).acts i }
+        requires { IsAt self.old.acts.entries act i }
         ensures acted { IfOk result (λ t. TakesKnown (seen (λ s. content s.boxed) self.old) act n operation (find (is_act act) (seen (λ s. content s.boxed) self.old).acts) (seen (λ s. content s.boxed) self.new) t.answer t.counted) }
         ensures refused { IfErr result (λ e. (box : Option Kind) → Refuses (called (seen (λ s. content s.boxed) self.old) act n operation box (find (is_act act) (seen (λ s. content s.boxed) self.old).acts)) e) }
         ensures kept { OnErr result (seen (λ s. content s.boxed) self.new ≡ seen (λ s. content s.boxed) self.old) }
     {
-        self.acts[i].on_call(alloc, n, operation)
+        self.acts[i].on_call(alloc, act, &mut self.seats, n, operation)
     }
 
     // One more activation, into reserved room.
-    #[tactic(auto, using(server_model::proofs::Places::seen_push))]
-    fn push(&mut self, facts: Facts, seat: Option<Seat>)
-        requires { vec_len self.old.acts < vec_capacity self.old.acts }
-        ensures { seen (λ s. content s.boxed) self.new ≡ record (seen (λ s. content s.boxed) self.old) { acts = (seen (λ s. content s.boxed) self.old).acts ++ record facts { content = option_map (λ s. content s.boxed) seat } ∷ [] } }
+    fn push(&mut self, act: u32, facts: Facts, seat: Option<Seat>)
+        requires unknown { find (is_act act) (seen (λ s. content s.boxed) self.old).acts ≡ None }
+        requires room { 0 < spare self.old.acts }
+        requires free { HasRoomFor self.old.seats.slab 1 }
+        ensures { seen (λ s. content s.boxed) self.new ≡ record (seen (λ s. content s.boxed) self.old) { acts = (seen (λ s. content s.boxed) self.old).acts ++ whole act facts (option_map (λ s. content s.boxed) seat) ∷ [] } }
     {
-        self.acts.push_reserved(Activation { facts, seat });
+        let key = self.seats.put(act, seat);
+        self.acts.insert(act, Activation { facts, key }).unwrap();
     }
 
     // A first call that the object refused: the activation is closed.
     fn push_closed(&mut self, act: u32, class: ClassId, refusal: Why) -> Answer
-        requires { vec_len self.old.acts < vec_capacity self.old.acts }
+        requires unknown { find (is_act act) (seen (λ s. content s.boxed) self.old).acts ≡ None }
+        requires room { 0 < spare self.old.acts }
+        requires free { HasRoomFor self.old.seats.slab 1 }
         ensures pushed { seen (λ s. content s.boxed) self.new ≡ record (seen (λ s. content s.boxed) self.old) { acts = (seen (λ s. content s.boxed) self.old).acts ++ (answers (fresh act class) (answer.Refused refusal)).activation ∷ [] } }
         ensures answered { result ≡ answer.Refused refusal }
     {
-        self.push(Facts::closed(act, class, refusal), None);
+        self.push(act, Facts::closed(class, refusal), None);
         Answer::Refused(refusal)
+    }
+
+    // Makes room for one more activation, with a seat.
+    fn reserve(&mut self) -> Result<(), AllocError>
+        ensures room { OnOk result (0 < spare self.new.acts) }
+        ensures free { OnOk result (HasRoomFor self.new.seats.slab 1) }
+        ensures kept { seen (λ s. content s.boxed) self.new ≡ seen (λ s. content s.boxed) self.old }
+    {
+        self.seats.reserve()?;
+        self.acts.reserve(1)
     }
 
     // A first call, with an object of its class.
@@ -89,22 +107,21 @@ impl ServerCore {
         operation: &Operation,
         boxed: Box<dyn Embedded>,
     ) -> Result<Answer, Refusal>
+        requires { find (is_act act) (seen (λ s. content s.boxed) self.old).acts ≡ None }
         ensures begun { IfOk result (λ a. after_begun (seen (λ s. content s.boxed) self.old) (begins act class operation.now (begun_content (kind_of (content boxed)) operation.now)) ≡ Ok (record { server = seen (λ s. content s.boxed) self.new; answer = a; counted = None; used = true })) }
         ensures refused { IfErr result (λ r. r.fault ≡ ServerFault.NoMemory) }
         ensures handed_back { IfErr result (λ r. option_map (λ b. content b) r.back ≡ Some (content boxed)) }
         ensures same { IfErr result (λ r. r.fault ≢ ServerFault.NoMemory → r.back ≡ Some boxed) }
         ensures kept { OnErr result (seen (λ s. content s.boxed) self.new ≡ seen (λ s. content s.boxed) self.old) }
     {
-        if self.acts.reserve(1).is_err() {
+        if self.reserve().is_err() {
             return Err(Refusal::no_memory(boxed));
         }
         let mut seat = Seat { boxed };
         match seat.begin(alloc, operation) {
             Ok(()) => {
-                self.push(
-                    Facts::opened(act, class, begun_states(operation)),
-                    Some(seat),
-                );
+                let facts = Facts::opened(class, begun_states(operation));
+                self.push(act, facts, Some(seat));
                 Ok(Answer::Done)
             }
             Err(EmbedFault::BadEdit) => Ok(self.push_closed(act, class, Why::BadEdit)),
@@ -124,7 +141,7 @@ impl ServerCore {
         operation: Operation,
         boxed: Option<Box<dyn Embedded>>,
     ) -> Result<Reaction, Refusal>
-        requires { IsPlace (is_act act) (seen (λ s. content s.boxed) self.old).acts i }
+        requires { IsAt self.old.acts.entries act i }
         ensures acted { IfOk result (λ r. TakesCall (seen (λ s. content s.boxed) self.old) act n operation (option_map (λ b. kind_of (content b)) boxed) (find (is_act act) (seen (λ s. content s.boxed) self.old).acts) (seen (λ s. content s.boxed) self.new) r.reply r.counted) }
         ensures back { IfOk result (λ r. r.back ≡ unless_wanted (wanted_unknown (seen (λ s. content s.boxed) self.old) (begun_class n operation) (find (is_act act) (seen (λ s. content s.boxed) self.old).acts)) boxed) }
         ensures refused { IfErr result (λ r. Refuses (called (seen (λ s. content s.boxed) self.old) act n operation (option_map (λ b. kind_of (content b)) boxed) (find (is_act act) (seen (λ s. content s.boxed) self.old).acts)) r.fault) }
@@ -170,6 +187,7 @@ impl ServerCore {
         operation: &Operation,
         boxed: Option<Box<dyn Embedded>>,
     ) -> Result<Answer, Refusal>
+        requires { find (is_act act) (seen (λ s. content s.boxed) self.old).acts ≡ None }
         ensures acted { IfOk result (λ a. offered (seen (λ s. content s.boxed) self.old) act class operation.now (option_map (λ b. kind_of (content b)) boxed) ≡ Ok (record { server = seen (λ s. content s.boxed) self.new; answer = a; counted = None; used = true })) }
         ensures refused { IfErr result (λ r. Refuses (offered (seen (λ s. content s.boxed) self.old) act class operation.now (option_map (λ b. kind_of (content b)) boxed)) r.fault) }
         ensures handed_back { IfErr result (λ r. option_map (λ b. content b) r.back ≡ option_map (λ b. content b) boxed) }
@@ -200,6 +218,7 @@ impl ServerCore {
         operation: Operation,
         boxed: Option<Box<dyn Embedded>>,
     ) -> Result<Reaction, Refusal>
+        requires { find (is_act act) (seen (λ s. content s.boxed) self.old).acts ≡ None }
         ensures acted { IfOk result (λ r. TakesCall (seen (λ s. content s.boxed) self.old) act n operation (option_map (λ b. kind_of (content b)) boxed) None (seen (λ s. content s.boxed) self.new) r.reply r.counted) }
         ensures back { IfOk result (λ r. r.back ≡ unless_wanted (wanted_unknown (seen (λ s. content s.boxed) self.old) (begun_class n operation) None) boxed) }
         ensures refused { IfErr result (λ r. Refuses (called (seen (λ s. content s.boxed) self.old) act n operation (option_map (λ b. kind_of (content b)) boxed) None) r.fault) }
@@ -240,7 +259,10 @@ impl ServerCore {
         else {
             return None;
         };
-        if *inc != self.inc || self.place(*act).is_some() {
+        if *inc != self.inc {
+            return None;
+        }
+        if let Some(_) = self.place(*act) {
             return None;
         }
         match self.first_class(*n, operation) {

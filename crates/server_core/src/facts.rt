@@ -1,8 +1,7 @@
-//! What a server keeps of an activation, but for its object.
+//! What a server keeps of an activation, but for its number and its object.
 
 ghost use Rattle.std.specs.Prelude.{◌≡◌, ◌+◌, ◌<◌, ◌^◌, Some, None, IfOk, option_map, IsTrue, ◌↔◌};
 ghost use Rattle.object_state.specs.Both as both;
-ghost use Rattle.server_model.specs.Server.{fresh};
 ghost use Rattle.wire_msgs.specs.declared.answer.Answer.TheVariants as answer;
 ghost use Rattle.wire_msgs.specs.declared.message.Message.TheVariants as message;
 ghost use Rattle.object_state.specs.Persists.{may_write};
@@ -50,10 +49,9 @@ fn tools(menus: &Menus, border: [u16; 4]) -> Answer
     }
 }
 
-/// What a server keeps of an activation, but for its object. Its storage grants are at most its calls.
+/// What a server keeps of an activation, but for its number and its object. Its storage grants are at most its calls.
 #[derive(Drop)]
 pub struct Facts {
-    act: u32,
     class: ClassId,
     last: u32,
     reply: Answer,
@@ -65,23 +63,22 @@ pub struct Facts {
 }
 
 impl Model for Facts {
-    ghost use Rattle.std.specs.Prelude.{◌≤◌, None};
-    ghost use Rattle.server_model.specs.Server.{Activation};
+    ghost use Rattle.std.specs.Prelude.{◌≤◌};
+    ghost use Rattle.server_core.specs.Kept.{Kept};
 
-    ghost Value = { Activation };
+    ghost Value = { Kept };
 
-    ghost view = { λ f. record { act = f.act; class = f.class; content = None; last = f.last; reply = f.reply; states = f.states; saved = f.saved; s = f.s; w = f.w; g = f.g } };
+    ghost view = { λ f. record { class = f.class; last = f.last; reply = f.reply; states = f.states; saved = f.saved; s = f.s; w = f.w; g = f.g } };
 
     ghost invariant = { λ f. f.s ≤ f.last };
 }
 
 impl Facts {
     /// Those of an activation whose first call was done.
-    pub fn opened(act: u32, class: ClassId, states: States) -> Facts
-        ensures { result ≡ record (fresh act class) { last = 1; reply = answer.Done; states = states; s = 1 } }
+    pub fn opened(class: ClassId, states: States) -> Facts
+        ensures { result ≡ record { class = class; last = 1; reply = answer.Done; states = states; saved = None; s = 1; w = 0; g = None } }
     {
         Facts {
-            act,
             class,
             last: 1,
             reply: Answer::Done,
@@ -94,11 +91,10 @@ impl Facts {
     }
 
     /// Those of an activation whose first call was refused.
-    pub fn closed(act: u32, class: ClassId, refusal: Refusal) -> Facts
-        ensures { result ≡ record (fresh act class) { last = 1; reply = answer.Refused refusal } }
+    pub fn closed(class: ClassId, refusal: Refusal) -> Facts
+        ensures { result ≡ record { class = class; last = 1; reply = answer.Refused refusal; states = both.loaded; saved = None; s = 0; w = 0; g = None } }
     {
         Facts {
-            act,
             class,
             last: 1,
             reply: Answer::Refused(refusal),
@@ -108,12 +104,6 @@ impl Facts {
             w: 0,
             g: None,
         }
-    }
-
-    pub fn act(&self) -> u32
-        ensures { result ≡ self.now.act }
-    {
-        self.act
     }
 
     pub fn last(&self) -> u32
@@ -154,12 +144,12 @@ impl Facts {
     }
 
     /// The save of this number as it is counted, none where no content was answered to a save.
-    pub fn counted(&self, alloc: Global, k: u32) -> Result<Option<Counted>, AllocError>
-        ensures { IfOk result (λ c. c ≡ option_map (λ content. record { act = self.now.act; k = k; content = content }) self.now.saved) }
+    pub fn counted(&self, alloc: Global, act: u32, k: u32) -> Result<Option<Counted>, AllocError>
+        ensures { IfOk result (λ c. c ≡ option_map (λ content. record { act = act; k = k; content = content }) self.now.saved) }
     {
         match &self.saved {
             Some(content) => Ok(Some(Counted {
-                act: self.act,
+                act,
                 k,
                 content: content.copy(alloc)?,
             })),
@@ -274,15 +264,15 @@ impl Facts {
     }
 
     /// The next write, of this content.
-    pub fn write(&mut self, inc: u32, content: Stored) -> Message
+    pub fn write(&mut self, inc: u32, act: u32, content: Stored) -> Message
         requires { self.old.w + 1 < 2 ^ 32 }
         ensures counted { self.new ≡ record self.old { w = self.old.w + 1 } }
-        ensures written { result ≡ message.Write inc self.old.act self.old.s (self.old.w + 1) content }
+        ensures written { result ≡ message.Write inc act self.old.s (self.old.w + 1) content }
     {
         self.w += 1;
         Message::Write {
             inc,
-            act: self.act,
+            act,
             s: self.s,
             w: self.w,
             content,
@@ -297,26 +287,22 @@ impl Facts {
     }
 
     /// The message that asks to be relieved of its grant, where it has one.
-    pub fn ask(&self, inc: u32) -> Option<Message>
-        ensures { result ≡ option_map (message.Ask inc self.now.act) self.now.g }
+    pub fn ask(&self, inc: u32, act: u32) -> Option<Message>
+        ensures { result ≡ option_map (message.Ask inc act) self.now.g }
     {
         match self.g {
-            Some(g) => Some(Message::Ask {
-                inc,
-                act: self.act,
-                g,
-            }),
+            Some(g) => Some(Message::Ask { inc, act, g }),
             None => None,
         }
     }
 
     /// The reply to its last call.
-    pub fn last_reply(&self, alloc: Global, inc: u32) -> Result<Message, AllocError>
-        ensures { IfOk result (λ m. m ≡ message.Reply inc self.now.act self.now.last self.now.reply) }
+    pub fn last_reply(&self, alloc: Global, inc: u32, act: u32) -> Result<Message, AllocError>
+        ensures { IfOk result (λ m. m ≡ message.Reply inc act self.now.last self.now.reply) }
     {
         Ok(Message::Reply {
             inc,
-            act: self.act,
+            act,
             n: self.last,
             answer: self.reply.copy(alloc)?,
         })

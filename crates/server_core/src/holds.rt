@@ -44,8 +44,8 @@ impl ServerCore {
         let mut holds = Vec::new(alloc);
         let count = self.acts.len();
         for done in 0..count {
-            let activation = &self.acts[count - 1 - done];
-            add_hold(&mut holds, activation.facts.act(), activation.facts.grant())?;
+            let (act, activation) = self.acts.get_index(count - 1 - done).unwrap();
+            add_hold(&mut holds, *act, activation.facts.grant())?;
         }
         Ok(holds)
     }

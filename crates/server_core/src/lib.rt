@@ -8,4 +8,5 @@ mod holds;
 mod own_accord;
 mod picture;
 pub mod refusal;
+pub mod seats;
 pub mod server;

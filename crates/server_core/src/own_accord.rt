@@ -1,8 +1,9 @@
 //! What a server sends of its own accord.
 
 ghost use Rattle.std.specs.Prelude.{◌≡◌, Err, IfErr, IfOk, OnErr};
-ghost use Rattle.wire_msgs.specs.Found.{IsPlace, find};
+ghost use Rattle.wire_msgs.specs.Found.{find};
 ghost use Rattle.server_model.specs.Server.{Refuses, Tells, ask_deactivate, is_act, scribble, scribbled};
+ghost use Rattle.server_core.specs.Places.{IsAt};
 ghost use Rattle.server_core.specs.View.{seen};
 
 use crate::server::ServerCore;
@@ -13,12 +14,12 @@ use wire_msgs::message::Message;
 impl ServerCore {
     // The activation that stands at i writes.
     fn scribble_at(&mut self, alloc: Global, i: usize, act: u32) -> Result<Message, ServerFault>
-        requires { IsPlace (is_act act) (seen (λ s. content s.boxed) self.old).acts i }
+        requires { IsAt self.old.acts.entries act i }
         ensures told { IfOk result (λ m. Tells (scribbled (seen (λ s. content s.boxed) self.old) (find (is_act act) (seen (λ s. content s.boxed) self.old).acts)) (seen (λ s. content s.boxed) self.new) m) }
         ensures refused { IfErr result (Refuses (scribbled (seen (λ s. content s.boxed) self.old) (find (is_act act) (seen (λ s. content s.boxed) self.old).acts))) }
         ensures kept { OnErr result (seen (λ s. content s.boxed) self.new ≡ seen (λ s. content s.boxed) self.old) }
     {
-        self.acts[i].write(alloc, self.inc, self.numbers)
+        self.acts[i].write(alloc, act, &self.seats, self.inc, self.numbers)
     }
 
     /// An activation writes the content that it has now.
@@ -43,10 +44,10 @@ impl ServerCore {
         ensures told { IfOk result (λ m. Tells (ask_deactivate (seen (λ s. content s.boxed) self.now) act) (seen (λ s. content s.boxed) self.now) m) }
         ensures refused { IfErr result (λ fault. ask_deactivate (seen (λ s. content s.boxed) self.now) act ≡ Err fault) }
     {
-        let Some(activation) = self.activation_of(act) else {
+        let Some(i) = self.place(act) else {
             return Err(ServerFault::Ignored);
         };
-        match activation.facts.ask(self.inc) {
+        match self.acts[i].facts.ask(self.inc, act) {
             Some(message) => Ok(message),
             None => Err(ServerFault::Ignored),
         }

@@ -1,19 +1,22 @@
 //! A server.
 
 ghost use Rattle.std.specs.Prelude.{◌≡◌, Some, None, [], true, IfErr, IfOk, MatchOption, OnErr, OnOk, option_map};
-ghost use Rattle.wire_msgs.specs.Found.{IsPlace, find};
+ghost use Rattle.wire_msgs.specs.Found.{find};
 ghost use Rattle.embed_core.specs.Kinds.{kind_of};
 ghost use Rattle.embed_core.specs.Content.{is_content};
 ghost use Rattle.embed_core.specs.Objects as object;
 ghost use Rattle.embed_core.specs.Pictures.{picture_bytes};
 ghost use Rattle.server_model.specs.Pictures.{picture_of};
 ghost use Rattle.server_model.specs.Server.{begun_content, is_act, last_reply, stored_of, view_of};
-ghost use Rattle.server_core.specs.View.{seen, seen_activation};
+ghost use Rattle.server_core.specs.Places.{IsAt};
+ghost use Rattle.server_core.specs.View.{seen};
 
 use crate::facts::Facts;
 use crate::picture::presented;
+use crate::seats::Seats;
 use embed_core::embedded::Embedded;
 use embed_core::fault::EmbedFault;
+use indexmap::IndexMap;
 use server_model::activation_view::ActivationView;
 use std::alloc::{AllocError, Global};
 use storage_tree::bytes::Bytes;
@@ -78,19 +81,20 @@ impl Seat {
     }
 }
 
-/// An activation of an object, open while it has one.
+/// An activation of an object, open while it has one: what is kept of it, and the key of its seat.
 #[derive(Drop)]
 pub struct Activation {
     pub(crate) facts: Facts,
-    pub(crate) seat: Option<Seat>,
+    pub(crate) key: Option<usize>,
 }
 
-/// A server.
+/// A server. Its activations are found by their numbers and stand in the order in which they were made.
 #[derive(Drop)]
 pub struct ServerCore {
     pub(crate) inc: u32,
     pub(crate) numbers: u32,
-    pub(crate) acts: Vec<Activation>,
+    pub(crate) acts: IndexMap<u32, Activation>,
+    pub(crate) seats: Seats,
 }
 
 impl ServerCore {
@@ -101,28 +105,19 @@ impl ServerCore {
         ServerCore {
             inc,
             numbers,
-            acts: Vec::new(alloc),
+            acts: IndexMap::new(alloc),
+            seats: Seats::new(alloc),
         }
     }
 
     // Where an activation stands.
     pub(crate) fn place(&self, act: u32) -> Option<usize>
-        ensures { MatchOption result (find (is_act act) (seen (λ s. content s.boxed) self.now).acts ≡ None) (IsPlace (is_act act) (seen (λ s. content s.boxed) self.now).acts) }
+        ensures { MatchOption result (find (is_act act) (seen (λ s. content s.boxed) self.now).acts ≡ None) (IsAt self.now.acts.entries act) }
     {
-        for (i, activation) in self.acts.iter().enumerate() {
-            if activation.facts.act() == act {
-                return Some(i);
-            }
-        }
-        None
-    }
-
-    // The activation of this number.
-    pub(crate) fn activation_of(&self, act: u32) -> Option<&Activation>
-        ensures { option_map (λ a. seen_activation (λ s. content s.boxed) a.now) result ≡ find (is_act act) (seen (λ s. content s.boxed) self.now).acts }
-    {
-        match self.place(act) {
-            Some(i) => Some(&self.acts[i]),
+        // `len` is called for its clause that the keys are distinct, which the proof cites.
+        let _len = self.acts.len();
+        match self.acts.get_full(&act) {
+            Some((i, _, _)) => Some(i),
             None => None,
         }
     }
@@ -131,8 +126,12 @@ impl ServerCore {
     pub fn activation(&self, act: u32) -> Option<ActivationView>
         ensures { result ≡ option_map view_of (find (is_act act) (seen (λ s. content s.boxed) self.now).acts) }
     {
-        match self.activation_of(act) {
-            Some(activation) => Some(activation.facts.view(activation.seat.is_some())),
+        match self.place(act) {
+            Some(i) => {
+                let activation = &self.acts[i];
+                let opened = self.seats.get(act, activation.key).is_some();
+                Some(activation.facts.view(opened))
+            }
             None => None,
         }
     }
@@ -143,8 +142,8 @@ impl ServerCore {
     pub fn last_reply(&self, alloc: Global, act: u32) -> Result<Option<Message>, AllocError>
         ensures { IfOk result (λ r. r ≡ last_reply (seen (λ s. content s.boxed) self.now) act) }
     {
-        match self.activation_of(act) {
-            Some(activation) => Ok(Some(activation.facts.last_reply(alloc, self.inc)?)),
+        match self.place(act) {
+            Some(i) => Ok(Some(self.acts[i].facts.last_reply(alloc, self.inc, act)?)),
             None => Ok(None),
         }
     }

@@ -37,7 +37,8 @@ fn class(name: &str) -> ClassId {
     }
 }
 
-/// `init KIND`, `load TEXT`, `edit BYTES`, `save K`, `completed K` with a storage, `in_place`, `activate GRANT` or `close`.
+/// `init KIND`, `load TEXT`, `edit BYTES`, `save K`, `completed K` with a storage, `in_place`, `activate GRANT`, `close`, or
+/// `keep`, which is a close with the content as its answer.
 fn operation(rt: &impl Abort, alloc: Global, text: &str) -> Operation {
     let (verb, rest) = halves(text, " ");
     match verb.as_bytes() {
@@ -51,6 +52,7 @@ fn operation(rt: &impl Abort, alloc: Global, text: &str) -> Operation {
             storage: true,
         },
         [b'a', ..] => Operation::UiActivate(number(rest)),
+        [b'k', ..] => Operation::Close(CloseOption::SaveIfDirty),
         _ => Operation::Close(CloseOption::NoSave),
     }
 }

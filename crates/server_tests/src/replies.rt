@@ -35,6 +35,7 @@ fn answer_name(answer: &Answer) -> &'static str {
     match answer {
         Answer::Done => "Done",
         Answer::Refused(Why::BadContent) => "BadContent",
+        Answer::Refused(Why::AlreadyInitialized) => "AlreadyInitialized",
         Answer::Content(content) if is_abc(content) => "Content-abc",
         Answer::Content(content) if content.picture.len() == 0 => "Content-unpictured",
         Answer::Tools { .. } => "Tools",

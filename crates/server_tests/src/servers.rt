@@ -19,7 +19,8 @@ use wire_msgs::message::Message;
 /// Calls by incarnation, activation and number, with the object that is handed in: the reply or the fault, and `back`
 /// where the object comes back, with how many were dropped by then. A load is given a picture that isn't the object's.
 /// `dropped`: how many objects were dropped so far, `end`: how many once the server is; then the next lines are of a new
-/// one.
+/// one. In the last, objects are dropped as their activations are closed: by either close, and by a refused InitNew; and
+/// what stands in a closed one's place is another's.
 const ROWS: &str = "1 5 1 note init note => Done
 1 5 1 note init note => Done back 0
 dropped => 1
@@ -77,7 +78,26 @@ view 5 => note UiActive 1 3 7 0
 view 6 => none
 last 6 => none
 wants 1 5 1 - init note => none
-end => 12";
+end => 12
+1 5 1 note init note => Done
+1 6 1 note load abc => Done
+1 7 1 table init table => Done
+1 6 2 - close => Done
+dropped => 13
+1 8 1 note load abc => Done
+1 5 2 - edit i 0 x => Done
+1 6 3 - save 1 => Ignored
+1 8 2 - save 1 => Content-abc
+1 9 1 note load abc => Done
+1 9 2 - keep => Content-abc
+dropped => 14
+1 7 2 note init note => AlreadyInitialized back 15
+dropped => 16
+1 7 3 - in_place => Ignored
+1 6 2 - close => Done
+view 5 => note another 1 2 0 0
+dropped => 16
+end => 18";
 
 fn new_server(alloc: Global) -> ServerCore {
     ServerCore::new(alloc, 1, 9)

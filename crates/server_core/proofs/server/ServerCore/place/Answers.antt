@@ -1,10 +1,10 @@
-use Rattle.std.proofs.Common.{sym, ◌∙◌, eq-eqb}
-use Rattle.std.proofs.lemmas.Bool.{ne_eqb}
-use Rattle.server_model.proofs.Places.{seen_here, seen_more}
+use Rattle.std.proofs.Common.{sym}
+use Rattle.server_core.proofs.Known.{unknown_if}
+use Rattle.server_core.proofs.Standing.{stands_at}
 use Rattle.server_core.proofs.server.ServerCore.place.Goals as goal
 
-pub returns-then-act : goal.returns-then-act
-returns-then-act g c = seen_here _ _ _ _ _ c.activation-item.result c.deref-activation-items.ensures.value c.loop-i.invariant c.loop-i-test.true c.activation-item.is (eq-eqb _ _ (sym c.act.ensures ∙ c.if-act.true))
+pub returns-in-Some : goal.returns-in-Some
+returns-in-Some g c = stands_at c.args.self.now.acts.entries c.args.act c.in-Some.i _ _ (sym c.in-Some.ensures.key) c.in-Some.ensures.entry c.len-len.ensures.unique
 
-pub loop-i-preserved : goal.loop-i-preserved
-loop-i-preserved g c = seen_more _ _ _ _ c.activation-item.result c.loop-i.invariant c.loop-i-test.true c.activation-item.is (ne_eqb _ _ (λ e. c.if-act.false (c.act.ensures ∙ e)))
+pub returns-in-None : goal.returns-in-None
+returns-in-None g c = unknown_if (λ s. (goal.Embedded-dyn g (s.boxed.vtable, s.boxed.value)).content s.boxed.value) c.args.self.now.seats.slab.slots c.args.self.now.acts.entries c.args.act (sym c.in-None.ensures.value)
