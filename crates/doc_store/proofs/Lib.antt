@@ -5,7 +5,6 @@ mod Committed
 mod Crashing
 mod Finding
 mod Gating
-mod Kept
 mod Lists
 mod Moments
 mod Staged

@@ -2,15 +2,12 @@
 //! or the one after it.
 #![tactic(auto)]
 
-pub mod areas;
 mod calls;
 mod carry;
 mod compare;
-mod failures;
 mod find;
 mod found;
 mod held;
-pub mod memory_disk;
 pub mod outcome;
 pub mod refused;
 pub mod resolved;
@@ -19,4 +16,5 @@ mod stage;
 mod steps;
 pub mod store;
 
+pub use memory_disks::{areas, memory_disk};
 pub use store_model::{area, disk, fault, journal, limit};

@@ -1,8 +1,9 @@
 -- Calls of files one after another.
-use Rattle.std.proofs.Common.{◌≡◌, ◌≤◌, inl, inr, ⊎_elim, ℕ, Bool, true, false, refl, arith}
+use Rattle.std.proofs.Common.{◌≡◌, ◌≤◌, inl, inr, ⊎_elim, ℕ, Bool, true, false, Err, Ok, refl, arith}
+use Rattle.std.specs.declared.io.Error.{Error}
 use Rattle.store_model.specs.Crash.{Elapses, IsWithin}
 use Rattle.store_model.specs.Image.{Image}
-use Rattle.file_disk.specs.Sound.{StaysSound}
+use Rattle.file_disk.specs.Sound.{StaysSound, WritesSound}
 
 module _ {F : Type 0} (may_leave : F → Image → Type 0) (moment : F → ℕ) (left_since : F → ℕ → Image → Type 0) where
   -- no call
@@ -39,12 +40,24 @@ module _ {F : Type 0} (may_leave : F → Image → Type 0) (moment : F → ℕ) 
         keeps = λ t c le past. second.keeps t c (omega (arith, a, le)) (first.keeps t c le past);
       }
 
-module _ {F : Type 0} (sync_failed has_names : F → Bool) where
-  pub same_sound : (files : F) → StaysSound sync_failed has_names files files
+module _ {F : Type 0} (sync_may_lie has_names : F → Bool) where
+  pub same_sound : (files : F) → StaysSound sync_may_lie has_names files files
   same_sound files = record { sound = λ was. was; named = λ was. was }
 
-  pub then_sound : (old mid new : F) → StaysSound sync_failed has_names old mid → StaysSound sync_failed has_names mid new → StaysSound sync_failed has_names old new
+  pub then_sound : (old mid new : F) → StaysSound sync_may_lie has_names old mid → StaysSound sync_may_lie has_names mid new → StaysSound sync_may_lie has_names old new
   then_sound old mid new first second = record { sound = λ was. second.sound (first.sound was); named = λ was. second.named (first.named was) }
+
+  -- a write more, which is done, and one that is refused
+  pub then_written : {T : Type 0} (old mid new : F) (value : T) → StaysSound sync_may_lie has_names old mid → WritesSound sync_may_lie has_names mid new (Ok value) → StaysSound sync_may_lie has_names old new
+  then_written old mid new value first second = record { sound = λ was. second.written (first.sound was); named = λ was. second.named (first.named was) }
+
+  pub then_refused : {T U : Type 0} (old mid new : F) (error : Error) → StaysSound sync_may_lie has_names old mid → WritesSound {T = T} sync_may_lie has_names mid new (Err error)
+      → WritesSound {T = U} sync_may_lie has_names old new (Err error)
+  then_refused old mid new error first second = record { written = tt; refused = λ room was. second.refused room (first.sound was); named = λ was. second.named (first.named was) }
+
+  -- writes that are all done
+  pub written_sound : {T : Type 0} {value : T} (old new : F) → StaysSound sync_may_lie has_names old new → WritesSound sync_may_lie has_names old new (Ok value)
+  written_sound old new stays = record { written = stays.sound; refused = tt; named = stays.named }
 
 -- what follows from a test, whatever it answers
 pub either_way : (b : Bool) (P : Type 0) → (b ≡ true → P) → (b ≡ false → P) → P

@@ -12,5 +12,5 @@ abbrev pub failures_of : {F : Type 0} {g : Ghosts F} → FileDisk F g → ℕ
 failures_of disk = disk.failed
 
 -- whether a sync has failed
-abbrev pub sync_failed_of : {F : Type 0} {g : Ghosts F} → FileDisk F g → Bool
-sync_failed_of disk = disk.sync_failed
+abbrev pub sync_may_lie_of : {F : Type 0} {g : Ghosts F} → FileDisk F g → Bool
+sync_may_lie_of disk = disk.sync_may_lie

@@ -2,7 +2,7 @@
 
 ghost use Rattle.store_model.specs.Crash.{CutShort, Elapses, Follows, InArea, IsWithin, Torn};
 ghost use Rattle.store_model.specs.Image.{Image, bytes_of, changed, put};
-ghost use Rattle.file_disk.specs.Sound.{StaysSound};
+ghost use Rattle.file_disk.specs.Sound.{StaysSound, WritesSound};
 ghost use Rattle.std.specs.Prelude.{◌≡◌, ◌≤◌, Bool, false, true, IfOk, OnOk, drop, length, take, ℕ};
 
 use std::io;
@@ -26,8 +26,9 @@ pub trait DiskFiles {
     /// What a crash at some moment from that one on might have left, during a call or between two.
     ghost left_since: { Self → ℕ → Image → Type 0 };
 
-    /// Whether a sync has failed. After one that has, another may succeed though what the first was to write is lost.
-    ghost sync_failed: { Self → Bool };
+    /// Whether a sync may succeed though what was written before it is lost: after a sync that failed, and after a write that
+    /// failed for another reason than want of room.
+    ghost sync_may_lie: { Self → Bool };
 
     /// Whether a crash leaves the names of both files.
     ghost has_names: { Self → Bool };
@@ -38,7 +39,7 @@ pub trait DiskFiles {
         ensures same { follows_model → OnOk result (reads self.new ≡ reads self.old) }
         ensures crash { follows_model → IsWithin (may_leave self.old) (may_leave self.new) }
         ensures time { follows_model → Elapses (moment self.old) (moment self.new) (left_since self.old) (left_since self.new) (may_leave self.new) }
-        ensures sound { StaysSound sync_failed has_names self.old self.new };
+        ensures sound { StaysSound sync_may_lie has_names self.old self.new };
 
     /// Fills a front of the buffer with an area's bytes from an offset on, and gives how long it is.
     fn read_at(&mut self, area: Area, at: u64, into: &mut [u8]) -> io::Result<usize>
@@ -47,7 +48,7 @@ pub trait DiskFiles {
         ensures same { follows_model → OnOk result (reads self.new ≡ reads self.old) }
         ensures crash { follows_model → IsWithin (may_leave self.old) (may_leave self.new) }
         ensures time { follows_model → Elapses (moment self.old) (moment self.new) (left_since self.old) (left_since self.new) (may_leave self.new) }
-        ensures sound { StaysSound sync_failed has_names self.old self.new };
+        ensures sound { StaysSound sync_may_lie has_names self.old self.new };
 
     /// Writes a front of these bytes over what is there from an offset on, and past the end, and gives how long it is.
     /// Until a sync, a crash may leave any bytes in the whole range, and past the end.
@@ -58,22 +59,22 @@ pub trait DiskFiles {
         ensures crash { follows_model → Follows (InArea area (Torn at (length bytes.now))) (may_leave self.old) (may_leave self.new) }
         ensures grows { follows_model → IsWithin (may_leave self.new) (may_leave self.old) }
         ensures time { follows_model → Elapses (moment self.old) (moment self.new) (left_since self.old) (left_since self.new) (may_leave self.new) }
-        ensures sound { StaysSound sync_failed has_names self.old self.new };
+        ensures sound { WritesSound sync_may_lie has_names self.old self.new result };
 
     /// Cuts an area that is at least as long to this length. Until a sync, a crash may leave any length between.
     fn set_length(&mut self, area: Area, size: u64) -> io::Result<()>
         ensures cut { follows_model → OnOk result (reads self.new ≡ changed area (take size (bytes_of area (reads self.old))) (reads self.old)) }
         ensures crash { follows_model → size ≤ length (bytes_of area (reads self.old)) → Follows (InArea area (CutShort size)) (may_leave self.old) (may_leave self.new) }
         ensures time { follows_model → Elapses (moment self.old) (moment self.new) (left_since self.old) (left_since self.new) (may_leave self.new) }
-        ensures sound { StaysSound sync_failed has_names self.old self.new };
+        ensures sound { StaysSound sync_may_lie has_names self.old self.new };
 
-    /// After it, where no sync had failed before, a crash leaves of this area what reads give.
+    /// After it, where a sync doesn't lie, a crash leaves of this area what reads give.
     fn sync(&mut self, area: Area) -> io::Result<()>
-        ensures durable { follows_model → sync_failed self.old ≡ false → OnOk result ((c : Image) → may_leave self.new c → bytes_of area c ≡ bytes_of area (reads self.old)) }
+        ensures durable { follows_model → sync_may_lie self.old ≡ false → OnOk result ((c : Image) → may_leave self.new c → bytes_of area c ≡ bytes_of area (reads self.old)) }
         ensures same { follows_model → OnOk result (reads self.new ≡ reads self.old) }
         ensures crash { follows_model → IsWithin (may_leave self.old) (may_leave self.new) }
         ensures time { follows_model → Elapses (moment self.old) (moment self.new) (left_since self.old) (left_since self.new) (may_leave self.new) }
-        ensures sound { OnOk result (sync_failed self.old ≡ false → sync_failed self.new ≡ false) }
+        ensures sound { OnOk result (sync_may_lie self.old ≡ false → sync_may_lie self.new ≡ false) }
         ensures named { has_names self.old ≡ true → has_names self.new ≡ true };
 
     /// After it, a crash leaves the names of both files.
@@ -82,7 +83,7 @@ pub trait DiskFiles {
         ensures same { follows_model → OnOk result (reads self.new ≡ reads self.old) }
         ensures crash { follows_model → IsWithin (may_leave self.old) (may_leave self.new) }
         ensures time { follows_model → Elapses (moment self.old) (moment self.new) (left_since self.old) (left_since self.new) (may_leave self.new) }
-        ensures sound { OnOk result (sync_failed self.old ≡ false → sync_failed self.new ≡ false) }
+        ensures sound { OnOk result (sync_may_lie self.old ≡ false → sync_may_lie self.new ≡ false) }
         ensures named { has_names self.old ≡ true → has_names self.new ≡ true };
 
     /// What reads give is one of the images that a crash may leave.

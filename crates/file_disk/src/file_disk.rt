@@ -1,10 +1,12 @@
 //! A disk over files.
 
 ghost use Rattle.store_model.specs.Crash.{Rose};
+ghost use Rattle.file_disk.specs.Sound.{SaysNoRoom};
 ghost use Rattle.std.specs.Prelude.{◌≡◌, ◌≤◌, false, true};
 
 use crate::disk_files::DiskFiles;
 use crate::loops::{cut_longer, read_whole, sync_with_names, write_whole};
+use std::io::{self, ErrorKind};
 use store_model::area::Area;
 use store_model::disk::{Disk, DiskFailure};
 
@@ -14,28 +16,29 @@ pub struct FileDisk<F: DiskFiles> {
     files: F,
     /// Whether the files' names are synced.
     names_synced: bool,
-    /// Whether a sync failed. What it was to write may be lost then, though reads still give it and a later sync succeeds.
-    sync_failed: bool,
+    /// Whether a sync failed, or a write for another reason than want of room. What was written before may be lost then, though
+    /// reads still give it and a later sync succeeds.
+    sync_may_lie: bool,
     failed: u64,
-    ghost sound: { sync_failed ≡ false → F.sync_failed files ≡ false },
+    ghost sound: { sync_may_lie ≡ false → F.sync_may_lie files ≡ false },
     ghost named: { names_synced ≡ true → F.has_names files ≡ true },
 }
 
 impl<F: DiskFiles> FileDisk<F> {
-    ghost use Rattle.file_disk.specs.Files.{failures_of, files_of, sync_failed_of};
+    ghost use Rattle.file_disk.specs.Files.{failures_of, files_of, sync_may_lie_of};
 
-    /// A disk over these files, of which no sync has failed. Their names are synced with the first area that is: who made
+    /// A disk over these files, whose syncs don't lie. Their names are synced with the first area that is: who made
     /// the files may have ended before it synced them.
     pub fn new(files: F) -> FileDisk<F>
-        requires { F.sync_failed files ≡ false }
+        requires { F.sync_may_lie files ≡ false }
         ensures files { files_of result ≡ files }
         ensures failed { failures_of result ≡ 0 }
-        ensures sync { sync_failed_of result ≡ false }
+        ensures sync { sync_may_lie_of result ≡ false }
     {
         FileDisk {
             files,
             names_synced: false,
-            sync_failed: false,
+            sync_may_lie: false,
             failed: 0,
         }
     }
@@ -57,8 +60,23 @@ fn fail(failed: &mut u64) -> DiskFailure
     DiskFailure
 }
 
+/// Whether a sync may lie after a write with this error, by whether one might before. A write may be refused for what
+/// became of an earlier one, which no sync tells then.
+fn may_lie_after(before: bool, error: &io::Error) -> bool
+    ensures before { result ≡ false → before ≡ false }
+    ensures room { result ≡ false → SaysNoRoom error.now }
+{
+    let kind = error.kind();
+    if before {
+        return true;
+    }
+    kind != ErrorKind::StorageFull
+        && kind != ErrorKind::QuotaExceeded
+        && kind != ErrorKind::FileTooLarge
+}
+
 impl<F: DiskFiles> Disk for FileDisk<F> {
-    ghost use Rattle.file_disk.specs.Files.{failures_of, files_of, sync_failed_of};
+    ghost use Rattle.file_disk.specs.Files.{failures_of, files_of, sync_may_lie_of};
     ghost use Rattle.store_model.specs.Crash.{Counts, Elapses, IsWithin};
     ghost use Rattle.store_model.specs.Image.{Image, bytes_of};
     ghost use Rattle.std.specs.Prelude.{IsErr, OnErr, OnOk};
@@ -102,7 +120,10 @@ impl<F: DiskFiles> Disk for FileDisk<F> {
     fn write(&mut self, area: Area, at: u64, bytes: &[u8]) -> Result<(), DiskFailure> {
         match write_whole(&mut self.files, area, at, bytes) {
             Ok(()) => Ok(()),
-            Err(_) => Err(fail(&mut self.failed)),
+            Err(error) => {
+                self.sync_may_lie = may_lie_after(self.sync_may_lie, &error);
+                Err(fail(&mut self.failed))
+            }
         }
     }
 
@@ -113,7 +134,7 @@ impl<F: DiskFiles> Disk for FileDisk<F> {
         }
     }
 
-    /// After a sync that failed each one fails.
+    /// After a sync that failed each one fails, and after a write that failed for another reason than want of room.
     fn sync(&mut self, area: Area) -> Result<(), DiskFailure>
         ensures durable { F.follows_model → OnOk result ((c : Image) → F.may_leave (files_of self.new) c → bytes_of area c ≡ bytes_of area (F.reads (files_of self.old))) }
         ensures same { F.follows_model → OnOk result (F.reads (files_of self.new) ≡ F.reads (files_of self.old)) }
@@ -121,10 +142,10 @@ impl<F: DiskFiles> Disk for FileDisk<F> {
         ensures time { F.follows_model → Elapses (F.moment (files_of self.old)) (F.moment (files_of self.new)) (F.left_since (files_of self.old)) (F.left_since (files_of self.new)) (F.may_leave (files_of self.new)) }
         ensures count { Counts (failures_of self.old) (failures_of self.new) result }
         ensures named { OnOk result (F.has_names (files_of self.new) ≡ true) }
-        ensures refused { sync_failed_of self.old ≡ true → IsErr result }
-        ensures sticky { OnErr result (sync_failed_of self.new ≡ true) }
+        ensures refused { sync_may_lie_of self.old ≡ true → IsErr result }
+        ensures sticky { OnErr result (sync_may_lie_of self.new ≡ true) }
     {
-        if self.sync_failed {
+        if self.sync_may_lie {
             return Err(fail(&mut self.failed));
         }
         match sync_with_names(&mut self.files, area, self.names_synced) {
@@ -133,7 +154,7 @@ impl<F: DiskFiles> Disk for FileDisk<F> {
                 Ok(())
             }
             Err(_) => {
-                self.sync_failed = true;
+                self.sync_may_lie = true;
                 Err(fail(&mut self.failed))
             }
         }

@@ -2,7 +2,7 @@
 
 ghost use Rattle.store_model.specs.Crash.{CutShort, Elapses, Follows, InArea, IsWithin, Torn};
 ghost use Rattle.store_model.specs.Image.{Image, bytes_of, changed, put};
-ghost use Rattle.file_disk.specs.Sound.{StaysSound};
+ghost use Rattle.file_disk.specs.Sound.{StaysSound, WritesSound};
 ghost use Rattle.std.specs.Prelude.{◌≡◌, ◌<◌, ◌≤◌, ◌+◌, ◌-◌, ◌++◌, IfOk, OnOk, drop, false, length, take, true};
 
 use crate::disk_files::DiskFiles;
@@ -20,7 +20,7 @@ pub(crate) fn read_whole<F: DiskFiles>(
     ensures same { F.follows_model → OnOk result (F.reads files.new ≡ F.reads files.old) }
     ensures crash { F.follows_model → IsWithin (F.may_leave files.old) (F.may_leave files.new) }
     ensures time { F.follows_model → Elapses (F.moment files.old) (F.moment files.new) (F.left_since files.old) (F.left_since files.new) (F.may_leave files.new) }
-    ensures sound { StaysSound F.sync_failed F.has_names files.old files.new }
+    ensures sound { StaysSound F.sync_may_lie F.has_names files.old files.new }
 {
     let mut done = 0usize;
     while done < into.len() {
@@ -45,7 +45,7 @@ fn read_more<F: DiskFiles>(
     ensures same { F.follows_model → OnOk result (F.reads files.new ≡ F.reads files.old) }
     ensures crash { F.follows_model → IsWithin (F.may_leave files.old) (F.may_leave files.new) }
     ensures time { F.follows_model → Elapses (F.moment files.old) (F.moment files.new) (F.left_since files.old) (F.left_since files.new) (F.may_leave files.new) }
-    ensures sound { StaysSound F.sync_failed F.has_names files.old files.new }
+    ensures sound { StaysSound F.sync_may_lie F.has_names files.old files.new }
 {
     let Some(offset) = at.checked_add(done as u64) else {
         return Err(ErrorKind::UnexpectedEof.into());
@@ -68,12 +68,14 @@ pub(crate) fn write_whole<F: DiskFiles>(
         → OnOk result (F.reads files.new ≡ changed area (put (bytes_of area (F.reads files.old)) at bytes.now) (F.reads files.old)) }
     ensures crash { F.follows_model → Follows (InArea area (Torn at (length bytes.now))) (F.may_leave files.old) (F.may_leave files.new) }
     ensures time { F.follows_model → Elapses (F.moment files.old) (F.moment files.new) (F.left_since files.old) (F.left_since files.new) (F.may_leave files.new) }
-    ensures sound { StaysSound F.sync_failed F.has_names files.old files.new }
+    ensures sound { WritesSound F.sync_may_lie F.has_names files.old files.new result }
 {
     let mut done = 0usize;
     while done < bytes.len() {
-        let more = write_more(files, area, at, done, bytes)?;
-        done += more;
+        match write_more(files, area, at, done, bytes) {
+            Ok(more) => done += more,
+            Err(error) => return Err(error),
+        }
     }
     Ok(())
 }
@@ -94,16 +96,16 @@ fn write_more<F: DiskFiles>(
     ensures crash { F.follows_model → Follows (InArea area (Torn (at + done) (length bytes.now - done))) (F.may_leave files.old) (F.may_leave files.new) }
     ensures grows { F.follows_model → IsWithin (F.may_leave files.new) (F.may_leave files.old) }
     ensures time { F.follows_model → Elapses (F.moment files.old) (F.moment files.new) (F.left_since files.old) (F.left_since files.new) (F.may_leave files.new) }
-    ensures sound { StaysSound F.sync_failed F.has_names files.old files.new }
+    ensures sound { WritesSound F.sync_may_lie F.has_names files.old files.new result }
 {
     let Some(offset) = at.checked_add(done as u64) else {
         return Err(ErrorKind::FileTooLarge.into());
     };
-    let n = files.write_at(area, offset, &bytes[done..])?;
-    if n == 0 {
-        return Err(ErrorKind::WriteZero.into());
+    match files.write_at(area, offset, &bytes[done..]) {
+        Ok(0) => Err(ErrorKind::WriteZero.into()),
+        Ok(n) => Ok(n),
+        Err(error) => Err(error),
     }
-    Ok(n)
 }
 
 /// Cuts an area that is longer to this length.
@@ -111,7 +113,7 @@ pub(crate) fn cut_longer<F: DiskFiles>(files: &mut F, area: Area, size: u64) -> 
     ensures cut { F.follows_model → OnOk result (F.reads files.new ≡ changed area (take size (bytes_of area (F.reads files.old))) (F.reads files.old)) }
     ensures crash { F.follows_model → Follows (InArea area (CutShort size)) (F.may_leave files.old) (F.may_leave files.new) }
     ensures time { F.follows_model → Elapses (F.moment files.old) (F.moment files.new) (F.left_since files.old) (F.left_since files.new) (F.may_leave files.new) }
-    ensures sound { StaysSound F.sync_failed F.has_names files.old files.new }
+    ensures sound { StaysSound F.sync_may_lie F.has_names files.old files.new }
 {
     let long = files.length(area)?;
     if long <= size {
@@ -120,18 +122,18 @@ pub(crate) fn cut_longer<F: DiskFiles>(files: &mut F, area: Area, size: u64) -> 
     files.set_length(area, size)
 }
 
-/// Makes an area last, and the names of the files unless they do already. Only where no sync had failed before.
+/// Makes an area last, and the names of the files unless they do already. Only where a sync doesn't lie.
 pub(crate) fn sync_with_names<F: DiskFiles>(
     files: &mut F,
     area: Area,
     names_synced: bool,
 ) -> io::Result<()>
-    requires { F.sync_failed files.old ≡ false }
+    requires { F.sync_may_lie files.old ≡ false }
     ensures durable { F.follows_model → OnOk result ((c : Image) → F.may_leave files.new c → bytes_of area c ≡ bytes_of area (F.reads files.old)) }
     ensures same { F.follows_model → OnOk result (F.reads files.new ≡ F.reads files.old) }
     ensures crash { F.follows_model → IsWithin (F.may_leave files.old) (F.may_leave files.new) }
     ensures time { F.follows_model → Elapses (F.moment files.old) (F.moment files.new) (F.left_since files.old) (F.left_since files.new) (F.may_leave files.new) }
-    ensures sound { OnOk result (F.sync_failed files.new ≡ false) }
+    ensures sound { OnOk result (F.sync_may_lie files.new ≡ false) }
     ensures named { F.has_names files.old ≡ true → F.has_names files.new ≡ true }
     ensures made { names_synced ≡ false → OnOk result (F.has_names files.new ≡ true) }
 {

@@ -44,7 +44,7 @@ impl SystemFiles {
 }
 
 impl FileDisk<SystemFiles> {
-    ghost use Rattle.file_disk.specs.Files.{failures_of, sync_failed_of};
+    ghost use Rattle.file_disk.specs.Files.{failures_of, sync_may_lie_of};
 
     /// Opens the files NAME and NAME.journal, and makes those that are missing: a journal with the document's permissions,
     /// since it holds the document's bytes.
@@ -56,7 +56,7 @@ impl FileDisk<SystemFiles> {
         name: &str,
     ) -> Result<FileDisk<SystemFiles>, StoreFault>
         ensures failed { IfOk result (λ disk. failures_of disk ≡ 0) }
-        ensures sync { IfOk result (λ disk. sync_failed_of disk ≡ false) }
+        ensures sync { IfOk result (λ disk. sync_may_lie_of disk ≡ false) }
         ensures refuses { IfErr result FilesRefuse }
     {
         match open_files(rt, name) {
@@ -71,7 +71,7 @@ impl FileDisk<SystemFiles> {
         name: &str,
     ) -> Result<Option<FileDisk<SystemFiles>>, StoreFault>
         ensures failed { IfOk result (λ found. IfSome found (λ disk. failures_of disk ≡ 0)) }
-        ensures sync { IfOk result (λ found. IfSome found (λ disk. sync_failed_of disk ≡ false)) }
+        ensures sync { IfOk result (λ found. IfSome found (λ disk. sync_may_lie_of disk ≡ false)) }
         ensures refuses { IfErr result FilesRefuse }
     {
         match find_files(rt, name) {
@@ -211,7 +211,7 @@ impl DiskFiles for SystemFiles {
 
     ghost left_since = { λ f t c. Unit {0} };
 
-    ghost sync_failed = { λ f. false };
+    ghost sync_may_lie = { λ f. false };
 
     ghost has_names = { λ f. true };
 
@@ -238,7 +238,7 @@ impl DiskFiles for SystemFiles {
     }
 
     fn sync(&mut self, area: Area) -> io::Result<()> {
-        self.file(area).sync_all()
+        self.file(area).sync_data()
     }
 
     fn sync_names(&mut self) -> io::Result<()> {

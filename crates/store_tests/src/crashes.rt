@@ -6,7 +6,7 @@ use doc_store::memory_disk::MemoryDisk;
 use std::alloc::Global;
 use std::process::Abort;
 
-/// Whether a crash after so many calls opens to one of two documents, and after the last call to the second.
+/// Whether a crash after so many calls opens to one of two documents, and to the second where it has to.
 fn opens_to(
     rt: &impl Abort,
     alloc: Global,
@@ -15,23 +15,35 @@ fn opens_to(
     pending: (Pending, Pending),
     old: &[u8],
     new: &[u8],
+    is_done: bool,
 ) -> bool {
     let image = crashed(rt, alloc, from, calls, pending.0, pending.1);
     let found = document(alloc, image).expect(rt, "a document");
-    found.as_slice() == new || (calls < from.calls().len() && found.as_slice() == old)
+    found.as_slice() == new || (!is_done && found.as_slice() == old)
 }
 
-fn opens_with_any(
+/// The same with whatever becomes of the writes that no sync has followed.
+pub(crate) fn opens_with_any(
     rt: &impl Abort,
     alloc: Global,
     from: &MemoryDisk,
     calls: usize,
     old: &[u8],
     new: &[u8],
+    is_done: bool,
 ) -> bool {
     for of_document in PENDING {
         for of_journal in PENDING {
-            if !opens_to(rt, alloc, from, calls, (of_document, of_journal), old, new) {
+            if !opens_to(
+                rt,
+                alloc,
+                from,
+                calls,
+                (of_document, of_journal),
+                old,
+                new,
+                is_done,
+            ) {
                 return false;
             }
         }
@@ -40,7 +52,7 @@ fn opens_with_any(
 }
 
 /// Whether each crash of a disk's calls opens to one of two documents, and each after the last call to the second.
-fn opens_to_either(
+pub(crate) fn opens_to_either(
     rt: &impl Abort,
     alloc: Global,
     from: &MemoryDisk,
@@ -48,7 +60,8 @@ fn opens_to_either(
     new: &[u8],
 ) -> bool {
     for calls in 0..=from.calls().len() {
-        if !opens_with_any(rt, alloc, from, calls, old, new) {
+        let is_done = calls == from.calls().len();
+        if !opens_with_any(rt, alloc, from, calls, old, new, is_done) {
             return false;
         }
     }

@@ -1,5 +1,6 @@
 //! The disk over two files.
 
+use crate::folder::Folder;
 use crate::wide::bytes_of;
 use doc_store::disk::Disk;
 use doc_store::fault::StoreFault;
@@ -7,8 +8,7 @@ use doc_store::store::Store;
 use file_disk::file_disk::FileDisk;
 use file_disk::system_files::SystemFiles;
 use std::alloc::Global;
-use std::hash::{BuildHasher, RandomState};
-use std::{env, fs};
+use std::fs;
 
 /// Whether the files of a name give these bytes, once a document is committed if there is one.
 fn opens_to(rt: &HostRuntime, name: &str, new: Option<&[u8]>, want: &[u8]) -> bool {
@@ -120,29 +120,18 @@ fn is_found_and_locked(rt: &HostRuntime, name: &str, want: &[u8]) -> bool {
     }
 }
 
-fn are_removed(rt: &HostRuntime, name: &str, journal: &str, folder: &str) -> bool {
-    fs::remove_file(rt, journal).is_ok()
-        && fs::remove_file(rt, name).is_ok()
-        && fs::remove_dir(rt, folder).is_ok()
-}
-
 #[test]
 fn files_are_made_committed_and_opened_again(rt: HostRuntime) {
-    let alloc = rt.alloc();
-    let key = RandomState::new(&rt).expect(&rt, "a key").hash_one(&0u8);
-    let temp = env::temp_dir(&rt).expect(&rt, "a folder");
-    let folder = format!(in alloc; "{}/olecon_{key}", temp.as_str()).expect(&rt, "memory");
-    fs::create_dir(&rt, folder.as_str()).expect(&rt, "a new folder");
-    let name = format!(in alloc; "{folder}/a.doc").expect(&rt, "memory");
-    let journal = format!(in alloc; "{name}.journal").expect(&rt, "memory");
-    let long = bytes_of(alloc, 200_000, 0).expect(&rt, "memory");
-    assert!(rt; is_found_as_none(&rt, name.as_str()));
-    assert!(rt; are_committed(&rt, name.as_str(), &long));
-    assert!(rt; is_short_journal(&rt, journal.as_str()));
-    assert!(rt; is_found_and_locked(&rt, name.as_str(), b"short"));
-    assert!(rt; is_carried_out(&rt, name.as_str(), journal.as_str()));
-    assert!(rt; are_blocks_carried_out(&rt, name.as_str(), journal.as_str(), &long));
+    let folder = Folder::new(&rt).expect(&rt, "a folder");
+    let (name, journal) = (folder.name(), folder.journal());
+    let long = bytes_of(rt.alloc(), 200_000, 0).expect(&rt, "memory");
+    assert!(rt; is_found_as_none(&rt, name));
+    assert!(rt; are_committed(&rt, name, &long));
+    assert!(rt; is_short_journal(&rt, journal));
+    assert!(rt; is_found_and_locked(&rt, name, b"short"));
+    assert!(rt; is_carried_out(&rt, name, journal));
+    assert!(rt; are_blocks_carried_out(&rt, name, journal, &long));
     // A folder isn't opened.
-    assert!(rt; FileDisk::open(&rt, folder.as_str()).is_err());
-    assert!(rt; are_removed(&rt, name.as_str(), journal.as_str(), folder.as_str()));
+    assert!(rt; FileDisk::open(&rt, folder.path()).is_err());
+    assert!(rt; folder.is_removed(&rt));
 }

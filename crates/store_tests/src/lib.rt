@@ -4,9 +4,13 @@
 #[cfg(test)]
 mod crashes;
 #[cfg(test)]
+mod failing;
+#[cfg(test)]
 mod faults;
 #[cfg(test)]
 mod files;
+#[cfg(test)]
+mod folder;
 #[cfg(test)]
 mod images;
 #[cfg(test)]
@@ -15,7 +19,5 @@ mod resolving;
 mod runs;
 #[cfg(test)]
 mod short;
-#[cfg(test)]
-mod short_files;
 #[cfg(test)]
 mod wide;

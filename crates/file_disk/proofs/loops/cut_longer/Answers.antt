@@ -39,4 +39,4 @@ returns-clause-time g c model =
 pub returns-clause-sound : goal.returns-clause-sound
 returns-clause-sound g c =
     let files = g.F.DiskFiles in
-    then_sound files.sync_failed files.has_names c.args.files.now c.length.new.self c.set_length.new.self c.in_ok-long.ensures.sound c.set_length.ensures.sound
+    then_sound files.sync_may_lie files.has_names c.args.files.now c.length.new.self c.set_length.new.self c.in_ok-long.ensures.sound c.set_length.ensures.sound

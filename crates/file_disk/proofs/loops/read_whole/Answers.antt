@@ -15,7 +15,7 @@ loop-done-init g c =
       same = λ model. refl;
       crash = λ model i left. left;
       time = λ model. no_time files.may_leave files.moment files.left_since c.args.files.now;
-      sound = same_sound files.sync_failed files.has_names c.args.files.now;
+      sound = same_sound files.sync_may_lie files.has_names c.args.files.now;
     }
 
 pub loop-done-preserved : goal.loop-done-preserved
@@ -36,7 +36,7 @@ loop-done-preserved g c =
       crash = λ model i left. before.crash model i (step.crash model i left);
       time = λ model. then_time files.may_leave files.moment files.left_since c.args.files.now c.loop-done.files c.read_more.new.files
           (λ t i le left. g.met.F.DiskFiles.counts_now c.args.files.now t i le (before.crash model i left)) (before.time model) (step.time model);
-      sound = then_sound files.sync_failed files.has_names c.args.files.now c.loop-done.files c.read_more.new.files before.sound step.sound;
+      sound = then_sound files.sync_may_lie files.has_names c.args.files.now c.loop-done.files c.read_more.new.files before.sound step.sound;
     }
 
 pub returns-in_err-more-clause-crash : goal.returns-in_err-more-clause-crash
@@ -51,7 +51,7 @@ returns-in_err-more-clause-time g c model =
 pub returns-in_err-more-clause-sound : goal.returns-in_err-more-clause-sound
 returns-in_err-more-clause-sound g c =
     let files = g.F.DiskFiles in
-    then_sound files.sync_failed files.has_names c.args.files.now c.loop-done.files c.read_more.new.files c.loop-done.invariant.sound c.read_more.ensures.sound
+    then_sound files.sync_may_lie files.has_names c.args.files.now c.loop-done.files c.read_more.new.files c.loop-done.invariant.sound c.read_more.ensures.sound
 
 pub returns-clause-bytes : goal.returns-clause-bytes
 returns-clause-bytes g c model =

@@ -14,7 +14,7 @@ invariant-loop-done g l =
       same : files.follows_model → files.reads l.files ≡ files.reads l.fn.files;
       crash : files.follows_model → IsWithin (files.may_leave l.fn.files) (files.may_leave l.files);
       time : files.follows_model → Elapses (files.moment l.fn.files) (files.moment l.files) (files.left_since l.fn.files) (files.left_since l.files) (files.may_leave l.files);
-      sound : StaysSound files.sync_failed files.has_names l.fn.files l.files;
+      sound : StaysSound files.sync_may_lie files.has_names l.fn.files l.files;
     }
 
 abbrev pub decreases-loop-done : goal.decreases-loop-done

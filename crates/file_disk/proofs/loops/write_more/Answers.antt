@@ -2,8 +2,8 @@ use Rattle.std.proofs.Common.{◌≡◌, ◌+◌, ◌-◌, ℕ, List, drop, leng
 use Rattle.file_disk.proofs.Puts.{follows_as}
 use Rattle.file_disk.proofs.loops.write_more.Goals as goal
 
-pub returns-in_err-n-clause-crash : goal.returns-in_err-n-clause-crash
-returns-in_err-n-clause-crash g c model =
+pub returns-in-Err-clause-crash : goal.returns-in-Err-clause-crash
+returns-in-Err-clause-crash g c model =
     let bytes : List ℕ = c.args.bytes.now in
     let done : ℕ = c.args.done in
     let offset : c.in-Some.offset ≡ c.args.at + done = search rules in
@@ -11,8 +11,8 @@ returns-in_err-n-clause-crash g c model =
     let long : length part ≡ length bytes - done = omega (arith, length-take (length bytes - done) (drop done bytes), length-drop done bytes) in
     follows_as c.args.area c.in-Some.offset (length part) (c.args.at + done) (length bytes - done) (g.F.DiskFiles.may_leave c.args.files.now) (g.F.DiskFiles.may_leave c.write_at.new.self) offset long (c.write_at.ensures.crash model)
 
-pub returns-then-n-eq0-clause-crash : goal.returns-then-n-eq0-clause-crash
-returns-then-n-eq0-clause-crash g c model =
+pub returns-in-Ok-eq0-clause-crash : goal.returns-in-Ok-eq0-clause-crash
+returns-in-Ok-eq0-clause-crash g c model =
     let bytes : List ℕ = c.args.bytes.now in
     let done : ℕ = c.args.done in
     let offset : c.in-Some.offset ≡ c.args.at + done = search rules in
@@ -20,8 +20,8 @@ returns-then-n-eq0-clause-crash g c model =
     let long : length part ≡ length bytes - done = omega (arith, length-take (length bytes - done) (drop done bytes), length-drop done bytes) in
     follows_as c.args.area c.in-Some.offset (length part) (c.args.at + done) (length bytes - done) (g.F.DiskFiles.may_leave c.args.files.now) (g.F.DiskFiles.may_leave c.write_at.new.self) offset long (c.write_at.ensures.crash model)
 
-pub returns-clause-crash : goal.returns-clause-crash
-returns-clause-crash g c model =
+pub returns-in-Ok-clause-crash : goal.returns-in-Ok-clause-crash
+returns-in-Ok-clause-crash g c model =
     let bytes : List ℕ = c.args.bytes.now in
     let done : ℕ = c.args.done in
     let offset : c.in-Some.offset ≡ c.args.at + done = search rules in

@@ -13,7 +13,7 @@ invariant-loop-done g l =
           → files.reads l.files ≡ changed l.area (put (bytes_of l.area (files.reads l.fn.files)) l.at (take l.done l.bytes)) (files.reads l.fn.files);
       crash : files.follows_model → Follows (InArea l.area (Torn l.at (length l.bytes))) (files.may_leave l.fn.files) (files.may_leave l.files);
       time : files.follows_model → Elapses (files.moment l.fn.files) (files.moment l.files) (files.left_since l.fn.files) (files.left_since l.files) (files.may_leave l.files);
-      sound : StaysSound files.sync_failed files.has_names l.fn.files l.files;
+      sound : StaysSound files.sync_may_lie files.has_names l.fn.files l.files;
     }
 
 abbrev pub decreases-loop-done : goal.decreases-loop-done

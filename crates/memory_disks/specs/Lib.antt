@@ -1,0 +1,3 @@
+pub mod CallLaws
+pub mod Calls
+pub mod Memory
