@@ -1,5 +1,5 @@
 -- What is printed of a command.
-use Rattle.std.specs.Prelude.{◌++◌, ℕ, List, [], ◌∷◌, Option, Some, None, Result, Ok, Err, codes}
+use Rattle.std.specs.Prelude.{◌+◌, ◌++◌, ℕ, zero, suc, List, [], ◌∷◌, length, Option, Some, None, Result, Ok, Err, codes}
 use Rattle.std.specs.Fmt.{decimal}
 use Rattle.container_model.specs.FaultNames.{fault_name}
 use Rattle.container_model.specs.Record.{Took}
@@ -10,6 +10,11 @@ use Rattle.wire_msgs.specs.Refusals.{code_of}
 use Rattle.script_model.specs.declared.answer.Told.{Told}
 use Rattle.script_model.specs.declared.answer.Told.TheVariants as told
 
+-- so many objects, from this number on
+abbrev pub objects_from : ℕ → ℕ → List ℕ
+objects_from first zero = []
+objects_from first (suc n) = objects_from first n ++ codes " object " ++ decimal (first + n)
+
 abbrev pub told_text : Told → List ℕ
 told_text (told.Frame f) = codes "frame " ++ decimal f
 told_text (told.Object o) = codes "object " ++ decimal o
@@ -18,6 +23,8 @@ told_text (told.Refused refusal) = codes "refused " ++ decimal (code_of refusal)
 told_text told.Done = codes "ok"
 told_text (told.Fault fault) = fault_name fault
 told_text (told.Lost fault) = name_of fault
+told_text (told.Opened f first count) = codes "frame " ++ decimal f ++ objects_from first count
+told_text (told.Unread fault) = name_of fault
 
 -- a command's line
 abbrev pub told_line : Told → List ℕ
@@ -43,6 +50,18 @@ made_frame None objects server = made_object objects server
 abbrev pub made_by : Answer → Told
 made_by a = made_frame a.frame a.objects a.server
 
+-- what was made of a file: its frame, and how many objects from which number on
+abbrev pub first_of : List ℕ → ℕ
+first_of [] = 0
+first_of (o ∷ os) = o
+
+abbrev pub opened_as : Option ℕ → List ℕ → Told
+opened_as (Some f) objects = told.Opened f (first_of objects) (length objects)
+opened_as None objects = told.Done
+
+abbrev pub opened_by : Answer → Told
+opened_by a = opened_as a.frame a.objects
+
 abbrev pub told_by : Result Took ContainerFault → Told
 told_by (Ok took) = made_by took.answer
 told_by (Err fault) = told.Fault fault
@@ -60,3 +79,5 @@ further (told.Server inc) noticed = told.Server inc
 further (told.Refused refusal) noticed = told.Refused refusal
 further (told.Fault fault) noticed = told.Fault fault
 further (told.Lost fault) noticed = told.Lost fault
+further (told.Opened f first count) noticed = told.Opened f first count
+further (told.Unread fault) noticed = told.Unread fault

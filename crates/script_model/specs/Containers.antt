@@ -4,10 +4,11 @@ use Rattle.container_model.specs.Record.{Record, Took, empty}
 use Rattle.container_model.specs.Commands.{on_command}
 use Rattle.container_model.specs.Messages.{on_message, on_reap}
 use Rattle.container_model.specs.Saves.{commit_done, commit_failed, resolve}
+use Rattle.container_model.specs.Opens.{Given as Read, opened}
 use Rattle.container_model.specs.declared.fault.ContainerFault.{ContainerFault}
 use Rattle.script_model.specs.declared.step.Step.{Step}
 use Rattle.script_model.specs.declared.step.Step.TheVariants as step
-use Rattle.script_model.specs.Events.{Event, Started, Connected, Sent, Heard, Ended, Opened, Stepped}
+use Rattle.script_model.specs.Events.{Event, Started, Connected, Sent, Heard, Ended, Opened, Found, Shut, Stepped}
 
 -- the greatest number that a script's container draws
 abbrev pub MOST_NUMBERS : ℕ
@@ -34,9 +35,10 @@ given g (step.Reap inc) = gives g (on_reap g.now inc)
 given g (step.Committed f) = gives g (commit_done g.now f)
 given g (step.Failed f) = gives g (commit_failed g.now f)
 given g (step.Resolved f is_kept) = gives g (resolve g.now f is_kept)
+given g (step.Open name w h objects) = gives g (opened g.now name w h (Read.Holding objects))
 given g step.NoMemory = record { before = g.before; now = g.before }
 
-abbrev pub given_by : List Event → Given
+abbrev pub given_by : {D : Type 0} → List (Event D) → Given
 given_by [] = record { before = empty MOST_NUMBERS; now = empty MOST_NUMBERS }
 given_by (Stepped step ∷ es) = given (given_by es) step
 given_by (Started inc ok ∷ es) = given_by es
@@ -44,9 +46,11 @@ given_by (Connected inc ok ∷ es) = given_by es
 given_by (Sent inc bytes ok ∷ es) = given_by es
 given_by (Heard inc bytes ok ∷ es) = given_by es
 given_by (Ended inc ∷ es) = given_by es
-given_by (Opened name ok ∷ es) = given_by es
+given_by (Opened name disk ∷ es) = given_by es
+given_by (Found name disk ∷ es) = given_by es
+given_by (Shut name disk ∷ es) = given_by es
 
 -- the container's record: its step applied to the commands, to the messages, each with the link that it came on, to the ends of
--- servers and to what became of commits, in their order, from a container without frames, objects and servers
-abbrev pub record_of : List Event → Record
+-- servers, to what became of commits and to the documents of files that are opened, in their order, from a container without frames, objects and servers
+abbrev pub record_of : {D : Type 0} → List (Event D) → Record
 record_of es = (given_by es).now

@@ -6,7 +6,7 @@ use Rattle.container_model.specs.Record.{Record}
 use Rattle.container_model.specs.Replies.{pending_calls}
 use Rattle.message_model.specs.declared.frame.Frame.TheVariants as frame
 use Rattle.message_model.specs.Spelling.{spell}
-use Rattle.script_model.specs.Events.{Event, Started, Connected, Sent, Heard, Ended, Opened, Stepped}
+use Rattle.script_model.specs.Events.{Event, Started, Connected, Sent, Heard, Ended, Opened, Found, Shut, Stepped}
 use Rattle.script_model.specs.Containers.{record_of}
 
 -- the server that a message is to or from
@@ -26,12 +26,14 @@ abbrev pub turn_of : Record → ℕ → List ℕ
 turn_of r inc = spelled_to inc (pending_calls r.objects) ++ spell frame.Turn
 
 -- All that was sent were turns of the container as it then was.
-abbrev pub AreTurns : List Event → Type 0
+abbrev pub AreTurns : {D : Type 0} → List (Event D) → Type 0
 AreTurns [] = Unit {0}
 AreTurns (Sent inc bytes ok ∷ es) = (bytes ≡ turn_of (record_of es) inc) × AreTurns es
 AreTurns (Started inc ok ∷ es) = AreTurns es
 AreTurns (Connected inc ok ∷ es) = AreTurns es
 AreTurns (Heard inc bytes ok ∷ es) = AreTurns es
 AreTurns (Ended inc ∷ es) = AreTurns es
-AreTurns (Opened name ok ∷ es) = AreTurns es
+AreTurns (Opened name disk ∷ es) = AreTurns es
+AreTurns (Found name disk ∷ es) = AreTurns es
+AreTurns (Shut name disk ∷ es) = AreTurns es
 AreTurns (Stepped step ∷ es) = AreTurns es

@@ -21,4 +21,8 @@ pub enum Told {
     Fault(ContainerFault),
     /// A save was lost: the disk refused it, and the file is the one from before.
     Lost(StoreFault),
+    /// This frame was made of a file, with objects from this number on, so many.
+    Opened(u32, u32, u32),
+    /// What a file holds isn't read: its disk isn't given or opened.
+    Unread(StoreFault),
 }

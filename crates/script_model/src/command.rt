@@ -1,6 +1,7 @@
 //! The commands of a script.
 
 use container_model::command::Command;
+use storage_tree::bytes::Bytes;
 
 /// A command of a script.
 #[derive(Drop)]
@@ -15,4 +16,6 @@ pub enum ScriptCommand {
     Release(u32),
     /// What a frame shows.
     Screen(u32),
+    /// The file of this name is opened as a frame, so many columns wide and so many lines high.
+    Open(Bytes, u16, u16),
 }

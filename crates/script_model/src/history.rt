@@ -1,8 +1,8 @@
 //! What a host was asked and answered, which only clauses read.
 
-ghost use Rattle.script_model.specs.Events.{Connected, Ended, Heard, Opened, Sent, Started, Stepped};
+ghost use Rattle.script_model.specs.Events.{Connected, Ended, Found, Heard, Opened, Sent, Shut, Started, Stepped};
 ghost use Rattle.script_model.specs.Histories.{told_in};
-ghost use Rattle.std.specs.Prelude.{◌≡◌, [], ◌∷◌};
+ghost use Rattle.std.specs.Prelude.{◌≡◌, [], ◌∷◌, option_copied};
 
 use crate::step::Step;
 use histories::calls::Calls;
@@ -10,9 +10,10 @@ use histories::values::Values;
 
 /// What a host was asked and answered, and what the container was given meanwhile. It takes no memory.
 #[derive(Drop)]
-pub struct History {
+pub struct History<D> {
     pub(crate) calls: Calls,
     pub(crate) steps: Values<Step, ()>,
+    pub(crate) disks: Values<D, ()>,
 }
 
 /// The numbers of the calls.
@@ -30,14 +31,19 @@ const STEPPED: u64 = 5;
 
 const OPENED: u64 = 6;
 
-impl History {
+const FOUND: u64 = 7;
+
+const SHUT: u64 = 8;
+
+impl<D> History<D> {
     /// Nothing was asked.
-    pub fn new() -> History
+    pub fn new() -> History<D>
         ensures { told_in result ≡ [] }
     {
         History {
             calls: Calls::new(),
             steps: Values::new(),
+            disks: Values::new(),
         }
     }
 
@@ -81,10 +87,37 @@ impl History {
     }
 
     /// The disk of a file was opened, or it wasn't.
-    pub fn opened(&mut self, name: &[u8], ok: bool)
-        ensures { told_in self.new ≡ Opened name.now ok ∷ told_in self.old }
+    pub fn opened(&mut self, name: &[u8], disk: Option<&D>)
+        ensures { told_in self.new ≡ Opened name.now (option_copied disk.entry) ∷ told_in self.old }
     {
-        self.calls.note(&[OPENED, 0, u64::from(ok)], name);
+        match disk {
+            Some(disk) => {
+                self.calls.note(&[OPENED, 0, 1], name);
+                self.disks = self.disks.and(disk, &());
+            }
+            None => self.calls.note(&[OPENED, 0, 0], name),
+        }
+    }
+
+    /// The disk of a file was looked for, and given or not.
+    pub fn found(&mut self, name: &[u8], disk: Option<&D>)
+        ensures { told_in self.new ≡ Found name.now (option_copied disk.entry) ∷ told_in self.old }
+    {
+        match disk {
+            Some(disk) => {
+                self.calls.note(&[FOUND, 0, 1], name);
+                self.disks = self.disks.and(disk, &());
+            }
+            None => self.calls.note(&[FOUND, 0, 0], name),
+        }
+    }
+
+    /// The disk of a file was given back.
+    pub fn shut(&mut self, name: &[u8], disk: &D)
+        ensures { told_in self.new ≡ Shut name.now disk.now ∷ told_in self.old }
+    {
+        self.calls.note(&[SHUT, 0, 1], name);
+        self.disks = self.disks.and(disk, &());
     }
 
     /// Something happened to the container.

@@ -1,6 +1,6 @@
 //! A host: it starts servers, carries bytes to and from them, ends them, and gives the disks of files.
 
-ghost use Rattle.script_model.specs.Events.{Event, Connected, Ended, Heard, Opened, Sent, Started, Stepped};
+ghost use Rattle.script_model.specs.Events.{Event, Connected, Ended, Found, Heard, Opened, Sent, Shut, Started, Stepped, disk_found, disk_given};
 ghost use Rattle.std.specs.Prelude.{◌≡◌, ◌≤◌, false, true, List, [], ◌∷◌, IfOk, MatchResult, is_ok, length, take};
 
 use crate::step::Step;
@@ -26,7 +26,7 @@ pub trait Host {
     type Disk: Disk + Drop;
 
     /// All that was asked of it and what it answered, and what the container was given meanwhile, the newest first.
-    ghost told: { Self → List Event };
+    ghost told: { Self → List (Event Self.Disk) };
 
     /// Starts a server, and makes a link to it.
     fn start(&mut self, inc: u32) -> Result<(), HostFault>
@@ -51,7 +51,16 @@ pub trait Host {
 
     /// The disk of the file of this name; a file that is missing is made.
     fn disk(&mut self, name: &[u8]) -> Result<Self::Disk, StoreFault>
-        ensures { told self.new ≡ Opened name.now (is_ok result) ∷ told self.old };
+        ensures { told self.new ≡ Opened name.now (disk_given result) ∷ told self.old };
+
+    /// The disk of the file of this name, where the file or its journal is there; none where neither is, or where a file without
+    /// bytes has no journal, and then nothing is made.
+    fn find(&mut self, name: &[u8]) -> Result<Option<Self::Disk>, StoreFault>
+        ensures told { told self.new ≡ Found name.now (disk_found result) ∷ told self.old };
+
+    /// The disk of the file of this name is given back.
+    fn shut(&mut self, name: &[u8], disk: Self::Disk)
+        ensures { told self.new ≡ Shut name.now disk ∷ told self.old };
 
     /// Notes what happens to the container, so that the history has it in its place. It does nothing else.
     fn note(&mut self, step: &Step)

@@ -1,6 +1,9 @@
 //! What happens to a container between the calls of its host.
 
 use container_model::command::Command;
+use document_model::object::DocObject;
+use storage_tree::bytes::Bytes;
+use wire_msgs::items::Items;
 use wire_msgs::message::Message;
 
 /// What happens to a container between the calls of its host.
@@ -20,6 +23,9 @@ pub enum Step {
     Failed(u32),
     /// The container is told whether the file of this frame, which was in doubt, was committed after all.
     Resolved(u32, bool),
+    /// The container is given a file that is opened under this name, as a frame so many columns wide and so many lines high: the
+    /// objects of its document.
+    Open(Bytes, u16, u16, Items<DocObject>),
     /// The container had no memory for what it was given last.
     NoMemory,
 }

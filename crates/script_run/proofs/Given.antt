@@ -1,5 +1,5 @@
 -- What is given to the container, and what is asked of the host, leaves the record that the history tells.
-use Rattle.std.proofs.Common.{◌≡◌, ◌≤◌, ◌<◌, ◌+◌, ◌-◌, ◌==◌, ◌++◌, ℕ, zero, suc, Bool, true, false, List, [], ◌∷◌, length, take, drop, remove, if◌then◌else◌, Result, Ok, Err, IfOk, IfErr, OnErr, refl, sym, ap, ◌∙◌, subst, append_assoc, arith, rules, slice_index_or, slice_set}
+use Rattle.std.proofs.Common.{◌≡◌, ◌≤◌, ◌<◌, ◌+◌, ◌-◌, ◌==◌, ◌++◌, ℕ, zero, suc, Bool, true, false, List, [], ◌∷◌, Option, length, take, drop, remove, if◌then◌else◌, Result, Ok, Err, IfOk, IfErr, OnErr, refl, sym, ap, ◌∙◌, subst, append_assoc, arith, rules, slice_index_or, slice_set}
 use Rattle.container_model.specs.Record.{Record, Took, Refuses}
 use Rattle.container_model.specs.declared.answer.Answer.{Answer}
 use Rattle.container_model.specs.declared.fault.ContainerFault.{ContainerFault}
@@ -7,82 +7,91 @@ use Rattle.container_model.specs.declared.fault.ContainerFault.TheVariants as fa
 use Rattle.script_model.specs.declared.step.Step.{Step}
 use Rattle.script_model.specs.declared.step.Step.TheVariants as step
 use Rattle.script_model.specs.Containers.{Given, given, given_by, gives, moved, record_of}
-use Rattle.script_model.specs.Events.{Event, Started, Connected, Sent, Heard, Ended, Opened, Stepped, running}
+use Rattle.script_model.specs.Events.{Event, Started, Connected, Sent, Heard, Ended, Opened, Found, Shut, Stepped, running}
 use Rattle.script_model.specs.Turns.{AreTurns, turn_of}
+use Rattle.script_model.specs.Saved.{CountsSaved}
+use Rattle.store_model.specs.Image.{Image}
 use Rattle.script_run.specs.Links.{AreLinked, links_of}
 use Rattle.script_run.specs.Told.{IsTold, noted_of}
 use Rattle.script_run.specs.declared.links.Link.{Link}
 
-taken_step : (f : Record → Result Took ContainerFault) (now r : Record) (t : Took) → now ≡ r → f r ≡ Ok t → moved now (f now) ≡ t.rec
+pub taken_step : (f : Record → Result Took ContainerFault) (now r : Record) (t : Took) → now ≡ r → f r ≡ Ok t → moved now (f now) ≡ t.rec
 taken_step f now r t is took = ap (λ n. moved n (f n)) is ∙ ap (moved r) took
 
 refused_step : (f : Record → Result Took ContainerFault) (now r : Record) (e : ContainerFault) → now ≡ r → f r ≡ Err e → moved now (f now) ≡ r
 refused_step f now r e is refused = ap (λ n. moved n (f n)) is ∙ ap (moved r) refused
 
 -- a step of the container that f is
-abbrev IsBy : Step → (Record → Result Took ContainerFault) → Type 0
+abbrev pub IsBy : Step → (Record → Result Took ContainerFault) → Type 0
 IsBy st f = (g : Given) → given g st ≡ gives g (f g.now)
 
-one_step : (st : Step) (f : Record → Result Took ContainerFault) (es : List Event) (r now : Record) → IsBy st f → (record_of es ≡ r → moved (record_of es) (f (record_of es)) ≡ now) → IsTold es r → IsTold (Stepped st ∷ es) now
-one_step st f es r now by is t = record { recorded = ap (λ g. g.now) (by (given_by es)) ∙ is t.recorded; sent = t.sent }
+module _ {D : Type 0} {model : Type 0} {ml : D → Image → Type 0} where
+  pub one_step : (st : Step) (f : Record → Result Took ContainerFault) (es : List (Event D)) (r now : Record) → IsBy st f → (model → CountsSaved ml st es) → (record_of es ≡ r → moved (record_of es) (f (record_of es)) ≡ now) → IsTold model ml es r → IsTold model ml (Stepped st ∷ es) now
+  one_step st f es r now by counts is t = record { recorded = ap (λ g. g.now) (by (given_by es)) ∙ is t.recorded; sent = t.sent; saved = λ m. (counts m, t.saved m) }
 
--- a step that was undone for want of memory
-lost_step : (st : Step) (f : Record → Result Took ContainerFault) (es : List Event) (r : Record) → IsBy st f → IsTold es r → IsTold (Stepped step.NoMemory ∷ Stepped st ∷ es) r
-lost_step st f es r by t = record { recorded = ap (λ g. g.before) (by (given_by es)) ∙ t.recorded; sent = t.sent }
+  -- a step that was undone for want of memory
+  pub lost_step : (st : Step) (f : Record → Result Took ContainerFault) (es : List (Event D)) (r : Record) → IsBy st f → (model → CountsSaved ml st es) → IsTold model ml es r → IsTold model ml (Stepped step.NoMemory ∷ Stepped st ∷ es) r
+  lost_step st f es r by counts t = record { recorded = ap (λ g. g.before) (by (given_by es)) ∙ t.recorded; sent = t.sent; saved = λ m. (tt, (counts m, t.saved m)) }
 
-by_fault : (st : Step) (f : Record → Result Took ContainerFault) (es : List Event) (r : Record) (e : ContainerFault) → IsBy st f → f r ≡ Err e → IsTold es r → IsTold (Stepped st ∷ es) r
-by_fault st f es r e by refused = one_step st f es r r by (λ is. refused_step f (record_of es) r e is refused)
+  by_fault : (st : Step) (f : Record → Result Took ContainerFault) (es : List (Event D)) (r : Record) (e : ContainerFault) → IsBy st f → (model → CountsSaved ml st es) → f r ≡ Err e → IsTold model ml es r → IsTold model ml (Stepped st ∷ es) r
+  by_fault st f es r e by counts refused = one_step st f es r r by counts (λ is. refused_step f (record_of es) r e is refused)
 
-refused_given : (st : Step) (f : Record → Result Took ContainerFault) (es : List Event) (r : Record) (e : ContainerFault) → IsBy st f → Refuses (f r) e → IsTold es r → IsTold (noted_of {A = Answer} (Err e) (Stepped st ∷ es)) r
-refused_given st f es r fault.NoSuch by refuses = by_fault st f es r fault.NoSuch by refuses
-refused_given st f es r fault.Busy by refuses = by_fault st f es r fault.Busy by refuses
-refused_given st f es r fault.NotRunning by refuses = by_fault st f es r fault.NotRunning by refuses
-refused_given st f es r fault.InDoubt by refuses = by_fault st f es r fault.InDoubt by refuses
-refused_given st f es r fault.WrongLink by refuses = by_fault st f es r fault.WrongLink by refuses
-refused_given st f es r fault.Stale by refuses = by_fault st f es r fault.Stale by refuses
-refused_given st f es r fault.Full by refuses = by_fault st f es r fault.Full by refuses
-refused_given st f es r fault.NumbersSpent by refuses = by_fault st f es r fault.NumbersSpent by refuses
-refused_given st f es r fault.WrongState by refuses = by_fault st f es r fault.WrongState by refuses
-refused_given st f es r fault.BadFile by refuses = by_fault st f es r fault.BadFile by refuses
-refused_given st f es r fault.BadAnswer by refuses = by_fault st f es r fault.BadAnswer by refuses
-refused_given st f es r fault.UnknownClass by refuses = by_fault st f es r fault.UnknownClass by refuses
-refused_given st f es r fault.NoMemory by refuses = lost_step st f es r by
+  pub refused_given : (st : Step) (f : Record → Result Took ContainerFault) (es : List (Event D)) (r : Record) (e : ContainerFault) → IsBy st f → (model → CountsSaved ml st es) → Refuses (f r) e → IsTold model ml es r → IsTold model ml (noted_of {A = Answer} (Err e) (Stepped st ∷ es)) r
+  refused_given st f es r fault.NoSuch by counts refuses = by_fault st f es r fault.NoSuch by counts refuses
+  refused_given st f es r fault.Busy by counts refuses = by_fault st f es r fault.Busy by counts refuses
+  refused_given st f es r fault.NotRunning by counts refuses = by_fault st f es r fault.NotRunning by counts refuses
+  refused_given st f es r fault.InDoubt by counts refuses = by_fault st f es r fault.InDoubt by counts refuses
+  refused_given st f es r fault.WrongLink by counts refuses = by_fault st f es r fault.WrongLink by counts refuses
+  refused_given st f es r fault.Stale by counts refuses = by_fault st f es r fault.Stale by counts refuses
+  refused_given st f es r fault.Full by counts refuses = by_fault st f es r fault.Full by counts refuses
+  refused_given st f es r fault.NumbersSpent by counts refuses = by_fault st f es r fault.NumbersSpent by counts refuses
+  refused_given st f es r fault.WrongState by counts refuses = by_fault st f es r fault.WrongState by counts refuses
+  refused_given st f es r fault.BadFile by counts refuses = by_fault st f es r fault.BadFile by counts refuses
+  refused_given st f es r fault.BadAnswer by counts refuses = by_fault st f es r fault.BadAnswer by counts refuses
+  refused_given st f es r fault.UnknownClass by counts refuses = by_fault st f es r fault.UnknownClass by counts refuses
+  refused_given st f es r fault.NoMemory by counts refuses = lost_step st f es r by counts
 
-told_given : (st : Step) (f : Record → Result Took ContainerFault) (took : Answer → Took) (told : Result Answer ContainerFault) (es : List Event) (r now : Record)
-    → IsBy st f → ((a : Answer) → (took a).rec ≡ now) → IfOk told (λ a. f r ≡ Ok (took a)) → IfErr told (Refuses (f r)) → OnErr told (now ≡ r)
-    → IsTold es r → IsTold (noted_of told (Stepped st ∷ es)) now
-told_given st f took (Ok a) es r now by rec ok err kept = one_step st f es r now by (λ is. taken_step f (record_of es) r (took a) is ok ∙ rec a)
-told_given st f took (Err e) es r now by rec ok err kept =
-    let P : Record → Type 0 = λ n. IsTold es r → IsTold (noted_of {A = Answer} (Err e) (Stepped st ∷ es)) n in
-    subst P (sym kept) (refused_given st f es r e by err)
+  told_given : (st : Step) (f : Record → Result Took ContainerFault) (took : Answer → Took) (told : Result Answer ContainerFault) (es : List (Event D)) (r now : Record)
+      → IsBy st f → (model → CountsSaved ml st es) → ((a : Answer) → (took a).rec ≡ now) → IfOk told (λ a. f r ≡ Ok (took a)) → IfErr told (Refuses (f r)) → OnErr told (now ≡ r)
+      → IsTold model ml es r → IsTold model ml (noted_of told (Stepped st ∷ es)) now
+  told_given st f took (Ok a) es r now by counts rec ok err kept = one_step st f es r now by counts (λ is. taken_step f (record_of es) r (took a) is ok ∙ rec a)
+  told_given st f took (Err e) es r now by counts rec ok err kept =
+      let P : Record → Type 0 = λ n. IsTold model ml es r → IsTold model ml (noted_of {A = Answer} (Err e) (Stepped st ∷ es)) n in
+      subst P (sym kept) (refused_given st f es r e by counts err)
 
--- What the container is given, and what is noted, leave it as the history tells.
-pub step_told : (st : Step) (f : Record → Result Took ContainerFault) (took : Answer → Took) (told : Result Answer ContainerFault) (es mid after : List Event) (r now : Record)
-    → IsBy st f → ((a : Answer) → (took a).rec ≡ now) → mid ≡ Stepped st ∷ es → after ≡ noted_of told mid
-    → IfOk told (λ a. f r ≡ Ok (took a)) → IfErr told (Refuses (f r)) → OnErr told (now ≡ r)
-    → IsTold es r → IsTold after now
-step_told st f took told es mid after r now by rec is note ok err kept =
-    let P : List Event → Type 0 = λ h. IsTold es r → IsTold h now in
-    subst P (sym (note ∙ ap (noted_of told) is)) (told_given st f took told es r now by rec ok err kept)
+  -- What the container is given, and what is noted, leave it as the history tells.
+  pub step_told : (st : Step) (f : Record → Result Took ContainerFault) (took : Answer → Took) (told : Result Answer ContainerFault) (es mid after : List (Event D)) (r now : Record)
+      → IsBy st f → (model → CountsSaved ml st es) → ((a : Answer) → (took a).rec ≡ now) → mid ≡ Stepped st ∷ es → after ≡ noted_of told mid
+      → IfOk told (λ a. f r ≡ Ok (took a)) → IfErr told (Refuses (f r)) → OnErr told (now ≡ r)
+      → IsTold model ml es r → IsTold model ml after now
+  step_told st f took told es mid after r now by counts rec is note ok err kept =
+      let P : List (Event D) → Type 0 = λ h. IsTold model ml es r → IsTold model ml h now in
+      subst P (sym (note ∙ ap (noted_of told) is)) (told_given st f took told es r now by counts rec ok err kept)
 
--- What is asked of the host.
-pub opened_told : {es after : List Event} {r : Record} (name : List ℕ) (ok : Bool) → after ≡ Opened name ok ∷ es → IsTold es r → IsTold after r
-opened_told {r = r} name ok is t = subst (λ h. IsTold h r) (sym is) (record { recorded = t.recorded; sent = t.sent })
+  -- What is asked of the host.
+  pub opened_told : {es after : List (Event D)} {r : Record} (name : List ℕ) (disk : Option D) → after ≡ Opened name disk ∷ es → IsTold model ml es r → IsTold model ml after r
+  opened_told {r = r} name disk is t = subst (λ h. IsTold model ml h r) (sym is) (record { recorded = t.recorded; sent = t.sent; saved = t.saved })
 
-pub connected_told : {es after : List Event} {r : Record} (s : ℕ) (ok : Bool) → after ≡ Connected s ok ∷ es → IsTold es r → IsTold after r
-connected_told {r = r} s ok is t = subst (λ h. IsTold h r) (sym is) (record { recorded = t.recorded; sent = t.sent })
+  pub found_told : {es after : List (Event D)} {r : Record} (name : List ℕ) (disk : Option D) → after ≡ Found name disk ∷ es → IsTold model ml es r → IsTold model ml after r
+  found_told {r = r} name disk is t = subst (λ h. IsTold model ml h r) (sym is) (record { recorded = t.recorded; sent = t.sent; saved = t.saved })
 
-pub heard_told : {es after : List Event} {r : Record} (s : ℕ) (bytes : List ℕ) (ok : Bool) → after ≡ Heard s bytes ok ∷ es → IsTold es r → IsTold after r
-heard_told {r = r} s bytes ok is t = subst (λ h. IsTold h r) (sym is) (record { recorded = t.recorded; sent = t.sent })
+  pub shut_told : {es after : List (Event D)} {r : Record} (name : List ℕ) (disk : D) → after ≡ Shut name disk ∷ es → IsTold model ml es r → IsTold model ml after r
+  shut_told {r = r} name disk is t = subst (λ h. IsTold model ml h r) (sym is) (record { recorded = t.recorded; sent = t.sent; saved = t.saved })
 
-pub started_told : {es after : List Event} {r : Record} (s : ℕ) (ok : Bool) → after ≡ Started s ok ∷ es → IsTold es r → IsTold after r
-started_told {r = r} s ok is t = subst (λ h. IsTold h r) (sym is) (record { recorded = t.recorded; sent = t.sent })
+  pub connected_told : {es after : List (Event D)} {r : Record} (s : ℕ) (ok : Bool) → after ≡ Connected s ok ∷ es → IsTold model ml es r → IsTold model ml after r
+  connected_told {r = r} s ok is t = subst (λ h. IsTold model ml h r) (sym is) (record { recorded = t.recorded; sent = t.sent; saved = t.saved })
 
-pub ended_told : {es after : List Event} {r : Record} (s : ℕ) → after ≡ Ended s ∷ es → IsTold es r → IsTold after r
-ended_told {r = r} s is t = subst (λ h. IsTold h r) (sym is) (record { recorded = t.recorded; sent = t.sent })
+  pub heard_told : {es after : List (Event D)} {r : Record} (s : ℕ) (bytes : List ℕ) (ok : Bool) → after ≡ Heard s bytes ok ∷ es → IsTold model ml es r → IsTold model ml after r
+  heard_told {r = r} s bytes ok is t = subst (λ h. IsTold model ml h r) (sym is) (record { recorded = t.recorded; sent = t.sent; saved = t.saved })
 
-pub sent_told : {es after : List Event} {r : Record} (s : ℕ) (bytes : List ℕ) (ok : Bool) → bytes ≡ turn_of r s → after ≡ Sent s bytes ok ∷ es → IsTold es r → IsTold after r
-sent_told {r = r} s bytes ok turn is t = subst (λ h. IsTold h r) (sym is) (record { recorded = t.recorded; sent = (turn ∙ ap (λ q. turn_of q s) (sym t.recorded), t.sent) })
+  pub started_told : {es after : List (Event D)} {r : Record} (s : ℕ) (ok : Bool) → after ≡ Started s ok ∷ es → IsTold model ml es r → IsTold model ml after r
+  started_told {r = r} s ok is t = subst (λ h. IsTold model ml h r) (sym is) (record { recorded = t.recorded; sent = t.sent; saved = t.saved })
+
+  pub ended_told : {es after : List (Event D)} {r : Record} (s : ℕ) → after ≡ Ended s ∷ es → IsTold model ml es r → IsTold model ml after r
+  ended_told {r = r} s is t = subst (λ h. IsTold model ml h r) (sym is) (record { recorded = t.recorded; sent = t.sent; saved = t.saved })
+
+  pub sent_told : {es after : List (Event D)} {r : Record} (s : ℕ) (bytes : List ℕ) (ok : Bool) → bytes ≡ turn_of r s → after ≡ Sent s bytes ok ∷ es → IsTold model ml es r → IsTold model ml after r
+  sent_told {r = r} s bytes ok turn is t = subst (λ h. IsTold model ml h r) (sym is) (record { recorded = t.recorded; sent = (turn ∙ ap (λ q. turn_of q s) (sym t.recorded), t.sent); saved = t.saved })
 
 -- Servers that are started and ended.
 links_end : (s : ℕ) (ls : List Link) (l : Link) → links_of s (ls ++ l ∷ []) ≡ links_of s ls + (if l.inc == s then 1 else 0)
@@ -97,10 +106,10 @@ one_less : (b : Bool) (n m : ℕ) → n ≡ m + (if b then 1 else 0) → (if b t
 one_less true n m is = omega (arith, is)
 one_less false n m is = omega (arith, is)
 
-pub unstarted_linked : {es after : List Event} (s : ℕ) (ls : List Link) → after ≡ Started s false ∷ es → AreLinked es ls → AreLinked after ls
+pub unstarted_linked : {D : Type 0} {es after : List (Event D)} (s : ℕ) (ls : List Link) → after ≡ Started s false ∷ es → AreLinked es ls → AreLinked after ls
 unstarted_linked s ls is linked = λ n. ap (running n) is ∙ linked n
 
-pub started_linked : {es after : List Event} (s : ℕ) (l : Link) (ls new : List Link) → after ≡ Started s true ∷ es → l.inc ≡ s → new ≡ ls ++ l ∷ [] → AreLinked es ls → AreLinked after new
+pub started_linked : {D : Type 0} {es after : List (Event D)} (s : ℕ) (l : Link) (ls new : List Link) → after ≡ Started s true ∷ es → l.inc ≡ s → new ≡ ls ++ l ∷ [] → AreLinked es ls → AreLinked after new
 started_linked {es = es} s l ls new is inc with_one linked = λ n.
     ap (running n) is ∙ one_more (s == n) (running n es) ∙ ap (λ x. x + (if s == n then 1 else 0)) (linked n)
     ∙ ap (λ i. links_of n ls + (if i == n then 1 else 0)) (sym inc) ∙ sym (links_end n ls l) ∙ ap (links_of n) (sym with_one)
@@ -110,19 +119,19 @@ links_removed s [] place d within = absurd (omega (arith, within))
 links_removed s (l ∷ ls) zero d within = refl
 links_removed s (l ∷ ls) (suc place) d within = omega (arith, links_removed s ls place d (omega (arith, within)))
 
-ended_with : {es after : List Event} (s : ℕ) (ls new : List Link) → after ≡ Ended s ∷ es → ((n : ℕ) → links_of n ls ≡ links_of n new + (if s == n then 1 else 0)) → AreLinked es ls → AreLinked after new
+ended_with : {D : Type 0} {es after : List (Event D)} (s : ℕ) (ls new : List Link) → after ≡ Ended s ∷ es → ((n : ℕ) → links_of n ls ≡ links_of n new + (if s == n then 1 else 0)) → AreLinked es ls → AreLinked after new
 ended_with {es = es} s ls new is less linked = λ n. ap (running n) is ∙ one_less (s == n) (running n es) (links_of n new) (linked n ∙ less n)
 
-pub ended_linked : {es after : List Event} (ls new : List Link) (place : ℕ) (l : Link) → place < length ls → l ≡ slice_index_or ls place l → new ≡ remove ls place → after ≡ Ended l.inc ∷ es → AreLinked es ls → AreLinked after new
+pub ended_linked : {D : Type 0} {es after : List (Event D)} (ls new : List Link) (place : ℕ) (l : Link) → place < length ls → l ≡ slice_index_or ls place l → new ≡ remove ls place → after ≡ Ended l.inc ∷ es → AreLinked es ls → AreLinked after new
 ended_linked ls new place l within is rest ended =
     ended_with l.inc ls new ended
     (λ n. links_removed n ls place l within ∙ ap (λ (x : Link). links_of n (remove ls place) + (if x.inc == n then 1 else 0)) (sym is) ∙ ap (λ all. links_of n all + (if l.inc == n then 1 else 0)) (sym rest))
 
-pub popped_linked : {es after : List Event} (ls new : List Link) (l : Link) → ls ≡ new ++ l ∷ [] → after ≡ Ended l.inc ∷ es → AreLinked es ls → AreLinked after new
+pub popped_linked : {D : Type 0} {es after : List (Event D)} (ls new : List Link) (l : Link) → ls ≡ new ++ l ∷ [] → after ≡ Ended l.inc ∷ es → AreLinked es ls → AreLinked after new
 popped_linked ls new l is ended = ended_with l.inc ls new ended (λ n. ap (links_of n) is ∙ links_end n new l)
 
 -- a history in which the same servers run
-pub still_linked : (es after : List Event) (ls : List Link) → ((s : ℕ) → running s after ≡ running s es) → AreLinked es ls → AreLinked after ls
+pub still_linked : {D : Type 0} (es after : List (Event D)) (ls : List Link) → ((s : ℕ) → running s after ≡ running s es) → AreLinked es ls → AreLinked after ls
 still_linked es after ls still linked = λ s. still s ∙ linked s
 
 -- a link that changed, but for its server

@@ -1,1 +1,3 @@
 pub mod Given
+pub mod Opened
+pub mod Saved

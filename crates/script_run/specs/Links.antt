@@ -9,5 +9,5 @@ links_of s [] = 0
 links_of s (l ∷ ls) = links_of s ls + (if l.inc == s then 1 else 0)
 
 -- The servers that run are those of the links.
-abbrev pub AreLinked : List Event → List Link → Type 0
+abbrev pub AreLinked : {D : Type 0} → List (Event D) → List Link → Type 0
 AreLinked es ls = (s : ℕ) → running s es ≡ links_of s ls

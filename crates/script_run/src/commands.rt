@@ -9,6 +9,7 @@ ghost use Rattle.std.specs.Prelude.{◌≡◌, ◌<◌, ◌++◌, ◌∷◌, [],
 use crate::container::command;
 use crate::fault::ScriptFault;
 use crate::links::{Link, hand_over, reconnect, send_turn};
+use crate::opens::open;
 use crate::saves::save_all;
 use crate::turns::{end_at, turns};
 use container_core::container::ContainerCore;
@@ -45,9 +46,9 @@ fn start<H: Host>(
     links: &mut Vec<Link>,
     inc: u32,
 ) -> Result<(), ScriptFault>
-    requires told { IsTold (H.told host.old) _core.now }
+    requires told { IsTold H.Disk.follows_model H.Disk.may_leave (H.told host.old) _core.now }
     requires linked { AreLinked (H.told host.old) links.old.items }
-    ensures told { IsTold (H.told host.new) _core.now }
+    ensures told { IsTold H.Disk.follows_model H.Disk.may_leave (H.told host.new) _core.now }
     ensures linked { AreLinked (H.told host.new) links.new.items }
 {
     links.reserve(1)?;
@@ -77,9 +78,9 @@ fn end<H: Host>(
     inc: u32,
     noticed: &mut Option<Told>,
 ) -> Result<(), ScriptFault>
-    requires told { IsTold (H.told host.old) core.old }
+    requires told { IsTold H.Disk.follows_model H.Disk.may_leave (H.told host.old) core.old }
     requires linked { AreLinked (H.told host.old) links.old.items }
-    ensures told { IsTold (H.told host.new) core.new }
+    ensures told { IsTold H.Disk.follows_model H.Disk.may_leave (H.told host.new) core.new }
     ensures linked { AreLinked (H.told host.new) links.new.items }
 {
     match place_of(links, inc) {
@@ -97,9 +98,9 @@ fn act_on<H: Host>(
     action: &Action,
     noticed: &mut Option<Told>,
 ) -> Result<(), ScriptFault>
-    requires told { IsTold (H.told host.old) core.old }
+    requires told { IsTold H.Disk.follows_model H.Disk.may_leave (H.told host.old) core.old }
     requires linked { AreLinked (H.told host.old) links.old.items }
-    ensures told { IsTold (H.told host.new) core.new }
+    ensures told { IsTold H.Disk.follows_model H.Disk.may_leave (H.told host.new) core.new }
     ensures linked { AreLinked (H.told host.new) links.new.items }
 {
     match action {
@@ -118,9 +119,9 @@ fn act<H: Host>(
     answer: &Answer,
     noticed: &mut Option<Told>,
 ) -> Result<(), ScriptFault>
-    requires told { IsTold (H.told host.old) core.old }
+    requires told { IsTold H.Disk.follows_model H.Disk.may_leave (H.told host.old) core.old }
     requires linked { AreLinked (H.told host.old) links.old.items }
-    ensures told { IsTold (H.told host.new) core.new }
+    ensures told { IsTold H.Disk.follows_model H.Disk.may_leave (H.told host.new) core.new }
     ensures linked { AreLinked (H.told host.new) links.new.items }
 {
     for action in answer.actions.as_slice() {
@@ -138,9 +139,9 @@ fn order<H: Host>(
     ordered: Command,
     noticed: &mut Option<Told>,
 ) -> Result<Told, ScriptFault>
-    requires told { IsTold (H.told host.old) core.old }
+    requires told { IsTold H.Disk.follows_model H.Disk.may_leave (H.told host.old) core.old }
     requires linked { AreLinked (H.told host.old) links.old.items }
-    ensures told { IsTold (H.told host.new) core.new }
+    ensures told { IsTold H.Disk.follows_model H.Disk.may_leave (H.told host.new) core.new }
     ensures linked { AreLinked (H.told host.new) links.new.items }
 {
     match command(alloc, host, core, ordered) {
@@ -163,9 +164,9 @@ fn cut<H: Host>(
     noticed: &mut Option<Told>,
 ) -> Result<(), ScriptFault>
     requires within { place < length links.old.items }
-    requires told { IsTold (H.told host.old) core.old }
+    requires told { IsTold H.Disk.follows_model H.Disk.may_leave (H.told host.old) core.old }
     requires linked { AreLinked (H.told host.old) links.old.items }
-    ensures told { IsTold (H.told host.new) core.new }
+    ensures told { IsTold H.Disk.follows_model H.Disk.may_leave (H.told host.new) core.new }
     ensures linked { AreLinked (H.told host.new) links.new.items }
 {
     send_turn(alloc, host, core, links[place].inc)?;
@@ -184,8 +185,8 @@ fn hand_all<H: Host>(
     waiting: Items<Message>,
     noticed: &mut Option<Told>,
 ) -> Result<bool, ScriptFault>
-    requires { IsTold (H.told host.old) core.old }
-    ensures told { IsTold (H.told host.new) core.new }
+    requires { IsTold H.Disk.follows_model H.Disk.may_leave (H.told host.old) core.old }
+    ensures told { IsTold H.Disk.follows_model H.Disk.may_leave (H.told host.new) core.new }
     ensures still { (s : ℕ) → running s (H.told host.new) ≡ running s (H.told host.old) }
 {
     for taken in waiting.into_vec() {
@@ -211,7 +212,7 @@ fn let_go(alloc: Global, links: &mut Vec<Link>, place: usize) -> Items<Message>
 fn reconnect_at<H: Host>(alloc: Global, host: &mut H, links: &mut Vec<Link>, place: usize) -> bool
     requires within { place < length links.old.items }
     requires linked { AreLinked (H.told host.old) links.old.items }
-    ensures told { (r : Record) → IsTold (H.told host.old) r → IsTold (H.told host.new) r }
+    ensures told { (r : Record) → IsTold H.Disk.follows_model H.Disk.may_leave (H.told host.old) r → IsTold H.Disk.follows_model H.Disk.may_leave (H.told host.new) r }
     ensures linked { AreLinked (H.told host.new) links.new.items }
     ensures many { length links.new.items ≡ length links.old.items }
 {
@@ -228,9 +229,9 @@ fn release<H: Host>(
     noticed: &mut Option<Told>,
 ) -> Result<(), ScriptFault>
     requires within { place < length links.old.items }
-    requires told { IsTold (H.told host.old) core.old }
+    requires told { IsTold H.Disk.follows_model H.Disk.may_leave (H.told host.old) core.old }
     requires linked { AreLinked (H.told host.old) links.old.items }
-    ensures told { IsTold (H.told host.new) core.new }
+    ensures told { IsTold H.Disk.follows_model H.Disk.may_leave (H.told host.new) core.new }
     ensures linked { AreLinked (H.told host.new) links.new.items }
 {
     let inc = links[place].inc;
@@ -258,9 +259,9 @@ fn at_link<H: Host>(
     command: &ScriptCommand,
     noticed: &mut Option<Told>,
 ) -> Result<Told, ScriptFault>
-    requires told { IsTold (H.told host.old) core.old }
+    requires told { IsTold H.Disk.follows_model H.Disk.may_leave (H.told host.old) core.old }
     requires linked { AreLinked (H.told host.old) links.old.items }
-    ensures told { IsTold (H.told host.new) core.new }
+    ensures told { IsTold H.Disk.follows_model H.Disk.may_leave (H.told host.new) core.new }
     ensures linked { AreLinked (H.told host.new) links.new.items }
 {
     let inc = match command {
@@ -305,13 +306,14 @@ fn begin<H: Host>(
     noticed: &mut Option<Told>,
     text: &mut Vec<u8>,
 ) -> Result<Told, ScriptFault>
-    requires told { IsTold (H.told host.old) core.old }
+    requires told { IsTold H.Disk.follows_model H.Disk.may_leave (H.told host.old) core.old }
     requires linked { AreLinked (H.told host.old) links.old.items }
-    ensures told { IsTold (H.told host.new) core.new }
+    ensures told { IsTold H.Disk.follows_model H.Disk.may_leave (H.told host.new) core.new }
     ensures linked { AreLinked (H.told host.new) links.new.items }
 {
     match command {
         ScriptCommand::Container(ordered) => order(alloc, host, core, links, ordered, noticed),
+        ScriptCommand::Open(name, width, height) => open(alloc, host, core, name, width, height),
         ScriptCommand::Screen(frame) => show(alloc, core, frame, text),
         other => at_link(alloc, host, core, links, &other, noticed),
     }
@@ -326,9 +328,9 @@ pub(crate) fn carry_out<H: Host, W: Write>(
     command: ScriptCommand,
     writer: &mut W,
 ) -> Result<(), ScriptFault>
-    requires told { IsTold (H.told host.old) core.old }
+    requires told { IsTold H.Disk.follows_model H.Disk.may_leave (H.told host.old) core.old }
     requires linked { AreLinked (H.told host.old) links.old.items }
-    ensures told { IsTold (H.told host.new) core.new }
+    ensures told { IsTold H.Disk.follows_model H.Disk.may_leave (H.told host.new) core.new }
     ensures linked { AreLinked (H.told host.new) links.new.items }
 {
     let mut noticed = None;

@@ -1,20 +1,27 @@
 //! The container of a script, and what it is given: each thing is noted as it is given.
 
+ghost use Rattle.container_model.specs.Opens.{Given, IsReadAs};
 ghost use Rattle.container_model.specs.declared.command.Command.{Command};
+ghost use Rattle.document_model.specs.declared.object.DocObject.{DocObject};
 ghost use Rattle.script_model.specs.Events.{running};
+ghost use Rattle.script_model.specs.Saved.{IsSaved};
 ghost use Rattle.script_model.specs.declared.step.Step.TheVariants as given;
 ghost use Rattle.script_run.specs.Told.{IsTold, noted_of};
-ghost use Rattle.std.specs.Prelude.{◌≡◌, Some, ℕ};
+ghost use Rattle.std.specs.Prelude.{◌≡◌, ◌≤◌, IfOk, List, Some, length, ℕ};
 ghost use Rattle.wire_msgs.specs.declared.message.Message.{Message};
 
 use crate::fault::ScriptFault;
 use container_core::container::ContainerCore;
+use container_laws::open_laws::files_give_one;
 use container_model::answer::Answer;
 use container_model::command::Command;
 use container_model::fault::ContainerFault;
+use ole_streams::doc::Doc;
 use script_model::host::Host;
 use script_model::step::Step;
 use std::alloc::Global;
+use storage_tree::bytes::Bytes;
+use wire_msgs::items::Items;
 use wire_msgs::message::Message;
 
 /// The command of a step.
@@ -33,6 +40,16 @@ fn message_of(step: Step) -> Option<Message>
 {
     match step {
         Step::Message(_, message) => Some(message),
+        _ => None,
+    }
+}
+
+/// The name of a step's file.
+fn name_of(step: Step) -> Option<Bytes>
+    ensures { (name : List ℕ) (w h : ℕ) (objects : List DocObject) → step ≡ given.Open name w h objects → result ≡ Some name }
+{
+    match step {
+        Step::Open(name, _, _, _) => Some(name),
         _ => None,
     }
 }
@@ -63,8 +80,8 @@ pub(crate) fn command<H: Host>(
     core: &mut ContainerCore,
     command: Command,
 ) -> Result<Answer, ContainerFault>
-    requires { IsTold (H.told host.old) core.old }
-    ensures told { IsTold (H.told host.new) core.new }
+    requires { IsTold H.Disk.follows_model H.Disk.may_leave (H.told host.old) core.old }
+    ensures told { IsTold H.Disk.follows_model H.Disk.may_leave (H.told host.new) core.new }
     ensures still { (s : ℕ) → running s (H.told host.new) ≡ running s (H.told host.old) }
 {
     let step = Step::Command(command);
@@ -84,8 +101,8 @@ pub(crate) fn message<H: Host>(
     inc: u32,
     message: Message,
 ) -> Result<Answer, ContainerFault>
-    requires { IsTold (H.told host.old) core.old }
-    ensures told { IsTold (H.told host.new) core.new }
+    requires { IsTold H.Disk.follows_model H.Disk.may_leave (H.told host.old) core.old }
+    ensures told { IsTold H.Disk.follows_model H.Disk.may_leave (H.told host.new) core.new }
     ensures still { (s : ℕ) → running s (H.told host.new) ≡ running s (H.told host.old) }
 {
     let step = Step::Message(inc, message);
@@ -97,6 +114,33 @@ pub(crate) fn message<H: Host>(
     noted(host, told)
 }
 
+/// Gives the container a file that is opened, with this document.
+pub(crate) fn opened<H: Host>(
+    alloc: Global,
+    host: &mut H,
+    core: &mut ContainerCore,
+    name: Bytes,
+    width: u16,
+    height: u16,
+    document: Doc,
+    file: &[u8],
+) -> Result<Answer, ContainerFault>
+    requires told { IsTold H.Disk.follows_model H.Disk.may_leave (H.told host.old) core.old }
+    requires gives { IsReadAs (Some file.now) (Given.Holding document) }
+    ensures told { IsTold H.Disk.follows_model H.Disk.may_leave (H.told host.new) core.new }
+    ensures still { (s : ℕ) → running s (H.told host.new) ≡ running s (H.told host.old) }
+    ensures few { IfOk result (λ a. length a.objects ≤ 64) }
+{
+    files_give_one();
+    let step = Step::Open(name, width, height, Items::from_vec(document.into_vec()));
+    host.note(&step);
+    let Some(name) = name_of(step) else {
+        return Err(ContainerFault::NoMemory);
+    };
+    let told = core.open_file(alloc, name, width, height, Some(file));
+    noted(host, told)
+}
+
 /// Tells the container the end of a server.
 pub(crate) fn reap<H: Host>(
     alloc: Global,
@@ -104,8 +148,8 @@ pub(crate) fn reap<H: Host>(
     core: &mut ContainerCore,
     inc: u32,
 ) -> Result<Answer, ContainerFault>
-    requires { IsTold (H.told host.old) core.old }
-    ensures told { IsTold (H.told host.new) core.new }
+    requires { IsTold H.Disk.follows_model H.Disk.may_leave (H.told host.old) core.old }
+    ensures told { IsTold H.Disk.follows_model H.Disk.may_leave (H.told host.new) core.new }
     ensures still { (s : ℕ) → running s (H.told host.new) ≡ running s (H.told host.old) }
 {
     host.note(&Step::Reap(inc));
@@ -121,15 +165,16 @@ fn heard(told: &Result<Answer, ContainerFault>) -> Result<(), ScriptFault> {
     }
 }
 
-/// Tells the container that the file of a frame was committed.
+/// Tells the container that the file of a frame was committed: the disk that was given back last holds it.
 pub(crate) fn committed<H: Host>(
     alloc: Global,
     host: &mut H,
     core: &mut ContainerCore,
     frame: u32,
 ) -> Result<(), ScriptFault>
-    requires { IsTold (H.told host.old) core.old }
-    ensures told { IsTold (H.told host.new) core.new }
+    requires saved { H.Disk.follows_model → IsSaved H.Disk.may_leave (H.told host.old) frame }
+    requires told { IsTold H.Disk.follows_model H.Disk.may_leave (H.told host.old) core.old }
+    ensures told { IsTold H.Disk.follows_model H.Disk.may_leave (H.told host.new) core.new }
     ensures still { (s : ℕ) → running s (H.told host.new) ≡ running s (H.told host.old) }
 {
     host.note(&Step::Committed(frame));
@@ -144,8 +189,8 @@ pub(crate) fn failed<H: Host>(
     core: &mut ContainerCore,
     frame: u32,
 ) -> Result<(), ScriptFault>
-    requires { IsTold (H.told host.old) core.old }
-    ensures told { IsTold (H.told host.new) core.new }
+    requires { IsTold H.Disk.follows_model H.Disk.may_leave (H.told host.old) core.old }
+    ensures told { IsTold H.Disk.follows_model H.Disk.may_leave (H.told host.new) core.new }
     ensures still { (s : ℕ) → running s (H.told host.new) ≡ running s (H.told host.old) }
 {
     host.note(&Step::Failed(frame));
@@ -153,19 +198,18 @@ pub(crate) fn failed<H: Host>(
     heard(&noted(host, told))
 }
 
-/// Tells the container whether the file of a frame in doubt was committed after all.
-pub(crate) fn resolved<H: Host>(
+/// Tells the container that the file of a frame in doubt wasn't committed.
+pub(crate) fn dropped<H: Host>(
     alloc: Global,
     host: &mut H,
     core: &mut ContainerCore,
     frame: u32,
-    is_kept: bool,
 ) -> Result<(), ScriptFault>
-    requires { IsTold (H.told host.old) core.old }
-    ensures told { IsTold (H.told host.new) core.new }
+    requires { IsTold H.Disk.follows_model H.Disk.may_leave (H.told host.old) core.old }
+    ensures told { IsTold H.Disk.follows_model H.Disk.may_leave (H.told host.new) core.new }
     ensures still { (s : ℕ) → running s (H.told host.new) ≡ running s (H.told host.old) }
 {
-    host.note(&Step::Resolved(frame, is_kept));
-    let told = core.resolve(alloc, frame, is_kept);
+    host.note(&Step::Resolved(frame, false));
+    let told = core.resolve(alloc, frame, false);
     heard(&noted(host, told))
 }

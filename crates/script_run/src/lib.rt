@@ -5,6 +5,7 @@ mod commands;
 mod container;
 pub mod fault;
 mod links;
+mod opens;
 mod saves;
 pub mod script;
 mod turns;

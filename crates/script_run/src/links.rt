@@ -80,7 +80,7 @@ fn push_frame(alloc: Global, out: &mut Vec<u8>, frame: &Frame) -> Result<(), Scr
 }
 
 /// The server that a message is to or from.
-fn server_of(message: &Message) -> u32
+pub(crate) fn server_of(message: &Message) -> u32
     ensures { result ≡ server_of message.now }
 {
     match message {
@@ -112,8 +112,8 @@ pub(crate) fn send_turn<H: Host>(
     core: &ContainerCore,
     inc: u32,
 ) -> Result<bool, ScriptFault>
-    requires { IsTold (H.told host.old) core.now }
-    ensures told { IsTold (H.told host.new) core.now }
+    requires { IsTold H.Disk.follows_model H.Disk.may_leave (H.told host.old) core.now }
+    ensures told { IsTold H.Disk.follows_model H.Disk.may_leave (H.told host.new) core.now }
     ensures still { (s : ℕ) → running s (H.told host.new) ≡ running s (H.told host.old) }
 {
     let bytes = turn_bytes(alloc, core, inc)?;
@@ -138,8 +138,8 @@ pub(crate) fn hand_over<H: Host>(
     taken: Message,
     noticed: &mut Option<Told>,
 ) -> Result<bool, ScriptFault>
-    requires { IsTold (H.told host.old) core.old }
-    ensures told { IsTold (H.told host.new) core.new }
+    requires { IsTold H.Disk.follows_model H.Disk.may_leave (H.told host.old) core.old }
+    ensures told { IsTold H.Disk.follows_model H.Disk.may_leave (H.told host.new) core.new }
     ensures still { (s : ℕ) → running s (H.told host.new) ≡ running s (H.told host.old) }
 {
     match message(alloc, host, core, inc, taken) {
@@ -164,8 +164,8 @@ fn meet<H: Host>(
     taken: Message,
     noticed: &mut Option<Told>,
 ) -> Result<bool, ScriptFault>
-    requires { IsTold (H.told host.old) core.old }
-    ensures told { IsTold (H.told host.new) core.new }
+    requires { IsTold H.Disk.follows_model H.Disk.may_leave (H.told host.old) core.old }
+    ensures told { IsTold H.Disk.follows_model H.Disk.may_leave (H.told host.new) core.new }
     ensures still { (s : ℕ) → running s (H.told host.new) ≡ running s (H.told host.old) }
     ensures same { link.new.inc ≡ link.old.inc }
 {
@@ -184,8 +184,8 @@ fn take_frames<H: Host>(
     link: &mut Link,
     noticed: &mut Option<Told>,
 ) -> Result<Heard, ScriptFault>
-    requires { IsTold (H.told host.old) core.old }
-    ensures told { IsTold (H.told host.new) core.new }
+    requires { IsTold H.Disk.follows_model H.Disk.may_leave (H.told host.old) core.old }
+    ensures told { IsTold H.Disk.follows_model H.Disk.may_leave (H.told host.new) core.new }
     ensures still { (s : ℕ) → running s (H.told host.new) ≡ running s (H.told host.old) }
     ensures same { link.new.inc ≡ link.old.inc }
 {
@@ -206,7 +206,7 @@ fn take_frames<H: Host>(
 
 /// Reads some bytes of a link. Gives whether there were any.
 fn read_some<H: Host>(host: &mut H, link: &mut Link) -> Result<bool, ScriptFault>
-    ensures told { (r : Record) → IsTold (H.told host.old) r → IsTold (H.told host.new) r }
+    ensures told { (r : Record) → IsTold H.Disk.follows_model H.Disk.may_leave (H.told host.old) r → IsTold H.Disk.follows_model H.Disk.may_leave (H.told host.new) r }
     ensures still { (s : ℕ) → running s (H.told host.new) ≡ running s (H.told host.old) }
     ensures same { link.new.inc ≡ link.old.inc }
 {
@@ -233,8 +233,8 @@ fn hear<H: Host>(
     noticed: &mut Option<Told>,
     reads: &mut u32,
 ) -> Result<Heard, ScriptFault>
-    requires { IsTold (H.told host.old) core.old }
-    ensures told { IsTold (H.told host.new) core.new }
+    requires { IsTold H.Disk.follows_model H.Disk.may_leave (H.told host.old) core.old }
+    ensures told { IsTold H.Disk.follows_model H.Disk.may_leave (H.told host.new) core.new }
     ensures still { (s : ℕ) → running s (H.told host.new) ≡ running s (H.told host.old) }
     ensures same { link.new.inc ≡ link.old.inc }
 {
@@ -260,8 +260,8 @@ fn exchange<H: Host>(
     noticed: &mut Option<Told>,
     reads: &mut u32,
 ) -> Result<Heard, ScriptFault>
-    requires { IsTold (H.told host.old) core.old }
-    ensures told { IsTold (H.told host.new) core.new }
+    requires { IsTold H.Disk.follows_model H.Disk.may_leave (H.told host.old) core.old }
+    ensures told { IsTold H.Disk.follows_model H.Disk.may_leave (H.told host.new) core.new }
     ensures still { (s : ℕ) → running s (H.told host.new) ≡ running s (H.told host.old) }
     ensures same { link.new.inc ≡ link.old.inc }
 {
@@ -273,7 +273,7 @@ fn exchange<H: Host>(
 
 /// Connects a link again: what came of the old connection and isn't carried out is dropped.
 pub(crate) fn reconnect<H: Host>(alloc: Global, host: &mut H, link: &mut Link) -> bool
-    ensures told { (r : Record) → IsTold (H.told host.old) r → IsTold (H.told host.new) r }
+    ensures told { (r : Record) → IsTold H.Disk.follows_model H.Disk.may_leave (H.told host.old) r → IsTold H.Disk.follows_model H.Disk.may_leave (H.told host.new) r }
     ensures still { (s : ℕ) → running s (H.told host.new) ≡ running s (H.told host.old) }
     ensures same { link.new.inc ≡ link.old.inc }
 {
@@ -289,8 +289,8 @@ pub(crate) fn serve<H: Host>(
     link: &mut Link,
     noticed: &mut Option<Told>,
 ) -> Result<bool, ScriptFault>
-    requires { IsTold (H.told host.old) core.old }
-    ensures told { IsTold (H.told host.new) core.new }
+    requires { IsTold H.Disk.follows_model H.Disk.may_leave (H.told host.old) core.old }
+    ensures told { IsTold H.Disk.follows_model H.Disk.may_leave (H.told host.new) core.new }
     ensures still { (s : ℕ) → running s (H.told host.new) ≡ running s (H.told host.old) }
     ensures same { link.new.inc ≡ link.old.inc }
 {

@@ -2,10 +2,11 @@
 
 ghost use Rattle.container_model.specs.Record.{Record};
 ghost use Rattle.script_model.specs.Events.{running};
-ghost use Rattle.script_run.specs.Told.{IsTold};
-ghost use Rattle.std.specs.Prelude.{◌≡◌, ℕ};
+ghost use Rattle.script_model.specs.Saved.{file_name};
+ghost use Rattle.script_run.specs.Told.{IsImage, IsTold, Leaves, ShutAs};
+ghost use Rattle.std.specs.Prelude.{◌≡◌, ℕ, IfOk};
 
-use crate::container::{committed, failed, resolved};
+use crate::container::{committed, dropped, failed};
 use crate::fault::ScriptFault;
 use container_core::container::ContainerCore;
 use container_model::answer::{Action, Answer};
@@ -17,6 +18,7 @@ use doc_store::store::Store;
 use script_model::answer::Told;
 use script_model::host::Host;
 use std::alloc::{AllocError, Global};
+use store_model::disk::Disk;
 use store_model::fault::StoreFault;
 
 /// The first of what was noticed.
@@ -27,56 +29,84 @@ pub(crate) fn first_of(before: Option<Told>, next: Option<Told>) -> Option<Told>
     }
 }
 
-/// Makes these bytes the document of a store. After an error it is opened again, and tells by its document what became of them.
-fn replace<H: Host>(store: Store<H::Disk>, bytes: &[u8]) -> Result<Outcome, StoreFault> {
+/// Makes these bytes the document of a store, and gives its disk back. After an error it is opened again, and tells by its
+/// document what became of them.
+fn replace<D: Disk + Drop>(store: Store<D>, bytes: &[u8]) -> (Result<Outcome, StoreFault>, D)
+    ensures { D.follows_model → IfOk result.0 (λ outcome. Leaves D.may_leave bytes.now outcome result.1) }
+{
     match commit_resolved(store, bytes) {
-        Ok((outcome, _)) => Ok(outcome),
-        Err(refused) => Err(refused.fault),
+        Ok((outcome, store)) => (Ok(outcome), store.into_disk()),
+        Err(refused) => (Err(refused.fault), refused.disk),
     }
 }
 
 /// What became of bytes that were to be the document of a store, where it couldn't be opened at first.
-fn compare<H: Host>(
-    mut store: Store<H::Disk>,
+fn compare<D: Disk + Drop>(
+    mut store: Store<D>,
     bytes: &[u8],
     fault: StoreFault,
-) -> Result<Outcome, StoreFault> {
-    if store.holds(bytes)? {
-        Ok(Outcome::Kept)
-    } else {
-        Ok(Outcome::Lost(fault))
+) -> (Result<Outcome, StoreFault>, D)
+    ensures { D.follows_model → IfOk result.0 (λ outcome. Leaves D.may_leave bytes.now outcome result.1) }
+{
+    match store.holds(bytes) {
+        Ok(is) => {
+            if is {
+                return (Ok(Outcome::Kept), store.into_disk());
+            }
+            (Ok(Outcome::Lost(fault)), store.into_disk())
+        }
+        Err(refused) => (Err(refused), store.into_disk()),
     }
 }
 
 /// What became of these bytes where their disk wasn't given or opened at first, with that fault.
-fn try_again<H: Host>(
+fn try_again<D: Disk + Drop>(
     alloc: Global,
-    disk: H::Disk,
+    disk: D,
     bytes: &[u8],
     fault: StoreFault,
-) -> Result<Outcome, StoreFault> {
+) -> (Result<Outcome, StoreFault>, D)
+    ensures { D.follows_model → IfOk result.0 (λ outcome. Leaves D.may_leave bytes.now outcome result.1) }
+{
     match Store::open(alloc, disk) {
-        Ok(store) => compare::<H>(store, bytes, fault),
-        Err(refused) => Err(refused.fault),
+        Ok(store) => compare(store, bytes, fault),
+        Err(refused) => (Err(refused.fault), refused.disk),
     }
 }
 
 /// Makes these bytes the document of a disk. Where it isn't opened, the same disk is tried again: a new one of its name
 /// forgets that a sync failed.
-fn commit_to<H: Host>(alloc: Global, disk: H::Disk, bytes: &[u8]) -> Result<Outcome, StoreFault> {
+fn commit_to<D: Disk + Drop>(
+    alloc: Global,
+    disk: D,
+    bytes: &[u8],
+) -> (Result<Outcome, StoreFault>, D)
+    ensures { D.follows_model → IfOk result.0 (λ outcome. Leaves D.may_leave bytes.now outcome result.1) }
+{
     match Store::open(alloc, disk) {
-        Ok(store) => replace::<H>(store, bytes),
-        Err(refused) => try_again::<H>(alloc, refused.disk, bytes, refused.fault),
+        Ok(store) => replace(store, bytes),
+        Err(refused) => try_again(alloc, refused.disk, bytes, refused.fault),
     }
 }
 
-/// The disk of a file.
-fn disk<H: Host>(host: &mut H, name: &[u8]) -> Result<H::Disk, StoreFault>
-    ensures told { (r : Record) → IsTold (H.told host.old) r → IsTold (H.told host.new) r }
+/// What became of these bytes where the disk of their file wasn't given at first, with that fault.
+fn commit_again<H: Host>(
+    alloc: Global,
+    host: &mut H,
+    name: &[u8],
+    bytes: &[u8],
+    fault: StoreFault,
+) -> Result<Outcome, StoreFault>
+    ensures told { (r : Record) → IsTold H.Disk.follows_model H.Disk.may_leave (H.told host.old) r → IsTold H.Disk.follows_model H.Disk.may_leave (H.told host.new) r }
     ensures still { (s : ℕ) → running s (H.told host.new) ≡ running s (H.told host.old) }
+    ensures shut { H.Disk.follows_model → IfOk result (ShutAs H.Disk.may_leave (H.told host.new) name.now bytes.now) }
 {
     match host.disk(name) {
-        Ok(given) => Ok(given),
+        Ok(disk) => {
+            let (outcome, disk) = try_again(alloc, disk, bytes, fault);
+            host.shut(name, disk);
+            outcome
+        }
         Err(fault) => Err(fault),
     }
 }
@@ -90,17 +120,24 @@ fn commit<H: Host>(
     name: &[u8],
     bytes: &[u8],
 ) -> Result<Outcome, StoreFault>
-    ensures told { (r : Record) → IsTold (H.told host.old) r → IsTold (H.told host.new) r }
+    ensures told { (r : Record) → IsTold H.Disk.follows_model H.Disk.may_leave (H.told host.old) r → IsTold H.Disk.follows_model H.Disk.may_leave (H.told host.new) r }
     ensures still { (s : ℕ) → running s (H.told host.new) ≡ running s (H.told host.old) }
+    ensures shut { H.Disk.follows_model → IfOk result (ShutAs H.Disk.may_leave (H.told host.new) name.now bytes.now) }
 {
-    match disk(host, name) {
-        Ok(given) => commit_to::<H>(alloc, given, bytes),
-        Err(fault) => try_again::<H>(alloc, disk(host, name)?, bytes, fault),
+    match host.disk(name) {
+        Ok(disk) => {
+            let (outcome, disk) = commit_to(alloc, disk, bytes);
+            host.shut(name, disk);
+            outcome
+        }
+        Err(fault) => commit_again(alloc, host, name, bytes, fault),
     }
 }
 
 /// The name that a frame is saved under.
-fn name_of(alloc: Global, frame: &Frame) -> Result<Vec<u8>, AllocError> {
+fn name_of(alloc: Global, frame: &Frame) -> Result<Vec<u8>, AllocError>
+    ensures { IfOk result (λ name. name.items ≡ file_name frame.now) }
+{
     match &frame.asked {
         Some(asked) => Vec::from_slice(alloc, asked.as_slice()),
         None => Vec::from_slice(alloc, frame.name.as_slice()),
@@ -114,12 +151,12 @@ fn lose<H: Host>(
     core: &mut ContainerCore,
     frame: u32,
 ) -> Result<(), ScriptFault>
-    requires { IsTold (H.told host.old) core.old }
-    ensures told { IsTold (H.told host.new) core.new }
+    requires { IsTold H.Disk.follows_model H.Disk.may_leave (H.told host.old) core.old }
+    ensures told { IsTold H.Disk.follows_model H.Disk.may_leave (H.told host.new) core.new }
     ensures still { (s : ℕ) → running s (H.told host.new) ≡ running s (H.told host.old) }
 {
     failed(alloc, host, core, frame)?;
-    resolved(alloc, host, core, frame, false)
+    dropped(alloc, host, core, frame)
 }
 
 /// Saves the file of a frame, and tells the container what became of it.
@@ -130,8 +167,9 @@ fn save_file<H: Host>(
     frame: u32,
     file: &[u8],
 ) -> Result<Option<Told>, ScriptFault>
-    requires { IsTold (H.told host.old) core.old }
-    ensures told { IsTold (H.told host.new) core.new }
+    requires image { IsImage core.old frame file.now }
+    requires told { IsTold H.Disk.follows_model H.Disk.may_leave (H.told host.old) core.old }
+    ensures told { IsTold H.Disk.follows_model H.Disk.may_leave (H.told host.new) core.new }
     ensures still { (s : ℕ) → running s (H.told host.new) ≡ running s (H.told host.old) }
 {
     let Some(found) = core.frame(frame) else {
@@ -160,8 +198,8 @@ fn save<H: Host>(
     core: &mut ContainerCore,
     frame: u32,
 ) -> Result<Option<Told>, ScriptFault>
-    requires { IsTold (H.told host.old) core.old }
-    ensures told { IsTold (H.told host.new) core.new }
+    requires { IsTold H.Disk.follows_model H.Disk.may_leave (H.told host.old) core.old }
+    ensures told { IsTold H.Disk.follows_model H.Disk.may_leave (H.told host.new) core.new }
     ensures still { (s : ℕ) → running s (H.told host.new) ≡ running s (H.told host.old) }
 {
     match core.image(alloc, frame) {
@@ -183,8 +221,8 @@ pub(crate) fn save_all<H: Host>(
     answer: &Answer,
     noticed: &mut Option<Told>,
 ) -> Result<(), ScriptFault>
-    requires { IsTold (H.told host.old) core.old }
-    ensures told { IsTold (H.told host.new) core.new }
+    requires { IsTold H.Disk.follows_model H.Disk.may_leave (H.told host.old) core.old }
+    ensures told { IsTold H.Disk.follows_model H.Disk.may_leave (H.told host.new) core.new }
     ensures still { (s : ℕ) → running s (H.told host.new) ≡ running s (H.told host.old) }
 {
     for action in answer.actions.as_slice() {

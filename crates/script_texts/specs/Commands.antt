@@ -1,8 +1,8 @@
 -- The lines of a script and the commands that they spell.
-use Rattle.std.specs.Prelude.{ℕ, List, [], ◌∷◌, codes, cond, Option, Some, None, option_map, Result}
+use Rattle.std.specs.Prelude.{ℕ, Bool, false, List, [], ◌∷◌, codes, cond, Option, Some, None, option_map, Result}
 use Rattle.std.specs.Str.{bytes_eq}
 use Rattle.embed_core.specs.Words.{words, number_read}
-use Rattle.event_texts.specs.Events.{event_read, sole_number}
+use Rattle.event_texts.specs.Events.{event_read, open_in, sole_number}
 use Rattle.script_model.specs.declared.command.ScriptCommand.{ScriptCommand}
 use Rattle.script_model.specs.declared.command.ScriptCommand.TheVariants as script
 use Rattle.texts.specs.Lines.{text_read}
@@ -10,16 +10,17 @@ use Rattle.texts.specs.declared.lines.SyntaxFault.{SyntaxFault}
 use Rattle.world_model.specs.declared.event.Event.{Event}
 use Rattle.world_model.specs.declared.event.Event.TheVariants as event
 
--- a script has the container's commands, and none of the world's other events
+-- a script has the container's commands and files that are opened, and none of the world's other events
 abbrev pub command_of : Event → Option ScriptCommand
 command_of (event.Command c) = Some (script.Container c)
 command_of (event.Deliver p) = None
+command_of (event.Forge inc message) = None
 command_of (event.Crash inc) = None
 command_of (event.Reap inc) = None
 command_of (event.Done f) = None
 command_of (event.Fail f) = None
 command_of (event.Resolve f is_kept) = None
-command_of (event.Open name width height) = None
+command_of (event.Open name width height) = Some (script.Open name width height)
 command_of (event.Scribble inc act) = None
 command_of (event.Ask inc act) = None
 
@@ -43,9 +44,14 @@ abbrev pub or_else : Option ScriptCommand → Option ScriptCommand → Option Sc
 or_else (Some c) other = Some c
 or_else None other = other
 
+-- whether the first word is that of a file to be opened
+abbrev pub is_open : List (List ℕ) → Bool
+is_open [] = false
+is_open (name ∷ others) = bytes_eq name (codes "open")
+
 -- the command that a line spells
 abbrev pub command_read : List ℕ → Option ScriptCommand
-command_read line = or_else (link_in (words line)) (command_in (event_read line))
+command_read line = or_else (link_in (words line)) (or_else (command_in (open_in (words line))) (command_in (event_read line)))
 
 abbrev pub line_read : ℕ → List ℕ → Option ScriptCommand
 line_read n line = command_read line

@@ -1,7 +1,8 @@
 //! What is printed of a command.
 
-ghost use Rattle.script_model.specs.Answers.{made_by, made_frame, made_object, made_server, further, told_line, told_text};
-ghost use Rattle.std.specs.Prelude.{◌≡◌, ◌++◌, ◌∷◌, [], OnOk};
+ghost use Rattle.script_model.specs.Answers.{first_of, further, made_by, made_frame, made_object, made_server, objects_from, opened_as, opened_by, told_line, told_text};
+ghost use Rattle.script_model.specs.declared.answer.Told.TheVariants as told;
+ghost use Rattle.std.specs.Prelude.{◌≡◌, ◌<◌, ◌++◌, ◌∷◌, ◌^◌, [], OnOk, length};
 
 use container_model::answer::Answer;
 use script_model::answer::Told;
@@ -38,6 +39,28 @@ pub fn made_by(answer: &Answer) -> Told
     }
 }
 
+/// The first number of a list.
+fn first_of(objects: &[u32]) -> u32
+    ensures { result ≡ first_of objects.now }
+{
+    match objects {
+        [object, ..] => *object,
+        [] => 0,
+    }
+}
+
+/// What was made of a file that was opened: its frame, and how many objects from which number on.
+pub fn opened_by(answer: &Answer) -> Told
+    requires { length answer.now.objects < 2 ^ 32 }
+    ensures { result ≡ opened_by answer.now }
+{
+    let objects = answer.objects.as_slice();
+    match answer.frame {
+        Some(frame) => Told::Opened(frame, first_of(objects), objects.len() as u32),
+        None => Told::Done,
+    }
+}
+
 /// A command that made nothing tells what was noticed first meanwhile: that an object refused a call, or that a save was lost.
 pub fn further(told: Told, noticed: Option<Told>) -> Told
     ensures { result ≡ further told noticed }
@@ -46,6 +69,30 @@ pub fn further(told: Told, noticed: Option<Told>) -> Told
         (Told::Done, Some(notice)) => notice,
         _ => told,
     }
+}
+
+/// Writes so many objects, from this number on.
+fn push_objects(alloc: Global, text: &mut Vec<u8>, first: u32, count: u32) -> Result<(), AllocError>
+    ensures { OnOk result (text.new.items ≡ text.old.items ++ objects_from first count) }
+{
+    for place in 0..count {
+        push_numbered(alloc, text, " object ", first as usize + place as usize)?;
+    }
+    Ok(())
+}
+
+/// Writes a frame that was made of a file, and its objects.
+fn push_opened(
+    alloc: Global,
+    text: &mut Vec<u8>,
+    frame: u32,
+    first: u32,
+    count: u32,
+) -> Result<(), AllocError>
+    ensures { OnOk result (text.new.items ≡ text.old.items ++ told_text (told.Opened frame first count)) }
+{
+    push_numbered(alloc, text, "frame ", frame as usize)?;
+    push_objects(alloc, text, first, count)
 }
 
 /// Writes what is told of a command.
@@ -70,10 +117,11 @@ fn push_text(alloc: Global, text: &mut Vec<u8>, told: Told) -> Result<(), AllocE
             text.extend_from_slice(fault.name().as_bytes())?;
             Ok(())
         }
-        Told::Lost(fault) => {
+        Told::Lost(fault) | Told::Unread(fault) => {
             text.extend_from_slice(fault.name().as_bytes())?;
             Ok(())
         }
+        Told::Opened(frame, first, count) => push_opened(alloc, text, frame, first, count),
     }
 }
 

@@ -1,12 +1,13 @@
 //! Texts of scripts.
 
 ghost use Rattle.embed_core.specs.Words.{words};
-ghost use Rattle.event_texts.specs.Events.{sole_number};
-ghost use Rattle.script_texts.specs.Commands.{command_of, command_read, link_in, link_named};
+ghost use Rattle.event_texts.specs.Events.{open_in, sole_number};
+ghost use Rattle.script_texts.specs.Commands.{command_in, command_of, command_read, is_open, link_in, link_named};
 ghost use Rattle.std.specs.Prelude.{◌≡◌, IfErr, IfOk, IsSome};
 
 use embed_core::words::{Pieces, cut, number};
 use event_texts::events;
+use event_texts::lines::parse_line;
 use script_model::command::ScriptCommand;
 use std::alloc::{AllocError, Global};
 use texts::lines::Grammar;
@@ -66,13 +67,14 @@ fn command_of(event: Event) -> Option<ScriptCommand>
 {
     match event {
         Event::Command(command) => Some(ScriptCommand::Container(command)),
+        Event::Open(name, width, height) => Some(ScriptCommand::Open(name, width, height)),
         Event::Deliver(_)
+        | Event::Forge(_, _)
         | Event::Crash(_)
         | Event::Reap(_)
         | Event::Done(_)
         | Event::Fail(_)
         | Event::Resolve(_, _)
-        | Event::Open(_, _, _)
         | Event::Scribble(_, _)
         | Event::Ask(_, _) => None,
     }
@@ -88,13 +90,42 @@ fn link_command(line: &[u8]) -> Option<ScriptCommand>
     }
 }
 
+/// Whether the first word of a line is that of a file to be opened.
+fn is_open(line: &[u8]) -> bool
+    ensures { result ≡ is_open (words line.now) }
+{
+    match cut(line, b' ') {
+        (name, _) => name == b"open".as_slice(),
+    }
+}
+
+/// The file to be opened that a line spells. Memory is taken for a line that spells one.
+#[tactic(auto, using(crate::proofs::Lines::files))]
+fn open_command(alloc: Global, line: &[u8]) -> Result<Option<ScriptCommand>, AllocError>
+    ensures read { IfOk result (λ command. command ≡ command_in (open_in (words line.now))) }
+    ensures within { IfErr result (λ _. IsSome (command_in (open_in (words line.now)))) }
+{
+    if !is_open(line) {
+        return Ok(None);
+    }
+    match parse_line(alloc, line) {
+        Ok(Some(event)) => Ok(command_of(event)),
+        Ok(None) => Ok(None),
+        Err(fault) => Err(fault),
+    }
+}
+
 /// The command that a line spells. Memory is taken for a line that spells one.
-#[tactic(auto, using(crate::proofs::Lines::spells_one))]
+#[tactic(auto, using(crate::proofs::Lines::spellings))]
 fn parse(alloc: Global, line: &[u8]) -> Result<Option<ScriptCommand>, AllocError>
     ensures read { IfOk result (λ command. command ≡ command_read line.now) }
     ensures within { IfErr result (λ _. IsSome (command_read line.now)) }
 {
     match link_command(line) {
+        Some(command) => return Ok(Some(command)),
+        None => {}
+    }
+    match open_command(alloc, line)? {
         Some(command) => return Ok(Some(command)),
         None => {}
     }

@@ -10,7 +10,7 @@ use file_disk::system_files::SystemFiles;
 use script_model::history::History;
 use script_model::host::{Host, HostFault};
 use script_model::step::Step;
-use std::fs::File;
+use std::fs::{self, File};
 use std::io::{ErrorKind, Read, Write};
 use std::net::{Ipv4Addr, Net, OpenStream, TcpStream};
 use std::os::fd::OwnedFd;
@@ -31,7 +31,7 @@ pub struct SystemHost<'a, R: Net + Processes> {
     path: &'a str,
     limit: Duration,
     servers: Vec<Running<R>>,
-    history: History,
+    history: History<FileDisk<SystemFiles>>,
 }
 
 impl<'a, R: Net + Processes + Files<File = File> + AllocGlobal> SystemHost<'a, R> {
@@ -169,6 +169,39 @@ fn open_disk<R: Files<File = File> + AllocGlobal>(
     FileDisk::open(rt, path)
 }
 
+/// Whether a file without bytes is there.
+fn is_empty<R: Files<File = File>>(rt: &R, path: &str) -> bool {
+    match fs::symlink_metadata(rt, path) {
+        Ok(found) => found.is_file() && found.len() == 0,
+        Err(_) => false,
+    }
+}
+
+/// Whether nothing is there.
+fn is_missing<R: Files<File = File>>(rt: &R, path: &str) -> bool {
+    match fs::symlink_metadata(rt, path) {
+        Ok(_) => false,
+        Err(error) => error.kind() == ErrorKind::NotFound,
+    }
+}
+
+/// The disk of a file of the system that is there, or whose journal is. A file that is empty, and has no journal, is none.
+fn find_disk<R: Files<File = File> + AllocGlobal>(
+    rt: &R,
+    name: &[u8],
+) -> Result<Option<FileDisk<SystemFiles>>, StoreFault> {
+    let Ok(path) = std::str::from_utf8(name) else {
+        return Err(StoreFault::Device);
+    };
+    let Ok(journal) = format!(in rt.alloc(); "{path}.journal") else {
+        return Err(StoreFault::NoMemory);
+    };
+    if is_empty(rt, path) && is_missing(rt, journal.as_str()) {
+        return Ok(None);
+    }
+    FileDisk::find(rt, path)
+}
+
 impl<'a, R: Net + Processes + Files<File = File> + AllocGlobal> Host for SystemHost<'a, R> {
     type Disk = FileDisk<SystemFiles>;
 
@@ -226,8 +259,25 @@ impl<'a, R: Net + Processes + Files<File = File> + AllocGlobal> Host for SystemH
 
     fn disk(&mut self, name: &[u8]) -> Result<FileDisk<SystemFiles>, StoreFault> {
         let result = open_disk(self.rt, name);
-        self.history.opened(name, result.is_ok());
+        match &result {
+            Ok(disk) => self.history.opened(name, Some(disk)),
+            Err(_) => self.history.opened(name, None),
+        }
         result
+    }
+
+    fn find(&mut self, name: &[u8]) -> Result<Option<FileDisk<SystemFiles>>, StoreFault> {
+        let result = find_disk(self.rt, name);
+        match &result {
+            Ok(Some(disk)) => self.history.found(name, Some(disk)),
+            _ => self.history.found(name, None),
+        }
+        result
+    }
+
+    fn shut(&mut self, name: &[u8], disk: FileDisk<SystemFiles>) {
+        // A disk that is dropped is closed.
+        self.history.shut(name, &disk);
     }
 
     fn note(&mut self, step: &Step) {

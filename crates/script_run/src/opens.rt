@@ -1,0 +1,129 @@
+//! Files that are opened: what the store of a file holds becomes a frame.
+
+ghost use Rattle.container_model.specs.Opens.{Given, IsReadAs};
+ghost use Rattle.container_model.specs.Record.{Record};
+ghost use Rattle.script_model.specs.Events.{running};
+ghost use Rattle.script_run.specs.Told.{IsTold};
+ghost use Rattle.std.specs.Prelude.{◌≡◌, ℕ, IfOk, Some};
+ghost use Rattle.store_model.specs.Journal.{restored};
+
+use crate::container::opened;
+use crate::fault::ScriptFault;
+use container_core::container::ContainerCore;
+use container_documents::reading::document_in;
+use container_model::fault::ContainerFault;
+use doc_store::store::Store;
+use ole_streams::doc::Doc;
+use script_model::answer::Told;
+use script_model::host::Host;
+use script_texts::answers::opened_by;
+use std::alloc::Global;
+use storage_tree::bytes::Bytes;
+use store_model::disk::Disk;
+use store_model::fault::StoreFault;
+
+/// The document of a disk, once its open journal is carried out, and the disk.
+fn document_on<D: Disk + Drop>(alloc: Global, disk: D) -> (Result<Vec<u8>, StoreFault>, D)
+    ensures { D.follows_model → IfOk result.0 (λ file. restored (D.reads disk) ≡ Some file.items) }
+{
+    match Store::open(alloc, disk) {
+        Ok(mut store) => {
+            let file = store.current();
+            (file, store.into_disk())
+        }
+        Err(refused) => (Err(refused.fault), refused.disk),
+    }
+}
+
+/// What the file of a name holds, and nothing where there is no such file.
+fn read<H: Host>(alloc: Global, host: &mut H, name: &[u8]) -> Result<Vec<u8>, StoreFault>
+    ensures told { (r : Record) → IsTold H.Disk.follows_model H.Disk.may_leave (H.told host.old) r → IsTold H.Disk.follows_model H.Disk.may_leave (H.told host.new) r }
+    ensures still { (s : ℕ) → running s (H.told host.new) ≡ running s (H.told host.old) }
+{
+    match host.find(name) {
+        Ok(Some(disk)) => {
+            let (file, disk) = document_on(alloc, disk);
+            host.shut(name, disk);
+            file
+        }
+        Ok(None) => Ok(Vec::new(alloc)),
+        Err(fault) => Err(fault),
+    }
+}
+
+/// A frame of a file that holds this document.
+fn make_frame<H: Host>(
+    alloc: Global,
+    host: &mut H,
+    core: &mut ContainerCore,
+    name: Bytes,
+    width: u16,
+    height: u16,
+    document: Doc,
+    file: &[u8],
+) -> Result<Told, ScriptFault>
+    requires told { IsTold H.Disk.follows_model H.Disk.may_leave (H.told host.old) core.old }
+    requires gives { IsReadAs (Some file.now) (Given.Holding document) }
+    ensures told { IsTold H.Disk.follows_model H.Disk.may_leave (H.told host.new) core.new }
+    ensures still { (s : ℕ) → running s (H.told host.new) ≡ running s (H.told host.old) }
+{
+    match opened(alloc, host, core, name, width, height, document, file) {
+        Ok(answer) => Ok(opened_by(&answer)),
+        Err(ContainerFault::NoMemory) => Err(ScriptFault::NoMemory),
+        Err(fault) => Ok(Told::Fault(fault)),
+    }
+}
+
+/// A frame of a file that is there.
+fn open_found<H: Host>(
+    alloc: Global,
+    host: &mut H,
+    core: &mut ContainerCore,
+    name: Bytes,
+    width: u16,
+    height: u16,
+    file: &[u8],
+) -> Result<Told, ScriptFault>
+    requires { IsTold H.Disk.follows_model H.Disk.may_leave (H.told host.old) core.old }
+    ensures told { IsTold H.Disk.follows_model H.Disk.may_leave (H.told host.new) core.new }
+    ensures still { (s : ℕ) → running s (H.told host.new) ≡ running s (H.told host.old) }
+{
+    match document_in(alloc, file) {
+        Ok(Some(document)) => make_frame(alloc, host, core, name, width, height, document, file),
+        Ok(None) => Ok(Told::Fault(ContainerFault::BadFile)),
+        Err(_) => Err(ScriptFault::NoMemory),
+    }
+}
+
+/// Opens the file of a name as a frame, so many columns wide and so many lines high. Gives what is told of it: the frame and its
+/// objects, or why it isn't opened, and then the container stays as it is. A name or a size that can't be is told before any disk
+/// is touched; then `NoSuch`, where there is no such file, or nothing in it; the store's fault; `BadFile`, where it is no document.
+///
+/// Refused for want of memory alone.
+pub(crate) fn open<H: Host>(
+    alloc: Global,
+    host: &mut H,
+    core: &mut ContainerCore,
+    name: Bytes,
+    width: u16,
+    height: u16,
+) -> Result<Told, ScriptFault>
+    requires { IsTold H.Disk.follows_model H.Disk.may_leave (H.told host.old) core.old }
+    ensures told { IsTold H.Disk.follows_model H.Disk.may_leave (H.told host.new) core.new }
+    ensures still { (s : ℕ) → running s (H.told host.new) ≡ running s (H.told host.old) }
+{
+    match core.may_open(name.as_slice(), width, height) {
+        Ok(()) => {}
+        Err(fault) => return Ok(Told::Fault(fault)),
+    }
+    match read(alloc, host, name.as_slice()) {
+        Ok(file) => {
+            if file.is_empty() {
+                return Ok(Told::Fault(ContainerFault::NoSuch));
+            }
+            open_found(alloc, host, core, name, width, height, &file)
+        }
+        Err(StoreFault::NoMemory) => Err(ScriptFault::NoMemory),
+        Err(fault) => Ok(Told::Unread(fault)),
+    }
+}
