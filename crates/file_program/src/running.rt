@@ -5,7 +5,11 @@ use file_commands::commands::{list_file, make_file};
 use file_commands::fault::ListFault;
 use file_commands::getting::get_file;
 use file_commands::seeking::list_source;
+use file_listings::listing::{list_file_as, list_source_as};
 use file_places::source::Sought;
+use listing_forms::form::Form;
+use listing_forms::json_form::Json;
+use listing_forms::long_form::Long;
 use program_ends::ends::{refuse, refuse_path};
 use program_ends::new_file::NewFile;
 use std::fs::OpenFile;
@@ -43,19 +47,58 @@ pub(crate) fn keep<R: Runtime + AllocGlobal>(
     }
 }
 
+/// How a file is listed.
+#[derive(Clone, Copy)]
+pub enum Listing {
+    /// A line for each entry.
+    Lines,
+    /// One JSON value.
+    Json,
+    /// Columns for eyes.
+    Long,
+}
+
 /// Lists a file on standard output.
-pub fn list<R: Runtime + AllocGlobal>(rt: &R, path: &str) -> ExitCode {
+pub fn list<R: Runtime + AllocGlobal>(rt: &R, path: &str, listing: Listing) -> ExitCode {
     let Ok(source) = fs::open(rt, path) else {
         return refuse(rt, &Report::File(path, "Unreadable"));
     };
-    match list_open(rt, source) {
+    match list_open(rt, source, listing) {
         Ok(()) => ExitCode::SUCCESS,
         Err(fault) => refuse(rt, &fault.report(path)),
     }
 }
 
-/// Lists an open file. Of one that tells how long it is, only what the listing needs is read.
-fn list_open<R: Runtime + AllocGlobal>(rt: &R, mut source: R::File) -> Result<(), ListFault> {
+/// Lists an open file.
+fn list_open<R: Runtime + AllocGlobal>(
+    rt: &R,
+    source: R::File,
+    listing: Listing,
+) -> Result<(), ListFault> {
+    match listing {
+        Listing::Lines => list_lines(rt, source),
+        Listing::Json => list_as::<Json, R>(rt, source),
+        Listing::Long => list_as::<Long, R>(rt, source),
+    }
+}
+
+/// Lists an open file in a form. Of one that tells how long it is, only what the listing needs is read.
+fn list_as<F: Form, R: Runtime + AllocGlobal>(
+    rt: &R,
+    mut source: R::File,
+) -> Result<(), ListFault> {
+    match source.metadata() {
+        Ok(about) if about.is_file() && about.len() > 0 => list_source_as::<F, _, _>(
+            rt.alloc(),
+            &mut Sought::new(source),
+            &mut io::writer(rt),
+        ),
+        _ => list_file_as::<F, _, _>(rt.alloc(), &mut source, &mut io::writer(rt)),
+    }
+}
+
+/// Lists an open file in lines, likewise.
+fn list_lines<R: Runtime + AllocGlobal>(rt: &R, mut source: R::File) -> Result<(), ListFault> {
     match source.metadata() {
         Ok(about) if about.is_file() && about.len() > 0 => list_source(
             rt.alloc(),

@@ -3,9 +3,9 @@
 use crate::command_lines::{EXTRACT, FOLDER, FORCE, PACK};
 use crate::extracting::extract;
 use crate::packing::pack;
-use crate::running::{clean, get, list, make};
+use crate::running::{Listing, clean, get, list, make};
 use clap::ArgMatches;
-use program_ends::command_lines::{CLEAN, FILE, GET, LIST, MAKE, OUT, PATH};
+use program_ends::command_lines::{CLEAN, FILE, GET, JSON, LIST, LONG, MAKE, OUT, PATH};
 use std::process::ExitCode;
 use std::rt::Runtime;
 
@@ -15,7 +15,7 @@ pub enum Task<'a> {
     /// A file of this path, made from standard input.
     Make(&'a str),
     /// The listing of a file of this path.
-    List(&'a str),
+    List(&'a str, Listing),
     /// The bytes of a stream: the path of its file, and its own.
     Get(&'a str, &'a str),
     /// The tree of the file of one path, written to that of another.
@@ -51,7 +51,7 @@ impl<'a> Task<'a> {
     pub fn run<R: Runtime + AllocGlobal>(self, rt: &R) -> ExitCode {
         match self {
             Task::Make(path) => make(rt, path),
-            Task::List(path) => list(rt, path),
+            Task::List(path, listing) => list(rt, path, listing),
             Task::Get(path, word) => get(rt, path, word),
             Task::Clean(path, out) => clean(rt, path, out),
             Task::Extract(path, folder, is_forced) => extract(rt, path, folder, is_forced),
@@ -65,7 +65,18 @@ fn making<'a>(made: &ArgMatches<'a>) -> Option<Task<'a>> {
 }
 
 fn listing<'a>(listed: &ArgMatches<'a>) -> Option<Task<'a>> {
-    Some(Task::List(listed.get_str(FILE)?))
+    Some(Task::List(listed.get_str(FILE)?, form_of(listed)))
+}
+
+/// How a file is to be listed.
+fn form_of(listed: &ArgMatches<'_>) -> Listing {
+    if listed.get_flag(JSON) {
+        Listing::Json
+    } else if listed.get_flag(LONG) {
+        Listing::Long
+    } else {
+        Listing::Lines
+    }
 }
 
 fn getting<'a>(got: &ArgMatches<'a>) -> Option<Task<'a>> {

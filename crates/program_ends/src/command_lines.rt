@@ -1,6 +1,6 @@
 //! The command lines of the commands over files, and the help that they print.
 
-use clap::{Arg, Command};
+use clap::{Arg, ArgAction, Command};
 use std::alloc::{AllocError, Global};
 
 /// The name of the argument for the file that a command reads or makes.
@@ -21,6 +21,10 @@ pub const CLEAN: &str = "clean";
 pub const PATH: &str = "path";
 
 pub const OUT: &str = "out";
+
+pub const JSON: &str = "json";
+
+pub const LONG: &str = "long";
 
 const ABOUT: &str = "Makes, lists and cleans OLE compound files, and runs compound documents";
 
@@ -44,6 +48,14 @@ lower-case hexadecimal digits.
 FILE is replaced only once all of it is written; until then the old one stays as it was.
 
 Example: echo 'stream Greeting 68656c6c6f' | olecon make greeting.ole";
+
+const LISTED: &str =
+    "Each line tells one entry: the root and its class id, a storage with its path and class id, or
+a stream with its path and its size in bytes, depth first, in the order of names. With --json it
+is one JSON value instead: an array of objects, one for each such line. With --long the sizes
+stand in a column, and in brackets what is known of a class id or of a stream's name.
+
+Example: olecon list --json mail.msg | jq -r '.[] | select(.size > 4096) | .path'";
 
 const NAMES: &str =
     "The names of PATH are joined by / and stand as list prints them: a byte up to 32, or 127,
@@ -87,6 +99,27 @@ fn make_command<'a>(alloc: Global) -> Result<Command<'a>, AllocError> {
         .arg(required(alloc, FILE, "FILE", "The file to write"))
 }
 
+/// An argument that is given or not.
+fn flag<'a>(alloc: Global, id: &'a str, help: &'a str) -> Arg<'a> {
+    Arg::new(alloc, id)
+        .long(id)
+        .help(help)
+        .action(ArgAction::SetTrue)
+}
+
+/// The argument for columns, which isn't given together with that for JSON.
+fn long_flag<'a>(alloc: Global) -> Result<Arg<'a>, AllocError> {
+    flag(alloc, LONG, "Writes columns for eyes").conflicts_with(JSON)
+}
+
+fn list_command<'a>(alloc: Global) -> Result<Command<'a>, AllocError> {
+    let long = long_flag(alloc)?;
+    reading_command(alloc, LIST, ABOUT_LIST)?
+        .after_help(LISTED)
+        .arg(flag(alloc, JSON, "Writes one JSON value"))?
+        .arg(long)
+}
+
 fn get_command<'a>(alloc: Global) -> Result<Command<'a>, AllocError> {
     reading_command(alloc, GET, ABOUT_GET)?
         .after_help(NAMES)
@@ -120,7 +153,7 @@ fn push_made<'a>(
 /// Adds the commands over files.
 fn push_commands<'a>(alloc: Global, commands: &mut Vec<Command<'a>>) -> Result<(), AllocError> {
     push_made(commands, make_command(alloc))?;
-    push_made(commands, reading_command(alloc, LIST, ABOUT_LIST))?;
+    push_made(commands, list_command(alloc))?;
     push_made(commands, get_command(alloc))?;
     push_made(commands, clean_command(alloc))
 }

@@ -1,0 +1,108 @@
+//! A compound file that is kept in memory.
+
+ghost use Rattle.cfb_chain.specs.Header.{header_read};
+ghost use Rattle.cfb_chain.specs.declared.fault.ChainFault.{ChainFault};
+ghost use Rattle.file_image.specs.Changed.{changed_blocks};
+ghost use Rattle.file_model.specs.Denotes.{Denotes};
+ghost use Rattle.file_model.specs.Limits.{MOST_BYTES};
+ghost use Rattle.file_model.specs.Refusals.{Refuses, writable};
+ghost use Rattle.std.specs.Prelude.{◌≡◌, ◌≤◌, Err, IfErr, IfOk, Ok, OnErr, OnOk, length};
+ghost use Rattle.storage_tree.specs.Kept.{kept};
+ghost use Rattle.storage_tree.specs.Tree as tree;
+ghost use Rattle.stream_io.specs.Reads.{MayRefuseFile, chain_fault};
+ghost use Rattle.stream_io.specs.declared.fault.ReadFault.TheVariants.{NoMemory};
+
+use crate::changed::changed;
+use file_model::fault::WriteFault;
+use file_writer::write::write_file;
+use std::alloc::{AllocError, Global};
+use std::marker::Model;
+use std::mem;
+use storage_tree::tree::Tree;
+use stream_io::fault::ReadFault;
+use stream_io::read::read_outline;
+
+/// A compound file: its bytes, which denote a tree.
+#[derive(Drop)]
+pub struct Image {
+    file: Vec<u8>,
+}
+
+impl Model for Image {
+    ghost use Rattle.file_model.specs.Denotes.{Denotes};
+    ghost use Rattle.std.specs.Prelude.{List, ℕ};
+    ghost use Rattle.storage_tree.specs.Tree.{Tree};
+
+    ghost Value = { List ℕ };
+
+    ghost view = { λ image. image.file.items };
+
+    ghost invariant = { λ image. (t : Tree) × ∥ Denotes image.file.items t ∥₁ };
+}
+
+/// The file that a tree is written to next: it is laid out anew.
+///
+/// Refused: as `write_file`.
+fn written(alloc: Global, tree: &Tree) -> Result<Vec<u8>, WriteFault>
+    ensures denotes { IfOk result (λ v. ∥ Denotes v.items (kept tree.now).now ∥₁) }
+    ensures short { IfOk result (λ v. length v.items ≤ MOST_BYTES) }
+    ensures refused { IfErr result (Refuses (writable (kept tree.now).now)) }
+    ensures allowed { OnOk result (writable (kept tree.now).now ≡ Ok tt) }
+{
+    let file = write_file(alloc, tree)?;
+    Ok(file)
+}
+
+impl Image {
+    /// The image of a compound file.
+    ///
+    /// Refused: as `read_file`. The bytes are dropped then.
+    pub fn open(alloc: Global, file: Vec<u8>) -> Result<Image, ReadFault>
+        ensures denotes { IfOk result (λ image. (t : tree.Tree) × ∥ Denotes file.items t ∥₁ × ∥ Denotes image t ∥₁) }
+        ensures header { (e : ChainFault) → header_read file.items ≡ Err e → result ≡ Err (chain_fault e) }
+        ensures reads { (t : tree.Tree) → Denotes file.items t → IfErr result (λ e. e ≡ NoMemory) }
+        ensures refused { IfErr result (MayRefuseFile file.items) }
+    {
+        match read_outline(alloc, &file) {
+            Ok(_) => Ok(Image { file }),
+            Err(fault) => Err(fault),
+        }
+    }
+
+    /// Its bytes, which denote a tree.
+    pub fn bytes(&self) -> &[u8]
+        ensures value { result.now ≡ self.now }
+        ensures denotes { (t : tree.Tree) × ∥ Denotes self.now t ∥₁ }
+    {
+        &self.file
+    }
+
+    /// An equal image.
+    pub fn copy(&self, alloc: Global) -> Result<Image, AllocError>
+        ensures { IfOk result (λ image. image ≡ self.now) }
+    {
+        Ok(Image {
+            file: Vec::from_slice(alloc, &self.file)?,
+        })
+    }
+
+    /// Makes it the image of a tree, and gives the numbers of the blocks of 512 bytes that differ from what they were, or
+    /// that are new, rising. Block 0 is the header, and block n + 1 is sector n.
+    ///
+    /// Refused: as `write_file`: `TooBig`, then `NoMemory`. A refusal changes nothing.
+    pub fn update(&mut self, alloc: Global, tree: &Tree) -> Result<Vec<u32>, WriteFault>
+        ensures denotes { OnOk result (∥ Denotes self.new (kept tree.now).now ∥₁) }
+        ensures changed { IfOk result (λ numbers. numbers.items ≡ changed_blocks self.old self.new) }
+        ensures refused { IfErr result (Refuses (writable (kept tree.now).now)) }
+        ensures allowed { OnOk result (writable (kept tree.now).now ≡ Ok tt) }
+        ensures kept { OnErr result (self.new ≡ self.old) }
+    {
+        let file = written(alloc, tree)?;
+        let numbers = match changed(alloc, &self.file, &file) {
+            Ok(numbers) => numbers,
+            Err(_) => return Err(WriteFault::NoMemory),
+        };
+        self.file = file;
+        Ok(numbers)
+    }
+}

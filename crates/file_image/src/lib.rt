@@ -1,0 +1,5 @@
+//! A compound file that is kept in memory, and which of its blocks change when its tree does.
+#![tactic(auto)]
+
+pub mod changed;
+pub mod image;

@@ -1,0 +1,4 @@
+//! Listings of compound files in other forms than lines.
+#![tactic(auto)]
+
+pub mod listing;

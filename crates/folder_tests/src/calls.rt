@@ -1,0 +1,76 @@
+//! The calls that other languages have, on the happy path and without room.
+
+use library_calls::calls::{clean, fault_name, get, lines, list, make};
+use library_calls::numbers::{BAD_PATH, DONE, NO_ROOM};
+use listing_forms::json_form::Json;
+use listing_forms::long_form::Long;
+use std::alloc::Global;
+
+/// Which call is made.
+#[derive(Clone, Copy)]
+enum Call {
+    Lines,
+    Json,
+    Long,
+    Make,
+    Clean,
+    Get,
+}
+
+fn called(alloc: Global, call: Call, input: &[u8], out: &mut [u8], needed: &mut usize) -> u32 {
+    match call {
+        Call::Lines => lines(alloc, input, out, needed),
+        Call::Json => list::<Json>(alloc, input, out, needed),
+        Call::Long => list::<Long>(alloc, input, out, needed),
+        Call::Make => make(alloc, input, out, needed),
+        Call::Clean => clean(alloc, input, out, needed),
+        Call::Get => get(alloc, input, b"A".as_slice(), out, needed),
+    }
+}
+
+/// Whether a call answers these bytes, and without room for them tells how many they are.
+fn gives(alloc: Global, call: Call, input: &[u8], want: &[u8]) -> bool {
+    let mut out = [0; 4096];
+    let mut needed = 0;
+    let mut none = [0; 0];
+    if called(alloc, call, input, &mut none, &mut needed) != NO_ROOM || needed != want.len() {
+        return false;
+    }
+    called(alloc, call, input, &mut out, &mut needed) == DONE && out.get(..needed) == Some(want)
+}
+
+fn is_named(number: u32, want: &[u8]) -> bool {
+    let mut out = [0; 16];
+    let mut needed = 0;
+    fault_name(number, &mut out, &mut needed) == DONE && out.get(..needed) == Some(want)
+}
+
+const LINES: &[u8] = b"root 00000000-0000-0000-0000-000000000000\nstream A 3\n";
+
+const JSON: &[u8] =
+    b"[{\"type\":\"root\",\"path\":\"\",\"class\":\"00000000-0000-0000-0000-000000000000\",\"state\":0},{\"type\":\"stream\",\"path\":\"A\",\"size\":3}]\n";
+
+const LONG: &[u8] = b"kind         size  path\nroot               /\nstream          3  A\n";
+
+#[test]
+fn calls_answer(rt: HostRuntime) {
+    let mut file = [0; 2560];
+    let mut needed = 0;
+    let done = called(
+        rt.alloc(),
+        Call::Make,
+        b"stream A 010203\n".as_slice(),
+        &mut file,
+        &mut needed,
+    );
+    assert!(rt; done == DONE && needed == 2560, "a file");
+    assert!(rt; gives(rt.alloc(), Call::Lines, &file, LINES), "lines");
+    assert!(rt; gives(rt.alloc(), Call::Json, &file, JSON), "json");
+    assert!(rt; gives(rt.alloc(), Call::Long, &file, LONG), "long");
+    assert!(rt; gives(rt.alloc(), Call::Clean, &file, &file), "clean");
+    assert!(rt;
+        gives(rt.alloc(), Call::Get, &file, b"\x01\x02\x03".as_slice()),
+        "get"
+    );
+    assert!(rt; is_named(BAD_PATH, b"BadPath".as_slice()), "a name");
+}

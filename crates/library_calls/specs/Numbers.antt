@@ -1,0 +1,138 @@
+-- The numbers of the faults, and their names.
+use Rattle.std.specs.Prelude.{ℕ, List, [], codes, cond, nat_eq}
+use Rattle.cfb_chain.specs.declared.fault.ChainFault.{ChainFault}
+use Rattle.cfb_chain.specs.declared.fault.ChainFault.TheVariants as chain
+use Rattle.cfb_names.specs.declared.fault.DirFault.{DirFault}
+use Rattle.cfb_names.specs.declared.fault.DirFault.TheVariants as directory
+use Rattle.file_model.specs.declared.fault.WriteFault.{WriteFault}
+use Rattle.file_model.specs.declared.fault.WriteFault.TheVariants as write
+use Rattle.storage_tree.specs.declared.fault.TreeFault.{TreeFault}
+use Rattle.storage_tree.specs.declared.fault.TreeFault.TheVariants as tree
+use Rattle.stream_io.specs.declared.fault.ReadFault.{ReadFault}
+use Rattle.stream_io.specs.declared.fault.ReadFault.TheVariants as read
+use Rattle.texts.specs.declared.input.InputFault.{InputFault}
+use Rattle.texts.specs.declared.input.InputFault.TheVariants as input
+use Rattle.file_commands.specs.declared.fault.CleanFault.{CleanFault}
+use Rattle.file_commands.specs.declared.fault.CleanFault.TheVariants as clean
+use Rattle.file_commands.specs.declared.fault.GetFault.{GetFault}
+use Rattle.file_commands.specs.declared.fault.GetFault.TheVariants as get
+use Rattle.file_commands.specs.declared.fault.LineFault.{LineFault}
+use Rattle.file_commands.specs.declared.fault.LineFault.TheVariants as line
+use Rattle.file_commands.specs.declared.fault.ListFault.{ListFault}
+use Rattle.file_commands.specs.declared.fault.ListFault.TheVariants as list
+use Rattle.file_commands.specs.declared.fault.MakeFault.{MakeFault}
+use Rattle.file_commands.specs.declared.fault.MakeFault.TheVariants as make
+
+abbrev pub chain_number : ChainFault → ℕ
+chain_number chain.NoMemory = 2
+chain_number chain.TooBig = 3
+chain_number chain.Truncated = 10
+chain_number chain.BadSignature = 11
+chain_number (chain.Unsupported field) = 12
+chain_number chain.OutOfFile = 13
+chain_number chain.Cycle = 14
+chain_number chain.CrossLinked = 15
+chain_number chain.ShortChain = 16
+
+abbrev pub directory_number : DirFault → ℕ
+directory_number directory.NoMemory = 2
+directory_number directory.BadEntry = 20
+directory_number directory.TreeCycle = 21
+directory_number directory.TooNested = 22
+directory_number directory.NameEmpty = 23
+directory_number directory.NameTooLong = 24
+directory_number directory.NameNotAscii = 25
+directory_number directory.NameForbidden = 26
+directory_number directory.DuplicateName = 27
+
+abbrev pub tree_number : TreeFault → ℕ
+tree_number tree.NoMemory = 2
+tree_number tree.NotFound = 30
+tree_number tree.WrongKind = 31
+tree_number tree.Exists = 32
+tree_number tree.TooDeep = 33
+tree_number tree.NoTransaction = 34
+
+abbrev pub read_number : ReadFault → ℕ
+read_number (read.Chain fault) = chain_number fault
+read_number (read.Directory fault) = directory_number fault
+read_number read.NoMemory = 2
+
+abbrev pub write_number : WriteFault → ℕ
+write_number write.NoMemory = 2
+write_number write.TooBig = 3
+
+abbrev pub input_number : InputFault → ℕ
+input_number input.NoMemory = 2
+input_number input.TooBig = 3
+input_number input.Unreadable = 4
+
+abbrev pub line_number : LineFault → ℕ
+line_number line.NoMemory = 2
+line_number line.Bad = 40
+line_number (line.Name fault) = directory_number fault
+line_number (line.Tree fault) = tree_number fault
+
+abbrev pub list_number : ListFault → ℕ
+list_number (list.Input fault) = input_number fault
+list_number (list.Read fault) = read_number fault
+list_number list.Unwritable = 5
+list_number list.NoMemory = 2
+
+abbrev pub get_number : GetFault → ℕ
+get_number (get.Input fault) = input_number fault
+get_number (get.Read fault) = read_number fault
+get_number (get.Tree fault) = tree_number fault
+get_number get.Unwritable = 5
+
+abbrev pub make_number : MakeFault → ℕ
+make_number (make.Input fault) = input_number fault
+make_number (make.Line n fault) = line_number fault
+make_number (make.Write fault) = write_number fault
+make_number make.Unwritable = 5
+
+abbrev pub clean_number : CleanFault → ℕ
+clean_number (clean.Input fault) = input_number fault
+clean_number (clean.Read fault) = read_number fault
+clean_number (clean.Write fault) = write_number fault
+clean_number clean.Unwritable = 5
+
+-- the names, as the program prints them; a number of no fault has none
+abbrev pub tree_name : ℕ → List ℕ
+tree_name n =
+    cond (nat_eq n 30) (codes "NotFound") (
+    cond (nat_eq n 31) (codes "WrongKind") (
+    cond (nat_eq n 32) (codes "Exists") (
+    cond (nat_eq n 33) (codes "TooDeep") (
+    cond (nat_eq n 34) (codes "NoTransaction") (
+    cond (nat_eq n 40) (codes "Bad") (
+    cond (nat_eq n 41) (codes "BadPath") []))))))
+
+abbrev pub directory_name : ℕ → List ℕ
+directory_name n =
+    cond (nat_eq n 20) (codes "BadEntry") (
+    cond (nat_eq n 21) (codes "TreeCycle") (
+    cond (nat_eq n 22) (codes "TooNested") (
+    cond (nat_eq n 23) (codes "NameEmpty") (
+    cond (nat_eq n 24) (codes "NameTooLong") (
+    cond (nat_eq n 25) (codes "NameNotAscii") (
+    cond (nat_eq n 26) (codes "NameForbidden") (
+    cond (nat_eq n 27) (codes "DuplicateName") (tree_name n))))))))
+
+abbrev pub chain_name : ℕ → List ℕ
+chain_name n =
+    cond (nat_eq n 10) (codes "Truncated") (
+    cond (nat_eq n 11) (codes "BadSignature") (
+    cond (nat_eq n 12) (codes "Unsupported") (
+    cond (nat_eq n 13) (codes "OutOfFile") (
+    cond (nat_eq n 14) (codes "Cycle") (
+    cond (nat_eq n 15) (codes "CrossLinked") (
+    cond (nat_eq n 16) (codes "ShortChain") (directory_name n)))))))
+
+abbrev pub number_name : ℕ → List ℕ
+number_name n =
+    cond (nat_eq n 1) (codes "NoRoom") (
+    cond (nat_eq n 2) (codes "NoMemory") (
+    cond (nat_eq n 3) (codes "TooBig") (
+    cond (nat_eq n 4) (codes "Unreadable") (
+    cond (nat_eq n 5) (codes "Unwritable") (chain_name n)))))

@@ -1,0 +1,229 @@
+//! The numbers of the faults, and their names.
+
+ghost use Rattle.library_calls.specs.Numbers.{chain_name, chain_number, clean_number, directory_name, directory_number, get_number, input_number, line_number, list_number, make_number, number_name, read_number, tree_name, tree_number, write_number};
+ghost use Rattle.std.specs.Prelude.{◌≡◌, ◌<◌};
+
+use cfb_chain::fault::ChainFault;
+use cfb_names::fault::DirFault;
+use file_commands::fault::{CleanFault, GetFault, LineFault, ListFault, MakeFault};
+use file_model::fault::WriteFault;
+use storage_tree::fault::TreeFault;
+use stream_io::fault::ReadFault;
+use texts::input::InputFault;
+
+/// What is told where all was done.
+pub const DONE: u32 = 0;
+
+/// What is told where the place for the bytes is too short.
+pub const NO_ROOM: u32 = 1;
+
+/// What is told where no memory was left.
+pub const NO_MEMORY: u32 = 2;
+
+/// What is told of a path that no word spells so.
+pub const BAD_PATH: u32 = 41;
+
+fn chain_number(fault: ChainFault) -> u32
+    ensures number { result ≡ chain_number fault }
+    ensures fault { 1 < result }
+{
+    match fault {
+        ChainFault::NoMemory => 2,
+        ChainFault::TooBig => 3,
+        ChainFault::Truncated => 10,
+        ChainFault::BadSignature => 11,
+        ChainFault::Unsupported(_) => 12,
+        ChainFault::OutOfFile => 13,
+        ChainFault::Cycle => 14,
+        ChainFault::CrossLinked => 15,
+        ChainFault::ShortChain => 16,
+    }
+}
+
+/// The number of a fault of a directory or of a name.
+pub fn directory_number(fault: DirFault) -> u32
+    ensures number { result ≡ directory_number fault }
+    ensures fault { 1 < result }
+{
+    match fault {
+        DirFault::NoMemory => 2,
+        DirFault::BadEntry => 20,
+        DirFault::TreeCycle => 21,
+        DirFault::TooNested => 22,
+        DirFault::NameEmpty => 23,
+        DirFault::NameTooLong => 24,
+        DirFault::NameNotAscii => 25,
+        DirFault::NameForbidden => 26,
+        DirFault::DuplicateName => 27,
+    }
+}
+
+fn tree_number(fault: TreeFault) -> u32
+    ensures number { result ≡ tree_number fault }
+    ensures fault { 1 < result }
+{
+    match fault {
+        TreeFault::NoMemory => 2,
+        TreeFault::NotFound => 30,
+        TreeFault::WrongKind => 31,
+        TreeFault::Exists => 32,
+        TreeFault::TooDeep => 33,
+        TreeFault::NoTransaction => 34,
+    }
+}
+
+fn read_number(fault: ReadFault) -> u32
+    ensures number { result ≡ read_number fault }
+    ensures fault { 1 < result }
+{
+    match fault {
+        ReadFault::Chain(fault) => chain_number(fault),
+        ReadFault::Directory(fault) => directory_number(fault),
+        ReadFault::NoMemory => 2,
+    }
+}
+
+fn write_number(fault: WriteFault) -> u32
+    ensures number { result ≡ write_number fault }
+    ensures fault { 1 < result }
+{
+    match fault {
+        WriteFault::NoMemory => 2,
+        WriteFault::TooBig => 3,
+    }
+}
+
+fn input_number(fault: InputFault) -> u32
+    ensures number { result ≡ input_number fault }
+    ensures fault { 1 < result }
+{
+    match fault {
+        InputFault::NoMemory => 2,
+        InputFault::TooBig => 3,
+        InputFault::Unreadable => 4,
+    }
+}
+
+fn line_number(fault: LineFault) -> u32
+    ensures number { result ≡ line_number fault }
+    ensures fault { 1 < result }
+{
+    match fault {
+        LineFault::NoMemory => 2,
+        LineFault::Bad => 40,
+        LineFault::Name(fault) => directory_number(fault),
+        LineFault::Tree(fault) => tree_number(fault),
+    }
+}
+
+/// The number of a fault of a listing.
+pub fn list_number(fault: ListFault) -> u32
+    ensures number { result ≡ list_number fault }
+    ensures fault { 1 < result }
+{
+    match fault {
+        ListFault::Input(fault) => input_number(fault),
+        ListFault::Read(fault) => read_number(fault),
+        ListFault::Unwritable => 5,
+        ListFault::NoMemory => 2,
+    }
+}
+
+/// The number of a fault of a stream.
+pub fn get_number(fault: GetFault) -> u32
+    ensures number { result ≡ get_number fault }
+    ensures fault { 1 < result }
+{
+    match fault {
+        GetFault::Input(fault) => input_number(fault),
+        GetFault::Read(fault) => read_number(fault),
+        GetFault::Tree(fault) => tree_number(fault),
+        GetFault::Unwritable => 5,
+    }
+}
+
+/// The number of a fault of a file that is made.
+pub fn make_number(fault: MakeFault) -> u32
+    ensures number { result ≡ make_number fault }
+    ensures fault { 1 < result }
+{
+    match fault {
+        MakeFault::Input(fault) => input_number(fault),
+        MakeFault::Line(_, fault) => line_number(fault),
+        MakeFault::Write(fault) => write_number(fault),
+        MakeFault::Unwritable => 5,
+    }
+}
+
+/// The number of a fault of a file that is written anew.
+pub fn clean_number(fault: CleanFault) -> u32
+    ensures number { result ≡ clean_number fault }
+    ensures fault { 1 < result }
+{
+    match fault {
+        CleanFault::Input(fault) => input_number(fault),
+        CleanFault::Read(fault) => read_number(fault),
+        CleanFault::Write(fault) => write_number(fault),
+        CleanFault::Unwritable => 5,
+    }
+}
+
+/// The name of the fault of a number, as the program prints it; empty for a number of no fault.
+pub fn number_name(number: u32) -> &'static str
+    ensures { result.now ≡ number_name number }
+{
+    match number {
+        NO_ROOM => "NoRoom",
+        2 => "NoMemory",
+        3 => "TooBig",
+        4 => "Unreadable",
+        5 => "Unwritable",
+        _ => chain_name(number),
+    }
+}
+
+fn chain_name(number: u32) -> &'static str
+    ensures { result.now ≡ chain_name number }
+{
+    match number {
+        10 => "Truncated",
+        11 => "BadSignature",
+        12 => "Unsupported",
+        13 => "OutOfFile",
+        14 => "Cycle",
+        15 => "CrossLinked",
+        16 => "ShortChain",
+        _ => directory_name(number),
+    }
+}
+
+fn directory_name(number: u32) -> &'static str
+    ensures { result.now ≡ directory_name number }
+{
+    match number {
+        20 => "BadEntry",
+        21 => "TreeCycle",
+        22 => "TooNested",
+        23 => "NameEmpty",
+        24 => "NameTooLong",
+        25 => "NameNotAscii",
+        26 => "NameForbidden",
+        27 => "DuplicateName",
+        _ => tree_name(number),
+    }
+}
+
+fn tree_name(number: u32) -> &'static str
+    ensures { result.now ≡ tree_name number }
+{
+    match number {
+        30 => "NotFound",
+        31 => "WrongKind",
+        32 => "Exists",
+        33 => "TooDeep",
+        34 => "NoTransaction",
+        40 => "Bad",
+        BAD_PATH => "BadPath",
+        _ => "",
+    }
+}

@@ -1,0 +1,4 @@
+pub mod Ascii
+pub mod Told
+pub mod Rows
+pub mod Picked

@@ -1,0 +1,4 @@
+pub mod Json
+pub mod Classes
+pub mod Streams
+pub mod Long

@@ -1,0 +1,83 @@
+//! The library for other languages: the calls of `library_calls` under the names of C (`olecon.h`).
+#![tactic(auto)]
+
+ghost use Rattle.file_commands.specs.Listing.{listed};
+ghost use Rattle.library_calls.specs.Answers.{Answers, IsPut};
+ghost use Rattle.library_calls.specs.Calls.{IsCleanOf, IsGotBy, IsListedAs, IsMadeOf, IsRefusedBy, IsRefusedClean, IsRefusedList, IsRefusedMake};
+ghost use Rattle.library_calls.specs.Numbers.{number_name};
+ghost use Rattle.listing_forms.specs.Json.{json_listed};
+ghost use Rattle.std.specs.Prelude.{◌≡◌, length};
+
+use library_calls::calls;
+use listing_forms::json_form::Json;
+use std::alloc::Global;
+
+/// The listing of a file in lines.
+#[unsafe(no_mangle)]
+pub extern "C" fn olecon_list(alloc: Global, file: &[u8], out: &mut [u8], needed: &mut usize) -> u32
+    ensures { Answers (IsListedAs listed file.now) (IsRefusedList file.now) result out.old out.new needed.new }
+{
+    calls::lines(alloc, file, out, needed)
+}
+
+/// The listing of a file as one JSON value.
+#[unsafe(no_mangle)]
+pub extern "C" fn olecon_list_json(
+    alloc: Global,
+    file: &[u8],
+    out: &mut [u8],
+    needed: &mut usize,
+) -> u32
+    ensures { Answers (IsListedAs json_listed file.now) (IsRefusedList file.now) result out.old out.new needed.new }
+{
+    calls::list::<Json>(alloc, file, out, needed)
+}
+
+/// The bytes of the stream at a path of a file.
+#[unsafe(no_mangle)]
+pub extern "C" fn olecon_get(
+    alloc: Global,
+    file: &[u8],
+    path: &[u8],
+    out: &mut [u8],
+    needed: &mut usize,
+) -> u32
+    ensures { Answers (IsGotBy file.now path.now) (IsRefusedBy file.now path.now) result out.old out.new needed.new }
+{
+    calls::get(alloc, file, path, out, needed)
+}
+
+/// The file that a description describes.
+#[unsafe(no_mangle)]
+pub extern "C" fn olecon_make(
+    alloc: Global,
+    description: &[u8],
+    out: &mut [u8],
+    needed: &mut usize,
+) -> u32
+    ensures { Answers (IsMadeOf description.now) (IsRefusedMake description.now) result out.old out.new needed.new }
+{
+    calls::make(alloc, description, out, needed)
+}
+
+/// A file of the same storages and streams, and nothing else.
+#[unsafe(no_mangle)]
+pub extern "C" fn olecon_clean(
+    alloc: Global,
+    file: &[u8],
+    out: &mut [u8],
+    needed: &mut usize,
+) -> u32
+    ensures { Answers (IsCleanOf file.now) (IsRefusedClean file.now) result out.old out.new needed.new }
+{
+    calls::clean(alloc, file, out, needed)
+}
+
+/// The name of the fault of a number.
+#[unsafe(no_mangle)]
+pub extern "C" fn olecon_fault_name(number: u32, out: &mut [u8], needed: &mut usize) -> u32
+    ensures put { IsPut result out.old out.new (number_name number) }
+    ensures needed { needed.new ≡ length (number_name number) }
+{
+    calls::fault_name(number, out, needed)
+}

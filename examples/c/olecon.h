@@ -1,0 +1,52 @@
+/* OLE 2 compound files in memory: listing, reading, making and cleaning them.
+ *
+ * Each call reads bytes of the caller's, puts its answer at the front of a place of the caller's (OUT, of OUT_LEN bytes),
+ * and tells in NEEDED how many bytes the answer has. It keeps none of the caller's memory, holds nothing between calls,
+ * and writes no byte of the place behind the answer.
+ *
+ * It answers 0 where all was done; 1 where the place is too short: then nothing is put, and NEEDED says how long it has to
+ * be, so that a first call may have no place at all; else the number of a fault, whose name olecon_fault_name tells, with
+ * NEEDED 0 and nothing put.
+ *
+ * What a caller owes: each pointer leads to so many bytes that may be read, or written for OUT and NEEDED, until the call is
+ * done; OUT and NEEDED overlap each other and what is read nowhere; none of the pointers is NULL, also where the length is
+ * 0; malloc, realloc and free are those of one C library. */
+
+#ifndef OLECON_H
+#define OLECON_H
+
+#include <stddef.h>
+#include <stdint.h>
+
+#ifdef __cplusplus
+extern "C" {
+#endif
+
+#define OLECON_DONE 0u
+#define OLECON_NO_ROOM 1u
+#define OLECON_NO_MEMORY 2u
+
+/* The listing of a file, in lines: "root CLASS", "storage PATH CLASS" and "stream PATH SIZE", depth first in name order. */
+uint32_t olecon_list(const uint8_t *file, size_t file_len, uint8_t *out, size_t out_len, size_t *needed);
+
+/* The same as one JSON value: an array with an object for each line. */
+uint32_t olecon_list_json(const uint8_t *file, size_t file_len, uint8_t *out, size_t out_len, size_t *needed);
+
+/* The bytes of the stream at a path, spelled as the listing spells it. */
+uint32_t olecon_get(const uint8_t *file, size_t file_len, const uint8_t *path, size_t path_len, uint8_t *out, size_t out_len,
+                    size_t *needed);
+
+/* The file of a flat list: a line "storage PATH", "stream PATH HEX" ("-" for no bytes) or "fill PATH COUNT HH" for each. */
+uint32_t olecon_make(const uint8_t *description, size_t description_len, uint8_t *out, size_t out_len, size_t *needed);
+
+/* A file of the same storages and streams, and nothing else. */
+uint32_t olecon_clean(const uint8_t *file, size_t file_len, uint8_t *out, size_t out_len, size_t *needed);
+
+/* The name of the fault of a number; empty for a number of no fault. */
+uint32_t olecon_fault_name(uint32_t number, uint8_t *out, size_t out_len, size_t *needed);
+
+#ifdef __cplusplus
+}
+#endif
+
+#endif
