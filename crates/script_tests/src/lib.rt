@@ -1,0 +1,7 @@
+//! Tests of scripts by their public call, over a host whose files are disks in memory that fail.
+#![tactic(auto)]
+
+#[cfg(test)]
+mod files;
+#[cfg(test)]
+mod saves;
