@@ -1,7 +1,7 @@
 -- The bytes of sectors, as slices of the code give them.
 use Rattle.std.proofs.Common.{◌⊎◌, inl, inr, ◌≡◌, ◌≤◌, ◌+◌, ◌-◌, ◌*◌, ℕ, List, [], ◌∷◌, ◌++◌, length, take, drop, replicate, refl, arith, append_assoc, min, length-append, length-drop, ap, ◌∙◌}
 use Rattle.std.proofs.lemmas.List.{drop_all, drop_min, length-replicate, length-take, take_all, take_min}
-use Rattle.cfb_chain.specs.Bytes.{block, joined, u32_at}
+use Rattle.cfb_header.specs.Bytes.{block, joined, u32_at}
 
 -- a sector is added: what there is of its bytes, and zeros
 pub block_pushed : (w at m k n : ℕ) (out mid new bytes : List ℕ) → n ≡ length out → m ≡ min at (length bytes)

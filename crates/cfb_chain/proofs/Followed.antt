@@ -8,7 +8,7 @@ use Rattle.std.proofs.lemmas.Map.Made.{IsDistinct-from_AllPairs}
 use Rattle.std.proofs.lemmas.Map.Steps.{length-le_from_distinct_below}
 use Rattle.std.proofs.lemmas.Map.Views.{Contains-from_any}
 use Rattle.std.specs.List.{All}
-use Rattle.cfb_chain.specs.Bytes.{joined}
+use Rattle.cfb_header.specs.Bytes.{joined}
 use Rattle.cfb_chain.specs.Chain.{AreDistinct, END_OF_CHAIN, IsChain, Leads}
 use Rattle.cfb_chain.specs.Fat.{FatValue, IsFound, IsFreeChain, followed, held, set_all, store_of}
 use Rattle.cfb_chain.proofs.Chains.{chain_one, chain_room, distinct_chain}

@@ -1,5 +1,3 @@
-pub mod Headers
-pub mod Written
 pub mod Marks
 pub mod Chains
 pub mod Blocks

@@ -11,7 +11,7 @@ use Rattle.std.proofs.lemmas.List.Elements.{All-cons, All-head, All-tail, All-ap
 use Rattle.std.specs.List.{All, Contains}
 use Rattle.cfb_chain.specs.Chain.{AreDistinct, IsPresent}
 use Rattle.cfb_chain.specs.Fat.{AreFree, FatValue, IsFree, IsTableOf, marked, sectors_of, set_all}
-use Rattle.cfb_chain.specs.Header.{HeaderValue, difat_by, fat_by}
+use Rattle.cfb_header.specs.Header.{HeaderValue, difat_by, fat_by}
 
 -- numbers of which no two are equal
 pub distinct_tail : (n : ℕ) (ns : List ℕ) → AreDistinct (n ∷ ns) → AreDistinct ns

@@ -2,7 +2,7 @@
 use Rattle.std.proofs.Common.{◌≡◌, ◌<◌, ◌≤◌, ◌+◌, ◌-◌, ◌*◌, ℕ, zero, suc, List, [], ◌∷◌, ◌++◌, length, take, drop, replicate, get_or, sym, ap, subst, ◌∙◌, arith, length-drop}
 use Rattle.std.proofs.lemmas.List.{append-nil, drop-drop, take_all}
 use Rattle.std.specs.List.{slice_range}
-use Rattle.cfb_chain.specs.Bytes.{block, joined, sector}
+use Rattle.cfb_header.specs.Bytes.{block, joined, sector}
 
 take_plus : (a b : ℕ) (xs : List ℕ) → take (a + b) xs ≡ take a xs ++ take b (drop a xs)
 take_plus zero b xs = let e : 0 + b ≡ b = omega arith in ap (λ n. take n xs) e

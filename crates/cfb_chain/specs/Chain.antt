@@ -2,10 +2,7 @@
 use Rattle.std.specs.Prelude.{◌≡◌, ◌<◌, ◌≤◌, ◌*◌, ℕ, zero, suc, List, [], ◌∷◌, length}
 use Rattle.std.specs.List.{All}
 pub use Rattle.cfb_bytes.specs.Marks.{AreDistinct}
-
--- the value that ends a chain
-abbrev pub END_OF_CHAIN : ℕ
-END_OF_CHAIN = 0xFFFFFFFE
+pub use Rattle.cfb_header.specs.Header.{END_OF_CHAIN}
 
 -- the value of a sector that isn't used
 abbrev pub FREE_SECTOR : ℕ

@@ -1,6 +1,6 @@
 -- Where the sectors of a table lie.
 use Rattle.std.specs.Prelude.{ℕ, List}
-use Rattle.cfb_chain.specs.Bytes.{joined, sector}
+use Rattle.cfb_header.specs.Bytes.{joined, sector}
 use Rattle.cfb_chain.specs.declared.fat.Pieces.{Pieces}
 use Rattle.cfb_chain.specs.declared.fat.Pieces.TheVariants.{Sectors, MiniRun, MiniSectors, MiniPlaced}
 use Rattle.cfb_chain.specs.declared.image.Image.{Image}

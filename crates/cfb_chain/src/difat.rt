@@ -1,13 +1,13 @@
 //! The sectors of the FAT, as the header and the DIFAT list them (MS-CFB 2.2, 2.5).
 
-ghost use Rattle.cfb_chain.specs.Bytes.{sector, u32_at};
-ghost use Rattle.cfb_chain.specs.Header.{MOST_FAT_SECTORS, difat_by, fat_by, named_in};
+ghost use Rattle.cfb_header.specs.Bytes.{sector, u32_at};
+ghost use Rattle.cfb_header.specs.Header.{MOST_FAT_SECTORS, difat_by, fat_by, named_in};
 ghost use Rattle.cfb_chain.specs.View.{image_bytes};
 ghost use Rattle.std.specs.Prelude.{◌≡◌, ◌≤◌, ◌++◌, IfOk, OnOk, length};
 
-use crate::header::{Header, NAMED};
 use crate::image::Image;
 use crate::table::table_in;
+use cfb_header::header::{Header, NAMED};
 use std::alloc::{AllocError, Global};
 
 /// The sectors in which the FAT of a file lies, and the DIFAT's, which list those that the header has no room for.

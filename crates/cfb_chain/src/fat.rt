@@ -1,26 +1,23 @@
 //! The table of sectors and its chains (MS-CFB 2.3, 2.4).
 
-ghost use Rattle.cfb_chain.specs.Bytes.{block, joined};
+ghost use Rattle.cfb_header.specs.Bytes.{block, joined};
 ghost use Rattle.cfb_chain.specs.Chain.{AreDistinct, FREE_SECTOR, IsChain};
-ghost use Rattle.cfb_chain.specs.Header.{NAMED, difat_by, fat_by};
+ghost use Rattle.cfb_header.specs.Header.{NAMED, difat_by, fat_by};
 ghost use Rattle.cfb_chain.specs.Fat.{AreFree, FatValue, IsFat, IsFound, IsFree, IsFreeChain, IsMiniFound, IsMiniTable, IsTableOf, MayRefuse, MayRefuseChain, MayRefuseFat, MayRefuseMini, followed, held, marked, sectors_in, store_of};
 ghost use Rattle.cfb_chain.specs.View.{bytes_of, image_bytes, start_of, width_of};
-ghost use Rattle.cfb_chain.specs.declared.fault.ChainFault.TheVariants.{CrossLinked, Cycle, NoMemory, OutOfFile, ShortChain};
+ghost use Rattle.cfb_header.specs.declared.fault.ChainFault.TheVariants.{CrossLinked, Cycle, NoMemory, OutOfFile, ShortChain};
 ghost use Rattle.std.specs.List.{All, Contains};
 ghost use Rattle.std.specs.Prelude.{◌*◌, ◌+◌, ◌++◌, ◌<◌, ◌^◌, ◌≡◌, ◌≢◌, ◌≤◌, ◌⊎◌, IfErr, IfNone, IfOk, IfSome, List, OnErr, OnOk, length, slice_index, take, ℕ};
 
 use crate::difat::{FatSectors, fat_sectors};
-use crate::fault::ChainFault;
-use crate::header::{Header, NAMED};
 use crate::image::{Image, join_placed};
 use crate::sectors::{MINI_SECTOR, SECTOR, join_blocks, numbers, run_of};
 use crate::table::{count_entries, follow, table_in};
+use cfb_header::fault::ChainFault;
+use cfb_header::header::{END_OF_CHAIN, Header, NAMED};
 use cfb_places::places::Places;
 use std::alloc::{AllocError, Global};
 use std::marker::Model;
-
-/// The value that ends a chain.
-pub const END_OF_CHAIN: u32 = 0xffff_fffe;
 
 /// The value of a sector that isn't used.
 pub const FREE_SECTOR: u32 = 0xffff_ffff;

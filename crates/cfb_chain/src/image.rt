@@ -1,7 +1,7 @@
 //! The bytes of a file, all or some of which are in memory.
 
 ghost use Rattle.cfb_bytes.specs.Bytes.{block};
-ghost use Rattle.cfb_chain.specs.Bytes.{joined, sector};
+ghost use Rattle.cfb_header.specs.Bytes.{joined, sector};
 ghost use Rattle.cfb_chain.specs.Fat.{sectors_in};
 ghost use Rattle.cfb_chain.specs.View.{image_bytes};
 ghost use Rattle.std.specs.Prelude.{◌≡◌, IfOk, IfSome, length};

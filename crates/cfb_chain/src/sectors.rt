@@ -1,6 +1,6 @@
 //! The bytes of sectors, and the numbers in them.
 
-ghost use Rattle.cfb_chain.specs.Bytes.{block, joined, u32_at};
+ghost use Rattle.cfb_header.specs.Bytes.{block, joined, u32_at};
 ghost use Rattle.std.specs.Prelude.{◌*◌, ◌+◌, ◌++◌, ◌<◌, ◌≡◌, ◌≤◌, IfOk, IfSome, OnOk, length, slice_index, true, ◌^◌, ℕ};
 
 use cfb_bytes::numbers::read_u32;

@@ -1,15 +1,15 @@
 //! The entries of the FAT, and the sectors that follow one another by them.
 
-ghost use Rattle.cfb_chain.specs.Bytes.{joined, sector, u32_at};
+ghost use Rattle.cfb_header.specs.Bytes.{joined, sector, u32_at};
 ghost use Rattle.cfb_chain.specs.Chain.{END_OF_CHAIN, Leads};
 ghost use Rattle.cfb_chain.specs.Fat.{followed, sectors_in};
 ghost use Rattle.cfb_chain.specs.View.{image_bytes};
 ghost use Rattle.std.specs.List.{All};
 ghost use Rattle.std.specs.Prelude.{◌*◌, ◌<◌, ◌≤◌, ◌^◌, ◌≡◌, IfOk, List, length, min, slice_index, ℕ};
 
-use crate::fat::END_OF_CHAIN;
 use crate::image::Image;
 use crate::sectors::numbers;
+use cfb_header::header::END_OF_CHAIN;
 use std::alloc::{AllocError, Global};
 
 /// The first entries of a FAT that lies in these sectors, zero standing for those that it doesn't have.

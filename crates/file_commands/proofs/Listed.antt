@@ -1,9 +1,9 @@
 -- What is listed of a file, and why it isn't.
 use Rattle.std.proofs.Common.{◌≡◌, ◌∙◌, ℕ, List, Option, Some, None, Result, Ok, Err, IfErr, IfSome, OnOk, ap, subst, sym}
 use Rattle.std.specs.Io.KnownBytes.{Appends}
-use Rattle.cfb_chain.specs.Header.{HeaderValue}
-use Rattle.cfb_chain.specs.declared.fault.ChainFault.{ChainFault}
-use Rattle.cfb_chain.proofs.Headers.{read_whole}
+use Rattle.cfb_header.specs.Header.{HeaderValue}
+use Rattle.cfb_header.specs.declared.fault.ChainFault.{ChainFault}
+use Rattle.cfb_header.proofs.Headers.{read_whole}
 use Rattle.storage_tree.specs.Tree.{Tree}
 use Rattle.file_model.specs.Alike.{Alike}
 use Rattle.file_model.specs.Denotes.{Denotes}

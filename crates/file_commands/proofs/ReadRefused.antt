@@ -1,8 +1,8 @@
 -- Why a file isn't read, told of the reader's bytes.
 use Rattle.std.proofs.Common.{◌≡◌, ◌∙◌, ℕ, List, Option, Some, None, Result, Err, IfErr, IfSome, subst}
 use Rattle.storage_tree.specs.Tree.{Tree}
-use Rattle.cfb_chain.specs.Header.{header_read}
-use Rattle.cfb_chain.specs.declared.fault.ChainFault.{ChainFault}
+use Rattle.cfb_header.specs.Header.{header_read}
+use Rattle.cfb_header.specs.declared.fault.ChainFault.{ChainFault}
 use Rattle.file_model.specs.Denotes.{Denotes}
 use Rattle.stream_io.proofs.ReadingTold.{read_refused as seen_refused}
 use Rattle.stream_io.specs.Reads.{chain_fault, MayRefuseFile, MayRefuseRead}

@@ -1,7 +1,7 @@
 //! A compound file that is kept in memory.
 
-ghost use Rattle.cfb_chain.specs.Header.{header_read};
-ghost use Rattle.cfb_chain.specs.declared.fault.ChainFault.{ChainFault};
+ghost use Rattle.cfb_header.specs.Header.{header_read};
+ghost use Rattle.cfb_header.specs.declared.fault.ChainFault.{ChainFault};
 ghost use Rattle.file_image.specs.Changed.{changed_blocks};
 ghost use Rattle.file_model.specs.Denotes.{Denotes};
 ghost use Rattle.file_model.specs.Limits.{MOST_BYTES};

@@ -1,11 +1,11 @@
 -- What holds of files that a listing can't tell apart.
 use Rattle.std.proofs.Common.{◌≡◌, ◌*◌, ℕ, List, ◌++◌, Bool, true, false, if◌then◌else◌, nat_lt, length, take, sym, ◌∙◌, ap, subst, arith}
 use Rattle.std.proofs.lemmas.List.Elements.{All-take}
-use Rattle.cfb_chain.specs.Bytes.{sector}
+use Rattle.cfb_header.specs.Bytes.{sector}
 use Rattle.std.specs.List.{All}
 use Rattle.cfb_chain.specs.Chain.{AreDistinct, IsChain, IsChainOf, IsPresent, Store}
 use Rattle.cfb_chain.specs.Fat.{IsFat, mini_sectors_of, sectors_of}
-use Rattle.cfb_chain.specs.Header.{HeaderValue, IsHeader, difat, difat_by, fat_by, first_directory, first_mini_fat, header_of, listed, mini_fat_count}
+use Rattle.cfb_header.specs.Header.{HeaderValue, IsHeader, difat, difat_by, fat_by, first_directory, first_mini_fat, header_of, listed, mini_fat_count}
 use Rattle.cfb_directory.specs.Entries.{entry_at, first_of, kind, size_of}
 use Rattle.storage_tree.specs.Tree.{Tree}
 use Rattle.file_model.specs.Alike.{AgreeOn, Alike}

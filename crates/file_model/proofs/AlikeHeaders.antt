@@ -6,10 +6,10 @@ use Rattle.std.proofs.lemmas.List.{drop-take, length-take, length-take-le, take-
 use Rattle.std.specs.Int.{w16, w32, from_le_bytes}
 use Rattle.std.specs.Cmp.Lexicographic.{pointwise}
 use Rattle.std.specs.List.{range_with_len, starts_with}
-use Rattle.cfb_chain.specs.Bytes.{u16_at, u32_at}
-use Rattle.cfb_chain.specs.Header.{HeaderValue, IsHeader, LISTED, MOST_DIFAT_SECTORS, MOST_FAT_SECTORS, difat_count, fat_count, first_difat, first_directory, first_mini_fat, header_of, header_read, listed_first, mini_fat_count, signature}
-use Rattle.cfb_chain.specs.declared.fault.ChainFault.{ChainFault}
-use Rattle.cfb_chain.specs.declared.fault.ChainFault.TheVariants.{Truncated, BadSignature, Unsupported, TooBig}
+use Rattle.cfb_header.specs.Bytes.{u16_at, u32_at}
+use Rattle.cfb_header.specs.Header.{HeaderValue, IsHeader, LISTED, MOST_DIFAT_SECTORS, MOST_FAT_SECTORS, difat_count, fat_count, first_difat, first_directory, first_mini_fat, header_of, header_read, listed_first, mini_fat_count, signature}
+use Rattle.cfb_header.specs.declared.fault.ChainFault.{ChainFault}
+use Rattle.cfb_header.specs.declared.fault.ChainFault.TheVariants.{Truncated, BadSignature, Unsupported, TooBig}
 
 -- ---- what is read of the first 512 bytes alone
 -- bytes at a place in the front

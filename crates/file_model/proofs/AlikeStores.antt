@@ -2,10 +2,10 @@
 use Rattle.std.proofs.Common.{◌≡◌, ◌<◌, ◌≤◌, ◌+◌, ◌-◌, ◌*◌, ◌/◌, ℕ, zero, suc, List, [], ◌∷◌, ◌++◌, ◌∙◌, map, min, length, get_or, refl, sym, ap, subst, take}
 use Rattle.std.proofs.lemmas.List.Elements.{All-head, All-tail}
 use Rattle.std.specs.List.{All, flat_map, range_with_len}
-use Rattle.cfb_chain.specs.Bytes.{joined, sector, u32_at}
+use Rattle.cfb_header.specs.Bytes.{joined, sector, u32_at}
 use Rattle.cfb_chain.specs.Chain.{END_OF_CHAIN, IsChain, IsChainOf, IsPresent, Leads, Store}
 use Rattle.cfb_chain.specs.Fat.{mini_sectors_of, sectors_of}
-use Rattle.cfb_chain.specs.Header.{HeaderValue, difat_by, difat_from, fat_by, named_in}
+use Rattle.cfb_header.specs.Header.{HeaderValue, difat_by, difat_from, fat_by, named_in}
 use Rattle.file_model.specs.Alike.{AgreeOn}
 
 pub record HaveSameLinks (s t : Store) : Type 0 where

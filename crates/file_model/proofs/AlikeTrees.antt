@@ -2,7 +2,7 @@
 use Rattle.std.proofs.Common.{◌≡◌, ◌≤◌, ◌*◌, ℕ, zero, suc, List, [], ◌∷◌, Bool, true, false, if◌then◌else◌, nat_lt, length, map, take, refl, sym, ◌∙◌, ap, subst, arith}
 use Rattle.std.proofs.lemmas.List.{length-take-le}
 use Rattle.std.specs.List.Sorted.{IsStrictlySortedBy}
-use Rattle.cfb_chain.specs.Bytes.{joined}
+use Rattle.cfb_header.specs.Bytes.{joined}
 use Rattle.cfb_chain.specs.Chain.{IsChainOf, Store}
 use Rattle.cfb_chain.specs.Fat.{mini_sectors_of, sectors_of}
 use Rattle.cfb_chain.proofs.Blocks.{length_block, length_joined}

@@ -1,8 +1,8 @@
 -- The empty document's bytes denote its tree, by computing.
 use Rattle.std.proofs.Common.{◌<◌, ◌≤◌, get_or, ◌≡◌, ℕ, zero, suc, [], ◌∷◌, refl, arith, lit≤, lit<}
 use Rattle.std.specs.List.Sorted.{IsStrictlySortedBy}
-use Rattle.cfb_chain.specs.Bytes.{u16_at, u32_at, block}
-use Rattle.cfb_chain.specs.Header.{IsHeader}
+use Rattle.cfb_header.specs.Bytes.{u16_at, u32_at, block}
+use Rattle.cfb_header.specs.Header.{IsHeader}
 use Rattle.cfb_chain.specs.Fat.{sectors_of}
 use Rattle.cfb_directory.specs.Entries.{nobody}
 use Rattle.file_model.specs.Denotes.{Denotes, IsLaidOut, Layout, nothing, directory_of, Holds}

@@ -5,7 +5,4 @@ pub mod Outline
 pub mod Alike
 pub mod Refusals
 pub mod FaultNames
-pub mod Image
-pub mod Placed
-pub mod Directory
 pub mod EmptyDocument

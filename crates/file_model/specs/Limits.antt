@@ -1,6 +1,6 @@
 -- The numbers that bound a compound file (MS-CFB 2.2, 2.5).
 use Rattle.std.specs.Prelude.{ℕ, ◌+◌, ◌*◌}
-pub use Rattle.cfb_chain.specs.Header.{LISTED, NAMED, MOST_FAT_SECTORS}
+pub use Rattle.cfb_header.specs.Header.{LISTED, NAMED, MOST_FAT_SECTORS}
 
 -- a stream of fewer bytes lies in the mini stream
 abbrev pub CUTOFF : ℕ

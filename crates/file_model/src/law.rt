@@ -3,7 +3,6 @@
 ghost use Rattle.std.specs.Prelude.{List, ℕ, ◌≡◌};
 ghost use Rattle.storage_tree.specs.Tree.{Tree};
 ghost use Rattle.file_model.specs.Denotes.{Denotes};
-ghost use Rattle.file_model.specs.Directory.{ImageDenotes, PlacedDenotes};
 ghost use Rattle.file_model.specs.EmptyDocument.{empty_document as empty_bytes, empty_tree};
 ghost use Rattle.file_model.specs.Need.{LeastFat};
 
@@ -15,17 +14,6 @@ pub fn one_tree()
 /// The number of FAT sectors that a tree needs is the least that covers all sectors.
 pub fn least_fat()
     ensures { LeastFat }
-{}
-
-/// A file in which all parts of a tree lie denotes the tree: its entries depth first and balanced, its short streams in
-/// the mini stream and its long ones in sectors behind the other parts, both in the order of their entries.
-pub fn placed_denotes()
-    ensures { PlacedDenotes }
-{}
-
-/// A file laid out of the parts of a tree, with as many FAT sectors as cover it, denotes the tree.
-pub fn image_denotes()
-    ensures { ImageDenotes }
 {}
 
 /// The empty document's bytes denote a root without children.

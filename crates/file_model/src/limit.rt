@@ -1,6 +1,6 @@
 //! The numbers that bound a compound file (MS-CFB 2.2).
 
-use cfb_chain::header;
+use cfb_header::header;
 
 /// A stream of fewer bytes lies in the mini stream.
 pub const CUTOFF: usize = 4096;

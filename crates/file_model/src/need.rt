@@ -3,7 +3,7 @@
 ghost use Rattle.file_model.specs.Need.{difat_sectors as difat_needed, fat_sectors as fat_needed};
 ghost use Rattle.std.specs.Prelude.{◌<◌, ◌^◌, ◌≡◌, ◌≤◌};
 
-use cfb_chain::header::{LISTED, NAMED};
+use cfb_header::header::{LISTED, NAMED};
 
 /// The least number of FAT sectors whose entries cover so many sectors, themselves and those of the DIFAT.
 pub fn fat_sectors(sectors: u32) -> u32

@@ -4,13 +4,13 @@ use Rattle.std.proofs.lemmas.Bool.{cases_lt}
 use Rattle.std.proofs.lemmas.List.{append-nil, length-take, take_all, take-take}
 use Rattle.std.specs.List.{flat_map}
 use Rattle.cfb_bytes.specs.Bytes.{block}
-use Rattle.cfb_chain.specs.Bytes.{joined, sector, u32_at}
+use Rattle.cfb_header.specs.Bytes.{joined, sector, u32_at}
 use Rattle.cfb_chain.specs.Chain.{IsChain, IsChainOf, Store}
 use Rattle.cfb_chain.specs.Fat.{AreSame, sectors_in, sectors_of}
-use Rattle.cfb_chain.specs.Header.{HeaderValue, IsHeader, difat, difat_by, fat_by, fat_count, first_directory, first_mini_fat, header_of, header_read, listed, listed_first, mini_fat_count, named_in}
-use Rattle.cfb_chain.specs.declared.fault.ChainFault.{ChainFault}
+use Rattle.cfb_header.specs.Header.{HeaderValue, IsHeader, difat, difat_by, fat_by, fat_count, first_directory, first_mini_fat, header_of, header_read, listed, listed_first, mini_fat_count, named_in}
+use Rattle.cfb_header.specs.declared.fault.ChainFault.{ChainFault}
 use Rattle.cfb_chain.proofs.Chains.{chain_any, chain_same}
-use Rattle.cfb_chain.proofs.Headers.{read_whole}
+use Rattle.cfb_header.proofs.Headers.{read_whole}
 use Rattle.file_model.specs.Alike.{AgreeOn, Alike}
 use Rattle.file_model.proofs.AlikeHeaders.{header_cut, u16_cut, u32_cut}
 use Rattle.file_model.proofs.AlikeStores.{joined_alike}

@@ -5,8 +5,8 @@ use Rattle.std.proofs.lemmas.List.{drop-drop, get_or_default, length-take, take_
 use Rattle.cfb_bytes.specs.Bytes.{block}
 use Rattle.std.proofs.lemmas.List.Elements.{All-append}
 use Rattle.std.specs.List.{All}
-use Rattle.cfb_chain.specs.Bytes.{sector, u32_at}
-use Rattle.cfb_chain.specs.Header.{HeaderValue, difat_by, difat_from, fat_by}
+use Rattle.cfb_header.specs.Bytes.{sector, u32_at}
+use Rattle.cfb_header.specs.Header.{HeaderValue, difat_by, difat_from, fat_by}
 use Rattle.cfb_chain.proofs.Tables.{difat_done, difat_more}
 use Rattle.cfb_chain.specs.Chain.{END_OF_CHAIN, Leads}
 use Rattle.cfb_places.proofs.Placed.{block_past, run_block}

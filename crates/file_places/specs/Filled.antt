@@ -1,9 +1,9 @@
 -- What was read of a file.
 use Rattle.std.specs.Prelude.{◌≡◌, ◌+◌, ◌<◌, ◌≤◌, ℕ, List, length, slice_index, Err}
 use Rattle.std.specs.List.{All}
-use Rattle.cfb_chain.specs.Bytes.{sector}
+use Rattle.cfb_header.specs.Bytes.{sector}
 use Rattle.cfb_chain.specs.Chain.{END_OF_CHAIN, Leads}
-use Rattle.cfb_chain.specs.Header.{HeaderValue, difat_by, fat_by, header_read}
+use Rattle.cfb_header.specs.Header.{HeaderValue, difat_by, fat_by, header_read}
 use Rattle.file_model.specs.Alike.{AgreeOn}
 use Rattle.file_places.specs.declared.fault.PlacesFault.{PlacesFault}
 use Rattle.file_places.specs.declared.fault.PlacesFault.TheVariants.{Unreadable, TooBig, NoMemory, Header}

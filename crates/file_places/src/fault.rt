@@ -1,6 +1,6 @@
 //! Why the blocks of a file aren't read.
 
-use cfb_chain::fault::ChainFault;
+use cfb_header::fault::ChainFault;
 use std::alloc::AllocError;
 use thiserror::Error;
 

@@ -1,7 +1,7 @@
 //! The sectors of the DIFAT and of the FAT, read into their places.
 
 ghost use Rattle.cfb_bytes.specs.Bytes.{block};
-ghost use Rattle.cfb_chain.specs.Header.{difat_by, fat_by};
+ghost use Rattle.cfb_header.specs.Header.{difat_by, fat_by};
 ghost use Rattle.file_places.specs.Filled.{AreListsRead, IsOfReading, IsRead};
 ghost use Rattle.std.specs.Prelude.{◌≡◌, ◌≤◌, ◌^◌, IfErr, IfOk, IfSome, OnOk, length};
 
@@ -9,8 +9,8 @@ use crate::fault::PlacesFault;
 use crate::sectors::read_sectors;
 use crate::source::Source;
 use cfb_chain::difat::{FatSectors, fat_sectors, next_difat};
-use cfb_chain::header::Header;
 use cfb_chain::image::Image;
+use cfb_header::header::Header;
 use cfb_places::places::Places;
 use std::alloc::Global;
 

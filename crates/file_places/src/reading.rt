@@ -1,6 +1,6 @@
 //! The blocks of a compound file that its listing needs.
 
-ghost use Rattle.cfb_chain.specs.Header.{IsHeader, header_read};
+ghost use Rattle.cfb_header.specs.Header.{IsHeader, header_read};
 ghost use Rattle.file_model.specs.Alike.{Alike};
 ghost use Rattle.file_places.specs.Filled.{MayRefusePlaces, most};
 ghost use Rattle.std.specs.Prelude.{◌≡◌, ◌≤◌, IfErr, IfOk, IfSome, Ok, length};
@@ -9,9 +9,9 @@ use crate::fault::PlacesFault;
 use crate::listing::read_lists;
 use crate::sectors::{read_bytes, read_chain};
 use crate::source::Source;
-use cfb_chain::header::Header;
 use cfb_chain::image::Image;
 use cfb_chain::table::entries;
+use cfb_header::header::Header;
 use cfb_places::places::{BLOCK, Places};
 use std::alloc::Global;
 

@@ -2,9 +2,9 @@
 
 use crate::texts::{are_numbers, are_spelled, number, numbers, spelled, word};
 use cfb_chain::fat::Fat;
-use cfb_chain::fault::ChainFault;
-use cfb_chain::header::Header;
 use cfb_chain::image::Image;
+use cfb_header::fault::ChainFault;
+use cfb_header::header::Header;
 use std::alloc::Global;
 use std::process::Abort;
 

@@ -10,7 +10,7 @@ use Rattle.storage_tree.specs.declared.storage.Node.TheVariants as variant
 use Rattle.storage_tree.specs.declared.storage.Storage.{Storage}
 use Rattle.storage_tree.proofs.Entries.{seen-storage, view-out}
 use Rattle.file_model.specs.Need.{entries_of, over_streams_of, short_pieces, long_pieces}
-use Rattle.file_model.specs.Directory.{IsSpelled, AreSpelled, class_in, state_in, ids_from, children_in, balanced, storage_says, entries_below, each_entry, entries_with}
+use Rattle.file_layout.specs.Directory.{IsSpelled, AreSpelled, class_in, state_in, ids_from, children_in, balanced, storage_says, entries_below, each_entry, entries_with}
 use Rattle.file_writer.specs.Streams.{minis_with, sectors_with}
 use Rattle.file_writer.specs.Siblings.{AreSiblings, IsChildSpelled, past, past_all, child_entries, sibling_entries}
 use Rattle.file_writer.specs.declared.entries.Cursor.{Cursor}

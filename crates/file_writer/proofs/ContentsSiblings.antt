@@ -1,10 +1,10 @@
 -- The links of siblings as the writer keeps them are the balanced ones.
 use Rattle.std.proofs.Common.{◌≡◌, ◌<◌, ℕ, List, slice_index, arith}
 use Rattle.cfb_directory.specs.SearchTree.{IsSearchTree}
-use Rattle.file_model.specs.Directory.{balanced}
-use Rattle.file_model.specs.Directory.{IsLink}
-use Rattle.file_model.proofs.ContentsIds.{top-link, links-at}
-use Rattle.file_model.proofs.ContentsBalanced.{are-balanced, one-top, same-links}
+use Rattle.file_layout.specs.Directory.{balanced}
+use Rattle.file_layout.specs.Directory.{IsLink}
+use Rattle.file_layout.proofs.ContentsIds.{top-link, links-at}
+use Rattle.file_layout.proofs.ContentsBalanced.{are-balanced, one-top, same-links}
 
 module _ (ls rs : List ℕ) (n top : ℕ) (search : IsSearchTree ls rs 0 n top) where
   pub top-named : IsLink n top

@@ -7,9 +7,9 @@ use Rattle.storage_tree.specs.Change.{Seen, bytes, inner, child}
 use Rattle.storage_tree.specs.View.{seen, children}
 use Rattle.storage_tree.specs.declared.storage.Node.{Node}
 use Rattle.file_model.specs.Limits.{CUTOFF}
-use Rattle.file_model.specs.Image.{padded, pieces_of, whole_pieces}
+use Rattle.file_layout.specs.Image.{padded, pieces_of, whole_pieces}
 use Rattle.file_model.specs.Need.{pieces}
-use Rattle.file_model.specs.Directory.{short_streams_of, long_streams_of}
+use Rattle.file_layout.specs.Directory.{short_streams_of, long_streams_of}
 use Rattle.file_writer.specs.Streams.{short_within, long_within}
 use Rattle.file_writer.proofs.ContentsWalk.{Entries}
 

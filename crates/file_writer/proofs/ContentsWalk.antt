@@ -5,7 +5,7 @@ use Rattle.storage_tree.specs.Change.{Seen, bytes, inner, child}
 use Rattle.storage_tree.specs.View.{seen, children}
 use Rattle.storage_tree.specs.declared.storage.Node.{Node}
 use Rattle.file_model.specs.Need.{entries, entries_of, over_streams_of, short_pieces, long_pieces, mini_sectors, long_sectors}
-use Rattle.file_model.specs.Directory.{entries_with, ids_from, children_in, balanced, storage_says, entries_below, each_entry}
+use Rattle.file_layout.specs.Directory.{entries_with, ids_from, children_in, balanced, storage_says, entries_below, each_entry}
 use Rattle.cfb_directory.specs.Written.{entry_bytes}
 use Rattle.file_writer.specs.Streams.{minis_with, sectors_with}
 use Rattle.file_writer.specs.Siblings.{past, child_entries, sibling_entries}

@@ -2,9 +2,9 @@
 use Rattle.storage_tree.specs.Tree.{Tree}
 use Rattle.storage_tree.specs.Whole.{IsTree}
 use Rattle.file_model.specs.Denotes.{Denotes}
-use Rattle.file_model.specs.Directory.{IsSpelled, balanced, parts_of}
-use Rattle.file_model.specs.Image.{image}
-use Rattle.file_model.proofs.Contents.{image-denotes}
+use Rattle.file_layout.specs.Directory.{IsSpelled, balanced, parts_of}
+use Rattle.file_layout.specs.Image.{image}
+use Rattle.file_layout.proofs.Contents.{image-denotes}
 use Rattle.file_writer.specs.Counted.{AreEnough}
 use Rattle.file_writer.specs.declared.entries.Counts.{Counts}
 

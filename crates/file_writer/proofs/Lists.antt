@@ -7,8 +7,8 @@ use Rattle.std.proofs.lemmas.List.FromFn.{length-range_with_len}
 use Rattle.std.specs.Int.{w32, to_le_bytes}
 use Rattle.std.specs.List.{range_with_len}
 use Rattle.cfb_chain.specs.Chain.{END_OF_CHAIN, FREE_SECTOR}
-use Rattle.file_model.specs.Image.{difat_numbers, names, start}
-use Rattle.file_model.proofs.Tables.{numbers_bytes, range-append}
+use Rattle.file_layout.specs.Image.{difat_numbers, names, start}
+use Rattle.file_layout.proofs.Tables.{numbers_bytes, range-append}
 
 -- the first sectors of a run, and its first one
 pub first_listed : (f : ℕ) → take 109 (range_with_len 0 f) ≡ range_with_len 0 (min f 109)

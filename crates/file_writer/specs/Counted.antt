@@ -2,7 +2,7 @@
 use Rattle.std.specs.Prelude.{◌≡◌, ◌≤◌, ◌<◌, ◌+◌, ◌*◌, min}
 use Rattle.storage_tree.specs.Tree.{Tree}
 use Rattle.file_model.specs.Limits.{MANY, MOST_FAT_SECTORS}
-use Rattle.file_model.specs.Image.{behind_fat}
+use Rattle.file_layout.specs.Image.{behind_fat}
 use Rattle.file_model.specs.Need.{data_sectors, entries, fat_sectors, long_sectors, mini_sectors, needed}
 use Rattle.file_writer.specs.declared.entries.Counts.{Counts}
 

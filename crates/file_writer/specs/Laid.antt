@@ -1,8 +1,8 @@
 -- The files that the writer makes.
 use Rattle.std.specs.Prelude.{◌≡◌, ℕ, List}
 use Rattle.storage_tree.specs.Tree.{Tree}
-use Rattle.file_model.specs.Directory.{balanced, parts_of}
-use Rattle.file_model.specs.Image.{image}
+use Rattle.file_layout.specs.Directory.{balanced, parts_of}
+use Rattle.file_layout.specs.Image.{image}
 use Rattle.file_model.specs.Need.{data_sectors, fat_sectors}
 
 -- The file of a tree: its parts, one behind another, behind the least FAT that covers them. Each byte in it is of the tree

@@ -6,7 +6,7 @@ use Rattle.storage_tree.specs.Tree.{Children}
 use Rattle.storage_tree.specs.Change.{Seen, bytes, inner}
 use Rattle.file_model.specs.Need.{entries_of, over_streams_of, short_pieces, long_pieces}
 use Rattle.file_writer.specs.Streams.{minis_with, sectors_with}
-use Rattle.file_model.specs.Directory.{IsSpelled, ids_from, entries_with, stream_says, storage_says, entries_below, each_entry, balanced}
+use Rattle.file_layout.specs.Directory.{IsSpelled, ids_from, entries_with, stream_says, storage_says, entries_below, each_entry, balanced}
 use Rattle.file_writer.specs.declared.entries.Siblings.{Siblings}
 use Rattle.file_writer.specs.declared.entries.Cursor.{Cursor}
 

@@ -3,7 +3,7 @@ use Rattle.std.specs.Prelude.{ℕ, List, [], ◌∷◌, length, if◌then◌else
 use Rattle.storage_tree.specs.Change.{Seen, bytes, inner}
 use Rattle.file_model.specs.Limits.{CUTOFF}
 use Rattle.file_model.specs.Need.{mini_sectors, long_sectors, short_pieces, long_pieces}
-use Rattle.file_model.specs.Directory.{short_streams, long_streams}
+use Rattle.file_layout.specs.Directory.{short_streams, long_streams}
 
 -- the mini sectors and sectors of a child
 abbrev pub minis_with : Seen → ℕ

@@ -10,14 +10,14 @@ ghost use Rattle.file_model.specs.declared.limit.TheConstants.{MANY};
 ghost use Rattle.file_writer.specs.Counted.{AreCounts};
 ghost use Rattle.file_writer.specs.Siblings.{IsBelow, IsChildSpelled, AreSiblings, IsJoined, child_entries, past, past_all, sibling_entries};
 ghost use Rattle.storage_tree.specs.Change.{bytes as seen_bytes};
-ghost use Rattle.file_model.specs.Image.{start};
-ghost use Rattle.file_model.specs.Directory.{AreSpelled, IsSpelled, balanced as balanced_links, children_in, entries_with, first_of_stream, directory_of_tree, ids_from, long_start, root_says, storage_says, stream_says};
+ghost use Rattle.file_layout.specs.Image.{start};
+ghost use Rattle.file_layout.specs.Directory.{AreSpelled, IsSpelled, balanced as balanced_links, children_in, entries_with, first_of_stream, directory_of_tree, ids_from, long_start, root_says, storage_says, stream_says};
 
 use crate::streams::{is_short, mini_count, sector_count};
-use cfb_chain::fat::END_OF_CHAIN;
 use cfb_directory::entries::{EntryKind, NO_STREAM};
 use cfb_directory::links::{Links, balanced};
 use cfb_directory::write::{EntryFields, write_entry, write_free_entry};
+use cfb_header::header::END_OF_CHAIN;
 use cfb_names::name::Name;
 use file_model::limit::MANY;
 use file_model::need::difat_sectors;
@@ -83,8 +83,8 @@ fn siblings_of(alloc: Global, storage: &Storage, first: u32) -> Result<Siblings,
 impl Siblings {
     ghost use Rattle.std.specs.Prelude.{◌≡◌, ◌<◌, ℕ, length, slice_index};
     ghost use Rattle.file_writer.specs.Siblings.{IsJoined};
-    ghost use Rattle.file_model.specs.Directory.{IsLink};
-    ghost use Rattle.file_model.specs.Directory.{balanced, linked};
+    ghost use Rattle.file_layout.specs.Directory.{IsLink};
+    ghost use Rattle.file_layout.specs.Directory.{balanced, linked};
 
     /// The entry that a link to one of the siblings names.
     fn entry_id(&self, place: u32) -> u32
@@ -309,7 +309,7 @@ pub(crate) struct Counts {
 
 impl Counts {
     ghost use Rattle.std.specs.Prelude.{◌≡◌, ◌≤◌, ◌*◌, ◌+◌};
-    ghost use Rattle.file_model.specs.Image.{behind_fat};
+    ghost use Rattle.file_layout.specs.Image.{behind_fat};
     ghost use Rattle.file_model.specs.Need.{difat_sectors as difat_needed, needed, pieces};
     ghost use Rattle.file_model.specs.declared.limit.TheConstants.{MANY};
 

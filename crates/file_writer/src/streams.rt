@@ -2,8 +2,8 @@
 
 ghost use Rattle.std.specs.Prelude.{◌≡◌, ◌++◌, ◌*◌, ◌-◌, ◌<◌, OnOk, length, min, nat_lt, replicate};
 ghost use Rattle.storage_tree.specs.View.{seen, view};
-ghost use Rattle.file_model.specs.Directory.{long_streams, short_streams};
-ghost use Rattle.file_model.specs.Image.{padded, pieces_of, whole_pieces};
+ghost use Rattle.file_layout.specs.Directory.{long_streams, short_streams};
+ghost use Rattle.file_layout.specs.Image.{padded, pieces_of, whole_pieces};
 ghost use Rattle.file_model.specs.Need.{long_sectors, mini_sectors, pieces};
 ghost use Rattle.file_model.specs.declared.limit.TheConstants.{CUTOFF, MANY};
 ghost use Rattle.file_writer.specs.Streams.{long_within, minis_with, sectors_with, short_within};

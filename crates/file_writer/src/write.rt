@@ -1,7 +1,7 @@
 //! Writing whole compound files.
 
-ghost use Rattle.cfb_chain.specs.declared.header.TheConstants.{MOST_DIFAT_SECTORS};
-ghost use Rattle.cfb_chain.specs.Header.{header_bytes};
+ghost use Rattle.cfb_header.specs.declared.header.TheConstants.{MOST_DIFAT_SECTORS};
+ghost use Rattle.cfb_header.specs.Header.{header_bytes};
 ghost use Rattle.std.specs.Int.{to_le_bytes, w32};
 ghost use Rattle.std.specs.List.{flat_map, range_with_len, sum};
 ghost use Rattle.std.specs.Prelude.{◌≡◌, ◌≤◌, ◌<◌, ◌+◌, ◌-◌, ◌*◌, ◌^◌, ◌++◌, ◌∷◌, ℕ, Err, [], IfErr, IfOk, Ok, OnOk, length, min, replicate};
@@ -10,8 +10,8 @@ ghost use Rattle.storage_tree.specs.Kept.{kept};
 ghost use Rattle.storage_tree.specs.View.{view};
 ghost use Rattle.storage_tree.specs.Whole.{IsTree};
 ghost use Rattle.file_model.specs.Denotes.{Denotes};
-ghost use Rattle.file_model.specs.Directory.{IsSpelled, balanced, long_streams, parts_of, short_streams};
-ghost use Rattle.file_model.specs.Image.{behind_fat, counts as runs_behind, difat_numbers, image, names, own_entries, pieces_of, run, runs, start, table_bytes};
+ghost use Rattle.file_layout.specs.Directory.{IsSpelled, balanced, long_streams, parts_of, short_streams};
+ghost use Rattle.file_layout.specs.Image.{behind_fat, counts as runs_behind, difat_numbers, image, names, own_entries, pieces_of, run, runs, start, table_bytes};
 ghost use Rattle.file_model.specs.Need.{data_sectors, entries, fat_sectors as fat_needed, long_sectors, mini_sectors};
 ghost use Rattle.file_model.specs.Refusals.{Refuses, writable};
 ghost use Rattle.file_model.specs.declared.limit.TheConstants.{MANY, MOST_FAT_SECTORS};
@@ -22,8 +22,8 @@ use crate::entries::{Counts, chain_start, count_below, push_directory};
 use crate::streams::{
     count_minis, count_sectors, push_long, push_mini_counts, push_mini_stream, push_sector_counts,
 };
-use cfb_chain::fat::{END_OF_CHAIN, FREE_SECTOR};
-use cfb_chain::header::{Header, LISTED, NAMED};
+use cfb_chain::fat::FREE_SECTOR;
+use cfb_header::header::{END_OF_CHAIN, Header, LISTED, NAMED};
 use file_model::fault::WriteFault;
 use file_model::limit::{MANY, MOST_FAT_SECTORS};
 use file_model::need::fat_sectors;

@@ -1,8 +1,8 @@
 -- Where the making of a folder stops, told of the reader's bytes.
 use Rattle.std.proofs.Common.{◌≡◌, ◌<◌, ◌∙◌, ℕ, zero, suc, List, [], ◌∷◌, Option, Some, None, Result, Err, IfErr, IfSome, length, refl, sym, ap, subst, take, arith}
 use Rattle.std.specs.Prelude.{slice_get}
-use Rattle.cfb_chain.specs.Header.{header_read}
-use Rattle.cfb_chain.specs.declared.fault.ChainFault.{ChainFault}
+use Rattle.cfb_header.specs.Header.{header_read}
+use Rattle.cfb_header.specs.declared.fault.ChainFault.{ChainFault}
 use Rattle.storage_tree.specs.Tree.{Tree}
 use Rattle.file_model.specs.Denotes.{Denotes}
 use Rattle.stream_io.proofs.ReadingTold.{read_refused as seen_refused}

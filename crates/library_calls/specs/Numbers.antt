@@ -1,7 +1,7 @@
 -- The numbers of the faults, and their names.
 use Rattle.std.specs.Prelude.{ℕ, List, [], codes, cond, nat_eq}
-use Rattle.cfb_chain.specs.declared.fault.ChainFault.{ChainFault}
-use Rattle.cfb_chain.specs.declared.fault.ChainFault.TheVariants as chain
+use Rattle.cfb_header.specs.declared.fault.ChainFault.{ChainFault}
+use Rattle.cfb_header.specs.declared.fault.ChainFault.TheVariants as chain
 use Rattle.cfb_names.specs.declared.fault.DirFault.{DirFault}
 use Rattle.cfb_names.specs.declared.fault.DirFault.TheVariants as directory
 use Rattle.file_model.specs.declared.fault.WriteFault.{WriteFault}

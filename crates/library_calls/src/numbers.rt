@@ -3,7 +3,7 @@
 ghost use Rattle.library_calls.specs.Numbers.{chain_name, chain_number, clean_number, directory_name, directory_number, get_number, input_number, line_number, list_number, make_number, number_name, read_number, tree_name, tree_number, write_number};
 ghost use Rattle.std.specs.Prelude.{◌≡◌, ◌<◌};
 
-use cfb_chain::fault::ChainFault;
+use cfb_header::fault::ChainFault;
 use cfb_names::fault::DirFault;
 use file_commands::fault::{CleanFault, GetFault, LineFault, ListFault, MakeFault};
 use file_model::fault::WriteFault;

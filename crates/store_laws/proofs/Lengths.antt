@@ -6,9 +6,9 @@ use Rattle.std.proofs.lemmas.List.{length-take}
 use Rattle.std.proofs.lemmas.List.FromFn.{length-range_with_len}
 use Rattle.std.specs.List.{concat, sum}
 use Rattle.std.specs.Prelude.{if◌then◌else◌}
-use Rattle.cfb_chain.specs.Header.{header_bytes}
+use Rattle.cfb_header.specs.Header.{header_bytes}
 use Rattle.cfb_chain.proofs.Blocks.{length_block}
-use Rattle.cfb_chain.proofs.Written.{length_written}
+use Rattle.cfb_header.proofs.Written.{length_written}
 use Rattle.cfb_directory.specs.Entries.{class_of, root_name}
 use Rattle.cfb_directory.specs.Written.{entry_bytes, free_entry_bytes}
 use Rattle.cfb_directory.specs.declared.write.EntryFields.{EntryFields}
@@ -16,21 +16,21 @@ use Rattle.cfb_directory.proofs.Fields.{length-entry_bytes, length-free_entry_by
 use Rattle.storage_tree.specs.Tree.{Tree, Children, tree, none, stream, storage}
 use Rattle.storage_tree.specs.Whole.{AreTrees, IsNamed, IsTree}
 use Rattle.file_model.specs.Denotes.{Denotes, Holds, HoldsEach, Layout, Used, directory_of, entry}
-use Rattle.file_model.specs.Directory.{Siblings, balanced, class_in, each_entry, entries_below, ids_from, long_start, parts_of, root_says, short_streams, storage_says, stream_says}
-use Rattle.file_model.specs.Image.{Parts, behind_fat, difat_numbers, image, own_entries, pieces_of, runs, table_bytes, whole_pieces}
+use Rattle.file_layout.specs.Directory.{Siblings, balanced, class_in, each_entry, entries_below, ids_from, long_start, parts_of, root_says, short_streams, storage_says, stream_says}
+use Rattle.file_layout.specs.Image.{Parts, behind_fat, difat_numbers, image, own_entries, pieces_of, runs, table_bytes, whole_pieces}
 use Rattle.file_model.specs.Limits.{MOST_FAT_SECTORS}
 use Rattle.file_model.specs.Need.{data_sectors, difat_sectors, directory_sectors, entries, entries_of, fat_sectors, long_pieces, long_sectors, mini_fat_sectors, mini_sectors, mini_stream_sectors, pieces, short_pieces}
 use Rattle.file_model.specs.Refusals.{writable}
 use Rattle.file_model.specs.declared.fault.WriteFault.{WriteFault}
 use Rattle.file_model.specs.declared.fault.WriteFault.TheVariants.{TooBig}
-use Rattle.file_model.proofs.Contents.{counts-sum}
-use Rattle.file_model.proofs.ContentsNext.{longs-sum, shorts-sum}
-use Rattle.file_model.proofs.ContentsPieces.{length-padded, length-whole, width-64, width-512}
+use Rattle.file_layout.proofs.Contents.{counts-sum}
+use Rattle.file_layout.proofs.ContentsNext.{longs-sum, shorts-sum}
+use Rattle.file_layout.proofs.ContentsPieces.{length-padded, length-whole, width-64, width-512}
 use Rattle.file_model.proofs.LeastFat.{covers}
-use Rattle.file_model.proofs.ListsLaid.{length-difat}
-use Rattle.file_model.proofs.Placed.{header_value, length-own}
-use Rattle.file_model.proofs.PlacedParts.{IsJoined, joined_parts}
-use Rattle.file_model.proofs.Tables.{length-numbers_bytes, length-runs, length-table_bytes, numbers_bytes}
+use Rattle.file_layout.proofs.ListsLaid.{length-difat}
+use Rattle.file_layout.proofs.Placed.{header_value, length-own}
+use Rattle.file_layout.proofs.PlacedParts.{IsJoined, joined_parts}
+use Rattle.file_layout.proofs.Tables.{length-numbers_bytes, length-runs, length-table_bytes, numbers_bytes}
 use Rattle.file_writer.specs.Laid.{IsLaidOut, file_of}
 use Rattle.store_laws.specs.Laws.{LimitIsMet}
 use Rattle.store_model.specs.declared.limit.TheConstants.{MAX_DOCUMENT}

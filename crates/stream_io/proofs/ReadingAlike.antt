@@ -2,7 +2,7 @@
 use Rattle.std.proofs.Common.{◌≡◌, inl, inr, ℕ, List, sym, ◌∙◌}
 use Rattle.cfb_chain.specs.Chain.{IsChain}
 use Rattle.cfb_chain.specs.Fat.{sectors_of}
-use Rattle.cfb_chain.specs.Header.{first_directory, listed}
+use Rattle.cfb_header.specs.Header.{first_directory, listed}
 use Rattle.cfb_names.specs.declared.fault.DirFault.TheVariants as directory
 use Rattle.file_model.specs.Alike.{Alike}
 use Rattle.file_model.proofs.AlikeFiles.{alike_back, alike_denotes, directory_chain_back, is_fat_alike}

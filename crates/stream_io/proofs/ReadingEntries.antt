@@ -1,7 +1,7 @@
 -- Kinds of entries, and where entries are.
 use Rattle.std.proofs.Common.{◌≡◌, ◌≢◌, ◌≤◌, ◌*◌, ◌-◌, ◌++◌, inl, inr, ℕ, zero, suc, List, [], length, drop, take, replicate, slice_index, refl, sym, ◌∙◌, ap, arith}
 use Rattle.std.proofs.lemmas.List.{drop_all}
-use Rattle.cfb_chain.specs.Bytes.{block}
+use Rattle.cfb_header.specs.Bytes.{block}
 use Rattle.cfb_directory.specs.Entries.{IsKindOf, entry_at, kind, kind_number}
 use Rattle.cfb_directory.specs.declared.entries.EntryKind.{EntryKind}
 use Rattle.cfb_directory.specs.declared.entries.EntryKind.TheVariants as kinds

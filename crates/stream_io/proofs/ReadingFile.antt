@@ -2,13 +2,13 @@
 use Rattle.std.proofs.Common.{◌≡◌, ◌<◌, ◌*◌, ℕ, true, List, [], ◌++◌, Result, Ok, length, take, get_or, refl, sym, ◌∙◌, ap, subst, append_assoc}
 use Rattle.std.proofs.lemmas.List.Elements.{All-take}
 use Rattle.std.specs.List.{All}
-use Rattle.cfb_chain.specs.Bytes.{joined, sector}
+use Rattle.cfb_header.specs.Bytes.{joined, sector}
 use Rattle.cfb_chain.specs.Chain.{IsChain, IsChainOf, Store}
 use Rattle.cfb_chain.specs.Fat.{AreFree, AreSame, FatValue, IsFat, IsMiniFound, IsMiniTable, IsTableOf, marked, sectors_of, store_of}
-use Rattle.cfb_chain.specs.Header.{HeaderValue, IsHeader, difat, first_directory, first_mini_fat, header_of, header_read, listed, mini_fat_count}
-use Rattle.cfb_chain.specs.declared.fault.ChainFault.{ChainFault}
+use Rattle.cfb_header.specs.Header.{HeaderValue, IsHeader, difat, first_directory, first_mini_fat, header_of, header_read, listed, mini_fat_count}
+use Rattle.cfb_header.specs.declared.fault.ChainFault.{ChainFault}
 use Rattle.cfb_chain.proofs.Chains.{chain_below, chain_of_same, chain_same, joined_same}
-use Rattle.cfb_chain.proofs.Headers.{read_whole}
+use Rattle.cfb_header.proofs.Headers.{read_whole}
 use Rattle.cfb_chain.proofs.Marks.{Marks, marks_load, marks_more, marks_none}
 use Rattle.cfb_chain.proofs.Tables.{mini_same}
 use Rattle.cfb_directory.specs.Entries.{entry_at, first_of, kind, size_of}

@@ -4,12 +4,12 @@ use Rattle.std.specs.List.{Contains}
 use Rattle.std.proofs.lemmas.List.Elements.{Contains-append_cases}
 use Rattle.std.proofs.lemmas.Bool.Decides.{nat_tests}
 use Rattle.std.specs.Result.{IsErrAnd}
-use Rattle.cfb_chain.specs.declared.fault.ChainFault.{ChainFault}
-use Rattle.cfb_chain.specs.declared.fault.ChainFault.TheVariants as chain
+use Rattle.cfb_header.specs.declared.fault.ChainFault.{ChainFault}
+use Rattle.cfb_header.specs.declared.fault.ChainFault.TheVariants as chain
 use Rattle.cfb_names.specs.declared.fault.DirFault.{DirFault}
 use Rattle.cfb_names.specs.declared.fault.DirFault.TheVariants as directory
 use Rattle.cfb_chain.specs.Fat.{FatValue, MayRefuse, MayRefuseChain, MayRefuseFat, MayRefuseMini}
-use Rattle.cfb_chain.specs.Header.{HeaderValue, header_read}
+use Rattle.cfb_header.specs.Header.{HeaderValue, header_read}
 use Rattle.cfb_directory.specs.Entries.{AreLinked, EntriesValue, MayRefuseChildren, MayRefuseEntry, MayRefuseLinked, MayRefuseLoad, NO_STREAM, Reaches, around, by_left, by_right, child, entry_at, here, left, nobody, right}
 use Rattle.file_model.proofs.Lists.{Contains-cons_cases}
 use Rattle.stream_io.specs.Reads.{IsBelow, IsChild, IsDirectory, IsOfChains, IsStorage, MayRefuseBelow, MayRefuseFile, MayRefuseNames, MayRefuseStorage, chain_fault, directory_fault}

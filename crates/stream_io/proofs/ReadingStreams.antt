@@ -1,7 +1,7 @@
 -- Entries that are read hold the children that they are read as, and the other way round.
 use Rattle.std.proofs.Common.{◌≡◌, ℕ, Bool, true, false, List, [], ◌∷◌, ◌++◌, take, refl, sym, ◌∙◌, ap, subst, nat_lt, if◌then◌else◌}
 use Rattle.std.proofs.lemmas.List.{append-nil}
-use Rattle.cfb_chain.specs.Bytes.{joined}
+use Rattle.cfb_header.specs.Bytes.{joined}
 use Rattle.cfb_chain.specs.Chain.{AreDistinct, IsChainOf, Store}
 use Rattle.cfb_chain.specs.Fat.{AreFree, AreSame, FatValue, IsFound, marked, store_of}
 use Rattle.cfb_chain.proofs.Chains.{chain_below, chain_of_same, joined_same, same_back}

@@ -1,7 +1,7 @@
 -- Why a file, or a stream of it, isn't read.
 use Rattle.std.proofs.Common.{◌≡◌, ◌∙◌, ℕ, List, Result, Ok, Err, IfErr, ap, subst, sym}
-use Rattle.cfb_chain.specs.Header.{header_read}
-use Rattle.cfb_chain.specs.declared.fault.ChainFault.{ChainFault}
+use Rattle.cfb_header.specs.Header.{header_read}
+use Rattle.cfb_header.specs.declared.fault.ChainFault.{ChainFault}
 use Rattle.storage_tree.specs.Tree.{Tree}
 use Rattle.storage_tree.specs.Change.{map_ok}
 use Rattle.storage_tree.specs.declared.fault.TreeFault.{TreeFault}

@@ -2,13 +2,13 @@
 use Rattle.std.specs.Prelude.{◌≡◌, ◌≢◌, ◌↔◌, ◌⊎◌, ◌<◌, ◌-◌, ◌*◌, ℕ, zero, suc, true, List, [], ◌∷◌, map, take, length, if◌then◌else◌, nat_lt, Err, codes}
 use Rattle.std.specs.List.{Contains}
 use Rattle.std.specs.List.Sorted.{IsStrictlySortedBy}
-use Rattle.cfb_chain.specs.Bytes.{joined, sector}
+use Rattle.cfb_header.specs.Bytes.{joined, sector}
 use Rattle.cfb_chain.specs.Chain.{IsChain}
-use Rattle.cfb_chain.specs.Fault.{name_of as name_of_chain}
+use Rattle.cfb_header.specs.Fault.{name_of as name_of_chain}
 use Rattle.cfb_chain.specs.Fat.{FatValue, IsFat, IsFound, marked as sectors_marked, sectors_of, store_of}
-use Rattle.cfb_chain.specs.Header.{first_directory, header_of, header_read, listed}
-use Rattle.cfb_chain.specs.declared.fault.ChainFault.{ChainFault}
-use Rattle.cfb_chain.specs.declared.fault.ChainFault.TheVariants as chain
+use Rattle.cfb_header.specs.Header.{first_directory, header_of, header_read, listed}
+use Rattle.cfb_header.specs.declared.fault.ChainFault.{ChainFault}
+use Rattle.cfb_header.specs.declared.fault.ChainFault.TheVariants as chain
 use Rattle.cfb_names.specs.Faults.{name_of_fault}
 use Rattle.cfb_names.specs.Names.{IsName, is_forbidden, key, key_cmp}
 use Rattle.cfb_directory.specs.Entries.{AreFree, AreLinked, EntriesValue, IsNamed, MayRefuseEntry, NO_STREAM, Reaches, child, class_of, entry_at, first_of, kind, marked, name_length, name_of, size_of, state_of}

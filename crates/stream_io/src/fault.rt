@@ -1,6 +1,6 @@
 //! Why a file isn't read.
 
-use cfb_chain::fault::ChainFault;
+use cfb_header::fault::ChainFault;
 use cfb_names::fault::DirFault;
 use std::alloc::{AllocError, AllocFailed};
 use storage_tree::fault::TreeFault;

@@ -1,11 +1,11 @@
 //! Reading a compound file.
 
-ghost use Rattle.cfb_chain.specs.Bytes.{joined};
+ghost use Rattle.cfb_header.specs.Bytes.{joined};
 ghost use Rattle.cfb_chain.specs.Chain.{AreDistinct};
 ghost use Rattle.cfb_chain.specs.Fat.{IsFound, store_of};
-ghost use Rattle.cfb_chain.specs.Header.{IsHeader, header_read};
+ghost use Rattle.cfb_header.specs.Header.{IsHeader, header_read};
 ghost use Rattle.cfb_chain.specs.View.{image_bytes};
-ghost use Rattle.cfb_chain.specs.declared.fault.ChainFault.{ChainFault};
+ghost use Rattle.cfb_header.specs.declared.fault.ChainFault.{ChainFault};
 ghost use Rattle.cfb_directory.specs.Entries.{IsEntry};
 ghost use Rattle.cfb_names.specs.Names.{key, key_cmp};
 ghost use Rattle.std.specs.List.{All, Contains};
@@ -26,9 +26,9 @@ ghost use Rattle.stream_io.specs.declared.read.Reader as reader;
 
 use crate::fault::{ReadFault, StreamFault};
 use cfb_chain::fat::Fat;
-use cfb_chain::header::Header;
 use cfb_chain::image::Image;
 use cfb_directory::entries::{Entries, Entry, EntryKind};
+use cfb_header::header::Header;
 use cfb_names::fault::DirFault;
 use cfb_names::name::Name;
 use cfb_places::places::Places;

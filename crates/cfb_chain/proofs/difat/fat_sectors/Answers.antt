@@ -1,7 +1,7 @@
 use Rattle.std.proofs.Common.{◌≡◌, ◌+◌, ◌-◌, ◌++◌, ◌∷◌, ◌∙◌, [], List, ℕ, append-nil, ap, arith, length, rules, sym, take}
 use Rattle.std.proofs.lemmas.List.{length-take}
 use Rattle.std.specs.List.{flat_map}
-use Rattle.cfb_chain.specs.Header.{difat_by, difat_from, named_in}
+use Rattle.cfb_header.specs.Header.{difat_by, difat_from, named_in}
 use Rattle.cfb_chain.specs.View.{image_bytes}
 use Rattle.cfb_chain.proofs.Tables.{difat_done, difat_more, named_more}
 use Rattle.cfb_chain.proofs.difat.fat_sectors.Goals as goal

@@ -1,6 +1,6 @@
 use Rattle.std.proofs.Common.{◌≡◌, ◌-◌, ◌++◌}
 use Rattle.std.specs.List.{flat_map}
-use Rattle.cfb_chain.specs.Header.{difat_by, difat_from, named_in}
+use Rattle.cfb_header.specs.Header.{difat_by, difat_from, named_in}
 use Rattle.cfb_chain.specs.View.{image_bytes}
 use Rattle.cfb_chain.proofs.difat.fat_sectors.Given as goal
 

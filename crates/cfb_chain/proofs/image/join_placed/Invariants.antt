@@ -1,5 +1,5 @@
 use Rattle.std.proofs.Common.{◌≡◌, take}
-use Rattle.cfb_chain.specs.Bytes.{joined, sector}
+use Rattle.cfb_header.specs.Bytes.{joined, sector}
 use Rattle.cfb_chain.proofs.image.join_placed.Given as goal
 
 abbrev pub invariant-loop-n : goal.invariant-loop-n

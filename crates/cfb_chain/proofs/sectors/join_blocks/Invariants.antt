@@ -1,5 +1,5 @@
 use Rattle.std.proofs.Common.{◌≡◌, ◌+◌, ◌*◌, take}
-use Rattle.cfb_chain.specs.Bytes.{block, joined}
+use Rattle.cfb_header.specs.Bytes.{block, joined}
 use Rattle.cfb_chain.proofs.sectors.join_blocks.Given as goal
 
 abbrev pub invariant-loop-n : goal.invariant-loop-n

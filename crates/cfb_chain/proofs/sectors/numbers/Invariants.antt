@@ -1,5 +1,5 @@
 use Rattle.std.proofs.Common.{◌≡◌, ◌<◌, ◌*◌, ℕ, get_or, length}
-use Rattle.cfb_chain.specs.Bytes.{u32_at}
+use Rattle.cfb_header.specs.Bytes.{u32_at}
 use Rattle.cfb_chain.proofs.sectors.numbers.Given as goal
 
 abbrev pub invariant-loop-k : goal.invariant-loop-k

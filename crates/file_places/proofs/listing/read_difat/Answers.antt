@@ -1,5 +1,5 @@
 use Rattle.std.proofs.Common.{◌≡◌, ◌+◌, ◌-◌, ◌∙◌, ◌∷◌, [], ℕ, List, ap, arith, length, refl, sym}
-use Rattle.cfb_chain.specs.Header.{HeaderValue, difat_by, difat_from}
+use Rattle.cfb_header.specs.Header.{HeaderValue, difat_by, difat_from}
 use Rattle.file_places.specs.Filled.{IsRead}
 use Rattle.file_places.proofs.Filling.{IsDifatSoFar, all_met, if_some, more_met, none_met, some_both, some_map, some_same}
 use Rattle.file_places.proofs.listing.read_difat.Goals as goal

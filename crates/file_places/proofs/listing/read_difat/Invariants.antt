@@ -1,6 +1,6 @@
 use Rattle.std.proofs.Common.{◌≡◌, ◌-◌, IfSome, length}
 use Rattle.cfb_bytes.specs.Bytes.{block}
-use Rattle.cfb_chain.specs.Header.{difat_by}
+use Rattle.cfb_header.specs.Header.{difat_by}
 use Rattle.file_places.proofs.Filling.{IsDifatSoFar}
 use Rattle.file_places.proofs.listing.read_difat.Given as goal
 

@@ -1,5 +1,5 @@
 use Rattle.std.proofs.Common.{◌≡◌, ◌∙◌, ℕ, List, length, subst, sym}
-use Rattle.cfb_chain.specs.Header.{HeaderValue, difat_by}
+use Rattle.cfb_header.specs.Header.{HeaderValue, difat_by}
 use Rattle.file_places.specs.Filled.{AreListsRead, IsRead}
 use Rattle.file_places.proofs.Filling.{lists_read, some_both, some_same}
 use Rattle.file_places.proofs.listing.read_lists.Goals as goal

@@ -1,8 +1,8 @@
 use Rattle.std.proofs.Common.{◌≡◌, ◌*◌, ◌∙◌, get_or, ℕ, List, Option, Err, ap, drop, length, min, refl, sym, subst, take}
 use Rattle.cfb_bytes.specs.Bytes.{block}
-use Rattle.cfb_chain.specs.Bytes.{joined, sector, u32_at}
+use Rattle.cfb_header.specs.Bytes.{joined, sector, u32_at}
 use Rattle.cfb_chain.specs.Fat.{sectors_in}
-use Rattle.cfb_chain.specs.Header.{HeaderValue, IsHeader, header_read}
+use Rattle.cfb_header.specs.Header.{HeaderValue, IsHeader, header_read}
 use Rattle.file_model.specs.Alike.{Alike}
 use Rattle.file_places.specs.Filled.{AreListsRead, IsChainRead}
 use Rattle.file_places.proofs.Filling.{front_known, some_both, some_five, some_same}

@@ -1,6 +1,6 @@
 use Rattle.std.proofs.Common.{◌≡◌, ◌+◌, ◌++◌, length}
 use Rattle.storage_tree.specs.View.{children}
-use Rattle.file_model.specs.Directory.{AreSpelled, ids_from}
+use Rattle.file_layout.specs.Directory.{AreSpelled, ids_from}
 use Rattle.file_writer.specs.Siblings.{past_all, sibling_entries}
 use Rattle.file_writer.proofs.entries.+push_entries.Given as goal
 

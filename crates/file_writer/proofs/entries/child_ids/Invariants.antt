@@ -1,7 +1,7 @@
 use Rattle.std.proofs.Common.{◌≡◌, ◌≤◌, ◌+◌, ◌++◌, vec_len}
 use Rattle.storage_tree.specs.View.{children}
 use Rattle.file_model.specs.Need.{entries_of}
-use Rattle.file_model.specs.Directory.{ids_from}
+use Rattle.file_layout.specs.Directory.{ids_from}
 use Rattle.file_writer.proofs.entries.child_ids.Given as goal
 
 abbrev pub invariant-loop-child : goal.invariant-loop-child

@@ -1,7 +1,7 @@
 use Rattle.std.proofs.Common.{◌≡◌, ◌∙◌, ◌++◌, ap, sym, append_assoc, replicate, rules}
 use Rattle.std.specs.List.{concat}
 use Rattle.cfb_directory.specs.Written.{free_entry_bytes}
-use Rattle.file_model.proofs.Tables.{concat_more}
+use Rattle.file_layout.proofs.Tables.{concat_more}
 use Rattle.file_writer.proofs.entries.push_unused.Goals as goal
 
 pub loop-preserved : goal.loop-preserved

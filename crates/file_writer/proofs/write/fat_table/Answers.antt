@@ -3,11 +3,11 @@ use Rattle.std.specs.List.{sum}
 use Rattle.std.specs.Vec.{vec_len}
 use Rattle.storage_tree.specs.View.{view}
 use Rattle.cfb_chain.specs.Chain.{DIFAT_SECTOR, FAT_SECTOR}
-use Rattle.file_model.specs.Directory.{balanced, parts_of}
-use Rattle.file_model.specs.Image.{behind_fat, counts, own_entries, runs}
-use Rattle.file_model.proofs.Contents.{counts-sum}
-use Rattle.file_model.proofs.Placed.{length-own}
-use Rattle.file_model.proofs.Tables.{length-runs}
+use Rattle.file_layout.specs.Directory.{balanced, parts_of}
+use Rattle.file_layout.specs.Image.{behind_fat, counts, own_entries, runs}
+use Rattle.file_layout.proofs.Contents.{counts-sum}
+use Rattle.file_layout.proofs.Placed.{length-own}
+use Rattle.file_layout.proofs.Tables.{length-runs}
 use Rattle.file_writer.proofs.write.fat_table.Goals as goal
 
 pub push_runs-requires : goal.push_runs-requires

@@ -2,10 +2,10 @@ use Rattle.std.proofs.Common.{arith, rules, ap, length, ◌≡◌, ◌∙◌}
 use Rattle.std.specs.List.{sum}
 use Rattle.std.specs.Vec.{vec_len}
 use Rattle.storage_tree.specs.View.{view}
-use Rattle.file_model.specs.Directory.{short_streams}
-use Rattle.file_model.specs.Image.{pieces_of, runs}
-use Rattle.file_model.proofs.ContentsNext.{shorts-sum}
-use Rattle.file_model.proofs.Tables.{length-runs}
+use Rattle.file_layout.specs.Directory.{short_streams}
+use Rattle.file_layout.specs.Image.{pieces_of, runs}
+use Rattle.file_layout.proofs.ContentsNext.{shorts-sum}
+use Rattle.file_layout.proofs.Tables.{length-runs}
 use Rattle.file_writer.proofs.write.mini_table.Goals as goal
 
 pub push_runs-requires : goal.push_runs-requires

@@ -1,6 +1,6 @@
 use Rattle.std.proofs.Common.{◌≡◌, ◌+◌, ◌*◌, ◌++◌, ◌∷◌, [], List, ℕ, arith, rules}
-use Rattle.file_model.specs.Image.{difat_numbers, names}
-use Rattle.file_model.proofs.Tables.{numbers_bytes}
+use Rattle.file_layout.specs.Image.{difat_numbers, names}
+use Rattle.file_layout.proofs.Tables.{numbers_bytes}
 use Rattle.file_writer.proofs.Lists.{difat_none, difat_pushed, difat_whole}
 use Rattle.file_writer.proofs.write.push_difat.Goals as goal
 

@@ -1,7 +1,7 @@
 use Rattle.std.proofs.Common.{◌≡◌, ◌+◌, ◌-◌, ◌*◌, ◌++◌}
 use Rattle.std.specs.Int.{to_le_bytes, w32}
 use Rattle.std.specs.List.{flat_map}
-use Rattle.file_model.specs.Image.{difat_numbers}
+use Rattle.file_layout.specs.Image.{difat_numbers}
 use Rattle.file_writer.proofs.write.push_difat.Given as goal
 
 abbrev pub invariant-loop-k : goal.invariant-loop-k

@@ -1,6 +1,6 @@
 use Rattle.std.proofs.Common.{◌≡◌, ◌∙◌, ◌+◌, ◌-◌, ◌++◌, ◌∷◌, [], ap, arith, rules}
 use Rattle.std.specs.List.{range_with_len}
-use Rattle.file_model.proofs.Tables.{range_more}
+use Rattle.file_layout.proofs.Tables.{range_more}
 use Rattle.file_writer.proofs.write.push_range.Goals as goal
 
 pub loop-n-preserved : goal.loop-n-preserved

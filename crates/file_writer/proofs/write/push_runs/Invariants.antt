@@ -1,6 +1,6 @@
 use Rattle.std.proofs.Common.{◌≡◌, ◌+◌, ◌++◌, drop}
 use Rattle.std.specs.List.{sum}
-use Rattle.file_model.specs.Image.{runs}
+use Rattle.file_layout.specs.Image.{runs}
 use Rattle.file_writer.proofs.write.push_runs.Given as goal
 
 abbrev pub invariant-loop-count : goal.invariant-loop-count

@@ -1,5 +1,5 @@
 use Rattle.std.proofs.Common.{◌≡◌, ◌*◌, ◌-◌, ◌++◌, ◌∙◌, ap, length, replicate, rules}
-use Rattle.file_model.proofs.Tables.{numbers_bytes, table_pushed}
+use Rattle.file_layout.proofs.Tables.{numbers_bytes, table_pushed}
 use Rattle.file_writer.proofs.write.push_table.Goals as goal
 
 pub returns : goal.returns

@@ -2,8 +2,8 @@ use Rattle.std.proofs.Common.{◌∙◌, ap, subst, sym, List, ℕ}
 use Rattle.std.proofs.Math.Logic.{∥∥₁_map}
 use Rattle.storage_tree.specs.View.{view}
 use Rattle.file_model.specs.Denotes.{Denotes}
-use Rattle.file_model.specs.Directory.{balanced, parts_of}
-use Rattle.file_model.specs.Image.{image}
+use Rattle.file_layout.specs.Directory.{balanced, parts_of}
+use Rattle.file_layout.specs.Image.{image}
 use Rattle.file_writer.proofs.Denoted.{file_denotes}
 use Rattle.file_writer.proofs.write.write_root.Goals as goal
 

@@ -3,7 +3,7 @@ use Rattle.std.specs.Result.{IsErrAnd}
 use Rattle.cfb_chain.proofs.Results.{refused_with}
 use Rattle.cfb_chain.specs.Chain.{IsChain}
 use Rattle.cfb_chain.specs.Fat.{AreFree, set_all, store_of}
-use Rattle.cfb_chain.specs.Header.{HeaderValue, IsHeader, difat, header_of, listed}
+use Rattle.cfb_header.specs.Header.{HeaderValue, IsHeader, difat, header_of, listed}
 use Rattle.cfb_chain.specs.View.{image_bytes}
 use Rattle.cfb_directory.specs.Entries.{EntriesValue}
 use Rattle.storage_tree.specs.Tree.{Tree}

@@ -1,6 +1,6 @@
 use Rattle.std.proofs.Common.{◌≡◌, sym, subst}
 use Rattle.cfb_chain.specs.Fat.{MayRefuseChain}
-use Rattle.cfb_chain.specs.declared.fault.ChainFault.TheVariants.{NoMemory}
+use Rattle.cfb_header.specs.declared.fault.ChainFault.TheVariants.{NoMemory}
 use Rattle.cfb_chain.proofs.Chains.{refused_chain, refused_not}
 use Rattle.cfb_chain.proofs.Results.{refused_with}
 use Rattle.cfb_chain.proofs.fat.Fat.chain.Goals as goal

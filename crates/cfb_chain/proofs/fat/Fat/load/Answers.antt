@@ -1,10 +1,10 @@
 use Rattle.std.proofs.Common.{◌<◌, ◌≤◌, ◌≡◌, ◌++◌, ◌*◌, ℕ, List, arith, length, refl, ap, ◌∙◌, sym, subst, min}
-use Rattle.cfb_chain.specs.Bytes.{joined, sector}
+use Rattle.cfb_header.specs.Bytes.{joined, sector}
 use Rattle.cfb_chain.specs.Chain.{AreDistinct}
 use Rattle.std.specs.List.{All, Contains}
 use Rattle.cfb_chain.specs.Fat.{MayRefuseFat, sectors_in}
-use Rattle.cfb_chain.specs.Header.{HeaderValue, difat_by, fat_by}
-use Rattle.cfb_chain.specs.declared.fault.ChainFault.TheVariants.{Cycle, NoMemory}
+use Rattle.cfb_header.specs.Header.{HeaderValue, difat_by, fat_by}
+use Rattle.cfb_header.specs.declared.fault.ChainFault.TheVariants.{Cycle, NoMemory}
 use Rattle.cfb_chain.specs.View.{image_bytes}
 use Rattle.cfb_chain.proofs.Chains.{refused_not_fat}
 use Rattle.cfb_chain.proofs.Results.{refused_with}

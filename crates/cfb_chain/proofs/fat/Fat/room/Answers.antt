@@ -1,7 +1,7 @@
 use Rattle.std.proofs.Common.{◌*◌, ◌≡◌, ◌<◌, arith, length}
 use Rattle.std.proofs.lemmas.Grind.{common_steps}
 use Rattle.cfb_chain.specs.Fat.{MayRefuse, store_of}
-use Rattle.cfb_chain.specs.declared.fault.ChainFault.TheVariants.{NoMemory, ShortChain}
+use Rattle.cfb_header.specs.declared.fault.ChainFault.TheVariants.{NoMemory, ShortChain}
 use Rattle.cfb_chain.proofs.Chains.{chain_any, chain_some, found_chain, refused_not, refused_some}
 use Rattle.cfb_chain.proofs.Results.{refused_with}
 use Rattle.cfb_chain.proofs.fat.Fat.room.Goals as goal

@@ -1,7 +1,7 @@
 use Rattle.std.proofs.Common.{◌<◌, sym, ◌∙◌, ap, subst, length, ℕ, arith}
 use Rattle.std.proofs.lemmas.Grind.{get_or_default_zero}
-use Rattle.file_model.specs.Directory.{linked}
-use Rattle.file_model.specs.Directory.{IsLink}
+use Rattle.file_layout.specs.Directory.{linked}
+use Rattle.file_layout.specs.Directory.{IsLink}
 use Rattle.file_writer.proofs.ContentsSiblings.{left-named, left-same}
 use Rattle.file_writer.proofs.entries.Siblings.left.Goals as goal
 

@@ -1,6 +1,0 @@
-use Rattle.std.proofs.Common.{◌≡◌, ◌<◌, ◌+◌, ◌*◌, ℕ, get_or, length}
-use Rattle.cfb_chain.specs.Bytes.{u32_at}
-use Rattle.cfb_chain.proofs.header.read_listed.Given as goal
-
-abbrev pub invariant-loop-k : goal.invariant-loop-k
-invariant-loop-k l = (length l.fat ≡ 109) × ((k : ℕ) → k < l.k → get_or l.fat k 0 ≡ u32_at l.bytes (76 + 4 * k))

@@ -1,0 +1,14 @@
+pub mod ContentsBlocks
+pub mod ContentsKeys
+pub mod ContentsLists
+pub mod Tables
+pub mod ContentsPieces
+pub mod ContentsIds
+pub mod ContentsRead
+pub mod ContentsNext
+pub mod ContentsTree
+pub mod ContentsBalanced
+pub mod PlacedParts
+pub mod ListsLaid
+pub mod Placed
+pub mod Contents
