@@ -225,7 +225,7 @@ fn push_header(
 }
 
 /// The file of a tree with these counts, in memory that is taken once.
-#[tactic(auto, unfolding(file_model::specs::Image::image))]
+#[tactic(auto, unfolding(file_layout::specs::Image::image))]
 fn lay_out(alloc: Global, root: &Storage, counts: Counts) -> Result<Vec<u8>, AllocError>
     requires { AreEnough counts (view root.now) }
     ensures laid_out { IfOk result (λ v. v.items ≡ image counts.fat (parts_of balanced counts.fat (view root.now))) }
