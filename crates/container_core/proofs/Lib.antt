@@ -1,3 +1,1 @@
-pub mod ContentsMade
 pub mod OpensMade
-pub mod RepliesMade

@@ -1,6 +1,6 @@
 //! The container.
 
-use crate::state::State;
+use crate::{commits, images, opens, reaps};
 use container_checks::lookups::{frame_numbers, object_numbers};
 use container_laws::apart_laws::messages_stay_apart;
 use container_links::resending::pending_calls;
@@ -10,6 +10,7 @@ use container_model::fault::ContainerFault;
 use container_model::record::{Frame, Object};
 use container_numbers::sound_laws::sound_after;
 use container_screen::screen::screen;
+use container_state::state::State;
 use container_steps::steady_laws::steady_after;
 use std::alloc::{AllocError, Global};
 use std::marker::Model;
@@ -227,7 +228,7 @@ impl ContainerCore {
     {
         steady_after();
         sound_after();
-        self.state.on_reap(alloc, inc)
+        reaps::on_reap(alloc, &mut self.state, inc)
     }
 
     /// The file of a frame was committed. The contents of its document are counted, each once, and are the objects' work
@@ -245,7 +246,7 @@ impl ContainerCore {
     {
         steady_after();
         sound_after();
-        self.state.commit_done(alloc, f)
+        commits::commit_done(alloc, &mut self.state, f)
     }
 
     /// The commit of a frame failed: it isn't known whether its file is the new one. Nothing is counted and nobody told, until
@@ -263,7 +264,7 @@ impl ContainerCore {
     {
         steady_after();
         sound_after();
-        self.state.commit_failed(alloc, f)
+        commits::commit_failed(alloc, &mut self.state, f)
     }
 
     /// A commit in doubt is resolved. Where it was kept, it is done, as `commit_done` says. Where it was lost, its save is
@@ -287,7 +288,7 @@ impl ContainerCore {
     {
         steady_after();
         sound_after();
-        self.state.resolve(alloc, f, is_kept)
+        commits::resolve(alloc, &mut self.state, f, is_kept)
     }
 
     /// Whether a file may be opened under this name, as a frame so many columns wide and so many lines high: what is looked at
@@ -298,7 +299,7 @@ impl ContainerCore {
     pub fn may_open(&self, name: &[u8], w: u16, h: u16) -> Result<(), ContainerFault>
         ensures { result ≡ looked_at self.now name.now w h }
     {
-        self.state.may_open(name, w, h)
+        opens::may_open(&self.state, name, w, h)
     }
 
     /// A file is opened, as a frame of its name, so many columns wide and so many lines high. What the file's bytes are is given,
@@ -326,7 +327,7 @@ impl ContainerCore {
     {
         steady_after();
         sound_after();
-        self.state.open_file(alloc, name, w, h, file)
+        opens::open_file(alloc, &mut self.state, name, w, h, file)
     }
 
     /// The calls that are pending, by their objects, each as it was first sent.
@@ -347,7 +348,7 @@ impl ContainerCore {
         ensures document { IfOk result (λ parts. image self.now f ≡ Ok parts) }
         ensures refused { IfErr result (Refuses (image self.now f)) }
     {
-        self.state.document(alloc, f)
+        images::document(alloc, &self.state, f)
     }
 
     /// The document of a frame, as `document`, and the file that is to be committed: it denotes a tree that holds the document, so
@@ -367,7 +368,7 @@ impl ContainerCore {
         ensures holds { IfOk result (λ w. DocOf (document_tree w.0) (saves.document w.0)) }
         ensures refused { IfErr result (Refuses (image self.now f)) }
     {
-        self.state.commit_image(alloc, f)
+        images::commit_image(alloc, &self.state, f)
     }
 
     /// The file that is to be committed for a frame, which denotes its document (MS-CFB 2), and so gives it again where it is

@@ -10,64 +10,62 @@ ghost use Rattle.file_model.specs.Denotes.{Denotes};
 ghost use Rattle.file_model.specs.Limits.{MOST_BYTES};
 ghost use Rattle.file_writer.specs.Laid.{IsLaidOut};
 
-use crate::state::State;
 use container_checks::checks::has_image;
 use container_checks::lookups::place;
 use container_documents::documents::{file_of, fits, parts_in};
 use container_model::answer::Part;
 use container_model::fault::ContainerFault;
+use container_state::state::State;
 use std::alloc::Global;
 use wire_msgs::items::Items;
 
-impl State {
-    /// Whether a frame has a document whose file is to be committed. It takes no memory.
-    ///
-    /// Refused: as `document`, but for `NoMemory`.
-    pub(crate) fn check_image(&self, f: u32) -> Result<(), ContainerFault>
-        ensures fine { OnOk result (image self.now f ≡ Ok (parts_in f self.now.objects)) }
-        ensures refused { IfErr result (Refuses (image self.now f)) }
-    {
-        let Some(place) = place(self.frames.as_slice(), f) else {
-            return Err(ContainerFault::NoSuch);
-        };
-        if !has_image(self.frames[place].phase) {
-            return Err(ContainerFault::WrongState);
-        }
-        if !fits(f, self.objects.as_slice()) {
-            return Err(ContainerFault::Full);
-        }
-        Ok(())
+/// Whether a frame has a document whose file is to be committed. It takes no memory.
+///
+/// Refused: as `document`, but for `NoMemory`.
+pub(crate) fn check_image(state: &State, f: u32) -> Result<(), ContainerFault>
+    ensures fine { OnOk result (image state.now f ≡ Ok (parts_in f state.now.objects)) }
+    ensures refused { IfErr result (Refuses (image state.now f)) }
+{
+    let Some(place) = place(state.frames.as_slice(), f) else {
+        return Err(ContainerFault::NoSuch);
+    };
+    if !has_image(state.frames[place].phase) {
+        return Err(ContainerFault::WrongState);
     }
-
-    /// The document of a frame whose commit is asked for or in doubt.
-    pub(crate) fn document(&self, alloc: Global, f: u32) -> Result<Items<Part>, ContainerFault>
-        ensures document { IfOk result (λ parts. image self.now f ≡ Ok parts) }
-        ensures refused { IfErr result (Refuses (image self.now f)) }
-    {
-        self.check_image(f)?;
-        match parts_in(alloc, f, self.objects.as_slice()) {
-            Ok(parts) => Ok(Items::from_vec(parts)),
-            Err(_) => Err(ContainerFault::NoMemory),
-        }
+    if !fits(f, state.objects.as_slice()) {
+        return Err(ContainerFault::Full);
     }
+    Ok(())
+}
 
-    /// The document of a frame, and the file that is to be committed.
-    pub(crate) fn commit_image(
-        &self,
-        alloc: Global,
-        f: u32,
-    ) -> Result<(Items<Part>, Vec<u8>), ContainerFault>
-        ensures document { IfOk result (λ w. image self.now f ≡ Ok w.0) }
-        ensures denotes { IfOk result (λ w. ∥ Denotes w.1.items (document_tree w.0) ∥₁) }
-        ensures laid_out { IfOk result (λ w. IsLaidOut (document_tree w.0) w.1.items) }
-        ensures few { IfOk result (λ w. length w.1.items ≤ MOST_BYTES) }
-        ensures holds { IfOk result (λ w. DocOf (document_tree w.0) (saves.document w.0)) }
-        ensures refused { IfErr result (Refuses (image self.now f)) }
-    {
-        let parts = self.document(alloc, f)?;
-        match file_of(alloc, parts.as_slice()) {
-            Ok(file) => Ok((parts, file)),
-            Err(_) => Err(ContainerFault::NoMemory),
-        }
+/// The document of a frame whose commit is asked for or in doubt.
+pub(crate) fn document(alloc: Global, state: &State, f: u32) -> Result<Items<Part>, ContainerFault>
+    ensures document { IfOk result (λ parts. image state.now f ≡ Ok parts) }
+    ensures refused { IfErr result (Refuses (image state.now f)) }
+{
+    check_image(state, f)?;
+    match parts_in(alloc, f, state.objects.as_slice()) {
+        Ok(parts) => Ok(Items::from_vec(parts)),
+        Err(_) => Err(ContainerFault::NoMemory),
+    }
+}
+
+/// The document of a frame, and the file that is to be committed.
+pub(crate) fn commit_image(
+    alloc: Global,
+    state: &State,
+    f: u32,
+) -> Result<(Items<Part>, Vec<u8>), ContainerFault>
+    ensures document { IfOk result (λ w. image state.now f ≡ Ok w.0) }
+    ensures denotes { IfOk result (λ w. ∥ Denotes w.1.items (document_tree w.0) ∥₁) }
+    ensures laid_out { IfOk result (λ w. IsLaidOut (document_tree w.0) w.1.items) }
+    ensures few { IfOk result (λ w. length w.1.items ≤ MOST_BYTES) }
+    ensures holds { IfOk result (λ w. DocOf (document_tree w.0) (saves.document w.0)) }
+    ensures refused { IfErr result (Refuses (image state.now f)) }
+{
+    let parts = document(alloc, state, f)?;
+    match file_of(alloc, parts.as_slice()) {
+        Ok(file) => Ok((parts, file)),
+        Err(_) => Err(ContainerFault::NoMemory),
     }
 }

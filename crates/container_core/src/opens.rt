@@ -7,7 +7,6 @@ ghost use Rattle.container_model.specs.Record.{MOST_OBJECTS, Refuses, counts_non
 ghost use Rattle.container_model.specs.Room.{IsSound};
 ghost use Rattle.container_model.specs.Saves.{is_document};
 
-use crate::state::State;
 use container_checks::checks;
 use container_checks::lookups::object_numbers;
 use container_documents::reading::document_in;
@@ -15,6 +14,7 @@ use container_model::answer::Answer;
 use container_model::fault::ContainerFault;
 use container_model::record::Object;
 use container_objects::opens::{opened_frame, opened_objects};
+use container_state::state::State;
 use document_model::object::DocObject;
 use ole_streams::doc::Doc;
 use std::alloc::{AllocError, Global};
@@ -46,137 +46,135 @@ fn made(alloc: Global, frame: u32, objects: &[Object]) -> Result<Answer, AllocEr
     Ok(answer)
 }
 
-impl State {
-    /// Whether a file may be opened under a name, in a frame of this size. It takes no memory.
-    pub(crate) fn may_open(&self, name: &[u8], w: u16, h: u16) -> Result<(), ContainerFault>
-        ensures { result ≡ looked_at self.now name.now w h }
-    {
-        if checks::is_named(name, self.frames.as_slice()) {
-            return Err(ContainerFault::Busy);
-        }
-        if !checks::is_size(w, h) {
-            return Err(ContainerFault::WrongState);
-        }
-        Ok(())
+/// Whether a file may be opened under a name, in a frame of this size. It takes no memory.
+pub(crate) fn may_open(state: &State, name: &[u8], w: u16, h: u16) -> Result<(), ContainerFault>
+    ensures { result ≡ looked_at state.now name.now w h }
+{
+    if checks::is_named(name, state.frames.as_slice()) {
+        return Err(ContainerFault::Busy);
     }
-
-    // Whether there are a frame and numbers left for so many objects.
-    fn room_for(&self, count: usize) -> Result<(), ContainerFault>
-        requires { count ≤ MOST_OBJECTS }
-        ensures { result ≡ room self.now count }
-    {
-        let frames = self.frames.len();
-        if frames >= MOST_FRAMES {
-            return Err(ContainerFault::Full);
-        }
-        if frames >= self.numbers as usize {
-            return Err(ContainerFault::NumbersSpent);
-        }
-        if self.last_object as usize + count > self.numbers as usize {
-            return Err(ContainerFault::NumbersSpent);
-        }
-        Ok(())
+    if !checks::is_size(w, h) {
+        return Err(ContainerFault::WrongState);
     }
+    Ok(())
+}
 
-    // A frame with the objects of a document, for which there is room.
-    fn make_opened(
-        &mut self,
-        alloc: Global,
-        name: Bytes,
-        w: u16,
-        h: u16,
-        objects: Vec<DocObject>,
-    ) -> Result<Answer, AllocError>
-        requires few_frames { length self.old.frames < 8 }
-        requires numbers { self.old.last_object + length objects.items ≤ 1000000 }
-        ensures made { IfOk result (λ a. opened_made self.old name w h objects.items ≡ counts_none self.new a) }
-        ensures few { IfOk result (λ a. length a.actions ≤ 1) }
-        ensures kept { OnErr result (self.new ≡ self.old) }
-    {
-        let frame = self.frames.len() as u32 + 1;
-        let count = objects.len() as u32;
-        let mut more = opened_objects(alloc, self.last_object, frame, objects)?;
-        let answer = made(alloc, frame, more.as_slice())?;
-        self.frames.reserve(1)?;
-        self.objects.append(&mut more)?;
-        add(&mut self.frames, opened_frame(name, w, h));
-        self.last_object += count;
-        Ok(answer)
+// Whether there are a frame and numbers left for so many objects.
+fn room_for(state: &State, count: usize) -> Result<(), ContainerFault>
+    requires { count ≤ MOST_OBJECTS }
+    ensures { result ≡ room state.now count }
+{
+    let frames = state.frames.len();
+    if frames >= MOST_FRAMES {
+        return Err(ContainerFault::Full);
     }
-
-    // A frame with the objects of a document.
-    fn open_document(
-        &mut self,
-        alloc: Global,
-        name: Bytes,
-        w: u16,
-        h: u16,
-        document: Doc,
-    ) -> Result<Answer, ContainerFault>
-        requires sound { IsSound self.old }
-        requires within { is_document document ≡ true }
-        ensures taken { IfOk result (λ a. opened_document self.old name w h document ≡ Ok (counts_none self.new a)) }
-        ensures few { IfOk result (λ a. length a.actions ≤ 1) }
-        ensures refused { IfErr result (Refuses (opened_document self.old name w h document)) }
-        ensures kept { OnErr result (self.new ≡ self.old) }
-    {
-        let objects = document.into_vec();
-        match self.room_for(objects.len()) {
-            Ok(()) => {}
-            Err(fault) => return Err(fault),
-        }
-        match self.make_opened(alloc, name, w, h, objects) {
-            Ok(answer) => Ok(answer),
-            Err(_) => Err(ContainerFault::NoMemory),
-        }
+    if frames >= state.numbers as usize {
+        return Err(ContainerFault::NumbersSpent);
     }
-
-    // A frame of a file under a name, and in a size, that may be.
-    fn open_named(
-        &mut self,
-        alloc: Global,
-        name: Bytes,
-        w: u16,
-        h: u16,
-        file: Option<&[u8]>,
-    ) -> Result<Answer, ContainerFault>
-        requires sound { IsSound self.old }
-        requires named { looked_at self.old name w h ≡ Ok tt }
-        ensures taken { IfOk result (λ a. (given : Given) × IsReadAs (option_copied file.entry) given × (opened self.old name w h given ≡ Ok (counts_none self.new a))) }
-        ensures few { IfOk result (λ a. length a.actions ≤ 1) }
-        ensures refused { IfErr result (MayRefuse self.old name w h (option_copied file.entry)) }
-        ensures kept { OnErr result (self.new ≡ self.old) }
-    {
-        let Some(bytes) = file else {
-            return Err(ContainerFault::NoSuch);
-        };
-        let Ok(read) = document_in(alloc, bytes) else {
-            return Err(ContainerFault::NoMemory);
-        };
-        match read {
-            Some(document) => self.open_document(alloc, name, w, h, document),
-            None => Err(ContainerFault::BadFile),
-        }
+    if state.last_object as usize + count > state.numbers as usize {
+        return Err(ContainerFault::NumbersSpent);
     }
+    Ok(())
+}
 
-    /// A frame of a file.
-    pub(crate) fn open_file(
-        &mut self,
-        alloc: Global,
-        name: Bytes,
-        w: u16,
-        h: u16,
-        file: Option<&[u8]>,
-    ) -> Result<Answer, ContainerFault>
-        requires sound { IsSound self.old }
-        ensures taken { IfOk result (λ a. (given : Given) × IsReadAs (option_copied file.entry) given × (opened self.old name w h given ≡ Ok (counts_none self.new a))) }
-        ensures few { IfOk result (λ a. length a.actions ≤ 1) }
-        ensures refused { IfErr result (MayRefuse self.old name w h (option_copied file.entry)) }
-        ensures kept { OnErr result (self.new ≡ self.old) }
-    {
-        match self.may_open(name.as_slice(), w, h) {
-            Ok(()) => self.open_named(alloc, name, w, h, file),
-            Err(fault) => Err(fault),
-        }
+// A frame with the objects of a document, for which there is room.
+fn make_opened(
+    alloc: Global,
+    state: &mut State,
+    name: Bytes,
+    w: u16,
+    h: u16,
+    objects: Vec<DocObject>,
+) -> Result<Answer, AllocError>
+    requires few_frames { length state.old.frames < 8 }
+    requires numbers { state.old.last_object + length objects.items ≤ 1000000 }
+    ensures made { IfOk result (λ a. opened_made state.old name w h objects.items ≡ counts_none state.new a) }
+    ensures few { IfOk result (λ a. length a.actions ≤ 1) }
+    ensures kept { OnErr result (state.new ≡ state.old) }
+{
+    let frame = state.frames.len() as u32 + 1;
+    let count = objects.len() as u32;
+    let mut more = opened_objects(alloc, state.last_object, frame, objects)?;
+    let answer = made(alloc, frame, more.as_slice())?;
+    state.frames.reserve(1)?;
+    state.objects.append(&mut more)?;
+    add(&mut state.frames, opened_frame(name, w, h));
+    state.last_object += count;
+    Ok(answer)
+}
+
+// A frame with the objects of a document.
+fn open_document(
+    alloc: Global,
+    state: &mut State,
+    name: Bytes,
+    w: u16,
+    h: u16,
+    document: Doc,
+) -> Result<Answer, ContainerFault>
+    requires sound { IsSound state.old }
+    requires within { is_document document ≡ true }
+    ensures taken { IfOk result (λ a. opened_document state.old name w h document ≡ Ok (counts_none state.new a)) }
+    ensures few { IfOk result (λ a. length a.actions ≤ 1) }
+    ensures refused { IfErr result (Refuses (opened_document state.old name w h document)) }
+    ensures kept { OnErr result (state.new ≡ state.old) }
+{
+    let objects = document.into_vec();
+    match room_for(state, objects.len()) {
+        Ok(()) => {}
+        Err(fault) => return Err(fault),
+    }
+    match make_opened(alloc, state, name, w, h, objects) {
+        Ok(answer) => Ok(answer),
+        Err(_) => Err(ContainerFault::NoMemory),
+    }
+}
+
+// A frame of a file under a name, and in a size, that may be.
+fn open_named(
+    alloc: Global,
+    state: &mut State,
+    name: Bytes,
+    w: u16,
+    h: u16,
+    file: Option<&[u8]>,
+) -> Result<Answer, ContainerFault>
+    requires sound { IsSound state.old }
+    requires named { looked_at state.old name w h ≡ Ok tt }
+    ensures taken { IfOk result (λ a. (given : Given) × IsReadAs (option_copied file.entry) given × (opened state.old name w h given ≡ Ok (counts_none state.new a))) }
+    ensures few { IfOk result (λ a. length a.actions ≤ 1) }
+    ensures refused { IfErr result (MayRefuse state.old name w h (option_copied file.entry)) }
+    ensures kept { OnErr result (state.new ≡ state.old) }
+{
+    let Some(bytes) = file else {
+        return Err(ContainerFault::NoSuch);
+    };
+    let Ok(read) = document_in(alloc, bytes) else {
+        return Err(ContainerFault::NoMemory);
+    };
+    match read {
+        Some(document) => open_document(alloc, state, name, w, h, document),
+        None => Err(ContainerFault::BadFile),
+    }
+}
+
+/// A frame of a file.
+pub(crate) fn open_file(
+    alloc: Global,
+    state: &mut State,
+    name: Bytes,
+    w: u16,
+    h: u16,
+    file: Option<&[u8]>,
+) -> Result<Answer, ContainerFault>
+    requires sound { IsSound state.old }
+    ensures taken { IfOk result (λ a. (given : Given) × IsReadAs (option_copied file.entry) given × (opened state.old name w h given ≡ Ok (counts_none state.new a))) }
+    ensures few { IfOk result (λ a. length a.actions ≤ 1) }
+    ensures refused { IfErr result (MayRefuse state.old name w h (option_copied file.entry)) }
+    ensures kept { OnErr result (state.new ≡ state.old) }
+{
+    match may_open(state, name.as_slice(), w, h) {
+        Ok(()) => open_named(alloc, state, name, w, h, file),
+        Err(fault) => Err(fault),
     }
 }

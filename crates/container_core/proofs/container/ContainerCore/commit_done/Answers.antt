@@ -7,14 +7,14 @@ use Rattle.container_core.proofs.container.ContainerCore.commit_done.Goals as go
 
 pub returns-clause-steady : goal.returns-clause-steady
 returns-clause-steady c =
-    step_keeps Steady c.self.inside.state c.commit_done.new.self (commit_done c.self.inside.state c.args.f) (counted_of c.self.inside.state c.args.f) c.self.invariant.0 (λ t e. c.steady_after.ensures c.self.inside.state (Input.Committed c.args.f) t c.self.invariant.0 e) c.commit_done.result c.commit_done.ensures.taken c.commit_done.ensures.kept
+    step_keeps Steady c.self.inside.state c.commit_done.new.state (commit_done c.self.inside.state c.args.f) (counted_of c.self.inside.state c.args.f) c.self.invariant.0 (λ t e. c.steady_after.ensures c.self.inside.state (Input.Committed c.args.f) t c.self.invariant.0 e) c.commit_done.result c.commit_done.ensures.taken c.commit_done.ensures.kept
 
 pub returns-clause-sound : goal.returns-clause-sound
 returns-clause-sound c =
-    step_keeps IsSound c.self.inside.state c.commit_done.new.self (commit_done c.self.inside.state c.args.f) (counted_of c.self.inside.state c.args.f) c.self.invariant.1 (λ t e. c.sound_after.ensures c.self.inside.state (Input.Committed c.args.f) t c.self.invariant.0 c.self.invariant.1 e) c.commit_done.result c.commit_done.ensures.taken c.commit_done.ensures.kept
+    step_keeps IsSound c.self.inside.state c.commit_done.new.state (commit_done c.self.inside.state c.args.f) (counted_of c.self.inside.state c.args.f) c.self.invariant.1 (λ t e. c.sound_after.ensures c.self.inside.state (Input.Committed c.args.f) t c.self.invariant.0 c.self.invariant.1 e) c.commit_done.result c.commit_done.ensures.taken c.commit_done.ensures.kept
 
 pub invariant_of-self : goal.invariant_of-self
 invariant_of-self c = (
-  step_keeps Steady c.self.inside.state c.commit_done.new.self (commit_done c.self.inside.state c.args.f) (counted_of c.self.inside.state c.args.f) c.self.invariant.0 (λ t e. c.steady_after.ensures c.self.inside.state (Input.Committed c.args.f) t c.self.invariant.0 e) c.commit_done.result c.commit_done.ensures.taken c.commit_done.ensures.kept,
-  step_keeps IsSound c.self.inside.state c.commit_done.new.self (commit_done c.self.inside.state c.args.f) (counted_of c.self.inside.state c.args.f) c.self.invariant.1 (λ t e. c.sound_after.ensures c.self.inside.state (Input.Committed c.args.f) t c.self.invariant.0 c.self.invariant.1 e) c.commit_done.result c.commit_done.ensures.taken c.commit_done.ensures.kept,
+  step_keeps Steady c.self.inside.state c.commit_done.new.state (commit_done c.self.inside.state c.args.f) (counted_of c.self.inside.state c.args.f) c.self.invariant.0 (λ t e. c.steady_after.ensures c.self.inside.state (Input.Committed c.args.f) t c.self.invariant.0 e) c.commit_done.result c.commit_done.ensures.taken c.commit_done.ensures.kept,
+  step_keeps IsSound c.self.inside.state c.commit_done.new.state (commit_done c.self.inside.state c.args.f) (counted_of c.self.inside.state c.args.f) c.self.invariant.1 (λ t e. c.sound_after.ensures c.self.inside.state (Input.Committed c.args.f) t c.self.invariant.0 c.self.invariant.1 e) c.commit_done.result c.commit_done.ensures.taken c.commit_done.ensures.kept,
 )

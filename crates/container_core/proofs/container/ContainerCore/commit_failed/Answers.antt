@@ -8,14 +8,14 @@ use Rattle.container_core.proofs.container.ContainerCore.commit_failed.Goals as 
 
 pub returns-clause-steady : goal.returns-clause-steady
 returns-clause-steady c =
-    step_keeps Steady c.self.inside.state c.commit_failed.new.self (commit_failed c.self.inside.state c.args.f) [] c.self.invariant.0 (λ t e. c.steady_after.ensures c.self.inside.state (Input.Failed c.args.f) t c.self.invariant.0 e) c.commit_failed.result c.commit_failed.ensures.taken c.commit_failed.ensures.kept
+    step_keeps Steady c.self.inside.state c.commit_failed.new.state (commit_failed c.self.inside.state c.args.f) [] c.self.invariant.0 (λ t e. c.steady_after.ensures c.self.inside.state (Input.Failed c.args.f) t c.self.invariant.0 e) c.commit_failed.result c.commit_failed.ensures.taken c.commit_failed.ensures.kept
 
 pub returns-clause-sound : goal.returns-clause-sound
 returns-clause-sound c =
-    step_keeps IsSound c.self.inside.state c.commit_failed.new.self (commit_failed c.self.inside.state c.args.f) [] c.self.invariant.1 (λ t e. c.sound_after.ensures c.self.inside.state (Input.Failed c.args.f) t c.self.invariant.0 c.self.invariant.1 e) c.commit_failed.result c.commit_failed.ensures.taken c.commit_failed.ensures.kept
+    step_keeps IsSound c.self.inside.state c.commit_failed.new.state (commit_failed c.self.inside.state c.args.f) [] c.self.invariant.1 (λ t e. c.sound_after.ensures c.self.inside.state (Input.Failed c.args.f) t c.self.invariant.0 c.self.invariant.1 e) c.commit_failed.result c.commit_failed.ensures.taken c.commit_failed.ensures.kept
 
 pub invariant_of-self : goal.invariant_of-self
 invariant_of-self c = (
-  step_keeps Steady c.self.inside.state c.commit_failed.new.self (commit_failed c.self.inside.state c.args.f) [] c.self.invariant.0 (λ t e. c.steady_after.ensures c.self.inside.state (Input.Failed c.args.f) t c.self.invariant.0 e) c.commit_failed.result c.commit_failed.ensures.taken c.commit_failed.ensures.kept,
-  step_keeps IsSound c.self.inside.state c.commit_failed.new.self (commit_failed c.self.inside.state c.args.f) [] c.self.invariant.1 (λ t e. c.sound_after.ensures c.self.inside.state (Input.Failed c.args.f) t c.self.invariant.0 c.self.invariant.1 e) c.commit_failed.result c.commit_failed.ensures.taken c.commit_failed.ensures.kept,
+  step_keeps Steady c.self.inside.state c.commit_failed.new.state (commit_failed c.self.inside.state c.args.f) [] c.self.invariant.0 (λ t e. c.steady_after.ensures c.self.inside.state (Input.Failed c.args.f) t c.self.invariant.0 e) c.commit_failed.result c.commit_failed.ensures.taken c.commit_failed.ensures.kept,
+  step_keeps IsSound c.self.inside.state c.commit_failed.new.state (commit_failed c.self.inside.state c.args.f) [] c.self.invariant.1 (λ t e. c.sound_after.ensures c.self.inside.state (Input.Failed c.args.f) t c.self.invariant.0 c.self.invariant.1 e) c.commit_failed.result c.commit_failed.ensures.taken c.commit_failed.ensures.kept,
 )

@@ -8,14 +8,14 @@ use Rattle.container_core.proofs.container.ContainerCore.on_reap.Goals as goal
 
 pub returns-clause-steady : goal.returns-clause-steady
 returns-clause-steady c =
-    step_keeps Steady c.self.inside.state c.on_reap.new.self (on_reap c.self.inside.state c.args.inc) [] c.self.invariant.0 (λ t e. c.steady_after.ensures c.self.inside.state (Input.Reaped c.args.inc) t c.self.invariant.0 e) c.on_reap.result c.on_reap.ensures.taken c.on_reap.ensures.kept
+    step_keeps Steady c.self.inside.state c.on_reap.new.state (on_reap c.self.inside.state c.args.inc) [] c.self.invariant.0 (λ t e. c.steady_after.ensures c.self.inside.state (Input.Reaped c.args.inc) t c.self.invariant.0 e) c.on_reap.result c.on_reap.ensures.taken c.on_reap.ensures.kept
 
 pub returns-clause-sound : goal.returns-clause-sound
 returns-clause-sound c =
-    step_keeps IsSound c.self.inside.state c.on_reap.new.self (on_reap c.self.inside.state c.args.inc) [] c.self.invariant.1 (λ t e. c.sound_after.ensures c.self.inside.state (Input.Reaped c.args.inc) t c.self.invariant.0 c.self.invariant.1 e) c.on_reap.result c.on_reap.ensures.taken c.on_reap.ensures.kept
+    step_keeps IsSound c.self.inside.state c.on_reap.new.state (on_reap c.self.inside.state c.args.inc) [] c.self.invariant.1 (λ t e. c.sound_after.ensures c.self.inside.state (Input.Reaped c.args.inc) t c.self.invariant.0 c.self.invariant.1 e) c.on_reap.result c.on_reap.ensures.taken c.on_reap.ensures.kept
 
 pub invariant_of-self : goal.invariant_of-self
 invariant_of-self c = (
-  step_keeps Steady c.self.inside.state c.on_reap.new.self (on_reap c.self.inside.state c.args.inc) [] c.self.invariant.0 (λ t e. c.steady_after.ensures c.self.inside.state (Input.Reaped c.args.inc) t c.self.invariant.0 e) c.on_reap.result c.on_reap.ensures.taken c.on_reap.ensures.kept,
-  step_keeps IsSound c.self.inside.state c.on_reap.new.self (on_reap c.self.inside.state c.args.inc) [] c.self.invariant.1 (λ t e. c.sound_after.ensures c.self.inside.state (Input.Reaped c.args.inc) t c.self.invariant.0 c.self.invariant.1 e) c.on_reap.result c.on_reap.ensures.taken c.on_reap.ensures.kept,
+  step_keeps Steady c.self.inside.state c.on_reap.new.state (on_reap c.self.inside.state c.args.inc) [] c.self.invariant.0 (λ t e. c.steady_after.ensures c.self.inside.state (Input.Reaped c.args.inc) t c.self.invariant.0 e) c.on_reap.result c.on_reap.ensures.taken c.on_reap.ensures.kept,
+  step_keeps IsSound c.self.inside.state c.on_reap.new.state (on_reap c.self.inside.state c.args.inc) [] c.self.invariant.1 (λ t e. c.sound_after.ensures c.self.inside.state (Input.Reaped c.args.inc) t c.self.invariant.0 c.self.invariant.1 e) c.on_reap.result c.on_reap.ensures.taken c.on_reap.ensures.kept,
 )

@@ -8,14 +8,14 @@ use Rattle.container_core.proofs.container.ContainerCore.resolve.Goals as goal
 
 pub returns-clause-steady : goal.returns-clause-steady
 returns-clause-steady c =
-    step_keeps Steady c.self.inside.state c.resolve.new.self (resolve c.self.inside.state c.args.f c.args.is_kept) (if c.args.is_kept then counted_of c.self.inside.state c.args.f else []) c.self.invariant.0 (λ t e. c.steady_after.ensures c.self.inside.state (Input.Resolved c.args.f c.args.is_kept) t c.self.invariant.0 e) c.resolve.result c.resolve.ensures.taken c.resolve.ensures.kept
+    step_keeps Steady c.self.inside.state c.resolve.new.state (resolve c.self.inside.state c.args.f c.args.is_kept) (if c.args.is_kept then counted_of c.self.inside.state c.args.f else []) c.self.invariant.0 (λ t e. c.steady_after.ensures c.self.inside.state (Input.Resolved c.args.f c.args.is_kept) t c.self.invariant.0 e) c.resolve.result c.resolve.ensures.taken c.resolve.ensures.kept
 
 pub returns-clause-sound : goal.returns-clause-sound
 returns-clause-sound c =
-    step_keeps IsSound c.self.inside.state c.resolve.new.self (resolve c.self.inside.state c.args.f c.args.is_kept) (if c.args.is_kept then counted_of c.self.inside.state c.args.f else []) c.self.invariant.1 (λ t e. c.sound_after.ensures c.self.inside.state (Input.Resolved c.args.f c.args.is_kept) t c.self.invariant.0 c.self.invariant.1 e) c.resolve.result c.resolve.ensures.taken c.resolve.ensures.kept
+    step_keeps IsSound c.self.inside.state c.resolve.new.state (resolve c.self.inside.state c.args.f c.args.is_kept) (if c.args.is_kept then counted_of c.self.inside.state c.args.f else []) c.self.invariant.1 (λ t e. c.sound_after.ensures c.self.inside.state (Input.Resolved c.args.f c.args.is_kept) t c.self.invariant.0 c.self.invariant.1 e) c.resolve.result c.resolve.ensures.taken c.resolve.ensures.kept
 
 pub invariant_of-self : goal.invariant_of-self
 invariant_of-self c = (
-  step_keeps Steady c.self.inside.state c.resolve.new.self (resolve c.self.inside.state c.args.f c.args.is_kept) (if c.args.is_kept then counted_of c.self.inside.state c.args.f else []) c.self.invariant.0 (λ t e. c.steady_after.ensures c.self.inside.state (Input.Resolved c.args.f c.args.is_kept) t c.self.invariant.0 e) c.resolve.result c.resolve.ensures.taken c.resolve.ensures.kept,
-  step_keeps IsSound c.self.inside.state c.resolve.new.self (resolve c.self.inside.state c.args.f c.args.is_kept) (if c.args.is_kept then counted_of c.self.inside.state c.args.f else []) c.self.invariant.1 (λ t e. c.sound_after.ensures c.self.inside.state (Input.Resolved c.args.f c.args.is_kept) t c.self.invariant.0 c.self.invariant.1 e) c.resolve.result c.resolve.ensures.taken c.resolve.ensures.kept,
+  step_keeps Steady c.self.inside.state c.resolve.new.state (resolve c.self.inside.state c.args.f c.args.is_kept) (if c.args.is_kept then counted_of c.self.inside.state c.args.f else []) c.self.invariant.0 (λ t e. c.steady_after.ensures c.self.inside.state (Input.Resolved c.args.f c.args.is_kept) t c.self.invariant.0 e) c.resolve.result c.resolve.ensures.taken c.resolve.ensures.kept,
+  step_keeps IsSound c.self.inside.state c.resolve.new.state (resolve c.self.inside.state c.args.f c.args.is_kept) (if c.args.is_kept then counted_of c.self.inside.state c.args.f else []) c.self.invariant.1 (λ t e. c.sound_after.ensures c.self.inside.state (Input.Resolved c.args.f c.args.is_kept) t c.self.invariant.0 c.self.invariant.1 e) c.resolve.result c.resolve.ensures.taken c.resolve.ensures.kept,
 )

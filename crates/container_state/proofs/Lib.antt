@@ -1,0 +1,2 @@
+pub mod ContentsMade
+pub mod RepliesMade

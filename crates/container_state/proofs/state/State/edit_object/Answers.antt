@@ -1,0 +1,10 @@
+use Rattle.std.proofs.Common.{refl}
+use Rattle.container_model.specs.Commands.{edit_linked}
+use Rattle.container_steps.proofs.CommandsEdit.{object_refused, object_taken}
+use Rattle.container_state.proofs.state.State.edit_object.Goals as goal
+
+pub returns-in-Err-clause-refused : goal.returns-in-Err-clause-refused
+returns-in-Err-clause-refused c = object_refused (λ q o. edit_linked q o c.args.bytes o.link) _ c.args.self.now c.args.i c.index_mut.result.now c.in-Err.fault c.self.view_is c.requires.place.fits c.index_mut.ensures.value c.in-Err.ensures.refused
+
+pub returns-clause-taken : goal.returns-clause-taken
+returns-clause-taken c = object_taken (λ q o. edit_linked q o c.args.bytes o.link) _ c.args.self.now _ c.args.i c.index_mut.result.now c.edit_one.new.object c.in-Ok.actions _ c.self.view_is c.requires.place c.index_mut.ensures.value c.in-Ok.ensures.taken c.in-Ok.ensures.same refl c.acts.ensures
