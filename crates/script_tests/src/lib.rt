@@ -2,6 +2,8 @@
 #![tactic(auto)]
 
 #[cfg(test)]
+mod crashes;
+#[cfg(test)]
 mod files;
 #[cfg(test)]
 mod saves;

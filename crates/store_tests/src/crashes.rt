@@ -1,7 +1,7 @@
 //! Each crash point of a commit and of an open.
 
-use crate::images::{PENDING, Pending};
 use crate::runs::{commit, crashed, disk, document, open_only};
+use disk_images::images::{PENDING, Pending};
 use doc_store::memory_disk::MemoryDisk;
 use std::alloc::Global;
 use std::process::Abort;

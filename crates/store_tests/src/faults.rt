@@ -1,7 +1,7 @@
 //! Refusals, and disks that fail.
 
-use crate::images::Pending;
 use crate::runs::{commit_failing, crashed, disk, document, open_only};
+use disk_images::images::Pending;
 use doc_store::disk::Disk;
 use doc_store::fault::StoreFault;
 use doc_store::limit::MAX_DOCUMENT;

@@ -12,8 +12,6 @@ mod files;
 #[cfg(test)]
 mod folder;
 #[cfg(test)]
-mod images;
-#[cfg(test)]
 mod resolving;
 #[cfg(test)]
 mod runs;

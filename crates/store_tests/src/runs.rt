@@ -1,7 +1,6 @@
 //! Runs of a store that tests make. These functions have no contracts, so that the tests stay quick to prove.
 
-use crate::images::{Pending, left};
-use doc_store::area::Area;
+use disk_images::images::Pending;
 use doc_store::fault::StoreFault;
 use doc_store::memory_disk::{Faults, MemoryDisk};
 use doc_store::store::Store;
@@ -26,9 +25,7 @@ pub(crate) fn crashed(
     document: Pending,
     journal: Pending,
 ) -> MemoryDisk {
-    let document = left(alloc, from, calls, Area::Document, document).expect(rt, "memory");
-    let journal = left(alloc, from, calls, Area::Journal, journal).expect(rt, "memory");
-    MemoryDisk::new(alloc, document, journal).expect(rt, "memory")
+    disk_images::images::crashed(alloc, from, calls, document, journal).expect(rt, "memory")
 }
 
 /// Opens a disk, and gives the disk back whatever it answers.

@@ -1,14 +1,14 @@
 //! What a crash may leave of a disk in memory, by the list of its calls. These functions have no contracts, so that the
 //! tests stay quick to prove.
 
-use doc_store::area::Area;
-use doc_store::areas::Call;
-use doc_store::memory_disk::MemoryDisk;
+use memory_disks::areas::Call;
+use memory_disks::memory_disk::MemoryDisk;
 use std::alloc::{AllocError, Global};
+use store_model::area::Area;
 
 /// What a crash makes of the calls that no sync has followed.
 #[derive(Debug, Clone, Copy, PartialEq, Eq)]
-pub(crate) enum Pending {
+pub enum Pending {
     /// They are done.
     Kept,
     /// They are not done.
@@ -20,15 +20,10 @@ pub(crate) enum Pending {
 }
 
 /// All of them.
-pub(crate) const PENDING: [Pending; 4] = [
-    Pending::Kept,
-    Pending::Lost,
-    Pending::Zeroed,
-    Pending::Torn,
-];
+pub const PENDING: [Pending; 4] = [Pending::Kept, Pending::Lost, Pending::Zeroed, Pending::Torn];
 
 /// What a crash leaves of an area after the first so many calls of a disk.
-pub(crate) fn left(
+pub fn left(
     alloc: Global,
     disk: &MemoryDisk,
     calls: usize,
@@ -48,6 +43,19 @@ pub(crate) fn left(
         done = done.saturating_add(1);
     }
     Ok(bytes)
+}
+
+/// The disk that a crash leaves after the first so many calls of another. A refusal is one of memory.
+pub fn crashed(
+    alloc: Global,
+    from: &MemoryDisk,
+    calls: usize,
+    document: Pending,
+    journal: Pending,
+) -> Result<MemoryDisk, AllocError> {
+    let document = left(alloc, from, calls, Area::Document, document)?;
+    let journal = left(alloc, from, calls, Area::Journal, journal)?;
+    MemoryDisk::new(alloc, document, journal)
 }
 
 /// How many of the first so many calls stand up to the last sync of an area.
