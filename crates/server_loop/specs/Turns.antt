@@ -20,6 +20,10 @@ pub record Turn : Type 0 where
   pub out : List ℕ
   pub edited : List ℕ
 
+-- the first turn of a server: it has no activation
+abbrev pub first_turn : (inc numbers : ℕ) → Turn
+first_turn inc numbers = record { server = record { inc = inc; numbers = numbers; acts = [] }; out = []; edited = [] }
+
 -- what is written of a frame: nothing where it may not be sent
 abbrev pub sent : Frame → List ℕ
 sent f = cond (fits f) (spell f) []

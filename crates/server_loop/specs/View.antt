@@ -1,5 +1,5 @@
 -- A server on a link, as it is seen.
-use Rattle.std.specs.Prelude.{◌≡◌, ◌⊎◌, ℕ, List, [], ◌∷◌, ◌++◌, Option, Some, None, length, map}
+use Rattle.std.specs.Prelude.{◌≡◌, ◌⊎◌, ◌+◌, ◌<◌, ◌≤◌, ℕ, List, [], ◌∷◌, ◌++◌, Option, Some, None, length, map}
 use Rattle.std.specs.Io.KnownBytes.{Appends, Consumes}
 use Rattle.embed_core.specs.Content.{Content}
 use Rattle.wire_msgs.specs.declared.message.Message.{Message}
@@ -18,8 +18,27 @@ use Rattle.server_loop.specs.declared.serving.Advance.TheVariants.{Met, Turned, 
 abbrev pub IsStarted : {X : Type 0} {V : X → Type 0} → Serving X V → Type 0
 IsStarted v = length v.servers.items ≡ 1
 
-abbrev pub IsNew : {X : Type 0} {V : X → Type 0} → Serving X V → Type 0
-IsNew v = length v.servers.items ≡ 0
+-- No server was started, nothing was read, and nothing is to be written.
+pub record IsNew {X : Type 0} {V : X → Type 0} (v : Serving X V) : Type 0 where
+  pub none : length v.servers.items ≡ 0
+  pub out : v.out.items ≡ []
+  pub edited : v.edited.items ≡ []
+  pub read : Stands v.decoder [] []
+
+-- A link has at most so many turns, and a turn at most so many reads.
+abbrev pub MOST_TURNS : ℕ
+MOST_TURNS = 1000
+
+abbrev pub MOST_READS : ℕ
+MOST_READS = 1000000
+
+-- How the turns of a link and the reads of a turn are counted: before, and after.
+abbrev pub Counts : Advance → (turns_before reads_before turns reads : ℕ) → Type 0
+Counts Met turns_before reads_before turns reads = (turns ≡ turns_before) × (reads ≡ reads_before)
+Counts (Wants class) turns_before reads_before turns reads = (turns ≡ turns_before) × (reads ≡ reads_before)
+Counts Turned turns_before reads_before turns reads = (turns ≡ turns_before + 1) × (turns < MOST_TURNS) × (reads ≡ 0)
+Counts Read turns_before reads_before turns reads = (turns ≡ turns_before) × (reads ≡ reads_before + 1) × (reads ≤ MOST_READS)
+Counts Over turns_before reads_before turns reads = Unit {0}
 
 -- `content` says what the object in a seat contains.
 module _ {X : Type 0} {V : X → Type 0} (content : Seat X V → Content) where

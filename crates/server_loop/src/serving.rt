@@ -5,8 +5,8 @@ ghost use Rattle.message_bytes.specs.Fronts.{Stands};
 ghost use Rattle.message_model.specs.declared.frame.Frame.{Frame};
 ghost use Rattle.message_model.specs.declared.frame.Frame.TheVariants as frame;
 ghost use Rattle.server_core.specs.View.{seen};
-ghost use Rattle.server_loop.specs.Turns.{Turn, edited_by, given, met, noted, noted_done, scribbled_all, sent, turned, written};
-ghost use Rattle.server_loop.specs.View.{Advances, IsAt, IsIn, IsNew, IsStarted, Meets, Reads, Turns, servers_of};
+ghost use Rattle.server_loop.specs.Turns.{Turn, edited_by, first_turn, given, met, noted, noted_done, scribbled_all, sent, turned, written};
+ghost use Rattle.server_loop.specs.View.{Advances, Counts, IsAt, IsIn, IsNew, IsStarted, Meets, Reads, Turns, servers_of};
 ghost use Rattle.server_model.specs.Server.{Server, scribble, wanted};
 ghost use Rattle.std.specs.Prelude.{◌≡◌, ◌<◌, ◌+◌, ◌++◌, ◌∷◌, ℕ, List, [], IfOk, OnOk, Some, None, length, nat_eq, option_map, vec_capacity, vec_len};
 ghost use Rattle.wire_msgs.specs.declared.message.Message.{Message};
@@ -178,8 +178,7 @@ impl Serving {
     pub fn start(&mut self, alloc: Global, inc: u32, numbers: u32) -> Result<(), AllocError>
         requires { IsNew self.old }
         ensures started { OnOk result (IsStarted self.new) }
-        ensures fresh { Stands self.old.decoder [] [] → self.old.out.items ≡ [] → self.old.edited.items ≡ []
-            → OnOk result (IsAt (λ s. (⟦<dyn Embedded as Embedded>⟧ s.boxed.vtable).content s.boxed.value) self.new (record { server = record { inc = inc; numbers = numbers; acts = [] }; out = []; edited = [] }) [] []) }
+        ensures first { OnOk result (IsAt (λ s. (⟦<dyn Embedded as Embedded>⟧ s.boxed.vtable).content s.boxed.value) self.new (first_turn inc numbers) [] []) }
     {
         self.servers.reserve(1)?;
         let core = ServerCore::new(alloc, inc, numbers);
@@ -190,6 +189,7 @@ impl Serving {
     /// Begins a link: nothing was read of it, and nothing is to be written.
     pub fn begin(&mut self, alloc: Global)
         requires { IsStarted self.old }
+        ensures counts { (self.new.turns ≡ 0) × (self.new.reads ≡ 0) }
         ensures started { IsStarted self.new }
         ensures begun { (t : Turn) → IsIn (λ s. (⟦<dyn Embedded as Embedded>⟧ s.boxed.vtable).content s.boxed.value) self.old t → IsAt (λ s. (⟦<dyn Embedded as Embedded>⟧ s.boxed.vtable).content s.boxed.value) self.new (record { server = t.server; out = []; edited = [] }) [] [] }
     {
@@ -203,6 +203,7 @@ impl Serving {
 
     /// Answers, and notes an edit that was done.
     fn reply(&mut self, alloc: Global, reply: Message, edit: Option<u32>) -> Result<(), AllocError>
+        ensures counts { (self.new.turns ≡ self.old.turns) × (self.new.reads ≡ self.old.reads) }
         ensures servers { self.new.servers.items ≡ self.old.servers.items }
         ensures decoder { self.new.decoder ≡ self.old.decoder }
         ensures out { OnOk result (self.new.out.items ≡ self.old.out.items ++ sent (frame.Message reply)) }
@@ -220,6 +221,7 @@ impl Serving {
         boxed: Option<Box<dyn Embedded>>,
     ) -> Result<(), AllocError>
         requires { IsStarted self.old }
+        ensures counts { (self.new.turns ≡ self.old.turns) × (self.new.reads ≡ self.old.reads) }
         ensures started { IsStarted self.new }
         ensures decoder { self.new.decoder ≡ self.old.decoder }
         ensures met { (t : Turn) → IsIn (λ s. (⟦<dyn Embedded as Embedded>⟧ s.boxed.vtable).content s.boxed.value) self.old t → OnOk result (IsIn (λ s. (⟦<dyn Embedded as Embedded>⟧ s.boxed.vtable).content s.boxed.value) self.new (met t message (option_map (λ b. kind_of ((⟦<dyn Embedded as Embedded>⟧ b.vtable).content b.value)) boxed))) }
@@ -245,6 +247,7 @@ impl Serving {
     /// A message of the link.
     fn meet(&mut self, alloc: Global, message: Message) -> Result<Advance, AllocError>
         requires { IsStarted self.old }
+        ensures counted { IfOk result (λ told. Counts told self.old.turns self.old.reads self.new.turns self.new.reads) }
         ensures started { IsStarted self.new }
         ensures met { (t : Turn) (fed : List ℕ) (taken : List Frame) → IsIn (λ s. (⟦<dyn Embedded as Embedded>⟧ s.boxed.vtable).content s.boxed.value) self.old t → Stands self.old.decoder fed (taken ++ frame.Message message ∷ [])
             → IfOk result (λ told. Meets (λ s. (⟦<dyn Embedded as Embedded>⟧ s.boxed.vtable).content s.boxed.value) told self.new t fed taken) }
@@ -260,6 +263,7 @@ impl Serving {
     /// Offers an object for the activation that the last call makes.
     pub fn offer(&mut self, alloc: Global, boxed: Box<dyn Embedded>) -> Result<(), AllocError>
         requires { IsStarted self.old }
+        ensures counts { (self.new.turns ≡ self.old.turns) × (self.new.reads ≡ self.old.reads) }
         ensures started { IsStarted self.new }
         ensures met { (t : Turn) (fed : List ℕ) (taken : List Frame) (m : Message) → IsAt (λ s. (⟦<dyn Embedded as Embedded>⟧ s.boxed.vtable).content s.boxed.value) self.old t fed taken → self.old.wanting ≡ Some m
             → OnOk result (IsAt (λ s. (⟦<dyn Embedded as Embedded>⟧ s.boxed.vtable).content s.boxed.value) self.new (met t m (Some (kind_of ((⟦<dyn Embedded as Embedded>⟧ boxed.vtable).content boxed.value)))) fed taken) }
@@ -273,6 +277,7 @@ impl Serving {
     /// An activation writes of its own accord.
     fn scribble(&mut self, alloc: Global, act: u32) -> Result<(), AllocError>
         requires { IsStarted self.old }
+        ensures counts { (self.new.turns ≡ self.old.turns) × (self.new.reads ≡ self.old.reads) }
         ensures started { IsStarted self.new }
         ensures decoder { self.new.decoder ≡ self.old.decoder }
         ensures edited { self.new.edited.items ≡ self.old.edited.items }
@@ -290,6 +295,7 @@ impl Serving {
     /// All activations that were edited write of their own accord, by their numbers.
     fn scribble_all(&mut self, alloc: Global) -> Result<(), AllocError>
         requires { IsStarted self.old }
+        ensures counts { (self.new.turns ≡ self.old.turns) × (self.new.reads ≡ self.old.reads) }
         ensures started { IsStarted self.new }
         ensures decoder { self.new.decoder ≡ self.old.decoder }
         ensures written { (t : Turn) → IsIn (λ s. (⟦<dyn Embedded as Embedded>⟧ s.boxed.vtable).content s.boxed.value) self.old t → OnOk result (IsIn (λ s. (⟦<dyn Embedded as Embedded>⟧ s.boxed.vtable).content s.boxed.value) self.new (scribbled_all t t.edited)) }
@@ -306,6 +312,7 @@ impl Serving {
     /// Makes ready what is written as the turn is given back.
     fn close_turn(&mut self, alloc: Global) -> Result<(), AllocError>
         requires { IsStarted self.old }
+        ensures counts { (self.new.turns ≡ self.old.turns) × (self.new.reads ≡ self.old.reads) }
         ensures started { IsStarted self.new }
         ensures decoder { self.new.decoder ≡ self.old.decoder }
         ensures given { (t : Turn) → IsIn (λ s. (⟦<dyn Embedded as Embedded>⟧ s.boxed.vtable).content s.boxed.value) self.old t → OnOk result (self.new.out.items ≡ given t) }
@@ -320,6 +327,7 @@ impl Serving {
     /// Gives the turn back.
     fn give_turn<S: Write>(&mut self, alloc: Global, stream: &mut S) -> Result<Advance, AllocError>
         requires { IsStarted self.old }
+        ensures counted { IfOk result (λ told. Counts told self.old.turns self.old.reads self.new.turns self.new.reads) }
         ensures started { IsStarted self.new }
         ensures turned { (t : Turn) (fed : List ℕ) (taken : List Frame) → IsIn (λ s. (⟦<dyn Embedded as Embedded>⟧ s.boxed.vtable).content s.boxed.value) self.old t → Stands self.old.decoder fed (taken ++ frame.Turn ∷ [])
             → IfOk result (λ told. Turns (λ s. (⟦<dyn Embedded as Embedded>⟧ s.boxed.vtable).content s.boxed.value) told self.new t fed taken (S.contents stream.old) (S.contents stream.new)) }
@@ -338,6 +346,7 @@ impl Serving {
     /// Reads some bytes of the link.
     fn read<S: Read>(&mut self, stream: &mut S) -> Result<Advance, AllocError>
         requires { IsStarted self.old }
+        ensures counted { IfOk result (λ told. Counts told self.old.turns self.old.reads self.new.turns self.new.reads) }
         ensures started { IsStarted self.new }
         ensures read { (t : Turn) (fed : List ℕ) (taken : List Frame) → IsAt (λ s. (⟦<dyn Embedded as Embedded>⟧ s.boxed.vtable).content s.boxed.value) self.old t fed taken
             → IfOk result (λ told. Reads (λ s. (⟦<dyn Embedded as Embedded>⟧ s.boxed.vtable).content s.boxed.value) told self.new t fed taken (S.remaining stream.old) (S.remaining stream.new)) }
@@ -372,6 +381,7 @@ impl Serving {
         stream: &mut S,
     ) -> Result<Advance, AllocError>
         requires { IsStarted self.old }
+        ensures counted { IfOk result (λ told. Counts told self.old.turns self.old.reads self.new.turns self.new.reads) }
         ensures started { IsStarted self.new }
         ensures advanced { (t : Turn) (fed : List ℕ) (taken : List Frame) → IsAt (λ s. (⟦<dyn Embedded as Embedded>⟧ s.boxed.vtable).content s.boxed.value) self.old t fed taken
             → IfOk result (λ told. Advances (λ s. (⟦<dyn Embedded as Embedded>⟧ s.boxed.vtable).content s.boxed.value) told self.new t fed taken (S.remaining stream.old) (S.remaining stream.new) (S.contents stream.old) (S.contents stream.new)) }

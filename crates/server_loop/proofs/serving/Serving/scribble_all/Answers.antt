@@ -12,6 +12,8 @@ loop-place-preserved g c = (
       one_more _ c.args.self.now c.scribble.new.self t c.loop-place.place c.index-act.result.now c.loop-place.self.edited.items (c.loop-place.invariant.1 ∙ h.edited)
       (omega (arith, c.loop-place-test.true, c.len.ensures)) c.index-act.ensures
       (c.in_ok-scribble.ensures.written (scribbled_all t (take c.loop-place.place t.edited)) (c.loop-place.invariant.3 t h)),
+  c.in_ok-scribble.ensures.counts.0 ∙ c.loop-place.invariant.4,
+  c.in_ok-scribble.ensures.counts.1 ∙ c.loop-place.invariant.5,
 )
 
 pub returns-clause-written : goal.returns-clause-written
