@@ -54,7 +54,9 @@ fn need_of_class(class: &ClassId) -> Need {
 
 fn need_of(advance: &Result<Advance, AllocError>) -> Need {
     match advance {
-        Ok(Advance::More) => Need::Nothing,
+        Ok(Advance::Met) => Need::Nothing,
+        Ok(Advance::Turned) => Need::Nothing,
+        Ok(Advance::Read) => Need::Nothing,
         Ok(Advance::Wants(class)) => need_of_class(class),
         Ok(Advance::Over) => Need::Link,
         Err(_) => Need::Memory,

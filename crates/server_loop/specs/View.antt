@@ -1,10 +1,112 @@
 -- A server on a link, as it is seen.
-use Rattle.std.specs.Prelude.{◌≡◌, ℕ, length}
+use Rattle.std.specs.Prelude.{◌≡◌, ◌⊎◌, ◌+◌, ◌<◌, ◌≤◌, ℕ, List, [], ◌∷◌, ◌++◌, Option, Some, None, length, map}
+use Rattle.std.specs.Io.KnownBytes.{Appends, Consumes}
+use Rattle.embed_core.specs.Content.{Content}
+use Rattle.wire_msgs.specs.declared.message.Message.{Message}
+use Rattle.message_model.specs.declared.frame.Frame.{Frame}
+use Rattle.message_model.specs.declared.frame.Frame.TheVariants as frame
+use Rattle.message_bytes.specs.Fronts.{Stands}
+use Rattle.server_model.specs.Server.{Server, wanted}
+use Rattle.server_core.specs.View.{seen}
+use Rattle.server_core.specs.declared.server.Seat.{Seat}
+use Rattle.server_loop.specs.Turns.{Turn, given, met, turned}
 use Rattle.server_loop.specs.declared.serving.Serving.{Serving}
+use Rattle.server_loop.specs.declared.serving.Advance.{Advance}
+use Rattle.server_loop.specs.declared.serving.Advance.TheVariants.{Met, Turned, Read, Wants, Over}
 
 -- whether its server was started
 abbrev pub IsStarted : {X : Type 0} {V : X → Type 0} → Serving X V → Type 0
 IsStarted v = length v.servers.items ≡ 1
 
-abbrev pub IsNew : {X : Type 0} {V : X → Type 0} → Serving X V → Type 0
-IsNew v = length v.servers.items ≡ 0
+-- No server was started, nothing was read, and nothing is to be written.
+pub record IsNew {X : Type 0} {V : X → Type 0} (v : Serving X V) : Type 0 where
+  pub none : length v.servers.items ≡ 0
+  pub out : v.out.items ≡ []
+  pub edited : v.edited.items ≡ []
+  pub read : Stands v.decoder [] []
+
+-- A link has at most so many turns, and a turn at most so many reads.
+abbrev pub MOST_TURNS : ℕ
+MOST_TURNS = 1000
+
+abbrev pub MOST_READS : ℕ
+MOST_READS = 1000000
+
+-- How the turns of a link and the reads of a turn are counted: before, and after.
+abbrev pub Counts : Advance → (turns_before reads_before turns reads : ℕ) → Type 0
+Counts Met turns_before reads_before turns reads = (turns ≡ turns_before) × (reads ≡ reads_before)
+Counts (Wants class) turns_before reads_before turns reads = (turns ≡ turns_before) × (reads ≡ reads_before)
+Counts Turned turns_before reads_before turns reads = (turns ≡ turns_before + 1) × (turns < MOST_TURNS) × (reads ≡ 0)
+Counts Read turns_before reads_before turns reads = (turns ≡ turns_before) × (reads ≡ reads_before + 1) × (reads ≤ MOST_READS)
+Counts Over turns_before reads_before turns reads = Unit {0}
+
+-- `content` says what the object in a seat contains.
+module _ {X : Type 0} {V : X → Type 0} (content : Seat X V → Content) where
+  -- the server, once it is started
+  abbrev pub servers_of : Serving X V → List Server
+  servers_of v = map (λ s. seen content s.core) v.servers.items
+
+  -- It has come so far in a turn.
+  pub record IsIn (v : Serving X V) (t : Turn) : Type 0 where
+    pub server : servers_of v ≡ t.server ∷ []
+    pub out : v.out.items ≡ t.out
+    pub edited : v.edited.items ≡ t.edited
+
+  -- It has come so far on a link of which these bytes were read in all, and these frames taken.
+  pub record IsAt (v : Serving X V) (t : Turn) (fed : List ℕ) (taken : List Frame) : Type 0 where
+    pub turn : IsIn v t
+    pub read : Stands v.decoder fed taken
+
+  -- A message came next that wants no object: the turn goes on by the server's step.
+  pub record IsMet (v : Serving X V) (t : Turn) (fed : List ℕ) (taken : List Frame) : Type 0 where
+    pub message : Message
+    pub unwanted : wanted t.server message ≡ None
+    pub after : IsAt v (met t message None) fed (taken ++ frame.Message message ∷ [])
+
+  -- A message came next that wants an object of this class, and waits for it.
+  pub record Awaits (v : Serving X V) (t : Turn) (fed : List ℕ) (taken : List Frame) (class : List ℕ) : Type 0 where
+    pub message : Message
+    pub wants : wanted t.server message ≡ Some class
+    pub waits : v.wanting ≡ Some message
+    pub after : IsAt v t fed (taken ++ frame.Message message ∷ [])
+
+  -- A Turn came next: the answers were written, what was edited, and a Turn.
+  pub record IsTurned (v : Serving X V) (t : Turn) (fed : List ℕ) (taken : List Frame) (before after : Option (List ℕ)) : Type 0 where
+    pub gives : Appends before after (given t)
+    pub next : IsAt v (turned t) fed (taken ++ frame.Turn ∷ [])
+
+  -- No frame was whole, and more was read.
+  pub record IsRead (v : Serving X V) (t : Turn) (fed : List ℕ) (taken : List Frame) (before after : Option (List ℕ)) : Type 0 where
+    pub piece : List ℕ
+    pub consumed : Consumes before after piece
+    pub next : IsAt v t (fed ++ piece) taken
+
+  -- The link is over, in this turn or as it was given back.
+  pub record IsOver (v : Serving X V) (t : Turn) : Type 0 where
+    pub last : Turn
+    pub is : (last ≡ t) ⊎ (last ≡ turned t)
+    pub server : IsIn v last
+
+  -- how far a link came by a message, by a Turn, and where no frame was whole
+  abbrev pub Meets : Advance → Serving X V → Turn → List ℕ → List Frame → Type 0
+  Meets Met v t fed taken = IsMet v t fed taken
+  Meets (Wants class) v t fed taken = Awaits v t fed taken class
+  Meets told v t fed taken = ⊥
+
+  abbrev pub Turns : Advance → Serving X V → Turn → List ℕ → List Frame → Option (List ℕ) → Option (List ℕ) → Type 0
+  Turns Turned v t fed taken before after = IsTurned v t fed taken before after
+  Turns Over v t fed taken before after = IsOver v t
+  Turns told v t fed taken before after = ⊥
+
+  abbrev pub Reads : Advance → Serving X V → Turn → List ℕ → List Frame → Option (List ℕ) → Option (List ℕ) → Type 0
+  Reads Read v t fed taken before after = IsRead v t fed taken before after
+  Reads Over v t fed taken before after = IsOver v t
+  Reads told v t fed taken before after = ⊥
+
+  -- How far a link came, with what was to be read of it and what was written to it, before and after.
+  abbrev pub Advances : Advance → Serving X V → Turn → List ℕ → List Frame → (unread_before unread held_before held : Option (List ℕ)) → Type 0
+  Advances Met v t fed taken unread_before unread held_before held = IsMet v t fed taken
+  Advances (Wants class) v t fed taken unread_before unread held_before held = Awaits v t fed taken class
+  Advances Turned v t fed taken unread_before unread held_before held = IsTurned v t fed taken held_before held
+  Advances Read v t fed taken unread_before unread held_before held = IsRead v t fed taken unread_before unread
+  Advances Over v t fed taken unread_before unread held_before held = IsOver v t

@@ -1,7 +1,15 @@
 //! A server on a link.
 
-ghost use Rattle.server_loop.specs.View.{IsNew, IsStarted};
-ghost use Rattle.std.specs.Prelude.{◌≡◌, ◌<◌, ◌++◌, ◌∷◌, [], OnOk, length, vec_capacity, vec_len};
+ghost use Rattle.embed_core.specs.Kinds.{kind_of};
+ghost use Rattle.message_bytes.specs.Fronts.{Stands};
+ghost use Rattle.message_model.specs.declared.frame.Frame.{Frame};
+ghost use Rattle.message_model.specs.declared.frame.Frame.TheVariants as frame;
+ghost use Rattle.server_core.specs.View.{seen};
+ghost use Rattle.server_loop.specs.Turns.{Turn, edited_by, first_turn, given, met, noted, noted_done, scribbled_all, sent, turned, written};
+ghost use Rattle.server_loop.specs.View.{Advances, Counts, IsAt, IsIn, IsNew, IsStarted, Meets, Reads, Turns, servers_of};
+ghost use Rattle.server_model.specs.Server.{Server, scribble, wanted};
+ghost use Rattle.std.specs.Prelude.{◌≡◌, ◌<◌, ◌+◌, ◌++◌, ◌∷◌, ℕ, List, [], IfOk, OnOk, Some, None, length, nat_eq, option_map, vec_capacity, vec_len};
+ghost use Rattle.wire_msgs.specs.declared.message.Message.{Message};
 
 use embed_core::embedded::Embedded;
 use message_bytes::decoder::Decoder;
@@ -29,8 +37,12 @@ const PIECE: usize = 8192;
 /// How far a link came.
 #[derive(Clone, Copy, PartialEq, Eq)]
 pub enum Advance {
-    /// It goes on.
-    More,
+    /// A message was taken.
+    Met,
+    /// The turn was given back.
+    Turned,
+    /// More of it was read.
+    Read,
     /// A call makes an activation, and needs an object of this class. Where none is offered, it is passed over.
     Wants(ClassId),
     /// The link is over.
@@ -55,28 +67,44 @@ pub struct Serving {
     reads: u32,
 }
 
+/// Whether a call is the one behind an activation's last.
+fn is_next(last: u32, n: u32) -> bool
+    ensures { result ≡ nat_eq n (last + 1) }
+{
+    n > 0 && last == n - 1
+}
+
 /// The activation that a call edits, where it is the activation's next one.
-fn edited_by(core: &ServerCore, message: &Message) -> Option<u32> {
-    match message {
-        Message::Call {
-            act,
-            n,
-            operation: Operation::Edit(_),
-            ..
-        } => {
-            let view = core.activation(*act)?;
-            if *n > 0 && view.last == *n - 1 {
-                Some(*act)
-            } else {
-                None
+fn edited_by(core: &ServerCore, message: &Message) -> Option<u32>
+    ensures { result ≡ edited_by (seen (λ s. (⟦<dyn Embedded as Embedded>⟧ s.boxed.vtable).content s.boxed.value) core.now) message.now }
+{
+    let Message::Call {
+        act,
+        n,
+        operation,
+        ..
+    } = message
+    else {
+        return None;
+    };
+    let Operation::Edit(_) = operation else {
+        return None;
+    };
+    match core.activation(*act) {
+        Some(view) => {
+            if is_next(view.last, *n) {
+                return Some(*act);
             }
+            None
         }
-        _ => None,
+        None => None,
     }
 }
 
 /// Puts a number among rising ones, once.
-fn place(numbers: &mut Vec<u32>, number: u32) -> Result<(), AllocError> {
+fn place(numbers: &mut Vec<u32>, number: u32) -> Result<(), AllocError>
+    ensures { OnOk result (numbers.new.items ≡ noted number numbers.old.items) }
+{
     let mut at = 0;
     while at < numbers.len() && numbers[at] < number {
         at += 1;
@@ -98,8 +126,26 @@ fn add<T: Drop>(list: &mut Vec<T>, value: T)
     list.push_reserved(value);
 }
 
-/// Adds the byte form of a frame.
-fn push_frame(alloc: Global, out: &mut Vec<u8>, frame: &Frame) -> Result<(), AllocError> {
+/// Notes an edit whose reply says that it is done.
+fn note(edited: &mut Vec<u32>, edit: Option<u32>, reply: &Message) -> Result<(), AllocError>
+    ensures { OnOk result (edited.new.items ≡ noted_done edit reply.now edited.old.items) }
+{
+    let Some(act) = edit else {
+        return Ok(());
+    };
+    let Message::Reply { answer, .. } = reply else {
+        return Ok(());
+    };
+    let Answer::Done = answer else {
+        return Ok(());
+    };
+    place(edited, act)
+}
+
+/// Adds the byte form of a frame, where it may be sent.
+fn push_frame(alloc: Global, out: &mut Vec<u8>, frame: &Frame) -> Result<(), AllocError>
+    ensures { OnOk result (out.new.items ≡ out.old.items ++ sent frame.now) }
+{
     match encode(alloc, frame) {
         Ok(bytes) => {
             out.extend_from_slice(&bytes)?;
@@ -131,7 +177,8 @@ impl Serving {
     /// Refused for want of memory alone.
     pub fn start(&mut self, alloc: Global, inc: u32, numbers: u32) -> Result<(), AllocError>
         requires { IsNew self.old }
-        ensures { OnOk result (IsStarted self.new) }
+        ensures started { OnOk result (IsStarted self.new) }
+        ensures first { OnOk result (IsAt (λ s. (⟦<dyn Embedded as Embedded>⟧ s.boxed.vtable).content s.boxed.value) self.new (first_turn inc numbers) [] []) }
     {
         self.servers.reserve(1)?;
         let core = ServerCore::new(alloc, inc, numbers);
@@ -142,7 +189,9 @@ impl Serving {
     /// Begins a link: nothing was read of it, and nothing is to be written.
     pub fn begin(&mut self, alloc: Global)
         requires { IsStarted self.old }
-        ensures { IsStarted self.new }
+        ensures counts { (self.new.turns ≡ 0) × (self.new.reads ≡ 0) }
+        ensures started { IsStarted self.new }
+        ensures begun { (t : Turn) → IsIn (λ s. (⟦<dyn Embedded as Embedded>⟧ s.boxed.vtable).content s.boxed.value) self.old t → IsAt (λ s. (⟦<dyn Embedded as Embedded>⟧ s.boxed.vtable).content s.boxed.value) self.new (record { server = t.server; out = []; edited = [] }) [] [] }
     {
         self.decoder = Decoder::new(alloc);
         self.out.clear();
@@ -150,6 +199,18 @@ impl Serving {
         self.wanting = None;
         self.turns = 0;
         self.reads = 0;
+    }
+
+    /// Answers, and notes an edit that was done.
+    fn reply(&mut self, alloc: Global, reply: Message, edit: Option<u32>) -> Result<(), AllocError>
+        ensures counts { (self.new.turns ≡ self.old.turns) × (self.new.reads ≡ self.old.reads) }
+        ensures servers { self.new.servers.items ≡ self.old.servers.items }
+        ensures decoder { self.new.decoder ≡ self.old.decoder }
+        ensures out { OnOk result (self.new.out.items ≡ self.old.out.items ++ sent (frame.Message reply)) }
+        ensures edited { OnOk result (self.new.edited.items ≡ noted_done edit reply self.old.edited.items) }
+    {
+        note(&mut self.edited, edit, &reply)?;
+        push_frame(alloc, &mut self.out, &Frame::Message(reply))
     }
 
     /// Does what a message asks.
@@ -160,42 +221,25 @@ impl Serving {
         boxed: Option<Box<dyn Embedded>>,
     ) -> Result<(), AllocError>
         requires { IsStarted self.old }
-        ensures { IsStarted self.new }
+        ensures counts { (self.new.turns ≡ self.old.turns) × (self.new.reads ≡ self.old.reads) }
+        ensures started { IsStarted self.new }
+        ensures decoder { self.new.decoder ≡ self.old.decoder }
+        ensures met { (t : Turn) → IsIn (λ s. (⟦<dyn Embedded as Embedded>⟧ s.boxed.vtable).content s.boxed.value) self.old t → OnOk result (IsIn (λ s. (⟦<dyn Embedded as Embedded>⟧ s.boxed.vtable).content s.boxed.value) self.new (met t message (option_map (λ b. kind_of ((⟦<dyn Embedded as Embedded>⟧ b.vtable).content b.value)) boxed))) }
     {
         let edit = edited_by(&self.servers[0].core, &message);
-        let reaction = match self.servers[0].core.on_call(alloc, message, boxed) {
-            Ok(reaction) => reaction,
-            Err(refusal) => {
-                return match refusal.fault {
-                    ServerFault::NoMemory => Err(AllocError),
-                    _ => Ok(()),
-                };
-            }
-        };
-        self.reply(alloc, reaction.reply, edit)
-    }
-
-    /// Answers, and notes an edit that was done.
-    fn reply(&mut self, alloc: Global, reply: Message, edit: Option<u32>) -> Result<(), AllocError>
-        requires { IsStarted self.old }
-        ensures { IsStarted self.new }
-    {
-        if let (
-            Some(act),
-            Message::Reply {
-                answer: Answer::Done,
-                ..
+        match self.servers[0].core.on_call(alloc, message, boxed) {
+            Ok(reaction) => self.reply(alloc, reaction.reply, edit),
+            Err(refusal) => match refusal.fault {
+                ServerFault::NoMemory => Err(AllocError),
+                _ => Ok(()),
             },
-        ) = (edit, &reply)
-        {
-            place(&mut self.edited, act)?;
         }
-        push_frame(alloc, &mut self.out, &Frame::Message(reply))
     }
 
     /// The class of the object that a message needs.
     fn wants(&self, message: &Message) -> Option<ClassId>
         requires { IsStarted self.now }
+        ensures { (t : Turn) → IsIn (λ s. (⟦<dyn Embedded as Embedded>⟧ s.boxed.vtable).content s.boxed.value) self.now t → result ≡ wanted t.server message.now }
     {
         self.servers[0].core.wants(message)
     }
@@ -203,20 +247,26 @@ impl Serving {
     /// A message of the link.
     fn meet(&mut self, alloc: Global, message: Message) -> Result<Advance, AllocError>
         requires { IsStarted self.old }
-        ensures { IsStarted self.new }
+        ensures counted { IfOk result (λ told. Counts told self.old.turns self.old.reads self.new.turns self.new.reads) }
+        ensures started { IsStarted self.new }
+        ensures met { (t : Turn) (fed : List ℕ) (taken : List Frame) → IsIn (λ s. (⟦<dyn Embedded as Embedded>⟧ s.boxed.vtable).content s.boxed.value) self.old t → Stands self.old.decoder fed (taken ++ frame.Message message ∷ [])
+            → IfOk result (λ told. Meets (λ s. (⟦<dyn Embedded as Embedded>⟧ s.boxed.vtable).content s.boxed.value) told self.new t fed taken) }
     {
         if let Some(class) = self.wants(&message) {
             self.wanting = Some(message);
             return Ok(Advance::Wants(class));
         }
         self.act(alloc, message, None)?;
-        Ok(Advance::More)
+        Ok(Advance::Met)
     }
 
     /// Offers an object for the activation that the last call makes.
     pub fn offer(&mut self, alloc: Global, boxed: Box<dyn Embedded>) -> Result<(), AllocError>
         requires { IsStarted self.old }
-        ensures { IsStarted self.new }
+        ensures counts { (self.new.turns ≡ self.old.turns) × (self.new.reads ≡ self.old.reads) }
+        ensures started { IsStarted self.new }
+        ensures met { (t : Turn) (fed : List ℕ) (taken : List Frame) (m : Message) → IsAt (λ s. (⟦<dyn Embedded as Embedded>⟧ s.boxed.vtable).content s.boxed.value) self.old t fed taken → self.old.wanting ≡ Some m
+            → OnOk result (IsAt (λ s. (⟦<dyn Embedded as Embedded>⟧ s.boxed.vtable).content s.boxed.value) self.new (met t m (Some (kind_of ((⟦<dyn Embedded as Embedded>⟧ boxed.vtable).content boxed.value)))) fed taken) }
     {
         match self.wanting.take() {
             Some(message) => self.act(alloc, message, Some(boxed)),
@@ -227,20 +277,28 @@ impl Serving {
     /// An activation writes of its own accord.
     fn scribble(&mut self, alloc: Global, act: u32) -> Result<(), AllocError>
         requires { IsStarted self.old }
+        ensures counts { (self.new.turns ≡ self.old.turns) × (self.new.reads ≡ self.old.reads) }
         ensures started { IsStarted self.new }
+        ensures decoder { self.new.decoder ≡ self.old.decoder }
         ensures edited { self.new.edited.items ≡ self.old.edited.items }
+        ensures written { (t : Turn) → IsIn (λ s. (⟦<dyn Embedded as Embedded>⟧ s.boxed.vtable).content s.boxed.value) self.old t → OnOk result (IsIn (λ s. (⟦<dyn Embedded as Embedded>⟧ s.boxed.vtable).content s.boxed.value) self.new (written t (scribble t.server act))) }
     {
         match self.servers[0].core.scribble(alloc, act) {
             Ok(message) => push_frame(alloc, &mut self.out, &Frame::Message(message)),
-            Err(ServerFault::NoMemory) => Err(AllocError),
-            Err(_) => Ok(()),
+            Err(fault) => match fault {
+                ServerFault::NoMemory => Err(AllocError),
+                _ => Ok(()),
+            },
         }
     }
 
     /// All activations that were edited write of their own accord, by their numbers.
     fn scribble_all(&mut self, alloc: Global) -> Result<(), AllocError>
         requires { IsStarted self.old }
-        ensures { IsStarted self.new }
+        ensures counts { (self.new.turns ≡ self.old.turns) × (self.new.reads ≡ self.old.reads) }
+        ensures started { IsStarted self.new }
+        ensures decoder { self.new.decoder ≡ self.old.decoder }
+        ensures written { (t : Turn) → IsIn (λ s. (⟦<dyn Embedded as Embedded>⟧ s.boxed.vtable).content s.boxed.value) self.old t → OnOk result (IsIn (λ s. (⟦<dyn Embedded as Embedded>⟧ s.boxed.vtable).content s.boxed.value) self.new (scribbled_all t t.edited)) }
     {
         let mut place = 0;
         while place < self.edited.len() {
@@ -248,17 +306,33 @@ impl Serving {
             self.scribble(alloc, act)?;
             place += 1;
         }
-        self.edited.clear();
         Ok(())
+    }
+
+    /// Makes ready what is written as the turn is given back.
+    fn close_turn(&mut self, alloc: Global) -> Result<(), AllocError>
+        requires { IsStarted self.old }
+        ensures counts { (self.new.turns ≡ self.old.turns) × (self.new.reads ≡ self.old.reads) }
+        ensures started { IsStarted self.new }
+        ensures decoder { self.new.decoder ≡ self.old.decoder }
+        ensures given { (t : Turn) → IsIn (λ s. (⟦<dyn Embedded as Embedded>⟧ s.boxed.vtable).content s.boxed.value) self.old t → OnOk result (self.new.out.items ≡ given t) }
+        ensures servers { (t : Turn) → IsIn (λ s. (⟦<dyn Embedded as Embedded>⟧ s.boxed.vtable).content s.boxed.value) self.old t → OnOk result (servers_of (λ s. (⟦<dyn Embedded as Embedded>⟧ s.boxed.vtable).content s.boxed.value) self.new ≡ (turned t).server ∷ []) }
+        ensures edited { OnOk result (self.new.edited.items ≡ []) }
+    {
+        self.scribble_all(alloc)?;
+        self.edited.clear();
+        push_frame(alloc, &mut self.out, &Frame::Turn)
     }
 
     /// Gives the turn back.
     fn give_turn<S: Write>(&mut self, alloc: Global, stream: &mut S) -> Result<Advance, AllocError>
         requires { IsStarted self.old }
-        ensures { IsStarted self.new }
+        ensures counted { IfOk result (λ told. Counts told self.old.turns self.old.reads self.new.turns self.new.reads) }
+        ensures started { IsStarted self.new }
+        ensures turned { (t : Turn) (fed : List ℕ) (taken : List Frame) → IsIn (λ s. (⟦<dyn Embedded as Embedded>⟧ s.boxed.vtable).content s.boxed.value) self.old t → Stands self.old.decoder fed (taken ++ frame.Turn ∷ [])
+            → IfOk result (λ told. Turns (λ s. (⟦<dyn Embedded as Embedded>⟧ s.boxed.vtable).content s.boxed.value) told self.new t fed taken (S.contents stream.old) (S.contents stream.new)) }
     {
-        self.scribble_all(alloc)?;
-        push_frame(alloc, &mut self.out, &Frame::Turn)?;
+        self.close_turn(alloc)?;
         let written = stream.write_all(&self.out);
         self.out.clear();
         self.reads = 0;
@@ -266,13 +340,16 @@ impl Serving {
             return Ok(Advance::Over);
         }
         self.turns += 1;
-        Ok(Advance::More)
+        Ok(Advance::Turned)
     }
 
     /// Reads some bytes of the link.
     fn read<S: Read>(&mut self, stream: &mut S) -> Result<Advance, AllocError>
         requires { IsStarted self.old }
-        ensures { IsStarted self.new }
+        ensures counted { IfOk result (λ told. Counts told self.old.turns self.old.reads self.new.turns self.new.reads) }
+        ensures started { IsStarted self.new }
+        ensures read { (t : Turn) (fed : List ℕ) (taken : List Frame) → IsAt (λ s. (⟦<dyn Embedded as Embedded>⟧ s.boxed.vtable).content s.boxed.value) self.old t fed taken
+            → IfOk result (λ told. Reads (λ s. (⟦<dyn Embedded as Embedded>⟧ s.boxed.vtable).content s.boxed.value) told self.new t fed taken (S.remaining stream.old) (S.remaining stream.new)) }
     {
         if self.reads >= MOST_READS {
             return Ok(Advance::Over);
@@ -287,8 +364,11 @@ impl Serving {
             return Ok(Advance::Over);
         }
         match self.decoder.feed(&piece[..n]) {
-            Err(WireFault::NoMemory) => Err(AllocError),
-            _ => Ok(Advance::More),
+            Ok(()) => Ok(Advance::Read),
+            Err(fault) => match fault {
+                WireFault::NoMemory => Err(AllocError),
+                _ => Ok(Advance::Read),
+            },
         }
     }
 
@@ -301,7 +381,10 @@ impl Serving {
         stream: &mut S,
     ) -> Result<Advance, AllocError>
         requires { IsStarted self.old }
-        ensures { IsStarted self.new }
+        ensures counted { IfOk result (λ told. Counts told self.old.turns self.old.reads self.new.turns self.new.reads) }
+        ensures started { IsStarted self.new }
+        ensures advanced { (t : Turn) (fed : List ℕ) (taken : List Frame) → IsAt (λ s. (⟦<dyn Embedded as Embedded>⟧ s.boxed.vtable).content s.boxed.value) self.old t fed taken
+            → IfOk result (λ told. Advances (λ s. (⟦<dyn Embedded as Embedded>⟧ s.boxed.vtable).content s.boxed.value) told self.new t fed taken (S.remaining stream.old) (S.remaining stream.new) (S.contents stream.old) (S.contents stream.new)) }
     {
         self.wanting = None;
         match self.decoder.next() {

@@ -1,0 +1,2 @@
+mod Noted
+mod Served

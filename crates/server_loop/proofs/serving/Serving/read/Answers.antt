@@ -1,0 +1,14 @@
+use Rattle.std.proofs.Common.{take}
+use Rattle.server_loop.proofs.Served.{fed_well, err_inside}
+use Rattle.server_loop.proofs.serving.Serving.read.Goals as goal
+
+pub returns-in_default-clause-read : goal.returns-in_default-clause-read
+returns-in_default-clause-read g c = λ t fed taken h. record {
+  piece = take c.in-Ok.n c.read.new.buf;
+  consumed = c.in-Ok.ensures.bytes.0;
+  next = record {
+    turn = record { server = h.turn.server; out = h.turn.out; edited = h.turn.edited };
+    read = fed_well c.feed.result fed (take c.in-Ok.n c.read.new.buf) taken c.feed.new.self
+        (λ e. c.in_default.not-NoMemory (err_inside c.feed.result _ _ c.in-Err-feed.is e)) (c.feed.ensures fed taken h.read);
+  };
+}
