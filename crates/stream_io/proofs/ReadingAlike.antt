@@ -26,7 +26,6 @@ directory_alike a b dir h d =
 
 pub alike_refuses : (a b : List ℕ) (fault : ReadFault) → Alike a b → MayRefuseFile b fault → MayRefuseFile a fault
 alike_refuses a b (Chain fault) h r = elim r [ inl e ↦ inl (header_alike a b h.header h.len ∙ e) | inr c ↦ inr c ]
-alike_refuses a b (Directory directory.BadEntry) h r = tt
 alike_refuses a b (Directory directory.TreeCycle) h r = tt
 alike_refuses a b (Directory fault) h r = (r.0, directory_alike a b r.0 h r.1, r.2)
 alike_refuses a b NoMemory h r = tt

@@ -12,7 +12,7 @@ use Rattle.cfb_chain.specs.Fat.{FatValue, MayRefuse, MayRefuseChain, MayRefuseFa
 use Rattle.cfb_header.specs.Header.{HeaderValue, header_read}
 use Rattle.cfb_directory.specs.Entries.{AreLinked, EntriesValue, MayRefuseChildren, MayRefuseEntry, MayRefuseLinked, MayRefuseLoad, NO_STREAM, Reaches, around, by_left, by_right, child, entry_at, here, left, nobody, right}
 use Rattle.file_model.proofs.Lists.{Contains-cons_cases}
-use Rattle.stream_io.specs.Reads.{IsBelow, IsChild, IsDirectory, IsOfChains, IsStorage, MayRefuseBelow, MayRefuseFile, MayRefuseNames, MayRefuseStorage, chain_fault, directory_fault}
+use Rattle.stream_io.specs.Reads.{IsBadEntry, IsBelow, IsChild, IsDirectory, IsOfChains, IsStorage, LeadsOutside, MayRefuseBelow, MayRefuseFile, MayRefuseNames, MayRefuseStorage, chain_fault, directory_fault}
 use Rattle.stream_io.specs.declared.fault.ReadFault.TheVariants as told
 use Rattle.stream_io.specs.declared.fault.ReadFault.{ReadFault}
 use Rattle.stream_io.specs.declared.fault.ReadFault.TheVariants.{NoMemory}
@@ -113,6 +113,12 @@ linked_child d parent n ids s l c =
     record { of_storage = s; inside = q.0; somebody = q.1; reached = q.2 }
 
 -- a fault below a child is one below its storage
+bad_below : (dir : List ℕ) (parent id levels n : ℕ) → IsChild dir parent id
+    → (IsBelow dir (suc levels) id n × IsBadEntry dir n) ⊎ (IsBelow dir levels id n × LeadsOutside dir n)
+    → (IsBelow dir (suc (suc levels)) parent n × IsBadEntry dir n) ⊎ (IsBelow dir (suc levels) parent n × LeadsOutside dir n)
+bad_below dir parent id levels n c (inl h) = inl ((id, c, h.0), h.1)
+bad_below dir parent id levels n c (inr h) = inr ((id, c, h.0), h.1)
+
 pub below_child : (dir : List ℕ) (depth parent id : ℕ) (fault : DirFault) → IsChild dir parent id → 0 < depth → MayRefuseBelow dir (depth - 1) id fault
     → MayRefuseBelow dir depth parent fault
 below_child dir depth parent id directory.NameEmpty c lt h = (suc h.0, h.1, (id, c, h.2), h.3)
@@ -123,7 +129,7 @@ below_child dir depth parent id directory.DuplicateName c lt h = (suc h.0, h.1, 
 below_child dir depth parent id directory.TooNested c lt h =
     let e : suc (depth - 1) ≡ depth = omega arith in
     (h.0, (id, c, subst (λ (d : ℕ). IsBelow dir d id h.0) e h.1), h.2)
-below_child dir depth parent id directory.BadEntry c lt h = tt
+below_child dir depth parent id directory.BadEntry c lt h = (suc h.0, h.1, bad_below dir parent id h.0 h.1 c h.2)
 below_child dir depth parent id directory.TreeCycle c lt h = tt
 below_child dir depth parent id directory.NoMemory c lt h = h
 
@@ -134,6 +140,11 @@ storage_child dir depth parent id (told.Directory fault) c lt h = below_child di
 storage_child dir depth parent id told.NoMemory c lt h = tt
 
 -- a fault of an entry is one below its storage
+bad_entry : (dir : List ℕ) (depth parent id : ℕ) → IsChild dir parent id → MayRefuseEntry dir id directory.BadEntry → MayRefuseBelow dir depth parent directory.BadEntry
+bad_entry dir depth parent id c (inl le) = absurd (omega (arith, le, c.inside))
+bad_entry dir depth parent id c (inr (inl other)) = (0, id, inl ((id, c, refl), inl other))
+bad_entry dir depth parent id c (inr (inr odd)) = (0, id, inl ((id, c, refl), inr odd.1))
+
 pub entry_below : (dir : List ℕ) (depth parent id : ℕ) (fault : DirFault) → IsChild dir parent id → MayRefuseEntry dir id fault
     → MayRefuseStorage dir depth parent (directory_fault fault)
 entry_below dir depth parent id directory.NameEmpty c h = (0, id, (id, c, refl), h.1)
@@ -141,7 +152,7 @@ entry_below dir depth parent id directory.NameTooLong c h = (0, id, (id, c, refl
 entry_below dir depth parent id directory.NameNotAscii c h = (0, id, (id, c, refl), h.1)
 entry_below dir depth parent id directory.NameForbidden c h = (0, id, (id, c, refl), h.1)
 entry_below dir depth parent id directory.DuplicateName c h = absurd h
-entry_below dir depth parent id directory.BadEntry c h = tt
+entry_below dir depth parent id directory.BadEntry c h = bad_entry dir depth parent id c h
 entry_below dir depth parent id directory.TreeCycle c h = tt
 entry_below dir depth parent id directory.TooNested c h = absurd h
 entry_below dir depth parent id directory.NoMemory c h = tt
@@ -156,27 +167,28 @@ names_below dir depth parent ids (told.Directory directory.NameTooLong) f h = en
 names_below dir depth parent ids (told.Directory directory.NameNotAscii) f h = entry_below dir depth parent h.0 directory.NameNotAscii (f h.0 h.1) h.2
 names_below dir depth parent ids (told.Directory directory.NameForbidden) f h = entry_below dir depth parent h.0 directory.NameForbidden (f h.0 h.1) h.2
 names_below dir depth parent ids (told.Directory directory.DuplicateName) f h = (0, parent, refl, (h.0, h.1, f h.0 h.2, f h.1 h.3, h.4, h.5))
-names_below dir depth parent ids (told.Directory directory.BadEntry) f h = tt
+names_below dir depth parent ids (told.Directory directory.BadEntry) f h = entry_below dir depth parent h.0 directory.BadEntry (f h.0 h.1) h.2
 names_below dir depth parent ids (told.Directory directory.TreeCycle) f h = tt
 names_below dir depth parent ids (told.Directory directory.TooNested) f h = absurd h.2
 names_below dir depth parent ids (told.Directory directory.NoMemory) f h = absurd h.2
 
 -- the faults of links
-linked_below : (e : EntriesValue) (top : ℕ) (depth id : ℕ) (fault : DirFault) → MayRefuseLinked e top fault → MayRefuseStorage e.directory depth id (directory_fault fault)
-linked_below e top depth id directory.NameEmpty h = absurd h
-linked_below e top depth id directory.NameTooLong h = absurd h
-linked_below e top depth id directory.NameNotAscii h = absurd h
-linked_below e top depth id directory.NameForbidden h = absurd h
-linked_below e top depth id directory.DuplicateName h = absurd h
-linked_below e top depth id directory.BadEntry h = tt
-linked_below e top depth id directory.TreeCycle h = tt
-linked_below e top depth id directory.TooNested h = absurd h
-linked_below e top depth id directory.NoMemory h = tt
+linked_below : (e : EntriesValue) (depth id : ℕ) (fault : DirFault) → IsStorage e.directory id → MayRefuseLinked e (child (entry_at e.directory id)) fault → MayRefuseStorage e.directory depth id (directory_fault fault)
+linked_below e depth id directory.NameEmpty s h = absurd h
+linked_below e depth id directory.NameTooLong s h = absurd h
+linked_below e depth id directory.NameNotAscii s h = absurd h
+linked_below e depth id directory.NameForbidden s h = absurd h
+linked_below e depth id directory.DuplicateName s h = absurd h
+linked_below e depth id directory.BadEntry s h = (0, id, inr (refl, (h.0, s, h.1, h.2, h.3)))
+linked_below e depth id directory.TreeCycle s h = tt
+linked_below e depth id directory.TooNested s h = absurd h
+linked_below e depth id directory.NoMemory s h = tt
 
-pub children_below : (e : EntriesValue) (depth id : ℕ) (fault : DirFault) → MayRefuseChildren e id fault → MayRefuseStorage e.directory depth id (directory_fault fault)
-children_below e depth id fault (inl h) = subst (λ (f : DirFault). MayRefuseStorage e.directory depth id (directory_fault f)) (sym h.1) tt
-children_below e depth id fault (inr (inl h)) = linked_below e (child (entry_at e.directory id)) depth id fault h
-children_below e depth id fault (inr (inr h)) = subst (λ (f : DirFault). MayRefuseStorage e.directory depth id (directory_fault f)) (sym h.1) tt
+pub children_below : (e : EntriesValue) (depth id : ℕ) (fault : DirFault) → IsStorage e.directory id → 128 * id < length e.directory → MayRefuseChildren e id fault
+    → MayRefuseStorage e.directory depth id (directory_fault fault)
+children_below e depth id fault s lt (inl h) = absurd (omega (arith, lt, h.0))
+children_below e depth id fault s lt (inr (inl h)) = linked_below e depth id fault s h
+children_below e depth id fault s lt (inr (inr h)) = subst (λ (f : DirFault). MayRefuseStorage e.directory depth id (directory_fault f)) (sym h.1) tt
 
 -- ---- of the whole file
 pub file_chain : (file : List ℕ) (fault : ChainFault) → (fault ≡ chain.NoMemory) ⊎ IsOfChains fault → MayRefuseFile file (chain_fault fault)
@@ -197,7 +209,7 @@ file_storage file dir (told.Directory directory.NameTooLong) d h = (dir, d, h)
 file_storage file dir (told.Directory directory.NameNotAscii) d h = (dir, d, h)
 file_storage file dir (told.Directory directory.NameForbidden) d h = (dir, d, h)
 file_storage file dir (told.Directory directory.DuplicateName) d h = (dir, d, h)
-file_storage file dir (told.Directory directory.BadEntry) d h = tt
+file_storage file dir (told.Directory directory.BadEntry) d h = (dir, d, inr (inr h))
 file_storage file dir (told.Directory directory.TreeCycle) d h = tt
 file_storage file dir (told.Directory directory.TooNested) d h = (dir, d, h)
 file_storage file dir (told.Directory directory.NoMemory) d h = absurd h
@@ -214,24 +226,29 @@ file_header file chain.ShortChain h = inl (sym h)
 file_header file chain.TooBig h = inl (sym h)
 file_header file chain.NoMemory h = tt
 
-pub file_load : (file dir : List ℕ) (fault : DirFault) → MayRefuseLoad dir fault → MayRefuseFile file (directory_fault fault)
-file_load file dir directory.NameEmpty h = absurd h
-file_load file dir directory.NameTooLong h = absurd h
-file_load file dir directory.NameNotAscii h = absurd h
-file_load file dir directory.NameForbidden h = absurd h
-file_load file dir directory.DuplicateName h = absurd h
-file_load file dir directory.BadEntry h = tt
-file_load file dir directory.TreeCycle h = tt
-file_load file dir directory.TooNested h = absurd h
-file_load file dir directory.NoMemory h = tt
+pub file_load : (file dir : List ℕ) (fault : DirFault) → IsDirectory file dir → MayRefuseLoad dir fault → MayRefuseFile file (directory_fault fault)
+file_load file dir directory.NameEmpty d h = absurd h
+file_load file dir directory.NameTooLong d h = absurd h
+file_load file dir directory.NameNotAscii d h = absurd h
+file_load file dir directory.NameForbidden d h = absurd h
+file_load file dir directory.DuplicateName d h = absurd h
+file_load file dir directory.BadEntry d h = (dir, d, inl h)
+file_load file dir directory.TreeCycle d h = absurd h
+file_load file dir directory.TooNested d h = absurd h
+file_load file dir directory.NoMemory d h = tt
 
-pub file_root : (file dir : List ℕ) (fault : DirFault) → MayRefuseEntry dir 0 fault → MayRefuseFile file (directory_fault fault)
-file_root file dir directory.NameEmpty h = absurd (h.0 refl)
-file_root file dir directory.NameTooLong h = absurd (h.0 refl)
-file_root file dir directory.NameNotAscii h = absurd (h.0 refl)
-file_root file dir directory.NameForbidden h = absurd (h.0 refl)
-file_root file dir directory.DuplicateName h = absurd h
-file_root file dir directory.BadEntry h = tt
-file_root file dir directory.TreeCycle h = tt
-file_root file dir directory.TooNested h = absurd h
-file_root file dir directory.NoMemory h = tt
+bad_root : (file dir : List ℕ) → IsDirectory file dir → MayRefuseEntry dir 0 directory.BadEntry → MayRefuseFile file (told.Directory directory.BadEntry)
+bad_root file dir d (inl le) = (dir, d, inl (omega (arith, le)))
+bad_root file dir d (inr (inl other)) = (dir, d, inr (inl other))
+bad_root file dir d (inr (inr odd)) = absurd (odd.0 refl)
+
+pub file_root : (file dir : List ℕ) (fault : DirFault) → IsDirectory file dir → MayRefuseEntry dir 0 fault → MayRefuseFile file (directory_fault fault)
+file_root file dir directory.NameEmpty d h = absurd (h.0 refl)
+file_root file dir directory.NameTooLong d h = absurd (h.0 refl)
+file_root file dir directory.NameNotAscii d h = absurd (h.0 refl)
+file_root file dir directory.NameForbidden d h = absurd (h.0 refl)
+file_root file dir directory.DuplicateName d h = absurd h
+file_root file dir directory.BadEntry d h = bad_root file dir d h
+file_root file dir directory.TreeCycle d h = absurd h
+file_root file dir directory.TooNested d h = absurd h
+file_root file dir directory.NoMemory d h = absurd h

@@ -1,5 +1,5 @@
 -- How a file is read, and which files are refused.
-use Rattle.std.specs.Prelude.{◌≡◌, ◌≢◌, ◌↔◌, ◌⊎◌, ◌<◌, ◌-◌, ◌*◌, ℕ, zero, suc, true, List, [], ◌∷◌, map, take, length, if◌then◌else◌, nat_lt, Err, codes}
+use Rattle.std.specs.Prelude.{◌≡◌, ◌≢◌, ◌↔◌, ◌⊎◌, ◌<◌, ◌≤◌, ◌-◌, ◌*◌, ℕ, zero, suc, true, List, [], ◌∷◌, map, take, length, if◌then◌else◌, nat_lt, Err, codes}
 use Rattle.std.specs.List.{Contains}
 use Rattle.std.specs.List.Sorted.{IsStrictlySortedBy}
 use Rattle.cfb_header.specs.Bytes.{joined, sector}
@@ -11,7 +11,7 @@ use Rattle.cfb_header.specs.declared.fault.ChainFault.{ChainFault}
 use Rattle.cfb_header.specs.declared.fault.ChainFault.TheVariants as chain
 use Rattle.cfb_names.specs.Faults.{name_of_fault}
 use Rattle.cfb_names.specs.Names.{IsName, is_forbidden, key, key_cmp}
-use Rattle.cfb_directory.specs.Entries.{AreFree, AreLinked, EntriesValue, IsNamed, MayRefuseEntry, NO_STREAM, Reaches, child, class_of, entry_at, first_of, kind, marked, name_length, name_of, size_of, state_of}
+use Rattle.cfb_directory.specs.Entries.{AreFree, AreLinked, EntriesValue, IsKindOf, IsNamed, MayRefuseEntry, NO_STREAM, Reaches, child, class_of, entry_at, first_of, kind, marked, name_length, name_of, size_of, state_of}
 use Rattle.cfb_names.specs.declared.fault.DirFault.{DirFault}
 use Rattle.cfb_names.specs.declared.fault.DirFault.TheVariants as directory
 use Rattle.storage_tree.specs.Change.{Seen, bytes, inner, place}
@@ -149,8 +149,15 @@ abbrev pub IsBelow : List ℕ → ℕ → ℕ → ℕ → Type 0
 IsBelow dir zero top id = id ≡ top
 IsBelow dir (suc levels) top id = (n : ℕ) × IsChild dir top n × IsBelow dir levels n id
 
--- When a fault of names, or of storages inside one another, may be answered for what stands below an entry that may have
--- so many levels.
+-- an entry of another kind than it may have, or whose name's length is odd
+abbrev pub IsBadEntry : List ℕ → ℕ → Type 0
+IsBadEntry dir id = (IsKindOf id (kind (entry_at dir id)) → ⊥) ⊎ ((k : ℕ) → name_length (entry_at dir id) ≢ 2 * k)
+
+-- a storage from whose child links lead outside the directory
+abbrev pub LeadsOutside : List ℕ → ℕ → Type 0
+LeadsOutside dir id = (n : ℕ) × IsStorage dir id × Reaches dir (child (entry_at dir id)) n × (n ≢ NO_STREAM) × (length dir ≤ 128 * n)
+
+-- When a fault of the directory may be answered for what stands below an entry that may have so many levels.
 abbrev pub MayRefuseBelow : List ℕ → ℕ → ℕ → DirFault → Type 0
 MayRefuseBelow dir depth top directory.NameEmpty = (levels : ℕ) × (id : ℕ) × IsBelow dir (suc levels) top id × (name_length (entry_at dir id) < 4)
 MayRefuseBelow dir depth top directory.NameTooLong = (levels : ℕ) × (id : ℕ) × IsBelow dir (suc levels) top id × (64 < name_length (entry_at dir id))
@@ -161,7 +168,8 @@ MayRefuseBelow dir depth top directory.NameForbidden = (levels : ℕ) × (id : �
 MayRefuseBelow dir depth top directory.DuplicateName = (levels : ℕ) × (id : ℕ) × IsBelow dir levels top id
     × ((m : ℕ) × (n : ℕ) × IsChild dir id m × IsChild dir id n × (m ≢ n) × (key_at dir m ≡ key_at dir n))
 MayRefuseBelow dir depth top directory.TooNested = (id : ℕ) × IsBelow dir (suc depth) top id × (kind (entry_at dir id) ≡ 1)
-MayRefuseBelow dir depth top directory.BadEntry = Unit {0}
+MayRefuseBelow dir depth top directory.BadEntry = (levels : ℕ) × (id : ℕ)
+    × ((IsBelow dir (suc levels) top id × IsBadEntry dir id) ⊎ (IsBelow dir levels top id × LeadsOutside dir id))
 MayRefuseBelow dir depth top directory.TreeCycle = Unit {0}
 MayRefuseBelow dir depth top directory.NoMemory = ⊥
 
@@ -190,11 +198,13 @@ abbrev pub DEEPEST : ℕ
 DEEPEST = 32
 
 -- When a fault may be answered for a file: one of the header where the header is refused for it, one of names where an
--- entry that links reach from the root has such a name, or two siblings have one name, and `TooNested` where a storage
--- so reached stands inside too many others.
+-- entry that links reach from the root has such a name, or two siblings have one name, `TooNested` where a storage so
+-- reached stands inside too many others, and `BadEntry` where there is no root, where links lead outside the directory, or
+-- where an entry so reached is bad. No condition yet: `OutOfFile`, `Cycle`, `CrossLinked`, `ShortChain`, `TreeCycle`.
 abbrev pub MayRefuseFile : List ℕ → ReadFault → Type 0
 MayRefuseFile file (Chain fault) = (header_read file ≡ Err fault) ⊎ IsOfChains fault
-MayRefuseFile file (Directory directory.BadEntry) = Unit {0}
+MayRefuseFile file (Directory directory.BadEntry) = (dir : List ℕ) × IsDirectory file dir
+    × ((length dir < 128) ⊎ (kind (entry_at dir 0) ≢ 5) ⊎ MayRefuseBelow dir DEEPEST 0 directory.BadEntry)
 MayRefuseFile file (Directory directory.TreeCycle) = Unit {0}
 MayRefuseFile file (Directory fault) = (dir : List ℕ) × IsDirectory file dir × MayRefuseBelow dir DEEPEST 0 fault
 MayRefuseFile file NoMemory = Unit {0}

@@ -158,13 +158,30 @@ returns-in_err-directory-clause-refused c =
 
 pub returns-in_err-entries-clause-refused : goal.returns-in_err-entries-clause-refused
 returns-in_err-entries-clause-refused c =
-    refused_with c.from_residual-in_err-entries.result (directory_fault c.in_err-entries.field-0.0) (MayRefuseFile (image_bytes c.args.file)) c.from_residual-in_err-entries.ensures.1
-    (file_load (image_bytes c.args.file) c.bytes.result.now c.in_err-entries.field-0.0 c.in_err-entries.ensures.refused)
+    let file : List ℕ = image_bytes c.args.file in
+    let h : HeaderValue = c.args.header.now in
+    let is_header : IsHeader file = c.requires.whole in
+    let is : h ≡ header_of file = read_header file h is_header (sym c.requires.read) in
+    let o : IsOpened file c.chain.new.self c.in_ok-chain.chain.items c.bytes.result.now =
+    opened_at file h c.in_ok-fat.fat c.chain.new.self c.first_directory.result c.in_ok-chain.chain.items c.deref.result.now (directory_bytes c.in_ok-directory.directory)
+    c.bytes.result.now is c.in_ok-fat.ensures.table c.first_directory.ensures c.in_ok-chain.ensures.linked c.in_ok-chain.ensures.free c.in_ok-chain.ensures.marks
+    c.deref.ensures.value c.in_ok-directory.ensures.bytes c.bytes.ensures in
+    refused_with c.from_residual-in_err-entries.result (directory_fault c.in_err-entries.field-0.0) (MayRefuseFile file) c.from_residual-in_err-entries.ensures.1
+    (file_load file c.bytes.result.now c.in_err-entries.field-0.0 (directory_is file c.chain.new.self c.in_ok-chain.chain.items c.bytes.result.now o) c.in_err-entries.ensures.refused)
 
 pub returns-in_err-root-clause-refused : goal.returns-in_err-root-clause-refused
 returns-in_err-root-clause-refused c =
-    refused_with c.from_residual-in_err-root.result (directory_fault c.in_err-root.field-0.0) (MayRefuseFile (image_bytes c.args.file)) c.from_residual-in_err-root.ensures.1
-    (file_root (image_bytes c.args.file) c.in_ok-entries.entries.directory c.in_err-root.field-0.0 c.in_err-root.ensures.refused)
+    let file : List ℕ = image_bytes c.args.file in
+    let h : HeaderValue = c.args.header.now in
+    let e : EntriesValue = c.in_ok-entries.entries in
+    let is_header : IsHeader file = c.requires.whole in
+    let is : h ≡ header_of file = read_header file h is_header (sym c.requires.read) in
+    let o : IsOpened file c.chain.new.self c.in_ok-chain.chain.items e.directory =
+    opened_at file h c.in_ok-fat.fat c.chain.new.self c.first_directory.result c.in_ok-chain.chain.items c.deref.result.now (directory_bytes c.in_ok-directory.directory)
+    e.directory is c.in_ok-fat.ensures.table c.first_directory.ensures c.in_ok-chain.ensures.linked c.in_ok-chain.ensures.free c.in_ok-chain.ensures.marks
+    c.deref.ensures.value c.in_ok-directory.ensures.bytes (ap (λ (x : EntriesValue). x.directory) c.in_ok-entries.ensures.loaded ∙ c.bytes.ensures) in
+    refused_with c.from_residual-in_err-root.result (directory_fault c.in_err-root.field-0.0) (MayRefuseFile file) c.from_residual-in_err-root.ensures.1
+    (file_root file e.directory c.in_err-root.field-0.0 (directory_is file c.chain.new.self c.in_ok-chain.chain.items e.directory o) c.in_err-root.ensures.refused)
 
 pub returns-in_err-mini-clause-refused : goal.returns-in_err-mini-clause-refused
 returns-in_err-mini-clause-refused c =

@@ -18,7 +18,7 @@ returns-in_err-ids-clause-there c = λ depth t new h.
 pub returns-in_err-ids-clause-refused : goal.returns-in_err-ids-clause-refused
 returns-in_err-ids-clause-refused c = λ depth s.
     refused_with c.from_residual.result (directory_fault c.in_err-ids.field-0.0) (MayRefuseStorage (directory_in c.args.self.now) depth c.args.id) c.from_residual.ensures.1
-    (children_below c.args.self.now.entries depth c.args.id c.in_err-ids.field-0.0 c.in_err-ids.ensures.refused)
+    (children_below c.args.self.now.entries depth c.args.id c.in_err-ids.field-0.0 s c.requires.inside c.in_err-ids.ensures.refused)
 
 pub returns-in_err-sorted-clause-there : goal.returns-in_err-sorted-clause-there
 returns-in_err-sorted-clause-there c = λ depth t new h.
