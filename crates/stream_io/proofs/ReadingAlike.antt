@@ -21,7 +21,7 @@ use Rattle.stream_io.specs.declared.fault.ReadFault.TheVariants.{Chain, Director
 use Rattle.stream_io.proofs.ReadingChains.{Agree, AreAgreed, agree_links, below_carried, fault_carried, stream_carried}
 
 -- the bytes of its directory are those of the other's
-pub directory_alike : (a b dir : List ℕ) → Alike a b → IsDirectory b dir → IsDirectory a dir
+abbrev pub directory_alike : (a b dir : List ℕ) → Alike a b → IsDirectory b dir → IsDirectory a dir
 directory_alike a b dir h d =
     let back : Alike b a = alike_back a b h in
     let chain : IsChain (sectors_of a (listed a)) (first_directory a) 0 d.sectors = directory_chain_back a b h d.sectors d.is_chain in
@@ -67,12 +67,15 @@ module _ (a b : List ℕ) (h : Alike a b) where
   fat_fault chain.TooBig q = absurd q
   fat_fault chain.NoMemory q = absurd q
 
-  chain_fault_at : (start bytes start' bytes' : ℕ) (fault : ChainFault) → start ≡ start' → bytes ≡ bytes'
-      → IsChainAtFault (sectors_of a (listed a)) start bytes fault → IsChainAtFault (sectors_of b (listed b)) start' bytes' fault
-  chain_fault_at start bytes start' bytes' fault s l q =
-      subst (λ (x : ℕ). IsChainAtFault (sectors_of b (listed b)) start' x fault) l
-      (subst (λ (x : ℕ). IsChainAtFault (sectors_of b (listed b)) x bytes fault) s
-      (fault_carried (sectors_of a (listed a)) (sectors_of b (listed b)) agreed start bytes fault q))
+  chain_fault_at : (xs ys : List ℕ) (start size start' size' : ℕ) (fault : ChainFault) → xs ≡ ys → start ≡ start' → size ≡ size'
+      → IsChainAtFault (sectors_of a (listed a)) (Contains xs) start size fault → IsChainAtFault (sectors_of b (listed b)) (Contains ys) start' size' fault
+  chain_fault_at xs ys start size start' size' fault e s l q =
+      subst (λ (x : ℕ). IsChainAtFault (sectors_of b (listed b)) (Contains ys) start' x fault) l
+      (subst (λ (x : ℕ). IsChainAtFault (sectors_of b (listed b)) (Contains ys) x size fault) s
+      (fault_carried (sectors_of a (listed a)) (sectors_of b (listed b)) agreed (Contains xs) (Contains ys) (λ n c. subst (λ (zs : List ℕ). Contains zs n) e c) start size fault q))
+
+  both_same : listed a ++ difat a ≡ listed b ++ difat b
+  both_same = λ i. lists_same i ++ difat_same i
 
   -- ---- a layout of the first is one of the other
   module _ (l : Layout) (laid : IsLaidOut a l) where
@@ -124,13 +127,19 @@ module _ (a b : List ℕ) (h : Alike a b) where
   file_fault fault (in_header e) = in_header (sym (header_alike a b h.header h.len) ∙ e)
   file_fault fault (in_fat q) = in_fat (fat_fault fault q)
   file_fault fault (in_directory q) =
-      in_directory (chain_fault_at (first_directory a) 0 (first_directory b) 0 fault (ap (λ (v : HeaderValue). v.first_directory) header_same) refl q)
-  file_fault fault (in_mini_fat q) =
-      in_mini_fat (chain_fault_at (first_mini_fat a) (512 * mini_fat_count a) (first_mini_fat b) (512 * mini_fat_count b) fault
-      (ap (λ (v : HeaderValue). v.first_mini_fat) header_same) (ap (λ (v : HeaderValue). 512 * v.mini_fat_count) header_same) q)
-  file_fault fault (in_mini_stream dir d some q) =
-      in_mini_stream dir (directory_alike b a dir (alike_back a b h) d) some
-      (chain_fault_at (first_of (entry_at dir 0)) (size_of (entry_at dir 0)) (first_of (entry_at dir 0)) (size_of (entry_at dir 0)) fault refl refl q)
+      in_directory (chain_fault_at (listed a ++ difat a) (listed b ++ difat b) (first_directory a) 0 (first_directory b) 0 fault both_same
+      (ap (λ (v : HeaderValue). v.first_directory) header_same) refl q)
+  file_fault fault (in_mini_fat dir d q) =
+      in_mini_fat dir (directory_alike b a dir (alike_back a b h) d)
+      (chain_fault_at (listed a ++ difat a ++ d.sectors) (listed b ++ difat b ++ d.sectors) (first_mini_fat a) (512 * mini_fat_count a) (first_mini_fat b) (512 * mini_fat_count b) fault
+      (λ i. both_same i ++ d.sectors) (ap (λ (v : HeaderValue). v.first_mini_fat) header_same) (ap (λ (v : HeaderValue). 512 * v.mini_fat_count) header_same) q)
+  file_fault fault (in_mini_stream dir d mini_fat lies some q) =
+      in_mini_stream dir (directory_alike b a dir (alike_back a b h) d) mini_fat
+      (subst (λ (v : HeaderValue). IsChainOf (sectors_of b (listed b)) v.first_mini_fat (512 * v.mini_fat_count) mini_fat) header_same
+      (chain_of_carried (sectors_of a (listed a)) (sectors_of b (listed b)) links_same (first_mini_fat a) (512 * mini_fat_count a) mini_fat lies))
+      some
+      (chain_fault_at (listed a ++ difat a ++ d.sectors ++ mini_fat) (listed b ++ difat b ++ d.sectors ++ mini_fat) (first_of (entry_at dir 0)) (size_of (entry_at dir 0))
+      (first_of (entry_at dir 0)) (size_of (entry_at dir 0)) fault (λ i. both_same i ++ d.sectors ++ mini_fat) refl refl q)
   file_fault fault (in_stream l laid levels id below q) =
       in_stream l (laid_same l laid) levels id (below_carried (base_in a l) (base_in b l) (base_same l laid) (suc levels) 0 id below)
       (stream_carried (base_in a l) (base_in b l) (base_same l laid) id fault q)

@@ -10,7 +10,7 @@ use Rattle.stream_io.specs.declared.read.Reader.{Reader}
 use Rattle.stream_io.proofs.ReadingChains.{AreAgreed, agree_same, below_carried, stream_carried}
 use Rattle.stream_io.proofs.ReadingFile.{IsOpened, IsReady}
 
-pub directory_is : (file : List ℕ) (fat : FatValue) (sectors bytes : List ℕ) → IsOpened file fat sectors bytes → IsDirectory file bytes
+abbrev pub directory_is : (file : List ℕ) (fat : FatValue) (sectors bytes : List ℕ) → IsOpened file fat sectors bytes → IsDirectory file bytes
 directory_is file fat sectors bytes o = record { is_fat = o.is_fat; sectors = sectors; is_chain = o.chain; bytes_are = o.bytes_are }
 
 -- the storage of the root is refused

@@ -13,7 +13,7 @@ use Rattle.cfb_chain.specs.Fat.{FatValue, IsFound, MayRefuse, store_of}
 use Rattle.cfb_header.specs.Header.{header_read}
 use Rattle.cfb_directory.specs.Entries.{AreLinked, MayRefuseChildren, MayRefuseEntry, MayRefuseLinked, MayRefuseLoad, NO_STREAM, Reaches, around, by_left, by_right, child, entry_at, first_of, here, kind, left, nobody, right, size_of}
 use Rattle.file_model.proofs.Lists.{Contains-cons_cases}
-use Rattle.stream_io.specs.Reads.{Base, IsBadEntry, IsBelow, IsChainAtFault, IsChild, IsDirectory, IsFileAtFault, IsStorage, IsStreamAtFault, LeadsOutside, MayRefuseBelow, MayRefuseFile, MayRefuseNames, MayRefusePlace, MayRefuseStorage, base_of, chain_fault, directory_fault, directory_in, in_header, store_in}
+use Rattle.stream_io.specs.Reads.{Base, IsBadEntry, IsBelow, IsChainAtFault, IsChild, IsDirectory, IsFileAtFault, IsStorage, IsStreamAtFault, LeadsOutside, MayRefuseBelow, MayRefuseFile, MayRefuseNames, MayRefusePlace, MayRefuseStorage, Untold, base_of, chain_fault, directory_fault, directory_in, in_header, store_in}
 use Rattle.stream_io.specs.declared.read.Reader.{Reader}
 use Rattle.stream_io.proofs.ReadingChains.{chain_refused, none_found}
 use Rattle.stream_io.specs.declared.fault.ReadFault.TheVariants as told
@@ -47,7 +47,7 @@ never_ok P Q (Err e) h = tt
 -- ---- what a refusal says of the file
 -- the fault of a chain, told of the place where it begins
 pub place_refused : (b : Base) (first size : ℕ) (fault : ChainFault) → fault ≢ chain.NoMemory → 0 < size
-    → (fault ≡ chain.NoMemory) ⊎ IsChainAtFault (store_in b size) first size fault → MayRefusePlace b first size (chain_fault fault)
+    → (fault ≡ chain.NoMemory) ⊎ IsChainAtFault (store_in b size) Untold first size fault → MayRefusePlace b first size (chain_fault fault)
 place_refused b first size chain.Truncated ne lt h = elim h [ inl e ↦ absurd (cc e) | inr r ↦ (lt, r) ]
 place_refused b first size chain.BadSignature ne lt h = elim h [ inl e ↦ absurd (cc e) | inr r ↦ (lt, r) ]
 place_refused b first size (chain.Unsupported n) ne lt h = elim h [ inl e ↦ absurd (cc e) | inr r ↦ (lt, r) ]
@@ -67,27 +67,27 @@ some_bytes f start (suc size) fault ne found = omega arith
 pub mini_place : (b : Base) (f : FatValue) (first size : ℕ) (fault : ChainFault) → b.minis ≡ store_of f → nat_lt size 4096 ≡ true → fault ≢ chain.NoMemory
     → ((ns : List ℕ) → IsFound f first size ns → fault ≡ chain.NoMemory) → MayRefuse f first size fault → MayRefusePlace b first size (chain_fault fault)
 mini_place b f first size fault same short ne found h =
-    let here : (fault ≡ chain.NoMemory) ⊎ IsChainAtFault b.minis first size fault =
-    subst (λ (s : Store). (fault ≡ chain.NoMemory) ⊎ IsChainAtFault s first size fault) (sym same) (chain_refused f first size fault h) in
+    let here : (fault ≡ chain.NoMemory) ⊎ IsChainAtFault b.minis Untold first size fault =
+    subst (λ (s : Store). (fault ≡ chain.NoMemory) ⊎ IsChainAtFault s Untold first size fault) (sym same) (chain_refused f Untold (λ n l m. tt) first size fault h) in
     place_refused b first size fault ne (some_bytes f first size fault ne found)
-    (subst (λ (t : Bool). (fault ≡ chain.NoMemory) ⊎ IsChainAtFault (if t then b.minis else b.sectors) first size fault) (sym short) here)
+    (subst (λ (t : Bool). (fault ≡ chain.NoMemory) ⊎ IsChainAtFault (if t then b.minis else b.sectors) Untold first size fault) (sym short) here)
 
 pub long_place : (b : Base) (f : FatValue) (first size : ℕ) (fault : ChainFault) → b.sectors ≡ store_of f → nat_lt size 4096 ≡ false → fault ≢ chain.NoMemory
     → ((ns : List ℕ) → IsFound f first size ns → fault ≡ chain.NoMemory) → MayRefuse f first size fault → MayRefusePlace b first size (chain_fault fault)
 long_place b f first size fault same long ne found h =
-    let here : (fault ≡ chain.NoMemory) ⊎ IsChainAtFault b.sectors first size fault =
-    subst (λ (s : Store). (fault ≡ chain.NoMemory) ⊎ IsChainAtFault s first size fault) (sym same) (chain_refused f first size fault h) in
+    let here : (fault ≡ chain.NoMemory) ⊎ IsChainAtFault b.sectors Untold first size fault =
+    subst (λ (s : Store). (fault ≡ chain.NoMemory) ⊎ IsChainAtFault s Untold first size fault) (sym same) (chain_refused f Untold (λ n l m. tt) first size fault h) in
     place_refused b first size fault ne (some_bytes f first size fault ne found)
-    (subst (λ (t : Bool). (fault ≡ chain.NoMemory) ⊎ IsChainAtFault (if t then b.minis else b.sectors) first size fault) (sym long) here)
+    (subst (λ (t : Bool). (fault ≡ chain.NoMemory) ⊎ IsChainAtFault (if t then b.minis else b.sectors) Untold first size fault) (sym long) here)
 
 -- the stream of a child
 pub stream_below : (b : Base) (depth parent id first size : ℕ) (fault : ReadFault) → IsChild b.directory parent id → kind (entry_at b.directory id) ≡ 2
     → first ≡ first_of (entry_at b.directory id) → size ≡ size_of (entry_at b.directory id) → MayRefusePlace b first size fault → MayRefuseStorage b depth parent fault
 stream_below b depth parent id first size (told.Chain fault) c k f s h =
     let entry : List ℕ = entry_at b.directory id in
-    let here : IsChainAtFault (store_in b (size_of entry)) (first_of entry) (size_of entry) fault =
-    subst (λ (x : ℕ). IsChainAtFault (store_in b (size_of entry)) x (size_of entry) fault) f
-    (subst (λ (x : ℕ). IsChainAtFault (store_in b x) first x fault) s h.1) in
+    let here : IsChainAtFault (store_in b (size_of entry)) Untold (first_of entry) (size_of entry) fault =
+    subst (λ (x : ℕ). IsChainAtFault (store_in b (size_of entry)) Untold x (size_of entry) fault) f
+    (subst (λ (x : ℕ). IsChainAtFault (store_in b x) Untold first x fault) s h.1) in
     let at : IsStreamAtFault b id fault = record { kind_is = k; some = subst (λ (x : ℕ). 0 < x) s h.0; at_fault = here } in
     (0, id, (id, c, refl), at)
 stream_below b depth parent id first size (told.Directory fault) c k f s h = absurd h

@@ -3,7 +3,7 @@ use Rattle.std.specs.Prelude.{◌≡◌, ◌≢◌, ◌↔◌, ◌⊎◌, ◌<�
 use Rattle.std.specs.List.{All, Contains}
 use Rattle.std.specs.List.Sorted.{IsStrictlySortedBy}
 use Rattle.cfb_header.specs.Bytes.{joined, sector}
-use Rattle.cfb_chain.specs.Chain.{AreDistinct, END_OF_CHAIN, IsChain, IsPresent, Leads, Store}
+use Rattle.cfb_chain.specs.Chain.{AreDistinct, END_OF_CHAIN, IsChain, IsChainOf, IsPresent, Leads, Store}
 use Rattle.cfb_header.specs.Fault.{name_of as name_of_chain}
 use Rattle.cfb_chain.specs.Fat.{FatValue, IsFat, IsFound, marked as sectors_marked, sectors_of, store_of}
 use Rattle.cfb_header.specs.Header.{difat, fat_count, first_directory, first_mini_fat, header_of, header_read, listed, mini_fat_count}
@@ -179,14 +179,19 @@ pub record Walks (s : Store) (start : ℕ) (ns : List ℕ) (last : ℕ) : Type 0
   pub linked : Leads s.next start ns last
   pub present : All (λ n. n < s.count) ns
 
--- What is wrong with the chain from a sector, which needs room for some bytes: it leads out of the store, it comes back to
--- a sector of its own, or it ends before there is room. `CrossLinked` says only that it leads to a sector that is there.
-abbrev pub IsChainAtFault : Store → ℕ → ℕ → ChainFault → Type 0
-IsChainAtFault s start size chain.OutOfFile = (ns : List ℕ) × (last : ℕ) × Walks s start ns last × (last ≢ END_OF_CHAIN) × (s.count ≤ last)
-IsChainAtFault s start size chain.Cycle = (ns : List ℕ) × (last : ℕ) × Walks s start ns last × Contains ns last
-IsChainAtFault s start size chain.CrossLinked = (ns : List ℕ) × (last : ℕ) × Walks s start ns last × (last < s.count)
-IsChainAtFault s start size chain.ShortChain = (ns : List ℕ) × Walks s start ns END_OF_CHAIN × (s.width * length ns < size)
-IsChainAtFault s start size _ = ⊥
+-- What is wrong with the chain from a sector, which needs room for some bytes, where some sectors are taken by other parts:
+-- it leads out of the store, it comes back to a sector of its own, it leads to one that is taken, or it ends before there
+-- is room.
+abbrev pub IsChainAtFault : Store → (ℕ → Type 0) → ℕ → ℕ → ChainFault → Type 0
+IsChainAtFault s taken start size chain.OutOfFile = (ns : List ℕ) × (last : ℕ) × Walks s start ns last × (last ≢ END_OF_CHAIN) × (s.count ≤ last)
+IsChainAtFault s taken start size chain.Cycle = (ns : List ℕ) × (last : ℕ) × Walks s start ns last × Contains ns last
+IsChainAtFault s taken start size chain.CrossLinked = (ns : List ℕ) × (last : ℕ) × Walks s start ns last × (last < s.count) × taken last
+IsChainAtFault s taken start size chain.ShortChain = (ns : List ℕ) × Walks s start ns END_OF_CHAIN × (s.width * length ns < size)
+IsChainAtFault s taken start size _ = ⊥
+
+-- which sectors other parts have isn't told yet of streams
+abbrev pub Untold : ℕ → Type 0
+Untold n = Unit {0}
 
 -- What storages are read from: the directory, the sectors and the mini sectors of a file.
 pub record Base : Type 0 where
@@ -206,7 +211,7 @@ store_in b size = if nat_lt size CUTOFF then b.minis else b.sectors
 
 -- when a fault may be answered for the stream of a size that begins at a sector; it takes no memory to find it
 abbrev pub MayRefusePlace : Base → ℕ → ℕ → ReadFault → Type 0
-MayRefusePlace b first size (Chain fault) = (0 < size) × IsChainAtFault (store_in b size) first size fault
+MayRefusePlace b first size (Chain fault) = (0 < size) × IsChainAtFault (store_in b size) Untold first size fault
 MayRefusePlace b first size (Directory fault) = ⊥
 MayRefusePlace b first size NoMemory = ⊥
 
@@ -214,7 +219,7 @@ MayRefusePlace b first size NoMemory = ⊥
 pub record IsStreamAtFault (b : Base) (id : ℕ) (fault : ChainFault) : Type 0 where
   pub kind_is : kind (entry_at b.directory id) ≡ 2
   pub some : 0 < size_of (entry_at b.directory id)
-  pub at_fault : IsChainAtFault (store_in b (size_of (entry_at b.directory id))) (first_of (entry_at b.directory id)) (size_of (entry_at b.directory id)) fault
+  pub at_fault : IsChainAtFault (store_in b (size_of (entry_at b.directory id))) Untold (first_of (entry_at b.directory id)) (size_of (entry_at b.directory id)) fault
 
 -- when a fault may be answered for a storage that may have so many levels below it
 abbrev pub MayRefuseStorage : Base → ℕ → ℕ → ReadFault → Type 0
@@ -243,22 +248,26 @@ IsFatAtFault file chain.ShortChain = length (listed file) < fat_count file
 IsFatAtFault file _ = ⊥
 
 -- The part of a file that is at fault: the header, the FAT, or one of those that lie in chains, which are the directory, the
--- mini FAT, the mini stream, and the stream of an entry that links reach from the root.
+-- mini FAT, the mini stream, and the stream of an entry that links reach from the root. What those before it lie in is taken.
 pub data IsFileAtFault (file : List ℕ) (fault : ChainFault) : Type 0 where
   in_header : header_read file ≡ Err fault → IsFileAtFault file fault
   in_fat : IsFatAtFault file fault → IsFileAtFault file fault
-  in_directory : IsChainAtFault (sectors_of file (listed file)) (first_directory file) 0 fault → IsFileAtFault file fault
-  in_mini_fat : IsChainAtFault (sectors_of file (listed file)) (first_mini_fat file) (512 * mini_fat_count file) fault → IsFileAtFault file fault
-  in_mini_stream : (dir : List ℕ) → IsDirectory file dir → 0 < size_of (entry_at dir 0)
-      → IsChainAtFault (sectors_of file (listed file)) (first_of (entry_at dir 0)) (size_of (entry_at dir 0)) fault → IsFileAtFault file fault
+  in_directory : IsChainAtFault (sectors_of file (listed file)) (Contains (listed file ++ difat file)) (first_directory file) 0 fault → IsFileAtFault file fault
+  in_mini_fat : (dir : List ℕ) (d : IsDirectory file dir)
+      → IsChainAtFault (sectors_of file (listed file)) (Contains (listed file ++ difat file ++ d.sectors)) (first_mini_fat file) (512 * mini_fat_count file) fault
+      → IsFileAtFault file fault
+  in_mini_stream : (dir : List ℕ) (d : IsDirectory file dir) (mini_fat : List ℕ)
+      → IsChainOf (sectors_of file (listed file)) (first_mini_fat file) (512 * mini_fat_count file) mini_fat → 0 < size_of (entry_at dir 0)
+      → IsChainAtFault (sectors_of file (listed file)) (Contains (listed file ++ difat file ++ d.sectors ++ mini_fat)) (first_of (entry_at dir 0)) (size_of (entry_at dir 0)) fault
+      → IsFileAtFault file fault
   in_stream : (l : Layout) → IsLaidOut file l → (levels id : ℕ) → IsBelow (directory_of file l) (suc levels) 0 id → IsStreamAtFault (base_in file l) id fault
       → IsFileAtFault file fault
 
 -- When a fault may be answered for a file: one of the header where the header is refused for it, one of chains where a part
 -- has a chain so at fault, one of names where an entry that links reach from the root has such a name, or two siblings have
 -- one name, `TooNested` where a storage so reached stands inside too many others, and `BadEntry` where there is no root,
--- where links lead outside the directory, or where an entry so reached is bad. `CrossLinked` has no condition yet but where
--- the FAT is at fault, and `TreeCycle` has none.
+-- where links lead outside the directory, or where an entry so reached is bad. Of a stream `CrossLinked`
+-- says only that its chain leads to a sector that is there, and `TreeCycle` has no condition yet.
 abbrev pub MayRefuseFile : List ℕ → ReadFault → Type 0
 MayRefuseFile file (Chain fault) = IsFileAtFault file fault
 MayRefuseFile file (Directory directory.BadEntry) = (dir : List ℕ) × IsDirectory file dir

@@ -2,8 +2,8 @@ use Rattle.std.proofs.Common.{◌≡◌, ◌/◌, List, [], ◌∷◌, ℕ, inl,
 use Rattle.std.specs.Result.{IsErrAnd}
 use Rattle.cfb_chain.proofs.Results.{refused_with}
 use Rattle.cfb_chain.specs.Chain.{IsChain}
-use Rattle.cfb_chain.specs.Fat.{AreFree, AreSame, FatValue, sectors_of, set_all, store_of}
-use Rattle.cfb_header.specs.Header.{HeaderValue, IsHeader, difat, fat_by, header_of, listed}
+use Rattle.cfb_chain.specs.Fat.{AreFree, FatValue, set_all, store_of}
+use Rattle.cfb_header.specs.Header.{HeaderValue, IsHeader, difat, header_of, listed}
 use Rattle.cfb_chain.specs.View.{image_bytes}
 use Rattle.cfb_directory.specs.Entries.{EntriesValue}
 use Rattle.storage_tree.specs.Tree.{Tree}
@@ -157,11 +157,9 @@ returns-in_err-chain-clause-refused c =
     let f : FatValue = c.in_ok-fat.fat in
     let is_header : IsHeader file = c.requires.whole in
     let is : h ≡ header_of file = read_header file h is_header (sym c.requires.read) in
-    let same : AreSame (store_of f) (sectors_of file (listed file)) =
-    subst (λ (x : HeaderValue). AreSame (store_of f) (sectors_of file (fat_by file x))) is c.in_ok-fat.ensures.table.sectors in
     refused_with c.from_residual-in_err-chain.result (chain_fault c.in_err-chain.field-0.0) (MayRefuseFile file) c.from_residual-in_err-chain.ensures.1
     (file_chain file c.in_err-chain.field-0.0
-    (directory_refused file h f c.first_directory.result c.in_err-chain.field-0.0 is c.first_directory.ensures same c.in_err-chain.ensures.refused))
+    (directory_refused file h f c.first_directory.result c.in_err-chain.field-0.0 is c.first_directory.ensures c.in_ok-fat.ensures.table c.in_err-chain.ensures.refused))
 
 pub returns-in_err-directory-clause-refused : goal.returns-in_err-directory-clause-refused
 returns-in_err-directory-clause-refused c =
@@ -209,7 +207,7 @@ returns-in_err-mini-clause-refused c =
     c.deref.ensures.value c.in_ok-directory.ensures.bytes (ap (λ (x : EntriesValue). x.directory) c.in_ok-entries.ensures.loaded ∙ c.bytes.ensures) in
     refused_with c.from_residual-in_err-mini.result (chain_fault c.in_err-mini.field-0.0) (MayRefuseFile file) c.from_residual-in_err-mini.ensures.1
     (file_chain file c.in_err-mini.field-0.0
-    (mini_refused file h c.chain.new.self e.directory is (directory_is file c.chain.new.self c.in_ok-chain.chain.items e.directory o) o.same
+    (mini_refused file h c.chain.new.self e.directory is (directory_is file c.chain.new.self c.in_ok-chain.chain.items e.directory o) o.same o.marks
     c.in_ok-root.root.first c.in_ok-root.root.size c.in_err-mini.field-0.0 c.in_ok-root.ensures.read.first c.in_ok-root.ensures.read.size
     c.in_err-mini.ensures.there c.in_err-mini.ensures.refused))
 
