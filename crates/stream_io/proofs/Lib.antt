@@ -1,4 +1,5 @@
 pub mod ReadingLists
+pub mod ReadingChains
 pub mod ReadingRefused
 pub mod ReadingNames
 pub mod ReadingEntries

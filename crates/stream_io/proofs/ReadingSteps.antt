@@ -10,7 +10,7 @@ use Rattle.cfb_names.specs.declared.fault.DirFault.{DirFault}
 use Rattle.file_model.proofs.Unique.{linked_unique}
 use Rattle.storage_tree.specs.Change.{Seen, bytes, child as with_child, inner}
 use Rattle.storage_tree.specs.Tree.{Tree, Children, none, tree}
-use Rattle.stream_io.specs.Reads.{AreRead, AreSorted, IsChild, IsChildPut, IsChildRead, IsNodeRead, IsStorage, IsStorageRead, directory_in, key_at, met}
+use Rattle.stream_io.specs.Reads.{AreRead, AreSorted, Base, IsChild, IsChildPut, IsChildRead, IsNodeRead, IsStorage, IsStorageRead, base_of, directory_in, key_at, met}
 use Rattle.stream_io.specs.declared.read.Reader.{Reader}
 use Rattle.file_outline.proofs.Followed.{followed}
 use Rattle.stream_io.proofs.ReadingChildren.{IsFirstRead, Progress, put_behind, progress_all, progress_more, progress_next}
@@ -63,8 +63,8 @@ module _ (depth id : ℕ) (items : List ℕ) (old mid : Reader) (o : AreOpen id 
         subst (λ (x : List ℕ). IsChild x id (get_or items i 0)) (sym dir_now)
         (linked_child (directory_in old) id (get_or items i 0) o.sorted.reached s o.sorted.linked ((o.sorted.same (get_or items i 0)).1 (Contains-get_or items i 0 lt)))
 
-    pub back_to : (P : List ℕ → Type 0) → P (directory_in r) → P (directory_in old)
-    back_to P h = subst P dir_now h
+    pub back_to : (P : Base → Type 0) → P (base_of r) → P (base_of old)
+    back_to P h = subst P (p.kept.base ∙ kept_mid.base) h
 
     pub step : (next : Reader) (ds : Children) → i < length items → IsChildPut depth (get_or items i 0) r next cs ds → Progress depth items mid (i + 1) next ds
     step next ds lt h = progress_more depth items mid i r next cs ds lt ordered p h

@@ -2,7 +2,7 @@ use Rattle.std.proofs.Common.{◌≡◌, ◌/◌, List, [], ◌∷◌, ℕ, inl,
 use Rattle.std.specs.Result.{IsErrAnd}
 use Rattle.cfb_chain.proofs.Results.{refused_with}
 use Rattle.cfb_chain.specs.Chain.{IsChain}
-use Rattle.cfb_chain.specs.Fat.{AreFree, set_all, store_of}
+use Rattle.cfb_chain.specs.Fat.{AreFree, FatValue, set_all, store_of}
 use Rattle.cfb_header.specs.Header.{HeaderValue, IsHeader, difat, header_of, listed}
 use Rattle.cfb_chain.specs.View.{image_bytes}
 use Rattle.cfb_directory.specs.Entries.{EntriesValue}
@@ -11,9 +11,10 @@ use Rattle.file_model.specs.Outline.{outline_of}
 use Rattle.file_model.specs.Denotes.{Denotes, Layout}
 use Rattle.stream_io.specs.Reads.{IsStorageRead, MayRefuseFile, chain_fault, directory_fault}
 use Rattle.stream_io.specs.declared.read.Reader.{Reader}
+use Rattle.stream_io.proofs.ReadingChains.{directory_refused, mini_refused, table_refused}
 use Rattle.stream_io.proofs.ReadingFile.{IsOpened, IsReady, denoted, opened_at, read_header, ready}
-use Rattle.stream_io.proofs.ReadingOpened.{directory_is}
-use Rattle.stream_io.proofs.ReadingRefused.{chain_memory, directory_memory, file_chain, file_load, file_root, file_storage, of_minis, of_table, of_whole_chain, same_memory}
+use Rattle.stream_io.proofs.ReadingOpened.{directory_is, file_storage}
+use Rattle.stream_io.proofs.ReadingRefused.{chain_memory, directory_memory, file_chain, file_load, file_root, same_memory}
 use Rattle.stream_io.proofs.ReadingThere.{directory_there, load_not_refused, mini_there, root_marked, root_not_refused, storage_read}
 use Rattle.file_outline.specs.View.{contents, outline_view, shown}
 use Rattle.stream_io.specs.View.{directory_bytes}
@@ -142,13 +143,23 @@ returns-clause-sized c =
 
 pub returns-in_err-fat-clause-refused : goal.returns-in_err-fat-clause-refused
 returns-in_err-fat-clause-refused c =
-    refused_with c.from_residual.result (chain_fault c.in_err-fat.field-0.0) (MayRefuseFile (image_bytes c.args.file)) c.from_residual.ensures.1
-    (file_chain (image_bytes c.args.file) c.in_err-fat.field-0.0 (of_table (image_bytes c.args.file) c.args.header.now c.in_err-fat.field-0.0 c.in_err-fat.ensures.refused))
+    let file : List ℕ = image_bytes c.args.file in
+    let h : HeaderValue = c.args.header.now in
+    let is_header : IsHeader file = c.requires.whole in
+    let is : h ≡ header_of file = read_header file h is_header (sym c.requires.read) in
+    refused_with c.from_residual.result (chain_fault c.in_err-fat.field-0.0) (MayRefuseFile file) c.from_residual.ensures.1
+    (file_chain file c.in_err-fat.field-0.0 (table_refused file h c.in_err-fat.field-0.0 is c.in_err-fat.ensures.refused))
 
 pub returns-in_err-chain-clause-refused : goal.returns-in_err-chain-clause-refused
 returns-in_err-chain-clause-refused c =
-    refused_with c.from_residual-in_err-chain.result (chain_fault c.in_err-chain.field-0.0) (MayRefuseFile (image_bytes c.args.file)) c.from_residual-in_err-chain.ensures.1
-    (file_chain (image_bytes c.args.file) c.in_err-chain.field-0.0 (of_whole_chain c.in_ok-fat.fat c.first_directory.result c.in_err-chain.field-0.0 c.in_err-chain.ensures.refused))
+    let file : List ℕ = image_bytes c.args.file in
+    let h : HeaderValue = c.args.header.now in
+    let f : FatValue = c.in_ok-fat.fat in
+    let is_header : IsHeader file = c.requires.whole in
+    let is : h ≡ header_of file = read_header file h is_header (sym c.requires.read) in
+    refused_with c.from_residual-in_err-chain.result (chain_fault c.in_err-chain.field-0.0) (MayRefuseFile file) c.from_residual-in_err-chain.ensures.1
+    (file_chain file c.in_err-chain.field-0.0
+    (directory_refused file h f c.first_directory.result c.in_err-chain.field-0.0 is c.first_directory.ensures c.in_ok-fat.ensures.table c.in_err-chain.ensures.refused))
 
 pub returns-in_err-directory-clause-refused : goal.returns-in_err-directory-clause-refused
 returns-in_err-directory-clause-refused c =
@@ -158,19 +169,47 @@ returns-in_err-directory-clause-refused c =
 
 pub returns-in_err-entries-clause-refused : goal.returns-in_err-entries-clause-refused
 returns-in_err-entries-clause-refused c =
-    refused_with c.from_residual-in_err-entries.result (directory_fault c.in_err-entries.field-0.0) (MayRefuseFile (image_bytes c.args.file)) c.from_residual-in_err-entries.ensures.1
-    (file_load (image_bytes c.args.file) c.bytes.result.now c.in_err-entries.field-0.0 c.in_err-entries.ensures.refused)
+    let file : List ℕ = image_bytes c.args.file in
+    let h : HeaderValue = c.args.header.now in
+    let is_header : IsHeader file = c.requires.whole in
+    let is : h ≡ header_of file = read_header file h is_header (sym c.requires.read) in
+    let o : IsOpened file c.chain.new.self c.in_ok-chain.chain.items c.bytes.result.now =
+    opened_at file h c.in_ok-fat.fat c.chain.new.self c.first_directory.result c.in_ok-chain.chain.items c.deref.result.now (directory_bytes c.in_ok-directory.directory)
+    c.bytes.result.now is c.in_ok-fat.ensures.table c.first_directory.ensures c.in_ok-chain.ensures.linked c.in_ok-chain.ensures.free c.in_ok-chain.ensures.marks
+    c.deref.ensures.value c.in_ok-directory.ensures.bytes c.bytes.ensures in
+    refused_with c.from_residual-in_err-entries.result (directory_fault c.in_err-entries.field-0.0) (MayRefuseFile file) c.from_residual-in_err-entries.ensures.1
+    (file_load file c.bytes.result.now c.in_err-entries.field-0.0 (directory_is file c.chain.new.self c.in_ok-chain.chain.items c.bytes.result.now o) c.in_err-entries.ensures.refused)
 
 pub returns-in_err-root-clause-refused : goal.returns-in_err-root-clause-refused
 returns-in_err-root-clause-refused c =
-    refused_with c.from_residual-in_err-root.result (directory_fault c.in_err-root.field-0.0) (MayRefuseFile (image_bytes c.args.file)) c.from_residual-in_err-root.ensures.1
-    (file_root (image_bytes c.args.file) c.in_ok-entries.entries.directory c.in_err-root.field-0.0 c.in_err-root.ensures.refused)
+    let file : List ℕ = image_bytes c.args.file in
+    let h : HeaderValue = c.args.header.now in
+    let e : EntriesValue = c.in_ok-entries.entries in
+    let is_header : IsHeader file = c.requires.whole in
+    let is : h ≡ header_of file = read_header file h is_header (sym c.requires.read) in
+    let o : IsOpened file c.chain.new.self c.in_ok-chain.chain.items e.directory =
+    opened_at file h c.in_ok-fat.fat c.chain.new.self c.first_directory.result c.in_ok-chain.chain.items c.deref.result.now (directory_bytes c.in_ok-directory.directory)
+    e.directory is c.in_ok-fat.ensures.table c.first_directory.ensures c.in_ok-chain.ensures.linked c.in_ok-chain.ensures.free c.in_ok-chain.ensures.marks
+    c.deref.ensures.value c.in_ok-directory.ensures.bytes (ap (λ (x : EntriesValue). x.directory) c.in_ok-entries.ensures.loaded ∙ c.bytes.ensures) in
+    refused_with c.from_residual-in_err-root.result (directory_fault c.in_err-root.field-0.0) (MayRefuseFile file) c.from_residual-in_err-root.ensures.1
+    (file_root file e.directory c.in_err-root.field-0.0 (directory_is file c.chain.new.self c.in_ok-chain.chain.items e.directory o) c.in_err-root.ensures.refused)
 
 pub returns-in_err-mini-clause-refused : goal.returns-in_err-mini-clause-refused
 returns-in_err-mini-clause-refused c =
-    refused_with c.from_residual-in_err-mini.result (chain_fault c.in_err-mini.field-0.0) (MayRefuseFile (image_bytes c.args.file)) c.from_residual-in_err-mini.ensures.1
-    (file_chain (image_bytes c.args.file) c.in_err-mini.field-0.0
-    (of_minis c.chain.new.self c.args.header.now c.in_ok-root.root.first c.in_ok-root.root.size c.in_err-mini.field-0.0 c.in_err-mini.ensures.refused))
+    let file : List ℕ = image_bytes c.args.file in
+    let h : HeaderValue = c.args.header.now in
+    let e : EntriesValue = c.in_ok-entries.entries in
+    let is_header : IsHeader file = c.requires.whole in
+    let is : h ≡ header_of file = read_header file h is_header (sym c.requires.read) in
+    let o : IsOpened file c.chain.new.self c.in_ok-chain.chain.items e.directory =
+    opened_at file h c.in_ok-fat.fat c.chain.new.self c.first_directory.result c.in_ok-chain.chain.items c.deref.result.now (directory_bytes c.in_ok-directory.directory)
+    e.directory is c.in_ok-fat.ensures.table c.first_directory.ensures c.in_ok-chain.ensures.linked c.in_ok-chain.ensures.free c.in_ok-chain.ensures.marks
+    c.deref.ensures.value c.in_ok-directory.ensures.bytes (ap (λ (x : EntriesValue). x.directory) c.in_ok-entries.ensures.loaded ∙ c.bytes.ensures) in
+    refused_with c.from_residual-in_err-mini.result (chain_fault c.in_err-mini.field-0.0) (MayRefuseFile file) c.from_residual-in_err-mini.ensures.1
+    (file_chain file c.in_err-mini.field-0.0
+    (mini_refused file h c.chain.new.self e.directory is (directory_is file c.chain.new.self c.in_ok-chain.chain.items e.directory o) o.same o.marks
+    c.in_ok-root.root.first c.in_ok-root.root.size c.in_err-mini.field-0.0 c.in_ok-root.ensures.read.first c.in_ok-root.ensures.read.size
+    c.in_err-mini.ensures.there c.in_err-mini.ensures.refused))
 
 pub returns-in_err-outline-clause-refused : goal.returns-in_err-outline-clause-refused
 returns-in_err-outline-clause-refused c =
@@ -183,6 +222,14 @@ returns-in_err-outline-clause-refused c =
     opened_at file h c.in_ok-fat.fat c.chain.new.self c.first_directory.result c.in_ok-chain.chain.items c.deref.result.now (directory_bytes c.in_ok-directory.directory)
     e.directory is c.in_ok-fat.ensures.table c.first_directory.ensures c.in_ok-chain.ensures.linked c.in_ok-chain.ensures.free c.in_ok-chain.ensures.marks
     c.deref.ensures.value c.in_ok-directory.ensures.bytes (ap (λ (x : EntriesValue). x.directory) c.in_ok-entries.ensures.loaded ∙ c.bytes.ensures) in
+    let mini_fat : List ℕ = c.in_ok-mini.ensures.found.0 in
+    let mini_stream : List ℕ = c.in_ok-mini.ensures.found.1 in
+    let l : Layout = record { fat = listed file; difat = difat file; directory = c.in_ok-chain.chain.items; mini_fat = mini_fat; mini_stream = mini_stream } in
+    let r : IsReady file l c.mini.new.self c.in_ok-mini.mini e.directory =
+    ready file h c.chain.new.self c.mini.new.self c.in_ok-mini.mini c.in_ok-chain.chain.items e.directory c.in_ok-root.root.first c.in_ok-root.root.size
+    mini_fat mini_stream is o c.in_ok-root.ensures.read.first c.in_ok-root.ensures.read.size
+    c.in_ok-mini.ensures.found.2 c.in_ok-mini.ensures.found.3 c.in_ok-mini.ensures.found.4 in
+    let start : Reader = record { fat = c.mini.new.self; mini = c.in_ok-mini.mini; entries = e } in
     let again : IsErrAnd c.from_residual-in_err-outline.result (λ x. x ≡ c.in_err-outline.field-0.0) = search rules in
     refused_with c.from_residual-in_err-outline.result c.in_err-outline.field-0.0 (MayRefuseFile file) again
-    (file_storage file e.directory c.in_err-outline.field-0.0 (directory_is file c.chain.new.self c.in_ok-chain.chain.items e.directory o) c.in_err-outline.ensures.refused)
+    (file_storage file l start r (directory_is file c.chain.new.self c.in_ok-chain.chain.items e.directory o) c.in_err-outline.field-0.0 c.in_err-outline.ensures.refused)

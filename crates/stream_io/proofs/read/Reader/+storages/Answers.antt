@@ -1,12 +1,12 @@
 use Rattle.std.proofs.Common.{◌≡◌, ◌+◌, ◌-◌, List, ℕ, ap, drop, get_or, sym, ◌∙◌, subst, rules, arith}
 use Rattle.std.specs.Result.{IsErrAnd}
 use Rattle.cfb_chain.proofs.Results.{refused_with}
-use Rattle.cfb_directory.specs.Entries.{entry_at, kind}
+use Rattle.cfb_directory.specs.Entries.{entry_at, kind, kind_number}
 use Rattle.cfb_names.specs.Names.{key}
 use Rattle.file_model.specs.Outline.{outline, outline_of, part_of}
 use Rattle.storage_tree.specs.Change.{child}
 use Rattle.storage_tree.specs.Tree.{Tree, Children, none, tree}
-use Rattle.stream_io.specs.Reads.{IsChildRead, IsStorageRead, MayRefuseStorage, directory_fault, directory_in}
+use Rattle.stream_io.specs.Reads.{Base, IsChildRead, IsStorageRead, MayRefuseStorage, base_of, directory_fault, directory_in}
 use Rattle.file_outline.specs.View.{contents, part_view, shown_part, shown_parts}
 use Rattle.stream_io.specs.declared.fault.ReadFault.{ReadFault}
 use Rattle.file_outline.specs.declared.outline.Place.{Place}
@@ -15,7 +15,7 @@ use Rattle.file_outline.proofs.Followed.{followed}
 use Rattle.stream_io.proofs.ReadingChildren.{IsFirstRead, Progress}
 use Rattle.stream_io.proofs.ReadingEntries.{storage_kind}
 use Rattle.file_outline.proofs.Outlines.{AreSized, shown-push, shown-roll, sized-all, sized-push, view-roll}
-use Rattle.stream_io.proofs.ReadingRefused.{entry_below, never_ok, same_memory, storage_child}
+use Rattle.stream_io.proofs.ReadingRefused.{entry_below, never_ok, same_memory, storage_child, stream_below}
 use Rattle.stream_io.proofs.ReadingSteps.{AreOpen, all_read, back_to, entry_not_refused, inner_read, next_below, next_child, next_root, next_there, opened, positive, put, step}
 use Rattle.stream_io.proofs.read.Reader.+storages.Goals as goal
 
@@ -25,15 +25,16 @@ child_outline-returns-in_err-entry-clause-there t c = λ k name s new h.
 
 pub child_outline-returns-in_err-entry-clause-refused : goal.child_outline-returns-in_err-entry-clause-refused
 child_outline-returns-in_err-entry-clause-refused t c = λ parent i.
-    refused_with c.from_residual.result (directory_fault c.in_err-entry.field-0.0) (MayRefuseStorage (directory_in c.args.self.now) c.args.depth parent)
+    refused_with c.from_residual.result (directory_fault c.in_err-entry.field-0.0) (MayRefuseStorage (base_of c.args.self.now) c.args.depth parent)
     c.from_residual.ensures.1
-    (entry_below (directory_in c.args.self.now) c.args.depth parent c.args.id c.in_err-entry.field-0.0 i c.in_err-entry.ensures.refused)
+    (entry_below (base_of c.args.self.now) c.args.depth parent c.args.id c.in_err-entry.field-0.0 i c.in_err-entry.ensures.refused)
 
 pub part_outline-returns-in_err-mark_stream-in-Stream-clause-refused : goal.part_outline-returns-in_err-mark_stream-in-Stream-clause-refused
 part_outline-returns-in_err-mark_stream-in-Stream-clause-refused t c = λ parent i.
     let again : IsErrAnd c.from_residual.result (λ x. x ≡ c.in_err-mark_stream-in-Stream.field-0.0) = search rules in
-    refused_with c.from_residual.result c.in_err-mark_stream-in-Stream.field-0.0 (MayRefuseStorage (directory_in c.args.self.now) c.args.depth parent) again
-    (c.in_err-mark_stream-in-Stream.ensures.refused c.args.depth parent)
+    refused_with c.from_residual.result c.in_err-mark_stream-in-Stream.field-0.0 (MayRefuseStorage (base_of c.args.self.now) c.args.depth parent) again
+    (stream_below (base_of c.args.self.now) c.args.depth parent c.args.id c.args.entry.now.first c.args.entry.now.size c.in_err-mark_stream-in-Stream.field-0.0 i
+    (sym c.requires.entry.kind_held ∙ ap kind_number c.in-Stream.is) c.requires.entry.first c.requires.entry.size c.in_err-mark_stream-in-Stream.ensures.refused)
 
 pub part_outline-returns-in_err-inner-in_default : goal.part_outline-returns-in_err-inner-in_default
 part_outline-returns-in_err-inner-in_default t c =
@@ -49,15 +50,15 @@ part_outline-returns-in_err-inner-in_default t c =
           same_memory c.from_residual-in_err-inner-in_default.result c.in_err-inner-in_default.field-0.0 again (c.in_err-inner-in_default.ensures.there r.0 new r.1);
       refused = λ parent i.
           refused_with c.from_residual-in_err-inner-in_default.result c.in_err-inner-in_default.field-0.0
-          (MayRefuseStorage (directory_in c.args.self.now) c.args.depth parent) again
-          (storage_child (directory_in c.args.self.now) c.args.depth parent c.args.id c.in_err-inner-in_default.field-0.0 i (positive c.args.depth c.if-depth-eq0.false)
+          (MayRefuseStorage (base_of c.args.self.now) c.args.depth parent) again
+          (storage_child (base_of c.args.self.now) c.args.depth parent c.args.id c.in_err-inner-in_default.field-0.0 i (positive c.args.depth c.if-depth-eq0.false)
           c.in_err-inner-in_default.ensures.refused);
     }
 
 pub storage_outline-returns-in_err-ids-clause-refused : goal.storage_outline-returns-in_err-ids-clause-refused
 storage_outline-returns-in_err-ids-clause-refused t c =
     let again : IsErrAnd c.from_residual.result (λ x. x ≡ c.in_err-ids.field-0.0) = search rules in
-    refused_with c.from_residual.result c.in_err-ids.field-0.0 (MayRefuseStorage (directory_in c.args.self.now) c.args.depth c.args.id) again
+    refused_with c.from_residual.result c.in_err-ids.field-0.0 (MayRefuseStorage (base_of c.args.self.now) c.args.depth c.args.id) again
     (c.in_err-ids.ensures.refused c.args.depth c.requires.storage)
 
 pub storage_outline-child_outline-requires : goal.storage_outline-child_outline-requires
@@ -90,11 +91,11 @@ storage_outline-returns-in_err-part-clause-refused t c =
     let i : ℕ = c.loop-child.child-index in
     let cs : Children = shown_parts (contents c.sorted_children.new.self.fat c.sorted_children.new.self.mini) c.loop-child.parts.items in
     let fault : ReadFault = c.in_err-part.field-0.0 in
-    let told : MayRefuseStorage (directory_in c.loop-child.self) c.args.depth c.args.id fault =
+    let told : MayRefuseStorage (base_of c.loop-child.self) c.args.depth c.args.id fault =
     c.in_err-part.ensures.refused c.args.id (next_child c.args.depth c.args.id items c.args.self.now c.sorted_children.new.self o i c.loop-child.self cs c.loop-child.invariant.0 c.requires.storage c.loop-child-test.true) in
     let again : IsErrAnd c.from_residual-in_err-part.result (λ x. x ≡ c.in_err-part.field-0.0) = search rules in
-    refused_with c.from_residual-in_err-part.result fault (MayRefuseStorage (directory_in c.args.self.now) c.args.depth c.args.id) again
-    (back_to c.args.depth c.args.id items c.args.self.now c.sorted_children.new.self o i c.loop-child.self cs c.loop-child.invariant.0 (λ (d : List ℕ). MayRefuseStorage d c.args.depth c.args.id fault) told)
+    refused_with c.from_residual-in_err-part.result fault (MayRefuseStorage (base_of c.args.self.now) c.args.depth c.args.id) again
+    (back_to c.args.depth c.args.id items c.args.self.now c.sorted_children.new.self o i c.loop-child.self cs c.loop-child.invariant.0 (λ (b : Base). MayRefuseStorage b c.args.depth c.args.id fault) told)
 
 -- the outlines are of the bytes that were there before
 content_mid : (id : ℕ) (items : List ℕ) (old mid : Reader) → AreOpen id items old mid → contents mid.fat mid.mini ≡ contents old.fat old.mini

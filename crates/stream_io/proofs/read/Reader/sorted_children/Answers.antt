@@ -3,7 +3,7 @@ use Rattle.std.specs.Result.{IsErrAnd}
 use Rattle.cfb_chain.proofs.Results.{refused_with}
 use Rattle.cfb_directory.specs.Entries.{EntriesValue}
 use Rattle.cfb_directory.proofs.Marked.{children_kept}
-use Rattle.stream_io.specs.Reads.{MayRefuseNames, MayRefuseStorage, directory_fault, directory_in}
+use Rattle.stream_io.specs.Reads.{MayRefuseNames, MayRefuseStorage, base_of, directory_fault}
 use Rattle.stream_io.proofs.ReadingRefused.{children_below, directory_memory, linked_child, names_below, same_memory}
 use Rattle.stream_io.proofs.ReadingSorted.{names_not_refused, sorted_met}
 use Rattle.stream_io.proofs.ReadingSteps.{AreTheChildren, children_of, children_readable}
@@ -17,8 +17,8 @@ returns-in_err-ids-clause-there c = λ depth t new h.
 
 pub returns-in_err-ids-clause-refused : goal.returns-in_err-ids-clause-refused
 returns-in_err-ids-clause-refused c = λ depth s.
-    refused_with c.from_residual.result (directory_fault c.in_err-ids.field-0.0) (MayRefuseStorage (directory_in c.args.self.now) depth c.args.id) c.from_residual.ensures.1
-    (children_below c.args.self.now.entries depth c.args.id c.in_err-ids.field-0.0 c.in_err-ids.ensures.refused)
+    refused_with c.from_residual.result (directory_fault c.in_err-ids.field-0.0) (MayRefuseStorage (base_of c.args.self.now) depth c.args.id) c.from_residual.ensures.1
+    (children_below c.args.self.now depth c.args.id c.in_err-ids.field-0.0 s c.requires.inside c.in_err-ids.ensures.refused)
 
 pub returns-in_err-sorted-clause-there : goal.returns-in_err-sorted-clause-there
 returns-in_err-sorted-clause-there c = λ depth t new h.
@@ -41,8 +41,8 @@ returns-in_err-sorted-clause-refused c = λ depth s.
     subst (λ (x : List ℕ). MayRefuseNames x c.in_ok-ids.ids.items c.in_err-sorted.field-0.0) dir
     (subst (λ (xs : List ℕ). MayRefuseNames c.children.new.self.directory xs c.in_err-sorted.field-0.0) c.deref.ensures.value c.in_err-sorted.ensures.refused) in
     let again : IsErrAnd c.from_residual-in_err-sorted.result (λ x. x ≡ c.in_err-sorted.field-0.0) = search rules in
-    refused_with c.from_residual-in_err-sorted.result c.in_err-sorted.field-0.0 (MayRefuseStorage (directory_in c.args.self.now) depth c.args.id) again
-    (names_below e.directory depth c.args.id c.in_ok-ids.ids.items c.in_err-sorted.field-0.0
+    refused_with c.from_residual-in_err-sorted.result c.in_err-sorted.field-0.0 (MayRefuseStorage (base_of c.args.self.now) depth c.args.id) again
+    (names_below (base_of c.args.self.now) depth c.args.id c.in_ok-ids.ids.items c.in_err-sorted.field-0.0
     (λ n i. linked_child e.directory c.args.id n c.in_ok-ids.ids.items s c.in_ok-ids.ensures.linked i) refused)
 
 pub returns-clause-sorted : goal.returns-clause-sorted
