@@ -1,0 +1,56 @@
+use Rattle.std.proofs.Common.{◌≡◌, ◌∙◌, ℕ, List, subst}
+use Rattle.cfb_chain.specs.Fat.{FatValue}
+use Rattle.cfb_header.specs.Header.{HeaderValue}
+use Rattle.file_model.specs.Denotes.{directory_of}
+use Rattle.sector_maps.specs.Maps.{DIRECTORY}
+use Rattle.sector_maps.specs.Painting.{IsOver, Paints}
+use Rattle.sector_maps.proofs.Layouts.{directory_found, directory_read}
+use Rattle.sector_maps.proofs.Results.{on_ok}
+use Rattle.sector_maps.proofs.map.paint_directory.Goals as goal
+
+pub returns-in-Some-clause-painted : goal.returns-in-Some-clause-painted
+returns-in-Some-clause-painted c =
+    on_ok c.paint_streams.result _ _
+    (λ painted t d o.
+    let file : List ℕ = c.args.file.now in
+    let h : HeaderValue = c.args.header.now in
+    let f : FatValue = c.in_ok-fat.fat in
+    let g : FatValue = c.chain.new.self in
+    let ns : List ℕ = c.in_ok-directory.directory.items in
+    let found : ns ≡ d.layout.directory =
+    directory_found file t d h c.requires.read f g c.first_directory.result ns c.in_ok-fat.ensures.table c.first_directory.ensures c.in_ok-directory.ensures.linked c.in_ok-directory.ensures.marks in
+    let bytes : c.in-Some.run'.now ≡ directory_of file d.layout =
+    directory_read file t d h c.requires.read f g c.first_directory.result ns c.in_ok-fat.ensures.table c.first_directory.ensures c.in_ok-directory.ensures.linked c.in_ok-directory.ensures.marks
+    c.in-Some.run'.now c.deref-2.result.now c.in-Some.ensures c.deref-2.ensures.value in
+    let o' : IsOver file d.layout c.in-Some.run'.now c.args.table.now = record { directory_is = bytes; few = o.few; count = o.count; next = o.next } in
+    record {
+      mid = c.paint.new.cells.items;
+      long = c.paint.ensures.len;
+      directory = subst (λ (xs : List ℕ). Paints (λ _. DIRECTORY) xs c.args.cells.now.items c.paint.new.cells.items) (c.deref.ensures.value ∙ found) c.paint.ensures.each;
+      both = painted file d.layout o' d.laid_out.mini_stream t d.used d.holds;
+    })
+    c.paint_streams.ensures.painted
+
+pub returns-clause-painted : goal.returns-clause-painted
+returns-clause-painted c =
+    on_ok c.paint_streams-in-None.result _ _
+    (λ painted t d o.
+    let file : List ℕ = c.args.file.now in
+    let h : HeaderValue = c.args.header.now in
+    let f : FatValue = c.in_ok-fat.fat in
+    let g : FatValue = c.chain.new.self in
+    let ns : List ℕ = c.in_ok-directory.directory.items in
+    let found : ns ≡ d.layout.directory =
+    directory_found file t d h c.requires.read f g c.first_directory.result ns c.in_ok-fat.ensures.table c.first_directory.ensures c.in_ok-directory.ensures.linked c.in_ok-directory.ensures.marks in
+    let bytes : c.deref-in-None-2.result.now ≡ directory_of file d.layout =
+    c.deref-in-None-2.ensures.value
+    ∙ directory_read file t d h c.requires.read f g c.first_directory.result ns c.in_ok-fat.ensures.table c.first_directory.ensures c.in_ok-directory.ensures.linked c.in_ok-directory.ensures.marks
+    c.in_ok-bytes-in-None.bytes.items c.deref-in-None.result.now c.in_ok-bytes-in-None.ensures c.deref-in-None.ensures.value in
+    let o' : IsOver file d.layout c.deref-in-None-2.result.now c.args.table.now = record { directory_is = bytes; few = o.few; count = o.count; next = o.next } in
+    record {
+      mid = c.paint.new.cells.items;
+      long = c.paint.ensures.len;
+      directory = subst (λ (xs : List ℕ). Paints (λ _. DIRECTORY) xs c.args.cells.now.items c.paint.new.cells.items) (c.deref.ensures.value ∙ found) c.paint.ensures.each;
+      both = painted file d.layout o' d.laid_out.mini_stream t d.used d.holds;
+    })
+    c.paint_streams-in-None.ensures.painted
