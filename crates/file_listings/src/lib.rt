@@ -1,4 +1,5 @@
-//! Listings of compound files in other forms than lines.
+//! Listings of compound files in other forms than lines, and maps of their sectors.
 #![tactic(auto)]
 
 pub mod listing;
+pub mod mapping;

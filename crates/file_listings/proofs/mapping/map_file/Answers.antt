@@ -1,0 +1,25 @@
+use Rattle.std.proofs.Common.{◌≡◌, ◌∙◌, ℕ, List, Option, subst, sym}
+use Rattle.file_commands.proofs.Listed.{IsOutlined, ok_map}
+use Rattle.file_commands.proofs.ReadRefused.{read_refused}
+use Rattle.file_model.specs.Outline.{Outline}
+use Rattle.file_outline.specs.View.{outline_view}
+use Rattle.file_listings.specs.Maps.{Maps}
+use Rattle.file_listings.proofs.Mapped.{maps, of_input}
+use Rattle.file_listings.proofs.mapping.map_file.Goals as goal
+
+pub returns-in-Err-read_outline-clause-refused : goal.returns-in-Err-read_outline-clause-refused
+returns-in-Err-read_outline-clause-refused g c =
+    read_refused (g.R.Read.remaining c.args.reader.now) c.in-Ok.file.items c.deref.result.now c.read_outline.result _
+    c.in-Ok.ensures.whole c.deref.ensures.value c.in-Err-read_outline.is c.read_outline.ensures.header c.read_outline.ensures.reads c.read_outline.ensures.refused
+
+pub returns-clause-mapped : goal.returns-clause-mapped
+returns-clause-mapped g c =
+    let seen : List ℕ = c.deref-2.result.now in
+    let o : Outline = outline_view c.in-Ok-read_outline.outline in
+    let old : Option (List ℕ) = g.W.Write.contents c.args.writer.now in
+    let new : Option (List ℕ) = g.W.Write.contents c.write_map.new.writer in
+    let outlined : IsOutlined seen o =
+    subst (λ (xs : List ℕ). IsOutlined xs o) (c.deref.ensures.value ∙ sym c.deref-2.ensures.value) c.in-Ok-read_outline.ensures.outlined in
+    ok_map c.write_map.result _ _
+    (λ w. of_input (λ file. Maps file old new) (g.R.Read.remaining c.args.reader.now) c.in-Ok.file.items seen c.in-Ok.ensures.whole c.deref-2.ensures.value (maps seen o old new outlined w))
+    c.write_map.ensures.written

@@ -1,0 +1,68 @@
+//! Maps of files.
+
+ghost use Rattle.file_commands.specs.Run.{IsOfWriting, MayRefuseList};
+ghost use Rattle.file_listings.specs.Maps.{Maps};
+ghost use Rattle.file_model.specs.Denotes.{Denotes};
+ghost use Rattle.file_outline.specs.View.{outline_view};
+ghost use Rattle.sector_maps.specs.Maps.{mapped};
+ghost use Rattle.std.specs.Io.KnownBytes.{Appends};
+ghost use Rattle.std.specs.Prelude.{◌≡◌, ◌≢◌, IfErr, IfSome, OnOk};
+ghost use Rattle.storage_tree.specs.Tree.{Tree};
+
+use file_commands::fault::ListFault;
+use file_outline::outline::Outline;
+use sector_maps::map::map_of;
+use std::alloc::Global;
+use std::io::{Read, Write};
+use stream_io::read::read_outline;
+use texts::input::read_all;
+use texts::output::write_all;
+
+/// Writes the map of a compound file: what each of its sectors is, and how many bytes are free or behind the ends of
+/// streams.
+///
+/// Refused: a file that isn't read, has more than 134,217,728 bytes or denotes no tree; `NoMemory`. Nothing is written
+/// then. `Unwritable` where a write fails.
+pub fn map_file<R: Read, W: Write>(
+    alloc: Global,
+    reader: &mut R,
+    writer: &mut W,
+) -> Result<(), ListFault>
+    ensures mapped { OnOk result (IfSome (R.remaining reader.old) (λ file. Maps file (W.contents writer.old) (W.contents writer.new))) }
+    ensures refused { IfErr result (λ fault. IfSome (R.remaining reader.old) (λ file. MayRefuseList file fault)) }
+    ensures unwritten { IfErr result (λ fault. fault ≢ ListFault.Unwritable → writer.new ≡ writer.old) }
+{
+    let file = match read_all(alloc, reader) {
+        Ok(file) => file,
+        Err(fault) => return Err(ListFault::Input(fault)),
+    };
+    let outline = match read_outline(alloc, &file) {
+        Ok(outline) => outline,
+        Err(fault) => return Err(ListFault::Read(fault)),
+    };
+    write_map(alloc, &file, &outline, writer)
+}
+
+/// Writes the map of a file that has this outline.
+///
+/// Refused: `NoMemory`, where nothing is written, and `Unwritable` where a write fails.
+fn write_map<W: Write>(
+    alloc: Global,
+    file: &[u8],
+    outline: &Outline,
+    writer: &mut W,
+) -> Result<(), ListFault>
+    ensures written { OnOk result ((t : Tree) → (d : Denotes file.now t)
+        → Appends (W.contents writer.old) (W.contents writer.new) (mapped file.now d.layout d.used.sectors (outline_view outline.now))) }
+    ensures refused { IfErr result IsOfWriting }
+    ensures unwritten { IfErr result (λ fault. fault ≢ ListFault.Unwritable → writer.new ≡ writer.old) }
+{
+    let text = match map_of(alloc, file, outline) {
+        Ok(text) => text,
+        Err(_) => return Err(ListFault::NoMemory),
+    };
+    match write_all(writer, &text) {
+        Ok(()) => Ok(()),
+        Err(_) => Err(ListFault::Unwritable),
+    }
+}
