@@ -1,17 +1,55 @@
--- What a history says of files: which disk stands behind each commit that the container counts.
-use Rattle.std.specs.Prelude.{◌≡◌, ℕ, Bool, true, false, List, [], ◌∷◌, Option, Some, None, Ok}
+-- What a history says of files: which disk stands behind each commit that the container counts, and behind each file that is opened.
+use Rattle.std.specs.Prelude.{◌≡◌, ◌⊎◌, ℕ, Bool, true, false, List, [], ◌∷◌, Option, Some, None, Ok}
 use Rattle.file_model.specs.Denotes.{Denotes}
+use Rattle.document_model.specs.DocOf.{DocOf}
+use Rattle.document_model.specs.declared.object.DocObject.{DocObject}
+use Rattle.store_model.specs.Crash.{StaysIn}
 use Rattle.store_model.specs.Image.{Image}
-use Rattle.store_model.specs.Store.{StandsFor}
+use Rattle.store_model.specs.Store.{StandsAsOneOf, StandsFor}
+use Rattle.store_model.specs.declared.disk.Disk.{Ghosts as Disks}
 use Rattle.wire_msgs.specs.Found.{nth}
 use Rattle.container_model.specs.declared.answer.Part.{Part}
 use Rattle.container_model.specs.declared.record.Frame.{Frame}
+use Rattle.container_model.specs.Opens.{Given, IsReadAs}
 use Rattle.container_model.specs.Record.{Record}
-use Rattle.container_model.specs.Saves.{document_tree, image}
+use Rattle.container_model.specs.Saves.{document, document_tree, image}
 use Rattle.script_model.specs.declared.step.Step.{Step}
 use Rattle.script_model.specs.declared.step.Step.TheVariants as step
 use Rattle.script_model.specs.Containers.{record_of}
 use Rattle.script_model.specs.Events.{Event, Started, Connected, Sent, Heard, Ended, Opened, Found, Shut, Stepped}
+
+-- ---- disks
+
+-- Whatever a crash leaves of a disk, a store that is opened on it has these bytes.
+abbrev pub IsDurable : {D : Type 0} (disks : Disks D) → D → List ℕ → Type 0
+IsDurable disks disk bytes = (c : Image) → disks.may_leave disk c → StandsFor bytes c
+
+-- From the moment at which a disk was given on, up to now, a crash leaves images that have P.
+abbrev pub IsSince : {D : Type 0} (disks : Disks D) → (given disk : D) → (Image → Type 0) → Type 0
+IsSince disks given disk P = StaysIn disks.may_leave disks.moment disks.left_since given disk P
+
+-- The image stands for what a disk, as it was given, might have stood for.
+abbrev pub IsAsGiven : {D : Type 0} (disks : Disks D) → D → Image → Type 0
+IsAsGiven disks given c = StandsAsOneOf (disks.may_leave given) c
+
+-- The image stands for that, or for these bytes.
+abbrev pub IsAsGivenOr : {D : Type 0} (disks : Disks D) → D → List ℕ → Image → Type 0
+IsAsGivenOr disks given bytes c = IsAsGiven disks given c ⊎ StandsFor bytes c
+
+-- These bytes were saved on a disk that was given: a crash since then leaves what stands for what the disk as it was given might
+-- have stood for, or for these bytes, and a crash now leaves what stands for these bytes.
+pub record IsSavedOn {D : Type 0} (disks : Disks D) (given : D) (bytes : List ℕ) (disk : D) : Type 0 where
+  pub since : IsSince disks given disk (IsAsGivenOr disks given bytes)
+  pub durable : IsDurable disks disk bytes
+
+-- These bytes were read of a disk that was given: it stood for them then, a crash since then leaves what stands for what the
+-- disk as it was given might have stood for, and a crash now leaves what stands for these bytes.
+pub record IsReadOf {D : Type 0} (disks : Disks D) (given : D) (bytes : List ℕ) (disk : D) : Type 0 where
+  pub read : StandsFor bytes (disks.reads given)
+  pub since : IsSince disks given disk (IsAsGiven disks given)
+  pub durable : IsDurable disks disk bytes
+
+-- ---- saves
 
 -- the name that a frame is saved under: the one that is asked for, else its own
 abbrev pub asked_name : Option (List ℕ) → List ℕ → List ℕ
@@ -21,11 +59,8 @@ asked_name None name = name
 abbrev pub file_name : Frame → List ℕ
 file_name frame = asked_name frame.asked frame.name
 
--- Whatever a crash leaves of a disk, a store that is opened on it has these bytes.
-abbrev pub IsDurable : {D : Type 0} (may_leave : D → Image → Type 0) → D → List ℕ → Type 0
-IsDurable may_leave disk bytes = (c : Image) → may_leave disk c → StandsFor bytes c
-
--- Bytes are the file of a frame whose commit is asked for: this is its name, and they denote the document of its save.
+-- Bytes are the file of a frame whose commit is asked for: this is its name, they denote a tree, and what this holds is the
+-- document of its save.
 pub record IsFileOf (r : Record) (f : ℕ) (name bytes : List ℕ) : Type 0 where
   pub frame : Frame
   pub found : nth r.frames f ≡ Some frame
@@ -33,47 +68,89 @@ pub record IsFileOf (r : Record) (f : ℕ) (name bytes : List ℕ) : Type 0 wher
   pub parts : List Part
   pub counted : image r f ≡ Ok parts
   pub denotes : ∥ Denotes bytes (document_tree parts) ∥₁
+  pub holds : DocOf (document_tree parts) (document parts)
 
--- The last call gave a disk back that holds these bytes under this name.
-pub record IsShutWith {D : Type 0} (may_leave : D → Image → Type 0) (es : List (Event D)) (name bytes : List ℕ) : Type 0 where
+-- The last call gave a disk back under this name, the call before it had given this disk under the same name, and in between these
+-- bytes were saved on it.
+pub record IsShutWith {D : Type 0} (disks : Disks D) (es : List (Event D)) (name bytes : List ℕ) : Type 0 where
+  pub given : D
   pub disk : D
   pub before : List (Event D)
-  pub last : es ≡ Shut name disk ∷ before
-  pub durable : IsDurable may_leave disk bytes
+  pub last : es ≡ Shut name disk ∷ Opened name (Some given) ∷ before
+  pub saved : IsSavedOn disks given bytes disk
 
 -- The last call gave a disk back that holds the file of a frame.
-pub record IsSaved {D : Type 0} (may_leave : D → Image → Type 0) (es : List (Event D)) (f : ℕ) : Type 0 where
+pub record IsSaved {D : Type 0} (disks : Disks D) (es : List (Event D)) (f : ℕ) : Type 0 where
   pub name : List ℕ
   pub bytes : List ℕ
-  pub shut : IsShutWith may_leave es name bytes
+  pub shut : IsShutWith disks es name bytes
   pub file : IsFileOf (record_of es) f name bytes
 
-abbrev pub KeptIsSaved : {D : Type 0} (may_leave : D → Image → Type 0) → Bool → List (Event D) → ℕ → Type 0
-KeptIsSaved may_leave true es f = IsSaved may_leave es f
-KeptIsSaved may_leave false es f = Unit {0}
+abbrev pub KeptIsSaved : {D : Type 0} (disks : Disks D) → Bool → List (Event D) → ℕ → Type 0
+KeptIsSaved disks true es f = IsSaved disks es f
+KeptIsSaved disks false es f = Unit {0}
 
 -- a step that counts a commit, behind these calls
-abbrev pub CountsSaved : {D : Type 0} (may_leave : D → Image → Type 0) → Step → List (Event D) → Type 0
-CountsSaved may_leave (step.Begins n) es = Unit {0}
-CountsSaved may_leave (step.Command c) es = Unit {0}
-CountsSaved may_leave (step.Message inc m) es = Unit {0}
-CountsSaved may_leave (step.Reap inc) es = Unit {0}
-CountsSaved may_leave (step.Committed f) es = IsSaved may_leave es f
-CountsSaved may_leave (step.Failed f) es = Unit {0}
-CountsSaved may_leave (step.Resolved f is_kept) es = KeptIsSaved may_leave is_kept es f
-CountsSaved may_leave (step.Open name w h objects) es = Unit {0}
-CountsSaved may_leave step.NoMemory es = Unit {0}
+abbrev pub CountsSaved : {D : Type 0} (disks : Disks D) → Step → List (Event D) → Type 0
+CountsSaved disks (step.Begins n) es = Unit {0}
+CountsSaved disks (step.Command c) es = Unit {0}
+CountsSaved disks (step.Message inc m) es = Unit {0}
+CountsSaved disks (step.Reap inc) es = Unit {0}
+CountsSaved disks (step.Committed f) es = IsSaved disks es f
+CountsSaved disks (step.Failed f) es = Unit {0}
+CountsSaved disks (step.Resolved f is_kept) es = KeptIsSaved disks is_kept es f
+CountsSaved disks (step.Open name w h objects) es = Unit {0}
+CountsSaved disks step.NoMemory es = Unit {0}
 
--- Each commit that the container counts stands directly behind the giving back of a disk, which then holds its frame's file,
--- whatever a crash leaves of it.
-abbrev pub AreSaved : {D : Type 0} (may_leave : D → Image → Type 0) → List (Event D) → Type 0
-AreSaved may_leave [] = Unit {0}
-AreSaved may_leave (Stepped step ∷ es) = CountsSaved may_leave step es × AreSaved may_leave es
-AreSaved may_leave (Started inc ok ∷ es) = AreSaved may_leave es
-AreSaved may_leave (Connected inc ok ∷ es) = AreSaved may_leave es
-AreSaved may_leave (Sent inc bytes ok ∷ es) = AreSaved may_leave es
-AreSaved may_leave (Heard inc bytes ok ∷ es) = AreSaved may_leave es
-AreSaved may_leave (Ended inc ∷ es) = AreSaved may_leave es
-AreSaved may_leave (Opened name disk ∷ es) = AreSaved may_leave es
-AreSaved may_leave (Found name disk ∷ es) = AreSaved may_leave es
-AreSaved may_leave (Shut name disk ∷ es) = AreSaved may_leave es
+-- ---- opened files
+
+-- The last call gave a disk back under this name, the call before it had found this disk under the same name, and in between these
+-- bytes were read of it.
+pub record IsReadFrom {D : Type 0} (disks : Disks D) (es : List (Event D)) (name bytes : List ℕ) : Type 0 where
+  pub found : D
+  pub disk : D
+  pub before : List (Event D)
+  pub last : es ≡ Shut name disk ∷ Found name (Some found) ∷ before
+  pub read : IsReadOf disks found bytes disk
+
+-- Bytes were read of the disk of this name, they denote a tree, and what this holds is a document of these objects.
+pub record IsOpened {D : Type 0} (disks : Disks D) (es : List (Event D)) (name : List ℕ) (objects : List DocObject) : Type 0 where
+  pub bytes : List ℕ
+  pub read : IsReadFrom disks es name bytes
+  pub holds : IsReadAs (Some bytes) (Given.Holding objects)
+
+-- a step that opens a file, behind these calls
+abbrev pub OpensRead : {D : Type 0} (disks : Disks D) → Step → List (Event D) → Type 0
+OpensRead disks (step.Begins n) es = Unit {0}
+OpensRead disks (step.Command c) es = Unit {0}
+OpensRead disks (step.Message inc m) es = Unit {0}
+OpensRead disks (step.Reap inc) es = Unit {0}
+OpensRead disks (step.Committed f) es = Unit {0}
+OpensRead disks (step.Failed f) es = Unit {0}
+OpensRead disks (step.Resolved f is_kept) es = Unit {0}
+OpensRead disks (step.Open name w h objects) es = IsOpened disks es name objects
+OpensRead disks step.NoMemory es = Unit {0}
+
+-- ---- whole histories
+
+-- Of each step this holds, behind the calls before it.
+abbrev pub OfEachStep : {D : Type 0} (P : Step → List (Event D) → Type 0) → List (Event D) → Type 0
+OfEachStep P [] = Unit {0}
+OfEachStep P (Stepped step ∷ es) = P step es × OfEachStep P es
+OfEachStep P (Started inc ok ∷ es) = OfEachStep P es
+OfEachStep P (Connected inc ok ∷ es) = OfEachStep P es
+OfEachStep P (Sent inc bytes ok ∷ es) = OfEachStep P es
+OfEachStep P (Heard inc bytes ok ∷ es) = OfEachStep P es
+OfEachStep P (Ended inc ∷ es) = OfEachStep P es
+OfEachStep P (Opened name disk ∷ es) = OfEachStep P es
+OfEachStep P (Found name disk ∷ es) = OfEachStep P es
+OfEachStep P (Shut name disk ∷ es) = OfEachStep P es
+
+-- Each commit that the container counts stands directly behind the giving back of the disk that the host gave under the
+-- frame's name directly before, and which then holds the frame's file, whatever a crash leaves of it.
+abbrev pub AreSaved : {D : Type 0} (disks : Disks D) → List (Event D) → Type 0
+AreSaved disks es = OfEachStep (CountsSaved disks) es
+
+-- Each file that is opened has the objects of the document that was read of the disk which the host found under its name.
+abbrev pub AreOpened : {D : Type 0} (disks : Disks D) → List (Event D) → Type 0
+AreOpened disks es = OfEachStep (OpensRead disks) es

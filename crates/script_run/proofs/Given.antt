@@ -9,8 +9,8 @@ use Rattle.script_model.specs.declared.step.Step.TheVariants as step
 use Rattle.script_model.specs.Containers.{Given, given, given_by, gives, moved, record_of}
 use Rattle.script_model.specs.Events.{Event, Started, Connected, Sent, Heard, Ended, Opened, Found, Shut, Stepped, running}
 use Rattle.script_model.specs.Turns.{AreTurns, turn_of}
-use Rattle.script_model.specs.Saved.{CountsSaved}
-use Rattle.store_model.specs.Image.{Image}
+use Rattle.script_model.specs.Saved.{CountsSaved, OpensRead}
+use Rattle.store_model.specs.declared.disk.Disk.{Ghosts as Disks}
 use Rattle.script_run.specs.Links.{AreLinked, links_of}
 use Rattle.script_run.specs.Told.{IsTold, noted_of}
 use Rattle.script_run.specs.declared.links.Link.{Link}
@@ -21,22 +21,26 @@ taken_step f now r t is took = ap (λ n. moved n (f n)) is ∙ ap (moved r) took
 refused_step : (f : Record → Result Took ContainerFault) (now r : Record) (e : ContainerFault) → now ≡ r → f r ≡ Err e → moved now (f now) ≡ r
 refused_step f now r e is refused = ap (λ n. moved n (f n)) is ∙ ap (moved r) refused
 
+-- what the calls before a step are to be, of saves and of opened files
+abbrev pub IsBacked : {D : Type 0} (disks : Disks D) → Step → List (Event D) → Type 0
+IsBacked disks st es = CountsSaved disks st es × OpensRead disks st es
+
 -- a step of the container that f is
 abbrev pub IsBy : Step → (Record → Result Took ContainerFault) → Type 0
 IsBy st f = (g : Given) → given g st ≡ gives g (f g.now)
 
-module _ {D : Type 0} {model : Type 0} {ml : D → Image → Type 0} where
-  pub one_step : (st : Step) (f : Record → Result Took ContainerFault) (es : List (Event D)) (r now : Record) → IsBy st f → (model → CountsSaved ml st es) → (record_of es ≡ r → moved (record_of es) (f (record_of es)) ≡ now) → IsTold model ml es r → IsTold model ml (Stepped st ∷ es) now
-  one_step st f es r now by counts is t = record { recorded = ap (λ g. g.now) (by (given_by es)) ∙ is t.recorded; sent = t.sent; saved = λ m. (counts m, t.saved m) }
+module _ {D : Type 0} {disks : Disks D} where
+  pub one_step : (st : Step) (f : Record → Result Took ContainerFault) (es : List (Event D)) (r now : Record) → IsBy st f → (disks.follows_model → IsBacked disks st es) → (record_of es ≡ r → moved (record_of es) (f (record_of es)) ≡ now) → IsTold disks es r → IsTold disks (Stepped st ∷ es) now
+  one_step st f es r now by counts is t = record { recorded = ap (λ g. g.now) (by (given_by es)) ∙ is t.recorded; sent = t.sent; saved = λ m. ((counts m).0, t.saved m); opened = λ m. ((counts m).1, t.opened m) }
 
   -- a step that was undone for want of memory
-  pub lost_step : (st : Step) (f : Record → Result Took ContainerFault) (es : List (Event D)) (r : Record) → IsBy st f → (model → CountsSaved ml st es) → IsTold model ml es r → IsTold model ml (Stepped step.NoMemory ∷ Stepped st ∷ es) r
-  lost_step st f es r by counts t = record { recorded = ap (λ g. g.before) (by (given_by es)) ∙ t.recorded; sent = t.sent; saved = λ m. (tt, (counts m, t.saved m)) }
+  pub lost_step : (st : Step) (f : Record → Result Took ContainerFault) (es : List (Event D)) (r : Record) → IsBy st f → (disks.follows_model → IsBacked disks st es) → IsTold disks es r → IsTold disks (Stepped step.NoMemory ∷ Stepped st ∷ es) r
+  lost_step st f es r by counts t = record { recorded = ap (λ g. g.before) (by (given_by es)) ∙ t.recorded; sent = t.sent; saved = λ m. (tt, ((counts m).0, t.saved m)); opened = λ m. (tt, ((counts m).1, t.opened m)) }
 
-  by_fault : (st : Step) (f : Record → Result Took ContainerFault) (es : List (Event D)) (r : Record) (e : ContainerFault) → IsBy st f → (model → CountsSaved ml st es) → f r ≡ Err e → IsTold model ml es r → IsTold model ml (Stepped st ∷ es) r
+  by_fault : (st : Step) (f : Record → Result Took ContainerFault) (es : List (Event D)) (r : Record) (e : ContainerFault) → IsBy st f → (disks.follows_model → IsBacked disks st es) → f r ≡ Err e → IsTold disks es r → IsTold disks (Stepped st ∷ es) r
   by_fault st f es r e by counts refused = one_step st f es r r by counts (λ is. refused_step f (record_of es) r e is refused)
 
-  pub refused_given : (st : Step) (f : Record → Result Took ContainerFault) (es : List (Event D)) (r : Record) (e : ContainerFault) → IsBy st f → (model → CountsSaved ml st es) → Refuses (f r) e → IsTold model ml es r → IsTold model ml (noted_of {A = Answer} (Err e) (Stepped st ∷ es)) r
+  pub refused_given : (st : Step) (f : Record → Result Took ContainerFault) (es : List (Event D)) (r : Record) (e : ContainerFault) → IsBy st f → (disks.follows_model → IsBacked disks st es) → Refuses (f r) e → IsTold disks es r → IsTold disks (noted_of {A = Answer} (Err e) (Stepped st ∷ es)) r
   refused_given st f es r fault.NoSuch by counts refuses = by_fault st f es r fault.NoSuch by counts refuses
   refused_given st f es r fault.Busy by counts refuses = by_fault st f es r fault.Busy by counts refuses
   refused_given st f es r fault.NotRunning by counts refuses = by_fault st f es r fault.NotRunning by counts refuses
@@ -52,46 +56,46 @@ module _ {D : Type 0} {model : Type 0} {ml : D → Image → Type 0} where
   refused_given st f es r fault.NoMemory by counts refuses = lost_step st f es r by counts
 
   told_given : (st : Step) (f : Record → Result Took ContainerFault) (took : Answer → Took) (told : Result Answer ContainerFault) (es : List (Event D)) (r now : Record)
-      → IsBy st f → (model → CountsSaved ml st es) → ((a : Answer) → (took a).rec ≡ now) → IfOk told (λ a. f r ≡ Ok (took a)) → IfErr told (Refuses (f r)) → OnErr told (now ≡ r)
-      → IsTold model ml es r → IsTold model ml (noted_of told (Stepped st ∷ es)) now
+      → IsBy st f → (disks.follows_model → IsBacked disks st es) → ((a : Answer) → (took a).rec ≡ now) → IfOk told (λ a. f r ≡ Ok (took a)) → IfErr told (Refuses (f r)) → OnErr told (now ≡ r)
+      → IsTold disks es r → IsTold disks (noted_of told (Stepped st ∷ es)) now
   told_given st f took (Ok a) es r now by counts rec ok err kept = one_step st f es r now by counts (λ is. taken_step f (record_of es) r (took a) is ok ∙ rec a)
   told_given st f took (Err e) es r now by counts rec ok err kept =
-      let P : Record → Type 0 = λ n. IsTold model ml es r → IsTold model ml (noted_of {A = Answer} (Err e) (Stepped st ∷ es)) n in
+      let P : Record → Type 0 = λ n. IsTold disks es r → IsTold disks (noted_of {A = Answer} (Err e) (Stepped st ∷ es)) n in
       subst P (sym kept) (refused_given st f es r e by counts err)
 
   -- What the container is given, and what is noted, leave it as the history tells.
   pub step_told : (st : Step) (f : Record → Result Took ContainerFault) (took : Answer → Took) (told : Result Answer ContainerFault) (es mid after : List (Event D)) (r now : Record)
-      → IsBy st f → (model → CountsSaved ml st es) → ((a : Answer) → (took a).rec ≡ now) → mid ≡ Stepped st ∷ es → after ≡ noted_of told mid
+      → IsBy st f → (disks.follows_model → IsBacked disks st es) → ((a : Answer) → (took a).rec ≡ now) → mid ≡ Stepped st ∷ es → after ≡ noted_of told mid
       → IfOk told (λ a. f r ≡ Ok (took a)) → IfErr told (Refuses (f r)) → OnErr told (now ≡ r)
-      → IsTold model ml es r → IsTold model ml after now
+      → IsTold disks es r → IsTold disks after now
   step_told st f took told es mid after r now by counts rec is note ok err kept =
-      let P : List (Event D) → Type 0 = λ h. IsTold model ml es r → IsTold model ml h now in
+      let P : List (Event D) → Type 0 = λ h. IsTold disks es r → IsTold disks h now in
       subst P (sym (note ∙ ap (noted_of told) is)) (told_given st f took told es r now by counts rec ok err kept)
 
   -- What is asked of the host.
-  pub opened_told : {es after : List (Event D)} {r : Record} (name : List ℕ) (disk : Option D) → after ≡ Opened name disk ∷ es → IsTold model ml es r → IsTold model ml after r
-  opened_told {r = r} name disk is t = subst (λ h. IsTold model ml h r) (sym is) (record { recorded = t.recorded; sent = t.sent; saved = t.saved })
+  pub opened_told : {es after : List (Event D)} {r : Record} (name : List ℕ) (disk : Option D) → after ≡ Opened name disk ∷ es → IsTold disks es r → IsTold disks after r
+  opened_told {r = r} name disk is t = subst (λ h. IsTold disks h r) (sym is) (record { recorded = t.recorded; sent = t.sent; saved = t.saved; opened = t.opened })
 
-  pub found_told : {es after : List (Event D)} {r : Record} (name : List ℕ) (disk : Option D) → after ≡ Found name disk ∷ es → IsTold model ml es r → IsTold model ml after r
-  found_told {r = r} name disk is t = subst (λ h. IsTold model ml h r) (sym is) (record { recorded = t.recorded; sent = t.sent; saved = t.saved })
+  pub found_told : {es after : List (Event D)} {r : Record} (name : List ℕ) (disk : Option D) → after ≡ Found name disk ∷ es → IsTold disks es r → IsTold disks after r
+  found_told {r = r} name disk is t = subst (λ h. IsTold disks h r) (sym is) (record { recorded = t.recorded; sent = t.sent; saved = t.saved; opened = t.opened })
 
-  pub shut_told : {es after : List (Event D)} {r : Record} (name : List ℕ) (disk : D) → after ≡ Shut name disk ∷ es → IsTold model ml es r → IsTold model ml after r
-  shut_told {r = r} name disk is t = subst (λ h. IsTold model ml h r) (sym is) (record { recorded = t.recorded; sent = t.sent; saved = t.saved })
+  pub shut_told : {es after : List (Event D)} {r : Record} (name : List ℕ) (disk : D) → after ≡ Shut name disk ∷ es → IsTold disks es r → IsTold disks after r
+  shut_told {r = r} name disk is t = subst (λ h. IsTold disks h r) (sym is) (record { recorded = t.recorded; sent = t.sent; saved = t.saved; opened = t.opened })
 
-  pub connected_told : {es after : List (Event D)} {r : Record} (s : ℕ) (ok : Bool) → after ≡ Connected s ok ∷ es → IsTold model ml es r → IsTold model ml after r
-  connected_told {r = r} s ok is t = subst (λ h. IsTold model ml h r) (sym is) (record { recorded = t.recorded; sent = t.sent; saved = t.saved })
+  pub connected_told : {es after : List (Event D)} {r : Record} (s : ℕ) (ok : Bool) → after ≡ Connected s ok ∷ es → IsTold disks es r → IsTold disks after r
+  connected_told {r = r} s ok is t = subst (λ h. IsTold disks h r) (sym is) (record { recorded = t.recorded; sent = t.sent; saved = t.saved; opened = t.opened })
 
-  pub heard_told : {es after : List (Event D)} {r : Record} (s : ℕ) (bytes : List ℕ) (ok : Bool) → after ≡ Heard s bytes ok ∷ es → IsTold model ml es r → IsTold model ml after r
-  heard_told {r = r} s bytes ok is t = subst (λ h. IsTold model ml h r) (sym is) (record { recorded = t.recorded; sent = t.sent; saved = t.saved })
+  pub heard_told : {es after : List (Event D)} {r : Record} (s : ℕ) (bytes : List ℕ) (ok : Bool) → after ≡ Heard s bytes ok ∷ es → IsTold disks es r → IsTold disks after r
+  heard_told {r = r} s bytes ok is t = subst (λ h. IsTold disks h r) (sym is) (record { recorded = t.recorded; sent = t.sent; saved = t.saved; opened = t.opened })
 
-  pub started_told : {es after : List (Event D)} {r : Record} (s : ℕ) (ok : Bool) → after ≡ Started s ok ∷ es → IsTold model ml es r → IsTold model ml after r
-  started_told {r = r} s ok is t = subst (λ h. IsTold model ml h r) (sym is) (record { recorded = t.recorded; sent = t.sent; saved = t.saved })
+  pub started_told : {es after : List (Event D)} {r : Record} (s : ℕ) (ok : Bool) → after ≡ Started s ok ∷ es → IsTold disks es r → IsTold disks after r
+  started_told {r = r} s ok is t = subst (λ h. IsTold disks h r) (sym is) (record { recorded = t.recorded; sent = t.sent; saved = t.saved; opened = t.opened })
 
-  pub ended_told : {es after : List (Event D)} {r : Record} (s : ℕ) → after ≡ Ended s ∷ es → IsTold model ml es r → IsTold model ml after r
-  ended_told {r = r} s is t = subst (λ h. IsTold model ml h r) (sym is) (record { recorded = t.recorded; sent = t.sent; saved = t.saved })
+  pub ended_told : {es after : List (Event D)} {r : Record} (s : ℕ) → after ≡ Ended s ∷ es → IsTold disks es r → IsTold disks after r
+  ended_told {r = r} s is t = subst (λ h. IsTold disks h r) (sym is) (record { recorded = t.recorded; sent = t.sent; saved = t.saved; opened = t.opened })
 
-  pub sent_told : {es after : List (Event D)} {r : Record} (s : ℕ) (bytes : List ℕ) (ok : Bool) → bytes ≡ turn_of r s → after ≡ Sent s bytes ok ∷ es → IsTold model ml es r → IsTold model ml after r
-  sent_told {r = r} s bytes ok turn is t = subst (λ h. IsTold model ml h r) (sym is) (record { recorded = t.recorded; sent = (turn ∙ ap (λ q. turn_of q s) (sym t.recorded), t.sent); saved = t.saved })
+  pub sent_told : {es after : List (Event D)} {r : Record} (s : ℕ) (bytes : List ℕ) (ok : Bool) → bytes ≡ turn_of r s → after ≡ Sent s bytes ok ∷ es → IsTold disks es r → IsTold disks after r
+  sent_told {r = r} s bytes ok turn is t = subst (λ h. IsTold disks h r) (sym is) (record { recorded = t.recorded; sent = (turn ∙ ap (λ q. turn_of q s) (sym t.recorded), t.sent); saved = t.saved; opened = t.opened })
 
 -- Servers that are started and ended.
 links_end : (s : ℕ) (ls : List Link) (l : Link) → links_of s (ls ++ l ∷ []) ≡ links_of s ls + (if l.inc == s then 1 else 0)

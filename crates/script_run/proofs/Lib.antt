@@ -1,3 +1,5 @@
+pub mod Again
 pub mod Given
+pub mod Kept
 pub mod Opened
 pub mod Saved

@@ -16,9 +16,9 @@ use Rattle.script_model.specs.declared.step.Step.{Step}
 use Rattle.script_model.specs.declared.step.Step.TheVariants as step
 use Rattle.script_model.specs.Containers.{record_of}
 use Rattle.script_model.specs.Events.{Event, Stepped}
-use Rattle.script_model.specs.Saved.{CountsSaved}
-use Rattle.store_model.specs.Image.{Image}
-use Rattle.script_run.proofs.Given.{IsBy, lost_step, one_step, refused_given, taken_step}
+use Rattle.script_model.specs.Saved.{IsOpened, IsReadFrom}
+use Rattle.store_model.specs.declared.disk.Disk.{Ghosts as Disks}
+use Rattle.script_run.proofs.Given.{IsBacked, IsBy, lost_step, one_step, refused_given, taken_step}
 use Rattle.script_run.specs.Told.{IsTold, noted_of}
 
 -- what the container makes of a document
@@ -66,30 +66,34 @@ refuses one r name w h ds file e gives (unread is) = told_or_memory (makes name 
 refuses one r name w h ds file e gives (as_given given reads refused) = inr (subst (λ (x : Read). Refuses (opened r name w h x) e) (one file given (Read.Holding ds) reads gives) refused)
 refuses one r name w h ds file e gives (reading is looked some) = inl is
 
-module _ {D : Type 0} {model : Type 0} {ml : D → Image → Type 0} where
-  either_refused : (st : Step) (f : Record → Result Took ContainerFault) (es : List (Event D)) (r : Record) (e : ContainerFault) → IsBy st f → (model → CountsSaved ml st es) → (e ≡ fault.NoMemory) ⊎ Refuses (f r) e → IsTold model ml es r → IsTold model ml (noted_of {A = Answer} (Err e) (Stepped st ∷ es)) r
+module _ {D : Type 0} {disks : Disks D} where
+  either_refused : (st : Step) (f : Record → Result Took ContainerFault) (es : List (Event D)) (r : Record) (e : ContainerFault) → IsBy st f → (disks.follows_model → IsBacked disks st es) → (e ≡ fault.NoMemory) ⊎ Refuses (f r) e → IsTold disks es r → IsTold disks (noted_of {A = Answer} (Err e) (Stepped st ∷ es)) r
   either_refused st f es r e by counts (inr refused) t = refused_given st f es r e by counts refused t
-  either_refused st f es r e by counts (inl is) t = subst (λ x. IsTold model ml (noted_of {A = Answer} (Err x) (Stepped st ∷ es)) r) (sym is) (lost_step st f es r by counts t)
+  either_refused st f es r e by counts (inl is) t = subst (λ x. IsTold disks (noted_of {A = Answer} (Err x) (Stepped st ∷ es)) r) (sym is) (lost_step st f es r by counts t)
 
   file_given : (one : FilesGiveOne) (name : List ℕ) (w h : ℕ) (ds : List DocObject) (file : Option (List ℕ)) (told : Result Answer ContainerFault) (es : List (Event D)) (r now : Record)
-      → IsReadAs file (Read.Holding ds)
+      → (disks.follows_model → IsOpened disks es name ds) → IsReadAs file (Read.Holding ds)
       → IfOk told (λ a. (given : Read) × IsReadAs file given × (opened r name w h given ≡ Ok (counts_none now a))) → IfErr told (MayRefuse r name w h file) → OnErr told (now ≡ r)
-      → IsTold model ml es r → IsTold model ml (noted_of told (Stepped (step.Open name w h ds) ∷ es)) now
-  file_given one name w h ds file (Ok a) es r now gives ok err kept t =
+      → IsTold disks es r → IsTold disks (noted_of told (Stepped (step.Open name w h ds) ∷ es)) now
+  file_given one name w h ds file (Ok a) es r now read gives ok err kept t =
       let f = makes name w h ds in
       let took : f r ≡ Ok (counts_none now a) = subst (λ (x : Read). opened r name w h x ≡ Ok (counts_none now a)) (one file ok.0 (Read.Holding ds) ok.1 gives) ok.2 in
-      one_step (step.Open name w h ds) f es r now (λ g. refl) (λ m. tt) (λ is. taken_step f (record_of es) r (counts_none now a) is took) t
-  file_given one name w h ds file (Err e) es r now gives ok err kept t =
-      subst (λ (n : Record). IsTold model ml (noted_of {A = Answer} (Err e) (Stepped (step.Open name w h ds) ∷ es)) n) (sym kept)
-      (either_refused (step.Open name w h ds) (makes name w h ds) es r e (λ g. refl) (λ m. tt) (refuses one r name w h ds file e gives err) t)
+      one_step (step.Open name w h ds) f es r now (λ g. refl) (λ m. (tt, read m)) (λ is. taken_step f (record_of es) r (counts_none now a) is took) t
+  file_given one name w h ds file (Err e) es r now read gives ok err kept t =
+      subst (λ (n : Record). IsTold disks (noted_of {A = Answer} (Err e) (Stepped (step.Open name w h ds) ∷ es)) n) (sym kept)
+      (either_refused (step.Open name w h ds) (makes name w h ds) es r e (λ g. refl) (λ m. (tt, read m)) (refuses one r name w h ds file e gives err) t)
 
   -- A file that is opened leaves the container as the history tells.
   pub file_told : (one : FilesGiveOne) (name : List ℕ) (w h : ℕ) (ds : List DocObject) (file : Option (List ℕ)) (told : Result Answer ContainerFault) (es mid after : List (Event D)) (r now : Record)
-      → IsReadAs file (Read.Holding ds) → mid ≡ Stepped (step.Open name w h ds) ∷ es → after ≡ noted_of told mid
+      → (disks.follows_model → IsOpened disks es name ds) → IsReadAs file (Read.Holding ds) → mid ≡ Stepped (step.Open name w h ds) ∷ es → after ≡ noted_of told mid
       → IfOk told (λ a. (given : Read) × IsReadAs file given × (opened r name w h given ≡ Ok (counts_none now a))) → IfErr told (MayRefuse r name w h file) → OnErr told (now ≡ r)
-      → IsTold model ml es r → IsTold model ml after now
-  file_told one name w h ds file told es mid after r now gives is note ok err kept t =
-      subst (λ (n : List (Event D)). IsTold model ml n now) (sym (note ∙ ap (noted_of told) is)) (file_given one name w h ds file told es r now gives ok err kept t)
+      → IsTold disks es r → IsTold disks after now
+  file_told one name w h ds file told es mid after r now read gives is note ok err kept t =
+      subst (λ (n : List (Event D)). IsTold disks n now) (sym (note ∙ ap (noted_of told) is)) (file_given one name w h ds file told es r now read gives ok err kept t)
+
+-- a file that was read, and holds these objects
+pub opened_by : {D : Type 0} (disks : Disks D) (es : List (Event D)) (name bytes : List ℕ) (ds : List DocObject) → IsReadFrom disks es name bytes → IsReadAs (Some bytes) (Read.Holding ds) → IsOpened disks es name ds
+opened_by disks es name bytes ds read gives = record { bytes = bytes; read = read; holds = gives }
 
 -- few objects, of what a call answered
 pub few_given : (r : Record) (name : List ℕ) (w h : ℕ) (file : Option (List ℕ)) (now : Record) (told : Result Answer ContainerFault)

@@ -9,19 +9,21 @@ use Rattle.container_model.specs.declared.fault.ContainerFault.{ContainerFault}
 use Rattle.container_model.specs.declared.fault.ContainerFault.TheVariants.{NoMemory}
 use Rattle.doc_store.specs.declared.outcome.Outcome.{Outcome}
 use Rattle.doc_store.specs.declared.outcome.Outcome.TheVariants.{Kept, Lost}
-use Rattle.store_model.specs.Image.{Image}
+use Rattle.store_model.specs.Store.{IsBeforeOrAfter}
+use Rattle.store_model.specs.declared.disk.Disk.{Ghosts as Disks}
 use Rattle.script_model.specs.declared.step.Step.TheVariants as step
 use Rattle.script_model.specs.Containers.{record_of}
 use Rattle.script_model.specs.Events.{Event, Stepped}
-use Rattle.script_model.specs.Saved.{AreSaved, IsDurable, IsShutWith}
+use Rattle.script_model.specs.Saved.{AreOpened, AreSaved, IsDurable, IsSince}
 use Rattle.script_model.specs.Turns.{AreTurns}
 
--- The container's record is that of the history, all that was sent were its turns, and each commit that it counts stands behind
--- the disk that holds its file, where the disks follow the model.
-pub record IsTold {D : Type 0} (model : Type 0) (may_leave : D → Image → Type 0) (es : List (Event D)) (r : Record) : Type 0 where
+-- The container's record is that of the history, all that was sent were its turns, and, where the disks follow the model, each
+-- commit that it counts is saved and each file that it opened was read.
+pub record IsTold {D : Type 0} (disks : Disks D) (es : List (Event D)) (r : Record) : Type 0 where
   pub recorded : record_of es ≡ r
   pub sent : AreTurns es
-  pub saved : model → AreSaved may_leave es
+  pub saved : disks.follows_model → AreSaved disks es
+  pub opened : disks.follows_model → AreOpened disks es
 
 -- a history in which want of memory is noted
 abbrev pub noted_of : {A D : Type 0} → Result A ContainerFault → List (Event D) → List (Event D)
@@ -32,12 +34,12 @@ noted_of told es = es
 abbrev pub IsImage : Record → ℕ → List ℕ → Type 0
 IsImage r f bytes = (parts : List Part) × (image r f ≡ Ok parts) × ∥ Denotes bytes (document_tree parts) ∥₁ × DocOf (document_tree parts) (document parts)
 
--- what a commit that ended leaves of its disk: where it was kept, whatever a crash leaves stands for its bytes
-abbrev pub Leaves : {D : Type 0} (may_leave : D → Image → Type 0) → List ℕ → Outcome → D → Type 0
-Leaves may_leave bytes Kept disk = IsDurable may_leave disk bytes
-Leaves may_leave bytes (Lost fault) disk = Unit {0}
+-- what is said of a commit that was kept
+abbrev pub IfKept : Outcome → Type 0 → Type 0
+IfKept Kept fact = fact
+IfKept (Lost fault) fact = Unit {0}
 
--- the same of the disk that was given back last, under a name
-abbrev pub ShutAs : {D : Type 0} (may_leave : D → Image → Type 0) → List (Event D) → (name bytes : List ℕ) → Outcome → Type 0
-ShutAs may_leave es name bytes Kept = IsShutWith may_leave es name bytes
-ShutAs may_leave es name bytes (Lost fault) = Unit {0}
+-- These bytes took the place of a document on a disk: a crash since then leaves what stands for either, and a crash now leaves
+-- what stands for these bytes.
+abbrev pub IsReplacedOn : {D : Type 0} (disks : Disks D) → D → (document bytes : List ℕ) → D → Type 0
+IsReplacedOn disks before document bytes disk = IsSince disks before disk (IsBeforeOrAfter document bytes) × IsDurable disks disk bytes

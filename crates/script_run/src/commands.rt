@@ -22,6 +22,7 @@ use script_model::host::Host;
 use script_texts::answers::{further, made_by, push_told};
 use std::alloc::Global;
 use std::io::Write;
+use store_model::disk::Disk;
 use texts::output::write_all;
 use wire_msgs::items::Items;
 use wire_msgs::message::Message;
@@ -46,9 +47,9 @@ fn start<H: Host>(
     links: &mut Vec<Link>,
     inc: u32,
 ) -> Result<(), ScriptFault>
-    requires told { IsTold H.Disk.follows_model H.Disk.may_leave (H.told host.old) _core.now }
+    requires told { IsTold ⟦<H::Disk as Disk>⟧ (H.told host.old) _core.now }
     requires linked { AreLinked (H.told host.old) links.old.items }
-    ensures told { IsTold H.Disk.follows_model H.Disk.may_leave (H.told host.new) _core.now }
+    ensures told { IsTold ⟦<H::Disk as Disk>⟧ (H.told host.new) _core.now }
     ensures linked { AreLinked (H.told host.new) links.new.items }
 {
     links.reserve(1)?;
@@ -78,9 +79,9 @@ fn end<H: Host>(
     inc: u32,
     noticed: &mut Option<Told>,
 ) -> Result<(), ScriptFault>
-    requires told { IsTold H.Disk.follows_model H.Disk.may_leave (H.told host.old) core.old }
+    requires told { IsTold ⟦<H::Disk as Disk>⟧ (H.told host.old) core.old }
     requires linked { AreLinked (H.told host.old) links.old.items }
-    ensures told { IsTold H.Disk.follows_model H.Disk.may_leave (H.told host.new) core.new }
+    ensures told { IsTold ⟦<H::Disk as Disk>⟧ (H.told host.new) core.new }
     ensures linked { AreLinked (H.told host.new) links.new.items }
 {
     match place_of(links, inc) {
@@ -98,9 +99,9 @@ fn act_on<H: Host>(
     action: &Action,
     noticed: &mut Option<Told>,
 ) -> Result<(), ScriptFault>
-    requires told { IsTold H.Disk.follows_model H.Disk.may_leave (H.told host.old) core.old }
+    requires told { IsTold ⟦<H::Disk as Disk>⟧ (H.told host.old) core.old }
     requires linked { AreLinked (H.told host.old) links.old.items }
-    ensures told { IsTold H.Disk.follows_model H.Disk.may_leave (H.told host.new) core.new }
+    ensures told { IsTold ⟦<H::Disk as Disk>⟧ (H.told host.new) core.new }
     ensures linked { AreLinked (H.told host.new) links.new.items }
 {
     match action {
@@ -119,9 +120,9 @@ fn act<H: Host>(
     answer: &Answer,
     noticed: &mut Option<Told>,
 ) -> Result<(), ScriptFault>
-    requires told { IsTold H.Disk.follows_model H.Disk.may_leave (H.told host.old) core.old }
+    requires told { IsTold ⟦<H::Disk as Disk>⟧ (H.told host.old) core.old }
     requires linked { AreLinked (H.told host.old) links.old.items }
-    ensures told { IsTold H.Disk.follows_model H.Disk.may_leave (H.told host.new) core.new }
+    ensures told { IsTold ⟦<H::Disk as Disk>⟧ (H.told host.new) core.new }
     ensures linked { AreLinked (H.told host.new) links.new.items }
 {
     for action in answer.actions.as_slice() {
@@ -139,9 +140,9 @@ fn order<H: Host>(
     ordered: Command,
     noticed: &mut Option<Told>,
 ) -> Result<Told, ScriptFault>
-    requires told { IsTold H.Disk.follows_model H.Disk.may_leave (H.told host.old) core.old }
+    requires told { IsTold ⟦<H::Disk as Disk>⟧ (H.told host.old) core.old }
     requires linked { AreLinked (H.told host.old) links.old.items }
-    ensures told { IsTold H.Disk.follows_model H.Disk.may_leave (H.told host.new) core.new }
+    ensures told { IsTold ⟦<H::Disk as Disk>⟧ (H.told host.new) core.new }
     ensures linked { AreLinked (H.told host.new) links.new.items }
 {
     match command(alloc, host, core, ordered) {
@@ -164,9 +165,9 @@ fn cut<H: Host>(
     noticed: &mut Option<Told>,
 ) -> Result<(), ScriptFault>
     requires within { place < length links.old.items }
-    requires told { IsTold H.Disk.follows_model H.Disk.may_leave (H.told host.old) core.old }
+    requires told { IsTold ⟦<H::Disk as Disk>⟧ (H.told host.old) core.old }
     requires linked { AreLinked (H.told host.old) links.old.items }
-    ensures told { IsTold H.Disk.follows_model H.Disk.may_leave (H.told host.new) core.new }
+    ensures told { IsTold ⟦<H::Disk as Disk>⟧ (H.told host.new) core.new }
     ensures linked { AreLinked (H.told host.new) links.new.items }
 {
     send_turn(alloc, host, core, links[place].inc)?;
@@ -185,8 +186,8 @@ fn hand_all<H: Host>(
     waiting: Items<Message>,
     noticed: &mut Option<Told>,
 ) -> Result<bool, ScriptFault>
-    requires { IsTold H.Disk.follows_model H.Disk.may_leave (H.told host.old) core.old }
-    ensures told { IsTold H.Disk.follows_model H.Disk.may_leave (H.told host.new) core.new }
+    requires { IsTold ⟦<H::Disk as Disk>⟧ (H.told host.old) core.old }
+    ensures told { IsTold ⟦<H::Disk as Disk>⟧ (H.told host.new) core.new }
     ensures still { (s : ℕ) → running s (H.told host.new) ≡ running s (H.told host.old) }
 {
     for taken in waiting.into_vec() {
@@ -212,7 +213,7 @@ fn let_go(alloc: Global, links: &mut Vec<Link>, place: usize) -> Items<Message>
 fn reconnect_at<H: Host>(alloc: Global, host: &mut H, links: &mut Vec<Link>, place: usize) -> bool
     requires within { place < length links.old.items }
     requires linked { AreLinked (H.told host.old) links.old.items }
-    ensures told { (r : Record) → IsTold H.Disk.follows_model H.Disk.may_leave (H.told host.old) r → IsTold H.Disk.follows_model H.Disk.may_leave (H.told host.new) r }
+    ensures told { (r : Record) → IsTold ⟦<H::Disk as Disk>⟧ (H.told host.old) r → IsTold ⟦<H::Disk as Disk>⟧ (H.told host.new) r }
     ensures linked { AreLinked (H.told host.new) links.new.items }
     ensures many { length links.new.items ≡ length links.old.items }
 {
@@ -229,9 +230,9 @@ fn release<H: Host>(
     noticed: &mut Option<Told>,
 ) -> Result<(), ScriptFault>
     requires within { place < length links.old.items }
-    requires told { IsTold H.Disk.follows_model H.Disk.may_leave (H.told host.old) core.old }
+    requires told { IsTold ⟦<H::Disk as Disk>⟧ (H.told host.old) core.old }
     requires linked { AreLinked (H.told host.old) links.old.items }
-    ensures told { IsTold H.Disk.follows_model H.Disk.may_leave (H.told host.new) core.new }
+    ensures told { IsTold ⟦<H::Disk as Disk>⟧ (H.told host.new) core.new }
     ensures linked { AreLinked (H.told host.new) links.new.items }
 {
     let inc = links[place].inc;
@@ -259,9 +260,9 @@ fn at_link<H: Host>(
     command: &ScriptCommand,
     noticed: &mut Option<Told>,
 ) -> Result<Told, ScriptFault>
-    requires told { IsTold H.Disk.follows_model H.Disk.may_leave (H.told host.old) core.old }
+    requires told { IsTold ⟦<H::Disk as Disk>⟧ (H.told host.old) core.old }
     requires linked { AreLinked (H.told host.old) links.old.items }
-    ensures told { IsTold H.Disk.follows_model H.Disk.may_leave (H.told host.new) core.new }
+    ensures told { IsTold ⟦<H::Disk as Disk>⟧ (H.told host.new) core.new }
     ensures linked { AreLinked (H.told host.new) links.new.items }
 {
     let inc = match command {
@@ -306,9 +307,9 @@ fn begin<H: Host>(
     noticed: &mut Option<Told>,
     text: &mut Vec<u8>,
 ) -> Result<Told, ScriptFault>
-    requires told { IsTold H.Disk.follows_model H.Disk.may_leave (H.told host.old) core.old }
+    requires told { IsTold ⟦<H::Disk as Disk>⟧ (H.told host.old) core.old }
     requires linked { AreLinked (H.told host.old) links.old.items }
-    ensures told { IsTold H.Disk.follows_model H.Disk.may_leave (H.told host.new) core.new }
+    ensures told { IsTold ⟦<H::Disk as Disk>⟧ (H.told host.new) core.new }
     ensures linked { AreLinked (H.told host.new) links.new.items }
 {
     match command {
@@ -328,9 +329,9 @@ pub(crate) fn carry_out<H: Host, W: Write>(
     command: ScriptCommand,
     writer: &mut W,
 ) -> Result<(), ScriptFault>
-    requires told { IsTold H.Disk.follows_model H.Disk.may_leave (H.told host.old) core.old }
+    requires told { IsTold ⟦<H::Disk as Disk>⟧ (H.told host.old) core.old }
     requires linked { AreLinked (H.told host.old) links.old.items }
-    ensures told { IsTold H.Disk.follows_model H.Disk.may_leave (H.told host.new) core.new }
+    ensures told { IsTold ⟦<H::Disk as Disk>⟧ (H.told host.new) core.new }
     ensures linked { AreLinked (H.told host.new) links.new.items }
 {
     let mut noticed = None;

@@ -4,7 +4,7 @@ ghost use Rattle.container_model.specs.Opens.{Given, IsReadAs};
 ghost use Rattle.container_model.specs.declared.command.Command.{Command};
 ghost use Rattle.document_model.specs.declared.object.DocObject.{DocObject};
 ghost use Rattle.script_model.specs.Events.{running};
-ghost use Rattle.script_model.specs.Saved.{IsSaved};
+ghost use Rattle.script_model.specs.Saved.{IsReadFrom, IsSaved};
 ghost use Rattle.script_model.specs.declared.step.Step.TheVariants as given;
 ghost use Rattle.script_run.specs.Told.{IsTold, noted_of};
 ghost use Rattle.std.specs.Prelude.{◌≡◌, ◌≤◌, IfOk, List, Some, length, ℕ};
@@ -21,6 +21,7 @@ use script_model::host::Host;
 use script_model::step::Step;
 use std::alloc::Global;
 use storage_tree::bytes::Bytes;
+use store_model::disk::Disk;
 use wire_msgs::items::Items;
 use wire_msgs::message::Message;
 
@@ -80,8 +81,8 @@ pub(crate) fn command<H: Host>(
     core: &mut ContainerCore,
     command: Command,
 ) -> Result<Answer, ContainerFault>
-    requires { IsTold H.Disk.follows_model H.Disk.may_leave (H.told host.old) core.old }
-    ensures told { IsTold H.Disk.follows_model H.Disk.may_leave (H.told host.new) core.new }
+    requires { IsTold ⟦<H::Disk as Disk>⟧ (H.told host.old) core.old }
+    ensures told { IsTold ⟦<H::Disk as Disk>⟧ (H.told host.new) core.new }
     ensures still { (s : ℕ) → running s (H.told host.new) ≡ running s (H.told host.old) }
 {
     let step = Step::Command(command);
@@ -101,8 +102,8 @@ pub(crate) fn message<H: Host>(
     inc: u32,
     message: Message,
 ) -> Result<Answer, ContainerFault>
-    requires { IsTold H.Disk.follows_model H.Disk.may_leave (H.told host.old) core.old }
-    ensures told { IsTold H.Disk.follows_model H.Disk.may_leave (H.told host.new) core.new }
+    requires { IsTold ⟦<H::Disk as Disk>⟧ (H.told host.old) core.old }
+    ensures told { IsTold ⟦<H::Disk as Disk>⟧ (H.told host.new) core.new }
     ensures still { (s : ℕ) → running s (H.told host.new) ≡ running s (H.told host.old) }
 {
     let step = Step::Message(inc, message);
@@ -114,7 +115,7 @@ pub(crate) fn message<H: Host>(
     noted(host, told)
 }
 
-/// Gives the container a file that is opened, with this document.
+/// Gives the container a file that is opened, with this document: the disk that was given back last had it.
 pub(crate) fn opened<H: Host>(
     alloc: Global,
     host: &mut H,
@@ -125,9 +126,10 @@ pub(crate) fn opened<H: Host>(
     document: Doc,
     file: &[u8],
 ) -> Result<Answer, ContainerFault>
-    requires told { IsTold H.Disk.follows_model H.Disk.may_leave (H.told host.old) core.old }
+    requires told { IsTold ⟦<H::Disk as Disk>⟧ (H.told host.old) core.old }
+    requires read { H.Disk.follows_model → IsReadFrom ⟦<H::Disk as Disk>⟧ (H.told host.old) name file.now }
     requires gives { IsReadAs (Some file.now) (Given.Holding document) }
-    ensures told { IsTold H.Disk.follows_model H.Disk.may_leave (H.told host.new) core.new }
+    ensures told { IsTold ⟦<H::Disk as Disk>⟧ (H.told host.new) core.new }
     ensures still { (s : ℕ) → running s (H.told host.new) ≡ running s (H.told host.old) }
     ensures few { IfOk result (λ a. length a.objects ≤ 64) }
 {
@@ -148,8 +150,8 @@ pub(crate) fn reap<H: Host>(
     core: &mut ContainerCore,
     inc: u32,
 ) -> Result<Answer, ContainerFault>
-    requires { IsTold H.Disk.follows_model H.Disk.may_leave (H.told host.old) core.old }
-    ensures told { IsTold H.Disk.follows_model H.Disk.may_leave (H.told host.new) core.new }
+    requires { IsTold ⟦<H::Disk as Disk>⟧ (H.told host.old) core.old }
+    ensures told { IsTold ⟦<H::Disk as Disk>⟧ (H.told host.new) core.new }
     ensures still { (s : ℕ) → running s (H.told host.new) ≡ running s (H.told host.old) }
 {
     host.note(&Step::Reap(inc));
@@ -172,9 +174,9 @@ pub(crate) fn committed<H: Host>(
     core: &mut ContainerCore,
     frame: u32,
 ) -> Result<(), ScriptFault>
-    requires saved { H.Disk.follows_model → IsSaved H.Disk.may_leave (H.told host.old) frame }
-    requires told { IsTold H.Disk.follows_model H.Disk.may_leave (H.told host.old) core.old }
-    ensures told { IsTold H.Disk.follows_model H.Disk.may_leave (H.told host.new) core.new }
+    requires saved { H.Disk.follows_model → IsSaved ⟦<H::Disk as Disk>⟧ (H.told host.old) frame }
+    requires told { IsTold ⟦<H::Disk as Disk>⟧ (H.told host.old) core.old }
+    ensures told { IsTold ⟦<H::Disk as Disk>⟧ (H.told host.new) core.new }
     ensures still { (s : ℕ) → running s (H.told host.new) ≡ running s (H.told host.old) }
 {
     host.note(&Step::Committed(frame));
@@ -189,8 +191,8 @@ pub(crate) fn failed<H: Host>(
     core: &mut ContainerCore,
     frame: u32,
 ) -> Result<(), ScriptFault>
-    requires { IsTold H.Disk.follows_model H.Disk.may_leave (H.told host.old) core.old }
-    ensures told { IsTold H.Disk.follows_model H.Disk.may_leave (H.told host.new) core.new }
+    requires { IsTold ⟦<H::Disk as Disk>⟧ (H.told host.old) core.old }
+    ensures told { IsTold ⟦<H::Disk as Disk>⟧ (H.told host.new) core.new }
     ensures still { (s : ℕ) → running s (H.told host.new) ≡ running s (H.told host.old) }
 {
     host.note(&Step::Failed(frame));
@@ -205,8 +207,8 @@ pub(crate) fn dropped<H: Host>(
     core: &mut ContainerCore,
     frame: u32,
 ) -> Result<(), ScriptFault>
-    requires { IsTold H.Disk.follows_model H.Disk.may_leave (H.told host.old) core.old }
-    ensures told { IsTold H.Disk.follows_model H.Disk.may_leave (H.told host.new) core.new }
+    requires { IsTold ⟦<H::Disk as Disk>⟧ (H.told host.old) core.old }
+    ensures told { IsTold ⟦<H::Disk as Disk>⟧ (H.told host.new) core.new }
     ensures still { (s : ℕ) → running s (H.told host.new) ≡ running s (H.told host.old) }
 {
     host.note(&Step::Resolved(frame, false));

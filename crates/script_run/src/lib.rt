@@ -4,6 +4,7 @@
 mod commands;
 mod container;
 pub mod fault;
+pub mod laws;
 mod links;
 mod opens;
 mod saves;

@@ -19,6 +19,7 @@ use message_bytes::frame::Frame;
 use script_model::answer::Told;
 use script_model::host::Host;
 use std::alloc::{AllocError, Global};
+use store_model::disk::Disk;
 use wire_msgs::items::Items;
 use wire_msgs::message::Message;
 use wire_msgs::refusal::Refusal;
@@ -112,8 +113,8 @@ pub(crate) fn send_turn<H: Host>(
     core: &ContainerCore,
     inc: u32,
 ) -> Result<bool, ScriptFault>
-    requires { IsTold H.Disk.follows_model H.Disk.may_leave (H.told host.old) core.now }
-    ensures told { IsTold H.Disk.follows_model H.Disk.may_leave (H.told host.new) core.now }
+    requires { IsTold ⟦<H::Disk as Disk>⟧ (H.told host.old) core.now }
+    ensures told { IsTold ⟦<H::Disk as Disk>⟧ (H.told host.new) core.now }
     ensures still { (s : ℕ) → running s (H.told host.new) ≡ running s (H.told host.old) }
 {
     let bytes = turn_bytes(alloc, core, inc)?;
@@ -138,8 +139,8 @@ pub(crate) fn hand_over<H: Host>(
     taken: Message,
     noticed: &mut Option<Told>,
 ) -> Result<bool, ScriptFault>
-    requires { IsTold H.Disk.follows_model H.Disk.may_leave (H.told host.old) core.old }
-    ensures told { IsTold H.Disk.follows_model H.Disk.may_leave (H.told host.new) core.new }
+    requires { IsTold ⟦<H::Disk as Disk>⟧ (H.told host.old) core.old }
+    ensures told { IsTold ⟦<H::Disk as Disk>⟧ (H.told host.new) core.new }
     ensures still { (s : ℕ) → running s (H.told host.new) ≡ running s (H.told host.old) }
 {
     match message(alloc, host, core, inc, taken) {
@@ -164,8 +165,8 @@ fn meet<H: Host>(
     taken: Message,
     noticed: &mut Option<Told>,
 ) -> Result<bool, ScriptFault>
-    requires { IsTold H.Disk.follows_model H.Disk.may_leave (H.told host.old) core.old }
-    ensures told { IsTold H.Disk.follows_model H.Disk.may_leave (H.told host.new) core.new }
+    requires { IsTold ⟦<H::Disk as Disk>⟧ (H.told host.old) core.old }
+    ensures told { IsTold ⟦<H::Disk as Disk>⟧ (H.told host.new) core.new }
     ensures still { (s : ℕ) → running s (H.told host.new) ≡ running s (H.told host.old) }
     ensures same { link.new.inc ≡ link.old.inc }
 {
@@ -184,8 +185,8 @@ fn take_frames<H: Host>(
     link: &mut Link,
     noticed: &mut Option<Told>,
 ) -> Result<Heard, ScriptFault>
-    requires { IsTold H.Disk.follows_model H.Disk.may_leave (H.told host.old) core.old }
-    ensures told { IsTold H.Disk.follows_model H.Disk.may_leave (H.told host.new) core.new }
+    requires { IsTold ⟦<H::Disk as Disk>⟧ (H.told host.old) core.old }
+    ensures told { IsTold ⟦<H::Disk as Disk>⟧ (H.told host.new) core.new }
     ensures still { (s : ℕ) → running s (H.told host.new) ≡ running s (H.told host.old) }
     ensures same { link.new.inc ≡ link.old.inc }
 {
@@ -206,7 +207,7 @@ fn take_frames<H: Host>(
 
 /// Reads some bytes of a link. Gives whether there were any.
 fn read_some<H: Host>(host: &mut H, link: &mut Link) -> Result<bool, ScriptFault>
-    ensures told { (r : Record) → IsTold H.Disk.follows_model H.Disk.may_leave (H.told host.old) r → IsTold H.Disk.follows_model H.Disk.may_leave (H.told host.new) r }
+    ensures told { (r : Record) → IsTold ⟦<H::Disk as Disk>⟧ (H.told host.old) r → IsTold ⟦<H::Disk as Disk>⟧ (H.told host.new) r }
     ensures still { (s : ℕ) → running s (H.told host.new) ≡ running s (H.told host.old) }
     ensures same { link.new.inc ≡ link.old.inc }
 {
@@ -233,8 +234,8 @@ fn hear<H: Host>(
     noticed: &mut Option<Told>,
     reads: &mut u32,
 ) -> Result<Heard, ScriptFault>
-    requires { IsTold H.Disk.follows_model H.Disk.may_leave (H.told host.old) core.old }
-    ensures told { IsTold H.Disk.follows_model H.Disk.may_leave (H.told host.new) core.new }
+    requires { IsTold ⟦<H::Disk as Disk>⟧ (H.told host.old) core.old }
+    ensures told { IsTold ⟦<H::Disk as Disk>⟧ (H.told host.new) core.new }
     ensures still { (s : ℕ) → running s (H.told host.new) ≡ running s (H.told host.old) }
     ensures same { link.new.inc ≡ link.old.inc }
 {
@@ -260,8 +261,8 @@ fn exchange<H: Host>(
     noticed: &mut Option<Told>,
     reads: &mut u32,
 ) -> Result<Heard, ScriptFault>
-    requires { IsTold H.Disk.follows_model H.Disk.may_leave (H.told host.old) core.old }
-    ensures told { IsTold H.Disk.follows_model H.Disk.may_leave (H.told host.new) core.new }
+    requires { IsTold ⟦<H::Disk as Disk>⟧ (H.told host.old) core.old }
+    ensures told { IsTold ⟦<H::Disk as Disk>⟧ (H.told host.new) core.new }
     ensures still { (s : ℕ) → running s (H.told host.new) ≡ running s (H.told host.old) }
     ensures same { link.new.inc ≡ link.old.inc }
 {
@@ -273,7 +274,7 @@ fn exchange<H: Host>(
 
 /// Connects a link again: what came of the old connection and isn't carried out is dropped.
 pub(crate) fn reconnect<H: Host>(alloc: Global, host: &mut H, link: &mut Link) -> bool
-    ensures told { (r : Record) → IsTold H.Disk.follows_model H.Disk.may_leave (H.told host.old) r → IsTold H.Disk.follows_model H.Disk.may_leave (H.told host.new) r }
+    ensures told { (r : Record) → IsTold ⟦<H::Disk as Disk>⟧ (H.told host.old) r → IsTold ⟦<H::Disk as Disk>⟧ (H.told host.new) r }
     ensures still { (s : ℕ) → running s (H.told host.new) ≡ running s (H.told host.old) }
     ensures same { link.new.inc ≡ link.old.inc }
 {
@@ -289,8 +290,8 @@ pub(crate) fn serve<H: Host>(
     link: &mut Link,
     noticed: &mut Option<Told>,
 ) -> Result<bool, ScriptFault>
-    requires { IsTold H.Disk.follows_model H.Disk.may_leave (H.told host.old) core.old }
-    ensures told { IsTold H.Disk.follows_model H.Disk.may_leave (H.told host.new) core.new }
+    requires { IsTold ⟦<H::Disk as Disk>⟧ (H.told host.old) core.old }
+    ensures told { IsTold ⟦<H::Disk as Disk>⟧ (H.told host.new) core.new }
     ensures still { (s : ℕ) → running s (H.told host.new) ≡ running s (H.told host.old) }
     ensures same { link.new.inc ≡ link.old.inc }
 {

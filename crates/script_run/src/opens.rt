@@ -3,9 +3,9 @@
 ghost use Rattle.container_model.specs.Opens.{Given, IsReadAs};
 ghost use Rattle.container_model.specs.Record.{Record};
 ghost use Rattle.script_model.specs.Events.{running};
+ghost use Rattle.script_model.specs.Saved.{IsReadFrom, IsReadOf};
 ghost use Rattle.script_run.specs.Told.{IsTold};
-ghost use Rattle.std.specs.Prelude.{◌≡◌, ℕ, IfOk, Some};
-ghost use Rattle.store_model.specs.Journal.{restored};
+ghost use Rattle.std.specs.Prelude.{◌≡◌, ℕ, IfOk, IfSome, Some};
 
 use crate::container::opened;
 use crate::fault::ScriptFault;
@@ -24,7 +24,7 @@ use store_model::fault::StoreFault;
 
 /// The document of a disk, once its open journal is carried out, and the disk.
 fn document_on<D: Disk + Drop>(alloc: Global, disk: D) -> (Result<Vec<u8>, StoreFault>, D)
-    ensures { D.follows_model → IfOk result.0 (λ file. restored (D.reads disk) ≡ Some file.items) }
+    ensures { D.follows_model → IfOk result.0 (λ file. IsReadOf ⟦<D as Disk>⟧ disk file.items result.1) }
 {
     match Store::open(alloc, disk) {
         Ok(mut store) => {
@@ -35,18 +35,22 @@ fn document_on<D: Disk + Drop>(alloc: Global, disk: D) -> (Result<Vec<u8>, Store
     }
 }
 
-/// What the file of a name holds, and nothing where there is no such file.
-fn read<H: Host>(alloc: Global, host: &mut H, name: &[u8]) -> Result<Vec<u8>, StoreFault>
-    ensures told { (r : Record) → IsTold H.Disk.follows_model H.Disk.may_leave (H.told host.old) r → IsTold H.Disk.follows_model H.Disk.may_leave (H.told host.new) r }
+/// What the file of a name holds; none where there is no such file.
+fn read<H: Host>(alloc: Global, host: &mut H, name: &[u8]) -> Result<Option<Vec<u8>>, StoreFault>
+    ensures told { (r : Record) → IsTold ⟦<H::Disk as Disk>⟧ (H.told host.old) r → IsTold ⟦<H::Disk as Disk>⟧ (H.told host.new) r }
     ensures still { (s : ℕ) → running s (H.told host.new) ≡ running s (H.told host.old) }
+    ensures read { H.Disk.follows_model → IfOk result (λ found. IfSome found (λ file. IsReadFrom ⟦<H::Disk as Disk>⟧ (H.told host.new) name.now file.items)) }
 {
     match host.find(name) {
         Ok(Some(disk)) => {
             let (file, disk) = document_on(alloc, disk);
             host.shut(name, disk);
-            file
+            match file {
+                Ok(file) => Ok(Some(file)),
+                Err(fault) => Err(fault),
+            }
         }
-        Ok(None) => Ok(Vec::new(alloc)),
+        Ok(None) => Ok(None),
         Err(fault) => Err(fault),
     }
 }
@@ -62,9 +66,10 @@ fn make_frame<H: Host>(
     document: Doc,
     file: &[u8],
 ) -> Result<Told, ScriptFault>
-    requires told { IsTold H.Disk.follows_model H.Disk.may_leave (H.told host.old) core.old }
+    requires told { IsTold ⟦<H::Disk as Disk>⟧ (H.told host.old) core.old }
+    requires read { H.Disk.follows_model → IsReadFrom ⟦<H::Disk as Disk>⟧ (H.told host.old) name file.now }
     requires gives { IsReadAs (Some file.now) (Given.Holding document) }
-    ensures told { IsTold H.Disk.follows_model H.Disk.may_leave (H.told host.new) core.new }
+    ensures told { IsTold ⟦<H::Disk as Disk>⟧ (H.told host.new) core.new }
     ensures still { (s : ℕ) → running s (H.told host.new) ≡ running s (H.told host.old) }
 {
     match opened(alloc, host, core, name, width, height, document, file) {
@@ -84,8 +89,9 @@ fn open_found<H: Host>(
     height: u16,
     file: &[u8],
 ) -> Result<Told, ScriptFault>
-    requires { IsTold H.Disk.follows_model H.Disk.may_leave (H.told host.old) core.old }
-    ensures told { IsTold H.Disk.follows_model H.Disk.may_leave (H.told host.new) core.new }
+    requires told { IsTold ⟦<H::Disk as Disk>⟧ (H.told host.old) core.old }
+    requires read { H.Disk.follows_model → IsReadFrom ⟦<H::Disk as Disk>⟧ (H.told host.old) name file.now }
+    ensures told { IsTold ⟦<H::Disk as Disk>⟧ (H.told host.new) core.new }
     ensures still { (s : ℕ) → running s (H.told host.new) ≡ running s (H.told host.old) }
 {
     match document_in(alloc, file) {
@@ -108,8 +114,8 @@ pub(crate) fn open<H: Host>(
     width: u16,
     height: u16,
 ) -> Result<Told, ScriptFault>
-    requires { IsTold H.Disk.follows_model H.Disk.may_leave (H.told host.old) core.old }
-    ensures told { IsTold H.Disk.follows_model H.Disk.may_leave (H.told host.new) core.new }
+    requires { IsTold ⟦<H::Disk as Disk>⟧ (H.told host.old) core.old }
+    ensures told { IsTold ⟦<H::Disk as Disk>⟧ (H.told host.new) core.new }
     ensures still { (s : ℕ) → running s (H.told host.new) ≡ running s (H.told host.old) }
 {
     match core.may_open(name.as_slice(), width, height) {
@@ -117,7 +123,8 @@ pub(crate) fn open<H: Host>(
         Err(fault) => return Ok(Told::Fault(fault)),
     }
     match read(alloc, host, name.as_slice()) {
-        Ok(file) => {
+        Ok(None) => Ok(Told::Fault(ContainerFault::NoSuch)),
+        Ok(Some(file)) => {
             if file.is_empty() {
                 return Ok(Told::Fault(ContainerFault::NoSuch));
             }

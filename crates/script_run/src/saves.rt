@@ -1,10 +1,11 @@
 //! Saves: the file of a frame whose commit is asked for goes to a disk of the host, and the container is told what became of it.
 
 ghost use Rattle.container_model.specs.Record.{Record};
+ghost use Rattle.doc_store.specs.Opened.{disk_of, needs_reopen_of};
 ghost use Rattle.script_model.specs.Events.{running};
-ghost use Rattle.script_model.specs.Saved.{file_name};
-ghost use Rattle.script_run.specs.Told.{IsImage, IsTold, Leaves, ShutAs};
-ghost use Rattle.std.specs.Prelude.{◌≡◌, ℕ, IfOk};
+ghost use Rattle.script_model.specs.Saved.{IsSavedOn, IsShutWith, file_name};
+ghost use Rattle.script_run.specs.Told.{IfKept, IsImage, IsReplacedOn, IsTold};
+ghost use Rattle.std.specs.Prelude.{◌≡◌, ℕ, IfOk, false};
 
 use crate::container::{committed, dropped, failed};
 use crate::fault::ScriptFault;
@@ -32,7 +33,8 @@ pub(crate) fn first_of(before: Option<Told>, next: Option<Told>) -> Option<Told>
 /// Makes these bytes the document of a store, and gives its disk back. After an error it is opened again, and tells by its
 /// document what became of them.
 fn replace<D: Disk + Drop>(store: Store<D>, bytes: &[u8]) -> (Result<Outcome, StoreFault>, D)
-    ensures { D.follows_model → IfOk result.0 (λ outcome. Leaves D.may_leave bytes.now outcome result.1) }
+    requires { needs_reopen_of store ≡ false }
+    ensures { D.follows_model → IfOk result.0 (λ outcome. IfKept outcome (IsReplacedOn ⟦<D as Disk>⟧ (disk_of store) (D.reads (disk_of store)).document bytes.now result.1)) }
 {
     match commit_resolved(store, bytes) {
         Ok((outcome, store)) => (Ok(outcome), store.into_disk()),
@@ -42,12 +44,14 @@ fn replace<D: Disk + Drop>(store: Store<D>, bytes: &[u8]) -> (Result<Outcome, St
 
 /// What became of bytes that were to be the document of a store, where it couldn't be opened at first.
 fn compare<D: Disk + Drop>(
-    mut store: Store<D>,
+    store: Store<D>,
     bytes: &[u8],
     fault: StoreFault,
 ) -> (Result<Outcome, StoreFault>, D)
-    ensures { D.follows_model → IfOk result.0 (λ outcome. Leaves D.may_leave bytes.now outcome result.1) }
+    requires { needs_reopen_of store ≡ false }
+    ensures { D.follows_model → IfOk result.0 (λ outcome. IfKept outcome (IsReplacedOn ⟦<D as Disk>⟧ (disk_of store) (D.reads (disk_of store)).document bytes.now result.1)) }
 {
+    let mut store = store;
     match store.holds(bytes) {
         Ok(is) => {
             if is {
@@ -66,7 +70,7 @@ fn try_again<D: Disk + Drop>(
     bytes: &[u8],
     fault: StoreFault,
 ) -> (Result<Outcome, StoreFault>, D)
-    ensures { D.follows_model → IfOk result.0 (λ outcome. Leaves D.may_leave bytes.now outcome result.1) }
+    ensures { D.follows_model → IfOk result.0 (λ outcome. IfKept outcome (IsSavedOn ⟦<D as Disk>⟧ disk bytes.now result.1)) }
 {
     match Store::open(alloc, disk) {
         Ok(store) => compare(store, bytes, fault),
@@ -81,7 +85,7 @@ fn commit_to<D: Disk + Drop>(
     disk: D,
     bytes: &[u8],
 ) -> (Result<Outcome, StoreFault>, D)
-    ensures { D.follows_model → IfOk result.0 (λ outcome. Leaves D.may_leave bytes.now outcome result.1) }
+    ensures { D.follows_model → IfOk result.0 (λ outcome. IfKept outcome (IsSavedOn ⟦<D as Disk>⟧ disk bytes.now result.1)) }
 {
     match Store::open(alloc, disk) {
         Ok(store) => replace(store, bytes),
@@ -97,9 +101,9 @@ fn commit_again<H: Host>(
     bytes: &[u8],
     fault: StoreFault,
 ) -> Result<Outcome, StoreFault>
-    ensures told { (r : Record) → IsTold H.Disk.follows_model H.Disk.may_leave (H.told host.old) r → IsTold H.Disk.follows_model H.Disk.may_leave (H.told host.new) r }
+    ensures told { (r : Record) → IsTold ⟦<H::Disk as Disk>⟧ (H.told host.old) r → IsTold ⟦<H::Disk as Disk>⟧ (H.told host.new) r }
     ensures still { (s : ℕ) → running s (H.told host.new) ≡ running s (H.told host.old) }
-    ensures shut { H.Disk.follows_model → IfOk result (ShutAs H.Disk.may_leave (H.told host.new) name.now bytes.now) }
+    ensures shut { H.Disk.follows_model → IfOk result (λ outcome. IfKept outcome (IsShutWith ⟦<H::Disk as Disk>⟧ (H.told host.new) name.now bytes.now)) }
 {
     match host.disk(name) {
         Ok(disk) => {
@@ -120,11 +124,12 @@ fn commit<H: Host>(
     name: &[u8],
     bytes: &[u8],
 ) -> Result<Outcome, StoreFault>
-    ensures told { (r : Record) → IsTold H.Disk.follows_model H.Disk.may_leave (H.told host.old) r → IsTold H.Disk.follows_model H.Disk.may_leave (H.told host.new) r }
+    ensures told { (r : Record) → IsTold ⟦<H::Disk as Disk>⟧ (H.told host.old) r → IsTold ⟦<H::Disk as Disk>⟧ (H.told host.new) r }
     ensures still { (s : ℕ) → running s (H.told host.new) ≡ running s (H.told host.old) }
-    ensures shut { H.Disk.follows_model → IfOk result (ShutAs H.Disk.may_leave (H.told host.new) name.now bytes.now) }
+    ensures shut { H.Disk.follows_model → IfOk result (λ outcome. IfKept outcome (IsShutWith ⟦<H::Disk as Disk>⟧ (H.told host.new) name.now bytes.now)) }
 {
-    match host.disk(name) {
+    let given = host.disk(name);
+    match given {
         Ok(disk) => {
             let (outcome, disk) = commit_to(alloc, disk, bytes);
             host.shut(name, disk);
@@ -151,8 +156,8 @@ fn lose<H: Host>(
     core: &mut ContainerCore,
     frame: u32,
 ) -> Result<(), ScriptFault>
-    requires { IsTold H.Disk.follows_model H.Disk.may_leave (H.told host.old) core.old }
-    ensures told { IsTold H.Disk.follows_model H.Disk.may_leave (H.told host.new) core.new }
+    requires { IsTold ⟦<H::Disk as Disk>⟧ (H.told host.old) core.old }
+    ensures told { IsTold ⟦<H::Disk as Disk>⟧ (H.told host.new) core.new }
     ensures still { (s : ℕ) → running s (H.told host.new) ≡ running s (H.told host.old) }
 {
     failed(alloc, host, core, frame)?;
@@ -168,8 +173,8 @@ fn save_file<H: Host>(
     file: &[u8],
 ) -> Result<Option<Told>, ScriptFault>
     requires image { IsImage core.old frame file.now }
-    requires told { IsTold H.Disk.follows_model H.Disk.may_leave (H.told host.old) core.old }
-    ensures told { IsTold H.Disk.follows_model H.Disk.may_leave (H.told host.new) core.new }
+    requires told { IsTold ⟦<H::Disk as Disk>⟧ (H.told host.old) core.old }
+    ensures told { IsTold ⟦<H::Disk as Disk>⟧ (H.told host.new) core.new }
     ensures still { (s : ℕ) → running s (H.told host.new) ≡ running s (H.told host.old) }
 {
     let Some(found) = core.frame(frame) else {
@@ -198,8 +203,8 @@ fn save<H: Host>(
     core: &mut ContainerCore,
     frame: u32,
 ) -> Result<Option<Told>, ScriptFault>
-    requires { IsTold H.Disk.follows_model H.Disk.may_leave (H.told host.old) core.old }
-    ensures told { IsTold H.Disk.follows_model H.Disk.may_leave (H.told host.new) core.new }
+    requires { IsTold ⟦<H::Disk as Disk>⟧ (H.told host.old) core.old }
+    ensures told { IsTold ⟦<H::Disk as Disk>⟧ (H.told host.new) core.new }
     ensures still { (s : ℕ) → running s (H.told host.new) ≡ running s (H.told host.old) }
 {
     match core.image(alloc, frame) {
@@ -221,8 +226,8 @@ pub(crate) fn save_all<H: Host>(
     answer: &Answer,
     noticed: &mut Option<Told>,
 ) -> Result<(), ScriptFault>
-    requires { IsTold H.Disk.follows_model H.Disk.may_leave (H.told host.old) core.old }
-    ensures told { IsTold H.Disk.follows_model H.Disk.may_leave (H.told host.new) core.new }
+    requires { IsTold ⟦<H::Disk as Disk>⟧ (H.told host.old) core.old }
+    ensures told { IsTold ⟦<H::Disk as Disk>⟧ (H.told host.new) core.new }
     ensures still { (s : ℕ) → running s (H.told host.new) ≡ running s (H.told host.old) }
 {
     for action in answer.actions.as_slice() {

@@ -1,7 +1,7 @@
 //! Scripts, from their texts to their ends.
 
 ghost use Rattle.script_model.specs.Events.{running};
-ghost use Rattle.script_model.specs.Saved.{AreSaved};
+ghost use Rattle.script_model.specs.Saved.{AreOpened, AreSaved};
 ghost use Rattle.script_model.specs.Turns.{AreTurns};
 ghost use Rattle.script_run.specs.Links.{AreLinked};
 ghost use Rattle.script_run.specs.Told.{IsTold};
@@ -17,6 +17,7 @@ use script_model::host::Host;
 use script_texts::commands::Commands;
 use std::alloc::Global;
 use std::io::{Read, Write};
+use store_model::disk::Disk;
 use texts::input::read_all;
 use texts::lines::parse_lines;
 
@@ -44,9 +45,9 @@ fn carry_out_all<H: Host, W: Write>(
     commands: Vec<ScriptCommand>,
     writer: &mut W,
 ) -> Result<(), ScriptFault>
-    requires told { IsTold H.Disk.follows_model H.Disk.may_leave (H.told host.old) core.old }
+    requires told { IsTold ⟦<H::Disk as Disk>⟧ (H.told host.old) core.old }
     requires linked { AreLinked (H.told host.old) links.old.items }
-    ensures told { IsTold H.Disk.follows_model H.Disk.may_leave (H.told host.new) core.new }
+    ensures told { IsTold ⟦<H::Disk as Disk>⟧ (H.told host.new) core.new }
     ensures linked { AreLinked (H.told host.new) links.new.items }
 {
     for command in commands {
@@ -73,7 +74,8 @@ pub fn run_script<H: Host, R: Read, W: Write>(
     requires { H.told host.old ≡ [] }
     ensures awaited { (s : ℕ) → running s (H.told host.new) ≡ 0 }
     ensures turns { AreTurns (H.told host.new) }
-    ensures saved { H.Disk.follows_model → AreSaved H.Disk.may_leave (H.told host.new) }
+    ensures saved { H.Disk.follows_model → AreSaved ⟦<H::Disk as Disk>⟧ (H.told host.new) }
+    ensures opened { H.Disk.follows_model → AreOpened ⟦<H::Disk as Disk>⟧ (H.told host.new) }
 {
     let commands = match read_script(alloc, reader) {
         Ok(commands) => commands,

@@ -1,7 +1,7 @@
 //! Turns: each link is sent what is pending for its server, and what comes back is carried out.
 
 ghost use Rattle.script_model.specs.Events.{running};
-ghost use Rattle.script_model.specs.Saved.{AreSaved};
+ghost use Rattle.script_model.specs.Saved.{AreOpened, AreSaved};
 ghost use Rattle.script_model.specs.Turns.{AreTurns};
 ghost use Rattle.script_run.specs.Links.{AreLinked};
 ghost use Rattle.script_run.specs.Told.{IsTold};
@@ -17,6 +17,7 @@ use container_model::record::Object;
 use script_model::answer::Told;
 use script_model::host::Host;
 use std::alloc::Global;
+use store_model::disk::Disk;
 
 /// The most turns of a command.
 const MOST_TURNS: u32 = 1_000;
@@ -31,10 +32,10 @@ pub(crate) fn end_at<H: Host>(
     noticed: &mut Option<Told>,
 ) -> Result<(), ScriptFault>
     requires within { place < length links.old.items }
-    requires told { IsTold H.Disk.follows_model H.Disk.may_leave (H.told host.old) core.old }
+    requires told { IsTold ⟦<H::Disk as Disk>⟧ (H.told host.old) core.old }
     requires linked { AreLinked (H.told host.old) links.old.items }
     ensures less { length links.new.items + 1 ≡ length links.old.items }
-    ensures told { IsTold H.Disk.follows_model H.Disk.may_leave (H.told host.new) core.new }
+    ensures told { IsTold ⟦<H::Disk as Disk>⟧ (H.told host.new) core.new }
     ensures linked { AreLinked (H.told host.new) links.new.items }
 {
     let link = links.remove(place);
@@ -49,10 +50,12 @@ pub(crate) fn end_at<H: Host>(
 /// Ends the servers of all links.
 pub(crate) fn end_all<H: Host>(host: &mut H, links: &mut Vec<Link>)
     requires sent { AreTurns (H.told host.old) }
-    requires saved { H.Disk.follows_model → AreSaved H.Disk.may_leave (H.told host.old) }
+    requires saved { H.Disk.follows_model → AreSaved ⟦<H::Disk as Disk>⟧ (H.told host.old) }
+    requires opened { H.Disk.follows_model → AreOpened ⟦<H::Disk as Disk>⟧ (H.told host.old) }
     requires linked { AreLinked (H.told host.old) links.old.items }
     ensures sent { AreTurns (H.told host.new) }
-    ensures saved { H.Disk.follows_model → AreSaved H.Disk.may_leave (H.told host.new) }
+    ensures saved { H.Disk.follows_model → AreSaved ⟦<H::Disk as Disk>⟧ (H.told host.new) }
+    ensures opened { H.Disk.follows_model → AreOpened ⟦<H::Disk as Disk>⟧ (H.told host.new) }
     ensures ended { (s : ℕ) → running s (H.told host.new) ≡ 0 }
 {
     while let Some(link) = links.pop() {
@@ -95,9 +98,9 @@ fn serve_at<H: Host>(
     noticed: &mut Option<Told>,
 ) -> Result<bool, ScriptFault>
     requires within { place < length links.old.items }
-    requires told { IsTold H.Disk.follows_model H.Disk.may_leave (H.told host.old) core.old }
+    requires told { IsTold ⟦<H::Disk as Disk>⟧ (H.told host.old) core.old }
     requires linked { AreLinked (H.told host.old) links.old.items }
-    ensures told { IsTold H.Disk.follows_model H.Disk.may_leave (H.told host.new) core.new }
+    ensures told { IsTold ⟦<H::Disk as Disk>⟧ (H.told host.new) core.new }
     ensures linked { AreLinked (H.told host.new) links.new.items }
     ensures many { length links.new.items ≡ length links.old.items }
 {
@@ -112,9 +115,9 @@ fn turn<H: Host>(
     links: &mut Vec<Link>,
     noticed: &mut Option<Told>,
 ) -> Result<(), ScriptFault>
-    requires told { IsTold H.Disk.follows_model H.Disk.may_leave (H.told host.old) core.old }
+    requires told { IsTold ⟦<H::Disk as Disk>⟧ (H.told host.old) core.old }
     requires linked { AreLinked (H.told host.old) links.old.items }
-    ensures told { IsTold H.Disk.follows_model H.Disk.may_leave (H.told host.new) core.new }
+    ensures told { IsTold ⟦<H::Disk as Disk>⟧ (H.told host.new) core.new }
     ensures linked { AreLinked (H.told host.new) links.new.items }
 {
     let mut place = 0;
@@ -138,9 +141,9 @@ pub(crate) fn turns<H: Host>(
     links: &mut Vec<Link>,
     noticed: &mut Option<Told>,
 ) -> Result<(), ScriptFault>
-    requires told { IsTold H.Disk.follows_model H.Disk.may_leave (H.told host.old) core.old }
+    requires told { IsTold ⟦<H::Disk as Disk>⟧ (H.told host.old) core.old }
     requires linked { AreLinked (H.told host.old) links.old.items }
-    ensures told { IsTold H.Disk.follows_model H.Disk.may_leave (H.told host.new) core.new }
+    ensures told { IsTold ⟦<H::Disk as Disk>⟧ (H.told host.new) core.new }
     ensures linked { AreLinked (H.told host.new) links.new.items }
 {
     for _ in 0..MOST_TURNS {

@@ -4,6 +4,6 @@ use Rattle.script_run.proofs.commands.act.Given as goal
 
 abbrev pub invariant-loop-action : goal.invariant-loop-action
 invariant-loop-action g l = record {
-  told : IsTold g.H.Disk.Disk.follows_model g.H.Disk.Disk.may_leave (g.H.Host.told l.host) l.core;
+  told : IsTold g.H.Disk.Disk (g.H.Host.told l.host) l.core;
   linked : AreLinked (g.H.Host.told l.host) l.links.items;
 }

@@ -5,7 +5,7 @@ use Rattle.script_run.proofs.links.hear.Given as goal
 
 abbrev pub invariant-loop-reads : goal.invariant-loop-reads
 invariant-loop-reads g l = record {
-  told : IsTold g.H.Disk.Disk.follows_model g.H.Disk.Disk.may_leave (g.H.Host.told l.host) l.core;
+  told : IsTold g.H.Disk.Disk (g.H.Host.told l.host) l.core;
   still : (s : ℕ) → running s (g.H.Host.told l.host) ≡ running s (g.H.Host.told l.fn.host);
   same : l.link.inc ≡ l.fn.link.inc;
 }

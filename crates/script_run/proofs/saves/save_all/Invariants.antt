@@ -5,6 +5,6 @@ use Rattle.script_run.proofs.saves.save_all.Given as goal
 
 abbrev pub invariant-loop-action : goal.invariant-loop-action
 invariant-loop-action g l = record {
-  told : IsTold g.H.Disk.Disk.follows_model g.H.Disk.Disk.may_leave (g.H.Host.told l.host) l.core;
+  told : IsTold g.H.Disk.Disk (g.H.Host.told l.host) l.core;
   still : (s : ℕ) → running s (g.H.Host.told l.host) ≡ running s (g.H.Host.told l.fn.host);
 }

@@ -6,5 +6,6 @@ pub loop-link-preserved : goal.loop-link-preserved
 loop-link-preserved g c = record {
   sent = search (rules, c.end.ensures);
   saved = search (rules, c.end.ensures);
+  opened = search (rules, c.end.ensures);
   linked = popped_linked c.loop-link.links.items c.pop.new.self.items c.in-Some.link c.in-Some.ensures.items c.end.ensures c.loop-link.invariant.linked;
 }

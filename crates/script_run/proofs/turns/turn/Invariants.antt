@@ -5,7 +5,7 @@ use Rattle.script_run.proofs.turns.turn.Given as goal
 
 abbrev pub invariant-loop-place : goal.invariant-loop-place
 invariant-loop-place g l = record {
-  told : IsTold g.H.Disk.Disk.follows_model g.H.Disk.Disk.may_leave (g.H.Host.told l.host) l.core;
+  told : IsTold g.H.Disk.Disk (g.H.Host.told l.host) l.core;
   linked : AreLinked (g.H.Host.told l.host) l.links.items;
 }
 
