@@ -1,11 +1,13 @@
-//! The command lines of the commands between files and folders, and the help that they print.
+//! The command lines of the commands between files and folders and of maps, and the help that they print.
 
 use clap::{Arg, ArgAction, Command};
 use program_ends::command_lines;
 pub use program_ends::command_lines::FILE;
 use std::alloc::{AllocError, Global};
 
-/// The names of the command and of its other arguments.
+/// The names of the commands and of their other arguments.
+pub const MAP: &str = "map";
+
 pub const EXTRACT: &str = "extract";
 
 pub const PACK: &str = "pack";
@@ -14,10 +16,21 @@ pub const FOLDER: &str = "folder";
 
 pub const FORCE: &str = "force";
 
+const ABOUT_MAP: &str = "Shows what each sector of a compound file is, and how much of it is free";
+
 const ABOUT_EXTRACT: &str =
     "Makes a folder of a compound file: a folder for each storage, a file for each stream";
 
 const ABOUT_PACK: &str = "Makes a compound file of a folder: extract the other way round";
+
+const SECTORS: &str =
+    "A row shows 64 sectors of 512 bytes, a character each, behind the number of the first; below the
+rows stands what the characters mean, and how many sectors each stands for. A stream's last
+sector is told apart, as what stands behind its end may be deleted text. The last line counts
+the bytes of free sectors, those in the sectors of streams and of the mini stream that are no
+stream's, and those past all sectors that the FAT knows. clean leaves all these out.
+
+Example: olecon map letter.doc";
 
 const FOLDERS: &str =
     "Names are spelled as list prints them, and a dot at a name's end as \\2e, so that none leads
@@ -62,6 +75,13 @@ fn force_argument<'a>(alloc: Global) -> Arg<'a> {
         .action(ArgAction::SetTrue)
 }
 
+fn map_command<'a>(alloc: Global) -> Result<Command<'a>, AllocError> {
+    Command::new(alloc, MAP)
+        .about(ABOUT_MAP)
+        .after_help(SECTORS)
+        .arg(file_argument(alloc, "The file to read"))
+}
+
 fn extract_command<'a>(alloc: Global) -> Result<Command<'a>, AllocError> {
     Command::new(alloc, EXTRACT)
         .about(ABOUT_EXTRACT)
@@ -87,12 +107,13 @@ fn with_command<'a>(
     program.subcommand(command?)
 }
 
-/// The command line of the program `olecon` with its commands over files: `make`, `list`, `get`, `clean`, `extract` and
-/// `pack`. A program with more commands adds them. `Task::of` tells what a parsed one asks for.
+/// The command line of the program `olecon` with its commands over files: `make`, `list`, `get`, `clean`, `map`,
+/// `extract` and `pack`. A program with more commands adds them. `Task::of` tells what a parsed one asks for.
 ///
 /// Refused for want of memory alone.
 pub fn command_line<'a>(alloc: Global) -> Result<Command<'a>, AllocError> {
     let files = command_lines::command_line(alloc);
-    let extracts = with_command(files?, extract_command(alloc));
+    let maps = with_command(files?, map_command(alloc));
+    let extracts = with_command(maps?, extract_command(alloc));
     with_command(extracts?, pack_command(alloc))
 }

@@ -6,6 +6,7 @@ use file_commands::fault::ListFault;
 use file_commands::getting::get_file;
 use file_commands::seeking::list_source;
 use file_listings::listing::{list_file_as, list_source_as};
+use file_listings::mapping::map_file;
 use file_places::source::Sought;
 use listing_forms::form::Form;
 use listing_forms::json_form::Json;
@@ -106,6 +107,17 @@ fn list_lines<R: Runtime + AllocGlobal>(rt: &R, mut source: R::File) -> Result<(
             &mut io::writer(rt),
         ),
         _ => list_file(rt.alloc(), &mut source, &mut io::writer(rt)),
+    }
+}
+
+/// Writes the map of a file to standard output.
+pub fn map<R: Runtime + AllocGlobal>(rt: &R, path: &str) -> ExitCode {
+    let Ok(mut source) = fs::open(rt, path) else {
+        return refuse(rt, &Report::File(path, "Unreadable"));
+    };
+    match map_file(rt.alloc(), &mut source, &mut io::writer(rt)) {
+        Ok(()) => ExitCode::SUCCESS,
+        Err(fault) => refuse(rt, &fault.report(path)),
     }
 }
 

@@ -1,9 +1,9 @@
 //! What a command line over files asks for.
 
-use crate::command_lines::{EXTRACT, FOLDER, FORCE, PACK};
+use crate::command_lines::{EXTRACT, FOLDER, FORCE, MAP, PACK};
 use crate::extracting::extract;
 use crate::packing::pack;
-use crate::running::{Listing, clean, get, list, make};
+use crate::running::{Listing, clean, get, list, make, map};
 use clap::ArgMatches;
 use program_ends::command_lines::{CLEAN, FILE, GET, JSON, LIST, LONG, MAKE, OUT, PATH};
 use std::process::ExitCode;
@@ -20,6 +20,8 @@ pub enum Task<'a> {
     Get(&'a str, &'a str),
     /// The tree of the file of one path, written to that of another.
     Clean(&'a str, &'a str),
+    /// The map of a file of this path.
+    Map(&'a str),
     /// A folder of one path, made of the file of another; whether files that stand there are replaced.
     Extract(&'a str, &'a str, bool),
     /// A file of one path, made of the folder of another: that of the folder, and that of the file.
@@ -41,6 +43,9 @@ impl<'a> Task<'a> {
         if let Some(cleaned) = matches.subcommand_matches(CLEAN) {
             return cleaning(cleaned);
         }
+        if let Some(mapped) = matches.subcommand_matches(MAP) {
+            return mapping(mapped);
+        }
         if let Some(extracted) = matches.subcommand_matches(EXTRACT) {
             return extracting(extracted);
         }
@@ -54,6 +59,7 @@ impl<'a> Task<'a> {
             Task::List(path, listing) => list(rt, path, listing),
             Task::Get(path, word) => get(rt, path, word),
             Task::Clean(path, out) => clean(rt, path, out),
+            Task::Map(path) => map(rt, path),
             Task::Extract(path, folder, is_forced) => extract(rt, path, folder, is_forced),
             Task::Pack(folder, path) => pack(rt, folder, path),
         }
@@ -85,6 +91,10 @@ fn getting<'a>(got: &ArgMatches<'a>) -> Option<Task<'a>> {
 
 fn cleaning<'a>(cleaned: &ArgMatches<'a>) -> Option<Task<'a>> {
     Some(Task::Clean(cleaned.get_str(FILE)?, cleaned.get_str(OUT)?))
+}
+
+fn mapping<'a>(mapped: &ArgMatches<'a>) -> Option<Task<'a>> {
+    Some(Task::Map(mapped.get_str(FILE)?))
 }
 
 fn extracting<'a>(extracted: &ArgMatches<'a>) -> Option<Task<'a>> {

@@ -1,8 +1,10 @@
-//! Tests of files as folders over a folder in memory, and of the calls that other languages have.
+//! Tests of files as folders over a folder in memory, of the calls that other languages have, and of maps.
 #![tactic(auto)]
 
 #[cfg(test)]
 mod calls;
+#[cfg(test)]
+mod maps;
 #[cfg(test)]
 mod memory;
 #[cfg(test)]

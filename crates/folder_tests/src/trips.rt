@@ -12,7 +12,7 @@ use std::process::Abort;
 const DESCRIPTION: &[u8] =
     b"storage S\nstorage S/T.\nfill S/T./Long 5000 61\nstream S/\\01Ole 0102\nstream A -\n";
 
-fn file_of(rt: &impl Abort, alloc: Global) -> Vec<u8> {
+pub(crate) fn file_of(rt: &impl Abort, alloc: Global) -> Vec<u8> {
     let mut text = DESCRIPTION;
     let mut file = Vec::new(alloc);
     make_file(alloc, &mut text, &mut file).expect(rt, "a file");

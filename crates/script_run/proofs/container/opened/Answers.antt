@@ -15,7 +15,7 @@ returns-clause-told g c =
     let gives = subst (λ (ds : List DocObject). IsReadAs (Some c.args.file.now) (Read.Holding ds)) same c.requires.gives in
     let named : c.in-Some.name ≡ c.args.name = one_name c.name_of.result c.args.name c.in-Some.name (c.name_of.ensures c.args.name c.args.width c.args.height c.from_vec.result refl) c.in-Some.is in
     let read : g.H.Disk.Disk.follows_model → IsOpened g.H.Disk.Disk (g.H.Host.told c.args.host.now) c.in-Some.name c.from_vec.result =
-        λ m. subst (λ (name : List ℕ). IsOpened g.H.Disk.Disk (g.H.Host.told c.args.host.now) name c.from_vec.result) (sym named) (opened_by g.H.Disk.Disk (g.H.Host.told c.args.host.now) c.args.name c.args.file.now c.from_vec.result (c.requires.read m) gives) in
+    λ m. subst (λ (name : List ℕ). IsOpened g.H.Disk.Disk (g.H.Host.told c.args.host.now) name c.from_vec.result) (sym named) (opened_by g.H.Disk.Disk (g.H.Host.told c.args.host.now) c.args.name c.args.file.now c.from_vec.result (c.requires.read m) gives) in
     let noted = c.note.ensures ∙ ap (λ (name : List ℕ). Stepped (step.Open name c.args.width c.args.height c.from_vec.result) ∷ g.H.Host.told c.args.host.now) (sym named) in
     file_told c.files_give_one.ensures c.in-Some.name c.args.width c.args.height c.from_vec.result (Some c.args.file.now) c.open_file-told.result _ _ _ _ _ read gives noted c.noted.ensures.noted c.open_file-told.ensures.taken c.open_file-told.ensures.refused c.open_file-told.ensures.kept c.requires.told
 
