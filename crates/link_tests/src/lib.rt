@@ -1,0 +1,9 @@
+//! Tests of scripts by their public call, over servers in memory whose links fail.
+#![tactic(auto)]
+
+#[cfg(test)]
+mod cuts;
+#[cfg(test)]
+mod servers;
+#[cfg(test)]
+mod wire;

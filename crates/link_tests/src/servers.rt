@@ -1,0 +1,228 @@
+//! A host whose servers are in memory, and of whose links one call fails as a test says.
+
+use crate::wire::Wire;
+use doc_store::memory_disk::MemoryDisk;
+use embed_core::classes;
+use embed_core::tally::Tally;
+use embed_note::note::Note;
+use embed_table::table::Table;
+use script_model::history::History;
+use script_model::host::{Host, HostFault};
+use script_model::step::Step;
+use server_loop::serving::{Advance, Serving};
+use std::alloc::{AllocError, Global};
+use store_model::fault::StoreFault;
+
+/// The most activations of a server, and writes of an activation.
+const MOST_NUMBERS: u32 = 1_000_000;
+
+/// The most frames that a server takes at once.
+const MOST_FRAMES: u32 = 10_000;
+
+/// How much of what is sent arrives where the call fails.
+#[derive(Clone, Copy, PartialEq, Eq)]
+pub(crate) enum Arrives {
+    Nothing,
+    Half,
+    All,
+}
+
+#[derive(Drop)]
+struct Server {
+    inc: u32,
+    serving: Serving,
+    wire: Wire,
+}
+
+/// The host. Calls of links, sends and reads alike, are counted from 0.
+#[derive(Drop)]
+pub(crate) struct Servers {
+    alloc: Global,
+    tally: Tally,
+    made: u32,
+    servers: Vec<Server>,
+    calls: u64,
+    failing: u64,
+    arrives: Arrives,
+    history: History<MemoryDisk>,
+}
+
+impl Servers {
+    /// A host without servers, of whose links this call fails.
+    pub(crate) fn new(alloc: Global, tally: Tally, failing: u64, arrives: Arrives) -> Servers {
+        Servers {
+            alloc,
+            tally,
+            made: 0,
+            servers: Vec::new(alloc),
+            calls: 0,
+            failing,
+            arrives,
+            history: History::new(),
+        }
+    }
+
+    /// How many objects were made.
+    pub(crate) fn made(&self) -> u32 {
+        self.made
+    }
+
+    /// Whether the call that is to fail was made.
+    pub(crate) fn has_failed(&self) -> bool {
+        self.calls > self.failing
+    }
+
+    /// Counts a call, and tells whether it fails.
+    fn fails(&mut self) -> bool {
+        let fails = self.calls == self.failing;
+        self.calls = self.calls.saturating_add(1);
+        fails
+    }
+
+    fn place(&self, inc: u32) -> Option<usize> {
+        self.servers.iter().position(|server| server.inc == inc)
+    }
+
+    fn begin(&mut self, inc: u32) -> Result<(), AllocError> {
+        let mut serving = Serving::new(self.alloc);
+        serving.start(self.alloc, inc, MOST_NUMBERS)?;
+        self.servers.push(Server {
+            inc,
+            serving,
+            wire: Wire::new(self.alloc),
+        })?;
+        Ok(())
+    }
+
+    /// Sends bytes to a server, which then does all that they ask.
+    fn deliver(&mut self, inc: u32, bytes: &[u8]) -> Result<(), AllocError> {
+        let Some(place) = self.place(inc) else {
+            return Ok(());
+        };
+        let server = &mut self.servers[place];
+        server.wire.send(bytes)?;
+        for _ in 0..MOST_FRAMES {
+            match server.serving.advance(self.alloc, &mut server.wire)? {
+                Advance::Wants(class) => {
+                    let tally = self.tally.share()?;
+                    self.made = self.made.saturating_add(1);
+                    if class == classes::note() {
+                        let note = Box::new(self.alloc, Note::new(self.alloc, tally))?;
+                        server.serving.offer(self.alloc, note)?;
+                    } else {
+                        let table = Box::new(self.alloc, Table::new(self.alloc, tally))?;
+                        server.serving.offer(self.alloc, table)?;
+                    }
+                }
+                _ => {
+                    if server.wire.is_dry() {
+                        return Ok(());
+                    }
+                }
+            }
+        }
+        Ok(())
+    }
+
+    /// How much of bytes arrives where a call fails.
+    fn arriving(&self, len: usize) -> usize {
+        match self.arrives {
+            Arrives::Nothing => 0,
+            Arrives::Half => len / 2,
+            Arrives::All => len,
+        }
+    }
+}
+
+impl Host for Servers {
+    type Disk = MemoryDisk;
+
+    ghost use Rattle.script_model.specs.Histories.{told_in};
+
+    ghost told = { λ h. told_in h.history };
+
+    fn start(&mut self, inc: u32) -> Result<(), HostFault> {
+        match self.begin(inc) {
+            Ok(()) => {
+                self.history.started(inc, true);
+                Ok(())
+            }
+            Err(_) => {
+                self.history.started(inc, false);
+                Err(HostFault::NoMemory)
+            }
+        }
+    }
+
+    fn connect(&mut self, inc: u32) -> Result<(), HostFault> {
+        match self.place(inc) {
+            Some(place) => {
+                let server = &mut self.servers[place];
+                server.wire = Wire::new(self.alloc);
+                server.serving.begin(self.alloc);
+                self.history.connected(inc, true);
+                Ok(())
+            }
+            None => {
+                self.history.connected(inc, false);
+                Err(HostFault::Failed)
+            }
+        }
+    }
+
+    fn send(&mut self, inc: u32, bytes: &[u8]) -> Result<(), HostFault> {
+        let fails = self.fails();
+        let len = if fails {
+            self.arriving(bytes.len())
+        } else {
+            bytes.len()
+        };
+        let is_sent = self.deliver(inc, &bytes[..len]).is_ok() && !fails;
+        self.history.sent(inc, bytes, is_sent);
+        if is_sent {
+            Ok(())
+        } else {
+            Err(HostFault::Failed)
+        }
+    }
+
+    fn read(&mut self, inc: u32, into: &mut [u8]) -> Result<usize, HostFault> {
+        let fails = self.fails();
+        match self.place(inc) {
+            Some(place) if !fails => {
+                let n = self.servers[place].wire.take(into);
+                self.history.heard(inc, &into[..n], true);
+                Ok(n)
+            }
+            _ => {
+                self.history.heard(inc, &[], false);
+                Err(HostFault::Failed)
+            }
+        }
+    }
+
+    fn end(&mut self, inc: u32) {
+        if let Some(place) = self.place(inc) {
+            drop(self.servers.remove(place));
+        }
+        self.history.ended(inc);
+    }
+
+    fn disk(&mut self, name: &[u8]) -> Result<MemoryDisk, StoreFault> {
+        self.history.opened(name, None);
+        Err(StoreFault::Device)
+    }
+
+    fn find(&mut self, name: &[u8]) -> Result<Option<MemoryDisk>, StoreFault> {
+        self.history.found(name, None);
+        Ok(None)
+    }
+
+    fn shut(&mut self, name: &[u8], disk: MemoryDisk) {
+        self.history.shut(name, &disk);
+    }
+
+    fn note(&mut self, step: &Step) {
+        self.history.stepped(step);
+    }
+}
