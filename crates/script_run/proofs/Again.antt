@@ -6,7 +6,7 @@ use Rattle.store_model.specs.Image.{Image}
 use Rattle.store_model.specs.Store.{StandsFor}
 use Rattle.store_model.specs.declared.disk.Disk.{Ghosts as Disks}
 use Rattle.wire_msgs.specs.Found.{nth}
-use Rattle.container_laws.specs.OpenLaws.{FilesGiveTheirs}
+use Rattle.container_laws.specs.OpenLaws.{FilesGiveTheirs, IsFileOf}
 use Rattle.container_model.specs.declared.answer.Part.{Part}
 use Rattle.container_model.specs.declared.record.Frame.{Frame}
 use Rattle.container_model.specs.Opens.{Given, IsReadAs}
@@ -80,7 +80,7 @@ module _ {D : Type 0} (disks : Disks D) (left : (d : D) → disks.may_leave d (d
   again name f before es objects found saved opened within is =
       let read : StandsFor opened.bytes (disks.reads found) = subst (λ (d : D). StandsFor opened.bytes (disks.reads d)) (sym is) opened.read.read.read in
       let same : opened.bytes ≡ saved.bytes = one_document opened.bytes saved.bytes (disks.reads found) read (saved.shut.saved.durable (disks.reads found) (within (disks.reads found) (left found))) in
-      let file = record { denotes = saved.file.denotes; holds = saved.file.holds } in
+      let file : IsFileOf saved.bytes saved.file.parts = record { denotes = saved.file.denotes; holds = saved.file.holds } in
       objects_of objects (document saved.file.parts) (theirs saved.bytes saved.file.parts (Given.Holding objects) file (subst (λ (b : List ℕ). IsReadAs (Some b) (Given.Holding objects)) same opened.holds))
 
   pub saves-are-opened-again : SavesAreOpenedAgain disks
