@@ -60,7 +60,7 @@ fn a_link_that_fails_changes_no_answer(rt: HostRuntime) {
         let half = cut(&rt, rt.alloc(), script, Arrives::Half);
         let all = cut(&rt, rt.alloc(), script, Arrives::All);
         assert!(rt;
-            nothing > 10 && half == nothing && all == nothing,
+            nothing > 5 && half == nothing && all == nothing,
             "{nothing} {half} {all}"
         );
     }

@@ -1,6 +1,6 @@
 //! A host whose servers are in memory, and of whose links one call fails as a test says.
 
-use crate::wire::Wire;
+use crate::server::Server;
 use doc_store::memory_disk::MemoryDisk;
 use embed_core::classes;
 use embed_core::tally::Tally;
@@ -9,12 +9,9 @@ use embed_table::table::Table;
 use script_model::history::History;
 use script_model::host::{Host, HostFault};
 use script_model::step::Step;
-use server_loop::serving::{Advance, Serving};
+use server_loop::serving::Advance;
 use std::alloc::{AllocError, Global};
 use store_model::fault::StoreFault;
-
-/// The most activations of a server, and writes of an activation.
-const MOST_NUMBERS: u32 = 1_000_000;
 
 /// The most frames that a server takes at once.
 const MOST_FRAMES: u32 = 10_000;
@@ -25,13 +22,6 @@ pub(crate) enum Arrives {
     Nothing,
     Half,
     All,
-}
-
-#[derive(Drop)]
-struct Server {
-    inc: u32,
-    serving: Serving,
-    wire: Wire,
 }
 
 /// The host. Calls of links, sends and reads alike, are counted from 0.
@@ -80,17 +70,12 @@ impl Servers {
     }
 
     fn place(&self, inc: u32) -> Option<usize> {
-        self.servers.iter().position(|server| server.inc == inc)
+        self.servers.iter().position(|server| server.inc() == inc)
     }
 
     fn begin(&mut self, inc: u32) -> Result<(), AllocError> {
-        let mut serving = Serving::new(self.alloc);
-        serving.start(self.alloc, inc, MOST_NUMBERS)?;
-        self.servers.push(Server {
-            inc,
-            serving,
-            wire: Wire::new(self.alloc),
-        })?;
+        let server = Server::new(self.alloc, inc)?;
+        self.servers.push(server)?;
         Ok(())
     }
 
@@ -100,22 +85,22 @@ impl Servers {
             return Ok(());
         };
         let server = &mut self.servers[place];
-        server.wire.send(bytes)?;
+        server.send(bytes)?;
         for _ in 0..MOST_FRAMES {
-            match server.serving.advance(self.alloc, &mut server.wire)? {
+            match server.advance(self.alloc)? {
                 Advance::Wants(class) => {
                     let tally = self.tally.share()?;
                     self.made = self.made.saturating_add(1);
                     if class == classes::note() {
                         let note = Box::new(self.alloc, Note::new(self.alloc, tally))?;
-                        server.serving.offer(self.alloc, note)?;
+                        server.offer(self.alloc, note)?;
                     } else {
                         let table = Box::new(self.alloc, Table::new(self.alloc, tally))?;
-                        server.serving.offer(self.alloc, table)?;
+                        server.offer(self.alloc, table)?;
                     }
                 }
                 _ => {
-                    if server.wire.is_dry() {
+                    if server.is_dry() {
                         return Ok(());
                     }
                 }
@@ -157,9 +142,7 @@ impl Host for Servers {
     fn connect(&mut self, inc: u32) -> Result<(), HostFault> {
         match self.place(inc) {
             Some(place) => {
-                let server = &mut self.servers[place];
-                server.wire = Wire::new(self.alloc);
-                server.serving.begin(self.alloc);
+                self.servers[place].connect(self.alloc);
                 self.history.connected(inc, true);
                 Ok(())
             }
@@ -190,7 +173,7 @@ impl Host for Servers {
         let fails = self.fails();
         match self.place(inc) {
             Some(place) if !fails => {
-                let n = self.servers[place].wire.take(into);
+                let n = self.servers[place].take(into);
                 self.history.heard(inc, &into[..n], true);
                 Ok(n)
             }
