@@ -1,6 +1,7 @@
 //! A server in memory, at the other end of a link in memory.
 
 ghost use Rattle.server_loop.specs.View.{IsStarted};
+ghost use Rattle.std.specs.Prelude.{◌≤◌, length};
 
 use crate::wire::Wire;
 use embed_core::embedded::Embedded;
@@ -48,7 +49,9 @@ impl Server {
     }
 
     /// What came from it, as much as there is room for.
-    pub(crate) fn take(&mut self, into: &mut [u8]) -> usize {
+    pub(crate) fn take(&mut self, into: &mut [u8]) -> usize
+        ensures { result ≤ length into.new }
+    {
         self.wire.take(into)
     }
 

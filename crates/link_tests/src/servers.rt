@@ -1,5 +1,8 @@
 //! A host whose servers are in memory, and of whose links one call fails as a test says.
 
+ghost use Rattle.script_model.specs.Histories.{told_in};
+ghost use Rattle.std.specs.Prelude.{◌≡◌, ◌<◌, ◌≤◌, [], IfSome, length};
+
 use crate::server::Server;
 use doc_store::memory_disk::MemoryDisk;
 use embed_core::classes;
@@ -39,7 +42,9 @@ pub(crate) struct Servers {
 
 impl Servers {
     /// A host without servers, of whose links this call fails.
-    pub(crate) fn new(alloc: Global, tally: Tally, failing: u64, arrives: Arrives) -> Servers {
+    pub(crate) fn new(alloc: Global, tally: Tally, failing: u64, arrives: Arrives) -> Servers
+        ensures { ⟦<Servers as Host>⟧.told result ≡ [] }
+    {
         Servers {
             alloc,
             tally,
@@ -63,54 +68,80 @@ impl Servers {
     }
 
     /// Counts a call, and tells whether it fails.
-    fn fails(&mut self) -> bool {
+    fn fails(&mut self) -> bool
+        ensures history { self.new.history ≡ self.old.history }
+    {
         let fails = self.calls == self.failing;
         self.calls = self.calls.saturating_add(1);
         fails
     }
 
-    fn place(&self, inc: u32) -> Option<usize> {
-        self.servers.iter().position(|server| server.inc() == inc)
+    /// Where a server stands.
+    fn place(&self, inc: u32) -> Option<usize>
+        ensures { IfSome result (λ i. i < length self.now.servers.items) }
+    {
+        for i in 0..self.servers.len() {
+            if self.servers[i].inc() == inc {
+                return Some(i);
+            }
+        }
+        None
     }
 
-    fn begin(&mut self, inc: u32) -> Result<(), AllocError> {
+    /// Starts a server.
+    fn begin(&mut self, inc: u32) -> Result<(), AllocError>
+        ensures history { self.new.history ≡ self.old.history }
+    {
         let server = Server::new(self.alloc, inc)?;
         self.servers.push(server)?;
         Ok(())
     }
 
+    /// Lets the server at a place go on.
+    fn go_on(&mut self, place: usize) -> Result<(), AllocError>
+        ensures history { self.new.history ≡ self.old.history }
+        ensures servers { length self.new.servers.items ≡ length self.old.servers.items }
+    {
+        if place >= self.servers.len() {
+            return Ok(());
+        }
+        match self.servers[place].advance(self.alloc)? {
+            Advance::Wants(class) => {
+                let tally = self.tally.share()?;
+                self.made = self.made.saturating_add(1);
+                if class == classes::note() {
+                    let note = Box::new(self.alloc, Note::new(self.alloc, tally))?;
+                    self.servers[place].offer(self.alloc, note)
+                } else {
+                    let table = Box::new(self.alloc, Table::new(self.alloc, tally))?;
+                    self.servers[place].offer(self.alloc, table)
+                }
+            }
+            _ => Ok(()),
+        }
+    }
+
     /// Sends bytes to a server, which then does all that they ask.
-    fn deliver(&mut self, inc: u32, bytes: &[u8]) -> Result<(), AllocError> {
+    fn deliver(&mut self, inc: u32, bytes: &[u8]) -> Result<(), AllocError>
+        ensures history { self.new.history ≡ self.old.history }
+    {
         let Some(place) = self.place(inc) else {
             return Ok(());
         };
-        let server = &mut self.servers[place];
-        server.send(bytes)?;
+        self.servers[place].send(bytes)?;
         for _ in 0..MOST_FRAMES {
-            match server.advance(self.alloc)? {
-                Advance::Wants(class) => {
-                    let tally = self.tally.share()?;
-                    self.made = self.made.saturating_add(1);
-                    if class == classes::note() {
-                        let note = Box::new(self.alloc, Note::new(self.alloc, tally))?;
-                        server.offer(self.alloc, note)?;
-                    } else {
-                        let table = Box::new(self.alloc, Table::new(self.alloc, tally))?;
-                        server.offer(self.alloc, table)?;
-                    }
-                }
-                _ => {
-                    if server.is_dry() {
-                        return Ok(());
-                    }
-                }
+            if self.servers[place].is_dry() {
+                return Ok(());
             }
+            self.go_on(place)?;
         }
         Ok(())
     }
 
     /// How much of bytes arrives where a call fails.
-    fn arriving(&self, len: usize) -> usize {
+    fn arriving(&self, len: usize) -> usize
+        ensures { result ≤ len }
+    {
         match self.arrives {
             Arrives::Nothing => 0,
             Arrives::Half => len / 2,

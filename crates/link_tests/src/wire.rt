@@ -1,5 +1,7 @@
 //! A link in memory, as its server meets it.
 
+ghost use Rattle.std.specs.Prelude.{◌≤◌, length};
+
 use std::alloc::{AllocError, Global};
 use std::io::{self, ErrorKind, Read, Write};
 
@@ -34,22 +36,23 @@ impl Wire {
     }
 
     /// Takes what came from the server, as much as there is room for.
-    pub(crate) fn take(&mut self, into: &mut [u8]) -> usize {
+    pub(crate) fn take(&mut self, into: &mut [u8]) -> usize
+        ensures { result ≤ length into.new }
+    {
         take_front(&mut self.outward, into)
     }
 }
 
-/// Moves the first bytes of a list to a place.
-fn take_front(from: &mut Vec<u8>, into: &mut [u8]) -> usize {
+/// Moves the first bytes of a list to a place, and tells how many.
+fn take_front(from: &mut Vec<u8>, into: &mut [u8]) -> usize
+    ensures { result ≤ length into.new }
+{
     let n = from.len().min(into.len());
-    for k in 0..n {
-        into[k] = from[k];
-    }
+    into[..n].copy_from_slice(&from[..n]);
     for k in n..from.len() {
         from[k - n] = from[k];
     }
-    let left = from.len() - n;
-    from.truncate(left);
+    from.truncate(from.len() - n);
     n
 }
 
