@@ -1,5 +1,4 @@
 pub mod ReadingLists
-pub mod ReadingChains
 pub mod ReadingRefused
 pub mod ReadingNames
 pub mod ReadingEntries

@@ -10,7 +10,8 @@ use Rattle.std.specs.declared.cmp.Ordering.TheVariants.{Less}
 use Rattle.cfb_names.specs.Names.{key, key_cmp}
 use Rattle.storage_tree.specs.Change.{Seen, bytes, inner, child}
 use Rattle.storage_tree.specs.Tree.{Children, none, stream, storage, keys}
-use Rattle.stream_io.specs.Reads.{AreRead, IsChildPut, IsChildRead, directory_in, key_at}
+use Rattle.file_faults.specs.Faults.{key_at}
+use Rattle.stream_io.specs.Reads.{AreRead, IsChildPut, IsChildRead, directory_in}
 use Rattle.stream_io.specs.declared.read.Reader.{Reader}
 use Rattle.file_outline.proofs.Followed.{IsBehind, followed, followed-child, followed-none, keys-child, place_behind}
 use Rattle.stream_io.proofs.ReadingKept.{IsKept, kept_node, kept_none, kept_then}

@@ -16,7 +16,8 @@ use Rattle.cfb_directory.specs.Entries.{IsEntry, IsNamed, MayRefuseEntry, entry_
 use Rattle.cfb_directory.specs.declared.entries.Entry.{Entry}
 use Rattle.cfb_names.specs.declared.fault.DirFault.{DirFault}
 use Rattle.cfb_names.specs.declared.fault.DirFault.TheVariants.{NameEmpty, NameTooLong, NameNotAscii, NameForbidden, DuplicateName, BadEntry, TreeCycle, TooNested, NoMemory}
-use Rattle.stream_io.specs.Reads.{IsKeyed, MayRefuseNames, directory_fault, key_at}
+use Rattle.file_faults.specs.Faults.{key_at}
+use Rattle.stream_io.specs.Reads.{IsKeyed, MayRefuseNames, directory_fault}
 use Rattle.stream_io.specs.declared.fault.ReadFault.{ReadFault}
 use Rattle.stream_io.specs.declared.fault.ReadFault.TheVariants.{Directory}
 use Rattle.file_model.proofs.Lists.{Contains-cons_cases, Contains-front, Contains-behind}

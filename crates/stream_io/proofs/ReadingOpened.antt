@@ -3,11 +3,12 @@ use Rattle.std.proofs.Common.{List, ℕ, suc, inr}
 use Rattle.cfb_chain.specs.Fat.{FatValue, store_of}
 use Rattle.cfb_names.specs.declared.fault.DirFault.TheVariants as directory
 use Rattle.file_model.specs.Denotes.{Layout, minis, sectors}
-use Rattle.stream_io.specs.Reads.{IsDirectory, MayRefuseFile, MayRefuseStorage, base_in, base_of, directory_in, in_stream}
+use Rattle.file_faults.specs.Faults.{IsDirectory, base_in, in_stream}
+use Rattle.stream_io.specs.Reads.{MayRefuseFile, MayRefuseStorage, base_of, directory_in}
 use Rattle.stream_io.specs.declared.fault.ReadFault.{ReadFault}
 use Rattle.stream_io.specs.declared.fault.ReadFault.TheVariants as told
 use Rattle.stream_io.specs.declared.read.Reader.{Reader}
-use Rattle.stream_io.proofs.ReadingChains.{AreAgreed, agree_same, below_carried, stream_carried}
+use Rattle.file_faults.proofs.Chains.{AreAgreed, agree_same, below_carried, stream_carried}
 use Rattle.stream_io.proofs.ReadingFile.{IsOpened, IsReady}
 
 abbrev pub directory_is : (file : List ℕ) (fat : FatValue) (sectors bytes : List ℕ) → IsOpened file fat sectors bytes → IsDirectory file bytes

@@ -13,9 +13,10 @@ use Rattle.cfb_chain.specs.Fat.{FatValue, IsFound, MayRefuse, store_of}
 use Rattle.cfb_header.specs.Header.{header_read}
 use Rattle.cfb_directory.specs.Entries.{AreLinked, MayRefuseChildren, MayRefuseEntry, MayRefuseLinked, MayRefuseLoad, NO_STREAM, Reaches, around, by_left, by_right, child, entry_at, first_of, here, kind, left, nobody, right, size_of}
 use Rattle.file_model.proofs.Lists.{Contains-cons_cases}
-use Rattle.stream_io.specs.Reads.{Base, IsBadEntry, IsBelow, IsChainAtFault, IsChild, IsDirectory, IsFileAtFault, IsStorage, IsStreamAtFault, LeadsOutside, MayRefuseBelow, MayRefuseFile, MayRefuseNames, MayRefusePlace, MayRefuseStorage, Untold, base_of, chain_fault, directory_fault, directory_in, in_header, store_in}
+use Rattle.file_faults.specs.Faults.{Base, IsBadEntry, IsBelow, IsChainAtFault, IsChild, IsDirectory, IsFileAtFault, IsStorage, IsStreamAtFault, LeadsOutside, MayRefuseBelow, Untold, in_header, store_in}
+use Rattle.stream_io.specs.Reads.{MayRefuseFile, MayRefuseNames, MayRefusePlace, MayRefuseStorage, base_of, chain_fault, directory_fault, directory_in}
 use Rattle.stream_io.specs.declared.read.Reader.{Reader}
-use Rattle.stream_io.proofs.ReadingChains.{chain_refused, none_found}
+use Rattle.file_faults.proofs.Chains.{chain_refused, none_found}
 use Rattle.stream_io.specs.declared.fault.ReadFault.TheVariants as told
 use Rattle.stream_io.specs.declared.fault.ReadFault.{ReadFault}
 use Rattle.stream_io.specs.declared.fault.ReadFault.TheVariants.{NoMemory}

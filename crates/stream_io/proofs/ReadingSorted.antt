@@ -13,7 +13,8 @@ use Rattle.cfb_names.specs.Names.{IsName, key_cmp}
 use Rattle.cfb_directory.specs.Entries.{AreFree, AreLinked, EntriesValue, IsFree, IsKindOf, IsNamed, MayRefuseEntry, child, entry_at, kind, marked}
 use Rattle.cfb_names.specs.declared.fault.DirFault.{DirFault}
 use Rattle.cfb_names.specs.declared.fault.DirFault.TheVariants.{NameEmpty, NameTooLong, NameNotAscii, NameForbidden, DuplicateName, BadEntry, TreeCycle, TooNested, NoMemory}
-use Rattle.stream_io.specs.Reads.{AreSorted, MayRefuseNames, key_at, met}
+use Rattle.file_faults.specs.Faults.{key_at}
+use Rattle.stream_io.specs.Reads.{AreSorted, MayRefuseNames, met}
 use Rattle.stream_io.specs.declared.read.Reader.{Reader}
 use Rattle.stream_io.specs.declared.fault.ReadFault.{ReadFault}
 use Rattle.stream_io.specs.declared.fault.ReadFault.TheVariants as told

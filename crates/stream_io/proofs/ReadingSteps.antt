@@ -10,7 +10,8 @@ use Rattle.cfb_names.specs.declared.fault.DirFault.{DirFault}
 use Rattle.file_model.proofs.Unique.{linked_unique}
 use Rattle.storage_tree.specs.Change.{Seen, bytes, child as with_child, inner}
 use Rattle.storage_tree.specs.Tree.{Tree, Children, none, tree}
-use Rattle.stream_io.specs.Reads.{AreRead, AreSorted, Base, IsChild, IsChildPut, IsChildRead, IsNodeRead, IsStorage, IsStorageRead, base_of, directory_in, key_at, met}
+use Rattle.file_faults.specs.Faults.{Base, IsChild, IsStorage, key_at}
+use Rattle.stream_io.specs.Reads.{AreRead, AreSorted, IsChildPut, IsChildRead, IsNodeRead, IsStorageRead, base_of, directory_in, met}
 use Rattle.stream_io.specs.declared.read.Reader.{Reader}
 use Rattle.file_outline.proofs.Followed.{followed}
 use Rattle.stream_io.proofs.ReadingChildren.{IsFirstRead, Progress, put_behind, progress_all, progress_more, progress_next}

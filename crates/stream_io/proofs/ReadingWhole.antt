@@ -9,7 +9,8 @@ use Rattle.cfb_directory.specs.Entries.{entry_at, kind}
 use Rattle.storage_tree.specs.Tree.{Tree, Children, tree, none, stream, storage, keys}
 use Rattle.storage_tree.specs.Whole.{AreAbove, AreTrees, IsTree}
 use Rattle.file_model.proofs.Lists.{Contains-cons_cases}
-use Rattle.stream_io.specs.Reads.{AreRead, IsChildNamed, IsStorageRead, directory_in, key_at, met}
+use Rattle.file_faults.specs.Faults.{key_at}
+use Rattle.stream_io.specs.Reads.{AreRead, IsChildNamed, IsStorageRead, directory_in, met}
 use Rattle.stream_io.specs.declared.read.Reader.{Reader}
 use Rattle.stream_io.proofs.ReadingKept.{IsKept, kept_storage, kept_stream}
 use Rattle.stream_io.proofs.ReadingLists.{contains-none}

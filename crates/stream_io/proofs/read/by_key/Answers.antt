@@ -4,7 +4,7 @@ use Rattle.std.specs.List.{Contains}
 use Rattle.std.specs.BTreeMap.{is_at}
 use Rattle.std.specs.Map.{lookup, values_of}
 use Rattle.cfb_names.specs.Names.{key_cmp}
-use Rattle.stream_io.specs.Reads.{key_at}
+use Rattle.file_faults.specs.Faults.{key_at}
 use Rattle.stream_io.proofs.ReadingNames.{entry_key, keyed_more, named_twice}
 use Rattle.stream_io.proofs.read.by_key.Goals as goal
 

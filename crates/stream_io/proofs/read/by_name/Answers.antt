@@ -2,7 +2,7 @@ use Rattle.std.proofs.Common.{◌≡◌, ◌↔◌, List, ℕ, map, sym, ◌∙�
 use Rattle.std.specs.List.{Contains}
 use Rattle.std.specs.List.Sorted.{IsStrictlySortedBy}
 use Rattle.cfb_names.specs.Names.{key_cmp}
-use Rattle.stream_io.specs.Reads.{key_at}
+use Rattle.file_faults.specs.Faults.{key_at}
 use Rattle.stream_io.proofs.ReadingNames.{keys_keyed}
 use Rattle.stream_io.proofs.read.by_name.Goals as goal
 

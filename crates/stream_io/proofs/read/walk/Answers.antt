@@ -11,7 +11,7 @@ use Rattle.file_model.specs.Outline.{outline_of}
 use Rattle.file_model.specs.Denotes.{Denotes, Layout}
 use Rattle.stream_io.specs.Reads.{IsStorageRead, MayRefuseFile, chain_fault, directory_fault}
 use Rattle.stream_io.specs.declared.read.Reader.{Reader}
-use Rattle.stream_io.proofs.ReadingChains.{directory_refused, mini_refused, table_refused}
+use Rattle.file_faults.proofs.Chains.{directory_refused, mini_refused, table_refused}
 use Rattle.stream_io.proofs.ReadingFile.{IsOpened, IsReady, denoted, opened_at, read_header, ready}
 use Rattle.stream_io.proofs.ReadingOpened.{directory_is, file_storage}
 use Rattle.stream_io.proofs.ReadingRefused.{chain_memory, directory_memory, file_chain, file_load, file_root, same_memory}

@@ -6,7 +6,8 @@ use Rattle.cfb_names.specs.Names.{key}
 use Rattle.file_model.specs.Outline.{outline, outline_of, part_of}
 use Rattle.storage_tree.specs.Change.{child}
 use Rattle.storage_tree.specs.Tree.{Tree, Children, none, tree}
-use Rattle.stream_io.specs.Reads.{Base, IsChildRead, IsStorageRead, MayRefuseStorage, base_of, directory_fault, directory_in}
+use Rattle.file_faults.specs.Faults.{Base}
+use Rattle.stream_io.specs.Reads.{IsChildRead, IsStorageRead, MayRefuseStorage, base_of, directory_fault, directory_in}
 use Rattle.file_outline.specs.View.{contents, part_view, shown_part, shown_parts}
 use Rattle.stream_io.specs.declared.fault.ReadFault.{ReadFault}
 use Rattle.file_outline.specs.declared.outline.Place.{Place}

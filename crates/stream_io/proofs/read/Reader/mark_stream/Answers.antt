@@ -1,7 +1,8 @@
 use Rattle.std.proofs.Common.{◌∙◌, Bool, refl, subst, sym, if◌then◌else◌}
 use Rattle.cfb_chain.proofs.Results.{refused_with}
 use Rattle.cfb_chain.specs.Fat.{IsFound}
-use Rattle.stream_io.specs.Reads.{Base, MayRefusePlace, base_of, chain_fault}
+use Rattle.file_faults.specs.Faults.{Base}
+use Rattle.stream_io.specs.Reads.{MayRefusePlace, base_of, chain_fault}
 use Rattle.stream_io.proofs.ReadingRefused.{chain_memory, long_place, mini_place}
 use Rattle.stream_io.proofs.read.Reader.mark_stream.Goals as goal
 

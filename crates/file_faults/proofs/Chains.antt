@@ -12,7 +12,7 @@ use Rattle.cfb_header.specs.Header.{HeaderValue, difat, first_directory, first_m
 use Rattle.cfb_header.specs.declared.fault.ChainFault.{ChainFault}
 use Rattle.cfb_header.specs.declared.fault.ChainFault.TheVariants as chain
 use Rattle.file_model.proofs.AlikeStores.{HaveSameLinks}
-use Rattle.stream_io.specs.Reads.{Base, IsBelow, IsChainAtFault, IsDirectory, IsFileAtFault, IsStreamAtFault, Untold, Walks, in_directory, in_fat, in_mini_fat, in_mini_stream, store_in}
+use Rattle.file_faults.specs.Faults.{Base, IsBelow, IsChainAtFault, IsDirectory, IsFileAtFault, IsStreamAtFault, Untold, Walks, in_directory, in_fat, in_mini_fat, in_mini_stream, store_in}
 
 -- stores with the same links between the sectors that are there
 pub record Agree (s t : Store) : Type 0 where
