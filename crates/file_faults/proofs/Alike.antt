@@ -120,6 +120,7 @@ module _ (a b : List ℕ) (h : Alike a b) where
       directory = directory_same;
       sectors = agree_links (sectors a l) (sectors b l) sectors_same;
       minis = agree_links (minis a l) (minis b l) minis_same;
+      own = refl;
     }
 
   pub file_fault : (fault : ChainFault) → IsFileAtFault a fault → IsFileAtFault b fault
@@ -140,9 +141,9 @@ module _ (a b : List ℕ) (h : Alike a b) where
       (chain_fault_at (listed a ++ difat a ++ d.sectors ++ mini_fat) (listed b ++ difat b ++ d.sectors ++ mini_fat) (first_of (entry_at dir 0)) (size_of (entry_at dir 0))
       (first_of (entry_at dir 0)) (size_of (entry_at dir 0)) fault (λ i. both_same i ++ d.sectors ++ mini_fat) refl refl q)
   file_fault fault (in_stream l laid levels id below q) =
-      in_stream l (laid_same l laid) levels id (below_carried (base_in a l) (base_in b l) (base_same l laid) (suc levels) 0 id below)
+      in_stream l (laid_same l laid) levels id (below_carried (base_in a l) (base_in b l) (base_same l laid) (suc levels) id below)
       (stream_carried (base_in a l) (base_in b l) (base_same l laid) id fault q)
 
 pub directory_fault : (a b : List ℕ) (fault : DirFault) → Alike a b → IsDirectoryAtFault b fault → IsDirectoryAtFault a fault
-directory_fault a b directory.TreeCycle h r = tt
+directory_fault a b directory.BadEntry h r = (r.0, directory_alike a b r.0 h r.1, r.2)
 directory_fault a b fault h r = (r.0, directory_alike a b r.0 h r.1, r.2)

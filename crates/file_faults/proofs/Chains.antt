@@ -7,12 +7,12 @@ use Rattle.cfb_chain.specs.Chain.{IsChainOf, Leads, Store}
 use Rattle.cfb_chain.specs.Fat.{AreFree, AreSame, FatValue, IsFound, IsFree, IsMiniFound, IsTableOf, MayRefuse, MayRefuseChain, MayRefuseFat, MayRefuseMini, marked, sectors_of, store_of}
 use Rattle.cfb_chain.proofs.Chains.{chain_of_same}
 use Rattle.cfb_chain.proofs.Marks.{Marks, marks_load, marks_more}
-use Rattle.cfb_directory.specs.Entries.{entry_at, first_of, kind, size_of}
+use Rattle.cfb_directory.specs.Entries.{entry_at, first_of, size_of}
 use Rattle.cfb_header.specs.Header.{HeaderValue, difat, first_directory, first_mini_fat, header_of, listed, mini_fat_count}
 use Rattle.cfb_header.specs.declared.fault.ChainFault.{ChainFault}
 use Rattle.cfb_header.specs.declared.fault.ChainFault.TheVariants as chain
 use Rattle.file_model.proofs.AlikeStores.{HaveSameLinks}
-use Rattle.file_faults.specs.Faults.{Base, IsBelow, IsChainAtFault, IsDirectory, IsFileAtFault, IsStreamAtFault, Untold, Walks, in_directory, in_fat, in_mini_fat, in_mini_stream, store_in}
+use Rattle.file_faults.specs.Faults.{Base, IsBelow, IsChainAtFault, IsDirectory, IsFileAtFault, IsStreamAtFault, IsTakenFor, Walks, in_directory, in_fat, in_mini_fat, in_mini_stream, store_in}
 
 -- stores with the same links between the sectors that are there
 pub record Agree (s t : Store) : Type 0 where
@@ -56,6 +56,11 @@ fault_carried s t same P Q each start size chain.ShortChain h =
     (h.0, walks_agree s t same start h.0 0xFFFFFFFE h.1, subst (λ (w : ℕ). w * length h.0 < size) same.width h.2)
 fault_carried s t same P Q each start size chain.TooBig h = absurd h
 fault_carried s t same P Q each start size chain.NoMemory h = absurd h
+
+-- what is taken may be told in other words
+pub taken_as : (s : Store) (P Q : ℕ → Type 0) → ((n : ℕ) → P n → Q n) → (start size : ℕ) (fault : ChainFault) → IsChainAtFault s P start size fault
+    → IsChainAtFault s Q start size fault
+taken_as s P Q each start size fault h = fault_carried s s (record { count = refl; width = refl; next = λ n l. refl }) P Q each start size fault h
 
 -- ---- what a call's refusal says
 walk_of : (f : FatValue) (start : ℕ) (ns : List ℕ) (last : ℕ) → Leads (store_of f).next start ns last → All (IsFree f) ns → Walks (store_of f) start ns last
@@ -160,30 +165,68 @@ module _ (file : List ℕ) (v : HeaderValue) (f : FatValue) (dir : List ℕ) (is
   mini_refused start size fault at long found_refused (inl h) = mini_fat_refused fault h
   mini_refused start size fault at long found_refused (inr h) = mini_stream_refused start size h.0 fault at long found_refused h.1 h.2
 
--- ---- streams below a storage
+-- ---- streams below the root
+chain_agree : (s t : Store) → Agree s t → (start size : ℕ) (ns : List ℕ) → IsChainOf s start size ns → IsChainOf t start size ns
+chain_agree s t same start zero ns h = h
+chain_agree s t same start (suc size) ns h =
+    let below : All (λ n. n < s.count) ns = λ k d l. (h.present k d l).1 in
+    record {
+      linked = leads_agree s t same start ns 0xFFFFFFFE below h.linked;
+      present = λ k d l. ((h.present k d l).0, subst (λ (c : ℕ). get_or ns k d < c) same.count (h.present k d l).1);
+      enough = subst (λ (w : ℕ). suc size ≤ w * length ns) same.width h.enough;
+    }
+
 -- a stream lies in mini sectors where the test is true
-chosen_carried : (b : Bool) (s m t n : Store) → Agree s t → Agree m n → (start size : ℕ) (fault : ChainFault) → IsChainAtFault (if b then m else s) Untold start size fault
-    → IsChainAtFault (if b then n else t) Untold start size fault
-chosen_carried true s m t n h g start size fault q = fault_carried m n g Untold Untold (λ k u. u) start size fault q
-chosen_carried false s m t n h g start size fault q = fault_carried s t h Untold Untold (λ k u. u) start size fault q
+agree_by : (b : Bool) (s m t n : Store) → Agree s t → Agree m n → Agree (if b then m else s) (if b then n else t)
+agree_by true s m t n h g = g
+agree_by false s m t n h g = h
 
 -- what bases agree on
 pub record AreAgreed (b c : Base) : Type 0 where
   pub directory : b.directory ≡ c.directory
   pub sectors : Agree b.sectors c.sectors
   pub minis : Agree b.minis c.minis
+  pub own : b.own ≡ c.own
+
+module _ (b : Base) (s m : Store) (same : Agree b.sectors s) (same_minis : Agree b.minis m) where
+  -- the first base over the other's sectors
+  abbrev over : Base
+  over = record { directory = b.directory; sectors = s; minis = m; own = b.own }
+
+  stores_agree : (size : ℕ) → Agree (store_in b size) (store_in over size)
+  stores_agree size = agree_by (nat_lt size 4096) b.sectors b.minis s m same same_minis
+
+  taken_over : (id n : ℕ) → IsTakenFor b id n → IsTakenFor over id n
+  taken_over id n (inl h) = inl h
+  taken_over id n (inr h) = inr (record {
+    levels = h.levels;
+    other = h.other;
+    below = h.below;
+    another = h.another;
+    is_stream = h.is_stream;
+    same_table = h.same_table;
+    ns = h.ns;
+    is_chain =
+        let entry : List ℕ = entry_at b.directory h.other in
+        chain_agree (store_in b (size_of entry)) (store_in over (size_of entry)) (stores_agree (size_of entry)) (first_of entry) (size_of entry) h.ns h.is_chain;
+    there = h.there;
+  })
+
+  stream_over : (id : ℕ) (fault : ChainFault) → IsStreamAtFault b id fault → IsStreamAtFault over id fault
+  stream_over id fault h =
+      let entry : List ℕ = entry_at b.directory id in
+      record {
+        kind_is = h.kind_is;
+        some = h.some;
+        at_fault = fault_carried (store_in b (size_of entry)) (store_in over (size_of entry)) (stores_agree (size_of entry)) (λ n. IsTakenFor b id n)
+            (λ n. IsTakenFor over id n) (taken_over id) (first_of entry) (size_of entry) fault h.at_fault;
+      }
 
 pub stream_carried : (b c : Base) → AreAgreed b c → (id : ℕ) (fault : ChainFault) → IsStreamAtFault b id fault → IsStreamAtFault c id fault
 stream_carried b c same id fault h =
-    let entry : List ℕ = entry_at b.directory id in
-    let moved : IsChainAtFault (store_in c (size_of entry)) Untold (first_of entry) (size_of entry) fault =
-    chosen_carried (nat_lt (size_of entry) 4096) b.sectors b.minis c.sectors c.minis same.sectors same.minis (first_of entry) (size_of entry) fault h.at_fault in
-    let P : List ℕ → Type 0 = λ d. IsChainAtFault (store_in c (size_of (entry_at d id))) Untold (first_of (entry_at d id)) (size_of (entry_at d id)) fault in
-    record {
-      kind_is = ap (λ (d : List ℕ). kind (entry_at d id)) (sym same.directory) ∙ h.kind_is;
-      some = subst (λ (d : List ℕ). 0 < size_of (entry_at d id)) same.directory h.some;
-      at_fault = subst P same.directory moved;
-    }
+    let P : List ℕ → List ℕ → Type 0 = λ dir own. IsStreamAtFault (record { directory = dir; sectors = c.sectors; minis = c.minis; own = own }) id fault in
+    subst (P c.directory) same.own
+    (subst (λ (dir : List ℕ). P dir b.own) same.directory (stream_over b c.sectors c.minis same.sectors same.minis id fault h))
 
-pub below_carried : (b c : Base) → AreAgreed b c → (levels top id : ℕ) → IsBelow b.directory levels top id → IsBelow c.directory levels top id
-below_carried b c same levels top id h = subst (λ (d : List ℕ). IsBelow d levels top id) same.directory h
+pub below_carried : (b c : Base) → AreAgreed b c → (levels id : ℕ) → IsBelow b.directory levels id → IsBelow c.directory levels id
+below_carried b c same levels id h = subst (λ (d : List ℕ). IsBelow d levels id) same.directory h

@@ -7,6 +7,7 @@ pub mod ReadingOnce
 pub mod ReadingChildren
 pub mod ReadingWhole
 pub mod ReadingHeld
+pub mod ReadingMarks
 pub mod ReadingFound
 pub mod ReadingSteps
 pub mod ReadingOpened

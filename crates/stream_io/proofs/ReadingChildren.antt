@@ -1,9 +1,10 @@
 -- Children read one after another, in the order of their names.
-use Rattle.std.proofs.Common.{◌≡◌, ◌<◌, ◌≤◌, ◌+◌, ℕ, List, [], ◌∷◌, ◌++◌, length, get_or, drop, take, map, refl, sym, ◌∙◌, ap, subst, arith}
+use Rattle.std.proofs.Common.{◌≡◌, ◌<◌, ◌≤◌, ◌+◌, ℕ, suc, List, [], ◌∷◌, ◌++◌, length, get_or, drop, take, map, refl, sym, ◌∙◌, ap, subst, arith}
 use Rattle.std.proofs.lemmas.Cmp.{nat_list_cmp_total}
 use Rattle.std.proofs.lemmas.List.{drop_more, take_more, length-map, length-take, get_or-map, get_or-take, drop_all}
 use Rattle.std.proofs.lemmas.Map.Keys.{Less-from_sorted}
-use Rattle.std.specs.List.{All}
+use Rattle.std.specs.List.{All, Contains}
+use Rattle.std.proofs.lemmas.List.Elements.{Contains-get_or}
 use Rattle.std.specs.List.Sorted.{IsStrictlySortedBy}
 use Rattle.std.specs.Ordering.{ordering_reverse}
 use Rattle.std.specs.declared.cmp.Ordering.TheVariants.{Less}
@@ -12,9 +13,12 @@ use Rattle.storage_tree.specs.Change.{Seen, bytes, inner, child}
 use Rattle.storage_tree.specs.Tree.{Children, none, stream, storage, keys}
 use Rattle.file_faults.specs.Faults.{key_at}
 use Rattle.stream_io.specs.Reads.{AreRead, IsChildPut, IsChildRead, directory_in}
+use Rattle.file_faults.specs.Faults.{Base}
+use Rattle.stream_io.specs.Marks.{IsMetBelow, IsUnderway}
 use Rattle.stream_io.specs.declared.read.Reader.{Reader}
 use Rattle.file_outline.proofs.Followed.{IsBehind, followed, followed-child, followed-none, keys-child, place_behind}
 use Rattle.stream_io.proofs.ReadingKept.{IsKept, kept_node, kept_none, kept_then}
+use Rattle.stream_io.proofs.ReadingMarks.{below_kept, underway_node}
 use Rattle.stream_io.proofs.ReadingOnce.{node_once}
 
 -- ---- one entry after another
@@ -60,9 +64,11 @@ pub record Progress (depth : ℕ) (ids : List ℕ) (old : Reader) (i : ℕ) (r :
   pub keys_are : keys cs ≡ take i (map (key_at (directory_in old)) ids)
   pub sound : (ds : Children) (new : Reader) → AreRead depth (drop i ids) ds r new → AreRead depth ids (followed cs ds) old new
   pub complete : (ds : Children) (new : Reader) → AreRead depth ids ds old new → (es : Children) × AreRead depth (drop i ids) es r new
+  pub underway : (b : Base) (levels : ℕ) (pending : List ℕ) → ((n : ℕ) → Contains ids n → IsMetBelow b.directory old (suc levels) n) → IsUnderway b (ids ++ pending) old
+      → IsUnderway b (drop i ids ++ pending) r
 
 pub progress_none : (depth : ℕ) (ids : List ℕ) (old : Reader) → Progress depth ids old 0 old none
-progress_none depth ids old = record { kept = kept_none old; keys_are = refl; sound = λ ds new h. h; complete = λ ds new h. (ds, h) }
+progress_none depth ids old = record { kept = kept_none old; keys_are = refl; sound = λ ds new h. h; complete = λ ds new h. (ds, h); underway = λ b levels pending f h. h }
 
 -- the key of the next entry is behind those so far
 next_behind : (dir ids : List ℕ) (i : ℕ) (cs : Children) → i < length ids → IsStrictlySortedBy key_cmp (map (key_at dir) ids) → keys cs ≡ take i (map (key_at dir) ids)
@@ -123,6 +129,10 @@ progress_more depth ids old i r next cs ds lt sorted h p =
           first_read depth id (drop (i + 1) ids) left.0 r new (subst (λ (xs : List ℕ). AreRead depth xs left.0 r new) rest left.1) in
           let same : first.next ≡ next = node_once depth id first.node p.node r first.next next first.first.is_read p.is_read.is_read in
           (first.rest, subst (λ (x : Reader). AreRead depth (drop (i + 1) ids) first.rest x new) same first.others);
+      underway = λ b levels pending f q.
+          let here : IsUnderway b (id ∷ (drop (i + 1) ids ++ pending)) r = subst (λ (xs : List ℕ). IsUnderway b (xs ++ pending) r) rest (h.underway b levels pending f q) in
+          underway_node b depth levels id p.node r next (drop (i + 1) ids ++ pending)
+          (below_kept b.directory old r (suc levels) id h.kept (f id (Contains-get_or ids i 0 lt))) here p.is_read.is_read;
     }
 
 -- the next entry can be read

@@ -13,9 +13,10 @@ use Rattle.storage_tree.specs.Tree.{Tree, Children, tree, none, stream, storage}
 use Rattle.storage_tree.specs.Whole.{AreTrees, IsTree}
 use Rattle.file_model.specs.Denotes.{AreChildren, Holds, HoldsEach, IsCalled, Layout, Used, both, directory_of, taken, within}
 use Rattle.file_model.proofs.Lists.{Contains-cons_cases, Contains-behind, Contains-front}
+use Rattle.stream_io.specs.Marks.{IsMet}
 use Rattle.stream_io.specs.Reads.{AreRead, AreSorted, IsChildNamed, IsStorageRead, IsStreamRead, directory_in, met, stream_after}
 use Rattle.stream_io.specs.declared.read.Reader.{Reader}
-use Rattle.stream_io.proofs.ReadingHeld.{IsMet, IsNew, met_new}
+use Rattle.stream_io.proofs.ReadingHeld.{IsNew, met_new}
 use Rattle.stream_io.proofs.ReadingLists.{all-from, contains-none, distinct-head}
 use Rattle.stream_io.proofs.ReadingStreams.{Stands, ids_by, stands_met, stream_there}
 

@@ -13,6 +13,7 @@ use Rattle.cfb_directory.proofs.Marks.{set_all-there, set_all-stays}
 use Rattle.storage_tree.specs.Tree.{Tree, Children, tree, none, stream, storage}
 use Rattle.file_model.specs.Denotes.{AreChildren, Holds, HoldsEach, IsCalled, Layout, Used, both, directory_of, nothing, taken, within}
 use Rattle.file_model.proofs.Lists.{Contains-cons_cases, Contains-behind, Contains-front}
+use Rattle.stream_io.specs.Marks.{IsMet}
 use Rattle.stream_io.specs.Reads.{AreRead, AreSorted, IsChildNamed, IsStorageRead, directory_in, met}
 use Rattle.stream_io.specs.declared.read.Reader.{Reader}
 use Rattle.stream_io.proofs.ReadingKept.{IsKept, kept_each, kept_storage, kept_stream}
@@ -20,10 +21,7 @@ use Rattle.stream_io.proofs.ReadingLists.{contains-none, distinct-cons, distinct
 use Rattle.stream_io.proofs.ReadingSorted.{sorted_distinct}
 use Rattle.stream_io.proofs.ReadingStreams.{IsStreamHeld, Stands, ids_by, stands_met, stream_held}
 
--- an entry is marked
-abbrev pub IsMet : Reader → ℕ → Type 0
-IsMet r n = get_or r.entries.used n true ≡ true
-
+-- an entry isn't marked
 abbrev pub IsNew : Reader → ℕ → Type 0
 IsNew r n = get_or r.entries.used n true ≡ false
 
@@ -36,7 +34,7 @@ new_before old new n k h =
     elim (cases_Bool (get_or old.entries.used n true)) [ inl t ↦ met_new new n (k.marks n t) h | inr f ↦ f ]
 
 -- just one entry
-only_one : (id : ℕ) (n : ℕ) → Contains (id ∷ []) n → id ≡ n
+pub only_one : (id : ℕ) (n : ℕ) → Contains (id ∷ []) n → id ≡ n
 only_one id n c = elim (Contains-cons_cases id [] n c) [ inl e ↦ e | inr d ↦ absurd (contains-none n d) ]
 
 pub stream_ids : (id size : ℕ) (ns : List ℕ) (n : ℕ) → Contains (taken id size ns).ids n → id ≡ n

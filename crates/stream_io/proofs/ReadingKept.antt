@@ -14,7 +14,7 @@ pub record IsKept (old new : Reader) : Type 0 where
   pub directory : directory_in new ≡ directory_in old
   pub marks : (n : ℕ) → get_or old.entries.used n true ≡ true → get_or new.entries.used n true ≡ true
   pub content : contents new.fat new.mini ≡ contents old.fat old.mini
-  pub base : base_of new ≡ base_of old
+  pub base : (own : List ℕ) → base_of own new ≡ base_of own old
 
 -- marks change no bytes
 same_content : (b c : Bool) (fat mini : FatValue) (ns : List ℕ) (first size : ℕ)
@@ -28,29 +28,29 @@ content_after : (size : ℕ) (ns : List ℕ) (r : Reader) → contents (stream_a
 content_after size ns r = λ i place. same_content (nat_lt size CUTOFF) (nat_lt place.size CUTOFF) r.fat r.mini ns place.first place.size i
 
 -- nor links
-same_base : (b : Bool) (ns : List ℕ) (r : Reader)
-    → base_of (record { fat = if b then r.fat else marked r.fat ns; mini = if b then marked r.mini ns else r.mini; entries = r.entries }) ≡ base_of r
-same_base true ns r = refl
-same_base false ns r = refl
+same_base : (b : Bool) (ns : List ℕ) (r : Reader) (own : List ℕ)
+    → base_of own (record { fat = if b then r.fat else marked r.fat ns; mini = if b then marked r.mini ns else r.mini; entries = r.entries }) ≡ base_of own r
+same_base true ns r own = refl
+same_base false ns r own = refl
 
 pub kept_none : (r : Reader) → IsKept r r
-kept_none r = record { directory = refl; marks = λ n h. h; content = refl; base = refl }
+kept_none r = record { directory = refl; marks = λ n h. h; content = refl; base = λ own. refl }
 
 pub kept_then : (a b c : Reader) → IsKept a b → IsKept b c → IsKept a c
-kept_then a b c h i = record { directory = i.directory ∙ h.directory; marks = λ n m. i.marks n (h.marks n m); content = i.content ∙ h.content; base = i.base ∙ h.base }
+kept_then a b c h i = record { directory = i.directory ∙ h.directory; marks = λ n m. i.marks n (h.marks n m); content = i.content ∙ h.content; base = λ own. i.base own ∙ h.base own }
 
 pub kept_same : (a b : Reader) → b ≡ a → IsKept a b
 kept_same a b e = subst (IsKept a) (sym e) (kept_none a)
 
 pub kept_met : (ids : List ℕ) (r : Reader) → IsKept r (met ids r)
-kept_met ids r = record { directory = refl; marks = λ n h. set_all-stays r.entries.used ids n h; content = refl; base = refl }
+kept_met ids r = record { directory = refl; marks = λ n h. set_all-stays r.entries.used ids n h; content = refl; base = λ own. refl }
 
 pub kept_stream : (id : ℕ) (b : List ℕ) (old new : Reader) → IsStreamRead id b old new → IsKept old new
 kept_stream id b old new h = record {
   directory = ap (λ (r : Reader). directory_in r) h.after;
   marks = λ n m. subst (λ (us : List Bool). get_or us n true ≡ true) (sym (ap (λ (r : Reader). r.entries.used) h.after)) m;
   content = ap (λ (r : Reader). contents r.fat r.mini) h.after ∙ content_after (size_of (entry_at (directory_in old) id)) h.ns old;
-  base = ap base_of h.after ∙ same_base (nat_lt (size_of (entry_at (directory_in old) id)) CUTOFF) h.ns old;
+  base = λ own. ap (base_of own) h.after ∙ same_base (nat_lt (size_of (entry_at (directory_in old) id)) CUTOFF) h.ns old own;
 }
 
 mutual

@@ -1,38 +1,61 @@
 -- What a file's calls answer, up to the storage of the root.
-use Rattle.std.proofs.Common.{List, ℕ, suc, inr}
-use Rattle.cfb_chain.specs.Fat.{FatValue, store_of}
+use Rattle.std.proofs.Common.{◌≡◌, ◌/◌, ℕ, suc, false, List, [], ◌∷◌, ◌++◌, length, replicate, inl, inr, refl, subst, arith}
+use Rattle.cfb_chain.specs.Fat.{FatValue, set_all, store_of}
 use Rattle.cfb_names.specs.declared.fault.DirFault.TheVariants as directory
 use Rattle.file_model.specs.Denotes.{Layout, minis, sectors}
-use Rattle.file_faults.specs.Faults.{IsDirectory, base_in, in_stream}
+use Rattle.file_faults.specs.Faults.{Base, IsDirectory, base_in, in_stream}
+use Rattle.file_faults.proofs.Chains.{AreAgreed, agree_same, below_carried, stream_carried}
+use Rattle.stream_io.specs.Marks.{IsMet, IsNext}
 use Rattle.stream_io.specs.Reads.{MayRefuseFile, MayRefuseStorage, base_of, directory_in}
 use Rattle.stream_io.specs.declared.fault.ReadFault.{ReadFault}
 use Rattle.stream_io.specs.declared.fault.ReadFault.TheVariants as told
 use Rattle.stream_io.specs.declared.read.Reader.{Reader}
-use Rattle.file_faults.proofs.Chains.{AreAgreed, agree_same, below_carried, stream_carried}
 use Rattle.stream_io.proofs.ReadingFile.{IsOpened, IsReady}
+use Rattle.stream_io.proofs.ReadingHeld.{only_one}
+use Rattle.stream_io.proofs.ReadingLists.{contains-none}
+use Rattle.stream_io.proofs.ReadingThere.{root_alone, root_marked}
 
 abbrev pub directory_is : (file : List ℕ) (fat : FatValue) (sectors bytes : List ℕ) → IsOpened file fat sectors bytes → IsDirectory file bytes
 directory_is file fat sectors bytes o = record { is_fat = o.is_fat; sectors = sectors; is_chain = o.chain; bytes_are = o.bytes_are }
 
--- the storage of the root is refused
-module _ (file : List ℕ) (l : Layout) (r : Reader) (h : IsReady file l r.fat r.mini (directory_in r)) (d : IsDirectory file (directory_in r)) where
-  agreed : AreAgreed (base_of r) (base_in file l)
+-- ---- the storage of the root
+module _ (file : List ℕ) (l : Layout) (r : Reader) (h : IsReady file l r.fat r.mini (directory_in r)) where
+  -- is to be read next
+  pub root_next : r.entries.used ≡ set_all (replicate (length (directory_in r) / 128) false) (0 ∷ [])
+      → IsNext (base_of (l.fat ++ l.difat ++ l.directory ++ l.mini_fat ++ l.mini_stream) r) 33 0 [] r
+  root_next loaded =
+      let marked : IsMet r 0 = root_marked r.entries (length (directory_in r) / 128) loaded in
+      record {
+        levels = 0;
+        deep = refl;
+        stands = record {
+          below = record { way = []; long = refl; leads = refl; once = λ i j d lt k. absurd (omega arith) };
+          met = λ n c. subst (IsMet r) (only_one 0 n c) marked;
+        };
+        underway = record {
+          base = refl;
+          once = λ i j d lt k. absurd (omega arith);
+          waiting = λ n c. subst (IsMet r) (only_one 0 n c) marked;
+          met = λ n lt m. inl (root_alone file l r h loaded n lt m);
+          taken = λ n t. inl (h.marks.only n t);
+          taken_minis = λ n t. absurd (contains-none n (h.mini_marks.only n t));
+        };
+      }
+
+  agreed : AreAgreed (base_of (l.fat ++ l.difat ++ l.directory ++ l.mini_fat ++ l.mini_stream) r) (base_in file l)
   agreed = record {
     directory = h.bytes_are;
     sectors = agree_same (store_of r.fat) (sectors file l) h.same;
     minis = agree_same (store_of r.mini) (minis file l) h.same_minis;
+    own = refl;
   }
 
-  pub file_storage : (fault : ReadFault) → MayRefuseStorage (base_of r) 32 0 fault → MayRefuseFile file fault
-  file_storage (told.Chain fault) q =
-      in_stream l h.laid_out q.0 q.1 (below_carried (base_of r) (base_in file l) agreed (suc q.0) 0 q.1 q.2) (stream_carried (base_of r) (base_in file l) agreed q.1 fault q.3)
-  file_storage (told.Directory directory.NameEmpty) q = (directory_in r, d, q)
-  file_storage (told.Directory directory.NameTooLong) q = (directory_in r, d, q)
-  file_storage (told.Directory directory.NameNotAscii) q = (directory_in r, d, q)
-  file_storage (told.Directory directory.NameForbidden) q = (directory_in r, d, q)
-  file_storage (told.Directory directory.DuplicateName) q = (directory_in r, d, q)
-  file_storage (told.Directory directory.BadEntry) q = (directory_in r, d, inr (inr q))
-  file_storage (told.Directory directory.TreeCycle) q = tt
-  file_storage (told.Directory directory.TooNested) q = (directory_in r, d, q)
-  file_storage (told.Directory directory.NoMemory) q = absurd q
-  file_storage told.NoMemory q = tt
+  -- is refused
+  module _ (d : IsDirectory file (directory_in r)) where
+    pub file_storage : (fault : ReadFault) → MayRefuseStorage (base_of (l.fat ++ l.difat ++ l.directory ++ l.mini_fat ++ l.mini_stream) r) fault → MayRefuseFile file fault
+    file_storage (told.Chain fault) q =
+        let b : Base = base_of (l.fat ++ l.difat ++ l.directory ++ l.mini_fat ++ l.mini_stream) r in
+        in_stream l h.laid_out q.0 q.1 (below_carried b (base_in file l) agreed (suc q.0) q.1 q.2) (stream_carried b (base_in file l) agreed q.1 fault q.3)
+    file_storage (told.Directory directory.BadEntry) q = (directory_in r, d, inr (inr q))
+    file_storage (told.Directory fault) q = (directory_in r, d, q)
+    file_storage told.NoMemory q = tt

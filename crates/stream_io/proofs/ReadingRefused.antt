@@ -1,25 +1,31 @@
 -- What a refusal of a layer below says.
-use Rattle.std.proofs.Common.{◌≡◌, ◌≢◌, ◌<◌, ◌≤◌, ◌-◌, ◌*◌, ◌⊎◌, inl, inr, ℕ, zero, suc, Bool, true, false, if◌then◌else◌, List, [], ◌++◌, Result, Ok, Err, IfErr, IfOk, length, refl, sym, ◌∙◌, ap, subst, arith, nat_lt}
-use Rattle.std.specs.List.{Contains}
-use Rattle.std.proofs.lemmas.List.Elements.{Contains-append_cases}
+use Rattle.std.proofs.Common.{◌≡◌, ◌≢◌, ◌<◌, ◌≤◌, ◌*◌, ◌⊎◌, inl, inr, ℕ, zero, suc, Bool, true, false, if◌then◌else◌, List, [], ◌∷◌, Result, Ok, Err, IfErr, IfOk, length, get_or, refl, sym, ◌∙◌, ap, subst, arith, nat_lt}
+use Rattle.std.specs.List.{All, Contains}
+use Rattle.std.proofs.lemmas.Bool.{cases_Bool}
 use Rattle.std.proofs.lemmas.Bool.Decides.{nat_tests}
+use Rattle.std.proofs.lemmas.List.Elements.{All-contains}
 use Rattle.std.specs.Result.{IsErrAnd}
 use Rattle.cfb_header.specs.declared.fault.ChainFault.{ChainFault}
 use Rattle.cfb_header.specs.declared.fault.ChainFault.TheVariants as chain
 use Rattle.cfb_names.specs.declared.fault.DirFault.{DirFault}
 use Rattle.cfb_names.specs.declared.fault.DirFault.TheVariants as directory
-use Rattle.cfb_chain.specs.Chain.{Store}
+use Rattle.cfb_chain.specs.Chain.{AreDistinct}
 use Rattle.cfb_chain.specs.Fat.{FatValue, IsFound, MayRefuse, store_of}
 use Rattle.cfb_header.specs.Header.{header_read}
-use Rattle.cfb_directory.specs.Entries.{AreLinked, MayRefuseChildren, MayRefuseEntry, MayRefuseLinked, MayRefuseLoad, NO_STREAM, Reaches, around, by_left, by_right, child, entry_at, first_of, here, kind, left, nobody, right, size_of}
-use Rattle.file_model.proofs.Lists.{Contains-cons_cases}
-use Rattle.file_faults.specs.Faults.{Base, IsBadEntry, IsBelow, IsChainAtFault, IsChild, IsDirectory, IsFileAtFault, IsStorage, IsStreamAtFault, LeadsOutside, MayRefuseBelow, Untold, in_header, store_in}
-use Rattle.stream_io.specs.Reads.{MayRefuseFile, MayRefuseNames, MayRefusePlace, MayRefuseStorage, base_of, chain_fault, directory_fault, directory_in}
+use Rattle.cfb_directory.specs.Entries.{AreFree, AreLinked, IsFree, MayRefuseChildren, MayRefuseEntry, MayRefuseLinked, MayRefuseLoad, child, entry_at, first_of, kind, size_of}
+use Rattle.file_model.proofs.Lists.{Contains-front}
+use Rattle.file_outline.specs.View.{table_for}
+use Rattle.file_faults.specs.Faults.{Base, IsBelow, IsChainAtFault, IsChild, IsDirectory, IsFileAtFault, IsInOther, IsStorage, IsStreamAtFault, IsTakenFor, LeadsOutside, MayBeChild, MayRefuseBelow, in_header, key_at, store_in}
+use Rattle.file_faults.proofs.Below.{below_some, entry_at_fault, linked_child, reached_from}
+use Rattle.file_faults.proofs.Chains.{chain_refused, none_found, taken_as}
+use Rattle.stream_io.specs.Marks.{IsBegun, IsInRead, IsNext}
+use Rattle.stream_io.specs.Reads.{IsTaken, MayRefuseFile, MayRefuseNames, MayRefusePlace, MayRefuseStorage, chain_fault, directory_fault, directory_in}
 use Rattle.stream_io.specs.declared.read.Reader.{Reader}
-use Rattle.file_faults.proofs.Chains.{chain_refused, none_found}
 use Rattle.stream_io.specs.declared.fault.ReadFault.TheVariants as told
 use Rattle.stream_io.specs.declared.fault.ReadFault.{ReadFault}
 use Rattle.stream_io.specs.declared.fault.ReadFault.TheVariants.{NoMemory}
+use Rattle.stream_io.proofs.ReadingLists.{all-from}
+use Rattle.stream_io.proofs.ReadingMarks.{one_below, same_directory}
 
 pub below : (size n : ℕ) → size < n → nat_lt size n ≡ true
 below size n h = grind (arith, nat_tests)
@@ -47,17 +53,18 @@ never_ok P Q (Err e) h = tt
 
 -- ---- what a refusal says of the file
 -- the fault of a chain, told of the place where it begins
-pub place_refused : (b : Base) (first size : ℕ) (fault : ChainFault) → fault ≢ chain.NoMemory → 0 < size
-    → (fault ≡ chain.NoMemory) ⊎ IsChainAtFault (store_in b size) Untold first size fault → MayRefusePlace b first size (chain_fault fault)
-place_refused b first size chain.Truncated ne lt h = elim h [ inl e ↦ absurd (cc e) | inr r ↦ (lt, r) ]
-place_refused b first size chain.BadSignature ne lt h = elim h [ inl e ↦ absurd (cc e) | inr r ↦ (lt, r) ]
-place_refused b first size (chain.Unsupported n) ne lt h = elim h [ inl e ↦ absurd (cc e) | inr r ↦ (lt, r) ]
-place_refused b first size chain.OutOfFile ne lt h = elim h [ inl e ↦ absurd (cc e) | inr r ↦ (lt, r) ]
-place_refused b first size chain.Cycle ne lt h = elim h [ inl e ↦ absurd (cc e) | inr r ↦ (lt, r) ]
-place_refused b first size chain.CrossLinked ne lt h = elim h [ inl e ↦ absurd (cc e) | inr r ↦ (lt, r) ]
-place_refused b first size chain.ShortChain ne lt h = elim h [ inl e ↦ absurd (cc e) | inr r ↦ (lt, r) ]
-place_refused b first size chain.TooBig ne lt h = elim h [ inl e ↦ absurd (cc e) | inr r ↦ (lt, r) ]
-place_refused b first size chain.NoMemory ne lt h = absurd (ne refl)
+place_refused : (r : Reader) (first size : ℕ) (fault : ChainFault) → fault ≢ chain.NoMemory → 0 < size
+    → (fault ≡ chain.NoMemory) ⊎ IsChainAtFault (store_of (table_for size r.fat r.mini)) (IsTaken (table_for size r.fat r.mini)) first size fault
+    → MayRefusePlace r first size (chain_fault fault)
+place_refused r first size chain.Truncated ne lt h = elim h [ inl e ↦ absurd (cc e) | inr q ↦ (lt, q) ]
+place_refused r first size chain.BadSignature ne lt h = elim h [ inl e ↦ absurd (cc e) | inr q ↦ (lt, q) ]
+place_refused r first size (chain.Unsupported n) ne lt h = elim h [ inl e ↦ absurd (cc e) | inr q ↦ (lt, q) ]
+place_refused r first size chain.OutOfFile ne lt h = elim h [ inl e ↦ absurd (cc e) | inr q ↦ (lt, q) ]
+place_refused r first size chain.Cycle ne lt h = elim h [ inl e ↦ absurd (cc e) | inr q ↦ (lt, q) ]
+place_refused r first size chain.CrossLinked ne lt h = elim h [ inl e ↦ absurd (cc e) | inr q ↦ (lt, q) ]
+place_refused r first size chain.ShortChain ne lt h = elim h [ inl e ↦ absurd (cc e) | inr q ↦ (lt, q) ]
+place_refused r first size chain.TooBig ne lt h = elim h [ inl e ↦ absurd (cc e) | inr q ↦ (lt, q) ]
+place_refused r first size chain.NoMemory ne lt h = absurd (ne refl)
 
 -- a stream that isn't found isn't empty
 some_bytes : (f : FatValue) (start size : ℕ) (fault : ChainFault) → fault ≢ chain.NoMemory → ((ns : List ℕ) → IsFound f start size ns → fault ≡ chain.NoMemory) → 0 < size
@@ -65,129 +72,176 @@ some_bytes f start zero fault ne found = absurd (ne (found [] (none_found f star
 some_bytes f start (suc size) fault ne found = omega arith
 
 -- it lies in mini sectors where the test is true
-pub mini_place : (b : Base) (f : FatValue) (first size : ℕ) (fault : ChainFault) → b.minis ≡ store_of f → nat_lt size 4096 ≡ true → fault ≢ chain.NoMemory
-    → ((ns : List ℕ) → IsFound f first size ns → fault ≡ chain.NoMemory) → MayRefuse f first size fault → MayRefusePlace b first size (chain_fault fault)
-mini_place b f first size fault same short ne found h =
-    let here : (fault ≡ chain.NoMemory) ⊎ IsChainAtFault b.minis Untold first size fault =
-    subst (λ (s : Store). (fault ≡ chain.NoMemory) ⊎ IsChainAtFault s Untold first size fault) (sym same) (chain_refused f Untold (λ n l m. tt) first size fault h) in
-    place_refused b first size fault ne (some_bytes f first size fault ne found)
-    (subst (λ (t : Bool). (fault ≡ chain.NoMemory) ⊎ IsChainAtFault (if t then b.minis else b.sectors) Untold first size fault) (sym short) here)
+pub place_at_fault : (r : Reader) (short : Bool) (first size : ℕ) (fault : ChainFault) → nat_lt size 4096 ≡ short → fault ≢ chain.NoMemory
+    → ((ns : List ℕ) → IsFound (if short then r.mini else r.fat) first size ns → fault ≡ chain.NoMemory) → MayRefuse (if short then r.mini else r.fat) first size fault
+    → MayRefusePlace r first size (chain_fault fault)
+place_at_fault r short first size fault is ne found h =
+    let f : FatValue = if short then r.mini else r.fat in
+    place_refused r first size fault ne (some_bytes f first size fault ne found)
+    (subst (λ (t : Bool). (fault ≡ chain.NoMemory) ⊎ IsChainAtFault (store_of (if t then r.mini else r.fat)) (IsTaken (if t then r.mini else r.fat)) first size fault) (sym is)
+    (chain_refused f (IsTaken f) (λ n l m. (l, m)) first size fault h))
 
-pub long_place : (b : Base) (f : FatValue) (first size : ℕ) (fault : ChainFault) → b.sectors ≡ store_of f → nat_lt size 4096 ≡ false → fault ≢ chain.NoMemory
-    → ((ns : List ℕ) → IsFound f first size ns → fault ≡ chain.NoMemory) → MayRefuse f first size fault → MayRefusePlace b first size (chain_fault fault)
-long_place b f first size fault same long ne found h =
-    let here : (fault ≡ chain.NoMemory) ⊎ IsChainAtFault b.sectors Untold first size fault =
-    subst (λ (s : Store). (fault ≡ chain.NoMemory) ⊎ IsChainAtFault s Untold first size fault) (sym same) (chain_refused f Untold (λ n l m. tt) first size fault h) in
-    place_refused b first size fault ne (some_bytes f first size fault ne found)
-    (subst (λ (t : Bool). (fault ≡ chain.NoMemory) ⊎ IsChainAtFault (if t then b.minis else b.sectors) Untold first size fault) (sym long) here)
+-- a fault of the directory, told
+below_told : (b : Base) (fault : DirFault) → MayRefuseBelow b.directory fault → MayRefuseStorage b (directory_fault fault)
+below_told b directory.NameEmpty h = h
+below_told b directory.NameTooLong h = h
+below_told b directory.NameNotAscii h = h
+below_told b directory.NameForbidden h = h
+below_told b directory.DuplicateName h = h
+below_told b directory.BadEntry h = h
+below_told b directory.TreeCycle h = h
+below_told b directory.TooNested h = h
+below_told b directory.NoMemory h = absurd h
 
--- the stream of a child
-pub stream_below : (b : Base) (depth parent id first size : ℕ) (fault : ReadFault) → IsChild b.directory parent id → kind (entry_at b.directory id) ≡ 2
-    → first ≡ first_of (entry_at b.directory id) → size ≡ size_of (entry_at b.directory id) → MayRefusePlace b first size fault → MayRefuseStorage b depth parent fault
-stream_below b depth parent id first size (told.Chain fault) c k f s h =
-    let entry : List ℕ = entry_at b.directory id in
-    let here : IsChainAtFault (store_in b (size_of entry)) Untold (first_of entry) (size_of entry) fault =
-    subst (λ (x : ℕ). IsChainAtFault (store_in b (size_of entry)) Untold x (size_of entry) fault) f
-    (subst (λ (x : ℕ). IsChainAtFault (store_in b x) Untold first x fault) s h.1) in
-    let at : IsStreamAtFault b id fault = record { kind_is = k; some = subst (λ (x : ℕ). 0 < x) s h.0; at_fault = here } in
-    (0, id, (id, c, refl), at)
-stream_below b depth parent id first size (told.Directory fault) c k f s h = absurd h
-stream_below b depth parent id first size told.NoMemory c k f s h = absurd h
+-- ---- of an entry that is to be read next
+module _ (b : Base) (room id : ℕ) (pending : List ℕ) (r : Reader) (at : IsNext b room id pending r) where
+  directory_is : b.directory ≡ directory_in r
+  directory_is = same_directory b (id ∷ pending) r at.underway
 
--- what links reach
-reached_from : (d : List ℕ) (top n : ℕ) (ids : List ℕ) → AreLinked d top ids → Contains ids n → (128 * n < length d) × (n ≢ NO_STREAM) × Reaches d top n
-reached_from d top n ids nobody c = absurd (omega (arith, c.1))
-reached_from d top n ids (around id before after ne lt l r) c =
-    elim (Contains-cons_cases id (before ++ after) n c) [
-      | inl e ↦ subst (λ (x : ℕ). (128 * x < length d) × (x ≢ NO_STREAM) × Reaches d top x) e (lt, ne, here top)
-      | inr c' ↦ elim (Contains-append_cases before after n c') [
-        | inl b ↦ let q : _ = reached_from d (left (entry_at d top)) n before l b in (q.0, q.1, by_left top n lt ne q.2)
-        | inr a ↦ let q : _ = reached_from d (right (entry_at d top)) n after r a in (q.0, q.1, by_right top n lt ne q.2)
-      ]
-    ]
+  -- it is none of those that were begun
+  another : (n : ℕ) → IsBegun r (id ∷ pending) n → n ≢ id
+  another n begun e = begun.1 (subst (Contains (id ∷ pending)) (sym e) (Contains-front id pending))
 
-pub linked_child : (d : List ℕ) (parent n : ℕ) (ids : List ℕ) → IsStorage d parent → AreLinked d (child (entry_at d parent)) ids → Contains ids n → IsChild d parent n
-linked_child d parent n ids s l c =
-    let q : (128 * n < length d) × (n ≢ NO_STREAM) × Reaches d (child (entry_at d parent)) n = reached_from d (child (entry_at d parent)) n ids l c in
-    record { of_storage = s; inside = q.0; somebody = q.1; reached = q.2 }
+  in_other : (short : Bool) → nat_lt (size_of (entry_at b.directory id)) 4096 ≡ short → (n : ℕ) → IsInRead b r (id ∷ pending) short n → IsInOther b id n
+  in_other short e n q = record {
+    levels = q.levels;
+    other = q.other;
+    below = q.below;
+    another = another q.other q.begun;
+    is_stream = q.is_stream;
+    same_table = q.in_table ∙ sym e;
+    ns = q.ns;
+    is_chain = q.is_chain;
+    there = q.there;
+  }
 
--- a fault below a child is one below its storage
-bad_below : (dir : List ℕ) (parent id levels n : ℕ) → IsChild dir parent id
-    → (IsBelow dir (suc levels) id n × IsBadEntry dir n) ⊎ (IsBelow dir levels id n × LeadsOutside dir n)
-    → (IsBelow dir (suc (suc levels)) parent n × IsBadEntry dir n) ⊎ (IsBelow dir (suc levels) parent n × LeadsOutside dir n)
-bad_below dir parent id levels n c (inl h) = inl ((id, c, h.0), h.1)
-bad_below dir parent id levels n c (inr h) = inr ((id, c, h.0), h.1)
+  -- what is marked is taken by other parts
+  taken_by : (short : Bool) → nat_lt (size_of (entry_at b.directory id)) 4096 ≡ short → (n : ℕ) → IsTaken (if short then r.mini else r.fat) n → IsTakenFor b id n
+  taken_by true e n t = inr (in_other true e n (at.underway.taken_minis n t))
+  taken_by false e n t = elim (at.underway.taken n t) [ inl o ↦ inl (e, o) | inr q ↦ inr (in_other false e n q) ]
 
-pub below_child : (dir : List ℕ) (depth parent id : ℕ) (fault : DirFault) → IsChild dir parent id → 0 < depth → MayRefuseBelow dir (depth - 1) id fault
-    → MayRefuseBelow dir depth parent fault
-below_child dir depth parent id directory.NameEmpty c lt h = (suc h.0, h.1, (id, c, h.2), h.3)
-below_child dir depth parent id directory.NameTooLong c lt h = (suc h.0, h.1, (id, c, h.2), h.3)
-below_child dir depth parent id directory.NameNotAscii c lt h = (suc h.0, h.1, (id, c, h.2), h.3)
-below_child dir depth parent id directory.NameForbidden c lt h = (suc h.0, h.1, (id, c, h.2), h.3)
-below_child dir depth parent id directory.DuplicateName c lt h = (suc h.0, h.1, (id, c, h.2), h.3)
-below_child dir depth parent id directory.TooNested c lt h =
-    let e : suc (depth - 1) ≡ depth = omega arith in
-    (h.0, (id, c, subst (λ (d : ℕ). IsBelow dir d id h.0) e h.1), h.2)
-below_child dir depth parent id directory.BadEntry c lt h = (suc h.0, h.1, bad_below dir parent id h.0 h.1 c h.2)
-below_child dir depth parent id directory.TreeCycle c lt h = tt
-below_child dir depth parent id directory.NoMemory c lt h = h
+  fault_here : (short : Bool) → nat_lt (size_of (entry_at b.directory id)) 4096 ≡ short → (first size : ℕ) (fault : ChainFault)
+      → IsChainAtFault (store_of (if short then r.mini else r.fat)) (IsTaken (if short then r.mini else r.fat)) first size fault
+      → IsChainAtFault (if short then store_of r.mini else store_of r.fat) (λ n. IsTakenFor b id n) first size fault
+  fault_here true e first size fault h = taken_as (store_of r.mini) (IsTaken r.mini) (λ n. IsTakenFor b id n) (taken_by true e) first size fault h
+  fault_here false e first size fault h = taken_as (store_of r.fat) (IsTaken r.fat) (λ n. IsTakenFor b id n) (taken_by false e) first size fault h
 
-pub storage_child : (b : Base) (depth parent id : ℕ) (fault : ReadFault) → IsChild b.directory parent id → 0 < depth → MayRefuseStorage b (depth - 1) id fault
-    → MayRefuseStorage b depth parent fault
-storage_child b depth parent id (told.Chain fault) c lt h = (suc h.0, h.1, (id, c, h.2), h.3)
-storage_child b depth parent id (told.Directory fault) c lt h = below_child b.directory depth parent id fault c lt h
-storage_child b depth parent id told.NoMemory c lt h = tt
+  stream_at_fault : (fault : ChainFault) → kind (entry_at (directory_in r) id) ≡ 2 → 0 < size_of (entry_at (directory_in r) id)
+      → IsChainAtFault (store_of (table_for (size_of (entry_at (directory_in r) id)) r.fat r.mini)) (IsTaken (table_for (size_of (entry_at (directory_in r) id)) r.fat r.mini))
+      (first_of (entry_at (directory_in r) id)) (size_of (entry_at (directory_in r) id)) fault
+      → IsStreamAtFault b id fault
+  stream_at_fault fault k lt h =
+      let entry : List ℕ = entry_at (directory_in r) id in
+      let P : Base → Type 0 = λ x. IsChainAtFault (store_in x (size_of (entry_at x.directory id))) (λ n. IsTakenFor b id n) (first_of (entry_at x.directory id)) (size_of (entry_at x.directory id)) fault in
+      record {
+        kind_is = ap (λ (d : List ℕ). kind (entry_at d id)) directory_is ∙ k;
+        some = subst (λ (d : List ℕ). 0 < size_of (entry_at d id)) (sym directory_is) lt;
+        at_fault = subst P (sym at.underway.base)
+            (fault_here (nat_lt (size_of entry) 4096) (ap (λ (d : List ℕ). nat_lt (size_of (entry_at d id)) 4096) directory_is) (first_of entry) (size_of entry) fault h);
+      }
 
--- a fault of an entry is one below its storage
-bad_entry : (dir : List ℕ) (depth parent id : ℕ) → IsChild dir parent id → MayRefuseEntry dir id directory.BadEntry → MayRefuseBelow dir depth parent directory.BadEntry
-bad_entry dir depth parent id c (inl le) = absurd (omega (arith, le, c.inside))
-bad_entry dir depth parent id c (inr (inl other)) = (0, id, inl ((id, c, refl), inl other))
-bad_entry dir depth parent id c (inr (inr odd)) = (0, id, inl ((id, c, refl), inr odd.1))
+  pub stream_below : (first size : ℕ) (fault : ReadFault) → id ≢ 0 → kind (entry_at (directory_in r) id) ≡ 2 → first ≡ first_of (entry_at (directory_in r) id)
+      → size ≡ size_of (entry_at (directory_in r) id) → MayRefusePlace r first size fault → MayRefuseStorage b fault
+  stream_below first size (told.Chain fault) ne k f s h =
+      let entry : List ℕ = entry_at (directory_in r) id in
+      let here : (n : ℕ) × IsBelow b.directory (suc n) id = below_some b.directory at.levels id ne at.stands.below in
+      let chain_here : IsChainAtFault (store_of (table_for (size_of entry) r.fat r.mini)) (IsTaken (table_for (size_of entry) r.fat r.mini)) (first_of entry) (size_of entry) fault =
+      subst (λ (x : ℕ). IsChainAtFault (store_of (table_for (size_of entry) r.fat r.mini)) (IsTaken (table_for (size_of entry) r.fat r.mini)) x (size_of entry) fault) f
+      (subst (λ (x : ℕ). IsChainAtFault (store_of (table_for x r.fat r.mini)) (IsTaken (table_for x r.fat r.mini)) first x fault) s h.1) in
+      (here.0, id, here.1, stream_at_fault fault k (subst (λ (x : ℕ). 0 < x) s h.0) chain_here)
+  stream_below first size (told.Directory fault) ne k f s h = absurd h
+  stream_below first size told.NoMemory ne k f s h = absurd h
 
-pub entry_below : (b : Base) (depth parent id : ℕ) (fault : DirFault) → IsChild b.directory parent id → MayRefuseEntry b.directory id fault
-    → MayRefuseStorage b depth parent (directory_fault fault)
-entry_below b depth parent id directory.NameEmpty c h = (0, id, (id, c, refl), h.1)
-entry_below b depth parent id directory.NameTooLong c h = (0, id, (id, c, refl), h.1)
-entry_below b depth parent id directory.NameNotAscii c h = (0, id, (id, c, refl), h.1)
-entry_below b depth parent id directory.NameForbidden c h = (0, id, (id, c, refl), h.1)
-entry_below b depth parent id directory.DuplicateName c h = absurd h
-entry_below b depth parent id directory.BadEntry c h = bad_entry b.directory depth parent id c h
-entry_below b depth parent id directory.TreeCycle c h = tt
-entry_below b depth parent id directory.TooNested c h = absurd h
-entry_below b depth parent id directory.NoMemory c h = tt
+  -- an entry that is refused
+  pub entry_below : (fault : DirFault) → id ≢ 0 → MayRefuseEntry (directory_in r) id fault → MayRefuseStorage b (directory_fault fault)
+  entry_below fault ne h =
+      let here : (n : ℕ) × IsBelow b.directory (suc n) id = below_some b.directory at.levels id ne at.stands.below in
+      below_told b fault (entry_at_fault b.directory here.0 id fault here.1 (subst (λ (d : List ℕ). MayRefuseEntry d id fault) (sym directory_is) h))
 
--- and so is one of names
-pub names_below : (b : Base) (depth parent : ℕ) (ids : List ℕ) (fault : ReadFault) → ((n : ℕ) → Contains ids n → IsChild b.directory parent n)
-    → MayRefuseNames b.directory ids fault → MayRefuseStorage b depth parent fault
-names_below b depth parent ids told.NoMemory f h = tt
-names_below b depth parent ids (told.Chain fault) f h = absurd h
-names_below b depth parent ids (told.Directory directory.NameEmpty) f h = entry_below b depth parent h.0 directory.NameEmpty (f h.0 h.1) h.2
-names_below b depth parent ids (told.Directory directory.NameTooLong) f h = entry_below b depth parent h.0 directory.NameTooLong (f h.0 h.1) h.2
-names_below b depth parent ids (told.Directory directory.NameNotAscii) f h = entry_below b depth parent h.0 directory.NameNotAscii (f h.0 h.1) h.2
-names_below b depth parent ids (told.Directory directory.NameForbidden) f h = entry_below b depth parent h.0 directory.NameForbidden (f h.0 h.1) h.2
-names_below b depth parent ids (told.Directory directory.DuplicateName) f h = (0, parent, refl, (h.0, h.1, f h.0 h.2, f h.1 h.3, h.4, h.5))
-names_below b depth parent ids (told.Directory directory.BadEntry) f h = entry_below b depth parent h.0 directory.BadEntry (f h.0 h.1) h.2
-names_below b depth parent ids (told.Directory directory.TreeCycle) f h = tt
-names_below b depth parent ids (told.Directory directory.TooNested) f h = absurd h.2
-names_below b depth parent ids (told.Directory directory.NoMemory) f h = absurd h.2
+  -- a storage that stands too deep
+  pub nested_below : room ≡ 0 → kind (entry_at (directory_in r) id) ≡ 1 → MayRefuseStorage b (told.Directory directory.TooNested)
+  nested_below e k = (
+    id,
+    subst (λ (levels : ℕ). IsBelow b.directory levels id) (omega (arith, e, at.deep)) at.stands.below,
+    ap (λ (d : List ℕ). kind (entry_at d id)) directory_is ∙ k,
+  )
 
--- the faults of links
-linked_below : (r : Reader) (depth id : ℕ) (fault : DirFault) → IsStorage (directory_in r) id → MayRefuseLinked r.entries (child (entry_at (directory_in r) id)) fault → MayRefuseStorage (base_of r) depth id (directory_fault fault)
-linked_below r depth id directory.NameEmpty s h = absurd h
-linked_below r depth id directory.NameTooLong s h = absurd h
-linked_below r depth id directory.NameNotAscii s h = absurd h
-linked_below r depth id directory.NameForbidden s h = absurd h
-linked_below r depth id directory.DuplicateName s h = absurd h
-linked_below r depth id directory.BadEntry s h = (0, id, inr (refl, (h.0, s, h.1, h.2, h.3)))
-linked_below r depth id directory.TreeCycle s h = tt
-linked_below r depth id directory.TooNested s h = absurd h
-linked_below r depth id directory.NoMemory s h = tt
+  -- ---- a storage whose children are refused
+  module _ (s : IsStorage (directory_in r) id) where
+    storage : IsStorage b.directory id
+    storage = subst (λ (d : List ℕ). IsStorage d id) (sym directory_is) s
 
-pub children_below : (r : Reader) (depth id : ℕ) (fault : DirFault) → IsStorage (directory_in r) id → 128 * id < length (directory_in r) → MayRefuseChildren r.entries id fault
-    → MayRefuseStorage (base_of r) depth id (directory_fault fault)
-children_below r depth id fault s lt (inl h) = absurd (omega (arith, lt, h.0))
-children_below r depth id fault s lt (inr (inl h)) = linked_below r depth id fault s h
-children_below r depth id fault s lt (inr (inr h)) = subst (λ (f : DirFault). MayRefuseStorage (base_of r) depth id (directory_fault f)) (sym h.1) tt
+    -- entries that may be its children aren't marked
+    free_children : (ids : List ℕ) → AreLinked b.directory (child (entry_at b.directory id)) ids → AreDistinct ids → All (λ n. MayBeChild b.directory id n) ids
+        → AreFree r.entries ids
+    free_children ids l once own = record {
+      free = all-from (IsFree r.entries) ids (λ n c.
+          let inside : 128 * n < length b.directory = (reached_from b.directory (child (entry_at b.directory id)) n ids l c).0 in
+          let may : MayBeChild b.directory id n = All-contains (λ m. MayBeChild b.directory id m) ids n own c in (
+            subst (λ (d : List ℕ). 128 * n < length d) directory_is inside,
+            elim (cases_Bool (get_or r.entries.used n true)) [
+              | inl t ↦ elim (at.underway.met n inside t) [
+                | inl z ↦ absurd (may.0 z)
+                | inr q ↦ absurd (may.1 (record { levels = q.levels; other = q.parent; below = q.below; another = another q.parent q.begun; child_of = q.child_of }))
+              ]
+              | inr f ↦ f
+            ],
+          ));
+      once = once;
+    }
+
+    links_refused : (fault : DirFault) → MayRefuseLinked r.entries (child (entry_at (directory_in r) id)) fault → MayRefuseStorage b (directory_fault fault)
+    links_refused directory.NameEmpty h = absurd h
+    links_refused directory.NameTooLong h = absurd h
+    links_refused directory.NameNotAscii h = absurd h
+    links_refused directory.NameForbidden h = absurd h
+    links_refused directory.DuplicateName h = absurd h
+    links_refused directory.BadEntry h =
+        (at.levels, id, inr (at.stands.below, subst (λ (d : List ℕ). LeadsOutside d id) (sym directory_is) (h.0, s, h.1, h.2, h.3)))
+    links_refused directory.TreeCycle h = (
+      at.levels,
+      id,
+      at.stands.below,
+      storage,
+      λ ids l once own. h ids (subst (λ (d : List ℕ). AreLinked d (child (entry_at d id)) ids) directory_is l) (free_children ids l once own),
+    )
+    links_refused directory.TooNested h = absurd h
+    links_refused directory.NoMemory h = tt
+
+    pub children_below : (fault : DirFault) → 128 * id < length (directory_in r) → MayRefuseChildren r.entries id fault → MayRefuseStorage b (directory_fault fault)
+    children_below fault lt (inl h) = absurd (omega (arith, lt, h.0))
+    children_below fault lt (inr (inl h)) = links_refused fault h
+    children_below fault lt (inr (inr h)) = subst (λ (f : DirFault). MayRefuseStorage b (directory_fault f)) (sym h.1) tt
+
+    -- names of children that are found
+    module _ (ids : List ℕ) (l : AreLinked (directory_in r) (child (entry_at (directory_in r) id)) ids) (free : AreFree r.entries ids) where
+      linked : AreLinked b.directory (child (entry_at b.directory id)) ids
+      linked = subst (λ (d : List ℕ). AreLinked d (child (entry_at d id)) ids) (sym directory_is) l
+
+      one_refused : (n : ℕ) (fault : DirFault) → Contains ids n → MayRefuseEntry (directory_in r) n fault → MayRefuseBelow b.directory fault
+      one_refused n fault c h =
+          entry_at_fault b.directory at.levels n fault (one_below b at.levels id pending r at.underway at.stands storage ids linked free n c)
+          (subst (λ (d : List ℕ). MayRefuseEntry d n fault) (sym directory_is) h)
+
+      is_child : (n : ℕ) → Contains ids n → IsChild b.directory id n
+      is_child n c = linked_child b.directory id n ids storage linked c
+
+      same_key : (m n : ℕ) → key_at (directory_in r) m ≡ key_at (directory_in r) n → key_at b.directory m ≡ key_at b.directory n
+      same_key m n e = subst (λ (d : List ℕ). key_at d m ≡ key_at d n) (sym directory_is) e
+
+      pub names_below : (fault : ReadFault) → MayRefuseNames (directory_in r) ids fault → MayRefuseStorage b fault
+      names_below told.NoMemory h = tt
+      names_below (told.Chain fault) h = absurd h
+      names_below (told.Directory directory.DuplicateName) h =
+          (at.levels, id, at.stands.below, (h.0, h.1, is_child h.0 h.2, is_child h.1 h.3, h.4, same_key h.0 h.1 h.5))
+      names_below (told.Directory directory.NameEmpty) h = one_refused h.0 directory.NameEmpty h.1 h.2
+      names_below (told.Directory directory.NameTooLong) h = one_refused h.0 directory.NameTooLong h.1 h.2
+      names_below (told.Directory directory.NameNotAscii) h = one_refused h.0 directory.NameNotAscii h.1 h.2
+      names_below (told.Directory directory.NameForbidden) h = one_refused h.0 directory.NameForbidden h.1 h.2
+      names_below (told.Directory directory.BadEntry) h = one_refused h.0 directory.BadEntry h.1 h.2
+      names_below (told.Directory directory.TreeCycle) h = one_refused h.0 directory.TreeCycle h.1 h.2
+      names_below (told.Directory directory.TooNested) h = one_refused h.0 directory.TooNested h.1 h.2
+      names_below (told.Directory directory.NoMemory) h = one_refused h.0 directory.NoMemory h.1 h.2
 
 -- ---- of the whole file
 pub file_chain : (file : List ℕ) (fault : ChainFault) → (fault ≡ chain.NoMemory) ⊎ IsFileAtFault file fault → MayRefuseFile file (chain_fault fault)

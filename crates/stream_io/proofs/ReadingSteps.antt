@@ -1,23 +1,25 @@
 -- The steps of reading a storage.
-use Rattle.std.proofs.Common.{◌≡◌, ◌≢◌, ◌⊎◌, inl, inr, ◌<◌, ◌≤◌, ◌+◌, ◌-◌, ◌*◌, ℕ, zero, suc, true, List, length, get_or, drop, map, refl, sym, ◌∙◌, subst, arith}
+use Rattle.std.proofs.Common.{◌≡◌, ◌≢◌, ◌⊎◌, inl, inr, ◌<◌, ◌≤◌, ◌+◌, ◌-◌, ◌*◌, ℕ, zero, suc, true, List, ◌∷◌, ◌++◌, length, get_or, drop, map, refl, sym, subst, arith}
 use Rattle.std.specs.List.{Contains}
 use Rattle.std.specs.List.Sorted.{IsStrictlySortedBy}
 use Rattle.std.proofs.lemmas.List.Elements.{Contains-get_or}
 use Rattle.std.proofs.lemmas.Bool.{cases_lt}
+use Rattle.std.proofs.lemmas.List.{drop_more}
 use Rattle.cfb_names.specs.Names.{key_cmp}
 use Rattle.cfb_directory.specs.Entries.{MayRefuseEntry, child, class_of, entry_at, kind, state_of}
 use Rattle.cfb_names.specs.declared.fault.DirFault.{DirFault}
 use Rattle.file_model.proofs.Unique.{linked_unique}
 use Rattle.storage_tree.specs.Change.{Seen, bytes, child as with_child, inner}
 use Rattle.storage_tree.specs.Tree.{Tree, Children, none, tree}
-use Rattle.file_faults.specs.Faults.{Base, IsChild, IsStorage, key_at}
-use Rattle.stream_io.specs.Reads.{AreRead, AreSorted, IsChildPut, IsChildRead, IsNodeRead, IsStorageRead, base_of, directory_in, met}
+use Rattle.file_faults.specs.Faults.{Base, IsStorage, key_at}
+use Rattle.stream_io.specs.Marks.{IsMetBelow, IsNext, IsUnderway}
+use Rattle.stream_io.specs.Reads.{AreRead, AreSorted, IsChildPut, IsChildRead, IsNodeRead, IsStorageRead, directory_in, met}
 use Rattle.stream_io.specs.declared.read.Reader.{Reader}
 use Rattle.file_outline.proofs.Followed.{followed}
 use Rattle.stream_io.proofs.ReadingChildren.{IsFirstRead, Progress, put_behind, progress_all, progress_more, progress_next}
 use Rattle.stream_io.proofs.ReadingEntries.{kind_inside}
 use Rattle.stream_io.proofs.ReadingKept.{IsKept, kept_met, kept_same, kept_then}
-use Rattle.stream_io.proofs.ReadingRefused.{linked_child}
+use Rattle.stream_io.proofs.ReadingMarks.{below_kept, children_stand, same_directory, underway_opened}
 use Rattle.stream_io.proofs.ReadingSorted.{IsReadable, readable_not_refused, sorted_below, sorted_same}
 use Rattle.stream_io.proofs.ReadingWhole.{each_readable}
 
@@ -56,16 +58,22 @@ module _ (depth id : ℕ) (items : List ℕ) (old mid : Reader) (o : AreOpen id 
     pub next_below : get_or old.entries.used 0 true ≡ true → i < length items → get_or items i 0 ≢ 0
     next_below h lt = sorted_below old.entries id items h o.sorted i 0 lt
 
-    dir_now : directory_in r ≡ directory_in old
-    dir_now = p.kept.directory ∙ kept_mid.directory
-
-    pub next_child : IsStorage (directory_in old) id → i < length items → IsChild (directory_in r) id (get_or items i 0)
-    next_child s lt =
-        subst (λ (x : List ℕ). IsChild x id (get_or items i 0)) (sym dir_now)
-        (linked_child (directory_in old) id (get_or items i 0) o.sorted.reached s o.sorted.linked ((o.sorted.same (get_or items i 0)).1 (Contains-get_or items i 0 lt)))
-
-    pub back_to : (P : Base → Type 0) → P (base_of r) → P (base_of old)
-    back_to P h = subst P (p.kept.base ∙ kept_mid.base) h
+    -- the next entry, and those behind it, are still to be read
+    pub next_at : (b : Base) (pending : List ℕ) → IsStorage (directory_in old) id → IsNext b (suc depth) id pending old → i < length items
+        → IsNext b depth (get_or items i 0) (drop (i + 1) items ++ pending) r
+    next_at b pending storage at lt =
+        let n : ℕ = get_or items i 0 in
+        let storage' : IsStorage b.directory id = subst (λ (d : List ℕ). IsStorage d id) (sym (same_directory b (id ∷ pending) old at.underway)) storage in
+        let stand : (m : ℕ) → Contains items m → IsMetBelow b.directory mid (suc at.levels) m = λ m c.
+        subst (λ (x : Reader). IsMetBelow b.directory x (suc at.levels) m) (sym o.mid_is) (children_stand b at.levels id pending old at.underway at.stands storage' items o.sorted m c) in
+        let there : IsUnderway b (items ++ pending) mid =
+        subst (IsUnderway b (items ++ pending)) (sym o.mid_is) (underway_opened b at.levels id pending old at.underway at.stands storage' items o.sorted) in
+        record {
+          levels = suc at.levels;
+          deep = omega (arith, at.deep);
+          stands = below_kept b.directory mid r (suc at.levels) n p.kept (stand n (Contains-get_or items i 0 lt));
+          underway = subst (λ (xs : List ℕ). IsUnderway b (xs ++ pending) r) (drop_more items i 0 lt) (p.underway b at.levels pending stand there);
+        }
 
     pub step : (next : Reader) (ds : Children) → i < length items → IsChildPut depth (get_or items i 0) r next cs ds → Progress depth items mid (i + 1) next ds
     step next ds lt h = progress_more depth items mid i r next cs ds lt ordered p h

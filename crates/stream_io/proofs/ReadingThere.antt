@@ -1,5 +1,6 @@
 -- The parts of a file that denotes a tree are there to be read.
 use Rattle.std.proofs.Common.{◌≡◌, ◌≢◌, ◌<◌, ◌+◌, ◌*◌, ◌/◌, inl, inr, ℕ, true, false, List, [], ◌∷◌, ◌++◌, length, get_or, replicate, refl, sym, ◌∙◌, ap, subst, arith, append_assoc, get_or-set_other}
+use Rattle.std.proofs.lemmas.Bool.{cases_eq}
 use Rattle.std.proofs.lemmas.List.{get_or-replicate}
 use Rattle.std.proofs.lemmas.List.Elements.{All-append}
 use Rattle.std.specs.List.{All, Contains}
@@ -142,6 +143,14 @@ module _ (file : List ℕ) (l : Layout) (old : Reader) (r : IsReady file l old.f
   within n lt =
       let same : length (directory_in old) ≡ length (directory_of file l) = ap (λ (x : List ℕ). length x) r.bytes_are in
       omega (arith, unfolded, same)
+
+  -- just the root is marked
+  pub root_alone : (n : ℕ) → 128 * n < length (directory_in old) → get_or old.entries.used n true ≡ true → n ≡ 0
+  root_alone n lt m =
+      elim (cases_eq n 0) [
+        | inl e ↦ e
+        | inr ne ↦ absurd (let f : true ≡ false = sym m ∙ others_free old.entries n loaded ne (within n (subst (λ (d : List ℕ). 128 * n < length d) r.bytes_are lt)) in cc f)
+      ]
 
   in_tree : (t : Tree) (used : Used) → Holds file l 0 t used → IsTree 32 t → AreDistinct (l.fat ++ l.difat ++ l.directory ++ l.mini_fat ++ l.mini_stream ++ used.sectors)
       → AreDistinct used.minis → AreDistinct (0 ∷ used.ids) → IsThere file l 32 0 t used old (l.fat ++ l.difat ++ l.directory ++ l.mini_fat ++ l.mini_stream) []

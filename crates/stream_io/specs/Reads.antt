@@ -1,5 +1,5 @@
 -- How a file is read, and which files are refused.
-use Rattle.std.specs.Prelude.{◌≡◌, ◌≢◌, ◌↔◌, ◌<◌, ◌-◌, ℕ, suc, List, [], ◌∷◌, map, take, if◌then◌else◌, nat_lt, Err, codes}
+use Rattle.std.specs.Prelude.{◌≡◌, ◌≢◌, ◌↔◌, ◌<◌, ◌-◌, ℕ, suc, true, List, [], ◌∷◌, length, map, slice_index_or, take, if◌then◌else◌, nat_lt, Err, codes}
 use Rattle.std.specs.List.{Contains}
 use Rattle.std.specs.List.Sorted.{IsStrictlySortedBy}
 use Rattle.cfb_header.specs.Bytes.{joined}
@@ -17,7 +17,7 @@ use Rattle.storage_tree.specs.Change.{Seen, bytes, inner, place}
 use Rattle.storage_tree.specs.Tree.{Tree, Children, tree, none, stream, storage}
 use Rattle.file_model.specs.Limits.{CUTOFF}
 use Rattle.file_model.specs.Denotes.{Denotes}
-use Rattle.file_faults.specs.Faults.{Base, IsBelow, IsChainAtFault, IsDirectoryAtFault, IsFileAtFault, IsStreamAtFault, MayRefuseBelow, Untold, key_at, store_in}
+use Rattle.file_faults.specs.Faults.{Base, IsBelow, IsChainAtFault, IsDirectoryAtFault, IsFileAtFault, IsStreamAtFault, MayRefuseBelow, key_at}
 use Rattle.file_outline.specs.Streams.{stream_at}
 use Rattle.file_outline.specs.View.{table_for}
 use Rattle.stream_io.specs.declared.fault.ReadFault.{ReadFault}
@@ -129,26 +129,32 @@ abbrev pub IsKeyed : List ℕ → List ℕ × ℕ → Type 0
 IsKeyed dir e = e.0 ≡ key_at dir e.1
 
 -- ---- what a file is refused for
-abbrev pub base_of : Reader → Base
-base_of r = record { directory = directory_in r; sectors = store_of r.fat; minis = store_of r.mini }
+-- what a reader reads from, with the sectors that the system's own parts have
+abbrev pub base_of : List ℕ → Reader → Base
+base_of own r = record { directory = directory_in r; sectors = store_of r.fat; minis = store_of r.mini; own = own }
+
+-- a sector that is there and marked
+abbrev pub IsTaken : FatValue → ℕ → Type 0
+IsTaken f n = (n < length f.table) × (slice_index_or f.used n true ≡ true)
 
 -- when a fault may be answered for the stream of a size that begins at a sector; it takes no memory to find it
-abbrev pub MayRefusePlace : Base → ℕ → ℕ → ReadFault → Type 0
-MayRefusePlace b first size (Chain fault) = (0 < size) × IsChainAtFault (store_in b size) Untold first size fault
-MayRefusePlace b first size (Directory fault) = ⊥
-MayRefusePlace b first size NoMemory = ⊥
+abbrev pub MayRefusePlace : Reader → ℕ → ℕ → ReadFault → Type 0
+MayRefusePlace r first size (Chain fault) = (0 < size)
+    × IsChainAtFault (store_of (table_for size r.fat r.mini)) (IsTaken (table_for size r.fat r.mini)) first size fault
+MayRefusePlace r first size (Directory fault) = ⊥
+MayRefusePlace r first size NoMemory = ⊥
 
--- when a fault may be answered for a storage that may have so many levels below it
-abbrev pub MayRefuseStorage : Base → ℕ → ℕ → ReadFault → Type 0
-MayRefuseStorage b depth id (Chain fault) = (levels : ℕ) × (n : ℕ) × IsBelow b.directory (suc levels) id n × IsStreamAtFault b n fault
-MayRefuseStorage b depth id (Directory fault) = MayRefuseBelow b.directory depth id fault
-MayRefuseStorage b depth id NoMemory = Unit {0}
+-- when a fault may be answered for what stands below the root
+abbrev pub MayRefuseStorage : Base → ReadFault → Type 0
+MayRefuseStorage b (Chain fault) = (levels : ℕ) × (id : ℕ) × IsBelow b.directory (suc levels) id × IsStreamAtFault b id fault
+MayRefuseStorage b (Directory fault) = MayRefuseBelow b.directory fault
+MayRefuseStorage b NoMemory = Unit {0}
 
 -- When a fault may be answered for a file: one of the header where the header is refused for it, one of chains where a part
 -- has a chain so at fault, one of names where an entry that links reach from the root has such a name, or two siblings have
--- one name, `TooNested` where a storage so reached stands inside too many others, and `BadEntry` where there is no root,
--- where links lead outside the directory, or where an entry so reached is bad. Of a stream `CrossLinked`
--- says only that its chain leads to a sector that is there, and `TreeCycle` has no condition yet.
+-- one name, `TooNested` where a storage so reached stands inside too many others, `BadEntry` where there is no root, where
+-- links lead outside the directory, or where an entry so reached is bad, and `TreeCycle` where what links reach from the
+-- child of a storage is no tree of entries of its own.
 abbrev pub MayRefuseFile : List ℕ → ReadFault → Type 0
 MayRefuseFile file (Chain fault) = IsFileAtFault file fault
 MayRefuseFile file (Directory fault) = IsDirectoryAtFault file fault

@@ -11,14 +11,15 @@ ghost use Rattle.cfb_names.specs.Names.{key, key_cmp};
 ghost use Rattle.std.specs.List.{All, Contains};
 ghost use Rattle.std.specs.List.Sorted.{IsStrictlySortedBy};
 ghost use Rattle.std.specs.Map.{keys_of, values_of};
-ghost use Rattle.std.specs.Prelude.{[], ◌*◌, ◌↔◌, ◌<◌, ◌≡◌, ◌≢◌, IfErr, IfOk, List, OnOk, length, map, slice_index_or, take, true, ℕ};
+ghost use Rattle.std.specs.Prelude.{[], ◌*◌, ◌↔◌, ◌<◌, ◌≡◌, ◌≢◌, IfErr, IfOk, List, OnOk, length, map, slice_index_or, suc, take, true, ℕ};
 ghost use Rattle.storage_tree.specs.Change.{Seen};
 ghost use Rattle.storage_tree.specs.Kept.{kept};
 ghost use Rattle.storage_tree.specs.Tree as tree;
 ghost use Rattle.file_model.specs.Outline.{outline_of, part_of};
 ghost use Rattle.file_model.specs.Denotes.{Denotes};
-ghost use Rattle.file_faults.specs.Faults.{IsChild, IsStorage, key_at};
-ghost use Rattle.stream_io.specs.Reads.{AreSorted, IsChildRead, IsKeyed, IsNodeRead, IsStorageRead, MayRefuseFile, MayRefuseNames, MayRefusePlace, MayRefuseStorage, MayRefuseStream, base_of, chain_fault, directory_in, met, stream_after};
+ghost use Rattle.file_faults.specs.Faults.{Base, IsStorage, key_at};
+ghost use Rattle.stream_io.specs.Marks.{IsNext};
+ghost use Rattle.stream_io.specs.Reads.{AreSorted, IsChildRead, IsKeyed, IsNodeRead, IsStorageRead, MayRefuseFile, MayRefuseNames, MayRefusePlace, MayRefuseStorage, MayRefuseStream, chain_fault, directory_in, met, stream_after};
 ghost use Rattle.file_outline.specs.Streams.{stream_at};
 ghost use Rattle.file_outline.specs.View.{contents, outline_view, part_view, shown, shown_part, table_for};
 ghost use Rattle.stream_io.specs.View.{directory_bytes};
@@ -111,7 +112,7 @@ impl<'a, 'd> Reader<'a, 'd> {
             × (self.new ≡ stream_after place.size ns self.old)) }
         ensures long { OnOk result (length (contents self.old.fat self.old.mini place) ≡ place.size) }
         ensures there { (ns : List ℕ) → IsFound (table_for place.size self.old.fat self.old.mini) place.first place.size ns → IfErr result (λ e. e ≡ NoMemory) }
-        ensures refused { IfErr result (MayRefusePlace (base_of self.old) place.first place.size) }
+        ensures refused { IfErr result (MayRefusePlace self.old place.first place.size) }
     {
         if is_short(place) {
             self.mini.mark_chain(place.first, place.size)?;
@@ -129,7 +130,7 @@ impl<'a, 'd> Reader<'a, 'd> {
         requires root_marked { slice_index_or self.old.entries.used 0 true ≡ true }
         ensures sorted { IfOk result (λ v. (sorted : AreSorted self.old.entries id v.items) × (self.new ≡ met sorted.reached self.old)) }
         ensures there { (depth : ℕ) (t : tree.Tree) (new : reader.Reader) → IsStorageRead depth id t self.old new → IfErr result (λ e. e ≡ NoMemory) }
-        ensures refused { (depth : ℕ) → IsStorage (directory_in self.old) id → IfErr result (MayRefuseStorage (base_of self.old) depth id) }
+        ensures refused { (b : Base) (room : ℕ) (pending : List ℕ) → IsStorage (directory_in self.old) id → IsNext b room id pending self.old → IfErr result (MayRefuseStorage b) }
     {
         let ids = self.entries.children(alloc, id)?;
         let sorted = by_name(alloc, &self.entries, &ids)?;
@@ -153,7 +154,7 @@ impl<'a, 'd> Reader<'a, 'd> {
         ensures read { IfOk result (λ o. IsStorageRead depth id (shown (contents self.old.fat self.old.mini) o) self.old self.new) }
         ensures sized { IfOk result (λ o. outline_of (shown (contents self.old.fat self.old.mini) o) ≡ outline_view o) }
         ensures there { (t : tree.Tree) (new : reader.Reader) → IsStorageRead depth id t self.old new → IfErr result (λ e. e ≡ NoMemory) }
-        ensures refused { IfErr result (MayRefuseStorage (base_of self.old) depth id) }
+        ensures refused { (b : Base) (pending : List ℕ) → IsNext b (suc depth) id pending self.old → IfErr result (MayRefuseStorage b) }
     {
         let ids = self.sorted_children(alloc, id)?;
         let mut parts = Vec::with_capacity(alloc, ids.len())?;
@@ -183,7 +184,7 @@ impl<'a, 'd> Reader<'a, 'd> {
         ensures read { IfOk result (λ c. IsChildRead depth id (key c.0) c.0 (shown_part (contents self.old.fat self.old.mini) c.1) self.old self.new) }
         ensures sized { IfOk result (λ c. part_of (shown_part (contents self.old.fat self.old.mini) c.1) ≡ part_view c.1) }
         ensures there { (k name : List ℕ) (s : Seen) (new : reader.Reader) → IsChildRead depth id k name s self.old new → IfErr result (λ e. e ≡ NoMemory) }
-        ensures refused { (parent : ℕ) → IsChild (directory_in self.old) parent id → IfErr result (MayRefuseStorage (base_of self.old) depth parent) }
+        ensures refused { (b : Base) (pending : List ℕ) → IsNext b depth id pending self.old → IfErr result (MayRefuseStorage b) }
     {
         let entry = self.entries.entry(id)?;
         let part = self.part_outline(alloc, id, &entry, depth)?;
@@ -208,7 +209,7 @@ impl<'a, 'd> Reader<'a, 'd> {
         ensures read { IfOk result (λ part. IsNodeRead depth id (shown_part (contents self.old.fat self.old.mini) part) self.old self.new) }
         ensures sized { IfOk result (λ part. part_of (shown_part (contents self.old.fat self.old.mini) part) ≡ part_view part) }
         ensures there { (s : Seen) (new : reader.Reader) → IsNodeRead depth id s self.old new → IfErr result (λ e. e ≡ NoMemory) }
-        ensures refused { (parent : ℕ) → IsChild (directory_in self.old) parent id → IfErr result (MayRefuseStorage (base_of self.old) depth parent) }
+        ensures refused { (b : Base) (pending : List ℕ) → IsNext b depth id pending self.old → IfErr result (MayRefuseStorage b) }
     {
         match entry.kind {
             EntryKind::Stream => {

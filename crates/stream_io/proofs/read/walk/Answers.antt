@@ -1,4 +1,4 @@
-use Rattle.std.proofs.Common.{◌≡◌, ◌/◌, List, [], ◌∷◌, ℕ, inl, true, false, length, replicate, get_or, sym, ◌∙◌, ap, subst, rules}
+use Rattle.std.proofs.Common.{◌≡◌, ◌/◌, ◌++◌, List, [], ◌∷◌, ℕ, inl, true, false, length, replicate, get_or, sym, ◌∙◌, ap, subst, rules}
 use Rattle.std.specs.Result.{IsErrAnd}
 use Rattle.cfb_chain.proofs.Results.{refused_with}
 use Rattle.cfb_chain.specs.Chain.{IsChain}
@@ -9,11 +9,11 @@ use Rattle.cfb_directory.specs.Entries.{EntriesValue}
 use Rattle.storage_tree.specs.Tree.{Tree}
 use Rattle.file_model.specs.Outline.{outline_of}
 use Rattle.file_model.specs.Denotes.{Denotes, Layout}
-use Rattle.stream_io.specs.Reads.{IsStorageRead, MayRefuseFile, chain_fault, directory_fault}
+use Rattle.stream_io.specs.Reads.{IsStorageRead, MayRefuseFile, base_of, chain_fault, directory_fault}
 use Rattle.stream_io.specs.declared.read.Reader.{Reader}
 use Rattle.file_faults.proofs.Chains.{directory_refused, mini_refused, table_refused}
 use Rattle.stream_io.proofs.ReadingFile.{IsOpened, IsReady, denoted, opened_at, read_header, ready}
-use Rattle.stream_io.proofs.ReadingOpened.{directory_is, file_storage}
+use Rattle.stream_io.proofs.ReadingOpened.{directory_is, file_storage, root_next}
 use Rattle.stream_io.proofs.ReadingRefused.{chain_memory, directory_memory, file_chain, file_load, file_root, same_memory}
 use Rattle.stream_io.proofs.ReadingThere.{directory_there, load_not_refused, mini_there, root_marked, root_not_refused, storage_read}
 use Rattle.file_outline.specs.View.{contents, outline_view, shown}
@@ -230,6 +230,10 @@ returns-in_err-outline-clause-refused c =
     mini_fat mini_stream is o c.in_ok-root.ensures.read.first c.in_ok-root.ensures.read.size
     c.in_ok-mini.ensures.found.2 c.in_ok-mini.ensures.found.3 c.in_ok-mini.ensures.found.4 in
     let start : Reader = record { fat = c.mini.new.self; mini = c.in_ok-mini.mini; entries = e } in
+    let used : e.used ≡ set_all (replicate (length e.directory / 128) false) (0 ∷ []) =
+    ap (λ (x : EntriesValue). x.used) c.in_ok-entries.ensures.loaded
+    ∙ ap (λ (xs : List ℕ). set_all (replicate (length xs / 128) false) (0 ∷ [])) (sym (ap (λ (x : EntriesValue). x.directory) c.in_ok-entries.ensures.loaded)) in
     let again : IsErrAnd c.from_residual-in_err-outline.result (λ x. x ≡ c.in_err-outline.field-0.0) = search rules in
     refused_with c.from_residual-in_err-outline.result c.in_err-outline.field-0.0 (MayRefuseFile file) again
-    (file_storage file l start r (directory_is file c.chain.new.self c.in_ok-chain.chain.items e.directory o) c.in_err-outline.field-0.0 c.in_err-outline.ensures.refused)
+    (file_storage file l start r (directory_is file c.chain.new.self c.in_ok-chain.chain.items e.directory o) c.in_err-outline.field-0.0
+    (c.in_err-outline.ensures.refused (base_of (l.fat ++ l.difat ++ l.directory ++ l.mini_fat ++ l.mini_stream) start) [] (root_next file l start r used)))

@@ -1,4 +1,4 @@
-use Rattle.std.proofs.Common.{◌≡◌, ◌+◌, ◌-◌, List, ℕ, ap, drop, get_or, sym, ◌∙◌, subst, rules, arith}
+use Rattle.std.proofs.Common.{◌≡◌, ◌+◌, ◌-◌, ◌++◌, List, ℕ, suc, ap, drop, get_or, sym, ◌∙◌, subst, rules, arith}
 use Rattle.std.specs.Result.{IsErrAnd}
 use Rattle.cfb_chain.proofs.Results.{refused_with}
 use Rattle.cfb_directory.specs.Entries.{entry_at, kind, kind_number}
@@ -6,18 +6,17 @@ use Rattle.cfb_names.specs.Names.{key}
 use Rattle.file_model.specs.Outline.{outline, outline_of, part_of}
 use Rattle.storage_tree.specs.Change.{child}
 use Rattle.storage_tree.specs.Tree.{Tree, Children, none, tree}
-use Rattle.file_faults.specs.Faults.{Base}
-use Rattle.stream_io.specs.Reads.{IsChildRead, IsStorageRead, MayRefuseStorage, base_of, directory_fault, directory_in}
+use Rattle.stream_io.specs.Marks.{IsNext}
+use Rattle.stream_io.specs.Reads.{IsChildRead, IsStorageRead, MayRefuseStorage, directory_fault, directory_in}
 use Rattle.file_outline.specs.View.{contents, part_view, shown_part, shown_parts}
-use Rattle.stream_io.specs.declared.fault.ReadFault.{ReadFault}
 use Rattle.file_outline.specs.declared.outline.Place.{Place}
 use Rattle.stream_io.specs.declared.read.Reader.{Reader}
 use Rattle.file_outline.proofs.Followed.{followed}
 use Rattle.stream_io.proofs.ReadingChildren.{IsFirstRead, Progress}
 use Rattle.stream_io.proofs.ReadingEntries.{storage_kind}
 use Rattle.file_outline.proofs.Outlines.{AreSized, shown-push, shown-roll, sized-all, sized-push, view-roll}
-use Rattle.stream_io.proofs.ReadingRefused.{entry_below, never_ok, same_memory, storage_child, stream_below}
-use Rattle.stream_io.proofs.ReadingSteps.{AreOpen, all_read, back_to, entry_not_refused, inner_read, next_below, next_child, next_root, next_there, opened, positive, put, step}
+use Rattle.stream_io.proofs.ReadingRefused.{entry_below, never_ok, same_memory, stream_below}
+use Rattle.stream_io.proofs.ReadingSteps.{AreOpen, all_read, entry_not_refused, inner_read, next_at, next_below, next_root, next_there, opened, positive, put, step}
 use Rattle.stream_io.proofs.read.Reader.+storages.Goals as goal
 
 pub child_outline-returns-in_err-entry-clause-there : goal.child_outline-returns-in_err-entry-clause-there
@@ -25,17 +24,21 @@ child_outline-returns-in_err-entry-clause-there t c = λ k name s new h.
     absurd (entry_not_refused c.args.depth c.args.id k name s c.args.self.now new c.in_err-entry.field-0.0 c.requires.below_root h c.in_err-entry.ensures.refused)
 
 pub child_outline-returns-in_err-entry-clause-refused : goal.child_outline-returns-in_err-entry-clause-refused
-child_outline-returns-in_err-entry-clause-refused t c = λ parent i.
-    refused_with c.from_residual.result (directory_fault c.in_err-entry.field-0.0) (MayRefuseStorage (base_of c.args.self.now) c.args.depth parent)
-    c.from_residual.ensures.1
-    (entry_below (base_of c.args.self.now) c.args.depth parent c.args.id c.in_err-entry.field-0.0 i c.in_err-entry.ensures.refused)
+child_outline-returns-in_err-entry-clause-refused t c = λ b pending at.
+    refused_with c.from_residual.result (directory_fault c.in_err-entry.field-0.0) (MayRefuseStorage b) c.from_residual.ensures.1
+    (entry_below b c.args.depth c.args.id pending c.args.self.now at c.in_err-entry.field-0.0 c.requires.below_root c.in_err-entry.ensures.refused)
+
+pub child_outline-returns-in_err-part-clause-refused : goal.child_outline-returns-in_err-part-clause-refused
+child_outline-returns-in_err-part-clause-refused t c = λ b pending at.
+    let again : IsErrAnd c.from_residual-in_err-part.result (λ x. x ≡ c.in_err-part.field-0.0) = search rules in
+    refused_with c.from_residual-in_err-part.result c.in_err-part.field-0.0 (MayRefuseStorage b) again (c.in_err-part.ensures.refused b pending at)
 
 pub part_outline-returns-in_err-mark_stream-in-Stream-clause-refused : goal.part_outline-returns-in_err-mark_stream-in-Stream-clause-refused
-part_outline-returns-in_err-mark_stream-in-Stream-clause-refused t c = λ parent i.
+part_outline-returns-in_err-mark_stream-in-Stream-clause-refused t c = λ b pending at.
     let again : IsErrAnd c.from_residual.result (λ x. x ≡ c.in_err-mark_stream-in-Stream.field-0.0) = search rules in
-    refused_with c.from_residual.result c.in_err-mark_stream-in-Stream.field-0.0 (MayRefuseStorage (base_of c.args.self.now) c.args.depth parent) again
-    (stream_below (base_of c.args.self.now) c.args.depth parent c.args.id c.args.entry.now.first c.args.entry.now.size c.in_err-mark_stream-in-Stream.field-0.0 i
-    (sym c.requires.entry.kind_held ∙ ap kind_number c.in-Stream.is) c.requires.entry.first c.requires.entry.size c.in_err-mark_stream-in-Stream.ensures.refused)
+    refused_with c.from_residual.result c.in_err-mark_stream-in-Stream.field-0.0 (MayRefuseStorage b) again
+    (stream_below b c.args.depth c.args.id pending c.args.self.now at c.args.entry.now.first c.args.entry.now.size c.in_err-mark_stream-in-Stream.field-0.0
+    c.requires.below_root (sym c.requires.entry.kind_held ∙ ap kind_number c.in-Stream.is) c.requires.entry.first c.requires.entry.size c.in_err-mark_stream-in-Stream.ensures.refused)
 
 pub part_outline-returns-in_err-inner-in_default : goal.part_outline-returns-in_err-inner-in_default
 part_outline-returns-in_err-inner-in_default t c =
@@ -49,18 +52,17 @@ part_outline-returns-in_err-inner-in_default t c =
       there = λ s new h.
           let r : (u : Tree) × IsStorageRead (c.args.depth - 1) c.args.id u c.args.self.now new = inner_read c.args.depth c.args.id s c.args.self.now new h kind_is in
           same_memory c.from_residual-in_err-inner-in_default.result c.in_err-inner-in_default.field-0.0 again (c.in_err-inner-in_default.ensures.there r.0 new r.1);
-      refused = λ parent i.
-          refused_with c.from_residual-in_err-inner-in_default.result c.in_err-inner-in_default.field-0.0
-          (MayRefuseStorage (base_of c.args.self.now) c.args.depth parent) again
-          (storage_child (base_of c.args.self.now) c.args.depth parent c.args.id c.in_err-inner-in_default.field-0.0 i (positive c.args.depth c.if-depth-eq0.false)
-          c.in_err-inner-in_default.ensures.refused);
+      refused = λ b pending at.
+          let room : c.args.depth ≡ suc (c.args.depth - 1) = omega (arith, positive c.args.depth c.if-depth-eq0.false) in
+          refused_with c.from_residual-in_err-inner-in_default.result c.in_err-inner-in_default.field-0.0 (MayRefuseStorage b) again
+          (c.in_err-inner-in_default.ensures.refused b pending (subst (λ (n : ℕ). IsNext b n c.args.id pending c.args.self.now) room at));
     }
 
 pub storage_outline-returns-in_err-ids-clause-refused : goal.storage_outline-returns-in_err-ids-clause-refused
-storage_outline-returns-in_err-ids-clause-refused t c =
+storage_outline-returns-in_err-ids-clause-refused t c = λ b pending at.
     let again : IsErrAnd c.from_residual.result (λ x. x ≡ c.in_err-ids.field-0.0) = search rules in
-    refused_with c.from_residual.result c.in_err-ids.field-0.0 (MayRefuseStorage (base_of c.args.self.now) c.args.depth c.args.id) again
-    (c.in_err-ids.ensures.refused c.args.depth c.requires.storage)
+    refused_with c.from_residual.result c.in_err-ids.field-0.0 (MayRefuseStorage b) again
+    (c.in_err-ids.ensures.refused b (suc c.args.depth) pending c.requires.storage at)
 
 pub storage_outline-child_outline-requires : goal.storage_outline-child_outline-requires
 storage_outline-child_outline-requires t c =
@@ -85,18 +87,17 @@ storage_outline-returns-in_err-part-clause-there t c = λ u new h.
     (c.in_err-part.ensures.there first.k first.name first.node first.next first.first)
 
 pub storage_outline-returns-in_err-part-clause-refused : goal.storage_outline-returns-in_err-part-clause-refused
-storage_outline-returns-in_err-part-clause-refused t c =
+storage_outline-returns-in_err-part-clause-refused t c = λ b pending at.
     let items : List ℕ = c.deref-child-items.result.now in
     let o : AreOpen c.args.id items c.args.self.now c.sorted_children.new.self =
     opened c.args.id c.in_ok-ids.ids.items items c.args.self.now c.sorted_children.new.self c.deref-child-items.ensures.value c.in_ok-ids.ensures.sorted.0 c.in_ok-ids.ensures.sorted.1 in
     let i : ℕ = c.loop-child.child-index in
     let cs : Children = shown_parts (contents c.sorted_children.new.self.fat c.sorted_children.new.self.mini) c.loop-child.parts.items in
-    let fault : ReadFault = c.in_err-part.field-0.0 in
-    let told : MayRefuseStorage (base_of c.loop-child.self) c.args.depth c.args.id fault =
-    c.in_err-part.ensures.refused c.args.id (next_child c.args.depth c.args.id items c.args.self.now c.sorted_children.new.self o i c.loop-child.self cs c.loop-child.invariant.0 c.requires.storage c.loop-child-test.true) in
+    let next : IsNext b c.args.depth (get_or items i 0) (drop (i + 1) items ++ pending) c.loop-child.self =
+    next_at c.args.depth c.args.id items c.args.self.now c.sorted_children.new.self o i c.loop-child.self cs c.loop-child.invariant.0 b pending c.requires.storage at c.loop-child-test.true in
     let again : IsErrAnd c.from_residual-in_err-part.result (λ x. x ≡ c.in_err-part.field-0.0) = search rules in
-    refused_with c.from_residual-in_err-part.result fault (MayRefuseStorage (base_of c.args.self.now) c.args.depth c.args.id) again
-    (back_to c.args.depth c.args.id items c.args.self.now c.sorted_children.new.self o i c.loop-child.self cs c.loop-child.invariant.0 (λ (b : Base). MayRefuseStorage b c.args.depth c.args.id fault) told)
+    refused_with c.from_residual-in_err-part.result c.in_err-part.field-0.0 (MayRefuseStorage b) again
+    (c.in_err-part.ensures.refused b (drop (i + 1) items ++ pending) next)
 
 -- the outlines are of the bytes that were there before
 content_mid : (id : ℕ) (items : List ℕ) (old mid : Reader) → AreOpen id items old mid → contents mid.fat mid.mini ≡ contents old.fat old.mini

@@ -1,9 +1,8 @@
-use Rattle.std.proofs.Common.{◌∙◌, Bool, refl, subst, sym, if◌then◌else◌}
+use Rattle.std.proofs.Common.{◌∙◌, Bool, true, false, subst, sym, if◌then◌else◌}
 use Rattle.cfb_chain.proofs.Results.{refused_with}
 use Rattle.cfb_chain.specs.Fat.{IsFound}
-use Rattle.file_faults.specs.Faults.{Base}
-use Rattle.stream_io.specs.Reads.{MayRefusePlace, base_of, chain_fault}
-use Rattle.stream_io.proofs.ReadingRefused.{chain_memory, long_place, mini_place}
+use Rattle.stream_io.specs.Reads.{MayRefusePlace, chain_fault}
+use Rattle.stream_io.proofs.ReadingRefused.{chain_memory, place_at_fault}
 use Rattle.stream_io.proofs.read.Reader.mark_stream.Goals as goal
 
 pub returns-in_err-mark_chain-clause-there : goal.returns-in_err-mark_chain-clause-there
@@ -20,15 +19,13 @@ returns-in_err-mark_chain-2-clause-there c = λ ns found.
 
 pub returns-in_err-mark_chain-clause-refused : goal.returns-in_err-mark_chain-clause-refused
 returns-in_err-mark_chain-clause-refused c =
-    let b : Base = base_of c.args.self.now in
-    refused_with c.from_residual.result (chain_fault c.in_err-mark_chain.field-0.0) (MayRefusePlace b c.args.place.first c.args.place.size) c.from_residual.ensures.1
-    (mini_place b c.args.self.now.mini c.args.place.first c.args.place.size c.in_err-mark_chain.field-0.0 refl (sym c.is_short.ensures ∙ c.if-is_short.true)
+    refused_with c.from_residual.result (chain_fault c.in_err-mark_chain.field-0.0) (MayRefusePlace c.args.self.now c.args.place.first c.args.place.size) c.from_residual.ensures.1
+    (place_at_fault c.args.self.now true c.args.place.first c.args.place.size c.in_err-mark_chain.field-0.0 (sym c.is_short.ensures ∙ c.if-is_short.true)
     c.in_err-mark_chain.ensures.told c.in_err-mark_chain.ensures.there c.in_err-mark_chain.ensures.refused)
 
 pub returns-in_err-mark_chain-2-clause-refused : goal.returns-in_err-mark_chain-2-clause-refused
 returns-in_err-mark_chain-2-clause-refused c =
-    let b : Base = base_of c.args.self.now in
-    refused_with c.from_residual-in_err-mark_chain-2.result (chain_fault c.in_err-mark_chain-2.field-0.0) (MayRefusePlace b c.args.place.first c.args.place.size)
+    refused_with c.from_residual-in_err-mark_chain-2.result (chain_fault c.in_err-mark_chain-2.field-0.0) (MayRefusePlace c.args.self.now c.args.place.first c.args.place.size)
     c.from_residual-in_err-mark_chain-2.ensures.1
-    (long_place b c.args.self.now.fat c.args.place.first c.args.place.size c.in_err-mark_chain-2.field-0.0 refl (sym c.is_short.ensures ∙ c.if-is_short.false)
+    (place_at_fault c.args.self.now false c.args.place.first c.args.place.size c.in_err-mark_chain-2.field-0.0 (sym c.is_short.ensures ∙ c.if-is_short.false)
     c.in_err-mark_chain-2.ensures.told c.in_err-mark_chain-2.ensures.there c.in_err-mark_chain-2.ensures.refused)

@@ -3,8 +3,8 @@ use Rattle.std.specs.Result.{IsErrAnd}
 use Rattle.cfb_chain.proofs.Results.{refused_with}
 use Rattle.cfb_directory.specs.Entries.{EntriesValue}
 use Rattle.cfb_directory.proofs.Marked.{children_kept}
-use Rattle.stream_io.specs.Reads.{MayRefuseNames, MayRefuseStorage, base_of, directory_fault}
-use Rattle.stream_io.proofs.ReadingRefused.{children_below, directory_memory, linked_child, names_below, same_memory}
+use Rattle.stream_io.specs.Reads.{MayRefuseNames, MayRefuseStorage, directory_fault}
+use Rattle.stream_io.proofs.ReadingRefused.{children_below, directory_memory, names_below, same_memory}
 use Rattle.stream_io.proofs.ReadingSorted.{names_not_refused, sorted_met}
 use Rattle.stream_io.proofs.ReadingSteps.{AreTheChildren, children_of, children_readable}
 use Rattle.stream_io.proofs.read.Reader.sorted_children.Goals as goal
@@ -16,9 +16,9 @@ returns-in_err-ids-clause-there c = λ depth t new h.
     (children_kept c.args.self.now.entries c.args.id o.sorted.reached c.in_err-ids.field-0.0 c.requires.inside o.sorted.linked o.sorted.free c.in_err-ids.ensures.refused)
 
 pub returns-in_err-ids-clause-refused : goal.returns-in_err-ids-clause-refused
-returns-in_err-ids-clause-refused c = λ depth s.
-    refused_with c.from_residual.result (directory_fault c.in_err-ids.field-0.0) (MayRefuseStorage (base_of c.args.self.now) depth c.args.id) c.from_residual.ensures.1
-    (children_below c.args.self.now depth c.args.id c.in_err-ids.field-0.0 s c.requires.inside c.in_err-ids.ensures.refused)
+returns-in_err-ids-clause-refused c = λ b room pending s at.
+    refused_with c.from_residual.result (directory_fault c.in_err-ids.field-0.0) (MayRefuseStorage b) c.from_residual.ensures.1
+    (children_below b room c.args.id pending c.args.self.now at s c.in_err-ids.field-0.0 c.requires.inside c.in_err-ids.ensures.refused)
 
 pub returns-in_err-sorted-clause-there : goal.returns-in_err-sorted-clause-there
 returns-in_err-sorted-clause-there c = λ depth t new h.
@@ -34,16 +34,15 @@ returns-in_err-sorted-clause-there c = λ depth t new h.
     c.in_ok-ids.ensures.linked o.sorted (children_readable depth c.args.id c.args.self.now new o) refused)
 
 pub returns-in_err-sorted-clause-refused : goal.returns-in_err-sorted-clause-refused
-returns-in_err-sorted-clause-refused c = λ depth s.
+returns-in_err-sorted-clause-refused c = λ b room pending s at.
     let e : EntriesValue = c.args.self.now.entries in
     let dir : c.children.new.self.directory ≡ e.directory = ap (λ (x : EntriesValue). x.directory) c.in_ok-ids.ensures.marks in
     let refused : MayRefuseNames e.directory c.in_ok-ids.ids.items c.in_err-sorted.field-0.0 =
     subst (λ (x : List ℕ). MayRefuseNames x c.in_ok-ids.ids.items c.in_err-sorted.field-0.0) dir
     (subst (λ (xs : List ℕ). MayRefuseNames c.children.new.self.directory xs c.in_err-sorted.field-0.0) c.deref.ensures.value c.in_err-sorted.ensures.refused) in
     let again : IsErrAnd c.from_residual-in_err-sorted.result (λ x. x ≡ c.in_err-sorted.field-0.0) = search rules in
-    refused_with c.from_residual-in_err-sorted.result c.in_err-sorted.field-0.0 (MayRefuseStorage (base_of c.args.self.now) depth c.args.id) again
-    (names_below (base_of c.args.self.now) depth c.args.id c.in_ok-ids.ids.items c.in_err-sorted.field-0.0
-    (λ n i. linked_child e.directory c.args.id n c.in_ok-ids.ids.items s c.in_ok-ids.ensures.linked i) refused)
+    refused_with c.from_residual-in_err-sorted.result c.in_err-sorted.field-0.0 (MayRefuseStorage b) again
+    (names_below b room c.args.id pending c.args.self.now at s c.in_ok-ids.ids.items c.in_ok-ids.ensures.linked c.in_ok-ids.ensures.free c.in_err-sorted.field-0.0 refused)
 
 pub returns-clause-sorted : goal.returns-clause-sorted
 returns-clause-sorted c =
