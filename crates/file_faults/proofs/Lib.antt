@@ -1,3 +1,9 @@
+pub mod Lists
+pub mod EntryKinds
+pub mod Keys
 pub mod Below
 pub mod Chains
+pub mod Tables
+pub mod Opened
+pub mod There
 pub mod Alike

@@ -1,7 +1,5 @@
-pub mod ReadingLists
 pub mod ReadingRefused
 pub mod ReadingNames
-pub mod ReadingEntries
 pub mod ReadingKept
 pub mod ReadingOnce
 pub mod ReadingChildren

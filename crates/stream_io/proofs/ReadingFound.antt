@@ -17,8 +17,9 @@ use Rattle.stream_io.specs.Marks.{IsMet}
 use Rattle.stream_io.specs.Reads.{AreRead, AreSorted, IsChildNamed, IsStorageRead, IsStreamRead, directory_in, met, stream_after}
 use Rattle.stream_io.specs.declared.read.Reader.{Reader}
 use Rattle.stream_io.proofs.ReadingHeld.{IsNew, met_new}
-use Rattle.stream_io.proofs.ReadingLists.{all-from, contains-none, distinct-head}
-use Rattle.stream_io.proofs.ReadingStreams.{Stands, ids_by, stands_met, stream_there}
+use Rattle.file_faults.proofs.Lists.{all-from, contains-none, distinct-head}
+use Rattle.file_faults.proofs.Tables.{ids_by}
+use Rattle.stream_io.proofs.ReadingStreams.{Stands, stands_met, stream_there}
 
 pub linked_in : (d : List ℕ) (top : ℕ) (ids : List ℕ) → AreLinked d top ids → All (λ n. 128 * n < length d) ids
 linked_in d top ids nobody = All-nil (λ n. 128 * n < length d)

@@ -17,9 +17,10 @@ use Rattle.stream_io.specs.Marks.{IsMet}
 use Rattle.stream_io.specs.Reads.{AreRead, AreSorted, IsChildNamed, IsStorageRead, directory_in, met}
 use Rattle.stream_io.specs.declared.read.Reader.{Reader}
 use Rattle.stream_io.proofs.ReadingKept.{IsKept, kept_each, kept_storage, kept_stream}
-use Rattle.stream_io.proofs.ReadingLists.{contains-none, distinct-cons, distinct-head}
-use Rattle.stream_io.proofs.ReadingSorted.{sorted_distinct}
-use Rattle.stream_io.proofs.ReadingStreams.{IsStreamHeld, Stands, ids_by, stands_met, stream_held}
+use Rattle.file_faults.proofs.Lists.{contains-none, distinct-cons, distinct-head}
+use Rattle.file_faults.proofs.Keys.{sorted_distinct}
+use Rattle.file_faults.proofs.Tables.{ids_by}
+use Rattle.stream_io.proofs.ReadingStreams.{IsStreamHeld, Stands, stands_met, stream_held}
 
 -- an entry isn't marked
 abbrev pub IsNew : Reader → ℕ → Type 0

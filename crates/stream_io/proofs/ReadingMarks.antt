@@ -17,8 +17,8 @@ use Rattle.stream_io.specs.Reads.{AreRead, AreSorted, IsNodeRead, IsStorageRead,
 use Rattle.stream_io.specs.declared.read.Reader.{Reader}
 use Rattle.stream_io.proofs.ReadingHeld.{IsNew, met_new, only_one}
 use Rattle.stream_io.proofs.ReadingKept.{IsKept, kept_storage, kept_stream}
-use Rattle.stream_io.proofs.ReadingLists.{distinct-head}
-use Rattle.stream_io.proofs.ReadingSorted.{sorted_distinct}
+use Rattle.file_faults.proofs.Lists.{distinct-head}
+use Rattle.file_faults.proofs.Keys.{sorted_distinct}
 
 -- ---- what was begun in one reader was begun in the other
 child_moved : (dir : List ℕ) (r s : Reader) (pending waiting : List ℕ) → ((x : ℕ) → IsBegun r pending x → IsBegun s waiting x) → (n : ℕ) → IsMetChild dir r pending n

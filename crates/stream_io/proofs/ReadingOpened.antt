@@ -10,10 +10,11 @@ use Rattle.stream_io.specs.Reads.{MayRefuseFile, MayRefuseStorage, base_of, dire
 use Rattle.stream_io.specs.declared.fault.ReadFault.{ReadFault}
 use Rattle.stream_io.specs.declared.fault.ReadFault.TheVariants as told
 use Rattle.stream_io.specs.declared.read.Reader.{Reader}
-use Rattle.stream_io.proofs.ReadingFile.{IsOpened, IsReady}
+use Rattle.file_faults.proofs.Opened.{IsOpened, IsReady}
 use Rattle.stream_io.proofs.ReadingHeld.{only_one}
-use Rattle.stream_io.proofs.ReadingLists.{contains-none}
-use Rattle.stream_io.proofs.ReadingThere.{root_alone, root_marked}
+use Rattle.file_faults.proofs.Lists.{contains-none}
+use Rattle.file_faults.proofs.There.{root_marked}
+use Rattle.stream_io.proofs.ReadingThere.{root_alone}
 
 abbrev pub directory_is : (file : List ℕ) (fat : FatValue) (sectors bytes : List ℕ) → IsOpened file fat sectors bytes → IsDirectory file bytes
 directory_is file fat sectors bytes o = record { is_fat = o.is_fat; sectors = sectors; is_chain = o.chain; bytes_are = o.bytes_are }

@@ -24,7 +24,7 @@ use Rattle.stream_io.specs.declared.read.Reader.{Reader}
 use Rattle.stream_io.specs.declared.fault.ReadFault.TheVariants as told
 use Rattle.stream_io.specs.declared.fault.ReadFault.{ReadFault}
 use Rattle.stream_io.specs.declared.fault.ReadFault.TheVariants.{NoMemory}
-use Rattle.stream_io.proofs.ReadingLists.{all-from}
+use Rattle.file_faults.proofs.Lists.{all-from}
 use Rattle.stream_io.proofs.ReadingMarks.{one_below, same_directory}
 
 pub below : (size n : ℕ) → size < n → nat_lt size n ≡ true
@@ -157,14 +157,6 @@ module _ (b : Base) (room id : ℕ) (pending : List ℕ) (r : Reader) (at : IsNe
   entry_below fault ne h =
       let here : (n : ℕ) × IsBelow b.directory (suc n) id = below_some b.directory at.levels id ne at.stands.below in
       below_told b fault (entry_at_fault b.directory here.0 id fault here.1 (subst (λ (d : List ℕ). MayRefuseEntry d id fault) (sym directory_is) h))
-
-  -- a storage that stands too deep
-  pub nested_below : room ≡ 0 → kind (entry_at (directory_in r) id) ≡ 1 → MayRefuseStorage b (told.Directory directory.TooNested)
-  nested_below e k = (
-    id,
-    subst (λ (levels : ℕ). IsBelow b.directory levels id) (omega (arith, e, at.deep)) at.stands.below,
-    ap (λ (d : List ℕ). kind (entry_at d id)) directory_is ∙ k,
-  )
 
   -- ---- a storage whose children are refused
   module _ (s : IsStorage (directory_in r) id) where

@@ -17,10 +17,11 @@ use Rattle.stream_io.specs.Reads.{AreRead, AreSorted, IsChildPut, IsChildRead, I
 use Rattle.stream_io.specs.declared.read.Reader.{Reader}
 use Rattle.file_outline.proofs.Followed.{followed}
 use Rattle.stream_io.proofs.ReadingChildren.{IsFirstRead, Progress, put_behind, progress_all, progress_more, progress_next}
-use Rattle.stream_io.proofs.ReadingEntries.{kind_inside}
+use Rattle.file_faults.proofs.EntryKinds.{kind_inside}
 use Rattle.stream_io.proofs.ReadingKept.{IsKept, kept_met, kept_same, kept_then}
 use Rattle.stream_io.proofs.ReadingMarks.{below_kept, children_stand, same_directory, underway_opened}
-use Rattle.stream_io.proofs.ReadingSorted.{IsReadable, readable_not_refused, sorted_below, sorted_same}
+use Rattle.file_faults.proofs.Keys.{IsReadable, readable_not_refused}
+use Rattle.stream_io.proofs.ReadingSorted.{sorted_below, sorted_same}
 use Rattle.stream_io.proofs.ReadingWhole.{each_readable}
 
 -- the children of a storage that is read

@@ -13,8 +13,8 @@ use Rattle.file_faults.specs.Faults.{key_at}
 use Rattle.stream_io.specs.Reads.{AreRead, IsChildNamed, IsStorageRead, directory_in, met}
 use Rattle.stream_io.specs.declared.read.Reader.{Reader}
 use Rattle.stream_io.proofs.ReadingKept.{IsKept, kept_storage, kept_stream}
-use Rattle.stream_io.proofs.ReadingLists.{contains-none}
-use Rattle.stream_io.proofs.ReadingSorted.{IsReadable}
+use Rattle.file_faults.proofs.Lists.{contains-none}
+use Rattle.file_faults.proofs.Keys.{IsReadable}
 
 -- the directory of what is read next
 next_stream : (dir : List ℕ) (old next : Reader) → directory_in old ≡ dir → IsKept old next → directory_in next ≡ dir

@@ -12,10 +12,12 @@ use Rattle.file_model.specs.Denotes.{Denotes, Layout}
 use Rattle.stream_io.specs.Reads.{IsStorageRead, MayRefuseFile, base_of, chain_fault, directory_fault}
 use Rattle.stream_io.specs.declared.read.Reader.{Reader}
 use Rattle.file_faults.proofs.Chains.{directory_refused, mini_refused, table_refused}
-use Rattle.stream_io.proofs.ReadingFile.{IsOpened, IsReady, denoted, opened_at, read_header, ready}
+use Rattle.file_faults.proofs.Opened.{IsOpened, IsReady, opened_at, read_header, ready}
+use Rattle.stream_io.proofs.ReadingFile.{denoted}
 use Rattle.stream_io.proofs.ReadingOpened.{directory_is, file_storage, root_next}
 use Rattle.stream_io.proofs.ReadingRefused.{chain_memory, directory_memory, file_chain, file_load, file_root, same_memory}
-use Rattle.stream_io.proofs.ReadingThere.{directory_there, load_not_refused, mini_there, root_marked, root_not_refused, storage_read}
+use Rattle.file_faults.proofs.There.{directory_there, load_not_refused, mini_there, root_marked, root_not_refused}
+use Rattle.stream_io.proofs.ReadingThere.{storage_read}
 use Rattle.file_outline.specs.View.{contents, outline_view, shown}
 use Rattle.stream_io.specs.View.{directory_bytes}
 use Rattle.file_outline.specs.declared.outline.Place.{Place}

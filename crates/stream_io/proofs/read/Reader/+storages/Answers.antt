@@ -13,7 +13,7 @@ use Rattle.file_outline.specs.declared.outline.Place.{Place}
 use Rattle.stream_io.specs.declared.read.Reader.{Reader}
 use Rattle.file_outline.proofs.Followed.{followed}
 use Rattle.stream_io.proofs.ReadingChildren.{IsFirstRead, Progress}
-use Rattle.stream_io.proofs.ReadingEntries.{storage_kind}
+use Rattle.file_faults.proofs.EntryKinds.{storage_kind}
 use Rattle.file_outline.proofs.Outlines.{AreSized, shown-push, shown-roll, sized-all, sized-push, view-roll}
 use Rattle.stream_io.proofs.ReadingRefused.{entry_below, never_ok, same_memory, stream_below}
 use Rattle.stream_io.proofs.ReadingSteps.{AreOpen, all_read, entry_not_refused, inner_read, next_at, next_below, next_root, next_there, opened, positive, put, step}
