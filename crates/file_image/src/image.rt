@@ -6,21 +6,24 @@ ghost use Rattle.file_image.specs.Changed.{changed_blocks};
 ghost use Rattle.file_model.specs.Denotes.{Denotes};
 ghost use Rattle.file_model.specs.Limits.{MOST_BYTES};
 ghost use Rattle.file_model.specs.Refusals.{Refuses, writable};
-ghost use Rattle.std.specs.Prelude.{◌≡◌, ◌≤◌, Err, IfErr, IfOk, Ok, OnErr, OnOk, length};
+ghost use Rattle.std.specs.Prelude.{◌≡◌, ◌≤◌, Err, IfErr, IfOk, IfSome, Ok, OnErr, OnOk, length};
 ghost use Rattle.storage_tree.specs.Kept.{kept};
 ghost use Rattle.storage_tree.specs.Tree as tree;
 ghost use Rattle.stream_io.specs.Reads.{MayRefuseFile, chain_fault};
 ghost use Rattle.stream_io.specs.declared.fault.ReadFault.TheVariants.{NoMemory};
 
 use crate::changed::changed;
+use crate::comparing::is_same;
 use file_model::fault::WriteFault;
+use file_placing::placing::place_over;
 use file_writer::write::write_file;
 use std::alloc::{AllocError, Global};
 use std::marker::Model;
 use std::mem;
+use storage_tree::storage::Storage;
 use storage_tree::tree::Tree;
 use stream_io::fault::ReadFault;
-use stream_io::read::read_outline;
+use stream_io::read::{read_file, read_outline};
 
 /// A compound file: its bytes, which denote a tree.
 #[derive(Drop)]
@@ -51,6 +54,72 @@ fn written(alloc: Global, tree: &Tree) -> Result<Vec<u8>, WriteFault>
 {
     let file = write_file(alloc, tree)?;
     Ok(file)
+}
+
+/// A file in the sectors of an older one, which denotes a tree, made of a file of the tree with this root that was laid out
+/// anew. None where those sectors won't do.
+fn placed(
+    alloc: Global,
+    old: &[u8],
+    anew: Vec<u8>,
+    root: &Storage,
+) -> Result<Option<Vec<u8>>, AllocError>
+    ensures short { IfOk result (λ file. IfSome file (λ v. length v.items ≤ MOST_BYTES)) }
+{
+    // What denotes a tree is refused for want of memory alone.
+    let Ok(outline) = read_outline(alloc, old) else {
+        return Err(AllocError);
+    };
+    place_over(alloc, old, &outline, &anew, root)
+}
+
+/// The file, if it denotes the tree: it is read again. Nothing is known of it but this.
+fn checked(alloc: Global, file: Vec<u8>, tree: &Tree) -> Result<Option<Vec<u8>>, AllocError>
+    ensures denotes { IfOk result (λ checked. IfSome checked (λ v. ∥ Denotes v.items (kept tree.now).now ∥₁)) }
+    ensures same { IfOk result (λ checked. IfSome checked (λ v. v.items ≡ file.items)) }
+{
+    match read_file(alloc, &file) {
+        Ok(again) => {
+            if !is_same(again.root(), tree.root()) {
+                return Ok(None);
+            }
+            Ok(Some(file))
+        }
+        Err(ReadFault::NoMemory) => Err(AllocError),
+        Err(_) => Ok(None),
+    }
+}
+
+/// The file of a tree in the sectors of an older one, which denotes a tree. None where those sectors won't do.
+///
+/// Refused: as `write_file`.
+fn moved(alloc: Global, old: &[u8], tree: &Tree) -> Result<Option<Vec<u8>>, WriteFault>
+    ensures denotes { IfOk result (λ file. IfSome file (λ v. ∥ Denotes v.items (kept tree.now).now ∥₁)) }
+    ensures short { IfOk result (λ file. IfSome file (λ v. length v.items ≤ MOST_BYTES)) }
+    ensures refused { IfErr result (Refuses (writable (kept tree.now).now)) }
+    ensures allowed { OnOk result (writable (kept tree.now).now ≡ Ok tt) }
+{
+    let anew = written(alloc, tree)?;
+    let Some(file) = placed(alloc, old, anew, tree.root())? else {
+        return Ok(None);
+    };
+    let moved = checked(alloc, file, tree)?;
+    Ok(moved)
+}
+
+/// The file of a tree that takes the place of one that denotes a tree: in its sectors, or else laid out anew.
+///
+/// Refused: as `write_file`.
+fn laid_over(alloc: Global, old: &[u8], tree: &Tree) -> Result<Vec<u8>, WriteFault>
+    ensures denotes { IfOk result (λ v. ∥ Denotes v.items (kept tree.now).now ∥₁) }
+    ensures short { IfOk result (λ v. length v.items ≤ MOST_BYTES) }
+    ensures refused { IfErr result (Refuses (writable (kept tree.now).now)) }
+    ensures allowed { OnOk result (writable (kept tree.now).now ≡ Ok tt) }
+{
+    match moved(alloc, old, tree)? {
+        Some(file) => Ok(file),
+        None => written(alloc, tree),
+    }
 }
 
 impl Image {
@@ -89,6 +158,9 @@ impl Image {
     /// Makes it the image of a tree, and gives the numbers of the blocks of 512 bytes that differ from what they were, or
     /// that are new, rising. Block 0 is the header, and block n + 1 is sector n.
     ///
+    /// A stream whose number of sectors stays, and its table, has the sectors that it had; what is freed keeps its bytes,
+    /// and what is new takes the least free sectors. Where that would pass the limit the file is laid out anew.
+    ///
     /// Refused: as `write_file`: `TooBig`, then `NoMemory`. A refusal changes nothing.
     pub fn update(&mut self, alloc: Global, tree: &Tree) -> Result<Vec<u32>, WriteFault>
         ensures denotes { OnOk result (∥ Denotes self.new (kept tree.now).now ∥₁) }
@@ -97,7 +169,7 @@ impl Image {
         ensures allowed { OnOk result (writable (kept tree.now).now ≡ Ok tt) }
         ensures kept { OnErr result (self.new ≡ self.old) }
     {
-        let file = written(alloc, tree)?;
+        let file = laid_over(alloc, &self.file, tree)?;
         let numbers = match changed(alloc, &self.file, &file) {
             Ok(numbers) => numbers,
             Err(_) => return Err(WriteFault::NoMemory),

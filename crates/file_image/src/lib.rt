@@ -2,4 +2,5 @@
 #![tactic(auto)]
 
 pub mod changed;
+mod comparing;
 pub mod image;

@@ -1,0 +1,13 @@
+//! Where the sectors of a file go that takes an older one's place: what stays keeps its sectors.
+#![tactic(auto)]
+
+mod directory;
+mod finding;
+mod free;
+mod minis;
+mod parts;
+pub mod placing;
+mod runs;
+mod sectors;
+mod tables;
+mod writing;
