@@ -1,0 +1,11 @@
+//! Tests of images by their public calls.
+#![tactic(auto)]
+
+#[cfg(test)]
+mod placing;
+#[cfg(test)]
+mod random;
+#[cfg(test)]
+mod trees;
+#[cfg(test)]
+mod wide;
