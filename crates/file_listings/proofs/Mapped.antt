@@ -1,6 +1,6 @@
 -- What is written of the sectors of a file.
-use Rattle.std.proofs.Common.{◌≡◌, ◌∙◌, ℕ, List, Option, Some, None, IfSome, subst}
-use Rattle.std.proofs.Math.Logic.{∥∥₁_map}
+use Rattle.std.proofs.Common.{◌≡◌, ◌∙◌, ℕ, List, Option, Some, None, Result, Err, IfErr, IfSome, subst}
+use Rattle.std.proofs.Math.Logic.{∥∥₁_elim, ∥∥₁_map}
 use Rattle.std.specs.Io.KnownBytes.{Appends}
 use Rattle.storage_tree.specs.Tree.{Tree}
 use Rattle.file_model.specs.Denotes.{Denotes}
@@ -8,6 +8,8 @@ use Rattle.file_model.specs.Outline.{Outline}
 use Rattle.file_commands.proofs.Listed.{IsOutlined}
 use Rattle.file_listings.specs.Maps.{Maps}
 use Rattle.sector_maps.specs.Maps.{mapped}
+use Rattle.sector_maps.specs.declared.fault.MapFault.{MapFault}
+use Rattle.sector_maps.specs.declared.fault.MapFault.TheVariants.{NoMemory, NoTree}
 
 -- what was read are the bytes of the input, where these are known
 pub of_input : (P : List ℕ → Type 0) (input : Option (List ℕ)) (bytes seen : List ℕ) → IfSome input (λ file. bytes ≡ file) → seen ≡ bytes → P seen → IfSome input P
@@ -20,3 +22,13 @@ maps file o old new p w = record {
   t = p.0;
   written = ∥∥₁_map p.1 (λ d. (d, subst (λ (x : Outline). Appends old new (mapped file d.layout d.used.sectors x)) p.2 (w p.0 d)));
 }
+
+⊥_prop : (a b : ⊥) → a ≡ b
+⊥_prop a b = absurd a
+
+-- that a file denotes no tree isn't answered of one that denotes one
+pub never_none : {A : Type 0} (file : List ℕ) (r : Result A MapFault) → (t : Tree) × ∥ Denotes file t ∥₁
+    → ((t : Tree) → Denotes file t → IfErr r (λ e. e ≡ NoMemory)) → r ≡ Err NoTree → ⊥
+never_none {A} file r held there is =
+    ∥∥₁_elim held.1 ⊥_prop (λ (d : Denotes file held.0).
+    let e : NoTree ≡ NoMemory = subst (λ (x : Result A MapFault). IfErr x (λ e. e ≡ NoMemory)) is (there held.0 d) in cc e)

@@ -11,6 +11,7 @@ ghost use Rattle.storage_tree.specs.Tree.{Tree};
 
 use file_commands::fault::ListFault;
 use file_outline::outline::Outline;
+use sector_maps::fault::MapFault;
 use sector_maps::map::map_of;
 use std::alloc::Global;
 use std::io::{Read, Write};
@@ -43,15 +44,17 @@ pub fn map_file<R: Read, W: Write>(
     write_map(alloc, &file, &outline, writer)
 }
 
-/// Writes the map of a file that has this outline.
+/// Writes the map of a file that denotes a tree of this outline.
 ///
-/// Refused: `NoMemory`, where nothing is written, and `Unwritable` where a write fails.
+/// Refused: `NoMemory`, where nothing is written, and `Unwritable` where a write fails. The map of such a file is refused
+/// for want of memory alone.
 fn write_map<W: Write>(
     alloc: Global,
     file: &[u8],
     outline: &Outline,
     writer: &mut W,
 ) -> Result<(), ListFault>
+    requires held { (t : Tree) × ∥ Denotes file.now t ∥₁ }
     ensures written { OnOk result ((t : Tree) → (d : Denotes file.now t)
         → Appends (W.contents writer.old) (W.contents writer.new) (mapped file.now d.layout d.used.sectors (outline_view outline.now))) }
     ensures refused { IfErr result IsOfWriting }
@@ -59,7 +62,8 @@ fn write_map<W: Write>(
 {
     let text = match map_of(alloc, file, outline) {
         Ok(text) => text,
-        Err(_) => return Err(ListFault::NoMemory),
+        Err(MapFault::NoMemory) => return Err(ListFault::NoMemory),
+        Err(MapFault::NoTree) => unreachable!(),
     };
     match write_all(writer, &text) {
         Ok(()) => Ok(()),

@@ -7,9 +7,10 @@ use Rattle.cfb_header.specs.Bytes.{joined, sector, u32_at}
 use Rattle.cfb_header.specs.Header.{HeaderValue, MOST_FAT_SECTORS, difat, difat_by, fat_by, first_directory, first_mini_fat, header_of, header_read, listed, mini_fat_count}
 use Rattle.cfb_header.specs.declared.fault.ChainFault.{ChainFault}
 use Rattle.cfb_header.proofs.Headers.{read_whole}
-use Rattle.cfb_chain.specs.Chain.{END_OF_CHAIN, IsChain, IsChainOf, Store}
-use Rattle.cfb_chain.specs.Fat.{AreSame, FatValue, IsTableOf, marked, sectors_in, sectors_of, store_of}
-use Rattle.cfb_chain.proofs.Chains.{chain_one, chain_same, joined_same}
+use Rattle.cfb_chain.specs.Chain.{AreDistinct, END_OF_CHAIN, IsChain, IsChainOf, Store}
+use Rattle.cfb_chain.specs.Fat.{AreFree, AreSame, FatValue, IsFat, IsTableOf, marked, sectors_in, sectors_of, store_of}
+use Rattle.cfb_chain.proofs.Chains.{chain_one, chain_same, joined_same, same_back}
+use Rattle.cfb_chain.proofs.Marks.{distinct_left, free_when, marks_load}
 use Rattle.storage_tree.specs.Tree.{Tree}
 use Rattle.file_model.specs.Denotes.{Denotes, Layout, directory_of, sectors}
 use Rattle.sector_maps.specs.Maps.{BEYOND, DIFAT, DIRECTORY, FAT, FREE, MINI_FAT, MINI_STREAM, cells, is_in, mark, stream_mark}
@@ -68,6 +69,29 @@ module _ (file : List ℕ) (t : Tree) (d : Denotes file t) (h : HeaderValue) (re
       let n' : count ≡ mini_fat_count file = n ∙ ap (λ (x : HeaderValue). x.mini_fat_count) header_same in
       subst (λ (z : ℕ). IsChainOf (sectors file d.layout) first (512 * z) d.layout.mini_fat) (sym n')
       (subst (λ (z : ℕ). IsChainOf (sectors file d.layout) z (512 * mini_fat_count file) d.layout.mini_fat) (sym f') d.laid_out.mini_fat)
+
+  -- the FAT and the directory's chain are there to be read
+  pub fat_there : IsFat file h
+  fat_there = subst (IsFat file) (sym header_same) d.laid_out.fat_sectors
+
+  pub chain_there : (f : FatValue) (start : ℕ) → IsTableOf file h f → start ≡ h.first_directory → IsChain (store_of f) start 0 d.layout.directory × AreFree f d.layout.directory
+  chain_there f start table first =
+      let l : Layout = d.layout in
+      let table' : IsTableOf file (header_of file) f = subst (λ (x : HeaderValue). IsTableOf file x f) header_same table in
+      let theirs : IsChain (sectors_of file (listed file)) (first_directory file) 0 l.directory =
+      subst (λ (fat : List ℕ). IsChain (sectors_of file fat) (first_directory file) 0 l.directory) d.laid_out.fat_listed d.laid_out.directory in
+      let here : IsChain (store_of f) (first_directory file) 0 l.directory =
+      chain_same (sectors_of file (listed file)) (store_of f) (same_back table'.sectors) (first_directory file) 0 l.directory theirs in
+      let apart : AreDistinct (l.fat ++ l.difat ++ l.directory) =
+      distinct_left (l.fat ++ l.difat ++ l.directory) l.mini_fat (distinct_left (l.fat ++ l.difat ++ l.directory ++ l.mini_fat) l.mini_stream
+      (distinct_left (l.fat ++ l.difat ++ l.directory ++ l.mini_fat ++ l.mini_stream) d.used.sectors d.sectors_apart)) in
+      let once : AreDistinct (listed file ++ difat file ++ l.directory) =
+      subst (λ (xs : List ℕ). AreDistinct (xs ++ difat file ++ l.directory)) d.laid_out.fat_listed
+      (subst (λ (xs : List ℕ). AreDistinct (l.fat ++ xs ++ l.directory)) d.laid_out.difat_listed apart) in
+      let there : start ≡ first_directory file = first ∙ ap (λ (x : HeaderValue). x.first_directory) header_same in (
+        subst (λ (x : ℕ). IsChain (store_of f) x 0 l.directory) (sym there) here,
+        free_when f (listed file ++ difat file) l.directory (marks_load file (header_of file) f table') once (λ k x lt. (here.present k x lt).1),
+      )
 
   module _ (f g : FatValue) (start : ℕ) (ns : List ℕ) (table : IsTableOf file h f) (first : start ≡ h.first_directory) (linked : IsChain (store_of f) start 0 ns)
       (marks : g ≡ marked f ns) where

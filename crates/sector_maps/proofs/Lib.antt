@@ -5,3 +5,4 @@ pub mod Rows
 pub mod Walk
 pub mod Results
 pub mod Layouts
+pub mod There

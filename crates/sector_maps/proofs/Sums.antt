@@ -1,6 +1,7 @@
 -- Counts and sums.
-use Rattle.std.proofs.Common.{◌≡◌, ◌≢◌, ◌<◌, ◌≤◌, ◌+◌, ◌-◌, ◌*◌, ◌^◌, ◌++◌, ◌∙◌, ℕ, zero, suc, Bool, true, false, cond, List, [], ◌∷◌, length, get_or, drop, min, map, nat_eq, refl, sym, ap, subst, arith}
-use Rattle.std.proofs.lemmas.List.{drop_all, drop_more}
+use Rattle.std.proofs.Common.{◌≡◌, ◌≢◌, ◌<◌, ◌≤◌, ◌+◌, ◌-◌, ◌*◌, ◌^◌, ◌++◌, ◌∙◌, ℕ, zero, suc, Bool, true, false, cond, List, [], ◌∷◌, length, get_or, set, drop, min, map, nat_eq, refl, sym, ap, subst, arith}
+use Rattle.std.proofs.lemmas.Bool.{eqb-false, eqb-true}
+use Rattle.std.proofs.lemmas.List.{drop_all, drop_more, get_or-set_other, get_or-set_same}
 use Rattle.file_model.specs.Outline as model
 use Rattle.file_model.specs.Outline.{Outline, Parts, nested, outline, part, sized}
 use Rattle.file_outline.specs.View.{outline_step, outline_view, part_step, part_view, parts_view}
@@ -39,6 +40,44 @@ count_few mark (x ∷ xs) =
     let b : cond (nat_eq x mark) 1 0 ≤ 1 = few_one (nat_eq x mark) in
     omega (arith, a, b)
 
+-- one sector more, counted by its character
+tally_by : (counts cs : List ℕ) (i x c : ℕ) (b : Bool) → nat_eq x c ≡ b → c < length counts → i < length cs → x ≡ get_or cs i 0
+    → get_or counts c 0 ≤ i → get_or counts c 0 + count_of c (drop i cs) ≡ count_of c cs
+    → (get_or (set counts x (get_or counts x 0 + 1)) c 0 ≤ i + 1) × (get_or (set counts x (get_or counts x 0 + 1)) c 0 + count_of c (drop (i + 1) cs) ≡ count_of c cs)
+tally_by counts cs i x c true is lt some at few h =
+    let same : x ≡ c = eqb-true x c is in
+    let e : get_or (set counts x (get_or counts x 0 + 1)) c 0 ≡ get_or counts c 0 + 1 =
+    ap (λ n. get_or (set counts n (get_or counts n 0 + 1)) c 0) same ∙ get_or-set_same counts c (get_or counts c 0 + 1) 0 lt in
+    let one : 1 ≡ cond (nat_eq x c) 1 0 = ap (λ b. cond b 1 0) (sym is) in
+    (omega (arith, e, few), ap (λ n. n + count_of c (drop (i + 1) cs)) e ∙ count_step c cs i (get_or counts c 0) x 1 some at one h)
+tally_by counts cs i x c false is lt some at few h =
+    let e : get_or (set counts x (get_or counts x 0 + 1)) c 0 ≡ get_or counts c 0 = get_or-set_other counts x c (get_or counts x 0 + 1) 0 (λ z. eqb-false x c is (sym z)) in
+    let none : 0 ≡ cond (nat_eq x c) 1 0 = ap (λ b. cond b 1 0) (sym is) in
+    let whole : get_or counts c 0 + 0 + count_of c (drop (i + 1) cs) ≡ count_of c cs = count_step c cs i (get_or counts c 0) x 0 some at none h in
+    (omega (arith, e, few), omega (arith, e, whole))
+
+pub tallied : (counts cs : List ℕ) (i x c : ℕ) → c < length counts → i < length cs → x ≡ get_or cs i 0
+    → get_or counts c 0 ≤ i → get_or counts c 0 + count_of c (drop i cs) ≡ count_of c cs
+    → (get_or (set counts x (get_or counts x 0 + 1)) c 0 ≤ i + 1) × (get_or (set counts x (get_or counts x 0 + 1)) c 0 + count_of c (drop (i + 1) cs) ≡ count_of c cs)
+tallied counts cs i x c lt some at few h = tally_by counts cs i x c (nat_eq x c) refl lt some at few h
+
+-- no sector has two characters
+three_at : (x : ℕ) (a b d : Bool) → nat_eq x STREAM ≡ a → nat_eq x LAST ≡ b → nat_eq x MINI_STREAM ≡ d → cond a 1 0 + cond b 1 0 + cond d 1 0 ≤ 1
+three_at x false false true p q r = omega arith
+three_at x false false false p q r = omega arith
+three_at x false true false p q r = omega arith
+three_at x true false false p q r = omega arith
+three_at x true true d p q r = absurd (let e : x ≡ 115 = eqb-true x 115 p in let f : x ≡ 101 = eqb-true x 101 q in omega (arith, e, f))
+three_at x true false true p q r = absurd (let e : x ≡ 115 = eqb-true x 115 p in let f : x ≡ 109 = eqb-true x 109 r in omega (arith, e, f))
+three_at x false true true p q r = absurd (let e : x ≡ 101 = eqb-true x 101 q in let f : x ≡ 109 = eqb-true x 109 r in omega (arith, e, f))
+
+pub three_few : (cs : List ℕ) → count_of STREAM cs + count_of LAST cs + count_of MINI_STREAM cs ≤ length cs
+three_few [] = omega arith
+three_few (x ∷ xs) =
+    let a : count_of STREAM xs + count_of LAST xs + count_of MINI_STREAM xs ≤ length xs = three_few xs in
+    let b : cond (nat_eq x STREAM) 1 0 + cond (nat_eq x LAST) 1 0 + cond (nat_eq x MINI_STREAM) 1 0 ≤ 1 = three_at x (nat_eq x STREAM) (nat_eq x LAST) (nat_eq x MINI_STREAM) refl refl refl in
+    omega (arith, a, b)
+
 -- ---- the bytes of streams
 saturated : (most total size more new rest : ℕ) → size ≡ min most more → new ≡ min most (total + size) → min most (new + rest) ≡ min most (total + (more + rest))
 saturated most total size more new rest e f = omega (arith, e, f)
@@ -74,18 +113,16 @@ sized_end o k total items same all le h =
 least_behind : (most k n : ℕ) → 512 * k ≤ most → 512 * k - min most n ≡ 512 * k - n
 least_behind most k n le = omega (arith, le)
 
-pub behind_same : (cs : List ℕ) (n : ℕ) → length cs ≤ 2 ^ 40 → behind cs (min MOST n) ≡ behind cs n
+pub behind_same : (cs : List ℕ) (n : ℕ) → length cs ≤ 2 ^ 54 → behind cs (min MOST n) ≡ behind cs n
 behind_same cs n few =
-    let a : count_of STREAM cs ≤ length cs = count_few STREAM cs in
-    let b : count_of LAST cs ≤ length cs = count_few LAST cs in
-    let d : count_of MINI_STREAM cs ≤ length cs = count_few MINI_STREAM cs in
-    least_behind MOST (count_of STREAM cs + count_of LAST cs + count_of MINI_STREAM cs) n (omega (arith, a, b, d, few))
+    let a : count_of STREAM cs + count_of LAST cs + count_of MINI_STREAM cs ≤ length cs = three_few cs in
+    least_behind MOST (count_of STREAM cs + count_of LAST cs + count_of MINI_STREAM cs) n (omega (arith, a, few))
 
 -- the text of a map by the sum as it was counted
 abbrev text_with : List ℕ → ℕ → List ℕ
 text_with cs n = table cs ++ (legend cs ++ (said (codes "bytes free ") (512 * count_of FREE cs) ++ (said (codes ", behind the ends of streams ") n
     ++ (said (codes ", past the FAT ") (512 * count_of BEYOND cs) ++ 10 ∷ []))))
 
-pub told : (cs seen text : List ℕ) (n bytes : ℕ) → text ≡ map_text seen bytes → seen ≡ cs → bytes ≡ min MOST n → length seen ≤ 2 ^ 40 → text ≡ map_text cs n
+pub told : (cs seen text : List ℕ) (n bytes : ℕ) → text ≡ map_text seen bytes → seen ≡ cs → bytes ≡ min MOST n → length seen ≤ 2 ^ 54 → text ≡ map_text cs n
 told cs seen text n bytes is same sum few =
     is ∙ ap (map_text seen) sum ∙ ap (text_with seen) (behind_same seen n few) ∙ ap (λ xs. map_text xs n) same

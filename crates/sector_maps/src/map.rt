@@ -6,10 +6,11 @@ ghost use Rattle.file_outline.specs.View.{outline_view};
 ghost use Rattle.sector_maps.specs.Maps as maps;
 ghost use Rattle.sector_maps.specs.Maps.{cells, mapped};
 ghost use Rattle.sector_maps.specs.Painting.{IsOver, PaintsThree};
-ghost use Rattle.std.specs.Prelude.{◌++◌, ◌≡◌, ◌≤◌, ◌^◌, IfOk, Ok, OnOk, length, replicate, ℕ};
+ghost use Rattle.sector_maps.specs.declared.fault.MapFault.TheVariants.{NoMemory};
+ghost use Rattle.std.specs.Prelude.{◌++◌, ◌≡◌, ◌≤◌, ◌^◌, IfErr, IfOk, Ok, OnOk, length, replicate, ℕ};
 ghost use Rattle.storage_tree.specs.Tree.{Tree};
 
-use crate::fault::NoMap;
+use crate::fault::MapFault;
 use crate::painting::{BEYOND, DIFAT, DIRECTORY, FAT, FREE, MINI_FAT, paint};
 use crate::sizes::total;
 use crate::streams::{chain_of, paint_streams};
@@ -22,19 +23,15 @@ use cfb_header::header::Header;
 use file_outline::outline::Outline;
 use std::alloc::{AllocError, Global};
 
-/// The most bytes of a file.
-const MOST: usize = 1 << 40;
-
 /// The map of a compound file, which has this outline: its sectors in rows of 64, a character each, what the characters
 /// stand for and how often each stands there, and how many bytes are free, behind the ends of streams, and past the FAT.
 ///
-/// Refused: for want of memory, a file of more than 2^40 bytes, and one that denotes no tree.
-pub fn map_of(alloc: Global, file: &[u8], outline: &Outline) -> Result<Vec<u8>, NoMap>
-    ensures { IfOk result (λ v. (t : Tree) → (d : Denotes file.now t) → v.items ≡ mapped file.now d.layout d.used.sectors (outline_view outline.now)) }
+/// Refused: `NoMemory`, and `NoTree` for a file that denotes no tree. One that denotes a tree is refused for want of memory
+/// alone.
+pub fn map_of(alloc: Global, file: &[u8], outline: &Outline) -> Result<Vec<u8>, MapFault>
+    ensures mapped { IfOk result (λ v. (t : Tree) → (d : Denotes file.now t) → v.items ≡ mapped file.now d.layout d.used.sectors (outline_view outline.now)) }
+    ensures refused { (t : Tree) → Denotes file.now t → IfErr result (λ e. e ≡ NoMemory) }
 {
-    if file.len() > MOST {
-        return Err(NoMap);
-    }
     let header = Header::read(file)?;
     let cells = cells_of(alloc, &header, file)?;
     let text = tell(alloc, &cells, total(outline))?;
@@ -42,11 +39,11 @@ pub fn map_of(alloc: Global, file: &[u8], outline: &Outline) -> Result<Vec<u8>, 
 }
 
 /// A character for each sector that begins before the end of a file.
-fn cells_of(alloc: Global, header: &Header, file: &[u8]) -> Result<Vec<u8>, NoMap>
+fn cells_of(alloc: Global, header: &Header, file: &[u8]) -> Result<Vec<u8>, MapFault>
     requires read { header_read file.now ≡ Ok header.now }
-    requires few { length file.now ≤ 2 ^ 40 }
-    ensures few { IfOk result (λ v. length v.items ≤ 2 ^ 40) }
+    ensures few { IfOk result (λ v. length v.items ≤ 2 ^ 54) }
     ensures painted { IfOk result (λ v. (t : Tree) → (d : Denotes file.now t) → v.items ≡ cells file.now d.layout d.used.sectors) }
+    ensures refused { (t : Tree) → Denotes file.now t → IfErr result (λ e. e ≡ NoMemory) }
 {
     let image = Image::Whole(file);
     let own = fat_sectors(alloc, header, &image)?;
@@ -71,7 +68,7 @@ fn cells_of(alloc: Global, header: &Header, file: &[u8]) -> Result<Vec<u8>, NoMa
 
 /// Adds so many sectors that have no entry in the FAT.
 fn push_beyond(cells: &mut Vec<u8>, count: usize) -> Result<(), AllocError>
-    requires { count ≤ 2 ^ 40 }
+    requires { count ≤ 2 ^ 54 }
     ensures { OnOk result (cells.new.items ≡ cells.old.items ++ replicate count maps.BEYOND) }
 {
     let end = cells.len() + count;
@@ -86,12 +83,13 @@ fn paint_directory(
     file: &[u8],
     table: &[u32],
     cells: &mut Vec<u8>,
-) -> Result<(), NoMap>
+) -> Result<(), MapFault>
     requires read { header_read file.now ≡ Ok header.now }
     requires same { length table.now ≡ length cells.old.items }
     ensures len { length cells.new.items ≡ length cells.old.items }
     ensures painted { OnOk result ((t : Tree) → (d : Denotes file.now t) → IsOver file.now d.layout (directory_of file.now d.layout) table.now
         → PaintsThree file.now d.layout d.used.sectors cells.old.items cells.new.items) }
+    ensures refused { (t : Tree) → (d : Denotes file.now t) → IsOver file.now d.layout (directory_of file.now d.layout) table.now → IfErr result (λ e. e ≡ NoMemory) }
 {
     let mut fat = Fat::load(alloc, header, Image::Whole(file))?;
     let directory = fat.chain(alloc, header.first_directory())?;

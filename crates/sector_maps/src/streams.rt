@@ -5,10 +5,17 @@ ghost use Rattle.file_model.specs.Denotes.{Holds, Layout, Used, entry, root_of, 
 ghost use Rattle.cfb_directory.specs.Entries.{first_of, size_of};
 ghost use Rattle.sector_maps.specs.Maps.{stream_mark};
 ghost use Rattle.sector_maps.specs.Painting.{IsOver, Paints, PaintsBoth, PaintsEntry, PaintsStorage};
+ghost use Rattle.sector_maps.specs.There.{IsEntryThere, IsStorageThere, Owns, OwnsBelow};
+ghost use Rattle.sector_maps.specs.declared.fault.MapFault.TheVariants.{NoMemory};
+ghost use Rattle.cfb_chain.specs.Chain.{AreDistinct};
+ghost use Rattle.cfb_directory.specs.Entries.{kind};
+ghost use Rattle.storage_tree.specs.Tree.{Children};
+ghost use Rattle.storage_tree.specs.Whole.{IsTree};
+ghost use Rattle.std.specs.List.{Contains};
 ghost use Rattle.storage_tree.specs.Tree.{Tree};
-ghost use Rattle.std.specs.Prelude.{◌≡◌, IfOk, List, OnOk, length, ℕ};
+ghost use Rattle.std.specs.Prelude.{◌≡◌, ◌∷◌, IfErr, IfOk, List, OnOk, length, slice_index_or, true, ℕ};
 
-use crate::fault::NoMap;
+use crate::fault::MapFault;
 use crate::painting::{MINI_STREAM, paint, paint_stream};
 use cfb_chain::table::chain_from;
 use cfb_directory::entries::{Entries, EntryKind};
@@ -53,7 +60,10 @@ fn paint_at(
     Ok(())
 }
 
-/// Paints the sectors of the streams below a storage, which may have so many levels below it.
+/// Paints the sectors of the streams below a storage, which may have so many levels below it. All entries below it are
+/// marked.
+///
+/// Refused: for want of memory alone, where the storage is there and none of its entries was met.
 #[cycle(walking)]
 fn paint_below(
     alloc: Global,
@@ -62,11 +72,14 @@ fn paint_below(
     cells: &mut Vec<u8>,
     id: u32,
     depth: u32,
-) -> Result<(), NoMap>
+) -> Result<(), MapFault>
     requires same { length table.now ≡ length cells.old.items }
     ensures len { length cells.new.items ≡ length cells.old.items }
     ensures directory { entries.new.directory ≡ entries.old.directory }
     ensures painted { OnOk result ((file : List ℕ) → (l : Layout) → IsOver file l entries.old.directory table.now → PaintsStorage file l id cells.old.items cells.new.items) }
+    ensures met { OnOk result ((file : List ℕ) → (l : Layout) → IsOver file l entries.old.directory table.now → (cs : Children) → (used : Used) → Owns file l id cs used
+        → (n : ℕ) → (Contains used.ids n → ⊥) → slice_index_or entries.new.used n true ≡ slice_index_or entries.old.used n true) }
+    ensures there { (file : List ℕ) → (l : Layout) → IsOver file l entries.old.directory table.now → IsStorageThere file l entries.old depth id → IfErr result (λ e. e ≡ NoMemory) }
 {
     let ids = entries.children(alloc, id)?;
     for child in &ids {
@@ -76,6 +89,8 @@ fn paint_below(
 }
 
 /// Paints the sectors of an entry: a stream's, or those of the streams below a storage.
+///
+/// Refused: likewise.
 #[cycle(walking)]
 fn paint_entry(
     alloc: Global,
@@ -84,11 +99,14 @@ fn paint_entry(
     cells: &mut Vec<u8>,
     id: u32,
     depth: u32,
-) -> Result<(), NoMap>
+) -> Result<(), MapFault>
     requires same { length table.now ≡ length cells.old.items }
     ensures len { length cells.new.items ≡ length cells.old.items }
     ensures directory { entries.new.directory ≡ entries.old.directory }
     ensures painted { OnOk result ((file : List ℕ) → (l : Layout) → IsOver file l entries.old.directory table.now → PaintsEntry file l id cells.old.items cells.new.items) }
+    ensures met { OnOk result ((file : List ℕ) → (l : Layout) → IsOver file l entries.old.directory table.now → (ns : List ℕ) → OwnsBelow file l id ns
+        → (n : ℕ) → (Contains ns n → ⊥) → slice_index_or entries.new.used n true ≡ slice_index_or entries.old.used n true) }
+    ensures there { (file : List ℕ) → (l : Layout) → IsOver file l entries.old.directory table.now → IsEntryThere file l entries.old depth id → IfErr result (λ e. e ≡ NoMemory) }
 {
     let entry = entries.entry(id)?;
     match entry.kind {
@@ -102,7 +120,7 @@ fn paint_entry(
         }
         _ => {
             if depth == 0 {
-                return Err(NoMap);
+                return Err(MapFault::NoTree);
             }
             paint_below(alloc, entries, table, cells, id, depth - 1)
         }
@@ -110,17 +128,21 @@ fn paint_entry(
 }
 
 /// Paints the sectors of the mini stream and of all streams of a directory.
+///
+/// Refused: for want of memory alone, where the directory holds a tree.
 pub(crate) fn paint_streams(
     alloc: Global,
     directory: &[u8],
     table: &[u32],
     cells: &mut Vec<u8>,
-) -> Result<(), NoMap>
+) -> Result<(), MapFault>
     requires same { length table.now ≡ length cells.old.items }
     ensures len { length cells.new.items ≡ length cells.old.items }
     ensures painted { OnOk result ((file : List ℕ) → (l : Layout) → IsOver file l directory.now table.now
         → IsChainOf (sectors file l) (first_of (root_of file l)) (size_of (root_of file l)) l.mini_stream
         → (t : Tree) → (u : Used) → Holds file l 0 t u → PaintsBoth file l u.sectors cells.old.items cells.new.items) }
+    ensures there { (file : List ℕ) → (l : Layout) → IsOver file l directory.now table.now → kind (root_of file l) ≡ 5
+        → (t : Tree) → (u : Used) → Holds file l 0 t u → IsTree 32 t → AreDistinct (0 ∷ u.ids) → IfErr result (λ e. e ≡ NoMemory) }
 {
     let mut entries = Entries::load(alloc, directory)?;
     let root = entries.entry(0)?;

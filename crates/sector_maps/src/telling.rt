@@ -1,10 +1,11 @@
 //! The text of a map.
 
 ghost use Rattle.sector_maps.specs.Maps.{behind, count_of, counted, legend, map_text, right_text, row, rows, said, stream_legend, system_legend, table, totals, unused_legend};
-ghost use Rattle.std.specs.Prelude.{◌*◌, ◌+◌, ◌++◌, ◌<◌, ◌^◌, ◌≡◌, ◌≤◌, IfOk, OnOk, cond, length, nat_eq};
+ghost use Rattle.std.specs.Prelude.{◌*◌, ◌+◌, ◌++◌, ◌<◌, ◌^◌, ◌≡◌, ◌≤◌, IfOk, OnOk, length, replicate, slice_index, ℕ};
 
 use crate::painting::{BEYOND, DIFAT, DIRECTORY, FAT, FREE, LAST, MINI_FAT, MINI_STREAM, STREAM};
 use std::alloc::{AllocError, Global};
+use std::marker::Model;
 
 /// How many columns a number takes.
 const COLUMNS: usize = 10;
@@ -53,7 +54,7 @@ fn push_row(alloc: Global, text: &mut Vec<u8>, cells: &[u8], k: usize) -> Result
 
 /// Writes all rows.
 fn push_rows(alloc: Global, text: &mut Vec<u8>, cells: &[u8]) -> Result<(), AllocError>
-    requires { length cells.now ≤ 2 ^ 40 }
+    requires { length cells.now ≤ 2 ^ 54 }
     ensures { OnOk result (text.new.items ≡ text.old.items ++ rows cells.now) }
 {
     for k in 0..(cells.len() + 63) / 64 {
@@ -62,24 +63,59 @@ fn push_rows(alloc: Global, text: &mut Vec<u8>, cells: &[u8]) -> Result<(), Allo
     Ok(())
 }
 
-/// 1 for a sector that has a character.
-fn one(cell: u8, mark: u8) -> usize
-    ensures value { result ≡ cond (nat_eq cell mark) 1 0 }
-    ensures few { result ≤ 1 }
-{
-    if cell == mark { 1 } else { 0 }
+/// Sectors, of which it is known how many have each character.
+#[derive(Drop)]
+struct Tally<'a> {
+    cells: &'a [u8],
+    counts: [usize; 256],
 }
 
-/// How many sectors have a character.
-fn count(cells: &[u8], mark: u8) -> usize
-    ensures count { result ≡ count_of mark cells.now }
-    ensures few { result ≤ length cells.now }
-{
-    let mut count = 0;
-    for cell in cells {
-        count += one(*cell, mark);
+impl<'a> Model for Tally<'a> {
+    ghost use Rattle.std.specs.Prelude.{◌<◌, ◌≡◌, List, slice_index, ℕ};
+    ghost use Rattle.sector_maps.specs.Maps.{count_of};
+
+    ghost Value = { List ℕ };
+
+    ghost view = { λ t. t.cells.now };
+
+    ghost invariant = { λ t. (c : ℕ) → c < 256 → slice_index t.counts c ≡ count_of c t.cells.now };
+}
+
+impl<'a> Tally<'a> {
+    /// Counts the characters of sectors, each sector once.
+    fn new(cells: &'a [u8]) -> Tally<'a>
+        ensures { result ≡ cells.now }
+    {
+        let counts = counts_of(cells);
+        Tally { cells, counts }
     }
-    count
+
+    /// How many sectors have a character.
+    fn count(&self, mark: u8) -> usize
+        ensures count { result ≡ count_of mark self.now }
+        ensures few { result ≤ length self.now }
+    {
+        self.counts[mark as usize]
+    }
+}
+
+/// Nothing counted yet.
+fn no_counts() -> [usize; 256]
+    ensures { result ≡ replicate 256 0 }
+{
+    [0; 256]
+}
+
+/// How many sectors have each character.
+fn counts_of(cells: &[u8]) -> [usize; 256]
+    ensures { (c : ℕ) → c < 256 → slice_index result c ≡ count_of c cells.now }
+{
+    let mut counts = no_counts();
+    for cell in cells {
+        let mark = *cell as usize;
+        counts[mark] += 1;
+    }
+    counts
 }
 
 /// Writes how many sectors have a character.
@@ -87,104 +123,104 @@ fn push_count(
     alloc: Global,
     text: &mut Vec<u8>,
     words: &[u8],
-    cells: &[u8],
+    tally: &Tally<'_>,
     mark: u8,
 ) -> Result<(), AllocError>
-    ensures { OnOk result (text.new.items ≡ text.old.items ++ counted words.now cells.now mark) }
+    ensures { OnOk result (text.new.items ≡ text.old.items ++ counted words.now tally.now mark) }
 {
     text.extend_from_slice(words)?;
-    push_right(alloc, text, count(cells, mark))?;
+    push_right(alloc, text, tally.count(mark))?;
     text.push(b'\n')?;
     Ok(())
 }
 
 /// Writes what the characters stand for, and how often each stands in the map: the system's own parts.
-fn push_system(alloc: Global, text: &mut Vec<u8>, cells: &[u8]) -> Result<(), AllocError>
-    ensures { OnOk result (text.new.items ≡ text.old.items ++ system_legend cells.now) }
+fn push_system(alloc: Global, text: &mut Vec<u8>, tally: &Tally<'_>) -> Result<(), AllocError>
+    ensures { OnOk result (text.new.items ≡ text.old.items ++ system_legend tally.now) }
 {
     push_count(
         alloc,
         text,
         b"F  FAT                 ".as_slice(),
-        cells,
+        tally,
         FAT,
     )?;
     push_count(
         alloc,
         text,
         b"X  DIFAT               ".as_slice(),
-        cells,
+        tally,
         DIFAT,
     )?;
     push_count(
         alloc,
         text,
         b"D  directory           ".as_slice(),
-        cells,
+        tally,
         DIRECTORY,
     )?;
     push_count(
         alloc,
         text,
         b"M  mini FAT            ".as_slice(),
-        cells,
+        tally,
         MINI_FAT,
     )
 }
 
 /// The same of streams.
-fn push_streams(alloc: Global, text: &mut Vec<u8>, cells: &[u8]) -> Result<(), AllocError>
-    ensures { OnOk result (text.new.items ≡ text.old.items ++ stream_legend cells.now) }
+fn push_streams(alloc: Global, text: &mut Vec<u8>, tally: &Tally<'_>) -> Result<(), AllocError>
+    ensures { OnOk result (text.new.items ≡ text.old.items ++ stream_legend tally.now) }
 {
     push_count(
         alloc,
         text,
         b"m  mini stream         ".as_slice(),
-        cells,
+        tally,
         MINI_STREAM,
     )?;
     push_count(
         alloc,
         text,
         b"s  streams             ".as_slice(),
-        cells,
+        tally,
         STREAM,
     )?;
     push_count(
         alloc,
         text,
         b"e  ends of streams     ".as_slice(),
-        cells,
+        tally,
         LAST,
     )
 }
 
 /// The same of what isn't used.
-fn push_unused(alloc: Global, text: &mut Vec<u8>, cells: &[u8]) -> Result<(), AllocError>
-    ensures { OnOk result (text.new.items ≡ text.old.items ++ unused_legend cells.now) }
+fn push_unused(alloc: Global, text: &mut Vec<u8>, tally: &Tally<'_>) -> Result<(), AllocError>
+    ensures { OnOk result (text.new.items ≡ text.old.items ++ unused_legend tally.now) }
 {
     push_count(
         alloc,
         text,
         b".  free                ".as_slice(),
-        cells,
+        tally,
         FREE,
     )?;
     push_count(
         alloc,
         text,
         b"-  past the FAT        ".as_slice(),
-        cells,
+        tally,
         BEYOND,
     )
 }
 
 /// How many bytes in the sectors of streams and of the mini stream are no stream's, where those have so many together.
-fn count_behind(cells: &[u8], bytes: u64) -> usize
-    requires { length cells.now ≤ 2 ^ 40 }
-    ensures { result ≡ behind cells.now bytes }
+fn count_behind(tally: &Tally<'_>, bytes: u64) -> usize
+    requires { length tally.now ≤ 2 ^ 54 }
+    ensures { result ≡ behind tally.now bytes }
 {
-    let sectors = count(cells, STREAM) + count(cells, LAST) + count(cells, MINI_STREAM);
+    let sectors = tally.count(STREAM) + tally.count(LAST) + tally.count(MINI_STREAM);
     (512 * sectors).saturating_sub(bytes as usize)
 }
 
@@ -192,29 +228,29 @@ fn count_behind(cells: &[u8], bytes: u64) -> usize
 fn push_totals(
     alloc: Global,
     text: &mut Vec<u8>,
-    cells: &[u8],
+    tally: &Tally<'_>,
     bytes: u64,
 ) -> Result<(), AllocError>
-    requires { length cells.now ≤ 2 ^ 40 }
-    ensures { OnOk result (text.new.items ≡ text.old.items ++ totals cells.now bytes) }
+    requires { length tally.now ≤ 2 ^ 54 }
+    ensures { OnOk result (text.new.items ≡ text.old.items ++ totals tally.now bytes) }
 {
     push_said(
         alloc,
         text,
         b"bytes free ".as_slice(),
-        512 * count(cells, FREE),
+        512 * tally.count(FREE),
     )?;
     push_said(
         alloc,
         text,
         b", behind the ends of streams ".as_slice(),
-        count_behind(cells, bytes),
+        count_behind(tally, bytes),
     )?;
     push_said(
         alloc,
         text,
         b", past the FAT ".as_slice(),
-        512 * count(cells, BEYOND),
+        512 * tally.count(BEYOND),
     )?;
     text.push(b'\n')?;
     Ok(())
@@ -222,7 +258,7 @@ fn push_totals(
 
 /// Writes all rows and an empty line.
 fn push_table(alloc: Global, text: &mut Vec<u8>, cells: &[u8]) -> Result<(), AllocError>
-    requires { length cells.now ≤ 2 ^ 40 }
+    requires { length cells.now ≤ 2 ^ 54 }
     ensures { OnOk result (text.new.items ≡ text.old.items ++ table cells.now) }
 {
     push_rows(alloc, text, cells)?;
@@ -231,24 +267,25 @@ fn push_table(alloc: Global, text: &mut Vec<u8>, cells: &[u8]) -> Result<(), All
 }
 
 /// Writes the legend and an empty line.
-fn push_legend(alloc: Global, text: &mut Vec<u8>, cells: &[u8]) -> Result<(), AllocError>
-    ensures { OnOk result (text.new.items ≡ text.old.items ++ legend cells.now) }
+fn push_legend(alloc: Global, text: &mut Vec<u8>, tally: &Tally<'_>) -> Result<(), AllocError>
+    ensures { OnOk result (text.new.items ≡ text.old.items ++ legend tally.now) }
 {
-    push_system(alloc, text, cells)?;
-    push_streams(alloc, text, cells)?;
-    push_unused(alloc, text, cells)?;
+    push_system(alloc, text, tally)?;
+    push_streams(alloc, text, tally)?;
+    push_unused(alloc, text, tally)?;
     text.push(b'\n')?;
     Ok(())
 }
 
 /// The text of a map of these sectors, whose streams have so many bytes together.
 pub(crate) fn tell(alloc: Global, cells: &[u8], bytes: u64) -> Result<Vec<u8>, AllocError>
-    requires { length cells.now ≤ 2 ^ 40 }
+    requires { length cells.now ≤ 2 ^ 54 }
     ensures { IfOk result (λ v. v.items ≡ map_text cells.now bytes) }
 {
+    let tally = Tally::new(cells);
     let mut text = Vec::new(alloc);
     push_table(alloc, &mut text, cells)?;
-    push_legend(alloc, &mut text, cells)?;
-    push_totals(alloc, &mut text, cells, bytes)?;
+    push_legend(alloc, &mut text, &tally)?;
+    push_totals(alloc, &mut text, &tally, bytes)?;
     Ok(text)
 }

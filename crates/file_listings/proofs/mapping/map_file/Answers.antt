@@ -12,6 +12,12 @@ returns-in-Err-read_outline-clause-refused g c =
     read_refused (g.R.Read.remaining c.args.reader.now) c.in-Ok.file.items c.deref.result.now c.read_outline.result _
     c.in-Ok.ensures.whole c.deref.ensures.value c.in-Err-read_outline.is c.read_outline.ensures.header c.read_outline.ensures.reads c.read_outline.ensures.refused
 
+pub write_map-requires : goal.write_map-requires
+write_map-requires g c =
+    let o : IsOutlined c.deref-2.result.now (outline_view c.in-Ok-read_outline.outline) =
+    subst (λ (xs : List ℕ). IsOutlined xs (outline_view c.in-Ok-read_outline.outline)) (c.deref.ensures.value ∙ sym c.deref-2.ensures.value) c.in-Ok-read_outline.ensures.outlined in
+    record { held = (o.0, o.1) }
+
 pub returns-clause-mapped : goal.returns-clause-mapped
 returns-clause-mapped g c =
     let seen : List ℕ = c.deref-2.result.now in

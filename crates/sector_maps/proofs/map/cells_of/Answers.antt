@@ -1,11 +1,24 @@
 use Rattle.std.proofs.Common.{◌≡◌, ◌≤◌, ◌∙◌, ◌-◌, ◌/◌, ℕ, List, ap, length, replicate, refl, rules, subst, sym, arith}
+use Rattle.std.specs.Result.{IsErrAnd}
 use Rattle.cfb_header.specs.Header.{HeaderValue}
+use Rattle.sector_maps.proofs.There.{same_memory}
 use Rattle.cfb_header.specs.Bytes.{joined, sector, u32_at}
 use Rattle.file_model.specs.Denotes.{directory_of, sectors}
 use Rattle.sector_maps.specs.Maps.{DIFAT, FAT, FREE, MINI_FAT}
 use Rattle.sector_maps.specs.Painting.{IsOver, Paints}
 use Rattle.sector_maps.proofs.Layouts.{ArePainted, all_painted, difat_same, fat_same, mini_fat_chain, over}
 use Rattle.sector_maps.proofs.map.cells_of.Goals as goal
+
+pub returns-in_err-paint_directory-clause-refused : goal.returns-in_err-paint_directory-clause-refused
+returns-in_err-paint_directory-clause-refused c = λ t d.
+    let file : List ℕ = c.args.file.now in
+    let table : List ℕ = c.in_ok-table.table.items in
+    let o : IsOver file d.layout (directory_of file d.layout) table =
+    over file t d c.args.header.now c.requires.read c.deref.result.now table (c.deref.ensures.value ∙ c.in_ok-own.ensures.fat)
+    (subst (λ (xs : List ℕ). length xs ≤ 1125) (sym c.deref.ensures.value) c.in_ok-own.ensures.few) c.in_ok-table.ensures.count c.in_ok-table.ensures.each in
+    let o6 : IsOver file d.layout (directory_of file d.layout) c.deref-6.result.now = subst (λ (xs : List ℕ). IsOver file d.layout (directory_of file d.layout) xs) (sym c.deref-6.ensures.value) o in
+    let again : IsErrAnd c.from_residual-in_err-paint_directory.result (λ z. z ≡ c.in_err-paint_directory.field-0.0) = search rules in
+    same_memory c.from_residual-in_err-paint_directory.result c.in_err-paint_directory.field-0.0 again (c.in_err-paint_directory.ensures.refused t d o6)
 
 pub returns-clause-painted : goal.returns-clause-painted
 returns-clause-painted c = λ t d.

@@ -1,6 +1,10 @@
-use Rattle.std.proofs.Common.{◌≡◌, ◌+◌, ◌*◌, ℕ, List, drop, length}
-use Rattle.file_model.specs.Denotes.{Layout}
+use Rattle.std.proofs.Common.{◌≡◌, ◌+◌, ◌*◌, ℕ, List, true, drop, get_or, length}
+use Rattle.std.specs.List.{Contains}
+use Rattle.storage_tree.specs.Tree.{Children}
+use Rattle.file_model.specs.Denotes.{Layout, Used}
 use Rattle.sector_maps.specs.Painting.{IsOver}
+use Rattle.sector_maps.specs.There.{IsStorageThere, Owns}
+use Rattle.sector_maps.proofs.There.{IsLeft}
 use Rattle.sector_maps.proofs.Walk.{Turns}
 use Rattle.sector_maps.proofs.streams.+walking.Given as goal
 
@@ -16,4 +20,8 @@ invariant-paint_below-loop-child l = record {
   directory : l.entries.directory ≡ l.initial.entries.directory;
   turns : (file : List ℕ) (lay : Layout) → IsOver file lay l.initial.entries.directory l.table
       → (new : List ℕ) → Turns file lay (drop l.child-index l.child-items) l.cells.items new → Turns file lay l.child-items l.initial.cells.items new;
+  met : (file : List ℕ) (lay : Layout) → IsOver file lay l.initial.entries.directory l.table → (cs : Children) (u : Used) → Owns file lay l.id cs u
+      → (n : ℕ) → (Contains u.ids n → ⊥) → get_or l.entries.used n true ≡ get_or l.fn.entries.used n true;
+  left : (file : List ℕ) (lay : Layout) → IsOver file lay l.initial.entries.directory l.table → (s : IsStorageThere file lay l.fn.entries l.depth l.id)
+      → IsLeft file lay l.entries l.depth s.used s.owns.ids s.cs s.owns.each (drop l.child-index l.child-items);
 }
