@@ -58,7 +58,7 @@ fn need_of(advance: &Result<Advance, AllocError>) -> Need {
         Ok(Advance::Turned) => Need::Nothing,
         Ok(Advance::Read) => Need::Nothing,
         Ok(Advance::Wants(class)) => need_of_class(class),
-        Ok(Advance::Over) => Need::Link,
+        Ok(Advance::Over(_)) => Need::Link,
         Err(_) => Need::Memory,
     }
 }

@@ -1,5 +1,5 @@
 -- What a server has come to by one message, one write of its own accord, or one piece.
-use Rattle.std.proofs.Common.{◌≡◌, ℕ, List, [], ◌∷◌, ◌++◌, length, map, slice_set, slice_index_or, take, Option, Some, None, Result, Ok, Err, IfOk, OnOk, refl, sym, ap, subst, ◌∙◌, arith, inl, inr, suc, ◌<◌, ◌≤◌, ◌+◌, get_or, take-suc, take_all}
+use Rattle.std.proofs.Common.{◌≡◌, ℕ, List, [], ◌∷◌, ◌++◌, length, map, slice_set, slice_index_or, take, Option, Some, None, Result, Ok, Err, OnOk, refl, sym, ap, subst, ◌∙◌, arith, inl, inr, suc, ◌<◌, ◌≤◌, ◌+◌, get_or, take-suc, take_all}
 use Rattle.embed_core.specs.Content.{Content}
 use Rattle.embed_core.specs.Kinds.{Kind}
 use Rattle.wire_msgs.specs.declared.message.Message.{Message}
@@ -7,6 +7,8 @@ use Rattle.message_model.specs.declared.frame.Frame.{Frame}
 use Rattle.message_model.specs.declared.frame.Frame.TheVariants as frame
 use Rattle.message_model.specs.declared.fault.WireFault.{WireFault}
 use Rattle.message_model.specs.declared.fault.WireFault.TheVariants as wire
+use Rattle.message_model.specs.Frames.{Reads}
+use Rattle.message_bytes.proofs.Leaving.{on_ok}
 use Rattle.message_bytes.specs.Fronts.{Feeds, HandsOut, Stands}
 use Rattle.message_bytes.specs.declared.decoder.Decoder.{Decoder}
 use Rattle.server_model.specs.Server.{Refuses, Server, Takes, Tells, on_call, reply_to, scribble}
@@ -16,23 +18,16 @@ use Rattle.server_model.specs.declared.fault.ServerFault.TheVariants as fault
 use Rattle.server_core.specs.View.{seen}
 use Rattle.server_core.specs.declared.server.Seat.{Seat}
 use Rattle.server_loop.specs.Turns.{Turn, answered, edited_by, met, noted_done, scribbled_all, sent, written}
-use Rattle.server_loop.specs.View.{Advances, IsAt, IsIn, Meets, Reads, Turns, servers_of}
+use Rattle.server_loop.specs.View.{IsAt, IsIn, Leaves, servers_of}
 use Rattle.server_loop.specs.declared.serving.Server as code
 use Rattle.server_loop.specs.declared.serving.Serving.{Serving}
 use Rattle.server_loop.specs.declared.serving.Advance.{Advance}
 use Rattle.server_loop.specs.declared.serving.Advance.TheVariants.{Met, Turned, Read, Wants, Over}
+use Rattle.server_loop.specs.declared.serving.End.TheVariants.{Faulty, LastRead, Unread, Closed, Unwritten, LastTurn}
 
 pub both : {A E : Type 0} {P Q R : Type 0} (r : Result A E) → OnOk r P → OnOk r Q → (P → Q → R) → OnOk r R
 both (Ok x) p q f = f p q
 both (Err e) p q f = tt
-
-pub on_ok : {A E : Type 0} {P Q : Type 0} (r : Result A E) → OnOk r P → (P → Q) → OnOk r Q
-on_ok (Ok x) p f = f p
-on_ok (Err e) p f = tt
-
-pub each : {A E : Type 0} {P Q : A → Type 0} (r : Result A E) → IfOk r P → ((x : A) → P x → Q x) → IfOk r Q
-each (Ok x) p f = f x p
-each (Err e) p f = tt
 
 abbrev or_else : {A : Type 0} → A → Option A → A
 or_else d (Some x) = x
@@ -50,8 +45,21 @@ pub handed_out : (told : Option Frame) (f : Frame) (fed : List ℕ) (taken : Lis
     → Stands d fed (taken ++ f ∷ [])
 handed_out told f fed taken d e h = (subst (λ x. HandsOut (Ok x) fed taken d) e h).0
 
-pub handed_none : (told : Option Frame) (fed : List ℕ) (taken : List Frame) (d : Decoder) → told ≡ None → HandsOut (Ok told) fed taken d → Stands d fed taken
-handed_none told fed taken d e h = (subst (λ x. HandsOut (Ok x) fed taken d) e h).0
+pub handed_none : (told : Option Frame) (fed : List ℕ) (taken : List Frame) (d : Decoder) → told ≡ None → HandsOut (Ok told) fed taken d → Stands d fed taken × Reads fed taken None
+handed_none told fed taken d e h = subst (λ x. HandsOut (Ok x) fed taken d) e h
+
+-- a message leaves the link as it is
+pub leaves_same : {S : Type 0} (told : Advance) (s : S) → Leaves told s s
+leaves_same Met s = refl
+leaves_same (Wants class) s = refl
+leaves_same Turned s = tt
+leaves_same Read s = tt
+leaves_same (Over (Faulty fault)) s = refl
+leaves_same (Over LastRead) s = refl
+leaves_same (Over Unread) s = tt
+leaves_same (Over Closed) s = tt
+leaves_same (Over Unwritten) s = tt
+leaves_same (Over LastTurn) s = tt
 
 some_inside : {A : Type 0} (x y : A) → Some x ≡ Some y → x ≡ y
 some_inside x y e = ap (or_else x) e
@@ -124,10 +132,10 @@ module _ {X : Type 0} {V : X → Type 0} (content : Seat X V → Content) where
   -- an object was offered for the message that waits
   pub offered : {E : Type 0} (v w : Serving X V) (t : Turn) (fed : List ℕ) (taken : List Frame) (m n : Message) (box : Option Kind) (r : Result (Unit {0}) E)
       → IsAt content v t fed taken → Some n ≡ Some m → w.decoder ≡ v.decoder → OnOk r (IsIn content w (met t n box)) → OnOk r (IsAt content w (met t m box) fed taken)
-  offered v w t fed taken m n box r h e d i = on_ok r i (λ k. record {
+  offered v w t fed taken m n box r h e d i = on_ok r (λ _ k. record {
     turn = subst (λ x. IsIn content w (met t x box)) (some_inside n m e) k;
     read = subst (λ x. Stands x fed taken) (sym d) h.read;
-  })
+  }) i
 
   -- a message was passed over
   pub passed_over : (v w : Serving X V) (t : Turn) (m : Message) (box : Option Kind) (before : Server) (why : ServerFault)
@@ -161,28 +169,3 @@ module _ {X : Type 0} {V : X → Type 0} (content : Seat X V → Content) where
   pub all_wrote : (w : Serving X V) (t : Turn) (at : ℕ) (edited : List ℕ) → edited ≡ t.edited → length edited ≤ at
       → IsIn content w (scribbled_all t (take at t.edited)) → IsIn content w (scribbled_all t t.edited)
   all_wrote w t at edited e l h = subst (λ xs. IsIn content w (scribbled_all t xs)) (take_all at t.edited (subst (λ xs. length xs ≤ at) e l)) h
-
-  -- how far a link came, from each of its parts
-  pub by_message : (told : Advance) (v : Serving X V) (t : Turn) (fed : List ℕ) (taken : List Frame) (a b c d : Option (List ℕ))
-      → Meets content told v t fed taken → Advances content told v t fed taken a b c d
-  by_message Met v t fed taken a b c d h = h
-  by_message (Wants class) v t fed taken a b c d h = h
-  by_message Turned v t fed taken a b c d h = absurd h
-  by_message Read v t fed taken a b c d h = absurd h
-  by_message Over v t fed taken a b c d h = absurd h
-
-  pub by_turn : (told : Advance) (v : Serving X V) (t : Turn) (fed : List ℕ) (taken : List Frame) (a b c d : Option (List ℕ))
-      → Turns content told v t fed taken c d → Advances content told v t fed taken a b c d
-  by_turn Met v t fed taken a b c d h = absurd h
-  by_turn (Wants class) v t fed taken a b c d h = absurd h
-  by_turn Turned v t fed taken a b c d h = h
-  by_turn Read v t fed taken a b c d h = absurd h
-  by_turn Over v t fed taken a b c d h = h
-
-  pub by_piece : (told : Advance) (v : Serving X V) (t : Turn) (fed : List ℕ) (taken : List Frame) (a b c d : Option (List ℕ))
-      → Reads content told v t fed taken a b → Advances content told v t fed taken a b c d
-  by_piece Met v t fed taken a b c d h = absurd h
-  by_piece (Wants class) v t fed taken a b c d h = absurd h
-  by_piece Turned v t fed taken a b c d h = absurd h
-  by_piece Read v t fed taken a b c d h = h
-  by_piece Over v t fed taken a b c d h = h

@@ -1,10 +1,12 @@
 -- A server on a link, as it is seen.
-use Rattle.std.specs.Prelude.{◌≡◌, ◌⊎◌, ◌+◌, ◌<◌, ◌≤◌, ℕ, List, [], ◌∷◌, ◌++◌, Option, Some, None, length, map}
-use Rattle.std.specs.Io.KnownBytes.{Appends, Consumes}
+use Rattle.std.specs.Prelude.{◌≡◌, ◌+◌, ◌<◌, ◌≤◌, ℕ, List, [], ◌∷◌, ◌++◌, Option, Some, None, length, map}
+use Rattle.std.specs.Io.KnownBytes.{Appends, Consumes, IsAtEnd, Keeps}
 use Rattle.embed_core.specs.Content.{Content}
 use Rattle.wire_msgs.specs.declared.message.Message.{Message}
+use Rattle.message_model.specs.declared.fault.WireFault.{WireFault}
 use Rattle.message_model.specs.declared.frame.Frame.{Frame}
 use Rattle.message_model.specs.declared.frame.Frame.TheVariants as frame
+use Rattle.message_model.specs.Frames.{Reads}
 use Rattle.message_bytes.specs.Fronts.{Stands}
 use Rattle.server_model.specs.Server.{Server, wanted}
 use Rattle.server_core.specs.View.{seen}
@@ -13,17 +15,21 @@ use Rattle.server_loop.specs.Turns.{Turn, given, met, turned}
 use Rattle.server_loop.specs.declared.serving.Serving.{Serving}
 use Rattle.server_loop.specs.declared.serving.Advance.{Advance}
 use Rattle.server_loop.specs.declared.serving.Advance.TheVariants.{Met, Turned, Read, Wants, Over}
+use Rattle.server_loop.specs.declared.serving.End.{End}
+use Rattle.server_loop.specs.declared.serving.End.TheVariants.{Faulty, LastRead, Unread, Closed, Unwritten, LastTurn}
 
 -- whether its server was started
 abbrev pub IsStarted : {X : Type 0} {V : X → Type 0} → Serving X V → Type 0
 IsStarted v = length v.servers.items ≡ 1
 
--- No server was started, nothing was read, and nothing is to be written.
+-- No server was started, nothing was read, and nothing is to be written; no turn and no read is counted.
 pub record IsNew {X : Type 0} {V : X → Type 0} (v : Serving X V) : Type 0 where
   pub none : length v.servers.items ≡ 0
   pub out : v.out.items ≡ []
   pub edited : v.edited.items ≡ []
   pub read : Stands v.decoder [] []
+  pub turns : v.turns ≡ 0
+  pub reads : v.reads ≡ 0
 
 -- A link has at most so many turns, and a turn at most so many reads.
 abbrev pub MOST_TURNS : ℕ
@@ -38,7 +44,25 @@ Counts Met turns_before reads_before turns reads = (turns ≡ turns_before) × (
 Counts (Wants class) turns_before reads_before turns reads = (turns ≡ turns_before) × (reads ≡ reads_before)
 Counts Turned turns_before reads_before turns reads = (turns ≡ turns_before + 1) × (turns < MOST_TURNS) × (reads ≡ 0)
 Counts Read turns_before reads_before turns reads = (turns ≡ turns_before) × (reads ≡ reads_before + 1) × (reads ≤ MOST_READS)
-Counts Over turns_before reads_before turns reads = Unit {0}
+Counts (Over LastRead) turns_before reads_before turns reads = MOST_READS ≤ reads_before
+Counts (Over LastTurn) turns_before reads_before turns reads = MOST_TURNS ≤ turns_before + 1
+Counts (Over (Faulty fault)) turns_before reads_before turns reads = Unit {0}
+Counts (Over Unread) turns_before reads_before turns reads = Unit {0}
+Counts (Over Closed) turns_before reads_before turns reads = Unit {0}
+Counts (Over Unwritten) turns_before reads_before turns reads = Unit {0}
+
+-- Where a message came, a fault showed or a turn had its most reads, the link itself is as it was.
+abbrev pub Leaves : {S : Type 0} → Advance → (before after : S) → Type 0
+Leaves Met before after = after ≡ before
+Leaves (Wants class) before after = after ≡ before
+Leaves (Over (Faulty fault)) before after = after ≡ before
+Leaves (Over LastRead) before after = after ≡ before
+Leaves Turned before after = Unit {0}
+Leaves Read before after = Unit {0}
+Leaves (Over Unread) before after = Unit {0}
+Leaves (Over Closed) before after = Unit {0}
+Leaves (Over Unwritten) before after = Unit {0}
+Leaves (Over LastTurn) before after = Unit {0}
 
 -- `content` says what the object in a seat contains.
 module _ {X : Type 0} {V : X → Type 0} (content : Seat X V → Content) where
@@ -75,33 +99,27 @@ module _ {X : Type 0} {V : X → Type 0} (content : Seat X V → Content) where
     pub gives : Appends before after (given t)
     pub next : IsAt v (turned t) fed (taken ++ frame.Turn ∷ [])
 
+  -- Behind the frames that were taken none is whole; the rest shows this fault, or none.
+  pub record IsOut (v : Serving X V) (t : Turn) (fed : List ℕ) (taken : List Frame) (fault : Option WireFault) : Type 0 where
+    pub at : IsAt v t fed taken
+    pub reads : Reads fed taken fault
+
   -- No frame was whole, and more was read.
   pub record IsRead (v : Serving X V) (t : Turn) (fed : List ℕ) (taken : List Frame) (before after : Option (List ℕ)) : Type 0 where
+    pub reads : Reads fed taken None
     pub piece : List ℕ
     pub consumed : Consumes before after piece
     pub next : IsAt v t (fed ++ piece) taken
 
-  -- The link is over, in this turn or as it was given back.
-  pub record IsOver (v : Serving X V) (t : Turn) : Type 0 where
-    pub last : Turn
-    pub is : (last ≡ t) ⊎ (last ≡ turned t)
-    pub server : IsIn v last
-
-  -- how far a link came by a message, by a Turn, and where no frame was whole
-  abbrev pub Meets : Advance → Serving X V → Turn → List ℕ → List Frame → Type 0
-  Meets Met v t fed taken = IsMet v t fed taken
-  Meets (Wants class) v t fed taken = Awaits v t fed taken class
-  Meets told v t fed taken = ⊥
-
-  abbrev pub Turns : Advance → Serving X V → Turn → List ℕ → List Frame → Option (List ℕ) → Option (List ℕ) → Type 0
-  Turns Turned v t fed taken before after = IsTurned v t fed taken before after
-  Turns Over v t fed taken before after = IsOver v t
-  Turns told v t fed taken before after = ⊥
-
-  abbrev pub Reads : Advance → Serving X V → Turn → List ℕ → List Frame → Option (List ℕ) → Option (List ℕ) → Type 0
-  Reads Read v t fed taken before after = IsRead v t fed taken before after
-  Reads Over v t fed taken before after = IsOver v t
-  Reads told v t fed taken before after = ⊥
+  -- The link is over: what came shows a fault; no frame was whole, and the turn had its most reads, or a read failed, or nothing
+  -- more comes; a Turn came next, and isn't written, or was the last that a link may have.
+  abbrev pub IsOver : End → Serving X V → Turn → List ℕ → List Frame → (unread_before unread held_before held : Option (List ℕ)) → Type 0
+  IsOver (Faulty fault) v t fed taken unread_before unread held_before held = IsOut v t fed taken (Some fault)
+  IsOver LastRead v t fed taken unread_before unread held_before held = IsOut v t fed taken None
+  IsOver Unread v t fed taken unread_before unread held_before held = IsOut v t fed taken None × Keeps unread_before unread
+  IsOver Closed v t fed taken unread_before unread held_before held = IsOut v t fed taken None × Consumes unread_before unread [] × IsAtEnd unread
+  IsOver Unwritten v t fed taken unread_before unread held_before held = IsAt v (turned t) fed (taken ++ frame.Turn ∷ [])
+  IsOver LastTurn v t fed taken unread_before unread held_before held = IsTurned v t fed taken held_before held
 
   -- How far a link came, with what was to be read of it and what was written to it, before and after.
   abbrev pub Advances : Advance → Serving X V → Turn → List ℕ → List Frame → (unread_before unread held_before held : Option (List ℕ)) → Type 0
@@ -109,4 +127,4 @@ module _ {X : Type 0} {V : X → Type 0} (content : Seat X V → Content) where
   Advances (Wants class) v t fed taken unread_before unread held_before held = Awaits v t fed taken class
   Advances Turned v t fed taken unread_before unread held_before held = IsTurned v t fed taken held_before held
   Advances Read v t fed taken unread_before unread held_before held = IsRead v t fed taken unread_before unread
-  Advances Over v t fed taken unread_before unread held_before held = IsOver v t
+  Advances (Over end) v t fed taken unread_before unread held_before held = IsOver end v t fed taken unread_before unread held_before held

@@ -4,11 +4,12 @@ ghost use Rattle.embed_core.specs.Kinds.{kind_of};
 ghost use Rattle.message_bytes.specs.Fronts.{Stands};
 ghost use Rattle.message_model.specs.declared.frame.Frame.{Frame};
 ghost use Rattle.message_model.specs.declared.frame.Frame.TheVariants as frame;
+ghost use Rattle.message_model.specs.Frames.{Reads};
 ghost use Rattle.server_core.specs.View.{seen};
 ghost use Rattle.server_loop.specs.Turns.{Turn, edited_by, first_turn, given, met, noted, noted_done, scribbled_all, sent, turned, written};
-ghost use Rattle.server_loop.specs.View.{Advances, Counts, IsAt, IsIn, IsNew, IsStarted, Meets, Reads, Turns, servers_of};
+ghost use Rattle.server_loop.specs.View.{Advances, Counts, IsAt, IsIn, IsNew, IsStarted, Leaves, servers_of};
 ghost use Rattle.server_model.specs.Server.{Server, scribble, wanted};
-ghost use Rattle.std.specs.Prelude.{◌≡◌, ◌<◌, ◌+◌, ◌++◌, ◌∷◌, ℕ, List, [], IfOk, OnOk, Some, None, length, nat_eq, option_map, vec_capacity, vec_len};
+ghost use Rattle.std.specs.Prelude.{◌≡◌, ◌<◌, ◌+◌, ◌++◌, ◌∷◌, ℕ, List, [], IfOk, OnOk, Option, Some, None, length, nat_eq, option_map, vec_capacity, vec_len};
 ghost use Rattle.wire_msgs.specs.declared.message.Message.{Message};
 
 use embed_core::embedded::Embedded;
@@ -34,6 +35,23 @@ pub const MOST_READS: u32 = 1_000_000;
 /// How many bytes are read at once.
 const PIECE: usize = 8192;
 
+/// Why a link is over.
+#[derive(Clone, Copy, PartialEq, Eq)]
+pub enum End {
+    /// The bytes behind the frames that were taken show this fault.
+    Faulty(WireFault),
+    /// The turn had its most reads, and its Turn didn't come.
+    LastRead,
+    /// A read failed.
+    Unread,
+    /// Nothing more comes: the other side has closed the link.
+    Closed,
+    /// The turn wasn't written.
+    Unwritten,
+    /// The turn was given back, and it was the last that a link may have.
+    LastTurn,
+}
+
 /// How far a link came.
 #[derive(Clone, Copy, PartialEq, Eq)]
 pub enum Advance {
@@ -45,8 +63,8 @@ pub enum Advance {
     Read,
     /// A call makes an activation, and needs an object of this class. Where none is offered, it is passed over.
     Wants(ClassId),
-    /// The link is over.
-    Over,
+    /// The link is over, and why.
+    Over(End),
 }
 
 /// The server.
@@ -178,6 +196,7 @@ impl Serving {
     pub fn start(&mut self, alloc: Global, inc: u32, numbers: u32) -> Result<(), AllocError>
         requires { IsNew self.old }
         ensures started { OnOk result (IsStarted self.new) }
+        ensures counts { OnOk result ((self.new.turns ≡ 0) × (self.new.reads ≡ 0)) }
         ensures first { OnOk result (IsAt (λ s. (⟦<dyn Embedded as Embedded>⟧ s.boxed.vtable).content s.boxed.value) self.new (first_turn inc numbers) [] []) }
     {
         self.servers.reserve(1)?;
@@ -249,8 +268,8 @@ impl Serving {
         requires { IsStarted self.old }
         ensures counted { IfOk result (λ told. Counts told self.old.turns self.old.reads self.new.turns self.new.reads) }
         ensures started { IsStarted self.new }
-        ensures met { (t : Turn) (fed : List ℕ) (taken : List Frame) → IsIn (λ s. (⟦<dyn Embedded as Embedded>⟧ s.boxed.vtable).content s.boxed.value) self.old t → Stands self.old.decoder fed (taken ++ frame.Message message ∷ [])
-            → IfOk result (λ told. Meets (λ s. (⟦<dyn Embedded as Embedded>⟧ s.boxed.vtable).content s.boxed.value) told self.new t fed taken) }
+        ensures met { (t : Turn) (fed : List ℕ) (taken : List Frame) (unread held : Option (List ℕ)) → IsIn (λ s. (⟦<dyn Embedded as Embedded>⟧ s.boxed.vtable).content s.boxed.value) self.old t → Stands self.old.decoder fed (taken ++ frame.Message message ∷ [])
+            → IfOk result (λ told. Advances (λ s. (⟦<dyn Embedded as Embedded>⟧ s.boxed.vtable).content s.boxed.value) told self.new t fed taken unread unread held held) }
     {
         if let Some(class) = self.wants(&message) {
             self.wanting = Some(message);
@@ -329,15 +348,19 @@ impl Serving {
         requires { IsStarted self.old }
         ensures counted { IfOk result (λ told. Counts told self.old.turns self.old.reads self.new.turns self.new.reads) }
         ensures started { IsStarted self.new }
-        ensures turned { (t : Turn) (fed : List ℕ) (taken : List Frame) → IsIn (λ s. (⟦<dyn Embedded as Embedded>⟧ s.boxed.vtable).content s.boxed.value) self.old t → Stands self.old.decoder fed (taken ++ frame.Turn ∷ [])
-            → IfOk result (λ told. Turns (λ s. (⟦<dyn Embedded as Embedded>⟧ s.boxed.vtable).content s.boxed.value) told self.new t fed taken (S.contents stream.old) (S.contents stream.new)) }
+        ensures leaves { IfOk result (λ told. Leaves told stream.old stream.new) }
+        ensures turned { (t : Turn) (fed : List ℕ) (taken : List Frame) (unread_before unread : Option (List ℕ)) → IsIn (λ s. (⟦<dyn Embedded as Embedded>⟧ s.boxed.vtable).content s.boxed.value) self.old t → Stands self.old.decoder fed (taken ++ frame.Turn ∷ [])
+            → IfOk result (λ told. Advances (λ s. (⟦<dyn Embedded as Embedded>⟧ s.boxed.vtable).content s.boxed.value) told self.new t fed taken unread_before unread (S.contents stream.old) (S.contents stream.new)) }
     {
         self.close_turn(alloc)?;
         let written = stream.write_all(&self.out);
         self.out.clear();
         self.reads = 0;
-        if written.is_err() || self.turns >= MOST_TURNS - 1 {
-            return Ok(Advance::Over);
+        if written.is_err() {
+            return Ok(Advance::Over(End::Unwritten));
+        }
+        if self.turns >= MOST_TURNS - 1 {
+            return Ok(Advance::Over(End::LastTurn));
         }
         self.turns += 1;
         Ok(Advance::Turned)
@@ -348,20 +371,21 @@ impl Serving {
         requires { IsStarted self.old }
         ensures counted { IfOk result (λ told. Counts told self.old.turns self.old.reads self.new.turns self.new.reads) }
         ensures started { IsStarted self.new }
-        ensures read { (t : Turn) (fed : List ℕ) (taken : List Frame) → IsAt (λ s. (⟦<dyn Embedded as Embedded>⟧ s.boxed.vtable).content s.boxed.value) self.old t fed taken
-            → IfOk result (λ told. Reads (λ s. (⟦<dyn Embedded as Embedded>⟧ s.boxed.vtable).content s.boxed.value) told self.new t fed taken (S.remaining stream.old) (S.remaining stream.new)) }
+        ensures leaves { IfOk result (λ told. Leaves told stream.old stream.new) }
+        ensures read { (t : Turn) (fed : List ℕ) (taken : List Frame) (held_before held : Option (List ℕ)) → IsAt (λ s. (⟦<dyn Embedded as Embedded>⟧ s.boxed.vtable).content s.boxed.value) self.old t fed taken → Reads fed taken None
+            → IfOk result (λ told. Advances (λ s. (⟦<dyn Embedded as Embedded>⟧ s.boxed.vtable).content s.boxed.value) told self.new t fed taken (S.remaining stream.old) (S.remaining stream.new) held_before held) }
     {
         if self.reads >= MOST_READS {
-            return Ok(Advance::Over);
+            return Ok(Advance::Over(End::LastRead));
         }
         self.reads += 1;
         let mut piece = [0u8; PIECE];
         let n = match stream.read(&mut piece) {
             Ok(n) => n,
-            Err(_) => return Ok(Advance::Over),
+            Err(_) => return Ok(Advance::Over(End::Unread)),
         };
         if n == 0 {
-            return Ok(Advance::Over);
+            return Ok(Advance::Over(End::Closed));
         }
         match self.decoder.feed(&piece[..n]) {
             Ok(()) => Ok(Advance::Read),
@@ -372,7 +396,11 @@ impl Serving {
         }
     }
 
-    /// Serves one frame of the link, or reads more of it. The answers of a turn are written with its Turn.
+    /// Serves one frame of the link, or reads more of it. The answers of a turn are written with its Turn. While messages are met,
+    /// nothing is read of the link or written to it.
+    ///
+    /// The link is over where a read or the write of a turn fails, where nothing more comes, at its 1,000th Turn, at the
+    /// 1,000,001st read of a turn, which isn't made, and where what came shows a fault, which stays unanswered.
     ///
     /// Refused for want of memory alone.
     pub fn advance<S: Read + Write>(
@@ -383,6 +411,7 @@ impl Serving {
         requires { IsStarted self.old }
         ensures counted { IfOk result (λ told. Counts told self.old.turns self.old.reads self.new.turns self.new.reads) }
         ensures started { IsStarted self.new }
+        ensures leaves { IfOk result (λ told. Leaves told stream.old stream.new) }
         ensures advanced { (t : Turn) (fed : List ℕ) (taken : List Frame) → IsAt (λ s. (⟦<dyn Embedded as Embedded>⟧ s.boxed.vtable).content s.boxed.value) self.old t fed taken
             → IfOk result (λ told. Advances (λ s. (⟦<dyn Embedded as Embedded>⟧ s.boxed.vtable).content s.boxed.value) told self.new t fed taken (S.remaining stream.old) (S.remaining stream.new) (S.contents stream.old) (S.contents stream.new)) }
     {
@@ -391,7 +420,7 @@ impl Serving {
             Ok(Some(Frame::Message(message))) => self.meet(alloc, message),
             Ok(Some(Frame::Turn)) => self.give_turn(alloc, stream),
             Ok(None) => self.read(stream),
-            Err(_) => Ok(Advance::Over),
+            Err(fault) => Ok(Advance::Over(End::Faulty(fault))),
         }
     }
 }

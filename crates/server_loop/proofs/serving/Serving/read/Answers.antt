@@ -3,7 +3,8 @@ use Rattle.server_loop.proofs.Served.{fed_well, err_inside}
 use Rattle.server_loop.proofs.serving.Serving.read.Goals as goal
 
 pub returns-in_default-clause-read : goal.returns-in_default-clause-read
-returns-in_default-clause-read g c = λ t fed taken h. record {
+returns-in_default-clause-read g c = λ t fed taken a b h n. record {
+  reads = n;
   piece = take c.in-Ok.n c.read.new.buf;
   consumed = c.in-Ok.ensures.bytes.0;
   next = record {
