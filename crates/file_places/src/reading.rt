@@ -53,6 +53,7 @@ pub fn read_catalog<S: Source>(alloc: Global, source: &mut S) -> Result<Catalog,
     ensures whole { IfOk result (λ c. IsHeader c.file) }
     ensures alike { IfOk result (λ c. IfSome (S.bytes source.old) (λ a. Alike a c.file)) }
     ensures refused { IfErr result (λ fault. IfSome (S.bytes source.old) (λ a. MayRefusePlaces a fault)) }
+    ensures kept { S.bytes source.new ≡ S.bytes source.old }
 {
     let len = read_len(source)?;
     let front = read_bytes(alloc, source, 0, len.min(BLOCK))?;
