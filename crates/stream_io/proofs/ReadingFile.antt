@@ -1,5 +1,5 @@
--- The tree that is read is denoted.
-use Rattle.std.proofs.Common.{◌≡◌, ℕ, true, List, [], ◌++◌, get_or, sym, ◌∙◌, ap}
+-- The tree that is read is denoted, by the layout that it was read by.
+use Rattle.std.proofs.Common.{◌≡◌, ℕ, true, List, [], ◌++◌, get_or, refl, sym, ◌∙◌, ap}
 use Rattle.cfb_chain.specs.Fat.{marked}
 use Rattle.cfb_header.specs.Header.{IsHeader}
 use Rattle.cfb_directory.specs.Entries.{entry_at, kind}
@@ -17,12 +17,12 @@ pub stands : (file : List ℕ) (l : Layout) (r : Reader) → IsReady file l r.fa
 stands file l r h = record { directory = h.bytes_are; same = h.same; same_minis = h.same_minis; marks = h.marks; mini_marks = h.mini_marks }
 
 pub denoted : (file : List ℕ) (l : Layout) (old new : Reader) (t : Tree) → IsHeader file → IsReady file l old.fat old.mini (directory_in old)
-    → get_or old.entries.used 0 true ≡ true → kind (entry_at (directory_in old) 0) ≡ 5 → IsStorageRead 32 0 t old new → Denotes file t
+    → get_or old.entries.used 0 true ≡ true → kind (entry_at (directory_in old) 0) ≡ 5 → IsStorageRead 32 0 t old new → (d : Denotes file t) × (d.layout ≡ l)
 denoted file l old new t header r marked root h =
     let s : Stands file l old (l.fat ++ l.difat ++ l.directory ++ l.mini_fat ++ l.mini_stream) [] = stands file l old r in
     let held : IsHeld file l 0 t old new (l.fat ++ l.difat ++ l.directory ++ l.mini_fat ++ l.mini_stream) [] =
     storage_held file l 32 0 t old new (l.fat ++ l.difat ++ l.directory ++ l.mini_fat ++ l.mini_stream) [] s h in
-    record {
+    let d : Denotes file t = record {
       layout = l;
       used = held.used;
       header = header;
@@ -33,4 +33,5 @@ denoted file l old new t header r marked root h =
       minis_apart = held.stands.mini_marks.once;
       ids_apart = distinct-cons 0 held.used.ids (λ c. met_new old 0 marked (held.fresh 0 c)) held.once;
       is_tree = whole_storage 32 0 t old new h;
-    }
+    } in
+    (d, refl)

@@ -19,6 +19,7 @@ ghost use Rattle.file_model.specs.Outline.{outline_of, part_of};
 ghost use Rattle.file_model.specs.Denotes.{Denotes};
 ghost use Rattle.file_faults.specs.Faults.{Base, IsStorage, key_at};
 ghost use Rattle.stream_io.specs.Marks.{IsNext};
+ghost use Rattle.stream_io.specs.Places.{IsPartTold, IsPlaced, IsTold};
 ghost use Rattle.stream_io.specs.Reads.{AreSorted, IsChildRead, IsKeyed, IsNodeRead, IsStorageRead, MayRefuseFile, MayRefuseNames, MayRefusePlace, MayRefuseStorage, MayRefuseStream, chain_fault, directory_in, met, stream_after};
 ghost use Rattle.file_outline.specs.Streams.{stream_at};
 ghost use Rattle.file_outline.specs.View.{contents, outline_view, part_view, shown, shown_part, table_for};
@@ -153,6 +154,7 @@ impl<'a, 'd> Reader<'a, 'd> {
         requires root_marked { slice_index_or self.old.entries.used 0 true ≡ true }
         ensures read { IfOk result (λ o. IsStorageRead depth id (shown (contents self.old.fat self.old.mini) o) self.old self.new) }
         ensures sized { IfOk result (λ o. outline_of (shown (contents self.old.fat self.old.mini) o) ≡ outline_view o) }
+        ensures told { IfOk result (λ o. IsTold (directory_in self.old) id o) }
         ensures there { (t : tree.Tree) (new : reader.Reader) → IsStorageRead depth id t self.old new → IfErr result (λ e. e ≡ NoMemory) }
         ensures refused { (b : Base) (pending : List ℕ) → IsNext b (suc depth) id pending self.old → IfErr result (MayRefuseStorage b) }
     {
@@ -183,6 +185,7 @@ impl<'a, 'd> Reader<'a, 'd> {
         requires root_marked { slice_index_or self.old.entries.used 0 true ≡ true }
         ensures read { IfOk result (λ c. IsChildRead depth id (key c.0) c.0 (shown_part (contents self.old.fat self.old.mini) c.1) self.old self.new) }
         ensures sized { IfOk result (λ c. part_of (shown_part (contents self.old.fat self.old.mini) c.1) ≡ part_view c.1) }
+        ensures told { IfOk result (λ c. IsPartTold (directory_in self.old) id c.1) }
         ensures there { (k name : List ℕ) (s : Seen) (new : reader.Reader) → IsChildRead depth id k name s self.old new → IfErr result (λ e. e ≡ NoMemory) }
         ensures refused { (b : Base) (pending : List ℕ) → IsNext b depth id pending self.old → IfErr result (MayRefuseStorage b) }
     {
@@ -208,6 +211,7 @@ impl<'a, 'd> Reader<'a, 'd> {
         requires root_marked { slice_index_or self.old.entries.used 0 true ≡ true }
         ensures read { IfOk result (λ part. IsNodeRead depth id (shown_part (contents self.old.fat self.old.mini) part) self.old self.new) }
         ensures sized { IfOk result (λ part. part_of (shown_part (contents self.old.fat self.old.mini) part) ≡ part_view part) }
+        ensures told { IfOk result (λ part. IsPartTold (directory_in self.old) id part) }
         ensures there { (s : Seen) (new : reader.Reader) → IsNodeRead depth id s self.old new → IfErr result (λ e. e ≡ NoMemory) }
         ensures refused { (b : Base) (pending : List ℕ) → IsNext b depth id pending self.old → IfErr result (MayRefuseStorage b) }
     {
@@ -288,6 +292,7 @@ fn walk<'a>(alloc: Global, header: &Header, file: Image<'a>) -> Result<Layout<'a
     requires whole { IsHeader (image_bytes file) }
     ensures denotes { IfOk result (λ l. Denotes (image_bytes file.entry) (shown (contents l.fat l.mini) l.root)) }
     ensures sized { IfOk result (λ l. outline_of (shown (contents l.fat l.mini) l.root) ≡ outline_view l.root) }
+    ensures placed { IfOk result (λ l. IsPlaced (image_bytes file.entry) (shown (contents l.fat l.mini) l.root) l.root) }
     ensures reads { (t : tree.Tree) → Denotes (image_bytes file.entry) t → IfErr result (λ e. e ≡ NoMemory) }
     ensures refused { IfErr result (MayRefuseFile (image_bytes file.entry)) }
 {
@@ -312,6 +317,7 @@ fn walk<'a>(alloc: Global, header: &Header, file: Image<'a>) -> Result<Layout<'a
 fn lay_out<'a>(alloc: Global, file: &'a [u8]) -> Result<Layout<'a>, ReadFault>
     ensures denotes { IfOk result (λ l. ∥ Denotes file.now (shown (contents l.fat l.mini) l.root) ∥₁) }
     ensures sized { IfOk result (λ l. outline_of (shown (contents l.fat l.mini) l.root) ≡ outline_view l.root) }
+    ensures placed { IfOk result (λ l. ∥ IsPlaced file.now (shown (contents l.fat l.mini) l.root) l.root ∥₁) }
     ensures header { (e : ChainFault) → header_read file.now ≡ Err e → result ≡ Err (chain_fault e) }
     ensures reads { (t : tree.Tree) → Denotes file.now t → IfErr result (λ e. e ≡ NoMemory) }
     ensures refused { IfErr result (MayRefuseFile file.now) }
@@ -337,12 +343,13 @@ pub fn read_file(alloc: Global, file: &[u8]) -> Result<Tree, ReadFault>
     Ok(Tree::from_root(alloc, root))
 }
 
-/// The outline of a compound file: its storages and streams, and how many bytes each stream has. Each chain of sectors is
-/// walked as for `read_file`, and no stream is read.
+/// The outline of a compound file: its storages and streams, where each stream lies, and how many bytes it has. Each chain of
+/// sectors is walked as for `read_file`, and no stream is read.
 ///
 /// Refused: as `read_file`.
 pub fn read_outline(alloc: Global, file: &[u8]) -> Result<Outline, ReadFault>
     ensures outlined { IfOk result (λ o. (t : tree.Tree) × ∥ Denotes file.now t ∥₁ × (outline_view o ≡ outline_of t)) }
+    ensures placed { IfOk result (λ o. (t : tree.Tree) × ∥ IsPlaced file.now t o ∥₁) }
     ensures header { (e : ChainFault) → header_read file.now ≡ Err e → result ≡ Err (chain_fault e) }
     ensures reads { (t : tree.Tree) → Denotes file.now t → IfErr result (λ e. e ≡ NoMemory) }
     ensures refused { IfErr result (MayRefuseFile file.now) }
@@ -358,6 +365,7 @@ pub fn read_placed(alloc: Global, header: &Header, file: &Places) -> Result<Outl
     requires read { header_read file.now ≡ Ok header.now }
     requires whole { IsHeader file.now }
     ensures outlined { IfOk result (λ o. (t : tree.Tree) × Denotes file.now t × (outline_view o ≡ outline_of t)) }
+    ensures placed { IfOk result (λ o. (t : tree.Tree) × IsPlaced file.now t o) }
     ensures reads { (t : tree.Tree) → Denotes file.now t → IfErr result (λ e. e ≡ NoMemory) }
     ensures refused { IfErr result (MayRefuseFile file.now) }
 {

@@ -8,8 +8,9 @@ use Rattle.cfb_chain.specs.View.{image_bytes}
 use Rattle.cfb_directory.specs.Entries.{EntriesValue}
 use Rattle.storage_tree.specs.Tree.{Tree}
 use Rattle.file_model.specs.Outline.{outline_of}
-use Rattle.file_model.specs.Denotes.{Denotes, Layout}
+use Rattle.file_model.specs.Denotes.{Denotes, Layout, directory_of}
 use Rattle.stream_io.specs.Reads.{IsStorageRead, MayRefuseFile, base_of, chain_fault, directory_fault}
+use Rattle.stream_io.specs.Places.{IsPlaced, IsTold}
 use Rattle.stream_io.specs.declared.read.Reader.{Reader}
 use Rattle.file_faults.proofs.Chains.{directory_refused, mini_refused, table_refused}
 use Rattle.file_faults.proofs.Opened.{IsOpened, IsReady, opened_at, read_header, ready}
@@ -132,7 +133,7 @@ returns-clause-denotes c =
     let kept : contents c.storage_outline.new.self.fat c.storage_outline.new.self.mini ≡ before =
     (kept_storage 32 0 t start c.storage_outline.new.self c.in_ok-outline.ensures.read).content in
     subst (λ (f : Place → List ℕ). Denotes file (shown f c.in_ok-outline.outline)) (sym kept)
-    (denoted file l start c.storage_outline.new.self t is_header r marked c.in_ok-root.ensures.read.allowed c.in_ok-outline.ensures.read)
+    (denoted file l start c.storage_outline.new.self t is_header r marked c.in_ok-root.ensures.read.allowed c.in_ok-outline.ensures.read).0
 
 pub returns-clause-sized : goal.returns-clause-sized
 returns-clause-sized c =
@@ -142,6 +143,40 @@ returns-clause-sized c =
     let kept : contents c.storage_outline.new.self.fat c.storage_outline.new.self.mini ≡ before =
     (kept_storage 32 0 t start c.storage_outline.new.self c.in_ok-outline.ensures.read).content in
     subst (λ (f : Place → List ℕ). outline_of (shown f c.in_ok-outline.outline) ≡ outline_view c.in_ok-outline.outline) (sym kept) c.in_ok-outline.ensures.sized
+
+pub returns-clause-placed : goal.returns-clause-placed
+returns-clause-placed c =
+    let file : List ℕ = image_bytes c.args.file in
+    let h : HeaderValue = c.args.header.now in
+    let e : EntriesValue = c.in_ok-entries.entries in
+    let is_header : IsHeader file = c.requires.whole in
+    let is : h ≡ header_of file = read_header file h is_header (sym c.requires.read) in
+    let o : IsOpened file c.chain.new.self c.in_ok-chain.chain.items e.directory =
+    opened_at file h c.in_ok-fat.fat c.chain.new.self c.first_directory.result c.in_ok-chain.chain.items c.deref.result.now (directory_bytes c.in_ok-directory.directory)
+    e.directory is c.in_ok-fat.ensures.table c.first_directory.ensures c.in_ok-chain.ensures.linked c.in_ok-chain.ensures.free c.in_ok-chain.ensures.marks
+    c.deref.ensures.value c.in_ok-directory.ensures.bytes (ap (λ (x : EntriesValue). x.directory) c.in_ok-entries.ensures.loaded ∙ c.bytes.ensures) in
+    let mini_fat : List ℕ = c.in_ok-mini.ensures.found.0 in
+    let mini_stream : List ℕ = c.in_ok-mini.ensures.found.1 in
+    let l : Layout = record { fat = listed file; difat = difat file; directory = c.in_ok-chain.chain.items; mini_fat = mini_fat; mini_stream = mini_stream } in
+    let r : IsReady file l c.mini.new.self c.in_ok-mini.mini e.directory =
+    ready file h c.chain.new.self c.mini.new.self c.in_ok-mini.mini c.in_ok-chain.chain.items e.directory c.in_ok-root.root.first c.in_ok-root.root.size
+    mini_fat mini_stream is o c.in_ok-root.ensures.read.first c.in_ok-root.ensures.read.size
+    c.in_ok-mini.ensures.found.2 c.in_ok-mini.ensures.found.3 c.in_ok-mini.ensures.found.4 in
+    let start : Reader = record { fat = c.mini.new.self; mini = c.in_ok-mini.mini; entries = e } in
+    let marked : get_or e.used 0 true ≡ true = root_marked e (length c.bytes.result.now / 128) (ap (λ (x : EntriesValue). x.used) c.in_ok-entries.ensures.loaded) in
+    let before : Place → List ℕ = contents c.mini.new.self c.in_ok-mini.mini in
+    let t : Tree = shown before c.in_ok-outline.outline in
+    let kept : contents c.storage_outline.new.self.fat c.storage_outline.new.self.mini ≡ before =
+    (kept_storage 32 0 t start c.storage_outline.new.self c.in_ok-outline.ensures.read).content in
+    let denotes : (d : Denotes file t) × (d.layout ≡ l) =
+    denoted file l start c.storage_outline.new.self t is_header r marked c.in_ok-root.ensures.read.allowed c.in_ok-outline.ensures.read in
+    let directory : e.directory ≡ directory_of file denotes.0.layout = r.bytes_are ∙ ap (directory_of file) (sym denotes.1) in
+    let placed : IsPlaced file t c.in_ok-outline.outline = record {
+      outlined = sym c.in_ok-outline.ensures.sized;
+      denotes = denotes.0;
+      told = subst (λ (x : List ℕ). IsTold x 0 c.in_ok-outline.outline) directory c.in_ok-outline.ensures.told;
+    } in
+    subst (λ (f : Place → List ℕ). IsPlaced file (shown f c.in_ok-outline.outline) c.in_ok-outline.outline) (sym kept) placed
 
 pub returns-in_err-fat-clause-refused : goal.returns-in_err-fat-clause-refused
 returns-in_err-fat-clause-refused c =

@@ -1,20 +1,22 @@
-use Rattle.std.proofs.Common.{◌≡◌, ◌+◌, ◌-◌, ◌++◌, List, ℕ, suc, ap, drop, get_or, sym, ◌∙◌, subst, rules, arith}
+use Rattle.std.proofs.Common.{◌≡◌, ◌+◌, ◌-◌, ◌++◌, List, [], ℕ, suc, ap, drop, get_or, sym, ◌∙◌, subst, rules, arith}
 use Rattle.std.specs.Result.{IsErrAnd}
 use Rattle.cfb_chain.proofs.Results.{refused_with}
-use Rattle.cfb_directory.specs.Entries.{entry_at, kind, kind_number}
+use Rattle.cfb_directory.specs.Entries.{IsNamed, entry_at, kind, kind_number}
 use Rattle.cfb_names.specs.Names.{key}
-use Rattle.file_model.specs.Outline.{outline, outline_of, part_of}
-use Rattle.storage_tree.specs.Change.{child}
+use Rattle.file_model.specs.Outline.{nested, outline, outline_of, part_of}
+use Rattle.storage_tree.specs.Change.{Seen, child}
 use Rattle.storage_tree.specs.Tree.{Tree, Children, none, tree}
 use Rattle.stream_io.specs.Marks.{IsNext}
-use Rattle.stream_io.specs.Reads.{IsChildRead, IsStorageRead, MayRefuseStorage, directory_fault, directory_in}
+use Rattle.stream_io.specs.Reads.{IsChildRead, IsNodeRead, IsStorageRead, MayRefuseStorage, directory_fault, directory_in}
 use Rattle.file_outline.specs.View.{contents, part_view, shown_part, shown_parts}
 use Rattle.file_outline.specs.declared.outline.Place.{Place}
+use Rattle.stream_io.specs.Places.{AreTold, IsPartTold, holds, lies, storage}
 use Rattle.stream_io.specs.declared.read.Reader.{Reader}
 use Rattle.file_outline.proofs.Followed.{followed}
+use Rattle.stream_io.proofs.ReadingPlaces.{in_order, told_all, told_next, told_none, view_nested}
 use Rattle.stream_io.proofs.ReadingChildren.{IsFirstRead, Progress}
 use Rattle.file_faults.proofs.EntryKinds.{storage_kind}
-use Rattle.file_outline.proofs.Outlines.{AreSized, shown-push, shown-roll, sized-all, sized-push, view-roll}
+use Rattle.file_outline.proofs.Outlines.{AreSized, shown-nested, shown-push, shown-roll, sized-all, sized-push, view-roll}
 use Rattle.stream_io.proofs.ReadingRefused.{entry_below, never_ok, same_memory, stream_below}
 use Rattle.stream_io.proofs.ReadingSteps.{AreOpen, all_read, entry_not_refused, inner_read, next_at, next_below, next_root, next_there, opened, positive, put, step}
 use Rattle.stream_io.proofs.read.Reader.+storages.Goals as goal
@@ -49,6 +51,7 @@ part_outline-returns-in_err-inner-in_default t c =
     record {
       read = never_ok _ (λ x. x ≡ c.in_err-inner-in_default.field-0.0) c.from_residual-in_err-inner-in_default.result again;
       sized = never_ok _ (λ x. x ≡ c.in_err-inner-in_default.field-0.0) c.from_residual-in_err-inner-in_default.result again;
+      told = never_ok _ (λ x. x ≡ c.in_err-inner-in_default.field-0.0) c.from_residual-in_err-inner-in_default.result again;
       there = λ s new h.
           let r : (u : Tree) × IsStorageRead (c.args.depth - 1) c.args.id u c.args.self.now new = inner_read c.args.depth c.args.id s c.args.self.now new h kind_is in
           same_memory c.from_residual-in_err-inner-in_default.result c.in_err-inner-in_default.field-0.0 again (c.in_err-inner-in_default.ensures.there r.0 new r.1);
@@ -124,9 +127,15 @@ storage_outline-loop-child-preserved t c =
     let is_put = put c.args.depth c.args.id items c.args.self.now mid o i r cs c.loop-child.invariant.0 next (key p.0) p.0 (shown_part content p.1) c.loop-child-test.true is_read in
     let further : Progress c.args.depth items mid (i + 1) next (followed cs (child (key p.0) (p.0, shown_part content p.1) none)) =
     step c.args.depth c.args.id items c.args.self.now mid o i r cs c.loop-child.invariant.0 next (followed cs (child (key p.0) (p.0, shown_part content p.1) none)) c.loop-child-test.true is_put in
+    let directory : directory_in r ≡ directory_in mid = c.loop-child.invariant.0.kept.directory in
+    let named : IsNamed (entry_at (directory_in mid) (get_or items i 0)) p.0 =
+    subst (λ (x : List ℕ). IsNamed (entry_at x (get_or items i 0)) p.0) directory c.in_ok-part.ensures.read.named.named in
+    let told : IsPartTold (directory_in mid) (get_or items i 0) p.1 =
+    subst (λ (x : List ℕ). IsPartTold x (get_or items i 0) p.1) directory c.in_ok-part.ensures.told in
     rw c.in_ok-push.ensures.items (
       subst (λ (x : Children). Progress c.args.depth items mid (i + 1) next x) (sym (shown-push content ps p)) further,
       sized-push content ps p c.loop-child.invariant.1 is_sized,
+      told_next (directory_in mid) items ps i p.0 p.1 c.loop-child-test.true c.loop-child.invariant.2 named told,
     )
 
 pub storage_outline-returns-clause-read : goal.storage_outline-returns-clause-read
@@ -162,3 +171,44 @@ storage_outline-returns-clause-sized t c =
     let before : Place → List ℕ = contents c.args.self.now.fat c.args.self.now.mini in
     let each : AreSized before ps = subst (λ (f : Place → List ℕ). AreSized f ps) (content_mid c.args.id items c.args.self.now mid o) c.loop-child.invariant.1 in
     ap outline_of (shown-roll before class state c.loop-child.parts) ∙ ap (outline class state) (sized-all before ps each) ∙ sym (view-roll class state c.loop-child.parts)
+
+pub storage_outline-returns-clause-told : goal.storage_outline-returns-clause-told
+storage_outline-returns-clause-told t c =
+    let items : List ℕ = c.deref-child-items.result.now in
+    let old : Reader = c.args.self.now in
+    let mid : Reader = c.sorted_children.new.self in
+    let o : AreOpen c.args.id items old mid =
+    opened c.args.id c.in_ok-ids.ids.items items old mid c.deref-child-items.ensures.value c.in_ok-ids.ensures.sorted.0 c.in_ok-ids.ensures.sorted.1 in
+    let directory : directory_in mid ≡ directory_in old = ap (λ (r : Reader). directory_in r) o.mid_is in
+    let each : AreTold (directory_in mid) items c.loop-child.parts.items =
+    told_all (directory_in mid) items c.loop-child.parts.items c.loop-child.child-index c.loop-child-test.false c.loop-child.invariant.2 in
+    storage c.args.id _ items (in_order c.args.id items old o.sorted) (subst (λ (x : List ℕ). AreTold x items c.loop-child.parts.items) directory each)
+
+pub storage_outline-loop-child-init : goal.storage_outline-loop-child-init
+storage_outline-loop-child-init t c =
+    let parts = c.in_ok-parts.parts.items in
+    let empty : parts ≡ [] = search rules in (
+      search rules,
+      search rules,
+      told_none (directory_in c.sorted_children.new.self) parts empty,
+    )
+
+pub part_outline-returns-in_ok-mark_stream-in-Stream-clause-told : goal.part_outline-returns-in_ok-mark_stream-in-Stream-clause-told
+part_outline-returns-in_ok-mark_stream-in-Stream-clause-told t c =
+    lies c.args.id _ (sym c.requires.entry.kind_held ∙ ap kind_number c.in-Stream.is) c.requires.entry.first c.requires.entry.size
+
+pub part_outline-returns-in_ok-inner-in_default : goal.part_outline-returns-in_ok-inner-in_default
+part_outline-returns-in_ok-inner-in_default t c =
+    let kind_is : kind (entry_at (directory_in c.args.self.now) c.args.id) ≡ 1 =
+    storage_kind c.args.id (kind (entry_at (directory_in c.args.self.now) c.args.id)) c.args.entry.now.kind c.requires.below_root c.requires.entry.allowed
+    c.requires.entry.kind_held c.in_default.not-Stream in
+    let content : Place → List ℕ = contents c.args.self.now.fat c.args.self.now.mini in
+    let o = c.in_ok-inner-in_default.inner in
+    record {
+      read = subst (λ (s : Seen). IsNodeRead c.args.depth c.args.id s c.args.self.now c.storage_outline.new.self) (sym (shown-nested content o))
+          (kind_is, positive c.args.depth c.if-depth-eq0.false, c.in_ok-inner-in_default.ensures.read);
+      sized = ap part_of (shown-nested content o) ∙ ap nested c.in_ok-inner-in_default.ensures.sized ∙ sym (view_nested o);
+      told = holds c.args.id o kind_is c.in_ok-inner-in_default.ensures.told;
+      there = λ s new h. tt;
+      refused = λ b pending at. tt;
+    }

@@ -1,7 +1,9 @@
-use Rattle.std.proofs.Common.{◌+◌, ◌*◌}
+use Rattle.std.proofs.Common.{◌+◌, ◌*◌, take}
 use Rattle.file_outline.specs.View.{contents, shown_parts}
 use Rattle.stream_io.proofs.ReadingChildren.{Progress}
 use Rattle.file_outline.proofs.Outlines.{AreSized}
+use Rattle.stream_io.specs.Places.{AreTold}
+use Rattle.stream_io.specs.Reads.{directory_in}
 use Rattle.stream_io.proofs.read.Reader.+storages.Given as goal
 
 abbrev pub decreases-storage_outline : goal.decreases-storage_outline
@@ -17,3 +19,4 @@ abbrev pub invariant-storage_outline-loop-child : goal.invariant-storage_outline
 invariant-storage_outline-loop-child l =
     Progress l.depth l.child-items l.initial.self l.child-index l.self (shown_parts (contents l.initial.self.fat l.initial.self.mini) l.parts.items)
     × AreSized (contents l.initial.self.fat l.initial.self.mini) l.parts.items
+    × AreTold (directory_in l.initial.self) (take l.child-index l.child-items) l.parts.items
