@@ -2,7 +2,6 @@
 
 ghost use Rattle.file_commands.specs.Run.{IsOfWriting, MayRefuseList};
 ghost use Rattle.file_listings.specs.Lists.{ListsAs};
-ghost use Rattle.file_outline.specs.View.{outline_view};
 ghost use Rattle.std.specs.Io.KnownBytes.{Appends};
 ghost use Rattle.std.specs.Prelude.{◌≡◌, ◌≢◌, IfErr, IfSome, OnOk};
 
@@ -72,7 +71,7 @@ fn write_form<F: Form, W: Write>(
     outline: &Outline,
     writer: &mut W,
 ) -> Result<(), ListFault>
-    ensures written { OnOk result (Appends (W.contents writer.old) (W.contents writer.new) (F.told (outline_view outline.now))) }
+    ensures written { OnOk result (Appends (W.contents writer.old) (W.contents writer.new) (F.told outline.now)) }
     ensures refused { IfErr result IsOfWriting }
     ensures unwritten { IfErr result (λ fault. fault ≢ ListFault.Unwritable → writer.new ≡ writer.old) }
 {

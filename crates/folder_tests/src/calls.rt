@@ -48,7 +48,7 @@ fn is_named(number: u32, want: &[u8]) -> bool {
 const LINES: &[u8] = b"root 00000000-0000-0000-0000-000000000000\nstream A 3\n";
 
 const JSON: &[u8] =
-    b"[{\"type\":\"root\",\"path\":\"\",\"class\":\"00000000-0000-0000-0000-000000000000\",\"state\":0},{\"type\":\"stream\",\"path\":\"A\",\"size\":3}]\n";
+    b"[{\"type\":\"root\",\"path\":\"\",\"class\":\"00000000-0000-0000-0000-000000000000\",\"state\":0},{\"type\":\"stream\",\"path\":\"A\",\"size\":3,\"first\":0}]\n";
 
 const LONG: &[u8] = b"kind         size  path\nroot               /\nstream          3  A\n";
 

@@ -3,12 +3,14 @@ use Rattle.std.specs.Prelude.{◌≡◌, ◌⊎◌, ℕ, List, Some, None, Ok, E
 use Rattle.cfb_names.specs.declared.fault.DirFault.{DirFault}
 use Rattle.storage_tree.specs.Tree.{Tree}
 use Rattle.file_model.specs.Denotes.{Denotes}
-use Rattle.file_model.specs.Outline.{Outline, outline_of}
+use Rattle.file_outline.specs.declared.outline.Outline.{Outline}
 use Rattle.file_outline.specs.Streams.{stream_at}
 use Rattle.file_writer.specs.Laid.{IsLaidOut}
+use Rattle.stream_io.specs.Places.{IsPlaced}
 use Rattle.texts.specs.Paths.{path_read}
 use Rattle.file_commands.specs.Cleaning.{MayRefuseClean}
 use Rattle.file_commands.specs.Getting.{MayRefuseGet}
+use Rattle.file_commands.specs.Listing.{listing}
 use Rattle.file_commands.specs.Run.{IsMade, MayRefuseList, MayRefuseMake}
 use Rattle.file_commands.specs.declared.fault.CleanFault.{CleanFault}
 use Rattle.file_commands.specs.declared.fault.GetFault.{GetFault}
@@ -16,9 +18,14 @@ use Rattle.file_commands.specs.declared.fault.ListFault.{ListFault}
 use Rattle.file_commands.specs.declared.fault.MakeFault.{MakeFault}
 use Rattle.library_calls.specs.Numbers.{clean_number, directory_number, get_number, list_number, make_number}
 
--- the listing, in the form that `told` is, of the tree that the file denotes
+-- the listing, in the form that `told` is, of an outline of the tree that the file denotes, which tells of each stream where its
+-- entry says that it lies
 abbrev pub IsListedAs : (Outline → List ℕ) → List ℕ → List ℕ → Type 0
-IsListedAs told file bytes = (t : Tree) × ∥ Denotes file t ∥₁ × (bytes ≡ told (outline_of t))
+IsListedAs told file bytes = (t : Tree) × (o : Outline) × ∥ IsPlaced file t o ∥₁ × (bytes ≡ told o)
+
+-- the lines of the tree that the file denotes
+abbrev pub IsListed : List ℕ → List ℕ → Type 0
+IsListed file bytes = (t : Tree) × ∥ Denotes file t ∥₁ × (bytes ≡ listing t)
 
 abbrev pub IsRefusedList : List ℕ → ℕ → Type 0
 IsRefusedList file number = (fault : ListFault) × (number ≡ list_number fault) × MayRefuseList file fault

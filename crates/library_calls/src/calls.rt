@@ -3,8 +3,7 @@
 
 ghost use Rattle.library_calls.specs.Answers.{Answers, IsPut};
 ghost use Rattle.library_calls.specs.Numbers.{number_name};
-ghost use Rattle.library_calls.specs.Calls.{IsCleanOf, IsGot, IsGotBy, IsListedAs, IsMadeOf, IsRefusedClean, IsRefusedBy, IsRefusedGet, IsRefusedList, IsRefusedMake};
-ghost use Rattle.file_commands.specs.Listing.{listed};
+ghost use Rattle.library_calls.specs.Calls.{IsCleanOf, IsGot, IsGotBy, IsListed, IsListedAs, IsMadeOf, IsRefusedClean, IsRefusedBy, IsRefusedGet, IsRefusedList, IsRefusedMake};
 ghost use Rattle.std.specs.Prelude.{◌≡◌, length};
 
 use crate::numbers::{
@@ -41,7 +40,7 @@ pub fn list<F: Form>(alloc: Global, file: &[u8], out: &mut [u8], needed: &mut us
 ///
 /// Refused: as `list_source`.
 pub fn lines(alloc: Global, file: &[u8], out: &mut [u8], needed: &mut usize) -> u32
-    ensures { Answers (IsListedAs listed file.now) (IsRefusedList file.now) result out.old out.new needed.new }
+    ensures { Answers (IsListed file.now) (IsRefusedList file.now) result out.old out.new needed.new }
 {
     *needed = 0;
     let mut source = file;

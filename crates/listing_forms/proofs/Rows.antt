@@ -1,16 +1,23 @@
 -- Rows that are written one after another.
-use Rattle.std.proofs.Common.{◌≡◌, ◌≤◌, ◌<◌, ◌+◌, ◌-◌, ◌++◌, ◌∷◌, [], ◌∙◌, ℕ, List, length, get_or, drop, take, replicate, refl, sym, ap, subst, append_assoc, arith}
+use Rattle.std.proofs.Common.{◌≡◌, ◌<◌, ◌+◌, ◌-◌, ◌++◌, ◌∷◌, [], ◌∙◌, ℕ, List, length, get_or, drop, replicate, refl, sym, ap}
 use Rattle.std.proofs.lemmas.List.{drop_more}
 use Rattle.std.specs.Prelude.{codes}
 use Rattle.std.specs.Fmt.{decimal}
 use Rattle.file_model.specs.Outline as model
 use Rattle.file_model.specs.Outline.{Outline, Parts, nested, outline, part, sized}
-use Rattle.text_model.specs.Spelled.{class_text}
-use Rattle.file_outline.specs.View.{outline_view, part_view, parts_view}
+use Rattle.file_outline.specs.View.{outline_step, outline_view, part_step, part_view, parts_view}
+use Rattle.file_outline.specs.declared.outline.Outline as raw
+use Rattle.file_outline.specs.declared.outline.Outline.{fold_out-Outline}
 use Rattle.file_outline.specs.declared.outline.Part.{Part}
-use Rattle.listing_forms.specs.Classes.{class_name}
-use Rattle.listing_forms.specs.Long.{below_rows, child_rows, each_row, heading, long_listed, note_text, right_text, storage_row, storage_rows}
-use Rattle.listing_forms.proofs.Told.{behind, class_of}
+use Rattle.listing_forms.specs.Long.{below_rows, child_rows, each_row, heading, long_listed, right_text, storage_row, storage_rows}
+use Rattle.listing_forms.proofs.Told.{behind}
+
+-- the class of what an outline tells
+abbrev class_of : Outline → List ℕ
+class_of (outline class state ps) = class
+
+pub class_out : (o : raw.Outline) → o.class ≡ class_of (outline_view o)
+class_out o = ap class_of (sym (fold_out-Outline model.Part model.Outline part_step outline_step o))
 
 -- five pieces, one after another
 pub five : {A : Type 0} (t u v w x y a b c d e : List A) → u ≡ t ++ a → v ≡ u ++ b → w ≡ v ++ c → x ≡ w ++ d → y ≡ x ++ e → y ≡ t ++ (a ++ (b ++ (c ++ (d ++ e))))

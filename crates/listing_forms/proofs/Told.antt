@@ -2,9 +2,8 @@
 use Rattle.std.proofs.Common.{◌≡◌, ◌<◌, ◌+◌, ◌++◌, ◌∷◌, [], ◌∙◌, ℕ, List, Result, Ok, Err, OnOk, length, get_or, drop, refl, sym, ap, append_assoc}
 use Rattle.std.proofs.lemmas.List.{drop_more}
 use Rattle.json.specs.Token.{Token, begin_array, end_array}
-use Rattle.file_model.specs.Outline as model
-use Rattle.file_model.specs.Outline.{Outline, Parts, nested, outline, part, sized}
-use Rattle.file_outline.specs.View.{outline_step, outline_view, part_step, part_view, parts_view}
+use Rattle.listing_forms.specs.Placed as model
+use Rattle.listing_forms.specs.Placed.{Parts, Placed, lies, nested, part, part_placed, part_step, parts_placed, placed, placed_step, placed_view}
 use Rattle.file_outline.specs.declared.outline.Outline as raw
 use Rattle.file_outline.specs.declared.outline.Outline.{fold_out-Outline}
 use Rattle.file_outline.specs.declared.outline.Part.{Part}
@@ -32,45 +31,45 @@ done (Ok y) x P is h = h
 done (Err e) x P is h = absurd (refused is)
 
 each-part : (within name : List ℕ) (q : model.Part) (ps : Parts) → each_tokens within (part name q ps) ≡ child_tokens within name q ++ each_tokens within ps
-each-part within name (sized size) ps = refl
+each-part within name (lies place) ps = refl
 each-part within name (nested o) ps = refl
 
 -- one more child
 pub child_told : (within : List ℕ) (before after whole : List Token) (items parts : List (List ℕ × Part)) (k : ℕ) (p : List ℕ × Part) → items ≡ parts → k < length items → get_or items k p ≡ p
-    → after ≡ before ++ child_tokens within p.0 (part_view p.1) → before ++ each_tokens within (parts_view (drop k parts)) ≡ whole → after ++ each_tokens within (parts_view (drop (k + 1) parts)) ≡ whole
+    → after ≡ before ++ child_tokens within p.0 (part_placed p.1) → before ++ each_tokens within (parts_placed (drop k parts)) ≡ whole → after ++ each_tokens within (parts_placed (drop (k + 1) parts)) ≡ whole
 child_told within before after whole items parts k p same some here written so =
     let cut : drop k items ≡ p ∷ drop (k + 1) items = drop_more items k p some ∙ ap (λ x. x ∷ drop (k + 1) items) here in
-    behind before after (child_tokens within p.0 (part_view p.1)) (each_tokens within (parts_view (drop (k + 1) parts))) written
-    ∙ ap (λ x. before ++ x) (sym (each-part within p.0 (part_view p.1) (parts_view (drop (k + 1) parts))))
-    ∙ ap (λ xs. before ++ each_tokens within (parts_view (p ∷ drop (k + 1) xs))) (sym same)
-    ∙ ap (λ xs. before ++ each_tokens within (parts_view xs)) (sym cut)
-    ∙ ap (λ xs. before ++ each_tokens within (parts_view (drop k xs))) same ∙ so
+    behind before after (child_tokens within p.0 (part_placed p.1)) (each_tokens within (parts_placed (drop (k + 1) parts))) written
+    ∙ ap (λ x. before ++ x) (sym (each-part within p.0 (part_placed p.1) (parts_placed (drop (k + 1) parts))))
+    ∙ ap (λ xs. before ++ each_tokens within (parts_placed (p ∷ drop (k + 1) xs))) (sym same)
+    ∙ ap (λ xs. before ++ each_tokens within (parts_placed xs)) (sym cut)
+    ∙ ap (λ xs. before ++ each_tokens within (parts_placed (drop k xs))) same ∙ so
 
-abbrev pub class_of : Outline → List ℕ
-class_of (outline class state ps) = class
+abbrev class_of : Placed → List ℕ
+class_of (placed class state ps) = class
 
-abbrev state_of : Outline → ℕ
-state_of (outline class state ps) = state
+abbrev state_of : Placed → ℕ
+state_of (placed class state ps) = state
 
 -- the class and the state of what an outline tells
-pub class_out : (o : raw.Outline) → o.class ≡ class_of (outline_view o)
-class_out o = ap class_of (sym (fold_out-Outline model.Part model.Outline part_step outline_step o))
+pub class_out : (o : raw.Outline) → o.class ≡ class_of (placed_view o)
+class_out o = ap class_of (sym (fold_out-Outline model.Part model.Placed part_step placed_step o))
 
-pub state_out : (o : raw.Outline) → o.state ≡ state_of (outline_view o)
-state_out o = ap state_of (sym (fold_out-Outline model.Part model.Outline part_step outline_step o))
+pub state_out : (o : raw.Outline) → o.state ≡ state_of (placed_view o)
+state_out o = ap state_of (sym (fold_out-Outline model.Part model.Placed part_step placed_step o))
 
 -- what is told of a storage, and of what stands below it
-pub inner_told : (o : Outline) (t mid after : List Token) (path word slashed named : List ℕ) (state : ℕ) → named ≡ class_of o → state ≡ state_of o
+pub inner_told : (o : Placed) (t mid after : List Token) (path word slashed named : List ℕ) (state : ℕ) → named ≡ class_of o → state ≡ state_of o
     → mid ≡ t ++ storage_tokens (codes "storage") word named state → word ≡ path → slashed ≡ path ++ 47 ∷ [] → after ≡ mid ++ below_tokens slashed o → after ≡ t ++ inner_tokens path o
-inner_told (outline class state ps) t mid after path word slashed named s is held told same slash written =
+inner_told (placed class state ps) t mid after path word slashed named s is held told same slash written =
     written ∙ behind t mid (storage_tokens (codes "storage") path class state) (each_tokens slashed ps)
     (told ∙ ap (λ x. t ++ storage_tokens (codes "storage") x named s) same ∙ ap (λ x. t ++ storage_tokens (codes "storage") path x s) is ∙ ap (λ x. t ++ storage_tokens (codes "storage") path class x) held)
     ∙ ap (λ x. t ++ (storage_tokens (codes "storage") path class state ++ each_tokens x ps)) slash
 
 -- the whole array
-pub array_told : (o : Outline) (t u v w z : List Token) (class : List ℕ) (state : ℕ) → class ≡ class_of o → state ≡ state_of o
+pub array_told : (o : Placed) (t u v w z : List Token) (class : List ℕ) (state : ℕ) → class ≡ class_of o → state ≡ state_of o
     → u ≡ t ++ begin_array ∷ [] → v ≡ u ++ storage_tokens (codes "root") [] class state → w ≡ v ++ below_tokens [] o → z ≡ w ++ end_array ∷ [] → z ≡ t ++ json_tokens o
-array_told (outline class state ps) t u v w z named s is held a b c d =
+array_told (placed class state ps) t u v w z named s is held a b c d =
     four t u v w z (begin_array ∷ []) (storage_tokens (codes "root") [] class state) (each_tokens [] ps) (end_array ∷ [])
     a (b ∙ ap (λ x. u ++ storage_tokens (codes "root") [] x s) is ∙ ap (λ x. u ++ storage_tokens (codes "root") [] class x) held) c d
 

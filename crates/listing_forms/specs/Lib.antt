@@ -1,3 +1,4 @@
+pub mod Placed
 pub mod Json
 pub mod Classes
 pub mod Streams

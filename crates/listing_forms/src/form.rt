@@ -1,7 +1,6 @@
 //! Forms of a listing.
 
-ghost use Rattle.file_model.specs.Outline.{Outline};
-ghost use Rattle.file_outline.specs.View.{outline_view};
+ghost use Rattle.file_outline.specs.declared.outline.Outline.{Outline};
 ghost use Rattle.std.specs.Prelude.{◌≡◌, IfOk, List, ℕ};
 
 use file_outline::outline::Outline;
@@ -14,5 +13,5 @@ pub trait Form {
 
     /// The listing of an outline.
     fn text(alloc: Global, outline: &Outline) -> Result<Vec<u8>, AllocError>
-        ensures { IfOk result (λ text. text.items ≡ told (outline_view outline.now)) };
+        ensures { IfOk result (λ text. text.items ≡ told outline.now) };
 }

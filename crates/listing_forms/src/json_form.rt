@@ -1,7 +1,7 @@
 //! Listings as JSON (RFC 8259).
 
-ghost use Rattle.listing_forms.specs.Json.{below_tokens, child_tokens, inner_tokens, json_tokens, number_member, storage_tokens, stream_tokens, text_member};
-ghost use Rattle.file_outline.specs.View.{outline_view, part_view};
+ghost use Rattle.listing_forms.specs.Json.{below_tokens, child_tokens, first_member, inner_tokens, json_tokens, number_member, storage_tokens, stream_tokens, text_member};
+ghost use Rattle.listing_forms.specs.Placed.{part_placed, placed_view};
 ghost use Rattle.std.specs.Fmt.{decimal};
 ghost use Rattle.std.specs.Prelude.{◌≡◌, ◌++◌, codes, OnOk, string_bytes};
 ghost use Rattle.text_model.specs.Spelled.{class_text};
@@ -9,7 +9,7 @@ ghost use Rattle.text_model.specs.Spelled.{class_text};
 use crate::form::Form;
 use crate::paths::path_text;
 use cfb_names::name::Name;
-use file_outline::outline::{Outline, Part};
+use file_outline::outline::{Outline, Part, Place};
 use json::Writer;
 use std::alloc::{AllocError, Global};
 use storage_tree::class_id::ClassId;
@@ -20,8 +20,9 @@ pub struct Json;
 
 impl Form for Json {
     ghost use Rattle.listing_forms.specs.Json.{json_listed};
+    ghost use Rattle.listing_forms.specs.Placed.{placed_view};
 
-    ghost told = { json_listed };
+    ghost told = { λ o. json_listed (placed_view o) };
 
     fn text(alloc: Global, outline: &Outline) -> Result<Vec<u8>, AllocError> {
         let mut writer = Writer::new(Vec::new(alloc));
@@ -35,7 +36,7 @@ impl Form for Json {
 /// Writes the whole array.
 fn write_array(alloc: Global, writer: &mut Writer, outline: &Outline) -> Result<(), AllocError>
     ensures before { OnOk result (writer.new.before ≡ writer.old.before) }
-    ensures tokens { OnOk result (writer.new.tokens ≡ writer.old.tokens ++ json_tokens (outline_view outline.now)) }
+    ensures tokens { OnOk result (writer.new.tokens ≡ writer.old.tokens ++ json_tokens (placed_view outline.now)) }
 {
     writer.begin_array()?;
     write_storage(writer, "root", "", &outline.class, outline.state)?;
@@ -95,15 +96,27 @@ fn write_storage(
     Ok(())
 }
 
-/// Writes what is told of a stream.
-fn write_stream(writer: &mut Writer, path: &str, size: u32) -> Result<(), AllocError>
+/// Writes the member of where a stream begins, if it has any bytes.
+fn write_first(writer: &mut Writer, place: Place) -> Result<(), AllocError>
     ensures before { OnOk result (writer.new.before ≡ writer.old.before) }
-    ensures tokens { OnOk result (writer.new.tokens ≡ writer.old.tokens ++ stream_tokens path.now size) }
+    ensures tokens { OnOk result (writer.new.tokens ≡ writer.old.tokens ++ first_member place) }
+{
+    if place.size == 0 {
+        return Ok(());
+    }
+    write_number(writer, "first", place.first)
+}
+
+/// Writes what is told of a stream.
+fn write_stream(writer: &mut Writer, path: &str, place: Place) -> Result<(), AllocError>
+    ensures before { OnOk result (writer.new.before ≡ writer.old.before) }
+    ensures tokens { OnOk result (writer.new.tokens ≡ writer.old.tokens ++ stream_tokens path.now place) }
 {
     writer.begin_object()?;
     write_text(writer, "type", "stream")?;
     write_text(writer, "path", path)?;
-    write_number(writer, "size", size)?;
+    write_number(writer, "size", place.size)?;
+    write_first(writer, place)?;
     writer.end_object()?;
     Ok(())
 }
@@ -117,7 +130,7 @@ fn write_below(
     outline: &Outline,
 ) -> Result<(), AllocError>
     ensures before { OnOk result (writer.new.before ≡ writer.old.before) }
-    ensures tokens { OnOk result (writer.new.tokens ≡ writer.old.tokens ++ below_tokens within.now (outline_view outline.now)) }
+    ensures tokens { OnOk result (writer.new.tokens ≡ writer.old.tokens ++ below_tokens within.now (placed_view outline.now)) }
 {
     for part in &outline.parts {
         write_part(alloc, writer, within, &part.0, &part.1)?;
@@ -135,11 +148,11 @@ fn write_part(
     part: &Part,
 ) -> Result<(), AllocError>
     ensures before { OnOk result (writer.new.before ≡ writer.old.before) }
-    ensures tokens { OnOk result (writer.new.tokens ≡ writer.old.tokens ++ child_tokens within.now name.now (part_view part.now)) }
+    ensures tokens { OnOk result (writer.new.tokens ≡ writer.old.tokens ++ child_tokens within.now name.now (part_placed part.now)) }
 {
     let path = path_text(alloc, within, name)?;
     match part {
-        Part::Stream(place) => write_stream(writer, path.as_str(), place.size),
+        Part::Stream(place) => write_stream(writer, path.as_str(), *place),
         Part::Storage(inner) => write_inner(alloc, writer, path, inner),
     }
 }
@@ -153,7 +166,7 @@ fn write_inner(
     inner: &Outline,
 ) -> Result<(), AllocError>
     ensures before { OnOk result (writer.new.before ≡ writer.old.before) }
-    ensures tokens { OnOk result (writer.new.tokens ≡ writer.old.tokens ++ inner_tokens (string_bytes path) (outline_view inner.now)) }
+    ensures tokens { OnOk result (writer.new.tokens ≡ writer.old.tokens ++ inner_tokens (string_bytes path) (placed_view inner.now)) }
 {
     write_storage(writer, "storage", path.as_str(), &inner.class, inner.state)?;
     path.push('/')?;

@@ -24,9 +24,10 @@ const COLUMNS: usize = 10;
 pub struct Long;
 
 impl Form for Long {
+    ghost use Rattle.file_outline.specs.View.{outline_view};
     ghost use Rattle.listing_forms.specs.Long.{long_listed};
 
-    ghost told = { long_listed };
+    ghost told = { λ o. long_listed (outline_view o) };
 
     fn text(alloc: Global, outline: &Outline) -> Result<Vec<u8>, AllocError> {
         rows(alloc, outline)

@@ -1,7 +1,6 @@
-use Rattle.std.proofs.Common.{◌≡◌, ◌++◌, ◌∙◌, get_or, rules}
+use Rattle.std.proofs.Common.{◌≡◌, ◌∙◌, get_or, rules}
 use Rattle.std.specs.Prelude.{string_bytes}
-use Rattle.file_outline.specs.View.{outline_view}
-use Rattle.listing_forms.specs.Json.{below_tokens, inner_tokens}
+use Rattle.listing_forms.specs.Placed.{placed_view}
 use Rattle.listing_forms.proofs.Told.{child_told, class_out, inner_told, ok_map, state_out}
 use Rattle.listing_forms.proofs.json_form.+telling.Goals as goal
 
@@ -19,6 +18,6 @@ pub write_inner-returns-clause-tokens : goal.write_inner-returns-clause-tokens
 unfolding lib.Utf8.encode
 write_inner-returns-clause-tokens t c =
     ok_map c.write_below.result _ _
-    (λ told. inner_told (outline_view c.args.inner.now) c.args.writer.now.tokens c.write_storage.new.writer.tokens c.write_below.new.writer.tokens (string_bytes c.args.path) c.as_str.result.now
+    (λ told. inner_told (placed_view c.args.inner.now) c.args.writer.now.tokens c.write_storage.new.writer.tokens c.write_below.new.writer.tokens (string_bytes c.args.path) c.as_str.result.now
     c.as_str-2.result.now c.args.inner.now.class c.args.inner.now.state (class_out c.args.inner.now) (state_out c.args.inner.now) c.in_ok-write_storage.ensures.tokens c.as_str.ensures.value
     (c.as_str-2.ensures.value ∙ c.in_ok-push.ensures.bytes) told) c.write_below.ensures.tokens

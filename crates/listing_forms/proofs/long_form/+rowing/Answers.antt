@@ -1,7 +1,7 @@
 use Rattle.std.proofs.Common.{◌≡◌, ◌∙◌, get_or, rules}
 use Rattle.file_outline.specs.View.{outline_view}
-use Rattle.listing_forms.proofs.Rows.{child_rowed, storage_below}
-use Rattle.listing_forms.proofs.Told.{class_out, ok_map}
+use Rattle.listing_forms.proofs.Rows.{child_rowed, class_out, storage_below}
+use Rattle.listing_forms.proofs.Told.{ok_map}
 use Rattle.listing_forms.proofs.long_form.+rowing.Goals as goal
 
 pub push_below-loop-part-preserved : goal.push_below-loop-part-preserved

@@ -1,7 +1,6 @@
 use Rattle.std.proofs.Common.{◌∙◌}
 use Rattle.file_outline.specs.View.{outline_view}
-use Rattle.listing_forms.proofs.Rows.{all_rowed}
-use Rattle.listing_forms.proofs.Told.{class_out}
+use Rattle.listing_forms.proofs.Rows.{all_rowed, class_out}
 use Rattle.listing_forms.proofs.long_form.rows.Goals as goal
 
 pub returns : goal.returns
