@@ -1,2 +1,3 @@
+pub mod Linked
 mod Noted
 mod Served

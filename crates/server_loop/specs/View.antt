@@ -51,18 +51,31 @@ Counts (Over Unread) turns_before reads_before turns reads = Unit {0}
 Counts (Over Closed) turns_before reads_before turns reads = Unit {0}
 Counts (Over Unwritten) turns_before reads_before turns reads = Unit {0}
 
--- Where a message came, a fault showed or a turn had its most reads, the link itself is as it was.
-abbrev pub Leaves : {S : Type 0} → Advance → (before after : S) → Type 0
-Leaves Met before after = after ≡ before
-Leaves (Wants class) before after = after ≡ before
-Leaves (Over (Faulty fault)) before after = after ≡ before
-Leaves (Over LastRead) before after = after ≡ before
-Leaves Turned before after = Unit {0}
-Leaves Read before after = Unit {0}
-Leaves (Over Unread) before after = Unit {0}
-Leaves (Over Closed) before after = Unit {0}
-Leaves (Over Unwritten) before after = Unit {0}
-Leaves (Over LastTurn) before after = Unit {0}
+-- Where it isn't read, what there is to be read is as it was.
+abbrev pub LeavesReader : {R : Type 0} → Advance → (before after : R) → Type 0
+LeavesReader Met before after = after ≡ before
+LeavesReader (Wants class) before after = after ≡ before
+LeavesReader Turned before after = after ≡ before
+LeavesReader (Over (Faulty fault)) before after = after ≡ before
+LeavesReader (Over LastRead) before after = after ≡ before
+LeavesReader (Over Unwritten) before after = after ≡ before
+LeavesReader (Over LastTurn) before after = after ≡ before
+LeavesReader Read before after = Unit {0}
+LeavesReader (Over Unread) before after = Unit {0}
+LeavesReader (Over Closed) before after = Unit {0}
+
+-- Where no turn is given back, what was written is as it was.
+abbrev pub LeavesWriter : {W : Type 0} → Advance → (before after : W) → Type 0
+LeavesWriter Met before after = after ≡ before
+LeavesWriter (Wants class) before after = after ≡ before
+LeavesWriter Read before after = after ≡ before
+LeavesWriter (Over (Faulty fault)) before after = after ≡ before
+LeavesWriter (Over LastRead) before after = after ≡ before
+LeavesWriter (Over Unread) before after = after ≡ before
+LeavesWriter (Over Closed) before after = after ≡ before
+LeavesWriter Turned before after = Unit {0}
+LeavesWriter (Over Unwritten) before after = Unit {0}
+LeavesWriter (Over LastTurn) before after = Unit {0}
 
 -- `content` says what the object in a seat contains.
 module _ {X : Type 0} {V : X → Type 0} (content : Seat X V → Content) where

@@ -2,4 +2,5 @@
 //! and gives the turn back.
 #![tactic(auto)]
 
+pub mod link;
 pub mod serving;
