@@ -191,6 +191,19 @@ impl Serving {
         }
     }
 
+    /// Makes the server.
+    fn make(&mut self, alloc: Global, inc: u32, numbers: u32) -> Result<(), AllocError>
+        requires { IsNew self.old }
+        ensures started { OnOk result (IsStarted self.new) }
+        ensures counts { OnOk result ((self.new.turns ≡ 0) × (self.new.reads ≡ 0)) }
+        ensures first { OnOk result (IsAt (λ s. (⟦<dyn Embedded as Embedded>⟧ s.boxed.vtable).content s.boxed.value) self.new (first_turn inc numbers) [] []) }
+    {
+        self.servers.reserve(1)?;
+        let core = ServerCore::new(alloc, inc, numbers);
+        add(&mut self.servers, Server { core });
+        Ok(())
+    }
+
     /// The server of this incarnation. It may have so many activations, and each so many writes.
     ///
     /// Refused for want of memory alone.
@@ -201,10 +214,7 @@ impl Serving {
         ensures first { OnOk result (IsAt (λ s. (⟦<dyn Embedded as Embedded>⟧ s.boxed.vtable).content s.boxed.value) self.new (first_turn inc numbers) [] []) }
         ensures underway { OnOk result ((unread held : Option (List ℕ)) → IsUnderway (λ s. (⟦<dyn Embedded as Embedded>⟧ s.boxed.vtable).content s.boxed.value) self.new (first_turn inc numbers) unread unread held held) }
     {
-        self.servers.reserve(1)?;
-        let core = ServerCore::new(alloc, inc, numbers);
-        add(&mut self.servers, Server { core });
-        Ok(())
+        self.make(alloc, inc, numbers)
     }
 
     /// Begins a link: nothing was read of it, and nothing is to be written.
