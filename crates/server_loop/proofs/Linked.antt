@@ -1,5 +1,5 @@
 -- What a link has come to by one more step.
-use Rattle.std.proofs.Common.{◌≡◌, ℕ, List, [], ◌∷◌, ◌++◌, Option, Some, None, refl, sym, ap, subst, ◌∙◌, arith, ◌<◌, ◌≤◌, ◌+◌, append_assoc, append-nil, cond, Bool, true, false, nat_le, nat_eq, length, Result, OnOk, Ok, Err}
+use Rattle.std.proofs.Common.{◌≡◌, ℕ, List, [], ◌∷◌, ◌++◌, Option, Some, None, refl, sym, ap, subst, ◌∙◌, arith, ◌<◌, ◌≤◌, ◌+◌, append_assoc, append-nil, cond, Bool, true, false, nat_le, nat_eq, length, take, Result, OnOk, Ok, Err}
 use Rattle.std.specs.Io.KnownBytes.{Appends, Consumes, IsAtEnd, Keeps}
 use Rattle.std.proofs.KnownBytes.{Appends-nil, Appends-trans, Consumes-kept, Consumes-nil, Consumes-trans}
 use Rattle.embed_core.specs.Content.{Content}
@@ -20,7 +20,7 @@ use Rattle.server_core.specs.declared.server.Seat.{Seat}
 use Rattle.server_loop.specs.Links.{HasEnded, HasServed, IsHandedIn, IsUnderway, IsUnwritten, IsWaiting, Pauses, Serves, link_begun, pause_of, turns_in}
 use Rattle.server_loop.specs.Links.Serves.{none, message, turn}
 use Rattle.server_loop.specs.Turns.{Turn, answered, given, met, turned}
-use Rattle.server_loop.specs.View.{Advances, Awaits, Counts, IsAt, IsMet, IsOut, IsRead, IsTurned, LeavesReader, LeavesWriter, MOST_READS, MOST_TURNS}
+use Rattle.server_loop.specs.View.{Advances, AppendsFront, Awaits, Counts, IsAt, IsMet, IsOut, IsRead, IsTurned, LeavesReader, LeavesWriter, MOST_READS, MOST_TURNS}
 use Rattle.server_loop.specs.declared.serving.Serving.{Serving}
 use Rattle.server_loop.specs.declared.serving.Advance.{Advance}
 use Rattle.server_loop.specs.declared.serving.Advance.TheVariants.{Met, Turned, Read, Wants, Over}
@@ -275,8 +275,8 @@ module _ {X : Type 0} {V : X → Type 0} (content : Seat X V → Content) where
     last_turn : MOST_TURNS ≤ v.turns + 1 → u' ≡ u → IsTurned content w s.served.now s.served.fed s.served.taken h h' → HasEnded content LastTurn w began ub u' hb h'
     last_turn most unread r = (gave unread r, omega (arith, turns_turn s.served.taken, s.counted, s.more, most))
 
-    unwritten : u' ≡ u → IsAt content w (turned s.served.now) s.served.fed (s.served.taken ++ frame.Turn ∷ []) → HasEnded content Unwritten w began ub u' hb h'
-    unwritten unread at = record {
+    unwritten : u' ≡ u → IsAt content w (turned s.served.now) s.served.fed (s.served.taken ++ frame.Turn ∷ []) → AppendsFront h h' (given s.served.now) → HasEnded content Unwritten w began ub u' hb h'
+    unwritten unread at front = record {
       fed = s.served.fed;
       taken = s.served.taken;
       bytes = s.served.bytes;
@@ -284,6 +284,8 @@ module _ {X : Type 0} {V : X → Type 0} (content : Seat X V → Content) where
       read = was_read unread;
       at = at;
       serves = s.served.serves;
+      part = front.0;
+      written = Appends-trans hb h h' s.served.bytes (take front.0 (given s.served.now)) s.served.written front.1;
       turns = omega (arith, s.counted, s.more);
     }
 
@@ -298,7 +300,7 @@ module _ {X : Type 0} {V : X → Type 0} (content : Seat X V → Content) where
     step (Over Unread) c unread same r = (still s.served.fed (Consumes-kept ub u u' s.served.fed s.served.read r.1) same r.0.at, r.0.reads)
     step (Over Closed) c unread same r =
         ((still s.served.fed (subst (Consumes ub u') (append-nil s.served.fed) (Consumes-trans ub u u' s.served.fed [] s.served.read r.1)) same r.0.at, r.0.reads), r.2)
-    step (Over Unwritten) c unread same r = unwritten unread r
+    step (Over Unwritten) c unread same r = unwritten unread r.0 r.1
     step (Over LastTurn) c unread same r = last_turn c unread r
 
   pub stepped : {R W : Type 0} (remaining : R → Option (List ℕ)) (contents : W → Option (List ℕ)) (v w : Serving X V) (r q : R) (x y : W) (told : Advance)

@@ -1,5 +1,5 @@
 -- What a server makes of a whole link.
-use Rattle.std.specs.Prelude.{◌≡◌, ◌+◌, ◌<◌, ◌≤◌, ℕ, List, [], ◌∷◌, ◌++◌, Option, Some, None}
+use Rattle.std.specs.Prelude.{◌≡◌, ◌+◌, ◌<◌, ◌≤◌, ℕ, List, [], ◌∷◌, ◌++◌, Option, Some, None, take}
 use Rattle.std.specs.Io.KnownBytes.{Appends, Consumes, IsAtEnd}
 use Rattle.embed_core.specs.Content.{Content}
 use Rattle.embed_core.specs.Kinds.{Kind}
@@ -92,8 +92,8 @@ module _ {X : Type 0} {V : X → Type 0} (content : Seat X V → Content) where
     pub more : v.turns < MOST_TURNS
     pub reads : v.reads ≤ MOST_READS
 
-  -- The last frame is a Turn, and what it is to be answered with wasn't written, or not whole. The frames before it were served.
-  pub record IsUnwritten (v : Serving X V) (began : Turn) (unread_before unread held_before : Option (List ℕ)) : Type 0 where
+  -- The last frame is a Turn, and of what it is answered with only a front may be written. The frames before it were served.
+  pub record IsUnwritten (v : Serving X V) (began : Turn) (unread_before unread held_before held : Option (List ℕ)) : Type 0 where
     pub fed : List ℕ
     pub taken : List Frame
     pub bytes : List ℕ
@@ -101,6 +101,8 @@ module _ {X : Type 0} {V : X → Type 0} (content : Seat X V → Content) where
     pub read : Consumes unread_before unread fed
     pub at : IsAt content v (turned now) fed (taken ++ frame.Turn ∷ [])
     pub serves : Serves began taken bytes now
+    pub part : ℕ
+    pub written : Appends held_before held (bytes ++ take part (given now))
     pub turns : turns_in taken < MOST_TURNS
 
   -- No whole frame is left of what was read, and its rest shows this fault, or none.
@@ -115,7 +117,7 @@ module _ {X : Type 0} {V : X → Type 0} (content : Seat X V → Content) where
   HasEnded Unread v began unread_before unread held_before held = HasServedAll None v began unread_before unread held_before held
   HasEnded Closed v began unread_before unread held_before held =
       HasServedAll None v began unread_before unread held_before held × IsAtEnd unread
-  HasEnded Unwritten v began unread_before unread held_before held = IsUnwritten v began unread_before unread held_before
+  HasEnded Unwritten v began unread_before unread held_before held = IsUnwritten v began unread_before unread held_before held
   HasEnded LastTurn v began unread_before unread held_before held =
       (s : HasServed v began unread_before unread held_before held) × (turns_in s.taken ≡ MOST_TURNS)
 

@@ -13,6 +13,7 @@ ghost use Rattle.server_model.specs.Server.{Server, scribble, wanted};
 ghost use Rattle.std.specs.Prelude.{◌≡◌, ◌<◌, ◌+◌, ◌++◌, ◌∷◌, ℕ, List, [], IfOk, OnOk, Option, Some, None, length, nat_eq, option_map, vec_capacity, vec_len};
 ghost use Rattle.wire_msgs.specs.declared.message.Message.{Message};
 
+use crate::fronts::write_front;
 use embed_core::embedded::Embedded;
 use message_bytes::decoder::Decoder;
 use message_bytes::encode::encode;
@@ -368,10 +369,10 @@ impl Serving {
         ensures leaves { IfOk result (λ told. LeavesWriter told writer.old writer.new) }
     {
         self.close_turn(alloc)?;
-        let written = writer.write_all(&self.out);
+        let is_written = write_front(writer, &self.out);
         self.out.clear();
         self.reads = 0;
-        if written.is_err() {
+        if !is_written {
             return Ok(Advance::Over(End::Unwritten));
         }
         if self.turns >= MOST_TURNS - 1 {
