@@ -1,6 +1,6 @@
 -- What a link has come to by one more step.
-use Rattle.std.proofs.Common.{◌≡◌, ℕ, List, [], ◌∷◌, ◌++◌, Option, Some, None, refl, sym, ap, subst, ◌∙◌, arith, ◌<◌, ◌≤◌, ◌+◌, append_assoc, append-nil, cond, Bool, true, false, nat_le, nat_eq, length, take, Result, OnOk, Ok, Err}
-use Rattle.std.specs.Io.KnownBytes.{Appends, Consumes, IsAtEnd, Keeps}
+use Rattle.std.proofs.Common.{◌≡◌, ℕ, List, [], ◌∷◌, ◌++◌, Option, Some, None, refl, sym, ap, subst, ◌∙◌, arith, ◌<◌, ◌≤◌, ◌+◌, append_assoc, append-nil, cond, Bool, true, false, nat_le, nat_eq, length, take, Err}
+use Rattle.std.specs.Io.KnownBytes.{Appends, Consumes}
 use Rattle.std.proofs.KnownBytes.{Appends-nil, Appends-trans, Consumes-kept, Consumes-nil, Consumes-trans}
 use Rattle.embed_core.specs.Content.{Content}
 use Rattle.embed_core.specs.Kinds.{Kind}
@@ -8,23 +8,19 @@ use Rattle.wire_msgs.specs.Found.{find}
 use Rattle.wire_msgs.specs.declared.operation.Operation.{Operation}
 use Rattle.wire_msgs.specs.declared.message.Message.{Message}
 use Rattle.wire_msgs.specs.declared.message.Message.TheVariants.{Call, Reply, Write, Ask}
-use Rattle.message_model.specs.declared.fault.WireFault.{WireFault}
 use Rattle.message_model.specs.declared.frame.Frame.{Frame}
 use Rattle.message_model.specs.declared.frame.Frame.TheVariants as frame
-use Rattle.message_model.specs.Frames.{Reads}
-use Rattle.message_bytes.proofs.Leaving.{on_ok}
-use Rattle.server_model.specs.Server.{Activation, Server, Served, begun_class, called, is_act, unknown_call, wanted, wanted_unknown}
+use Rattle.server_model.specs.Server.{Activation, Server, after_begun, begins, begun_class, begun_content, called, is_act, is_class, offered, unknown_call, wanted, wanted_unknown}
 use Rattle.server_model.specs.declared.fault.ServerFault.{ServerFault}
 use Rattle.server_model.specs.declared.fault.ServerFault.TheVariants as fault
 use Rattle.server_core.specs.declared.server.Seat.{Seat}
-use Rattle.server_loop.specs.Links.{HasEnded, HasServed, IsHandedIn, IsUnderway, IsUnwritten, IsWaiting, Pauses, Serves, link_begun, pause_of, turns_in}
+use Rattle.server_loop.specs.Links.{HasEnded, HasServed, IsHandedIn, IsUnderway, IsWaiting, Pauses, Serves, pause_of, turns_in}
 use Rattle.server_loop.specs.Links.Serves.{none, message, turn}
 use Rattle.server_loop.specs.Turns.{Turn, answered, given, met, turned}
-use Rattle.server_loop.specs.View.{Advances, AppendsFront, Awaits, Counts, IsAt, IsMet, IsOut, IsRead, IsTurned, LeavesReader, LeavesWriter, MOST_READS, MOST_TURNS}
+use Rattle.server_loop.specs.View.{Advances, AppendsFront, Awaits, Counts, IsAt, IsMet, IsRead, IsTurned, LeavesReader, LeavesWriter, MOST_READS, MOST_TURNS}
 use Rattle.server_loop.specs.declared.serving.Serving.{Serving}
 use Rattle.server_loop.specs.declared.serving.Advance.{Advance}
 use Rattle.server_loop.specs.declared.serving.Advance.TheVariants.{Met, Turned, Read, Wants, Over}
-use Rattle.server_loop.specs.declared.serving.End.{End}
 use Rattle.server_loop.specs.declared.serving.End.TheVariants.{Faulty, LastRead, Unread, Closed, Unwritten, LastTurn}
 use Rattle.server_loop.specs.declared.link.Pause.{Pause}
 use Rattle.server_loop.specs.declared.link.Pause.TheVariants as pause
@@ -95,8 +91,51 @@ passed t (Ask inc act g) class e = refl
 wanted_in : (w : Option (List ℕ)) → w ≡ None → IsHandedIn w None
 wanted_in w e = subst (λ x. IsHandedIn x None) (sym e) refl
 
-any_in : (w : Option (List ℕ)) (class : List ℕ) (box : Option Kind) → w ≡ Some class → IsHandedIn w box
-any_in w class box e = subst (λ x. IsHandedIn x box) (sym e) tt
+none_in : (w : Option (List ℕ)) (class : List ℕ) → w ≡ Some class → IsHandedIn w None
+none_in w class e = subst (λ x. IsHandedIn x None) (sym e) tt
+
+-- an object of another class than the one that is wanted makes nothing
+module _ (t : Turn) (m : Message) (v : Server) (act : ℕ) (op : Operation) (kind : Kind) (class : List ℕ) (other : is_class kind class ≡ false) where
+  other_offered : (k : List ℕ) → k ≡ class → answered t m (offered v act k op (Some kind)) ≡ t
+  other_offered k e =
+      subst (λ b. answered t m (cond b (after_begun v (begins act k op (begun_content kind op))) (Err fault.WrongClass)) ≡ t) (sym (ap (is_class kind) e ∙ other)) refl
+
+  other_limit : (b : Bool) (k : List ℕ) → cond b None (Some k) ≡ Some class → answered t m (cond b (Err fault.NumbersSpent) (offered v act k op (Some kind))) ≡ t
+  other_limit true k e = refl
+  other_limit false k e = other_offered k (some_inside k class e)
+
+  other_unknown : (begun : Option (List ℕ)) → wanted_unknown v begun None ≡ Some class → answered t m (unknown_call v act op (Some kind) begun) ≡ t
+  other_unknown None e = refl
+  other_unknown (Some k) e = other_limit (nat_le v.numbers (length v.acts)) k e
+
+  other_called : (n : ℕ) (a : Option Activation) → wanted_unknown v (begun_class n op) a ≡ Some class → answered t m (called v act n op (Some kind) a) ≡ t
+  other_called n None e = other_unknown (begun_class n op) e
+  other_called n (Some a) e = absurd (none_known e)
+
+  other_call : (n : ℕ) (b : Bool) → cond b (wanted_unknown v (begun_class n op) (find (is_act act) v.acts)) None ≡ Some class
+      → answered t m (cond b (called v act n op (Some kind) (find (is_act act) v.acts)) (Err fault.WrongIncarnation)) ≡ t
+  other_call n true e = other_called n (find (is_act act) v.acts) e
+  other_call n false e = refl
+
+other_met : (t : Turn) (m : Message) (kind : Kind) (class : List ℕ) → is_class kind class ≡ false → wanted t.server m ≡ Some class → met t m (Some kind) ≡ t
+other_met t (Call inc act n op) kind class o e = other_call t (Call inc act n op) t.server act op kind class o n (nat_eq inc t.server.inc) e
+other_met t (Reply inc act n told) kind class o e = refl
+other_met t (Write inc act s w content) kind class o e = refl
+other_met t (Ask inc act g) kind class o e = refl
+
+-- An object for a message that wants one: it is handed in, or it is of another class, and is as none.
+pub record Handed (t : Turn) (m : Message) (kind : Kind) : Type 0 where
+  pub box : Option Kind
+  pub handed : IsHandedIn (wanted t.server m) box
+  pub same : met t m (Some kind) ≡ met t m box
+
+some_in : (w : Option (List ℕ)) (class : List ℕ) (kind : Kind) → w ≡ Some class → is_class kind class ≡ true → IsHandedIn w (Some kind)
+some_in w class kind e o = subst (λ x. IsHandedIn x (Some kind)) (sym e) o
+
+comes_in : (t : Turn) (m : Message) (kind : Kind) (class : List ℕ) → wanted t.server m ≡ Some class → (b : Bool) → is_class kind class ≡ b → Handed t m kind
+comes_in t m kind class e true o = record { box = Some kind; handed = some_in (wanted t.server m) class kind e o; same = refl }
+comes_in t m kind class e false o =
+    record { box = None; handed = none_in (wanted t.server m) class e; same = other_met t m kind class o e ∙ sym (passed t m class e) }
 
 pub reader_as : {R S : Type 0} (f : R → S) (told : Advance) (a b : R) → LeavesReader told a b → LeavesReader told (f a) (f b)
 reader_as f Met a b e = ap f e
@@ -149,15 +188,16 @@ module _ {X : Type 0} {V : X → Type 0} (content : Seat X V → Content) where
       → IsAt content w (met h.now h.message (Some box)) h.fed (h.taken ++ frame.Message h.message ∷ [])
       → IsUnderway content w began unread_before unread held_before held
   handed_underway v w box began ub u hb held class h turns reads at =
-      let same = turns_message h.taken h.message in record {
+      let same = turns_message h.taken h.message in
+      let i = comes_in h.now h.message box class h.wants (is_class box class) refl in record {
         served = record {
           fed = h.fed;
           taken = h.taken ++ frame.Message h.message ∷ [];
           bytes = h.bytes;
-          now = met h.now h.message (Some box);
+          now = met h.now h.message i.box;
           read = h.read;
-          at = at;
-          serves = then_message h.message (Some box) (any_in (wanted h.now.server h.message) class (Some box) h.wants) h.serves;
+          at = subst (λ x. IsAt content w x h.fed (h.taken ++ frame.Message h.message ∷ [])) i.same at;
+          serves = then_message h.message i.box i.handed h.serves;
           written = h.written;
           turns = omega (arith, same, h.counted, h.more);
         };
@@ -228,26 +268,27 @@ module _ {X : Type 0} {V : X → Type 0} (content : Seat X V → Content) where
 
     awaits_one : (class : List ℕ) → w.turns ≡ v.turns → w.reads ≡ v.reads → u' ≡ u → h' ≡ h → Awaits content w s.served.now s.served.fed s.served.taken class
         → Pauses content (pause.Wants class) w began ub u' hb h'
-    awaits_one class turns reads unread same r =
-        (one_message r.message s.served.now turns reads unread same
-            (subst (λ x. Serves began (s.served.taken ++ frame.Message r.message ∷ []) s.served.bytes x) (passed s.served.now r.message class r.wants)
-            (then_message r.message None (any_in (wanted s.served.now.server r.message) class None r.wants) s.served.serves)) r.after,
-        record {
-          fed = s.served.fed;
-          taken = s.served.taken;
-          message = r.message;
-          bytes = s.served.bytes;
-          now = s.served.now;
-          read = was_read unread;
-          at = r.after;
-          wants = r.wants;
-          waits = r.waits;
-          serves = s.served.serves;
-          written = subst (λ x. Appends hb x s.served.bytes) (sym same) s.served.written;
-          counted = s.counted ∙ sym turns;
-          more = omega (arith, turns, s.more);
-          reads = omega (arith, reads, s.reads);
-        })
+    awaits_one class turns reads unread same r = (
+      one_message r.message s.served.now turns reads unread same
+          (subst (λ x. Serves began (s.served.taken ++ frame.Message r.message ∷ []) s.served.bytes x) (passed s.served.now r.message class r.wants)
+          (then_message r.message None (none_in (wanted s.served.now.server r.message) class r.wants) s.served.serves)) r.after,
+      record {
+        fed = s.served.fed;
+        taken = s.served.taken;
+        message = r.message;
+        bytes = s.served.bytes;
+        now = s.served.now;
+        read = was_read unread;
+        at = r.after;
+        wants = r.wants;
+        waits = r.waits;
+        serves = s.served.serves;
+        written = subst (λ x. Appends hb x s.served.bytes) (sym same) s.served.written;
+        counted = s.counted ∙ sym turns;
+        more = omega (arith, turns, s.more);
+        reads = omega (arith, reads, s.reads);
+      },
+    )
 
     -- a turn was given back
     abbrev gave : u' ≡ u → (r : IsTurned content w s.served.now s.served.fed s.served.taken h h') → HasServed content w began ub u' hb h'

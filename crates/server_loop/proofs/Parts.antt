@@ -11,10 +11,11 @@ left bytes at = take_all (length bytes - at) (drop at bytes) (omega (arith, leng
 pub more_written : (a b d : Option (List ℕ)) (bytes : List ℕ) (at n next : ℕ) → at ≤ length bytes → next ≡ at + n → n ≤ length (take (length bytes - at) (drop at bytes))
     → Appends a b (take at bytes) → Appends b d (take n (take (length bytes - at) (drop at bytes))) → (next ≤ length bytes) × Appends a d (take next bytes)
 more_written a b d bytes at n next l e m p q =
-    let within : n ≤ length (drop at bytes) = subst (λ xs. n ≤ length xs) (left bytes at) m in
-    (omega (arith, l, e, within, length-drop at bytes),
-    subst (Appends a d) (sym (ap (λ k. take k bytes) e ∙ take-add at n bytes))
-        (Appends-trans a b d (take at bytes) (take n (drop at bytes)) p (subst (λ xs. Appends b d (take n xs)) (left bytes at) q)))
+    let within : n ≤ length (drop at bytes) = subst (λ xs. n ≤ length xs) (left bytes at) m in (
+      omega (arith, l, e, within, length-drop at bytes),
+      subst (Appends a d) (sym (ap (λ k. take k bytes) e ∙ take-add at n bytes))
+          (Appends-trans a b d (take at bytes) (take n (drop at bytes)) p (subst (λ xs. Appends b d (take n xs)) (left bytes at) q)),
+    )
 
 pub none_written : (a b d : Option (List ℕ)) (bytes : List ℕ) (at next : ℕ) → at ≤ length bytes → next ≡ at → Appends a b (take at bytes) → Keeps b d
     → (next ≤ length bytes) × Appends a d (take next bytes)

@@ -1,5 +1,5 @@
 -- What a server makes of a whole link.
-use Rattle.std.specs.Prelude.{◌≡◌, ◌+◌, ◌<◌, ◌≤◌, ℕ, List, [], ◌∷◌, ◌++◌, Option, Some, None, take}
+use Rattle.std.specs.Prelude.{◌≡◌, ◌+◌, ◌<◌, ◌≤◌, ℕ, List, [], ◌∷◌, ◌++◌, Option, Some, None, take, true}
 use Rattle.std.specs.Io.KnownBytes.{Appends, Consumes, IsAtEnd}
 use Rattle.embed_core.specs.Content.{Content}
 use Rattle.embed_core.specs.Kinds.{Kind}
@@ -8,7 +8,7 @@ use Rattle.message_model.specs.declared.fault.WireFault.{WireFault}
 use Rattle.message_model.specs.declared.frame.Frame.{Frame}
 use Rattle.message_model.specs.declared.frame.Frame.TheVariants as frame
 use Rattle.message_model.specs.Frames.{Reads}
-use Rattle.server_model.specs.Server.{wanted}
+use Rattle.server_model.specs.Server.{is_class, wanted}
 use Rattle.server_core.specs.declared.server.Seat.{Seat}
 use Rattle.server_loop.specs.Turns.{Turn, given, met, turned}
 use Rattle.server_loop.specs.View.{IsAt, MOST_READS, MOST_TURNS}
@@ -20,10 +20,11 @@ use Rattle.server_loop.specs.declared.serving.End.TheVariants.{Faulty, LastRead,
 use Rattle.server_loop.specs.declared.link.Pause.{Pause}
 use Rattle.server_loop.specs.declared.link.Pause.TheVariants.{Wants, Over, Long}
 
--- An object is handed in for a message only where the server wants one. Where it wants one, there may be none.
+-- Which object is handed in for a message: where the server wants one of a class, one of that class or none, else none.
 abbrev pub IsHandedIn : (wanted : Option (List ℕ)) → Option Kind → Type 0
 IsHandedIn None box = box ≡ None
-IsHandedIn (Some class) box = Unit {0}
+IsHandedIn (Some class) None = Unit {0}
+IsHandedIn (Some class) (Some kind) = is_class kind class ≡ true
 
 -- What a server makes of frames, from a turn on: the bytes that it writes, and the turn that it then is in. Of a message it makes
 -- its step, with the object that was handed in for it or none, and writes nothing yet. At a Turn it writes what the turn has come
