@@ -4,6 +4,8 @@
 #[cfg(test)]
 mod cuts;
 #[cfg(test)]
+mod ends;
+#[cfg(test)]
 mod server;
 #[cfg(test)]
 mod servers;

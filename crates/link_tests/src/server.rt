@@ -3,9 +3,10 @@
 ghost use Rattle.server_loop.specs.View.{IsStarted};
 ghost use Rattle.std.specs.Prelude.{◌≤◌, length};
 
-use crate::wire::Wire;
+use crate::wire::{Inward, Outward};
 use embed_core::embedded::Embedded;
-use server_loop::serving::{Advance, Serving};
+use server_loop::link::{Pause, serve_link};
+use server_loop::serving::Serving;
 use std::alloc::{AllocError, Global};
 
 /// The most activations of a server, and writes of an activation.
@@ -16,7 +17,8 @@ const MOST_NUMBERS: u32 = 1_000_000;
 pub(crate) struct Server {
     inc: u32,
     serving: Serving,
-    wire: Wire,
+    inward: Inward,
+    outward: Outward,
     ghost started: { IsStarted serving },
 }
 
@@ -28,7 +30,8 @@ impl Server {
         Ok(Server {
             inc,
             serving,
-            wire: Wire::new(alloc),
+            inward: Inward::new(alloc),
+            outward: Outward::new(alloc),
         })
     }
 
@@ -39,30 +42,31 @@ impl Server {
 
     /// Begins another link.
     pub(crate) fn connect(&mut self, alloc: Global) {
-        self.wire = Wire::new(alloc);
+        self.inward = Inward::new(alloc);
+        self.outward = Outward::new(alloc);
         self.serving.begin(alloc);
     }
 
     /// Sends it bytes, which it hasn't read yet.
     pub(crate) fn send(&mut self, bytes: &[u8]) -> Result<(), AllocError> {
-        self.wire.send(bytes)
+        self.inward.send(bytes)
     }
 
     /// What came from it, as much as there is room for.
     pub(crate) fn take(&mut self, into: &mut [u8]) -> usize
         ensures { result ≤ length into.new }
     {
-        self.wire.take(into)
+        self.outward.take(into)
     }
 
-    /// Lets it go on.
-    pub(crate) fn advance(&mut self, alloc: Global) -> Result<Advance, AllocError> {
-        self.serving.advance(alloc, &mut self.wire)
-    }
-
-    /// Whether it has read all that was sent, and asked for more.
-    pub(crate) fn is_dry(&self) -> bool {
-        self.wire.is_dry()
+    /// Lets it go on until it has read all that was sent, or wants an object.
+    pub(crate) fn serve(&mut self, alloc: Global) -> Result<Pause, AllocError> {
+        serve_link(
+            alloc,
+            &mut self.serving,
+            &mut self.inward,
+            &mut self.outward,
+        )
     }
 
     /// Offers it an object.

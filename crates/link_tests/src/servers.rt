@@ -12,12 +12,12 @@ use embed_table::table::Table;
 use script_model::history::History;
 use script_model::host::{Host, HostFault};
 use script_model::step::Step;
-use server_loop::serving::Advance;
+use server_loop::link::Pause;
 use std::alloc::{AllocError, Global};
 use store_model::fault::StoreFault;
 
-/// The most frames that a server takes at once.
-const MOST_FRAMES: u32 = 10_000;
+/// The most objects that a server is handed at once.
+const MOST_OBJECTS: u32 = 10_000;
 
 /// How much of what is sent arrives where the call fails.
 #[derive(Clone, Copy, PartialEq, Eq)]
@@ -97,27 +97,22 @@ impl Servers {
         Ok(())
     }
 
-    /// Lets the server at a place go on.
-    fn go_on(&mut self, place: usize) -> Result<(), AllocError>
+    /// Makes a note, or a table, for the server at a place.
+    fn make(&mut self, place: usize, is_note: bool) -> Result<(), AllocError>
         ensures history { self.new.history ≡ self.old.history }
         ensures servers { length self.new.servers.items ≡ length self.old.servers.items }
     {
         if place >= self.servers.len() {
             return Ok(());
         }
-        match self.servers[place].advance(self.alloc)? {
-            Advance::Wants(class) => {
-                let tally = self.tally.share()?;
-                self.made = self.made.saturating_add(1);
-                if class == classes::note() {
-                    let note = Box::new(self.alloc, Note::new(self.alloc, tally))?;
-                    self.servers[place].offer(self.alloc, note)
-                } else {
-                    let table = Box::new(self.alloc, Table::new(self.alloc, tally))?;
-                    self.servers[place].offer(self.alloc, table)
-                }
-            }
-            _ => Ok(()),
+        let tally = self.tally.share()?;
+        self.made = self.made.saturating_add(1);
+        if is_note {
+            let note = Box::new(self.alloc, Note::new(self.alloc, tally))?;
+            self.servers[place].offer(self.alloc, note)
+        } else {
+            let table = Box::new(self.alloc, Table::new(self.alloc, tally))?;
+            self.servers[place].offer(self.alloc, table)
         }
     }
 
@@ -129,11 +124,11 @@ impl Servers {
             return Ok(());
         };
         self.servers[place].send(bytes)?;
-        for _ in 0..MOST_FRAMES {
-            if self.servers[place].is_dry() {
+        for _ in 0..MOST_OBJECTS {
+            let Pause::Wants(class) = self.servers[place].serve(self.alloc)? else {
                 return Ok(());
-            }
-            self.go_on(place)?;
+            };
+            self.make(place, class == classes::note())?;
         }
         Ok(())
     }

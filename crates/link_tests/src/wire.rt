@@ -5,41 +5,69 @@ ghost use Rattle.std.specs.Prelude.{◌≤◌, length};
 use std::alloc::{AllocError, Global};
 use std::io::{self, ErrorKind, Read, Write};
 
-/// The bytes that are on their way to a server, and those that come from it.
+/// The bytes that are on their way to a server.
 #[derive(Drop)]
-pub(crate) struct Wire {
-    inward: Vec<u8>,
-    outward: Vec<u8>,
-    is_dry: bool,
+pub(crate) struct Inward {
+    bytes: Vec<u8>,
 }
 
-impl Wire {
-    /// A link on which nothing is on its way.
-    pub(crate) fn new(alloc: Global) -> Wire {
-        Wire {
-            inward: Vec::new(alloc),
-            outward: Vec::new(alloc),
-            is_dry: false,
+impl Inward {
+    /// Nothing is on its way.
+    pub(crate) fn new(alloc: Global) -> Inward {
+        Inward {
+            bytes: Vec::new(alloc),
         }
     }
 
     /// Sends bytes to the server.
     pub(crate) fn send(&mut self, bytes: &[u8]) -> Result<(), AllocError> {
-        self.is_dry = false;
-        self.inward.extend_from_slice(bytes)?;
+        self.bytes.extend_from_slice(bytes)?;
         Ok(())
     }
+}
 
-    /// Whether the server has read all that was sent, and asked for more.
-    pub(crate) fn is_dry(&self) -> bool {
-        self.is_dry
+/// A read fails where nothing is on its way.
+impl Read for Inward {
+    fn read(&mut self, buf: &mut [u8]) -> io::Result<usize> {
+        if self.bytes.is_empty() {
+            return Err(io::Error::from(ErrorKind::WouldBlock));
+        }
+        Ok(take_front(&mut self.bytes, buf))
+    }
+}
+
+/// The bytes that come from a server.
+#[derive(Drop)]
+pub(crate) struct Outward {
+    bytes: Vec<u8>,
+}
+
+impl Outward {
+    /// Nothing came.
+    pub(crate) fn new(alloc: Global) -> Outward {
+        Outward {
+            bytes: Vec::new(alloc),
+        }
     }
 
     /// Takes what came from the server, as much as there is room for.
     pub(crate) fn take(&mut self, into: &mut [u8]) -> usize
         ensures { result ≤ length into.new }
     {
-        take_front(&mut self.outward, into)
+        take_front(&mut self.bytes, into)
+    }
+}
+
+impl Write for Outward {
+    fn write(&mut self, buf: &[u8]) -> io::Result<usize> {
+        match self.bytes.extend_from_slice(buf) {
+            Ok(()) => Ok(buf.len()),
+            Err(_) => Err(io::Error::from(ErrorKind::OutOfMemory)),
+        }
+    }
+
+    fn flush(&mut self) -> io::Result<()> {
+        Ok(())
     }
 }
 
@@ -54,27 +82,4 @@ fn take_front(from: &mut Vec<u8>, into: &mut [u8]) -> usize
     }
     from.truncate(from.len() - n);
     n
-}
-
-impl Read for Wire {
-    fn read(&mut self, buf: &mut [u8]) -> io::Result<usize> {
-        if self.inward.is_empty() {
-            self.is_dry = true;
-            return Err(io::Error::from(ErrorKind::WouldBlock));
-        }
-        Ok(take_front(&mut self.inward, buf))
-    }
-}
-
-impl Write for Wire {
-    fn write(&mut self, buf: &[u8]) -> io::Result<usize> {
-        match self.outward.extend_from_slice(buf) {
-            Ok(()) => Ok(buf.len()),
-            Err(_) => Err(io::Error::from(ErrorKind::OutOfMemory)),
-        }
-    }
-
-    fn flush(&mut self) -> io::Result<()> {
-        Ok(())
-    }
 }

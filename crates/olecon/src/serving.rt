@@ -6,10 +6,10 @@ use embed_drawing::drawing::Drawing;
 use embed_note::note::Note;
 use embed_table::table::Table;
 use file_program::ends::{refuse, refuse_start};
-use server_loop::serving::{Advance, Serving};
+use server_loop::link::{Pause, serve_link};
+use server_loop::serving::Serving;
 use std::alloc::{AllocError, Global};
 use std::io;
-use std::io::{Read, Write};
 use std::net::{Net, OpenListener, OpenStream, TcpListener, TcpStream};
 use std::process::ExitCode;
 use std::rt::Runtime;
@@ -52,13 +52,11 @@ fn need_of_class(class: &ClassId) -> Need {
     }
 }
 
-fn need_of(advance: &Result<Advance, AllocError>) -> Need {
-    match advance {
-        Ok(Advance::Met) => Need::Nothing,
-        Ok(Advance::Turned) => Need::Nothing,
-        Ok(Advance::Read) => Need::Nothing,
-        Ok(Advance::Wants(class)) => need_of_class(class),
-        Ok(Advance::Over(_)) => Need::Link,
+fn need_of(pause: &Result<Pause, AllocError>) -> Need {
+    match pause {
+        Ok(Pause::Wants(class)) => need_of_class(class),
+        Ok(Pause::Over(_)) => Need::Link,
+        Ok(Pause::Long) => Need::Nothing,
         Err(_) => Need::Memory,
     }
 }
@@ -97,10 +95,7 @@ where
 }
 
 /// Serves one link after another, until no other one comes. Gives whether there was memory enough.
-fn serve_links<L: OpenListener>(alloc: Global, tally: &Tally, listener: &L, inc: u32) -> bool
-where
-    L::Stream: Read + Write + OpenStream,
-{
+fn serve_links(alloc: Global, tally: &Tally, listener: &TcpListener, inc: u32) -> bool {
     let mut serving = Serving::new(alloc);
     if serving.start(alloc, inc, MOST_NUMBERS).is_err() {
         return false;
@@ -108,11 +103,12 @@ where
     let mut links = 0;
     let mut link = next_link(listener, &mut links);
     for _ in 0..u64::MAX {
-        let Some(stream) = &mut link else {
+        let Some(stream) = &link else {
             return true;
         };
-        let advance = serving.advance(alloc, stream);
-        let is_enough = match need_of(&advance) {
+        let (mut reader, mut writer) = (stream, stream);
+        let pause = serve_link(alloc, &mut serving, &mut reader, &mut writer);
+        let is_enough = match need_of(&pause) {
             Need::Nothing => true,
             Need::Memory => false,
             Need::Link => {

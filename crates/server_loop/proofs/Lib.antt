@@ -1,2 +1,4 @@
+pub mod Linked
 mod Noted
+mod Parts
 mod Served

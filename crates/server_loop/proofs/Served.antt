@@ -18,7 +18,7 @@ use Rattle.server_model.specs.declared.fault.ServerFault.TheVariants as fault
 use Rattle.server_core.specs.View.{seen}
 use Rattle.server_core.specs.declared.server.Seat.{Seat}
 use Rattle.server_loop.specs.Turns.{Turn, answered, edited_by, met, noted_done, scribbled_all, sent, written}
-use Rattle.server_loop.specs.View.{IsAt, IsIn, Leaves, servers_of}
+use Rattle.server_loop.specs.View.{IsAt, IsIn, LeavesReader, LeavesWriter, servers_of}
 use Rattle.server_loop.specs.declared.serving.Server as code
 use Rattle.server_loop.specs.declared.serving.Serving.{Serving}
 use Rattle.server_loop.specs.declared.serving.Advance.{Advance}
@@ -48,18 +48,30 @@ handed_out told f fed taken d e h = (subst (λ x. HandsOut (Ok x) fed taken d) e
 pub handed_none : (told : Option Frame) (fed : List ℕ) (taken : List Frame) (d : Decoder) → told ≡ None → HandsOut (Ok told) fed taken d → Stands d fed taken × Reads fed taken None
 handed_none told fed taken d e h = subst (λ x. HandsOut (Ok x) fed taken d) e h
 
--- a message leaves the link as it is
-pub leaves_same : {S : Type 0} (told : Advance) (s : S) → Leaves told s s
-leaves_same Met s = refl
-leaves_same (Wants class) s = refl
-leaves_same Turned s = tt
-leaves_same Read s = tt
-leaves_same (Over (Faulty fault)) s = refl
-leaves_same (Over LastRead) s = refl
-leaves_same (Over Unread) s = tt
-leaves_same (Over Closed) s = tt
-leaves_same (Over Unwritten) s = tt
-leaves_same (Over LastTurn) s = tt
+-- what isn't touched is as it was
+pub reader_same : {R : Type 0} (told : Advance) (r : R) → LeavesReader told r r
+reader_same Met r = refl
+reader_same (Wants class) r = refl
+reader_same Turned r = refl
+reader_same (Over (Faulty fault)) r = refl
+reader_same (Over LastRead) r = refl
+reader_same (Over Unwritten) r = refl
+reader_same (Over LastTurn) r = refl
+reader_same Read r = tt
+reader_same (Over Unread) r = tt
+reader_same (Over Closed) r = tt
+
+pub writer_same : {W : Type 0} (told : Advance) (w : W) → LeavesWriter told w w
+writer_same Met w = refl
+writer_same (Wants class) w = refl
+writer_same Read w = refl
+writer_same (Over (Faulty fault)) w = refl
+writer_same (Over LastRead) w = refl
+writer_same (Over Unread) w = refl
+writer_same (Over Closed) w = refl
+writer_same Turned w = tt
+writer_same (Over Unwritten) w = tt
+writer_same (Over LastTurn) w = tt
 
 some_inside : {A : Type 0} (x y : A) → Some x ≡ Some y → x ≡ y
 some_inside x y e = ap (or_else x) e

@@ -1,5 +1,5 @@
 -- A server on a link, as it is seen.
-use Rattle.std.specs.Prelude.{◌≡◌, ◌+◌, ◌<◌, ◌≤◌, ℕ, List, [], ◌∷◌, ◌++◌, Option, Some, None, length, map}
+use Rattle.std.specs.Prelude.{◌≡◌, ◌+◌, ◌<◌, ◌≤◌, ℕ, List, [], ◌∷◌, ◌++◌, Option, Some, None, length, map, take}
 use Rattle.std.specs.Io.KnownBytes.{Appends, Consumes, IsAtEnd, Keeps}
 use Rattle.embed_core.specs.Content.{Content}
 use Rattle.wire_msgs.specs.declared.message.Message.{Message}
@@ -51,18 +51,35 @@ Counts (Over Unread) turns_before reads_before turns reads = Unit {0}
 Counts (Over Closed) turns_before reads_before turns reads = Unit {0}
 Counts (Over Unwritten) turns_before reads_before turns reads = Unit {0}
 
--- Where a message came, a fault showed or a turn had its most reads, the link itself is as it was.
-abbrev pub Leaves : {S : Type 0} → Advance → (before after : S) → Type 0
-Leaves Met before after = after ≡ before
-Leaves (Wants class) before after = after ≡ before
-Leaves (Over (Faulty fault)) before after = after ≡ before
-Leaves (Over LastRead) before after = after ≡ before
-Leaves Turned before after = Unit {0}
-Leaves Read before after = Unit {0}
-Leaves (Over Unread) before after = Unit {0}
-Leaves (Over Closed) before after = Unit {0}
-Leaves (Over Unwritten) before after = Unit {0}
-Leaves (Over LastTurn) before after = Unit {0}
+-- known bytes grow by a front of these
+abbrev pub AppendsFront : Option (List ℕ) → Option (List ℕ) → List ℕ → Type 0
+AppendsFront before after bytes = (k : ℕ) × Appends before after (take k bytes)
+
+-- Where it isn't read, what there is to be read is as it was.
+abbrev pub LeavesReader : {R : Type 0} → Advance → (before after : R) → Type 0
+LeavesReader Met before after = after ≡ before
+LeavesReader (Wants class) before after = after ≡ before
+LeavesReader Turned before after = after ≡ before
+LeavesReader (Over (Faulty fault)) before after = after ≡ before
+LeavesReader (Over LastRead) before after = after ≡ before
+LeavesReader (Over Unwritten) before after = after ≡ before
+LeavesReader (Over LastTurn) before after = after ≡ before
+LeavesReader Read before after = Unit {0}
+LeavesReader (Over Unread) before after = Unit {0}
+LeavesReader (Over Closed) before after = Unit {0}
+
+-- Where no turn is given back, what was written is as it was.
+abbrev pub LeavesWriter : {W : Type 0} → Advance → (before after : W) → Type 0
+LeavesWriter Met before after = after ≡ before
+LeavesWriter (Wants class) before after = after ≡ before
+LeavesWriter Read before after = after ≡ before
+LeavesWriter (Over (Faulty fault)) before after = after ≡ before
+LeavesWriter (Over LastRead) before after = after ≡ before
+LeavesWriter (Over Unread) before after = after ≡ before
+LeavesWriter (Over Closed) before after = after ≡ before
+LeavesWriter Turned before after = Unit {0}
+LeavesWriter (Over Unwritten) before after = Unit {0}
+LeavesWriter (Over LastTurn) before after = Unit {0}
 
 -- `content` says what the object in a seat contains.
 module _ {X : Type 0} {V : X → Type 0} (content : Seat X V → Content) where
@@ -112,13 +129,14 @@ module _ {X : Type 0} {V : X → Type 0} (content : Seat X V → Content) where
     pub next : IsAt v t (fed ++ piece) taken
 
   -- The link is over: what came shows a fault; no frame was whole, and the turn had its most reads, or a read failed, or nothing
-  -- more comes; a Turn came next, and isn't written, or was the last that a link may have.
+  -- more comes; a Turn came next, and of what it is answered with only a front may be written, or it was the last that a link may have.
   abbrev pub IsOver : End → Serving X V → Turn → List ℕ → List Frame → (unread_before unread held_before held : Option (List ℕ)) → Type 0
   IsOver (Faulty fault) v t fed taken unread_before unread held_before held = IsOut v t fed taken (Some fault)
   IsOver LastRead v t fed taken unread_before unread held_before held = IsOut v t fed taken None
   IsOver Unread v t fed taken unread_before unread held_before held = IsOut v t fed taken None × Keeps unread_before unread
   IsOver Closed v t fed taken unread_before unread held_before held = IsOut v t fed taken None × Consumes unread_before unread [] × IsAtEnd unread
-  IsOver Unwritten v t fed taken unread_before unread held_before held = IsAt v (turned t) fed (taken ++ frame.Turn ∷ [])
+  IsOver Unwritten v t fed taken unread_before unread held_before held =
+      IsAt v (turned t) fed (taken ++ frame.Turn ∷ []) × AppendsFront held_before held (given t)
   IsOver LastTurn v t fed taken unread_before unread held_before held = IsTurned v t fed taken held_before held
 
   -- How far a link came, with what was to be read of it and what was written to it, before and after.

@@ -2,4 +2,6 @@
 //! and gives the turn back.
 #![tactic(auto)]
 
+mod fronts;
+pub mod link;
 pub mod serving;

@@ -6,12 +6,14 @@ ghost use Rattle.message_model.specs.declared.frame.Frame.{Frame};
 ghost use Rattle.message_model.specs.declared.frame.Frame.TheVariants as frame;
 ghost use Rattle.message_model.specs.Frames.{Reads};
 ghost use Rattle.server_core.specs.View.{seen};
+ghost use Rattle.server_loop.specs.Links.{IsUnderway, IsWaiting, link_begun};
 ghost use Rattle.server_loop.specs.Turns.{Turn, edited_by, first_turn, given, met, noted, noted_done, scribbled_all, sent, turned, written};
-ghost use Rattle.server_loop.specs.View.{Advances, Counts, IsAt, IsIn, IsNew, IsStarted, Leaves, servers_of};
+ghost use Rattle.server_loop.specs.View.{Advances, Counts, IsAt, IsIn, IsNew, IsStarted, LeavesReader, LeavesWriter, servers_of};
 ghost use Rattle.server_model.specs.Server.{Server, scribble, wanted};
 ghost use Rattle.std.specs.Prelude.{◌≡◌, ◌<◌, ◌+◌, ◌++◌, ◌∷◌, ℕ, List, [], IfOk, OnOk, Option, Some, None, length, nat_eq, option_map, vec_capacity, vec_len};
 ghost use Rattle.wire_msgs.specs.declared.message.Message.{Message};
 
+use crate::fronts::write_front;
 use embed_core::embedded::Embedded;
 use message_bytes::decoder::Decoder;
 use message_bytes::encode::encode;
@@ -190,10 +192,8 @@ impl Serving {
         }
     }
 
-    /// The server of this incarnation. It may have so many activations, and each so many writes.
-    ///
-    /// Refused for want of memory alone.
-    pub fn start(&mut self, alloc: Global, inc: u32, numbers: u32) -> Result<(), AllocError>
+    /// Makes the server.
+    fn make(&mut self, alloc: Global, inc: u32, numbers: u32) -> Result<(), AllocError>
         requires { IsNew self.old }
         ensures started { OnOk result (IsStarted self.new) }
         ensures counts { OnOk result ((self.new.turns ≡ 0) × (self.new.reads ≡ 0)) }
@@ -205,12 +205,26 @@ impl Serving {
         Ok(())
     }
 
+    /// The server of this incarnation. It may have so many activations, and each so many writes.
+    ///
+    /// Refused for want of memory alone.
+    pub fn start(&mut self, alloc: Global, inc: u32, numbers: u32) -> Result<(), AllocError>
+        requires { IsNew self.old }
+        ensures started { OnOk result (IsStarted self.new) }
+        ensures counts { OnOk result ((self.new.turns ≡ 0) × (self.new.reads ≡ 0)) }
+        ensures first { OnOk result (IsAt (λ s. (⟦<dyn Embedded as Embedded>⟧ s.boxed.vtable).content s.boxed.value) self.new (first_turn inc numbers) [] []) }
+        ensures underway { OnOk result ((unread held : Option (List ℕ)) → IsUnderway (λ s. (⟦<dyn Embedded as Embedded>⟧ s.boxed.vtable).content s.boxed.value) self.new (first_turn inc numbers) unread unread held held) }
+    {
+        self.make(alloc, inc, numbers)
+    }
+
     /// Begins a link: nothing was read of it, and nothing is to be written.
     pub fn begin(&mut self, alloc: Global)
         requires { IsStarted self.old }
         ensures counts { (self.new.turns ≡ 0) × (self.new.reads ≡ 0) }
         ensures started { IsStarted self.new }
-        ensures begun { (t : Turn) → IsIn (λ s. (⟦<dyn Embedded as Embedded>⟧ s.boxed.vtable).content s.boxed.value) self.old t → IsAt (λ s. (⟦<dyn Embedded as Embedded>⟧ s.boxed.vtable).content s.boxed.value) self.new (record { server = t.server; out = []; edited = [] }) [] [] }
+        ensures begun { (t : Turn) → IsIn (λ s. (⟦<dyn Embedded as Embedded>⟧ s.boxed.vtable).content s.boxed.value) self.old t → IsAt (λ s. (⟦<dyn Embedded as Embedded>⟧ s.boxed.vtable).content s.boxed.value) self.new (link_begun t) [] [] }
+        ensures underway { (t : Turn) (unread held : Option (List ℕ)) → IsIn (λ s. (⟦<dyn Embedded as Embedded>⟧ s.boxed.vtable).content s.boxed.value) self.old t → IsUnderway (λ s. (⟦<dyn Embedded as Embedded>⟧ s.boxed.vtable).content s.boxed.value) self.new (link_begun t) unread unread held held }
     {
         self.decoder = Decoder::new(alloc);
         self.out.clear();
@@ -279,13 +293,15 @@ impl Serving {
         Ok(Advance::Met)
     }
 
-    /// Offers an object for the activation that the last call makes.
+    /// Offers an object for the activation that the last call makes. One of another class than that call's makes none.
     pub fn offer(&mut self, alloc: Global, boxed: Box<dyn Embedded>) -> Result<(), AllocError>
         requires { IsStarted self.old }
         ensures counts { (self.new.turns ≡ self.old.turns) × (self.new.reads ≡ self.old.reads) }
         ensures started { IsStarted self.new }
         ensures met { (t : Turn) (fed : List ℕ) (taken : List Frame) (m : Message) → IsAt (λ s. (⟦<dyn Embedded as Embedded>⟧ s.boxed.vtable).content s.boxed.value) self.old t fed taken → self.old.wanting ≡ Some m
             → OnOk result (IsAt (λ s. (⟦<dyn Embedded as Embedded>⟧ s.boxed.vtable).content s.boxed.value) self.new (met t m (Some (kind_of ((⟦<dyn Embedded as Embedded>⟧ boxed.vtable).content boxed.value)))) fed taken) }
+        ensures underway { (began : Turn) (unread_before unread held_before held : Option (List ℕ)) (class : List ℕ) → IsWaiting (λ s. (⟦<dyn Embedded as Embedded>⟧ s.boxed.vtable).content s.boxed.value) self.old began unread_before unread held_before held class
+            → OnOk result (IsUnderway (λ s. (⟦<dyn Embedded as Embedded>⟧ s.boxed.vtable).content s.boxed.value) self.new began unread_before unread held_before held) }
     {
         match self.wanting.take() {
             Some(message) => self.act(alloc, message, Some(boxed)),
@@ -344,19 +360,19 @@ impl Serving {
     }
 
     /// Gives the turn back.
-    fn give_turn<S: Write>(&mut self, alloc: Global, stream: &mut S) -> Result<Advance, AllocError>
+    fn give_turn<W: Write>(&mut self, alloc: Global, writer: &mut W) -> Result<Advance, AllocError>
         requires { IsStarted self.old }
         ensures counted { IfOk result (λ told. Counts told self.old.turns self.old.reads self.new.turns self.new.reads) }
         ensures started { IsStarted self.new }
-        ensures leaves { IfOk result (λ told. Leaves told stream.old stream.new) }
         ensures turned { (t : Turn) (fed : List ℕ) (taken : List Frame) (unread_before unread : Option (List ℕ)) → IsIn (λ s. (⟦<dyn Embedded as Embedded>⟧ s.boxed.vtable).content s.boxed.value) self.old t → Stands self.old.decoder fed (taken ++ frame.Turn ∷ [])
-            → IfOk result (λ told. Advances (λ s. (⟦<dyn Embedded as Embedded>⟧ s.boxed.vtable).content s.boxed.value) told self.new t fed taken unread_before unread (S.contents stream.old) (S.contents stream.new)) }
+            → IfOk result (λ told. Advances (λ s. (⟦<dyn Embedded as Embedded>⟧ s.boxed.vtable).content s.boxed.value) told self.new t fed taken unread_before unread (W.contents writer.old) (W.contents writer.new)) }
+        ensures leaves { IfOk result (λ told. LeavesWriter told writer.old writer.new) }
     {
         self.close_turn(alloc)?;
-        let written = stream.write_all(&self.out);
+        let is_written = write_front(writer, &self.out);
         self.out.clear();
         self.reads = 0;
-        if written.is_err() {
+        if !is_written {
             return Ok(Advance::Over(End::Unwritten));
         }
         if self.turns >= MOST_TURNS - 1 {
@@ -367,20 +383,20 @@ impl Serving {
     }
 
     /// Reads some bytes of the link.
-    fn read<S: Read>(&mut self, stream: &mut S) -> Result<Advance, AllocError>
+    fn read<R: Read>(&mut self, reader: &mut R) -> Result<Advance, AllocError>
         requires { IsStarted self.old }
         ensures counted { IfOk result (λ told. Counts told self.old.turns self.old.reads self.new.turns self.new.reads) }
         ensures started { IsStarted self.new }
-        ensures leaves { IfOk result (λ told. Leaves told stream.old stream.new) }
+        ensures leaves { IfOk result (λ told. LeavesReader told reader.old reader.new) }
         ensures read { (t : Turn) (fed : List ℕ) (taken : List Frame) (held_before held : Option (List ℕ)) → IsAt (λ s. (⟦<dyn Embedded as Embedded>⟧ s.boxed.vtable).content s.boxed.value) self.old t fed taken → Reads fed taken None
-            → IfOk result (λ told. Advances (λ s. (⟦<dyn Embedded as Embedded>⟧ s.boxed.vtable).content s.boxed.value) told self.new t fed taken (S.remaining stream.old) (S.remaining stream.new) held_before held) }
+            → IfOk result (λ told. Advances (λ s. (⟦<dyn Embedded as Embedded>⟧ s.boxed.vtable).content s.boxed.value) told self.new t fed taken (R.remaining reader.old) (R.remaining reader.new) held_before held) }
     {
         if self.reads >= MOST_READS {
             return Ok(Advance::Over(End::LastRead));
         }
         self.reads += 1;
         let mut piece = [0u8; PIECE];
-        let n = match stream.read(&mut piece) {
+        let n = match reader.read(&mut piece) {
             Ok(n) => n,
             Err(_) => return Ok(Advance::Over(End::Unread)),
         };
@@ -403,23 +419,25 @@ impl Serving {
     /// 1,000,001st read of a turn, which isn't made, and where what came shows a fault, which stays unanswered.
     ///
     /// Refused for want of memory alone.
-    pub fn advance<S: Read + Write>(
+    pub fn advance<R: Read, W: Write>(
         &mut self,
         alloc: Global,
-        stream: &mut S,
+        reader: &mut R,
+        writer: &mut W,
     ) -> Result<Advance, AllocError>
         requires { IsStarted self.old }
         ensures counted { IfOk result (λ told. Counts told self.old.turns self.old.reads self.new.turns self.new.reads) }
         ensures started { IsStarted self.new }
-        ensures leaves { IfOk result (λ told. Leaves told stream.old stream.new) }
+        ensures leaves_reader { IfOk result (λ told. LeavesReader told reader.old reader.new) }
+        ensures leaves_writer { IfOk result (λ told. LeavesWriter told writer.old writer.new) }
         ensures advanced { (t : Turn) (fed : List ℕ) (taken : List Frame) → IsAt (λ s. (⟦<dyn Embedded as Embedded>⟧ s.boxed.vtable).content s.boxed.value) self.old t fed taken
-            → IfOk result (λ told. Advances (λ s. (⟦<dyn Embedded as Embedded>⟧ s.boxed.vtable).content s.boxed.value) told self.new t fed taken (S.remaining stream.old) (S.remaining stream.new) (S.contents stream.old) (S.contents stream.new)) }
+            → IfOk result (λ told. Advances (λ s. (⟦<dyn Embedded as Embedded>⟧ s.boxed.vtable).content s.boxed.value) told self.new t fed taken (R.remaining reader.old) (R.remaining reader.new) (W.contents writer.old) (W.contents writer.new)) }
     {
         self.wanting = None;
         match self.decoder.next() {
             Ok(Some(Frame::Message(message))) => self.meet(alloc, message),
-            Ok(Some(Frame::Turn)) => self.give_turn(alloc, stream),
-            Ok(None) => self.read(stream),
+            Ok(Some(Frame::Turn)) => self.give_turn(alloc, writer),
+            Ok(None) => self.read(reader),
             Err(fault) => Ok(Advance::Over(End::Faulty(fault))),
         }
     }

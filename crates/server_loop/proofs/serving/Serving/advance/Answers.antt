@@ -1,10 +1,19 @@
 use Rattle.std.proofs.Common.{Some, ap, ◌∙◌}
 use Rattle.message_bytes.proofs.Leaving.{on_ok}
-use Rattle.server_loop.proofs.Served.{handed_none, handed_out, leaves_same}
+use Rattle.server_loop.proofs.Served.{handed_none, handed_out, reader_same, writer_same}
 use Rattle.server_loop.proofs.serving.Serving.advance.Goals as goal
 
-pub returns-in-Ok-Some-Message-clause-leaves : goal.returns-in-Ok-Some-Message-clause-leaves
-returns-in-Ok-Some-Message-clause-leaves g c = on_ok c.meet.result (λ told _. leaves_same told _) c.meet.ensures.counted
+pub returns-in-Ok-Some-Message-clause-leaves_reader : goal.returns-in-Ok-Some-Message-clause-leaves_reader
+returns-in-Ok-Some-Message-clause-leaves_reader g c = on_ok c.meet.result (λ told _. reader_same told _) c.meet.ensures.counted
+
+pub returns-in-Ok-Some-Message-clause-leaves_writer : goal.returns-in-Ok-Some-Message-clause-leaves_writer
+returns-in-Ok-Some-Message-clause-leaves_writer g c = on_ok c.meet.result (λ told _. writer_same told _) c.meet.ensures.counted
+
+pub returns-in-Ok-Some-Turn-clause-leaves_reader : goal.returns-in-Ok-Some-Turn-clause-leaves_reader
+returns-in-Ok-Some-Turn-clause-leaves_reader g c = on_ok c.give_turn.result (λ told _. reader_same told _) c.give_turn.ensures.counted
+
+pub returns-in-Ok-None-clause-leaves_writer : goal.returns-in-Ok-None-clause-leaves_writer
+returns-in-Ok-None-clause-leaves_writer g c = on_ok c.read.result (λ told _. writer_same told _) c.read.ensures.counted
 
 pub returns-in-Ok-Some-Message-clause-advanced : goal.returns-in-Ok-Some-Message-clause-advanced
 returns-in-Ok-Some-Message-clause-advanced g c = λ t fed taken h.

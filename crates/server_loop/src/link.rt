@@ -1,0 +1,60 @@
+//! A link of a server, from one pause to the next.
+
+ghost use Rattle.server_loop.specs.Links.{IsUnderway, Pauses, pause_of};
+ghost use Rattle.server_loop.specs.Turns.{Turn};
+ghost use Rattle.server_loop.specs.View.{IsStarted};
+ghost use Rattle.std.specs.Prelude.{◌≡◌, ℕ, List, IfOk, Option};
+
+use crate::serving::{Advance, End, Serving};
+use embed_core::embedded::Embedded;
+use std::alloc::{AllocError, Global};
+use std::io::{Read, Write};
+use storage_tree::class_id::ClassId;
+
+/// Why a link is left for now.
+#[derive(Clone, Copy, PartialEq, Eq)]
+pub enum Pause {
+    /// A call makes an activation, and needs an object of this class. Where none is offered, it is passed over.
+    Wants(ClassId),
+    /// The link is over, and why.
+    Over(End),
+    /// It came 2^64 - 1 steps on, and goes on.
+    Long,
+}
+
+/// Whether a step ends in a pause.
+fn pause_of(advance: &Advance) -> Option<Pause>
+    ensures { result ≡ pause_of advance.now }
+{
+    match advance {
+        Advance::Wants(class) => Some(Pause::Wants(*class)),
+        Advance::Over(end) => Some(Pause::Over(*end)),
+        Advance::Met => None,
+        Advance::Turned => None,
+        Advance::Read => None,
+    }
+}
+
+/// Serves a link until it is over, or wants an object. All that was written on it since it began are the answers to the frames
+/// that were taken since then, in order.
+///
+/// Refused for want of memory alone.
+pub fn serve_link<R: Read, W: Write>(
+    alloc: Global,
+    serving: &mut Serving,
+    reader: &mut R,
+    writer: &mut W,
+) -> Result<Pause, AllocError>
+    requires { IsStarted serving.old }
+    ensures started { IsStarted serving.new }
+    ensures served { (began : Turn) (unread held : Option (List ℕ)) → IsUnderway (λ s. (⟦<dyn Embedded as Embedded>⟧ s.boxed.vtable).content s.boxed.value) serving.old began unread (R.remaining reader.old) held (W.contents writer.old)
+        → IfOk result (λ told. Pauses (λ s. (⟦<dyn Embedded as Embedded>⟧ s.boxed.vtable).content s.boxed.value) told serving.new began unread (R.remaining reader.new) held (W.contents writer.new)) }
+{
+    for _ in 0..u64::MAX {
+        let advance = serving.advance(alloc, reader, writer)?;
+        if let Some(pause) = pause_of(&advance) {
+            return Ok(pause);
+        }
+    }
+    Ok(Pause::Long)
+}
