@@ -1,1 +1,4 @@
+pub mod Joined
 pub mod Filled
+pub mod Minis
+pub mod Buffers

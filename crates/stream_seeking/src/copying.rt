@@ -3,7 +3,7 @@
 ghost use Rattle.cfb_bytes.specs.Bytes.{block};
 ghost use Rattle.cfb_header.specs.Bytes.{joined, sector};
 ghost use Rattle.std.specs.Io.KnownBytes.{Appends};
-ghost use Rattle.std.specs.Prelude.{◌≡◌, IfErr, IfSome, OnOk, length, take, ℕ};
+ghost use Rattle.std.specs.Prelude.{◌*◌, ◌≡◌, ◌≤◌, ◌⊎◌, IfErr, IfSome, OnOk, length, take};
 ghost use Rattle.stream_seeking.specs.Blocks.{Begins, blocks_in};
 ghost use Rattle.stream_seeking.specs.declared.fault.CopyFault.TheVariants.{NoMemory, Unreadable, Unwritable};
 
@@ -29,9 +29,27 @@ fn write<W: Write>(writer: &mut W, bytes: &[u8]) -> Result<(), CopyFault>
     }
 }
 
+/// Copies the first bytes of sectors, as many as a buffer has.
+fn copy_piece<S: Source, W: Write>(
+    source: &mut S,
+    len: usize,
+    sectors: &[u32],
+    buffer: &mut [u8],
+    writer: &mut W,
+) -> Result<(), CopyFault>
+    requires enough { length buffer.old ≤ 512 * length sectors.now }
+    ensures written { OnOk result (IfSome (S.bytes source.old) (λ a. length a ≡ len → Appends (W.contents writer.old) (W.contents writer.new) (take (length buffer.old) (joined (sector a) sectors.now)))) }
+    ensures unwritten { IfErr result (λ e. e ≡ Unreadable → writer.new ≡ writer.old) }
+    ensures told { IfErr result (λ e. (e ≡ Unreadable) ⊎ (e ≡ Unwritable)) }
+    ensures long { length buffer.new ≡ length buffer.old }
+    ensures kept { S.bytes source.new ≡ S.bytes source.old }
+{
+    fill_sectors(source, len, sectors, buffer)?;
+    write(writer, buffer)
+}
+
 /// Copies the first bytes of sectors.
 fn copy_sectors<S: Source, W: Write>(
-    alloc: Global,
     source: &mut S,
     len: usize,
     sectors: &[u32],
@@ -39,21 +57,24 @@ fn copy_sectors<S: Source, W: Write>(
     writer: &mut W,
 ) -> Result<(), CopyFault>
     ensures written { OnOk result (IfSome (S.bytes source.old) (λ a. length a ≡ len → Appends (W.contents writer.old) (W.contents writer.new) (take size (joined (sector a) sectors.now)))) }
-    ensures unwritten { IfErr result (λ e. e ≡ NoMemory → writer.new ≡ writer.old) }
+    ensures told { IfErr result (λ e. (e ≡ Unreadable) ⊎ (e ≡ Unwritable)) }
     ensures begun { IfErr result (λ e. e ≡ Unreadable → IfSome (S.bytes source.old) (λ a. length a ≡ len → Begins (W.contents writer.old) (W.contents writer.new) (take size (joined (sector a) sectors.now)))) }
     ensures kept { S.bytes source.new ≡ S.bytes source.old }
 {
     let all = size.min(SECTOR.saturating_mul(sectors.len()));
-    let mut buffer = match vec![in alloc; 0; all.min(PIECE)] {
-        Ok(buffer) => buffer,
-        Err(_) => return Err(CopyFault::NoMemory),
-    };
+    let pieces = all.div_ceil(PIECE);
+    let mut buffer = [0u8; PIECE];
     let mut done = 0;
-    while PIECE * done < all {
+    while done < pieces {
         let start = PIECE * done;
         let many = PIECE.min(all - start);
-        fill_sectors(source, len, &sectors[start / SECTOR..], &mut buffer[..many])?;
-        write(writer, &buffer[..many])?;
+        copy_piece(
+            source,
+            len,
+            &sectors[start / SECTOR..],
+            &mut buffer[..many],
+            writer,
+        )?;
         done += 1;
     }
     Ok(())
@@ -96,7 +117,7 @@ pub fn copy_blocks<S: Source, W: Write>(
     ensures kept { S.bytes source.new ≡ S.bytes source.old }
 {
     match blocks {
-        Blocks::Sectors(sectors) => copy_sectors(alloc, source, len, sectors, size, writer),
+        Blocks::Sectors(sectors) => copy_sectors(source, len, sectors, size, writer),
         Blocks::Minis(places) => copy_minis(alloc, source, len, places, size, writer),
     }
 }

@@ -16,7 +16,6 @@ pub(crate) const SECTOR: usize = 512;
 const MINI: usize = 64;
 
 /// Fills a buffer with the bytes of a file of so many bytes from a place on, zero bytes standing for those past its end.
-#[tactic(auto, using(crate::proofs::Filled::filled_by))]
 pub(crate) fn fill<S: Source>(
     source: &mut S,
     len: usize,
@@ -65,8 +64,9 @@ pub(crate) fn fill_sectors<S: Source>(
     ensures told { IfErr result (λ e. e ≡ Unreadable) }
     ensures kept { S.bytes source.new ≡ S.bytes source.old }
 {
+    let all = buffer.len().div_ceil(SECTOR);
     let mut done = 0;
-    while SECTOR * done < buffer.len() {
+    while done < all {
         let count = run_length(sectors, done);
         let start = SECTOR * done;
         let end = SECTOR.saturating_mul(done + count).min(buffer.len());
