@@ -4,3 +4,4 @@ pub mod Minis
 pub mod Buffers
 pub mod Found
 pub mod Paths
+pub mod Placing

@@ -86,6 +86,27 @@ fn short_blocks(
     Ok(places)
 }
 
+/// What is read of a file to find a stream: the bytes of its directory, and the FAT's entries.
+#[derive(Drop)]
+struct Tables {
+    directory: Vec<u8>,
+    table: Vec<u32>,
+}
+
+/// The directory and the FAT's entries of a file of which the blocks were read that its listing needs: those of each file
+/// that has the same bytes in those blocks.
+fn read_tables(alloc: Global, header: &Header, file: &Places) -> Result<Tables, AllocError>
+    requires read { header_read file.now ≡ Ok header.now }
+    ensures over { IfOk result (λ tables. (a : List ℕ) → Alike a file.now → (t : Tree) → (d : Denotes a t) → IsOver a d.layout tables.directory.items tables.table.items) }
+{
+    let image = Image::Placed(file);
+    let own = fat_sectors(alloc, header, &image)?;
+    let table = entries(alloc, &image, &own.fat)?;
+    let chain = chain_from(alloc, &table, header.first_directory())?;
+    let directory = join(alloc, file, &chain)?;
+    Ok(Tables { directory, table })
+}
+
 /// Where the stream at a path lies, of a file of which the blocks were read that its listing needs: in each file that has
 /// the same bytes in those blocks, its bytes are what lies there.
 ///
@@ -101,21 +122,17 @@ pub fn blocks_at(
     ensures lies { IfOk result (λ lies. (a : List ℕ) → Alike a file.now → (t : Tree) → Denotes a t → stream_at path.now t ≡ Ok (held_in a lies)) }
     ensures refused { IfErr result (λ e. (a : List ℕ) → Alike a file.now → (t : Tree) → Denotes a t → MayRefuseSeek path.now t e) }
 {
-    let image = Image::Placed(file);
-    let own = fat_sectors(alloc, header, &image)?;
-    let table = entries(alloc, &image, &own.fat)?;
-    let chain = chain_from(alloc, &table, header.first_directory())?;
-    let directory = join(alloc, file, &chain)?;
-    let place = place_below(alloc, &directory, 0, path)?;
+    let tables = read_tables(alloc, header, file)?;
+    let place = place_below(alloc, &tables.directory, 0, path)?;
     let size = place.size as usize;
     if is_short(place) {
-        let places = short_blocks(alloc, header, file, &directory, &table, place)?;
+        let places = short_blocks(alloc, header, file, &tables.directory, &tables.table, place)?;
         return Ok(Lies {
             blocks: Blocks::Minis(places),
             size,
         });
     }
-    let sectors = chain_of(alloc, &table, place.first, size)?;
+    let sectors = chain_of(alloc, &tables.table, place.first, size)?;
     Ok(Lies {
         blocks: Blocks::Sectors(sectors),
         size,
