@@ -1,6 +1,6 @@
 -- Buffers that are filled, a part at a time.
-use Rattle.std.proofs.Common.{◌≡◌, ◌<◌, ◌≤◌, ◌+◌, ◌-◌, ◌*◌, ◌/◌, ◌∙◌, ℕ, List, Option, [], ◌∷◌, ◌++◌, length, take, drop, replicate, get_or, min, refl, sym, ap, subst, arith}
-use Rattle.std.proofs.lemmas.List.{append-nil, drop-drop, drop_all, get_or-drop, get_or-take, length-append, length-drop, length-take, length-take-le, take_all, take_at, take_min}
+use Rattle.std.proofs.Common.{◌≡◌, ◌<◌, ◌≤◌, ◌+◌, ◌-◌, ◌*◌, ◌∙◌, ℕ, List, Option, [], ◌++◌, length, take, drop, replicate, get_or, min, sym, ap, subst, arith}
+use Rattle.std.proofs.lemmas.List.{append-nil, drop_all, get_or-drop, get_or-take, length-append, length-drop, length-take, length-take-le, take_all, take_min}
 use Rattle.std.proofs.lemmas.Slice.{take-put_mid}
 use Rattle.std.proofs.KnownBytes.{Appends-trans}
 use Rattle.std.proofs.Math.Seq.{drop-append_seam}

@@ -1,10 +1,10 @@
 -- Blocks of a file, zero bytes standing for what is past its end.
-use Rattle.std.proofs.Common.{◌≡◌, ◌<◌, ◌≤◌, ◌+◌, ◌-◌, ◌*◌, ◌/◌, ◌∙◌, ℕ, zero, suc, List, [], ◌∷◌, ◌++◌, length, take, drop, replicate, get_or, map, min, refl, sym, ap, subst, arith, append_assoc, length-append, length-drop}
-use Rattle.std.proofs.lemmas.List.{append-nil, drop-drop, drop_all, length-replicate, drop-append-le, length-take, take-append-le, take_all, take_min}
-use Rattle.std.proofs.Math.Seq.{drop-append-add, drop-append_seam}
+use Rattle.std.proofs.Common.{◌≡◌, ◌<◌, ◌≤◌, ◌+◌, ◌-◌, ◌*◌, ◌∙◌, ℕ, zero, suc, List, [], ◌∷◌, ◌++◌, length, take, drop, replicate, get_or, min, refl, sym, ap, arith, length-append, length-drop}
+use Rattle.std.proofs.lemmas.List.{append-nil, drop-drop, drop_all, drop-append-le, take-append-le, take_all, take_min}
+use Rattle.std.proofs.Math.Seq.{drop-append-add}
 use Rattle.cfb_bytes.specs.Bytes.{block}
 use Rattle.cfb_header.specs.Bytes.{joined, sector}
-use Rattle.cfb_chain.proofs.Blocks.{block_pushed, length_block, length_joined}
+use Rattle.cfb_chain.proofs.Blocks.{block_pushed, length_block}
 
 -- so many bytes of a list, zeros behind its end
 abbrev pad : ℕ → List ℕ → List ℕ

@@ -1,32 +1,29 @@
 -- The child of a name among the entries that links reach.
-use Rattle.std.proofs.Common.{◌≡◌, ◌≢◌, ◌<◌, ◌+◌, ◌-◌, ◌*◌, ◌/◌, ◌++◌, ◌⊎◌, ◌∙◌, inl, inr, ℕ, zero, suc, Bool, true, false, cond, List, [], ◌∷◌, Option, Some, None, Result, Ok, Err, IfErr, IfNone, IfOk, IfSome, length, drop, get_or, replicate, take, refl, sym, ap, subst, arith}
+use Rattle.std.proofs.Common.{◌≡◌, ◌≢◌, ◌<◌, ◌+◌, ◌*◌, ◌/◌, ◌++◌, ◌⊎◌, ◌∙◌, inl, inr, ℕ, zero, suc, true, false, cond, List, [], ◌∷◌, Option, Some, None, Result, Ok, Err, IfErr, IfNone, IfSome, length, get_or, replicate, take, refl, sym, ap, subst, arith}
 use Rattle.std.specs.Result.{IsErrAnd}
 use Rattle.std.specs.List.{Contains}
-use Rattle.std.specs.declared.cmp.Ordering.{Ordering}
 use Rattle.std.specs.declared.cmp.Ordering.TheVariants.{Less, Equal}
 use Rattle.std.proofs.lemmas.Bool.{cases_Bool}
-use Rattle.std.proofs.lemmas.List.{drop_more, get_or_default, take_all}
+use Rattle.std.proofs.lemmas.List.{take_all}
 use Rattle.cfb_chain.specs.Chain.{AreDistinct}
 use Rattle.cfb_chain.proofs.Marks.{distinct_apart, distinct_append, distinct_left, distinct_right, distinct_tail}
 use Rattle.cfb_bytes.specs.Marks.{set_all}
 use Rattle.cfb_names.specs.Names.{key, key_cmp, key_eq}
 use Rattle.cfb_names.specs.declared.fault.DirFault.{DirFault}
 use Rattle.cfb_names.specs.declared.fault.DirFault.TheVariants as directory
-use Rattle.cfb_directory.specs.Entries.{AreLinked, EntriesValue, IsNameOf, MayRefuseChildren, MayRefuseEntry, MayRefuseLoad, child, entry_at, kind, marked, name_of, size_of}
+use Rattle.cfb_directory.specs.Entries.{AreLinked, EntriesValue, IsNameOf, MayRefuseChildren, MayRefuseLoad, child, entry_at, marked, name_of, size_of}
 use Rattle.storage_tree.specs.Tree.{Tree, Children, tree, none, stream, storage}
 use Rattle.storage_tree.specs.Change.{Seen, bytes, inner, find}
-use Rattle.storage_tree.specs.Whole.{AreAbove, AreTrees, IsTree}
+use Rattle.storage_tree.specs.Whole.{AreAbove, AreTrees}
 use Rattle.storage_tree.proofs.Entries.{reflexive}
 use Rattle.storage_tree.proofs.Wholes.{tied}
-use Rattle.file_model.specs.Denotes.{AreChildren, Holds, HoldsEach, Layout, Used, both, directory_of, entry, taken, within}
+use Rattle.file_model.specs.Denotes.{AreChildren, HoldsEach, Layout, Used, directory_of, entry, taken, within}
 use Rattle.file_model.proofs.Lists.{Contains-behind, Contains-cons_cases, Contains-front}
 use Rattle.file_model.proofs.Unique.{linked_unique}
-use Rattle.sector_maps.proofs.There.{child_kept, contains-none, directory_long, ids_used, kind_inside, load_kept, loaded_there, storage_kept, taken_ids}
-use Rattle.stream_seeking.specs.Faults.{of_directory_fault}
+use Rattle.sector_maps.proofs.There.{child_kept, contains-none, directory_long, ids_used, kind_inside, load_kept, loaded_there, storage_kept}
 use Rattle.stream_seeking.specs.Finding.{IsFoundIn, IsPassed, IsPicked, MayRefusePick, Says, find_in}
 use Rattle.stream_seeking.specs.Seeking.{IsInside, Stands}
 use Rattle.stream_seeking.specs.declared.fault.SeekFault.{SeekFault}
-use Rattle.stream_seeking.specs.declared.fault.SeekFault.TheVariants.{NoMemory}
 use Rattle.stream_seeking.specs.declared.finding.Child.{Child}
 
 -- ---- what a call answers that fails as another one did

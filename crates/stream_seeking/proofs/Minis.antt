@@ -1,13 +1,12 @@
 -- Where the mini sectors of a stream lie in a file.
-use Rattle.std.proofs.Common.{◌≡◌, ◌<◌, ◌≤◌, ◌+◌, ◌-◌, ◌*◌, ◌/◌, ◌%◌, ◌∙◌, ℕ, zero, suc, Bool, true, List, [], ◌∷◌, ◌++◌, length, take, drop, get_or, if◌then◌else◌, map, min, nat_lt, refl, rules, sym, ap, subst, arith, append_assoc}
-use Rattle.std.proofs.lemmas.List.{length-take, take-append-le, take_all}
-use Rattle.std.proofs.lemmas.List.Elements.{All-head, All-tail, All-take}
+use Rattle.std.proofs.Common.{◌≡◌, ◌<◌, ◌≤◌, ◌+◌, ◌*◌, ◌/◌, ◌%◌, ◌∙◌, ℕ, zero, suc, Bool, true, List, [], ◌∷◌, ◌++◌, length, take, get_or, if◌then◌else◌, map, nat_lt, refl, rules, sym, ap, subst, arith, append_assoc}
+use Rattle.std.proofs.lemmas.List.Elements.{All-take}
 use Rattle.std.specs.List.{All}
 use Rattle.cfb_header.specs.Bytes.{block, joined, sector, u32_at}
 use Rattle.cfb_header.specs.Header.{mini_fat_count}
-use Rattle.cfb_chain.specs.Chain.{END_OF_CHAIN, IsChain, IsChainOf, Leads}
+use Rattle.cfb_chain.specs.Chain.{END_OF_CHAIN, IsChainOf, Leads}
 use Rattle.cfb_chain.specs.Fat.{mini_sectors_of, sectors_of}
-use Rattle.cfb_chain.proofs.Blocks.{length_block, length_joined}
+use Rattle.cfb_chain.proofs.Blocks.{length_block}
 use Rattle.cfb_chain.proofs.Chains.{chain_room}
 use Rattle.cfb_directory.specs.Entries.{first_of, size_of}
 use Rattle.file_model.specs.Denotes.{IsLaidOut, Layout, minis, root_of, sectors}

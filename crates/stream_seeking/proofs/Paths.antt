@@ -1,16 +1,14 @@
 -- The stream at a path, a name at a time.
-use Rattle.std.proofs.Common.{◌≡◌, ◌==◌, ◌∙◌, ℕ, suc, true, false, List, [], ◌∷◌, Option, Some, None, Result, Ok, Err, length, take, refl, sym, ap, subst, arith}
-use Rattle.cfb_chain.specs.Chain.{IsChainOf}
+use Rattle.std.proofs.Common.{◌≡◌, ◌==◌, ◌∙◌, ℕ, true, false, List, ◌∷◌, Some, None, Err, length, refl, sym, ap, subst, arith}
 use Rattle.cfb_directory.specs.Entries.{entry_at, first_of, kind, kind_number, size_of}
 use Rattle.cfb_directory.specs.declared.entries.EntryKind.{EntryKind}
 use Rattle.cfb_directory.specs.declared.entries.EntryKind.TheVariants as kinds
-use Rattle.cfb_header.specs.Bytes.{joined}
 use Rattle.cfb_names.specs.Names.{key}
 use Rattle.storage_tree.specs.Tree.{Tree, tree}
 use Rattle.storage_tree.specs.Change.{Seen, bytes, inner, look, on_ok}
 use Rattle.storage_tree.specs.declared.fault.TreeFault.TheVariants.{NotFound, WrongKind}
 use Rattle.storage_tree.proofs.Entries.{look-here, look-stream}
-use Rattle.file_model.specs.Denotes.{HoldsBytes, Layout, directory_of, entry, store_for}
+use Rattle.file_model.specs.Denotes.{Layout, directory_of, entry}
 use Rattle.file_outline.specs.Streams.{stream_at, stream_bytes}
 use Rattle.file_outline.specs.declared.outline.Place.{Place}
 use Rattle.file_outline.proofs.Found.{stream-below, stream-none}

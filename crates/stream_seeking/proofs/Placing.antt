@@ -1,5 +1,5 @@
 -- What was read of a file tells where a stream of a file that is alike lies.
-use Rattle.std.proofs.Common.{◌≡◌, ◌<◌, ◌≤◌, ◌+◌, ◌-◌, ◌*◌, ◌/◌, ◌∙◌, ℕ, Bool, true, false, List, [], ◌∷◌, Result, Ok, Err, if◌then◌else◌, length, get_or, map, min, nat_lt, refl, sym, ap, subst, take, arith}
+use Rattle.std.proofs.Common.{◌≡◌, ◌<◌, ◌≤◌, ◌+◌, ◌-◌, ◌*◌, ◌/◌, ◌∙◌, ℕ, Bool, true, false, List, Result, Ok, if◌then◌else◌, length, get_or, map, min, nat_lt, refl, sym, ap, subst, take}
 use Rattle.std.proofs.lemmas.List.Elements.{All-take}
 use Rattle.std.specs.List.{All}
 use Rattle.cfb_header.specs.Bytes.{block, joined, sector, u32_at}
@@ -7,10 +7,9 @@ use Rattle.cfb_header.specs.Header.{HeaderValue, MOST_FAT_SECTORS, fat_by, first
 use Rattle.cfb_header.specs.declared.fault.ChainFault.{ChainFault}
 use Rattle.cfb_chain.specs.Chain.{END_OF_CHAIN, IsChain, IsChainOf, Leads}
 use Rattle.cfb_chain.specs.Fat.{mini_sectors_of, sectors_in, sectors_of}
-use Rattle.cfb_directory.specs.Entries.{first_of, size_of}
 use Rattle.storage_tree.specs.Tree.{Tree}
 use Rattle.file_model.specs.Alike.{AgreeOn, Alike}
-use Rattle.file_model.specs.Denotes.{Denotes, Layout, directory_of, minis, root_of, sectors, store_for}
+use Rattle.file_model.specs.Denotes.{Denotes, Layout, directory_of, minis, sectors}
 use Rattle.file_model.specs.Limits.{CUTOFF}
 use Rattle.file_model.proofs.AlikeHeaders.{header_alike}
 use Rattle.file_model.proofs.AlikeStores.{fat_by_alike, joined_alike}
@@ -20,10 +19,9 @@ use Rattle.sector_maps.specs.Painting.{IsOver}
 use Rattle.sector_maps.proofs.Chains.{chain_read}
 use Rattle.sector_maps.proofs.Layouts.{header_same, mini_fat_chain, over}
 use Rattle.sector_maps.proofs.There.{kind_inside}
-use Rattle.stream_seeking.specs.Blocks.{held_in}
 use Rattle.stream_seeking.specs.Chains.{begins_at, walked}
 use Rattle.stream_seeking.specs.Finding.{IsAt}
-use Rattle.stream_seeking.specs.Seeking.{IsInside, LiesAt}
+use Rattle.stream_seeking.specs.Seeking.{IsInside}
 use Rattle.stream_seeking.proofs.Minis.{short_held}
 
 directory_joined : (file : List ℕ) (l : Layout) (ns : List ℕ) → ns ≡ l.directory → joined (sector file) ns ≡ directory_of file l

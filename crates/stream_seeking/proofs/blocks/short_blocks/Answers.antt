@@ -1,10 +1,9 @@
-use Rattle.std.proofs.Common.{◌≡◌, ◌∙◌, ◌+◌, ◌*◌, ◌/◌, ℕ, List, ap, arith, length, map, min, subst, sym, take}
+use Rattle.std.proofs.Common.{◌≡◌, ◌∙◌, ◌+◌, ◌*◌, ◌/◌, ℕ, List, ap, arith, length, map, subst, sym, take}
 use Rattle.std.proofs.lemmas.List.{take_min}
 use Rattle.cfb_chain.specs.Chain.{IsChainOf}
 use Rattle.cfb_directory.specs.Entries.{EntriesValue, entry_at, kind}
 use Rattle.cfb_header.specs.Bytes.{joined, sector, u32_at}
 use Rattle.file_model.specs.Denotes.{directory_of, sectors}
-use Rattle.sector_maps.specs.Painting.{IsOver}
 use Rattle.sector_maps.proofs.There.{directory_long, filled, load_kept, root_kept}
 use Rattle.sector_maps.proofs.Walk.{root_chain}
 use Rattle.stream_seeking.specs.Chains.{begins_at, walked}

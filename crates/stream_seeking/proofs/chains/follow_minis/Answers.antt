@@ -1,4 +1,4 @@
-use Rattle.std.proofs.Common.{◌+◌, ◌*◌, ◌∙◌, suc, append-nil, arith, sym}
+use Rattle.std.proofs.Common.{◌*◌, ◌∙◌, suc, append-nil, arith, sym}
 use Rattle.cfb_header.specs.Bytes.{u32_at}
 use Rattle.stream_seeking.proofs.Minis.{walked_push}
 use Rattle.stream_seeking.proofs.chains.follow_minis.Goals as goal

@@ -1,4 +1,4 @@
-use Rattle.std.proofs.Common.{◌≡◌, ◌≤◌, ◌+◌, ◌-◌, ◌*◌, ◌/◌, IfSome, length, min, take}
+use Rattle.std.proofs.Common.{◌≡◌, ◌+◌, ◌-◌, ◌*◌, ◌/◌, IfSome, length, min, take}
 use Rattle.std.specs.Io.KnownBytes.{Appends}
 use Rattle.cfb_header.specs.Bytes.{joined, sector}
 use Rattle.stream_seeking.proofs.copying.copy_sectors.Given as goal

@@ -1,5 +1,4 @@
-use Rattle.std.proofs.Common.{◌≡◌, ◌-◌, ◌∙◌, ℕ, List, length, take, drop, replicate, rules, arith, ap, length-drop}
-use Rattle.std.proofs.lemmas.List.{take_all}
+use Rattle.std.proofs.Common.{◌≡◌, ◌-◌, ℕ, List, length, take, drop, replicate, rules, arith}
 use Rattle.file_places.proofs.Filling.{some_map}
 use Rattle.stream_seeking.proofs.Buffers.{filled_end}
 use Rattle.stream_seeking.proofs.filling.fill.Goals as goal

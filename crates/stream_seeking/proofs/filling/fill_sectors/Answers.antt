@@ -1,4 +1,4 @@
-use Rattle.std.proofs.Common.{◌≡◌, ◌≤◌, ◌<◌, ◌+◌, ◌-◌, ◌*◌, ◌∙◌, ℕ, List, IfSome, drop, length, min, take, get_or, arith}
+use Rattle.std.proofs.Common.{◌≡◌, ◌+◌, ◌-◌, ◌*◌, ◌∙◌, ℕ, List, drop, length, min, take, get_or, arith}
 use Rattle.cfb_bytes.specs.Bytes.{block}
 use Rattle.cfb_header.specs.Bytes.{joined, sector}
 use Rattle.file_places.proofs.Filling.{some_both, some_same}
