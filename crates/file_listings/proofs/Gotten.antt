@@ -1,8 +1,6 @@
 -- A stream that was found where it lies.
-use Rattle.std.proofs.Common.{◌≡◌, ◌≢◌, ◌⊎◌, ◌∙◌, inl, inr, ℕ, List, Option, Some, None, Result, Ok, Err, IfErr, IfSome, IsOk, length, refl, sym, ap, subst}
+use Rattle.std.proofs.Common.{◌≡◌, ℕ, List, Option, Ok, IsOk, refl, sym, subst}
 use Rattle.std.specs.Io.KnownBytes.{Appends}
-use Rattle.cfb_chain.specs.Chain.{IsChain, IsChainOf}
-use Rattle.cfb_header.specs.Header.{IsHeader}
 use Rattle.storage_tree.specs.Tree.{Tree}
 use Rattle.file_model.specs.Alike.{Alike}
 use Rattle.file_model.specs.Denotes.{Denotes}
@@ -31,18 +29,6 @@ catalog_refused a path places.TooBig r = r
 catalog_refused a path places.NoMemory r = tt
 catalog_refused a path (places.Header fault) r = places_refused a (places.Header fault) r
 
--- a file is alike itself
-alike_self : (a : List ℕ) → IsHeader a → Alike a a
-alike_self a h = record {
-  is_header = h;
-  len = refl;
-  header = refl;
-  difat = λ k d lt. refl;
-  fat = λ k d lt. refl;
-  directory = λ ns c k d lt. refl;
-  mini_fat = λ ns c k d lt. refl;
-}
-
 -- the file that was read denotes a tree, and so does the one that is alike
 carried : (a b : List ℕ) → Alike a b → (t : Tree) × Denotes b t → (t : Tree) × Denotes a t
 carried a b h p = let q : (t : Tree) × Denotes a t × (outline_of t ≡ outline_of p.0) = alike_denotes b a (alike_back a b h) p.0 p.1 in (q.0, q.1)
@@ -57,9 +43,9 @@ missing a b path r fault o is h p each =
     let q : (t : Tree) × Denotes a t = carried a b h (p.0, p.1) in
     (q.0, ∣ q.1 ∣₁, subst (MayRefuseSeek path q.0) is (each a h q.0 q.1))
 
-pub never : (b : List ℕ) (path : List (List ℕ)) (r : SeekFault) (o : Outline) → r ≡ seek.NoTree → IsHeader b → (t : Tree) × Denotes b t × (o ≡ outline_of t)
+pub never : (b : List ℕ) (path : List (List ℕ)) (r : SeekFault) (o : Outline) → r ≡ seek.NoTree → Alike b b → (t : Tree) × Denotes b t × (o ≡ outline_of t)
     → ((x : List ℕ) → Alike x b → (t : Tree) → Denotes x t → MayRefuseSeek path t r) → ⊥
-never b path r o is header p each = subst (MayRefuseSeek path p.0) is (each b (alike_self b header) p.0 p.1)
+never b path r o is self p each = subst (MayRefuseSeek path p.0) is (each b self p.0 p.1)
 
 pub gets : (a : List ℕ) (path : List (List ℕ)) (lies : Lies) (old new : Option (List ℕ)) → Stands a path lies → Appends old new (held_in a lies) → Gets a path old new
 gets a path lies old new s w = record { t = s.0; denotes = s.1; content = held_in a lies; stands = s.2; written = w }
@@ -70,4 +56,4 @@ begun a path lies old new s w = record { t = s.0; denotes = s.1; content = held_
 pub copy_refused : (a : List ℕ) (path : List (List ℕ)) (lies : Lies) (fault : CopyFault) → Stands a path lies → MayRefuseGet a path (of_copy_fault fault)
 copy_refused a path lies copy.Unreadable s = tt
 copy_refused a path lies copy.NoMemory s = tt
-copy_refused a path lies copy.Unwritable s = (s.0, s.1, subst (λ r. IsOk r) (sym s.2) tt)
+copy_refused a path lies copy.Unwritable s = (s.0, s.1, subst (λ r. IsOk r) (sym s.2) refl)

@@ -1,5 +1,5 @@
 -- What is listed of a file in a form.
-use Rattle.std.proofs.Common.{◌≡◌, ℕ, List, Option, subst}
+use Rattle.std.proofs.Common.{ℕ, List, Option, subst}
 use Rattle.std.specs.Io.KnownBytes.{Appends}
 use Rattle.file_model.specs.Outline.{Outline}
 use Rattle.file_commands.proofs.Listed.{IsOutlined}

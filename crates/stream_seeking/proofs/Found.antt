@@ -73,8 +73,8 @@ passed_more dir ids name entry_name i before named other = λ n c ne.
     elim (taken_more ids i n c) [
       | inl d ↦ before n d ne
       | inr e ↦ let here : get_or ids i 0 ≢ 0 = λ z. ne (sym e ∙ z) in
-        ap (λ m. key_eq (key name) (key (name_of (entry_at dir m)))) (sym e)
-        ∙ ap (λ xs. key_eq (key name) (key xs)) (sym (name_below (get_or ids i 0) (entry_at dir (get_or ids i 0)) entry_name here named)) ∙ other
+          ap (λ m. key_eq (key name) (key (name_of (entry_at dir m)))) (sym e)
+          ∙ ap (λ xs. key_eq (key name) (key xs)) (sym (name_below (get_or ids i 0) (entry_at dir (get_or ids i 0)) entry_name here named)) ∙ other
     ]
 
 -- ---- what is apart
@@ -139,10 +139,10 @@ module _ (file : List ℕ) (l : Layout) where
       let apart : AreDistinct (0 ∷ (us.ids ++ h.2.1.ids)) = subst (λ (x : Used). AreDistinct (0 ∷ x.ids)) h.2.3 d in
       elim (Contains-cons_cases id ids c i) [
         | inl e ↦ let here : key_eq k q ≡ true = ap (key_eq k) (h.1.under_key ∙ ap key h.1.named.units ∙ ap key_of e) ∙ hit in
-          subst (IsChildAt k (stream q m b cs)) e (m, bytes b, ap (λ z. cond z (Some (m, bytes b)) (find k cs)) here, (h.0, (h.2.0, h.2.2)))
+            subst (IsChildAt k (stream q m b cs)) e (m, bytes b, ap (λ z. cond z (Some (m, bytes b)) (find k cs)) here, (h.0, (h.2.0, h.2.2)))
         | inr j ↦ let r : IsChildAt k cs c = child_stands depth ids cs h.2.1 h.2.4 (first_stream depth q m b cs w) (apart_part us.ids h.2.1.ids apart) k c j hit in
-          let other : key_eq k q ≡ false = other_key k q ids cs h.2.1 h.2.4 (above_stream depth q m b cs w) c j hit in
-          (r.0, r.1, ap (λ z. cond z (Some (m, bytes b)) (find k cs)) other ∙ r.2, r.3)
+            let other : key_eq k q ≡ false = other_key k q ids cs h.2.1 h.2.4 (above_stream depth q m b cs w) c j hit in
+            (r.0, r.1, ap (λ z. cond z (Some (m, bytes b)) (find k cs)) other ∙ r.2, r.3)
       ]
   child_stands zero (id ∷ ids) (storage q m t cs) u h w d k c i hit = absurd w
   child_stands (suc depth) (id ∷ ids) (storage q m t cs) u h w d k c i hit =
@@ -150,19 +150,19 @@ module _ (file : List ℕ) (l : Layout) where
       let apart : AreDistinct (0 ∷ (us.ids ++ h.2.1.ids)) = subst (λ (x : Used). AreDistinct (0 ∷ x.ids)) h.2.3 d in
       elim (Contains-cons_cases id ids c i) [
         | inl e ↦ let here : key_eq k q ≡ true = ap (key_eq k) (h.1.under_key ∙ ap key h.1.named.units ∙ ap key_of e) ∙ hit in
-          let own : AreDistinct (0 ∷ ((id ∷ []) ++ h.2.0.ids)) = distinct_left (0 ∷ us.ids) h.2.1.ids apart in
-          let inside : IsInside file l id t = record {
-            used = h.2.0;
-            depth = depth;
-            inside = kind_inside (directory_of file l) id 0 h.0;
-            holds = h.2.2;
-            whole = w.2;
-            apart = apart_part (id ∷ []) h.2.0.ids own;
-          } in
-          subst (IsChildAt k (storage q m t cs)) e (m, inner t, ap (λ z. cond z (Some (m, inner t)) (find k cs)) here, (h.0, inside))
+            let own : AreDistinct (0 ∷ ((id ∷ []) ++ h.2.0.ids)) = distinct_left (0 ∷ us.ids) h.2.1.ids apart in
+            let inside : IsInside file l id t = record {
+              used = h.2.0;
+              depth = depth;
+              inside = kind_inside (directory_of file l) id 0 h.0;
+              holds = h.2.2;
+              whole = w.2;
+              apart = apart_part (id ∷ []) h.2.0.ids own;
+            } in
+            subst (IsChildAt k (storage q m t cs)) e (m, inner t, ap (λ z. cond z (Some (m, inner t)) (find k cs)) here, (h.0, inside))
         | inr j ↦ let r : IsChildAt k cs c = child_stands (suc depth) ids cs h.2.1 h.2.4 w.3 (apart_part us.ids h.2.1.ids apart) k c j hit in
-          let other : key_eq k q ≡ false = other_key k q ids cs h.2.1 h.2.4 w.1 c j hit in
-          (r.0, r.1, ap (λ z. cond z (Some (m, inner t)) (find k cs)) other ∙ r.2, r.3)
+            let other : key_eq k q ≡ false = other_key k q ids cs h.2.1 h.2.4 w.1 c j hit in
+            (r.0, r.1, ap (λ z. cond z (Some (m, inner t)) (find k cs)) other ∙ r.2, r.3)
       ]
 
   child_missing : (ids : List ℕ) (cs : Children) (u : Used) → HoldsEach file l ids cs u → (k : List ℕ) → ((c : ℕ) → Contains ids c → key_eq k (key_of c) ≡ false) → find k cs ≡ None

@@ -3,7 +3,7 @@ use Rattle.std.proofs.Common.{◌≡◌, ◌<◌, ◌≤◌, ◌+◌, ◌-◌, �
 use Rattle.std.proofs.lemmas.List.Elements.{All-take}
 use Rattle.std.specs.List.{All}
 use Rattle.cfb_header.specs.Bytes.{block, joined, sector, u32_at}
-use Rattle.cfb_header.specs.Header.{HeaderValue, MOST_FAT_SECTORS, fat_by, first_directory, first_mini_fat, header_of, header_read, listed, mini_fat_count}
+use Rattle.cfb_header.specs.Header.{HeaderValue, IsHeader, MOST_FAT_SECTORS, fat_by, first_directory, first_mini_fat, header_of, header_read, listed, mini_fat_count}
 use Rattle.cfb_header.specs.declared.fault.ChainFault.{ChainFault}
 use Rattle.cfb_chain.specs.Chain.{END_OF_CHAIN, IsChain, IsChainOf, Leads}
 use Rattle.cfb_chain.specs.Fat.{mini_sectors_of, sectors_in, sectors_of}
@@ -38,6 +38,18 @@ next_all a l = refl
 
 header_is : (v w : HeaderValue) → ◌≡◌ {A = Result HeaderValue ChainFault} (Ok v) (Ok w) → v ≡ w
 header_is v w h = cc
+
+-- a file is alike itself
+pub alike_self : (a : List ℕ) → IsHeader a → Alike a a
+alike_self a h = record {
+  is_header = h;
+  len = refl;
+  header = refl;
+  difat = λ k d lt. refl;
+  fat = λ k d lt. refl;
+  directory = λ ns c k d lt. refl;
+  mini_fat = λ ns c k d lt. refl;
+}
 
 module _ (a p : List ℕ) (h : Alike a p) (t : Tree) (d : Denotes a t) where
   -- the root's entry holds the tree

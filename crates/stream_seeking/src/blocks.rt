@@ -82,7 +82,13 @@ fn short_blocks(
     let mini_stream = chain_of(alloc, table, root.first, root.size as usize)?;
     let count = header.mini_fat_count() as usize;
     let mini_fat = chain_of(alloc, table, header.first_mini_fat(), 512 * count)?;
-    let places = minis_at(alloc, file, &mini_fat[..count.min(mini_fat.len())], &mini_stream, place)?;
+    let places = minis_at(
+        alloc,
+        file,
+        &mini_fat[..count.min(mini_fat.len())],
+        &mini_stream,
+        place,
+    )?;
     Ok(places)
 }
 

@@ -38,11 +38,7 @@ fn push_sector(out: &mut Vec<u8>, bytes: &[u8]) -> Result<(), AllocError>
 }
 
 /// The bytes of sectors, one after another.
-pub(crate) fn join(
-    alloc: Global,
-    file: &Places,
-    sectors: &[u32],
-) -> Result<Vec<u8>, AllocError>
+pub(crate) fn join(alloc: Global, file: &Places, sectors: &[u32]) -> Result<Vec<u8>, AllocError>
     ensures { IfOk result (λ v. v.items ≡ joined (sector file.now) sectors.now) }
 {
     let mut out = Vec::with_capacity(alloc, 512usize.saturating_mul(sectors.len()))?;
