@@ -1,2 +1,3 @@
+pub mod Gets
 pub mod Lists
 pub mod Maps

@@ -1,10 +1,12 @@
 //! The commands over the files of a system.
 
+use cfb_names::name::Name;
 use file_commands::cleaning::clean_file;
 use file_commands::commands::{list_file, make_file};
-use file_commands::fault::ListFault;
+use file_commands::fault::{GetFault, ListFault};
 use file_commands::getting::get_file;
 use file_commands::seeking::list_source;
+use file_listings::getting::get_source;
 use file_listings::listing::{list_file_as, list_source_as};
 use file_listings::mapping::map_file;
 use file_places::source::Sought;
@@ -141,12 +143,29 @@ fn get_spelled<R: Runtime + AllocGlobal>(
         Ok(names) => names,
         Err(fault) => return refuse_path(rt, word, fault.name()),
     };
-    let Ok(mut source) = fs::open(rt, path) else {
+    let Ok(source) = fs::open(rt, path) else {
         return refuse(rt, &Report::File(path, "Unreadable"));
     };
-    match get_file(rt.alloc(), &mut source, names, &mut io::writer(rt)) {
+    match get_open(rt, source, names) {
         Ok(()) => ExitCode::SUCCESS,
         Err(fault) => refuse(rt, &fault.report(path)),
+    }
+}
+
+/// Writes the stream at a path of an open file. Of one that tells how long it is, only what is needed is read.
+fn get_open<R: Runtime + AllocGlobal>(
+    rt: &R,
+    mut source: R::File,
+    names: &[Name],
+) -> Result<(), GetFault> {
+    match source.metadata() {
+        Ok(about) if about.is_file() && about.len() > 0 => get_source(
+            rt.alloc(),
+            &mut Sought::new(source),
+            names,
+            &mut io::writer(rt),
+        ),
+        _ => get_file(rt.alloc(), &mut source, names, &mut io::writer(rt)),
     }
 }
 

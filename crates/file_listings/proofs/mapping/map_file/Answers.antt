@@ -1,4 +1,4 @@
-use Rattle.std.proofs.Common.{◌≡◌, ◌∙◌, ℕ, List, Option, subst, sym}
+use Rattle.std.proofs.Common.{◌∙◌, ℕ, List, Option, subst, sym}
 use Rattle.file_commands.proofs.Listed.{IsOutlined, ok_map}
 use Rattle.file_commands.proofs.ReadRefused.{read_refused}
 use Rattle.file_model.specs.Outline.{Outline}

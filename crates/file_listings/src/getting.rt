@@ -1,0 +1,107 @@
+//! Writing a stream of a file that can be sought in.
+
+ghost use Rattle.file_commands.specs.Getting.{Gets, MayRefuseGet};
+ghost use Rattle.file_listings.specs.Gets.{Begun, Stands, of_copy_fault, of_places_fault};
+ghost use Rattle.std.specs.Prelude.{◌≡◌, ◌≢◌, ◌⊎◌, IfErr, IfOk, IfSome, OnOk, length};
+ghost use Rattle.texts.specs.declared.input.InputFault.TheVariants as input;
+
+use cfb_names::name::Name;
+use file_commands::fault::GetFault;
+use file_places::fault::PlacesFault;
+use file_places::reading::read_catalog;
+use file_places::source::Source;
+use std::alloc::Global;
+use std::io::Write;
+use stream_io::fault::ReadFault;
+use stream_io::read::read_placed;
+use stream_seeking::blocks::{Lies, blocks_at};
+use stream_seeking::copying::copy_blocks;
+use stream_seeking::fault::{CopyFault, SeekFault};
+use texts::input::InputFault;
+
+/// A fault of a file of which only some blocks are read.
+fn of_places(fault: PlacesFault) -> GetFault
+    ensures { result ≡ of_places_fault fault }
+{
+    match fault {
+        PlacesFault::Unreadable => GetFault::Input(InputFault::Unreadable),
+        PlacesFault::TooBig => GetFault::Input(InputFault::TooBig),
+        PlacesFault::NoMemory => GetFault::Input(InputFault::NoMemory),
+        PlacesFault::Header(fault) => GetFault::Read(ReadFault::from(fault)),
+    }
+}
+
+/// A fault of a stream that is copied.
+fn of_copy(fault: CopyFault) -> GetFault
+    ensures { result ≡ of_copy_fault fault }
+{
+    match fault {
+        CopyFault::Unreadable => GetFault::Input(InputFault::Unreadable),
+        CopyFault::NoMemory => GetFault::Input(InputFault::NoMemory),
+        CopyFault::Unwritable => GetFault::Unwritable,
+    }
+}
+
+/// A stream that was found: where it lies, and how many bytes the file has.
+#[derive(Drop)]
+struct Found {
+    lies: Lies,
+    len: usize,
+}
+
+/// Finds the stream at a path.
+///
+/// Refused: as `get_source`, but for writing.
+fn seek<S: Source>(alloc: Global, source: &mut S, path: &[Name]) -> Result<Found, GetFault>
+    ensures found { IfOk result (λ f. IfSome (S.bytes source.old) (λ file. (length file ≡ f.len) × Stands file path.now f.lies)) }
+    ensures refused { IfErr result (λ fault. IfSome (S.bytes source.old) (λ file. MayRefuseGet file path.now fault)) }
+    ensures kept { S.bytes source.new ≡ S.bytes source.old }
+{
+    let catalog = match read_catalog(alloc, source) {
+        Ok(catalog) => catalog,
+        Err(fault) => return Err(of_places(fault)),
+    };
+    match read_placed(alloc, &catalog.header, &catalog.file) {
+        Ok(_) => {}
+        Err(fault) => return Err(GetFault::Read(fault)),
+    };
+    match blocks_at(alloc, &catalog.header, &catalog.file, path) {
+        Ok(lies) => Ok(Found {
+            lies,
+            len: catalog.file.len(),
+        }),
+        Err(SeekFault::Tree(fault)) => Err(GetFault::Tree(fault)),
+        Err(SeekFault::NoMemory) => Err(GetFault::Input(InputFault::NoMemory)),
+        Err(SeekFault::NoTree) => unreachable!(),
+    }
+}
+
+/// Writes the bytes of the stream at a path of the tree that a compound file holds. Of the file it reads what tells where
+/// the stream lies, and the blocks of the stream, a piece of at most 65,536 bytes at a time.
+///
+/// Refused: as `get_file`. Nothing is written then, but where a write fails, and where a read does: then what was written is
+/// a front of the stream.
+pub fn get_source<S: Source, W: Write>(
+    alloc: Global,
+    source: &mut S,
+    path: &[Name],
+    writer: &mut W,
+) -> Result<(), GetFault>
+    ensures got { OnOk result (IfSome (S.bytes source.old) (λ file. Gets file path.now (W.contents writer.old) (W.contents writer.new))) }
+    ensures refused { IfErr result (λ fault. IfSome (S.bytes source.old) (λ file. MayRefuseGet file path.now fault)) }
+    ensures unwritten { IfErr result (λ fault. fault ≢ GetFault.Unwritable → fault ≢ GetFault.Input input.Unreadable → writer.new ≡ writer.old) }
+    ensures begun { IfErr result (λ fault. fault ≡ GetFault.Input input.Unreadable → (writer.new ≡ writer.old) ⊎ IfSome (S.bytes source.old) (λ file. Begun file path.now (W.contents writer.old) (W.contents writer.new))) }
+{
+    let found = seek(alloc, source, path)?;
+    match copy_blocks(
+        alloc,
+        source,
+        found.len,
+        &found.lies.blocks,
+        found.lies.size,
+        writer,
+    ) {
+        Ok(()) => Ok(()),
+        Err(fault) => Err(of_copy(fault)),
+    }
+}

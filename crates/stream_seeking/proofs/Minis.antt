@@ -1,0 +1,90 @@
+-- Where the mini sectors of a stream lie in a file.
+use Rattle.std.proofs.Common.{◌≡◌, ◌<◌, ◌≤◌, ◌+◌, ◌*◌, ◌/◌, ◌%◌, ◌∙◌, ℕ, zero, suc, Bool, true, List, [], ◌∷◌, ◌++◌, length, take, get_or, if◌then◌else◌, map, nat_lt, refl, rules, sym, ap, subst, arith, append_assoc}
+use Rattle.std.proofs.lemmas.List.Elements.{All-take}
+use Rattle.std.specs.List.{All}
+use Rattle.cfb_header.specs.Bytes.{block, joined, sector, u32_at}
+use Rattle.cfb_header.specs.Header.{mini_fat_count}
+use Rattle.cfb_chain.specs.Chain.{END_OF_CHAIN, IsChainOf, Leads}
+use Rattle.cfb_chain.specs.Fat.{mini_sectors_of, sectors_of}
+use Rattle.cfb_chain.proofs.Blocks.{length_block}
+use Rattle.cfb_chain.proofs.Chains.{chain_room}
+use Rattle.cfb_directory.specs.Entries.{first_of, size_of}
+use Rattle.file_model.specs.Denotes.{IsLaidOut, Layout, minis, root_of, sectors}
+use Rattle.stream_seeking.specs.Chains.{begins_at, walked}
+use Rattle.stream_seeking.proofs.Filled.{mini_at}
+use Rattle.stream_seeking.proofs.Joined.{joined_cut, joined_map}
+
+-- ---- numbers that follow one another
+pub walked_push : (f : ℕ → ℕ) (xs ys : List ℕ) (at next k : ℕ) → ys ≡ xs ++ at ∷ [] → next ≡ f at → ys ++ walked f next k ≡ xs ++ walked f at (suc k)
+walked_push f xs ys at next k e n =
+    ap (λ zs. zs ++ walked f next k) e ∙ append_assoc xs (at ∷ []) (walked f next k) ∙ ap (λ m. xs ++ (at ∷ walked f m k)) n
+
+walked_leads : (f : ℕ → ℕ) (at : ℕ) (ns : List ℕ) (last count : ℕ) → Leads f at ns last → count ≤ length ns → walked f at count ≡ take count ns
+walked_leads f at ns last zero h lt = refl
+walked_leads f at [] last (suc count) h lt = absurd (omega (arith, lt))
+walked_leads f at (n ∷ ns) last (suc count) h lt =
+    ap (λ m. m ∷ walked f (f m) count) h.0 ∙ ap (λ ys. n ∷ ys) (walked_leads f (f n) ns last count h.1 (omega (arith, lt)))
+
+-- ---- a mini sector in the file
+placed_by : (ms : List ℕ) (m : ℕ) → m / 8 < length ms → begins_at ms m ≡ 512 * (get_or ms (m / 8) 0 + 1) + 64 * (m % 8)
+placed_by ms m lt =
+    let e : nat_lt (m / 8) (length ms) ≡ true = search (rules, lt) in
+    ap (λ (b : Bool). if b then 512 * (get_or ms (m / 8) 0 + 1) + 64 * (m % 8) else 0) e
+
+mini_block : (a ms : List ℕ) (m : ℕ) → m < 8 * length ms → block 64 (joined (sector a) ms) (64 * m) ≡ block 64 a (begins_at ms m)
+mini_block a ms m lt =
+    let q : ℕ = m / 8 in
+    let r : ℕ = m % 8 in
+    let e : m ≡ 8 * (m / 8) + m % 8 = omega arith in
+    let lq : m / 8 < length ms = omega (arith, lt) in
+    let lr : m % 8 < 8 = omega arith in
+    ap (λ k. block 64 (joined (sector a) ms) (64 * k)) e
+    ∙ mini_at a ms (m / 8) (m % 8) lq lr
+    ∙ ap (block 64 a) (sym (placed_by ms m lq))
+
+module _ (a : List ℕ) (l : Layout) where
+  pub next_is : (n : ℕ) → (minis a l).next n ≡ u32_at (joined (sector a) (take (mini_fat_count a) l.mini_fat)) (4 * n)
+  unfolding mini_sectors_of
+  next_is n = refl
+
+  wide_mini : (n : ℕ) → length ((minis a l).piece n) ≡ 64
+  unfolding mini_sectors_of
+  wide_mini n = length_block 64 (joined (sector a) l.mini_stream) (64 * n)
+
+  piece_is : (n : ℕ) → (minis a l).piece n ≡ block 64 (joined (sector a) l.mini_stream) (64 * n)
+  unfolding mini_sectors_of
+  piece_is n = refl
+
+  width_is : (minis a l).width ≡ 64
+  unfolding mini_sectors_of
+  width_is = refl
+
+  sector_width : (sectors a l).width ≡ 512
+  unfolding sectors_of
+  sector_width = refl
+
+  count_is : (n : ℕ) → n < (minis a l).count → n < (size_of (root_of a l) + 63) / 64
+  unfolding mini_sectors_of
+  count_is n lt = omega (arith, lt)
+
+  -- the mini sectors of a stream are blocks of the file
+  pub short_held : (laid : IsLaidOut a l) (first size : ℕ) (ns : List ℕ) → IsChainOf (minis a l) first size ns
+      → take size (joined (minis a l).piece ns) ≡ take size (joined (block 64 a) (map (begins_at l.mini_stream) (walked (minis a l).next first ((size + 63) / 64))))
+  short_held laid first zero ns chain = refl
+  short_held laid first (suc k) ns chain =
+      let size : ℕ = suc k in
+      let count : ℕ = (suc k + 63) / 64 in
+      let room : suc k ≤ 64 * length ns = subst (λ (w : ℕ). suc k ≤ w * length ns) width_is chain.enough in
+      let fits : (suc k + 63) / 64 ≤ length ns = omega (arith, room) in
+      let enough : suc k ≤ 64 * ((suc k + 63) / 64) = omega arith in
+      let path : walked (minis a l).next first count ≡ take count ns = walked_leads (minis a l).next first ns END_OF_CHAIN count chain.linked fits in
+      let stream_room : size_of (root_of a l) ≤ 512 * length l.mini_stream =
+      subst (λ (w : ℕ). size_of (root_of a l) ≤ w * length l.mini_stream) sector_width (chain_room (sectors a l) (first_of (root_of a l)) (size_of (root_of a l)) l.mini_stream laid.mini_stream) in
+      let each : All (λ n. (minis a l).piece n ≡ block 64 a (begins_at l.mini_stream n)) ns =
+      λ j d lt. let n : ℕ = get_or ns j d in
+      let below : n < (size_of (root_of a l) + 63) / 64 = count_is n (chain.present j d lt).1 in
+      piece_is n ∙ mini_block a l.mini_stream n (omega (arith, below, stream_room)) in
+      joined_cut 64 (minis a l).piece wide_mini size count ns fits enough
+      ∙ ap (take size) (joined_map (minis a l).piece (block 64 a) (begins_at l.mini_stream) (take count ns)
+      (All-take (λ n. (minis a l).piece n ≡ block 64 a (begins_at l.mini_stream n)) count ns each))
+      ∙ ap (λ xs. take size (joined (block 64 a) (map (begins_at l.mini_stream) xs))) (sym path)

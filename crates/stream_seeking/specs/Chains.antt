@@ -1,0 +1,11 @@
+-- Mini sectors in a file; clauses of functions inside the crate cite these.
+use Rattle.std.specs.Prelude.{◌+◌, ◌*◌, ◌/◌, ◌%◌, ℕ, zero, suc, List, [], ◌∷◌, length, nat_lt, if◌then◌else◌, slice_index}
+
+-- so many numbers from one on, each followed by the next
+abbrev pub walked : (ℕ → ℕ) → ℕ → ℕ → List ℕ
+walked next at zero = []
+walked next at (suc count) = at ∷ walked next (next at) count
+
+-- where a mini sector begins, given the sectors of the mini stream
+abbrev pub begins_at : List ℕ → ℕ → ℕ
+begins_at mini_stream m = if nat_lt (m / 8) (length mini_stream) then 512 * (slice_index mini_stream (m / 8) + 1) + 64 * (m % 8) else 0

@@ -1,0 +1,106 @@
+//! The chains of a file of which some blocks were read.
+
+ghost use Rattle.cfb_chain.specs.Chain.{IsChain, IsChainOf};
+ghost use Rattle.cfb_header.specs.Bytes.{block, joined, sector, u32_at};
+ghost use Rattle.file_model.specs.Denotes.{Layout, sectors};
+ghost use Rattle.sector_maps.specs.Painting.{IsOver};
+ghost use Rattle.std.specs.Prelude.{◌*◌, ◌++◌, ◌<◌, ◌≡◌, ◌≤◌, IfOk, List, OnOk, length, map, ℕ};
+ghost use Rattle.stream_seeking.specs.Chains.{begins_at, walked};
+
+use cfb_bytes::numbers::read_u32;
+use cfb_chain::table::chain_from;
+use cfb_places::places::Places;
+use std::alloc::{AllocError, Global};
+
+/// The sectors of the chain that begins with one, or none where it is to hold nothing.
+pub(crate) fn chain_of(
+    alloc: Global,
+    table: &[u32],
+    start: u32,
+    bytes: usize,
+) -> Result<Vec<u32>, AllocError>
+    ensures { IfOk result (λ v. (file : List ℕ) → (l : Layout) → (directory : List ℕ) → IsOver file l directory table.now → (ns : List ℕ) → IsChainOf (sectors file l) start bytes ns → v.items ≡ ns) }
+{
+    if bytes == 0 {
+        return Ok(Vec::new(alloc));
+    }
+    chain_from(alloc, table, start)
+}
+
+/// Adds the bytes of a sector, of which there are these, zero bytes standing for the others.
+fn push_sector(out: &mut Vec<u8>, bytes: &[u8]) -> Result<(), AllocError>
+    ensures { OnOk result (out.new.items ≡ out.old.items ++ block 512 bytes.now 0) }
+{
+    let end = out.len() + 512;
+    out.extend_from_slice(&bytes[..bytes.len().min(512)])?;
+    out.resize(end, 0)?;
+    Ok(())
+}
+
+/// The bytes of sectors, one after another.
+pub(crate) fn join(alloc: Global, file: &Places, sectors: &[u32]) -> Result<Vec<u8>, AllocError>
+    ensures { IfOk result (λ v. v.items ≡ joined (sector file.now) sectors.now) }
+{
+    let mut out = Vec::with_capacity(alloc, 512usize.saturating_mul(sectors.len()))?;
+    for n in sectors {
+        push_sector(&mut out, file.part(*n as usize + 1))?;
+    }
+    Ok(out)
+}
+
+/// Number k of four bytes each, 0 past the end.
+fn number(bytes: &[u8], k: u32) -> u32
+    requires whole { (m : ℕ) × (length bytes.now ≡ 4 * m) }
+    ensures { result ≡ u32_at bytes.now (4 * k) }
+{
+    let at = 4 * k as usize;
+    if at < bytes.len() {
+        read_u32(bytes, at)
+    } else {
+        0
+    }
+}
+
+/// So many mini sectors from one on, each followed by the one that its entry in the mini FAT names.
+pub(crate) fn follow_minis(
+    alloc: Global,
+    mini_fat: &[u8],
+    first: u32,
+    count: usize,
+) -> Result<Vec<u32>, AllocError>
+    requires whole { (m : ℕ) × (length mini_fat.now ≡ 4 * m) }
+    ensures { IfOk result (λ v. v.items ≡ walked (λ n. u32_at mini_fat.now (4 * n)) first count) }
+{
+    let mut minis = Vec::new(alloc);
+    let mut at = first;
+    for _ in 0..count {
+        minis.push(at)?;
+        at = number(mini_fat, at);
+    }
+    Ok(minis)
+}
+
+/// Where a mini sector begins in the file, given the sectors of the mini stream; 0 past their end.
+fn mini_place(mini_stream: &[u32], mini: u32) -> usize
+    ensures { result ≡ begins_at mini_stream.now mini }
+{
+    match mini_stream.get(mini as usize / 8) {
+        Some(n) => 512 * (*n as usize + 1) + 64 * (mini as usize % 8),
+        None => 0,
+    }
+}
+
+/// Where mini sectors begin in the file.
+pub(crate) fn mini_places(
+    alloc: Global,
+    mini_stream: &[u32],
+    minis: &[u32],
+) -> Result<Vec<usize>, AllocError>
+    ensures { IfOk result (λ v. v.items ≡ map (begins_at mini_stream.now) minis.now) }
+{
+    let mut places = Vec::with_capacity(alloc, minis.len())?;
+    for mini in minis {
+        places.push(mini_place(mini_stream, *mini))?;
+    }
+    Ok(places)
+}

@@ -1,0 +1,10 @@
+//! Where the stream at a path of a compound file lies, and its bytes copied from there, of which a piece is in memory at
+//! a time.
+#![tactic(auto)]
+
+pub mod blocks;
+mod chains;
+pub mod copying;
+pub mod fault;
+mod filling;
+mod finding;
