@@ -93,7 +93,7 @@ started_linked {es = es} s l ls new is inc with_one linked = λ n.
     ap (running n) is ∙ one_more (s == n) (running n es) ∙ ap (λ x. x + (if s == n then 1 else 0)) (linked n)
     ∙ ap (λ i. links_of n ls + (if i == n then 1 else 0)) (sym inc) ∙ sym (links_end n ls l) ∙ ap (links_of n) (sym with_one)
 
-links_removed : (s : ℕ) (ls : List Link) (place : ℕ) (d : Link) → place < length ls → links_of s ls ≡ links_of s (remove ls place) + (if (slice_index_or ls place d).inc == s then 1 else 0)
+pub links_removed : (s : ℕ) (ls : List Link) (place : ℕ) (d : Link) → place < length ls → links_of s ls ≡ links_of s (remove ls place) + (if (slice_index_or ls place d).inc == s then 1 else 0)
 links_removed s [] place d within = absurd (omega (arith, within))
 links_removed s (l ∷ ls) zero d within = refl
 links_removed s (l ∷ ls) (suc place) d within = omega (arith, links_removed s ls place d (omega (arith, within)))

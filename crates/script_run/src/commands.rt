@@ -6,7 +6,7 @@ ghost use Rattle.script_model.specs.Origins.{AreNext, Passed, giving, passed};
 ghost use Rattle.script_run.specs.Links.{AreLinked, AreServed, EachServed, beside, links_of};
 ghost use Rattle.script_run.specs.Told.{IsTold};
 ghost use Rattle.script_run.specs.declared.links.Link.{Link};
-ghost use Rattle.std.specs.Prelude.{◌≡◌, ◌<◌, ◌++◌, ◌∷◌, [], false, true, IfOk, IfSome, OnOk, length, ℕ, slice_index_or, slice_set, vec_capacity, vec_len};
+ghost use Rattle.std.specs.Prelude.{◌≡◌, ◌≤◌, ◌<◌, ◌++◌, ◌∷◌, [], false, true, IfOk, IfSome, OnOk, length, ℕ, slice_index_or, slice_set, vec_capacity, vec_len};
 
 use crate::container::command;
 use crate::fault::ScriptFault;
@@ -246,6 +246,7 @@ fn let_go(alloc: Global, links: &mut Vec<Link>, place: usize) -> Items<Message>
 /// Connects the link at a place again. Gives whether it was made.
 fn reconnect_at<H: Host>(alloc: Global, host: &mut H, links: &mut Vec<Link>, place: usize) -> bool
     requires within { place < length links.old.items }
+    requires single { (s : ℕ) → running s (H.told host.old) ≤ 1 }
     requires linked { AreLinked (H.told host.old) links.old.items }
     requires served { AreServed (H.told host.old) links.old.items }
     ensures told { (r : Record) → IsTold ⟦<H::Disk as Disk>⟧ (H.told host.old) r → IsTold ⟦<H::Disk as Disk>⟧ (H.told host.new) r }
@@ -275,10 +276,10 @@ fn release<H: Host>(
 {
     let inc = links[place].inc;
     let waiting = let_go(alloc, links, place);
-    if !hand_all(alloc, host, core, inc, waiting, noticed)? {
-        end_at(alloc, host, core, links, place, noticed)?;
+    if hand_all(alloc, host, core, inc, waiting, noticed)? {
+        return Ok(());
     }
-    Ok(())
+    end_at(alloc, host, core, links, place, noticed)
 }
 
 /// What comes on the link at a place waits from now on.

@@ -236,8 +236,11 @@ fn read_some<H: Host>(host: &mut H, link: &mut Link) -> Result<bool, ScriptFault
         return Ok(false);
     }
     match link.decoder.feed(&piece[..n]) {
-        Err(WireFault::NoMemory) => Err(ScriptFault::NoMemory),
-        _ => Ok(true),
+        Ok(()) => Ok(true),
+        Err(fault) => match fault {
+            WireFault::NoMemory => Err(ScriptFault::NoMemory),
+            _ => Ok(true),
+        },
     }
 }
 
