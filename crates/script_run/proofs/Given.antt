@@ -1,5 +1,5 @@
 -- What is given to the container, and what is asked of the host, leaves the record that the history tells.
-use Rattle.std.proofs.Common.{◌≡◌, ◌≤◌, ◌<◌, ◌+◌, ◌-◌, ◌==◌, ◌++◌, ℕ, zero, suc, Bool, true, false, List, [], ◌∷◌, Option, length, take, drop, remove, if◌then◌else◌, Result, Ok, Err, IfOk, IfErr, OnErr, refl, sym, ap, ◌∙◌, subst, append_assoc, arith, rules, slice_index_or, slice_set}
+use Rattle.std.proofs.Common.{◌≡◌, ◌<◌, ◌+◌, ◌-◌, ◌==◌, ◌++◌, ℕ, zero, suc, Bool, true, false, List, [], ◌∷◌, length, remove, if◌then◌else◌, Result, Ok, Err, IfOk, IfErr, OnErr, refl, sym, ap, ◌∙◌, subst, arith, slice_index_or, slice_set}
 use Rattle.container_model.specs.Record.{Record, Took, Refuses}
 use Rattle.container_model.specs.declared.answer.Answer.{Answer}
 use Rattle.container_model.specs.declared.fault.ContainerFault.{ContainerFault}
@@ -7,7 +7,7 @@ use Rattle.container_model.specs.declared.fault.ContainerFault.TheVariants as fa
 use Rattle.script_model.specs.declared.step.Step.{Step}
 use Rattle.script_model.specs.declared.step.Step.TheVariants as step
 use Rattle.script_model.specs.Containers.{Given, given, given_by, gives, moved, record_of}
-use Rattle.script_model.specs.Events.{Event, Started, Connected, Sent, Heard, Ended, Opened, Found, Shut, Stepped, running}
+use Rattle.script_model.specs.Events.{Event, Started, Ended, Stepped, running}
 use Rattle.script_model.specs.Origins.{GivesNext}
 use Rattle.script_model.specs.Saved.{CountsSaved, OpensRead}
 use Rattle.store_model.specs.declared.disk.Disk.{Ghosts as Disks}

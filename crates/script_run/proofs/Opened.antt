@@ -1,12 +1,12 @@
 -- A file that is opened, given to the container.
-use Rattle.std.proofs.Common.{◌≡◌, ◌≤◌, ◌+◌, ◌⊎◌, inl, inr, ℕ, Bool, true, false, not, List, [], ◌∷◌, length, Option, Some, Result, Ok, Err, IfOk, IfErr, OnErr, refl, sym, ap, ◌∙◌, subst, arith}
+use Rattle.std.proofs.Common.{◌≡◌, ◌≤◌, ◌+◌, ◌⊎◌, inl, inr, ℕ, Bool, true, false, not, List, ◌∷◌, length, Option, Some, Result, Ok, Err, IfOk, IfErr, OnErr, refl, sym, ap, ◌∙◌, subst, arith}
 use Rattle.std.proofs.lemmas.List.FromFn.{length-range_with_len}
 use Rattle.std.specs.List.{range_with_len}
 use Rattle.document_model.specs.declared.object.DocObject.{DocObject}
-use Rattle.container_core.specs.Opening.{MayRefuse, as_given, looked_at, reading, unread}
+use Rattle.container_core.specs.Opening.{MayRefuse, as_given, reading, unread}
 use Rattle.container_laws.specs.OpenLaws.{FilesGiveOne}
 use Rattle.container_model.specs.Commands.{is_named, is_size}
-use Rattle.container_model.specs.Opens.{Given as Read, IsReadAs, opened, opening}
+use Rattle.container_model.specs.Opens.{Given as Read, IsReadAs, opened}
 use Rattle.container_model.specs.Record.{Record, Took, Refuses, counts_none, unless}
 use Rattle.container_model.specs.declared.answer.Answer.{Answer}
 use Rattle.container_model.specs.declared.fault.ContainerFault.{ContainerFault}

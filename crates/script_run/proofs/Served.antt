@@ -1,5 +1,5 @@
 -- What passes on a link, and what its decoder and the messages that wait have of it.
-use Rattle.std.proofs.Common.{◌≡◌, ◌⊎◌, inl, inr, ⊎_elim, ◌≤◌, ◌<◌, ◌+◌, ◌-◌, ◌==◌, ◌++◌, ℕ, zero, suc, Bool, true, false, List, [], ◌∷◌, length, remove, if◌then◌else◌, Option, Some, None, Result, Ok, Err, OnOk, refl, sym, ap, ◌∙◌, subst, append_assoc, arith, slice_index_or, slice_set}
+use Rattle.std.proofs.Common.{◌≡◌, ⊎_elim, ◌≤◌, ◌<◌, ◌+◌, ◌-◌, ◌==◌, ◌++◌, ℕ, zero, suc, Bool, true, false, List, [], ◌∷◌, length, remove, if◌then◌else◌, Option, Some, Result, Ok, Err, OnOk, refl, sym, ap, ◌∙◌, subst, append_assoc, arith, slice_index_or, slice_set}
 use Rattle.std.proofs.lemmas.Bool.{eqb-true, eq-eqb}
 use Rattle.std.proofs.lemmas.Bool.Decides.{eqb_tells}
 use Rattle.std.specs.List.{AllByRecursion}
@@ -71,23 +71,43 @@ pub one_next : (p : Passed) (m : Message) (ms : List Message) → AreNext p (m �
 one_next p m ms next = (ms ++ next.0, next.1)
 
 -- and the others, once the container is given the first
-pub rest_next : (p : Passed) (m : Message) (ms : List Message) → AreNext p (m ∷ ms) → AreNext (giving (m ∷ []) p) ms
+rest_next : (p : Passed) (m : Message) (ms : List Message) → AreNext p (m ∷ ms) → AreNext (giving (m ∷ []) p) ms
 rest_next p m ms next = (next.0, subst (λ (all : List Message). AreFirst p.came all) (sym (append_assoc p.given (m ∷ []) (ms ++ next.0))) next.1)
 
-pub giving_on : (p : Passed) (m : Message) (ms : List Message) → giving ms (giving (m ∷ []) p) ≡ giving (m ∷ ms) p
-giving_on p m ms = ap (λ (all : List Message). giving all (record { came = p.came; given = [] })) (append_assoc p.given (m ∷ []) ms)
+-- the container was given the first of what was to come: the others are next, and all of it is the same
+pub others_next : (p now : Passed) (m : Message) (ms others : List Message) → ms ≡ m ∷ others → now ≡ giving (m ∷ []) p → AreNext p ms → AreNext now others
+others_next p now m ms others is given next = subst (λ (q : Passed). AreNext q others) (sym given) (rest_next p m others (subst (λ (all : List Message). AreNext p all) is next))
+
+giving_on : (p : Passed) (m : Message) (ms : List Message) → giving ms (giving (m ∷ []) p) ≡ giving (m ∷ ms) p
+giving_on p m ms = ap (λ (all : List Message). record { came = p.came; given = all }) (append_assoc p.given (m ∷ []) ms)
+
+pub others_given : (p now end : Passed) (m : Message) (ms others : List Message) → ms ≡ m ∷ others → now ≡ giving (m ∷ []) p → giving ms p ≡ end → giving others now ≡ end
+others_given p now end m ms others is given all = ap (giving others) given ∙ giving_on p m others ∙ ap (λ (x : List Message). giving x p) (sym is) ∙ all
 
 -- The container was given what is in hand.
 pub hand_given : (p : Passed) (l : Link) (m : Message) → l.held ≡ false → IsServed p l (m ∷ []) → IsServed (giving (m ∷ []) p) l []
 hand_given p l m free s = record {
-  fed = s.fed; earlier = s.earlier; before = s.before; taken = s.taken; came = s.came; first = s.first; stands = s.stands; idle = s.idle;
-  messages = s.messages ∙ ap (λ w. p.given ++ (w ++ m ∷ [])) (s.idle free) ∙ sym (append_assoc p.given (m ∷ []) []  ∙ refl) ∙ ap (λ w. (p.given ++ m ∷ []) ++ (w ++ [])) (sym (s.idle free));
+  fed = s.fed;
+  earlier = s.earlier;
+  before = s.before;
+  taken = s.taken;
+  came = s.came;
+  first = s.first;
+  stands = s.stands;
+  idle = s.idle;
+  messages = s.messages ∙ ap (λ w. p.given ++ (w ++ m ∷ [])) (s.idle free) ∙ sym (append_assoc p.given (m ∷ []) []) ∙ ap (λ w. (p.given ++ m ∷ []) ++ (w ++ [])) (sym (s.idle free));
 }
 
 -- What is in hand is put to what waits.
 pub hand_waits : (p : Passed) (l : Link) (m : Message) (w : List Message) → l.held ≡ true → w ≡ l.waiting ++ m ∷ [] → IsServed p l (m ∷ []) → IsServed p (record l { waiting = w }) []
 hand_waits p l m w held is s = record {
-  fed = s.fed; earlier = s.earlier; before = s.before; taken = s.taken; came = s.came; first = s.first; stands = s.stands;
+  fed = s.fed;
+  earlier = s.earlier;
+  before = s.before;
+  taken = s.taken;
+  came = s.came;
+  first = s.first;
+  stands = s.stands;
   idle = λ free. absurd (cc);
   messages = s.messages ∙ ap (λ ms. p.given ++ ms) (sym is ∙ sym (append_none w));
 }
@@ -95,14 +115,29 @@ hand_waits p l m w held is s = record {
 -- The container was given what waited, and the link holds nothing any more.
 pub waiting_given : (p : Passed) (l : Link) → IsServed p l [] → IsServed (giving l.waiting p) (record l { held = false; waiting = [] }) []
 waiting_given p l s = record {
-  fed = s.fed; earlier = s.earlier; before = s.before; taken = s.taken; came = s.came; first = s.first; stands = s.stands; idle = λ free. refl;
+  fed = s.fed;
+  earlier = s.earlier;
+  before = s.before;
+  taken = s.taken;
+  came = s.came;
+  first = s.first;
+  stands = s.stands;
+  idle = λ free. refl;
   messages = s.messages ∙ sym (append_assoc p.given l.waiting []);
 }
 
 -- The link is held.
 pub held_served : (p : Passed) (l : Link) → IsServed p l [] → IsServed p (record l { held = true }) []
 held_served p l s = record {
-  fed = s.fed; earlier = s.earlier; before = s.before; taken = s.taken; came = s.came; first = s.first; stands = s.stands; messages = s.messages; idle = λ free. absurd (cc);
+  fed = s.fed;
+  earlier = s.earlier;
+  before = s.before;
+  taken = s.taken;
+  came = s.came;
+  first = s.first;
+  stands = s.stands;
+  messages = s.messages;
+  idle = λ free. absurd (cc);
 }
 
 -- what a decoder's next frame leaves
@@ -111,23 +146,42 @@ Gives r old new = (fed : List ℕ) (taken : List Frame) → Stands old fed taken
 
 pub message_taken : (p : Passed) (l : Link) (d : Decoder) (m : Message) (r : Result (Option Frame) WireFault) → r ≡ Ok (Some (frame.Message m)) → Gives r l.decoder d → IsServed p l [] → IsServed p (record l { decoder = d }) (m ∷ [])
 message_taken p l d m r is gives s = record {
-  fed = s.fed; earlier = s.earlier; before = s.before; taken = s.taken ++ frame.Message m ∷ []; came = s.came; first = s.first;
-  stands = (subst (λ x. HandsOut x s.fed s.taken d) is (gives s.fed s.taken s.stands)).0; idle = s.idle;
+  fed = s.fed;
+  earlier = s.earlier;
+  before = s.before;
+  taken = s.taken ++ frame.Message m ∷ [];
+  came = s.came;
+  first = s.first;
+  stands = (subst (λ x. HandsOut x s.fed s.taken d) is (gives s.fed s.taken s.stands)).0;
+  idle = s.idle;
   messages = ap (λ ms. s.before ++ ms) (messages_both s.taken (frame.Message m ∷ [])) ∙ sym (append_assoc s.before (messages_of s.taken) (m ∷ []))
       ∙ ap (λ ms. ms ++ m ∷ []) (s.messages ∙ ap (λ ms. p.given ++ ms) (append_none l.waiting)) ∙ append_assoc p.given l.waiting (m ∷ []);
 }
 
 pub turn_taken : (p : Passed) (l : Link) (d : Decoder) (r : Result (Option Frame) WireFault) → r ≡ Ok (Some frame.Turn) → Gives r l.decoder d → IsServed p l [] → IsServed p (record l { decoder = d }) []
 turn_taken p l d r is gives s = record {
-  fed = s.fed; earlier = s.earlier; before = s.before; taken = s.taken ++ frame.Turn ∷ []; came = s.came; first = s.first;
-  stands = (subst (λ x. HandsOut x s.fed s.taken d) is (gives s.fed s.taken s.stands)).0; idle = s.idle;
+  fed = s.fed;
+  earlier = s.earlier;
+  before = s.before;
+  taken = s.taken ++ frame.Turn ∷ [];
+  came = s.came;
+  first = s.first;
+  stands = (subst (λ x. HandsOut x s.fed s.taken d) is (gives s.fed s.taken s.stands)).0;
+  idle = s.idle;
   messages = ap (λ ms. s.before ++ ms) (messages_both s.taken (frame.Turn ∷ []) ∙ append_none (messages_of s.taken)) ∙ s.messages;
 }
 
 -- A piece that came is fed.
 fed_on : (p : Passed) (l : Link) (d : Decoder) (piece : List ℕ) (s : IsServed p l []) → Stands d (s.fed ++ piece) s.taken → IsServed (hearing piece p) (record l { decoder = d }) []
 fed_on p l d piece s stands = record {
-  fed = s.fed ++ piece; earlier = s.earlier; before = s.before; taken = s.taken; first = s.first; stands = stands; idle = s.idle; messages = s.messages;
+  fed = s.fed ++ piece;
+  earlier = s.earlier;
+  before = s.before;
+  taken = s.taken;
+  first = s.first;
+  stands = stands;
+  idle = s.idle;
+  messages = s.messages;
   came = ap (λ bs. (hearing piece (record { came = bs; given = [] })).came) s.came;
 }
 
@@ -141,14 +195,27 @@ piece_fed p l d piece (Err e) some feeds s = ⊎_elim (λ was. absurd (some (ap 
 -- Nothing came.
 pub nothing_heard : (p : Passed) (l : Link) → IsServed p l [] → IsServed (hearing [] p) l []
 nothing_heard p l s = record {
-  fed = s.fed; earlier = s.earlier; before = s.before; taken = s.taken; first = s.first; stands = s.stands; idle = s.idle; messages = s.messages;
+  fed = s.fed;
+  earlier = s.earlier;
+  before = s.before;
+  taken = s.taken;
+  first = s.first;
+  stands = s.stands;
+  idle = s.idle;
+  messages = s.messages;
   came = ap (λ bs. (hearing [] (record { came = bs; given = [] })).came) s.came ∙ ap (λ bytes. bytes ∷ s.earlier) (append_none s.fed);
 }
 
 -- The link is made anew.
 made_anew : (p : Passed) (l : Link) (d : Decoder) → Stands d [] [] → IsServed p l [] → IsServed (relinked p) (record l { decoder = d }) []
 made_anew p l d stands s = record {
-  fed = []; earlier = s.fed ∷ s.earlier; before = s.before ++ messages_of s.taken; taken = []; first = came_first s; stands = stands; idle = s.idle;
+  fed = [];
+  earlier = s.fed ∷ s.earlier;
+  before = s.before ++ messages_of s.taken;
+  taken = [];
+  first = came_first s;
+  stands = stands;
+  idle = s.idle;
   came = ap (λ bs. (relinked (record { came = bs; given = [] })).came) s.came;
   messages = append_none (s.before ++ messages_of s.taken) ∙ s.messages;
 }
@@ -311,7 +378,7 @@ release_served es after ls new place l ws within is waits single linked set apar
     let all : passed l.inc after ≡ giving l.waiting (passed l.inc es) = given ∙ ap (λ (ms : List Message). giving ms (passed l.inc es)) (waits ∙ ap (λ (x : Link). x.waiting) (sym is)) in
     subst (λ (all : List Link). AreServed after all) (sym (set ∙ ap (λ (x : Link). slice_set ls place (record x { held = false; waiting = [] })) (sym is)))
     (placed_served es after ls place l (record l { held = false; waiting = [] }) within is single linked refl apart
-      (subst (λ (p : Passed). IsServed p (record l { held = false; waiting = [] }) []) (sym all) (waiting_given (passed l.inc es) l s)) served)
+    (subst (λ (p : Passed). IsServed p (record l { held = false; waiting = [] }) []) (sym all) (waiting_given (passed l.inc es) l s)) served)
 
 -- A server that ended has no link any more, and the others' are as they were.
 pub ended_served : {D : Type 0} (es ended after : List (Event D)) (ls new : List Link) (place : ℕ) (l : Link) → place < length ls → l ≡ slice_index_or ls place l → new ≡ remove ls place → ((s : ℕ) → running s es ≤ 1) → AreLinked es ls
@@ -319,8 +386,8 @@ pub ended_served : {D : Type 0} (es ended after : List (Event D)) (ls new : List
 ended_served es ended after ls new place l within is rest single linked ends quiet served =
     subst (λ (all : List Link). AreServed after all) (sym rest)
     (same_served (λ s. passed s ended) (λ s. passed s after) (remove ls place) quiet
-      (others_served (λ s. passed s es) (λ s. passed s ended) l.inc (remove ls place) (none_left es ls place l within is single linked)
-        (λ s. ap (λ h. if l.inc == s then unlinked else passed s h) ends ∙ twice (l.inc == s) unlinked (passed s es)) served))
+    (others_served (λ s. passed s es) (λ s. passed s ended) l.inc (remove ls place) (none_left es ls place l within is single linked)
+    (λ s. ap (λ h. if l.inc == s then unlinked else passed s h) ends ∙ twice (l.inc == s) unlinked (passed s es)) served))
 
 pub unstarted_served : {D : Type 0} (es after : List (Event D)) (ls new : List Link) (s : ℕ) → after ≡ Started s false ∷ es → new ≡ ls → AreServed es ls → AreServed after new
 unstarted_served es after ls new s is same served =

@@ -1,3 +1,4 @@
+use Rattle.std.proofs.Common.{false, [], slice_index_or}
 use Rattle.script_model.specs.Origins.{passed}
 use Rattle.script_run.specs.Links.{AreServed}
 use Rattle.script_run.proofs.Served.{on_ok, others_placed, release_next, release_served}
@@ -16,7 +17,7 @@ returns-then-branch-clause-served g c =
 pub end_at-requires-clause-served : goal.end_at-requires-clause-served
 end_at-requires-clause-served g c =
     others_placed (g.H.Host.told c.args.host.now) (g.H.Host.told c.hand_all.new.host) c.args.links.now.items c.let_go-waiting.new.links.items c.args.place c.index.result.now
-    _ c.requires.within c.index.ensures c.requires.told.single c.requires.linked (c.let_go-waiting.ensures.changed c.index.result.now) c.hand_all.ensures.apart c.requires.served
+    (record (slice_index_or c.args.links.now.items c.args.place c.index.result.now) { held = false; waiting = [] }) c.requires.within c.index.ensures c.requires.told.single c.requires.linked (c.let_go-waiting.ensures.changed c.index.result.now) c.hand_all.ensures.apart c.requires.served
 
 pub returns-clause-served : goal.returns-clause-served
 returns-clause-served g c = on_ok c.end_at.result (AreServed (g.H.Host.told c.end_at.new.host) c.end_at.new.links.items) c.end_at.ensures.served

@@ -13,7 +13,7 @@ pub returns-in-Ok-clause-served : goal.returns-in-Ok-clause-served
 returns-in-Ok-clause-served g c =
     let with_one : c.add.new.list.items ≡ c.args.links.now.items ++ c.new.result ∷ [] = search rules in
     let none : links_of c.args.inc c.args.links.now.items ≡ 0 = ap (links_of c.args.inc) (sym c.deref.ensures.value) ∙ c.is_linked.ensures c.if-is_linked.false in
-    started_served (g.H.Host.told c.args.host.now) _ c.args.links.now.items _ c.args.inc c.new.result none c.new.ensures.server c.new.ensures.served c.in-Ok.ensures with_one c.requires.served
+    started_served (g.H.Host.told c.args.host.now) (g.H.Host.told c.start.new.self) c.args.links.now.items c.add.new.list.items c.args.inc c.new.result none c.new.ensures.server c.new.ensures.served c.in-Ok.ensures with_one c.requires.served
 
 pub returns-in-Err-clause-served : goal.returns-in-Err-clause-served
-returns-in-Err-clause-served g c = unstarted_served (g.H.Host.told c.args.host.now) _ c.args.links.now.items _ c.args.inc c.in-Err.ensures c.in_ok-reserve.ensures.items c.requires.served
+returns-in-Err-clause-served g c = unstarted_served (g.H.Host.told c.args.host.now) (g.H.Host.told c.start.new.self) c.args.links.now.items c.reserve.new.self.items c.args.inc c.in-Err.ensures c.in_ok-reserve.ensures.items c.requires.served

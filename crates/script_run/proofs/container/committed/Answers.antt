@@ -1,6 +1,5 @@
 use Rattle.std.proofs.Common.{refl}
 use Rattle.container_model.specs.Saves.{commit_done, counted_of}
-use Rattle.container_model.specs.Record.{counts_none}
 use Rattle.script_model.specs.declared.step.Step.TheVariants as step
 use Rattle.script_run.proofs.Given.{step_told}
 use Rattle.script_run.proofs.container.committed.Goals as goal

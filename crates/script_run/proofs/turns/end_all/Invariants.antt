@@ -1,4 +1,3 @@
-use Rattle.std.proofs.Common.{ℕ, length}
 use Rattle.script_model.specs.Origins.{AreHeard}
 use Rattle.script_model.specs.Saved.{AreOpened, AreSaved}
 use Rattle.script_model.specs.Turns.{AreTurns}

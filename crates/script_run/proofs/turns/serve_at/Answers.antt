@@ -14,5 +14,5 @@ pub returns-clause-served : goal.returns-clause-served
 returns-clause-served g c =
     on_ok_weaker c.serve.result
     (λ now. placed_served (g.H.Host.told c.args.host.now) (g.H.Host.told c.serve.new.host) c.args.links.now.items c.args.place c.index_mut.result.now c.serve.new.link c.requires.within c.index_mut.ensures.value c.requires.told.single c.requires.linked c.serve.ensures.same
-      c.serve.ensures.apart now c.requires.served)
+    c.serve.ensures.apart now c.requires.served)
     c.serve.ensures.served

@@ -1,4 +1,4 @@
-use Rattle.std.proofs.Common.{ℕ, length, ◌-◌, ◌≤◌}
+use Rattle.std.proofs.Common.{length, ◌-◌}
 use Rattle.script_run.specs.Links.{AreLinked, AreServed}
 use Rattle.script_run.specs.Told.{IsTold}
 use Rattle.script_run.proofs.turns.turn.Given as goal
