@@ -2,5 +2,6 @@ pub mod Events
 pub mod Containers
 pub mod Turns
 pub mod Saved
+pub mod Origins
 pub mod Answers
 pub mod Histories

@@ -1,5 +1,5 @@
 -- A file that is opened is as it was saved.
-use Rattle.std.proofs.Common.{◌≡◌, ◌≢◌, ◌⊎◌, inl, inr, ◌++◌, ℕ, List, [], ◌∷◌, Option, Some, None, Result, Ok, Err, refl, sym, ap, ◌∙◌, subst}
+use Rattle.std.proofs.Common.{◌≡◌, inl, inr, ◌++◌, ℕ, List, [], ◌∷◌, Option, Some, Result, Ok, refl, sym, ap, ◌∙◌, subst}
 use Rattle.document_model.specs.declared.object.DocObject.{DocObject}
 use Rattle.store_model.specs.Crash.{IsWithin}
 use Rattle.store_model.specs.Image.{Image}
@@ -16,7 +16,7 @@ use Rattle.script_model.specs.declared.step.Step.TheVariants as step
 use Rattle.script_model.specs.Containers.{record_of}
 use Rattle.script_model.specs.Events.{Event, Started, Connected, Sent, Heard, Ended, Opened, Found, Shut, Stepped}
 use Rattle.script_model.specs.Saved.{CountsSaved, IsOpened, IsSaved, OfEachStep, OpensRead, file_name}
-use Rattle.script_run.specs.Again.{IsAsShut, IsFaithful, IsLastShut, IsNotShut, SavesAreOpenedAgain, opened_behind}
+use Rattle.script_run.specs.Again.{IsAsShut, IsFaithful, IsLastShut, IsNotShut, SavesAreOpenedAgain}
 
 -- what holds of each step holds of the earlier ones
 earlier : {D : Type 0} (P : Step → List (Event D) → Type 0) (later es : List (Event D)) → OfEachStep P (later ++ es) → OfEachStep P es

@@ -1,5 +1,5 @@
 -- What is given to the container, and what is asked of the host, leaves the record that the history tells.
-use Rattle.std.proofs.Common.{◌≡◌, ◌≤◌, ◌<◌, ◌+◌, ◌-◌, ◌==◌, ◌++◌, ℕ, zero, suc, Bool, true, false, List, [], ◌∷◌, Option, length, take, drop, remove, if◌then◌else◌, Result, Ok, Err, IfOk, IfErr, OnErr, refl, sym, ap, ◌∙◌, subst, append_assoc, arith, rules, slice_index_or, slice_set}
+use Rattle.std.proofs.Common.{◌≡◌, ◌<◌, ◌+◌, ◌-◌, ◌==◌, ◌++◌, ℕ, zero, suc, Bool, true, false, List, [], ◌∷◌, length, remove, if◌then◌else◌, Result, Ok, Err, IfOk, IfErr, OnErr, refl, sym, ap, ◌∙◌, subst, arith, slice_index_or, slice_set}
 use Rattle.container_model.specs.Record.{Record, Took, Refuses}
 use Rattle.container_model.specs.declared.answer.Answer.{Answer}
 use Rattle.container_model.specs.declared.fault.ContainerFault.{ContainerFault}
@@ -7,8 +7,8 @@ use Rattle.container_model.specs.declared.fault.ContainerFault.TheVariants as fa
 use Rattle.script_model.specs.declared.step.Step.{Step}
 use Rattle.script_model.specs.declared.step.Step.TheVariants as step
 use Rattle.script_model.specs.Containers.{Given, given, given_by, gives, moved, record_of}
-use Rattle.script_model.specs.Events.{Event, Started, Connected, Sent, Heard, Ended, Opened, Found, Shut, Stepped, running}
-use Rattle.script_model.specs.Turns.{AreTurns, turn_of}
+use Rattle.script_model.specs.Events.{Event, Started, Ended, Stepped, running}
+use Rattle.script_model.specs.Origins.{GivesNext}
 use Rattle.script_model.specs.Saved.{CountsSaved, OpensRead}
 use Rattle.store_model.specs.declared.disk.Disk.{Ghosts as Disks}
 use Rattle.script_run.specs.Links.{AreLinked, links_of}
@@ -30,72 +30,47 @@ abbrev pub IsBy : Step → (Record → Result Took ContainerFault) → Type 0
 IsBy st f = (g : Given) → given g st ≡ gives g (f g.now)
 
 module _ {D : Type 0} {disks : Disks D} where
-  pub one_step : (st : Step) (f : Record → Result Took ContainerFault) (es : List (Event D)) (r now : Record) → IsBy st f → (disks.follows_model → IsBacked disks st es) → (record_of es ≡ r → moved (record_of es) (f (record_of es)) ≡ now) → IsTold disks es r → IsTold disks (Stepped st ∷ es) now
-  one_step st f es r now by counts is t = record { recorded = ap (λ g. g.now) (by (given_by es)) ∙ is t.recorded; sent = t.sent; saved = λ m. ((counts m).0, t.saved m); opened = λ m. ((counts m).1, t.opened m) }
+  pub one_step : (st : Step) (f : Record → Result Took ContainerFault) (es : List (Event D)) (r now : Record) → IsBy st f → (disks.follows_model → IsBacked disks st es) → GivesNext st es → (record_of es ≡ r → moved (record_of es) (f (record_of es)) ≡ now) → IsTold disks es r → IsTold disks (Stepped st ∷ es) now
+  one_step st f es r now by counts next is t = record { recorded = ap (λ g. g.now) (by (given_by es)) ∙ is t.recorded; sent = t.sent; heard = (next, t.heard); single = t.single; saved = λ m. ((counts m).0, t.saved m); opened = λ m. ((counts m).1, t.opened m) }
 
   -- a step that was undone for want of memory
-  pub lost_step : (st : Step) (f : Record → Result Took ContainerFault) (es : List (Event D)) (r : Record) → IsBy st f → (disks.follows_model → IsBacked disks st es) → IsTold disks es r → IsTold disks (Stepped step.NoMemory ∷ Stepped st ∷ es) r
-  lost_step st f es r by counts t = record { recorded = ap (λ g. g.before) (by (given_by es)) ∙ t.recorded; sent = t.sent; saved = λ m. (tt, ((counts m).0, t.saved m)); opened = λ m. (tt, ((counts m).1, t.opened m)) }
+  pub lost_step : (st : Step) (f : Record → Result Took ContainerFault) (es : List (Event D)) (r : Record) → IsBy st f → (disks.follows_model → IsBacked disks st es) → GivesNext st es → IsTold disks es r → IsTold disks (Stepped step.NoMemory ∷ Stepped st ∷ es) r
+  lost_step st f es r by counts next t = record { recorded = ap (λ g. g.before) (by (given_by es)) ∙ t.recorded; sent = t.sent; heard = (tt, (next, t.heard)); single = t.single; saved = λ m. (tt, ((counts m).0, t.saved m)); opened = λ m. (tt, ((counts m).1, t.opened m)) }
 
-  by_fault : (st : Step) (f : Record → Result Took ContainerFault) (es : List (Event D)) (r : Record) (e : ContainerFault) → IsBy st f → (disks.follows_model → IsBacked disks st es) → f r ≡ Err e → IsTold disks es r → IsTold disks (Stepped st ∷ es) r
-  by_fault st f es r e by counts refused = one_step st f es r r by counts (λ is. refused_step f (record_of es) r e is refused)
+  by_fault : (st : Step) (f : Record → Result Took ContainerFault) (es : List (Event D)) (r : Record) (e : ContainerFault) → IsBy st f → (disks.follows_model → IsBacked disks st es) → GivesNext st es → f r ≡ Err e → IsTold disks es r → IsTold disks (Stepped st ∷ es) r
+  by_fault st f es r e by counts next refused = one_step st f es r r by counts next (λ is. refused_step f (record_of es) r e is refused)
 
-  pub refused_given : (st : Step) (f : Record → Result Took ContainerFault) (es : List (Event D)) (r : Record) (e : ContainerFault) → IsBy st f → (disks.follows_model → IsBacked disks st es) → Refuses (f r) e → IsTold disks es r → IsTold disks (noted_of {A = Answer} (Err e) (Stepped st ∷ es)) r
-  refused_given st f es r fault.NoSuch by counts refuses = by_fault st f es r fault.NoSuch by counts refuses
-  refused_given st f es r fault.Busy by counts refuses = by_fault st f es r fault.Busy by counts refuses
-  refused_given st f es r fault.NotRunning by counts refuses = by_fault st f es r fault.NotRunning by counts refuses
-  refused_given st f es r fault.InDoubt by counts refuses = by_fault st f es r fault.InDoubt by counts refuses
-  refused_given st f es r fault.WrongLink by counts refuses = by_fault st f es r fault.WrongLink by counts refuses
-  refused_given st f es r fault.Stale by counts refuses = by_fault st f es r fault.Stale by counts refuses
-  refused_given st f es r fault.Full by counts refuses = by_fault st f es r fault.Full by counts refuses
-  refused_given st f es r fault.NumbersSpent by counts refuses = by_fault st f es r fault.NumbersSpent by counts refuses
-  refused_given st f es r fault.WrongState by counts refuses = by_fault st f es r fault.WrongState by counts refuses
-  refused_given st f es r fault.BadFile by counts refuses = by_fault st f es r fault.BadFile by counts refuses
-  refused_given st f es r fault.BadAnswer by counts refuses = by_fault st f es r fault.BadAnswer by counts refuses
-  refused_given st f es r fault.UnknownClass by counts refuses = by_fault st f es r fault.UnknownClass by counts refuses
-  refused_given st f es r fault.NoMemory by counts refuses = lost_step st f es r by counts
+  pub refused_given : (st : Step) (f : Record → Result Took ContainerFault) (es : List (Event D)) (r : Record) (e : ContainerFault) → IsBy st f → (disks.follows_model → IsBacked disks st es) → GivesNext st es → Refuses (f r) e → IsTold disks es r → IsTold disks (noted_of {A = Answer} (Err e) (Stepped st ∷ es)) r
+  refused_given st f es r fault.NoSuch by counts next refuses = by_fault st f es r fault.NoSuch by counts next refuses
+  refused_given st f es r fault.Busy by counts next refuses = by_fault st f es r fault.Busy by counts next refuses
+  refused_given st f es r fault.NotRunning by counts next refuses = by_fault st f es r fault.NotRunning by counts next refuses
+  refused_given st f es r fault.InDoubt by counts next refuses = by_fault st f es r fault.InDoubt by counts next refuses
+  refused_given st f es r fault.WrongLink by counts next refuses = by_fault st f es r fault.WrongLink by counts next refuses
+  refused_given st f es r fault.Stale by counts next refuses = by_fault st f es r fault.Stale by counts next refuses
+  refused_given st f es r fault.Full by counts next refuses = by_fault st f es r fault.Full by counts next refuses
+  refused_given st f es r fault.NumbersSpent by counts next refuses = by_fault st f es r fault.NumbersSpent by counts next refuses
+  refused_given st f es r fault.WrongState by counts next refuses = by_fault st f es r fault.WrongState by counts next refuses
+  refused_given st f es r fault.BadFile by counts next refuses = by_fault st f es r fault.BadFile by counts next refuses
+  refused_given st f es r fault.BadAnswer by counts next refuses = by_fault st f es r fault.BadAnswer by counts next refuses
+  refused_given st f es r fault.UnknownClass by counts next refuses = by_fault st f es r fault.UnknownClass by counts next refuses
+  refused_given st f es r fault.NoMemory by counts next refuses = lost_step st f es r by counts next
 
   told_given : (st : Step) (f : Record → Result Took ContainerFault) (took : Answer → Took) (told : Result Answer ContainerFault) (es : List (Event D)) (r now : Record)
-      → IsBy st f → (disks.follows_model → IsBacked disks st es) → ((a : Answer) → (took a).rec ≡ now) → IfOk told (λ a. f r ≡ Ok (took a)) → IfErr told (Refuses (f r)) → OnErr told (now ≡ r)
+      → IsBy st f → (disks.follows_model → IsBacked disks st es) → GivesNext st es → ((a : Answer) → (took a).rec ≡ now) → IfOk told (λ a. f r ≡ Ok (took a)) → IfErr told (Refuses (f r)) → OnErr told (now ≡ r)
       → IsTold disks es r → IsTold disks (noted_of told (Stepped st ∷ es)) now
-  told_given st f took (Ok a) es r now by counts rec ok err kept = one_step st f es r now by counts (λ is. taken_step f (record_of es) r (took a) is ok ∙ rec a)
-  told_given st f took (Err e) es r now by counts rec ok err kept =
+  told_given st f took (Ok a) es r now by counts next rec ok err kept = one_step st f es r now by counts next (λ is. taken_step f (record_of es) r (took a) is ok ∙ rec a)
+  told_given st f took (Err e) es r now by counts next rec ok err kept =
       let P : Record → Type 0 = λ n. IsTold disks es r → IsTold disks (noted_of {A = Answer} (Err e) (Stepped st ∷ es)) n in
-      subst P (sym kept) (refused_given st f es r e by counts err)
+      subst P (sym kept) (refused_given st f es r e by counts next err)
 
   -- What the container is given, and what is noted, leave it as the history tells.
   pub step_told : (st : Step) (f : Record → Result Took ContainerFault) (took : Answer → Took) (told : Result Answer ContainerFault) (es mid after : List (Event D)) (r now : Record)
-      → IsBy st f → (disks.follows_model → IsBacked disks st es) → ((a : Answer) → (took a).rec ≡ now) → mid ≡ Stepped st ∷ es → after ≡ noted_of told mid
+      → IsBy st f → (disks.follows_model → IsBacked disks st es) → GivesNext st es → ((a : Answer) → (took a).rec ≡ now) → mid ≡ Stepped st ∷ es → after ≡ noted_of told mid
       → IfOk told (λ a. f r ≡ Ok (took a)) → IfErr told (Refuses (f r)) → OnErr told (now ≡ r)
       → IsTold disks es r → IsTold disks after now
-  step_told st f took told es mid after r now by counts rec is note ok err kept =
+  step_told st f took told es mid after r now by counts next rec is note ok err kept =
       let P : List (Event D) → Type 0 = λ h. IsTold disks es r → IsTold disks h now in
-      subst P (sym (note ∙ ap (noted_of told) is)) (told_given st f took told es r now by counts rec ok err kept)
-
-  -- What is asked of the host.
-  pub opened_told : {es after : List (Event D)} {r : Record} (name : List ℕ) (disk : Option D) → after ≡ Opened name disk ∷ es → IsTold disks es r → IsTold disks after r
-  opened_told {r = r} name disk is t = subst (λ h. IsTold disks h r) (sym is) (record { recorded = t.recorded; sent = t.sent; saved = t.saved; opened = t.opened })
-
-  pub found_told : {es after : List (Event D)} {r : Record} (name : List ℕ) (disk : Option D) → after ≡ Found name disk ∷ es → IsTold disks es r → IsTold disks after r
-  found_told {r = r} name disk is t = subst (λ h. IsTold disks h r) (sym is) (record { recorded = t.recorded; sent = t.sent; saved = t.saved; opened = t.opened })
-
-  pub shut_told : {es after : List (Event D)} {r : Record} (name : List ℕ) (disk : D) → after ≡ Shut name disk ∷ es → IsTold disks es r → IsTold disks after r
-  shut_told {r = r} name disk is t = subst (λ h. IsTold disks h r) (sym is) (record { recorded = t.recorded; sent = t.sent; saved = t.saved; opened = t.opened })
-
-  pub connected_told : {es after : List (Event D)} {r : Record} (s : ℕ) (ok : Bool) → after ≡ Connected s ok ∷ es → IsTold disks es r → IsTold disks after r
-  connected_told {r = r} s ok is t = subst (λ h. IsTold disks h r) (sym is) (record { recorded = t.recorded; sent = t.sent; saved = t.saved; opened = t.opened })
-
-  pub heard_told : {es after : List (Event D)} {r : Record} (s : ℕ) (bytes : List ℕ) (ok : Bool) → after ≡ Heard s bytes ok ∷ es → IsTold disks es r → IsTold disks after r
-  heard_told {r = r} s bytes ok is t = subst (λ h. IsTold disks h r) (sym is) (record { recorded = t.recorded; sent = t.sent; saved = t.saved; opened = t.opened })
-
-  pub started_told : {es after : List (Event D)} {r : Record} (s : ℕ) (ok : Bool) → after ≡ Started s ok ∷ es → IsTold disks es r → IsTold disks after r
-  started_told {r = r} s ok is t = subst (λ h. IsTold disks h r) (sym is) (record { recorded = t.recorded; sent = t.sent; saved = t.saved; opened = t.opened })
-
-  pub ended_told : {es after : List (Event D)} {r : Record} (s : ℕ) → after ≡ Ended s ∷ es → IsTold disks es r → IsTold disks after r
-  ended_told {r = r} s is t = subst (λ h. IsTold disks h r) (sym is) (record { recorded = t.recorded; sent = t.sent; saved = t.saved; opened = t.opened })
-
-  pub sent_told : {es after : List (Event D)} {r : Record} (s : ℕ) (bytes : List ℕ) (ok : Bool) → bytes ≡ turn_of r s → after ≡ Sent s bytes ok ∷ es → IsTold disks es r → IsTold disks after r
-  sent_told {r = r} s bytes ok turn is t = subst (λ h. IsTold disks h r) (sym is) (record { recorded = t.recorded; sent = (turn ∙ ap (λ q. turn_of q s) (sym t.recorded), t.sent); saved = t.saved; opened = t.opened })
+      subst P (sym (note ∙ ap (noted_of told) is)) (told_given st f took told es r now by counts next rec ok err kept)
 
 -- Servers that are started and ended.
 links_end : (s : ℕ) (ls : List Link) (l : Link) → links_of s (ls ++ l ∷ []) ≡ links_of s ls + (if l.inc == s then 1 else 0)
@@ -118,7 +93,7 @@ started_linked {es = es} s l ls new is inc with_one linked = λ n.
     ap (running n) is ∙ one_more (s == n) (running n es) ∙ ap (λ x. x + (if s == n then 1 else 0)) (linked n)
     ∙ ap (λ i. links_of n ls + (if i == n then 1 else 0)) (sym inc) ∙ sym (links_end n ls l) ∙ ap (links_of n) (sym with_one)
 
-links_removed : (s : ℕ) (ls : List Link) (place : ℕ) (d : Link) → place < length ls → links_of s ls ≡ links_of s (remove ls place) + (if (slice_index_or ls place d).inc == s then 1 else 0)
+pub links_removed : (s : ℕ) (ls : List Link) (place : ℕ) (d : Link) → place < length ls → links_of s ls ≡ links_of s (remove ls place) + (if (slice_index_or ls place d).inc == s then 1 else 0)
 links_removed s [] place d within = absurd (omega (arith, within))
 links_removed s (l ∷ ls) zero d within = refl
 links_removed s (l ∷ ls) (suc place) d within = omega (arith, links_removed s ls place d (omega (arith, within)))

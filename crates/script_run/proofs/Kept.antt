@@ -1,5 +1,5 @@
 -- What a store that is opened on a disk, and committed to or read, leaves of this disk.
-use Rattle.std.proofs.Common.{◌≡◌, ◌⊎◌, inl, inr, ⊎_elim, ℕ, List, Bool, false, Option, Some, Result, Ok, Err, IfOk, OnOk, Vec, refl, sym, ap, ◌∙◌, subst, arith}
+use Rattle.std.proofs.Common.{◌≡◌, inl, inr, ⊎_elim, ℕ, List, Bool, false, Some, Result, Ok, Err, IfOk, OnOk, Vec, sym, ap, ◌∙◌, subst, arith}
 use Rattle.std.specs.declared.alloc.Global.{Global}
 use Rattle.store_model.specs.Image.{Image}
 use Rattle.store_model.specs.Journal.{restored}

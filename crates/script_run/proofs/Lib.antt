@@ -3,3 +3,4 @@ pub mod Given
 pub mod Kept
 pub mod Opened
 pub mod Saved
+pub mod Served

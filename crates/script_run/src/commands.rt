@@ -2,9 +2,11 @@
 
 ghost use Rattle.container_model.specs.Record.{Record};
 ghost use Rattle.script_model.specs.Events.{running};
-ghost use Rattle.script_run.specs.Links.{AreLinked, links_of};
+ghost use Rattle.script_model.specs.Origins.{AreNext, Passed, giving, passed};
+ghost use Rattle.script_run.specs.Links.{AreLinked, AreServed, EachServed, beside, links_of};
 ghost use Rattle.script_run.specs.Told.{IsTold};
-ghost use Rattle.std.specs.Prelude.{◌≡◌, ◌<◌, ◌++◌, ◌∷◌, [], IfSome, length, ℕ, vec_capacity, vec_len};
+ghost use Rattle.script_run.specs.declared.links.Link.{Link};
+ghost use Rattle.std.specs.Prelude.{◌≡◌, ◌≤◌, ◌<◌, ◌++◌, ◌∷◌, [], false, true, IfOk, IfSome, OnOk, length, ℕ, slice_index_or, slice_set, vec_capacity, vec_len};
 
 use crate::container::command;
 use crate::fault::ScriptFault;
@@ -39,6 +41,18 @@ fn place_of(links: &[Link], inc: u32) -> Option<usize>
     None
 }
 
+/// Whether a server has a link.
+fn is_linked(links: &[Link], inc: u32) -> bool
+    ensures { result ≡ false → links_of inc links.now ≡ 0 }
+{
+    for link in links {
+        if link.inc == inc {
+            return true;
+        }
+    }
+    false
+}
+
 /// Starts a server, and makes its link. The container stays as it is.
 fn start<H: Host>(
     alloc: Global,
@@ -49,9 +63,14 @@ fn start<H: Host>(
 ) -> Result<(), ScriptFault>
     requires told { IsTold ⟦<H::Disk as Disk>⟧ (H.told host.old) _core.now }
     requires linked { AreLinked (H.told host.old) links.old.items }
+    requires served { AreServed (H.told host.old) links.old.items }
     ensures told { IsTold ⟦<H::Disk as Disk>⟧ (H.told host.new) _core.now }
     ensures linked { AreLinked (H.told host.new) links.new.items }
+    ensures served { AreServed (H.told host.new) links.new.items }
 {
+    if is_linked(links, inc) {
+        return Err(ScriptFault::Link(inc));
+    }
     links.reserve(1)?;
     match host.start(inc) {
         Ok(()) => {
@@ -81,8 +100,10 @@ fn end<H: Host>(
 ) -> Result<(), ScriptFault>
     requires told { IsTold ⟦<H::Disk as Disk>⟧ (H.told host.old) core.old }
     requires linked { AreLinked (H.told host.old) links.old.items }
+    requires served { AreServed (H.told host.old) links.old.items }
     ensures told { IsTold ⟦<H::Disk as Disk>⟧ (H.told host.new) core.new }
     ensures linked { AreLinked (H.told host.new) links.new.items }
+    ensures served { AreServed (H.told host.new) links.new.items }
 {
     match place_of(links, inc) {
         Some(place) => end_at(alloc, host, core, links, place, noticed),
@@ -101,8 +122,10 @@ fn act_on<H: Host>(
 ) -> Result<(), ScriptFault>
     requires told { IsTold ⟦<H::Disk as Disk>⟧ (H.told host.old) core.old }
     requires linked { AreLinked (H.told host.old) links.old.items }
+    requires served { AreServed (H.told host.old) links.old.items }
     ensures told { IsTold ⟦<H::Disk as Disk>⟧ (H.told host.new) core.new }
     ensures linked { AreLinked (H.told host.new) links.new.items }
+    ensures served { AreServed (H.told host.new) links.new.items }
 {
     match action {
         Action::Start(inc) => start(alloc, host, core, links, *inc),
@@ -122,8 +145,10 @@ fn act<H: Host>(
 ) -> Result<(), ScriptFault>
     requires told { IsTold ⟦<H::Disk as Disk>⟧ (H.told host.old) core.old }
     requires linked { AreLinked (H.told host.old) links.old.items }
+    requires served { AreServed (H.told host.old) links.old.items }
     ensures told { IsTold ⟦<H::Disk as Disk>⟧ (H.told host.new) core.new }
     ensures linked { AreLinked (H.told host.new) links.new.items }
+    ensures served { AreServed (H.told host.new) links.new.items }
 {
     for action in answer.actions.as_slice() {
         act_on(alloc, host, core, links, action, noticed)?;
@@ -142,8 +167,10 @@ fn order<H: Host>(
 ) -> Result<Told, ScriptFault>
     requires told { IsTold ⟦<H::Disk as Disk>⟧ (H.told host.old) core.old }
     requires linked { AreLinked (H.told host.old) links.old.items }
+    requires served { AreServed (H.told host.old) links.old.items }
     ensures told { IsTold ⟦<H::Disk as Disk>⟧ (H.told host.new) core.new }
     ensures linked { AreLinked (H.told host.new) links.new.items }
+    ensures served { AreServed (H.told host.new) links.new.items }
 {
     match command(alloc, host, core, ordered) {
         Ok(answer) => {
@@ -167,8 +194,10 @@ fn cut<H: Host>(
     requires within { place < length links.old.items }
     requires told { IsTold ⟦<H::Disk as Disk>⟧ (H.told host.old) core.old }
     requires linked { AreLinked (H.told host.old) links.old.items }
+    requires served { AreServed (H.told host.old) links.old.items }
     ensures told { IsTold ⟦<H::Disk as Disk>⟧ (H.told host.new) core.new }
     ensures linked { AreLinked (H.told host.new) links.new.items }
+    ensures served { AreServed (H.told host.new) links.new.items }
 {
     send_turn(alloc, host, core, links[place].inc)?;
     if !reconnect_at(alloc, host, links, place) {
@@ -186,9 +215,12 @@ fn hand_all<H: Host>(
     waiting: Items<Message>,
     noticed: &mut Option<Told>,
 ) -> Result<bool, ScriptFault>
-    requires { IsTold ⟦<H::Disk as Disk>⟧ (H.told host.old) core.old }
+    requires told { IsTold ⟦<H::Disk as Disk>⟧ (H.told host.old) core.old }
+    requires next { AreNext (passed inc (H.told host.old)) waiting }
     ensures told { IsTold ⟦<H::Disk as Disk>⟧ (H.told host.new) core.new }
     ensures still { (s : ℕ) → running s (H.told host.new) ≡ running s (H.told host.old) }
+    ensures apart { (s : ℕ) → beside inc s (H.told host.new) ≡ beside inc s (H.told host.old) }
+    ensures given { IfOk result (λ all. all ≡ true → passed inc (H.told host.new) ≡ giving waiting (passed inc (H.told host.old))) }
 {
     for taken in waiting.into_vec() {
         if !hand_over(alloc, host, core, inc, taken, noticed)? {
@@ -202,6 +234,8 @@ fn hand_all<H: Host>(
 fn let_go(alloc: Global, links: &mut Vec<Link>, place: usize) -> Items<Message>
     requires { place < length links.old.items }
     ensures same { (s : ℕ) → links_of s links.new.items ≡ links_of s links.old.items }
+    ensures changed { (d : Link) → links.new.items ≡ slice_set links.old.items place (record (slice_index_or links.old.items place d) { held = false; waiting = [] }) }
+    ensures waited { (d : Link) → result ≡ (slice_index_or links.old.items place d).waiting }
     ensures many { length links.new.items ≡ length links.old.items }
 {
     let link = &mut links[place];
@@ -212,9 +246,12 @@ fn let_go(alloc: Global, links: &mut Vec<Link>, place: usize) -> Items<Message>
 /// Connects the link at a place again. Gives whether it was made.
 fn reconnect_at<H: Host>(alloc: Global, host: &mut H, links: &mut Vec<Link>, place: usize) -> bool
     requires within { place < length links.old.items }
+    requires single { (s : ℕ) → running s (H.told host.old) ≤ 1 }
     requires linked { AreLinked (H.told host.old) links.old.items }
+    requires served { AreServed (H.told host.old) links.old.items }
     ensures told { (r : Record) → IsTold ⟦<H::Disk as Disk>⟧ (H.told host.old) r → IsTold ⟦<H::Disk as Disk>⟧ (H.told host.new) r }
     ensures linked { AreLinked (H.told host.new) links.new.items }
+    ensures served { AreServed (H.told host.new) links.new.items }
     ensures many { length links.new.items ≡ length links.old.items }
 {
     reconnect(alloc, host, &mut links[place])
@@ -232,21 +269,24 @@ fn release<H: Host>(
     requires within { place < length links.old.items }
     requires told { IsTold ⟦<H::Disk as Disk>⟧ (H.told host.old) core.old }
     requires linked { AreLinked (H.told host.old) links.old.items }
+    requires served { AreServed (H.told host.old) links.old.items }
     ensures told { IsTold ⟦<H::Disk as Disk>⟧ (H.told host.new) core.new }
     ensures linked { AreLinked (H.told host.new) links.new.items }
+    ensures served { OnOk result (AreServed (H.told host.new) links.new.items) }
 {
     let inc = links[place].inc;
     let waiting = let_go(alloc, links, place);
-    if !hand_all(alloc, host, core, inc, waiting, noticed)? {
-        end_at(alloc, host, core, links, place, noticed)?;
+    if hand_all(alloc, host, core, inc, waiting, noticed)? {
+        return Ok(());
     }
-    Ok(())
+    end_at(alloc, host, core, links, place, noticed)
 }
 
 /// What comes on the link at a place waits from now on.
 fn hold(links: &mut Vec<Link>, place: usize)
     requires { place < length links.old.items }
-    ensures { (s : ℕ) → links_of s links.new.items ≡ links_of s links.old.items }
+    ensures same { (s : ℕ) → links_of s links.new.items ≡ links_of s links.old.items }
+    ensures served { (f : ℕ → Passed) → EachServed f links.old.items → EachServed f links.new.items }
 {
     links[place].held = true;
 }
@@ -262,8 +302,10 @@ fn at_link<H: Host>(
 ) -> Result<Told, ScriptFault>
     requires told { IsTold ⟦<H::Disk as Disk>⟧ (H.told host.old) core.old }
     requires linked { AreLinked (H.told host.old) links.old.items }
+    requires served { AreServed (H.told host.old) links.old.items }
     ensures told { IsTold ⟦<H::Disk as Disk>⟧ (H.told host.new) core.new }
     ensures linked { AreLinked (H.told host.new) links.new.items }
+    ensures served { OnOk result (AreServed (H.told host.new) links.new.items) }
 {
     let inc = match command {
         ScriptCommand::Cut(inc) | ScriptCommand::Hold(inc) | ScriptCommand::Release(inc) => *inc,
@@ -309,8 +351,10 @@ fn begin<H: Host>(
 ) -> Result<Told, ScriptFault>
     requires told { IsTold ⟦<H::Disk as Disk>⟧ (H.told host.old) core.old }
     requires linked { AreLinked (H.told host.old) links.old.items }
+    requires served { AreServed (H.told host.old) links.old.items }
     ensures told { IsTold ⟦<H::Disk as Disk>⟧ (H.told host.new) core.new }
     ensures linked { AreLinked (H.told host.new) links.new.items }
+    ensures served { OnOk result (AreServed (H.told host.new) links.new.items) }
 {
     match command {
         ScriptCommand::Container(ordered) => order(alloc, host, core, links, ordered, noticed),
@@ -331,8 +375,10 @@ pub(crate) fn carry_out<H: Host, W: Write>(
 ) -> Result<(), ScriptFault>
     requires told { IsTold ⟦<H::Disk as Disk>⟧ (H.told host.old) core.old }
     requires linked { AreLinked (H.told host.old) links.old.items }
+    requires served { AreServed (H.told host.old) links.old.items }
     ensures told { IsTold ⟦<H::Disk as Disk>⟧ (H.told host.new) core.new }
     ensures linked { AreLinked (H.told host.new) links.new.items }
+    ensures served { OnOk result (AreServed (H.told host.new) links.new.items) }
 {
     let mut noticed = None;
     let mut text = Vec::new(alloc);

@@ -4,10 +4,12 @@ ghost use Rattle.container_model.specs.Opens.{Given, IsReadAs};
 ghost use Rattle.container_model.specs.declared.command.Command.{Command};
 ghost use Rattle.document_model.specs.declared.object.DocObject.{DocObject};
 ghost use Rattle.script_model.specs.Events.{running};
+ghost use Rattle.script_model.specs.Origins.{AreNext, giving, passed};
 ghost use Rattle.script_model.specs.Saved.{IsReadFrom, IsSaved};
 ghost use Rattle.script_model.specs.declared.step.Step.TheVariants as given;
+ghost use Rattle.script_run.specs.Links.{beside};
 ghost use Rattle.script_run.specs.Told.{IsTold, noted_of};
-ghost use Rattle.std.specs.Prelude.{◌≡◌, ◌≤◌, IfOk, List, Some, length, ℕ};
+ghost use Rattle.std.specs.Prelude.{◌≡◌, ◌≤◌, ◌∷◌, [], IfOk, List, Some, length, ℕ};
 ghost use Rattle.wire_msgs.specs.declared.message.Message.{Message};
 
 use crate::fault::ScriptFault;
@@ -63,6 +65,7 @@ fn noted<H: Host>(
     ensures same { result ≡ told }
     ensures noted { H.told host.new ≡ noted_of told (H.told host.old) }
     ensures still { (s : ℕ) → running s (H.told host.new) ≡ running s (H.told host.old) }
+    ensures quiet { (s : ℕ) → passed s (H.told host.new) ≡ passed s (H.told host.old) }
 {
     match told {
         Ok(answer) => Ok(answer),
@@ -84,6 +87,7 @@ pub(crate) fn command<H: Host>(
     requires { IsTold ⟦<H::Disk as Disk>⟧ (H.told host.old) core.old }
     ensures told { IsTold ⟦<H::Disk as Disk>⟧ (H.told host.new) core.new }
     ensures still { (s : ℕ) → running s (H.told host.new) ≡ running s (H.told host.old) }
+    ensures quiet { (s : ℕ) → passed s (H.told host.new) ≡ passed s (H.told host.old) }
 {
     let step = Step::Command(command);
     host.note(&step);
@@ -102,9 +106,12 @@ pub(crate) fn message<H: Host>(
     inc: u32,
     message: Message,
 ) -> Result<Answer, ContainerFault>
-    requires { IsTold ⟦<H::Disk as Disk>⟧ (H.told host.old) core.old }
+    requires told { IsTold ⟦<H::Disk as Disk>⟧ (H.told host.old) core.old }
+    requires next { AreNext (passed inc (H.told host.old)) (message ∷ []) }
     ensures told { IsTold ⟦<H::Disk as Disk>⟧ (H.told host.new) core.new }
     ensures still { (s : ℕ) → running s (H.told host.new) ≡ running s (H.told host.old) }
+    ensures apart { (s : ℕ) → beside inc s (H.told host.new) ≡ beside inc s (H.told host.old) }
+    ensures given { passed inc (H.told host.new) ≡ giving (message ∷ []) (passed inc (H.told host.old)) }
 {
     let step = Step::Message(inc, message);
     host.note(&step);
@@ -131,6 +138,7 @@ pub(crate) fn opened<H: Host>(
     requires gives { IsReadAs (Some file.now) (Given.Holding document) }
     ensures told { IsTold ⟦<H::Disk as Disk>⟧ (H.told host.new) core.new }
     ensures still { (s : ℕ) → running s (H.told host.new) ≡ running s (H.told host.old) }
+    ensures quiet { (s : ℕ) → passed s (H.told host.new) ≡ passed s (H.told host.old) }
     ensures few { IfOk result (λ a. length a.objects ≤ 64) }
 {
     files_give_one();
@@ -153,6 +161,7 @@ pub(crate) fn reap<H: Host>(
     requires { IsTold ⟦<H::Disk as Disk>⟧ (H.told host.old) core.old }
     ensures told { IsTold ⟦<H::Disk as Disk>⟧ (H.told host.new) core.new }
     ensures still { (s : ℕ) → running s (H.told host.new) ≡ running s (H.told host.old) }
+    ensures quiet { (s : ℕ) → passed s (H.told host.new) ≡ passed s (H.told host.old) }
 {
     host.note(&Step::Reap(inc));
     let told = core.on_reap(alloc, inc);
@@ -178,6 +187,7 @@ pub(crate) fn committed<H: Host>(
     requires told { IsTold ⟦<H::Disk as Disk>⟧ (H.told host.old) core.old }
     ensures told { IsTold ⟦<H::Disk as Disk>⟧ (H.told host.new) core.new }
     ensures still { (s : ℕ) → running s (H.told host.new) ≡ running s (H.told host.old) }
+    ensures quiet { (s : ℕ) → passed s (H.told host.new) ≡ passed s (H.told host.old) }
 {
     host.note(&Step::Committed(frame));
     let told = core.commit_done(alloc, frame);
@@ -194,6 +204,7 @@ pub(crate) fn failed<H: Host>(
     requires { IsTold ⟦<H::Disk as Disk>⟧ (H.told host.old) core.old }
     ensures told { IsTold ⟦<H::Disk as Disk>⟧ (H.told host.new) core.new }
     ensures still { (s : ℕ) → running s (H.told host.new) ≡ running s (H.told host.old) }
+    ensures quiet { (s : ℕ) → passed s (H.told host.new) ≡ passed s (H.told host.old) }
 {
     host.note(&Step::Failed(frame));
     let told = core.commit_failed(alloc, frame);
@@ -210,6 +221,7 @@ pub(crate) fn dropped<H: Host>(
     requires { IsTold ⟦<H::Disk as Disk>⟧ (H.told host.old) core.old }
     ensures told { IsTold ⟦<H::Disk as Disk>⟧ (H.told host.new) core.new }
     ensures still { (s : ℕ) → running s (H.told host.new) ≡ running s (H.told host.old) }
+    ensures quiet { (s : ℕ) → passed s (H.told host.new) ≡ passed s (H.told host.old) }
 {
     host.note(&Step::Resolved(frame, false));
     let told = core.resolve(alloc, frame, false);

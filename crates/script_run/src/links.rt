@@ -3,9 +3,11 @@
 ghost use Rattle.container_model.specs.Record.{Record};
 ghost use Rattle.message_model.specs.Spelling.{spell};
 ghost use Rattle.script_model.specs.Events.{running};
+ghost use Rattle.script_model.specs.Origins.{AreNext, fresh, giving, passed};
 ghost use Rattle.script_model.specs.Turns.{server_of, turn_of};
+ghost use Rattle.script_run.specs.Links.{IsServed, beside};
 ghost use Rattle.script_run.specs.Told.{IsTold};
-ghost use Rattle.std.specs.Prelude.{◌≡◌, ◌++◌, IfOk, OnOk, ℕ};
+ghost use Rattle.std.specs.Prelude.{◌≡◌, ◌++◌, ◌∷◌, [], IfOk, OnOk, ℕ};
 
 use crate::container::message;
 use crate::fault::ScriptFault;
@@ -43,7 +45,8 @@ pub(crate) struct Link {
 impl Link {
     /// A link on which nothing came yet.
     pub(crate) fn new(alloc: Global, inc: u32) -> Link
-        ensures { result.inc ≡ inc }
+        ensures server { result.inc ≡ inc }
+        ensures served { IsServed fresh result [] }
     {
         Link {
             inc,
@@ -116,6 +119,7 @@ pub(crate) fn send_turn<H: Host>(
     requires { IsTold ⟦<H::Disk as Disk>⟧ (H.told host.old) core.now }
     ensures told { IsTold ⟦<H::Disk as Disk>⟧ (H.told host.new) core.now }
     ensures still { (s : ℕ) → running s (H.told host.new) ≡ running s (H.told host.old) }
+    ensures quiet { (s : ℕ) → passed s (H.told host.new) ≡ passed s (H.told host.old) }
 {
     let bytes = turn_bytes(alloc, core, inc)?;
     Ok(host.send(inc, &bytes).is_ok())
@@ -139,9 +143,12 @@ pub(crate) fn hand_over<H: Host>(
     taken: Message,
     noticed: &mut Option<Told>,
 ) -> Result<bool, ScriptFault>
-    requires { IsTold ⟦<H::Disk as Disk>⟧ (H.told host.old) core.old }
+    requires told { IsTold ⟦<H::Disk as Disk>⟧ (H.told host.old) core.old }
+    requires next { AreNext (passed inc (H.told host.old)) (taken ∷ []) }
     ensures told { IsTold ⟦<H::Disk as Disk>⟧ (H.told host.new) core.new }
     ensures still { (s : ℕ) → running s (H.told host.new) ≡ running s (H.told host.old) }
+    ensures apart { (s : ℕ) → beside inc s (H.told host.new) ≡ beside inc s (H.told host.old) }
+    ensures given { passed inc (H.told host.new) ≡ giving (taken ∷ []) (passed inc (H.told host.old)) }
 {
     match message(alloc, host, core, inc, taken) {
         Ok(answer) => {
@@ -165,10 +172,13 @@ fn meet<H: Host>(
     taken: Message,
     noticed: &mut Option<Told>,
 ) -> Result<bool, ScriptFault>
-    requires { IsTold ⟦<H::Disk as Disk>⟧ (H.told host.old) core.old }
+    requires told { IsTold ⟦<H::Disk as Disk>⟧ (H.told host.old) core.old }
+    requires served { IsServed (passed link.old.inc (H.told host.old)) link.old (taken ∷ []) }
     ensures told { IsTold ⟦<H::Disk as Disk>⟧ (H.told host.new) core.new }
     ensures still { (s : ℕ) → running s (H.told host.new) ≡ running s (H.told host.old) }
     ensures same { link.new.inc ≡ link.old.inc }
+    ensures apart { (s : ℕ) → beside link.old.inc s (H.told host.new) ≡ beside link.old.inc s (H.told host.old) }
+    ensures served { OnOk result (IsServed (passed link.new.inc (H.told host.new)) link.new []) }
 {
     if link.held {
         link.waiting.push(taken)?;
@@ -185,10 +195,13 @@ fn take_frames<H: Host>(
     link: &mut Link,
     noticed: &mut Option<Told>,
 ) -> Result<Heard, ScriptFault>
-    requires { IsTold ⟦<H::Disk as Disk>⟧ (H.told host.old) core.old }
+    requires told { IsTold ⟦<H::Disk as Disk>⟧ (H.told host.old) core.old }
+    requires served { IsServed (passed link.old.inc (H.told host.old)) link.old [] }
     ensures told { IsTold ⟦<H::Disk as Disk>⟧ (H.told host.new) core.new }
     ensures still { (s : ℕ) → running s (H.told host.new) ≡ running s (H.told host.old) }
     ensures same { link.new.inc ≡ link.old.inc }
+    ensures apart { (s : ℕ) → beside link.old.inc s (H.told host.new) ≡ beside link.old.inc s (H.told host.old) }
+    ensures served { OnOk result (IsServed (passed link.new.inc (H.told host.new)) link.new []) }
 {
     for _ in 0..=PIECE {
         match link.decoder.next() {
@@ -207,9 +220,12 @@ fn take_frames<H: Host>(
 
 /// Reads some bytes of a link. Gives whether there were any.
 fn read_some<H: Host>(host: &mut H, link: &mut Link) -> Result<bool, ScriptFault>
+    requires served { IsServed (passed link.old.inc (H.told host.old)) link.old [] }
     ensures told { (r : Record) → IsTold ⟦<H::Disk as Disk>⟧ (H.told host.old) r → IsTold ⟦<H::Disk as Disk>⟧ (H.told host.new) r }
     ensures still { (s : ℕ) → running s (H.told host.new) ≡ running s (H.told host.old) }
     ensures same { link.new.inc ≡ link.old.inc }
+    ensures apart { (s : ℕ) → beside link.old.inc s (H.told host.new) ≡ beside link.old.inc s (H.told host.old) }
+    ensures served { OnOk result (IsServed (passed link.new.inc (H.told host.new)) link.new []) }
 {
     let mut piece = [0u8; PIECE];
     let n = match host.read(link.inc, &mut piece) {
@@ -220,8 +236,11 @@ fn read_some<H: Host>(host: &mut H, link: &mut Link) -> Result<bool, ScriptFault
         return Ok(false);
     }
     match link.decoder.feed(&piece[..n]) {
-        Err(WireFault::NoMemory) => Err(ScriptFault::NoMemory),
-        _ => Ok(true),
+        Ok(()) => Ok(true),
+        Err(fault) => match fault {
+            WireFault::NoMemory => Err(ScriptFault::NoMemory),
+            _ => Ok(true),
+        },
     }
 }
 
@@ -234,10 +253,13 @@ fn hear<H: Host>(
     noticed: &mut Option<Told>,
     reads: &mut u32,
 ) -> Result<Heard, ScriptFault>
-    requires { IsTold ⟦<H::Disk as Disk>⟧ (H.told host.old) core.old }
+    requires told { IsTold ⟦<H::Disk as Disk>⟧ (H.told host.old) core.old }
+    requires served { IsServed (passed link.old.inc (H.told host.old)) link.old [] }
     ensures told { IsTold ⟦<H::Disk as Disk>⟧ (H.told host.new) core.new }
     ensures still { (s : ℕ) → running s (H.told host.new) ≡ running s (H.told host.old) }
     ensures same { link.new.inc ≡ link.old.inc }
+    ensures apart { (s : ℕ) → beside link.old.inc s (H.told host.new) ≡ beside link.old.inc s (H.told host.old) }
+    ensures served { OnOk result (IsServed (passed link.new.inc (H.told host.new)) link.new []) }
 {
     while *reads > 0 {
         let heard = take_frames(alloc, host, core, link, noticed)?;
@@ -261,10 +283,13 @@ fn exchange<H: Host>(
     noticed: &mut Option<Told>,
     reads: &mut u32,
 ) -> Result<Heard, ScriptFault>
-    requires { IsTold ⟦<H::Disk as Disk>⟧ (H.told host.old) core.old }
+    requires told { IsTold ⟦<H::Disk as Disk>⟧ (H.told host.old) core.old }
+    requires served { IsServed (passed link.old.inc (H.told host.old)) link.old [] }
     ensures told { IsTold ⟦<H::Disk as Disk>⟧ (H.told host.new) core.new }
     ensures still { (s : ℕ) → running s (H.told host.new) ≡ running s (H.told host.old) }
     ensures same { link.new.inc ≡ link.old.inc }
+    ensures apart { (s : ℕ) → beside link.old.inc s (H.told host.new) ≡ beside link.old.inc s (H.told host.old) }
+    ensures served { OnOk result (IsServed (passed link.new.inc (H.told host.new)) link.new []) }
 {
     if !send_turn(alloc, host, core, link.inc)? {
         return Ok(Heard::Failed);
@@ -274,9 +299,12 @@ fn exchange<H: Host>(
 
 /// Connects a link again: what came of the old connection and isn't carried out is dropped.
 pub(crate) fn reconnect<H: Host>(alloc: Global, host: &mut H, link: &mut Link) -> bool
+    requires served { IsServed (passed link.old.inc (H.told host.old)) link.old [] }
     ensures told { (r : Record) → IsTold ⟦<H::Disk as Disk>⟧ (H.told host.old) r → IsTold ⟦<H::Disk as Disk>⟧ (H.told host.new) r }
     ensures still { (s : ℕ) → running s (H.told host.new) ≡ running s (H.told host.old) }
     ensures same { link.new.inc ≡ link.old.inc }
+    ensures apart { (s : ℕ) → beside link.old.inc s (H.told host.new) ≡ beside link.old.inc s (H.told host.old) }
+    ensures served { IsServed (passed link.new.inc (H.told host.new)) link.new [] }
 {
     link.decoder = Decoder::new(alloc);
     host.connect(link.inc).is_ok()
@@ -290,10 +318,13 @@ pub(crate) fn serve<H: Host>(
     link: &mut Link,
     noticed: &mut Option<Told>,
 ) -> Result<bool, ScriptFault>
-    requires { IsTold ⟦<H::Disk as Disk>⟧ (H.told host.old) core.old }
+    requires told { IsTold ⟦<H::Disk as Disk>⟧ (H.told host.old) core.old }
+    requires served { IsServed (passed link.old.inc (H.told host.old)) link.old [] }
     ensures told { IsTold ⟦<H::Disk as Disk>⟧ (H.told host.new) core.new }
     ensures still { (s : ℕ) → running s (H.told host.new) ≡ running s (H.told host.old) }
     ensures same { link.new.inc ≡ link.old.inc }
+    ensures apart { (s : ℕ) → beside link.old.inc s (H.told host.new) ≡ beside link.old.inc s (H.told host.old) }
+    ensures served { OnOk result (IsServed (passed link.new.inc (H.told host.new)) link.new []) }
 {
     let mut reads = MOST_READS;
     match exchange(alloc, host, core, link, noticed, &mut reads)? {

@@ -3,6 +3,7 @@
 ghost use Rattle.container_model.specs.Opens.{Given, IsReadAs};
 ghost use Rattle.container_model.specs.Record.{Record};
 ghost use Rattle.script_model.specs.Events.{running};
+ghost use Rattle.script_model.specs.Origins.{passed};
 ghost use Rattle.script_model.specs.Saved.{IsReadFrom, IsReadOf};
 ghost use Rattle.script_run.specs.Told.{IsTold};
 ghost use Rattle.std.specs.Prelude.{◌≡◌, ℕ, IfOk, IfSome, Some};
@@ -39,6 +40,7 @@ fn document_on<D: Disk + Drop>(alloc: Global, disk: D) -> (Result<Vec<u8>, Store
 fn read<H: Host>(alloc: Global, host: &mut H, name: &[u8]) -> Result<Option<Vec<u8>>, StoreFault>
     ensures told { (r : Record) → IsTold ⟦<H::Disk as Disk>⟧ (H.told host.old) r → IsTold ⟦<H::Disk as Disk>⟧ (H.told host.new) r }
     ensures still { (s : ℕ) → running s (H.told host.new) ≡ running s (H.told host.old) }
+    ensures quiet { (s : ℕ) → passed s (H.told host.new) ≡ passed s (H.told host.old) }
     ensures read { H.Disk.follows_model → IfOk result (λ found. IfSome found (λ file. IsReadFrom ⟦<H::Disk as Disk>⟧ (H.told host.new) name.now file.items)) }
 {
     match host.find(name) {
@@ -71,6 +73,7 @@ fn make_frame<H: Host>(
     requires gives { IsReadAs (Some file.now) (Given.Holding document) }
     ensures told { IsTold ⟦<H::Disk as Disk>⟧ (H.told host.new) core.new }
     ensures still { (s : ℕ) → running s (H.told host.new) ≡ running s (H.told host.old) }
+    ensures quiet { (s : ℕ) → passed s (H.told host.new) ≡ passed s (H.told host.old) }
 {
     match opened(alloc, host, core, name, width, height, document, file) {
         Ok(answer) => Ok(opened_by(&answer)),
@@ -93,6 +96,7 @@ fn open_found<H: Host>(
     requires read { H.Disk.follows_model → IsReadFrom ⟦<H::Disk as Disk>⟧ (H.told host.old) name file.now }
     ensures told { IsTold ⟦<H::Disk as Disk>⟧ (H.told host.new) core.new }
     ensures still { (s : ℕ) → running s (H.told host.new) ≡ running s (H.told host.old) }
+    ensures quiet { (s : ℕ) → passed s (H.told host.new) ≡ passed s (H.told host.old) }
 {
     match document_in(alloc, file) {
         Ok(Some(document)) => make_frame(alloc, host, core, name, width, height, document, file),
@@ -117,6 +121,7 @@ pub(crate) fn open<H: Host>(
     requires { IsTold ⟦<H::Disk as Disk>⟧ (H.told host.old) core.old }
     ensures told { IsTold ⟦<H::Disk as Disk>⟧ (H.told host.new) core.new }
     ensures still { (s : ℕ) → running s (H.told host.new) ≡ running s (H.told host.old) }
+    ensures quiet { (s : ℕ) → passed s (H.told host.new) ≡ passed s (H.told host.old) }
 {
     match core.may_open(name.as_slice(), width, height) {
         Ok(()) => {}

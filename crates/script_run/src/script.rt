@@ -1,9 +1,10 @@
 //! Scripts, from their texts to their ends.
 
 ghost use Rattle.script_model.specs.Events.{running};
+ghost use Rattle.script_model.specs.Origins.{AreHeard};
 ghost use Rattle.script_model.specs.Saved.{AreOpened, AreSaved};
 ghost use Rattle.script_model.specs.Turns.{AreTurns};
-ghost use Rattle.script_run.specs.Links.{AreLinked};
+ghost use Rattle.script_run.specs.Links.{AreLinked, AreServed};
 ghost use Rattle.script_run.specs.Told.{IsTold};
 ghost use Rattle.std.specs.Prelude.{◌≡◌, ℕ, []};
 
@@ -47,6 +48,7 @@ fn carry_out_all<H: Host, W: Write>(
 ) -> Result<(), ScriptFault>
     requires told { IsTold ⟦<H::Disk as Disk>⟧ (H.told host.old) core.old }
     requires linked { AreLinked (H.told host.old) links.old.items }
+    requires served { AreServed (H.told host.old) links.old.items }
     ensures told { IsTold ⟦<H::Disk as Disk>⟧ (H.told host.new) core.new }
     ensures linked { AreLinked (H.told host.new) links.new.items }
 {
@@ -74,6 +76,7 @@ pub fn run_script<H: Host, R: Read, W: Write>(
     requires { H.told host.old ≡ [] }
     ensures awaited { (s : ℕ) → running s (H.told host.new) ≡ 0 }
     ensures turns { AreTurns (H.told host.new) }
+    ensures heard { AreHeard (H.told host.new) }
     ensures saved { H.Disk.follows_model → AreSaved ⟦<H::Disk as Disk>⟧ (H.told host.new) }
     ensures opened { H.Disk.follows_model → AreOpened ⟦<H::Disk as Disk>⟧ (H.told host.new) }
 {

@@ -1,11 +1,12 @@
 //! Turns: each link is sent what is pending for its server, and what comes back is carried out.
 
 ghost use Rattle.script_model.specs.Events.{running};
+ghost use Rattle.script_model.specs.Origins.{AreHeard};
 ghost use Rattle.script_model.specs.Saved.{AreOpened, AreSaved};
 ghost use Rattle.script_model.specs.Turns.{AreTurns};
-ghost use Rattle.script_run.specs.Links.{AreLinked};
+ghost use Rattle.script_run.specs.Links.{AreLinked, AreServed};
 ghost use Rattle.script_run.specs.Told.{IsTold};
-ghost use Rattle.std.specs.Prelude.{◌≡◌, ◌+◌, ◌<◌, length, ℕ};
+ghost use Rattle.std.specs.Prelude.{◌≡◌, ◌+◌, ◌<◌, OnOk, length, remove, ℕ};
 
 use crate::container::reap;
 use crate::fault::ScriptFault;
@@ -34,9 +35,11 @@ pub(crate) fn end_at<H: Host>(
     requires within { place < length links.old.items }
     requires told { IsTold ⟦<H::Disk as Disk>⟧ (H.told host.old) core.old }
     requires linked { AreLinked (H.told host.old) links.old.items }
+    requires served { AreServed (H.told host.old) (remove links.old.items place) }
     ensures less { length links.new.items + 1 ≡ length links.old.items }
     ensures told { IsTold ⟦<H::Disk as Disk>⟧ (H.told host.new) core.new }
     ensures linked { AreLinked (H.told host.new) links.new.items }
+    ensures served { AreServed (H.told host.new) links.new.items }
 {
     let link = links.remove(place);
     host.end(link.inc);
@@ -50,10 +53,12 @@ pub(crate) fn end_at<H: Host>(
 /// Ends the servers of all links.
 pub(crate) fn end_all<H: Host>(host: &mut H, links: &mut Vec<Link>)
     requires sent { AreTurns (H.told host.old) }
+    requires heard { AreHeard (H.told host.old) }
     requires saved { H.Disk.follows_model → AreSaved ⟦<H::Disk as Disk>⟧ (H.told host.old) }
     requires opened { H.Disk.follows_model → AreOpened ⟦<H::Disk as Disk>⟧ (H.told host.old) }
     requires linked { AreLinked (H.told host.old) links.old.items }
     ensures sent { AreTurns (H.told host.new) }
+    ensures heard { AreHeard (H.told host.new) }
     ensures saved { H.Disk.follows_model → AreSaved ⟦<H::Disk as Disk>⟧ (H.told host.new) }
     ensures opened { H.Disk.follows_model → AreOpened ⟦<H::Disk as Disk>⟧ (H.told host.new) }
     ensures ended { (s : ℕ) → running s (H.told host.new) ≡ 0 }
@@ -100,8 +105,10 @@ fn serve_at<H: Host>(
     requires within { place < length links.old.items }
     requires told { IsTold ⟦<H::Disk as Disk>⟧ (H.told host.old) core.old }
     requires linked { AreLinked (H.told host.old) links.old.items }
+    requires served { AreServed (H.told host.old) links.old.items }
     ensures told { IsTold ⟦<H::Disk as Disk>⟧ (H.told host.new) core.new }
     ensures linked { AreLinked (H.told host.new) links.new.items }
+    ensures served { OnOk result (AreServed (H.told host.new) links.new.items) }
     ensures many { length links.new.items ≡ length links.old.items }
 {
     serve(alloc, host, core, &mut links[place], noticed)
@@ -117,8 +124,10 @@ fn turn<H: Host>(
 ) -> Result<(), ScriptFault>
     requires told { IsTold ⟦<H::Disk as Disk>⟧ (H.told host.old) core.old }
     requires linked { AreLinked (H.told host.old) links.old.items }
+    requires served { AreServed (H.told host.old) links.old.items }
     ensures told { IsTold ⟦<H::Disk as Disk>⟧ (H.told host.new) core.new }
     ensures linked { AreLinked (H.told host.new) links.new.items }
+    ensures served { OnOk result (AreServed (H.told host.new) links.new.items) }
 {
     let mut place = 0;
     while place < links.len() {
@@ -143,8 +152,10 @@ pub(crate) fn turns<H: Host>(
 ) -> Result<(), ScriptFault>
     requires told { IsTold ⟦<H::Disk as Disk>⟧ (H.told host.old) core.old }
     requires linked { AreLinked (H.told host.old) links.old.items }
+    requires served { AreServed (H.told host.old) links.old.items }
     ensures told { IsTold ⟦<H::Disk as Disk>⟧ (H.told host.new) core.new }
     ensures linked { AreLinked (H.told host.new) links.new.items }
+    ensures served { OnOk result (AreServed (H.told host.new) links.new.items) }
 {
     for _ in 0..MOST_TURNS {
         if !is_pending(core, links) {

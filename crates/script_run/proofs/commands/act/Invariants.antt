@@ -1,4 +1,4 @@
-use Rattle.script_run.specs.Links.{AreLinked}
+use Rattle.script_run.specs.Links.{AreLinked, AreServed}
 use Rattle.script_run.specs.Told.{IsTold}
 use Rattle.script_run.proofs.commands.act.Given as goal
 
@@ -6,4 +6,5 @@ abbrev pub invariant-loop-action : goal.invariant-loop-action
 invariant-loop-action g l = record {
   told : IsTold g.H.Disk.Disk (g.H.Host.told l.host) l.core;
   linked : AreLinked (g.H.Host.told l.host) l.links.items;
+  served : AreServed (g.H.Host.told l.host) l.links.items;
 }

@@ -1,7 +1,11 @@
 use Rattle.std.proofs.Common.{ap}
 use Rattle.script_run.specs.declared.links.Link.{Link}
 use Rattle.script_run.proofs.Given.{same_links}
+use Rattle.script_run.proofs.Served.{hold_served}
 use Rattle.script_run.proofs.commands.hold.Goals as goal
 
-pub returns : goal.returns
-returns c = λ s. same_links s c.args.links.now.items c.args.place _ c.index_mut.result.now c.requires (ap (λ (l : Link). l.inc) c.index_mut.ensures.value)
+pub returns-clause-same : goal.returns-clause-same
+returns-clause-same c = λ s. same_links s c.args.links.now.items c.args.place _ c.index_mut.result.now c.requires (ap (λ (l : Link). l.inc) c.index_mut.ensures.value)
+
+pub returns-clause-served : goal.returns-clause-served
+returns-clause-served c = λ f all. hold_served f c.args.links.now.items c.args.place c.index_mut.result.now c.index_mut.ensures.value c.requires all

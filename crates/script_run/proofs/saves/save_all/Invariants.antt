@@ -1,5 +1,6 @@
 use Rattle.std.proofs.Common.{◌≡◌, ℕ}
 use Rattle.script_model.specs.Events.{running}
+use Rattle.script_model.specs.Origins.{passed}
 use Rattle.script_run.specs.Told.{IsTold}
 use Rattle.script_run.proofs.saves.save_all.Given as goal
 
@@ -7,4 +8,5 @@ abbrev pub invariant-loop-action : goal.invariant-loop-action
 invariant-loop-action g l = record {
   told : IsTold g.H.Disk.Disk (g.H.Host.told l.host) l.core;
   still : (s : ℕ) → running s (g.H.Host.told l.host) ≡ running s (g.H.Host.told l.fn.host);
+  quiet : (s : ℕ) → passed s (g.H.Host.told l.host) ≡ passed s (g.H.Host.told l.fn.host);
 }

@@ -1,5 +1,5 @@
-use Rattle.std.proofs.Common.{ℕ, length, ◌-◌, ◌≤◌}
-use Rattle.script_run.specs.Links.{AreLinked}
+use Rattle.std.proofs.Common.{length, ◌-◌}
+use Rattle.script_run.specs.Links.{AreLinked, AreServed}
 use Rattle.script_run.specs.Told.{IsTold}
 use Rattle.script_run.proofs.turns.turn.Given as goal
 
@@ -7,6 +7,7 @@ abbrev pub invariant-loop-place : goal.invariant-loop-place
 invariant-loop-place g l = record {
   told : IsTold g.H.Disk.Disk (g.H.Host.told l.host) l.core;
   linked : AreLinked (g.H.Host.told l.host) l.links.items;
+  served : AreServed (g.H.Host.told l.host) l.links.items;
 }
 
 abbrev pub decreases-loop-place : goal.decreases-loop-place

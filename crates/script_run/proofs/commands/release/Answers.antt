@@ -1,0 +1,23 @@
+use Rattle.std.proofs.Common.{false, [], slice_index_or}
+use Rattle.script_model.specs.Origins.{passed}
+use Rattle.script_run.specs.Links.{AreServed}
+use Rattle.script_run.proofs.Served.{on_ok, others_placed, release_next, release_served}
+use Rattle.script_run.proofs.commands.release.Goals as goal
+
+pub hand_all-requires-clause-next : goal.hand_all-requires-clause-next
+hand_all-requires-clause-next g c =
+    release_next (λ s. passed s (g.H.Host.told c.args.host.now)) c.args.links.now.items c.args.place c.index.result.now c.let_go-waiting.result c.requires.within c.index.ensures (c.let_go-waiting.ensures.waited c.index.result.now) c.requires.served
+
+pub returns-then-branch-clause-served : goal.returns-then-branch-clause-served
+returns-then-branch-clause-served g c =
+    release_served (g.H.Host.told c.args.host.now) (g.H.Host.told c.hand_all.new.host) c.args.links.now.items c.let_go-waiting.new.links.items c.args.place c.index.result.now c.let_go-waiting.result
+    c.requires.within c.index.ensures (c.let_go-waiting.ensures.waited c.index.result.now) c.requires.told.single c.requires.linked (c.let_go-waiting.ensures.changed c.index.result.now)
+    c.hand_all.ensures.apart (c.in_ok-hand_all.ensures.given c.if-branch.true) c.requires.served
+
+pub end_at-requires-clause-served : goal.end_at-requires-clause-served
+end_at-requires-clause-served g c =
+    others_placed (g.H.Host.told c.args.host.now) (g.H.Host.told c.hand_all.new.host) c.args.links.now.items c.let_go-waiting.new.links.items c.args.place c.index.result.now
+    (record (slice_index_or c.args.links.now.items c.args.place c.index.result.now) { held = false; waiting = [] }) c.requires.within c.index.ensures c.requires.told.single c.requires.linked (c.let_go-waiting.ensures.changed c.index.result.now) c.hand_all.ensures.apart c.requires.served
+
+pub returns-clause-served : goal.returns-clause-served
+returns-clause-served g c = on_ok c.end_at.result (AreServed (g.H.Host.told c.end_at.new.host) c.end_at.new.links.items) c.end_at.ensures.served
