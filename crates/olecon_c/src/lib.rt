@@ -1,11 +1,11 @@
 //! The library for other languages: the calls of `library_calls` under the names of C (`olecon.h`).
 #![tactic(auto)]
 
-ghost use Rattle.file_commands.specs.Listing.{listed};
 ghost use Rattle.library_calls.specs.Answers.{Answers, IsPut};
-ghost use Rattle.library_calls.specs.Calls.{IsCleanOf, IsGotBy, IsListedAs, IsMadeOf, IsRefusedBy, IsRefusedClean, IsRefusedList, IsRefusedMake};
+ghost use Rattle.library_calls.specs.Calls.{IsCleanOf, IsGotBy, IsListed, IsListedAs, IsMadeOf, IsRefusedBy, IsRefusedClean, IsRefusedList, IsRefusedMake};
 ghost use Rattle.library_calls.specs.Numbers.{number_name};
 ghost use Rattle.listing_forms.specs.Json.{json_listed};
+ghost use Rattle.listing_forms.specs.Placed.{placed_view};
 ghost use Rattle.std.specs.Prelude.{◌≡◌, length};
 
 use library_calls::calls;
@@ -15,7 +15,7 @@ use std::alloc::Global;
 /// The listing of a file in lines.
 #[unsafe(no_mangle)]
 pub extern "C" fn olecon_list(alloc: Global, file: &[u8], out: &mut [u8], needed: &mut usize) -> u32
-    ensures { Answers (IsListedAs listed file.now) (IsRefusedList file.now) result out.old out.new needed.new }
+    ensures { Answers (IsListed file.now) (IsRefusedList file.now) result out.old out.new needed.new }
 {
     calls::lines(alloc, file, out, needed)
 }
@@ -28,7 +28,7 @@ pub extern "C" fn olecon_list_json(
     out: &mut [u8],
     needed: &mut usize,
 ) -> u32
-    ensures { Answers (IsListedAs json_listed file.now) (IsRefusedList file.now) result out.old out.new needed.new }
+    ensures { Answers (IsListedAs (λ o. json_listed (placed_view o)) file.now) (IsRefusedList file.now) result out.old out.new needed.new }
 {
     calls::list::<Json>(alloc, file, out, needed)
 }
