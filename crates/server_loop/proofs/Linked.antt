@@ -1,5 +1,5 @@
 -- What a link has come to by one more step.
-use Rattle.std.proofs.Common.{◌≡◌, ℕ, List, [], ◌∷◌, ◌++◌, Option, Some, None, refl, sym, ap, subst, ◌∙◌, arith, ◌<◌, ◌≤◌, ◌+◌, append_assoc, append-nil, cond, Bool, true, false, nat_le, nat_eq, length, take, Err}
+use Rattle.std.proofs.Common.{◌*◌, length-append, ◌≡◌, ℕ, List, [], ◌∷◌, ◌++◌, Option, Some, None, refl, sym, ap, subst, ◌∙◌, arith, ◌<◌, ◌≤◌, ◌+◌, append_assoc, append-nil, cond, Bool, true, false, nat_le, nat_eq, length, take, Err}
 use Rattle.std.specs.Io.KnownBytes.{Appends, Consumes}
 use Rattle.std.proofs.KnownBytes.{Appends-nil, Appends-trans, Consumes-kept, Consumes-nil, Consumes-trans}
 use Rattle.embed_core.specs.Content.{Content}
@@ -14,7 +14,7 @@ use Rattle.server_model.specs.Server.{Activation, Server, after_begun, begins, b
 use Rattle.server_model.specs.declared.fault.ServerFault.{ServerFault}
 use Rattle.server_model.specs.declared.fault.ServerFault.TheVariants as fault
 use Rattle.server_core.specs.declared.server.Seat.{Seat}
-use Rattle.server_loop.specs.Links.{HasEnded, HasServed, IsHandedIn, IsUnderway, IsWaiting, Pauses, Serves, pause_of, turns_in}
+use Rattle.server_loop.specs.Links.{HasEnded, HasServed, IsHandedIn, IsUnderway, MANY_FRAMES, IsWaiting, Pauses, Serves, pause_of, turns_in}
 use Rattle.server_loop.specs.Links.Serves.{none, message, turn}
 use Rattle.server_loop.specs.Turns.{Turn, answered, given, met, turned}
 use Rattle.server_loop.specs.View.{Advances, AppendsFront, Awaits, Counts, IsAt, IsMet, IsRead, IsTurned, LeavesReader, LeavesWriter, MOST_READS, MOST_TURNS}
@@ -137,6 +137,25 @@ comes_in t m kind class e true o = record { box = Some kind; handed = some_in (w
 comes_in t m kind class e false o =
     record { box = None; handed = none_in (wanted t.server m) class e; same = other_met t m kind class o e ∙ sym (passed t m class e) }
 
+-- A bound on the steps of a link: its frames, and the most reads of each of its turns.
+abbrev pub far : List Frame → (turns reads : ℕ) → ℕ
+far taken turns reads = length taken + turns * MOST_READS + reads
+
+longer : (taken : List Frame) (f : Frame) → length (taken ++ f ∷ []) ≡ length taken + 1
+longer taken f = length-append taken (f ∷ [])
+
+far_message : (taken : List Frame) (f : Frame) (t r u q : ℕ) → u ≡ t → q ≡ r → far taken t r < far (taken ++ f ∷ []) u q
+far_message taken f t r u q e d = omega (arith, longer taken f, e, d)
+
+far_turn : (taken : List Frame) (f : Frame) (t r u q : ℕ) → u ≡ t + 1 → q ≡ 0 → r ≤ MOST_READS → far taken t r < far (taken ++ f ∷ []) u q
+far_turn taken f t r u q e d l = omega (arith, longer taken f, e, d, l)
+
+far_read : (taken : List Frame) (t r u q : ℕ) → u ≡ t → q ≡ r + 1 → far taken t r < far taken u q
+far_read taken t r u q e d = omega (arith, e, d)
+
+pub far_long : (taken : List Frame) (t r steps : ℕ) → t < MOST_TURNS → r ≤ MOST_READS → 18446744073709551615 ≤ steps → steps ≤ far taken t r → MANY_FRAMES ≤ length taken
+far_long taken t r steps m l n e = omega (arith, m, l, n, e)
+
 pub reader_as : {R S : Type 0} (f : R → S) (told : Advance) (a b : R) → LeavesReader told a b → LeavesReader told (f a) (f b)
 reader_as f Met a b e = ap f e
 reader_as f (Wants class) a b e = ap f e
@@ -206,13 +225,17 @@ module _ {X : Type 0} {V : X → Type 0} (content : Seat X V → Content) where
         reads = omega (arith, reads, h.reads);
       }
 
+  -- a link goes on, and came more than so many steps
+  abbrev pub Goes_on : (steps : ℕ) → Serving X V → Turn → (unread_before unread held_before held : Option (List ℕ)) → Type 0
+  Goes_on steps v began ub u hb h = (s : IsUnderway content v began ub u hb h) × (steps < far s.served.taken v.turns v.reads)
+
   -- how a link stands after a step
-  abbrev pub Comes : Advance → Serving X V → Turn → (unread_before unread held_before held : Option (List ℕ)) → Type 0
-  Comes Met v began ub u hb h = IsUnderway content v began ub u hb h
-  Comes Turned v began ub u hb h = IsUnderway content v began ub u hb h
-  Comes Read v began ub u hb h = IsUnderway content v began ub u hb h
-  Comes (Wants class) v began ub u hb h = Pauses content (pause.Wants class) v began ub u hb h
-  Comes (Over end) v began ub u hb h = HasEnded content end v began ub u hb h
+  abbrev pub Comes : (steps : ℕ) → Advance → Serving X V → Turn → (unread_before unread held_before held : Option (List ℕ)) → Type 0
+  Comes steps Met v began ub u hb h = Goes_on steps v began ub u hb h
+  Comes steps Turned v began ub u hb h = Goes_on steps v began ub u hb h
+  Comes steps Read v began ub u hb h = Goes_on steps v began ub u hb h
+  Comes steps (Wants class) v began ub u hb h = Pauses content (pause.Wants class) v began ub u hb h
+  Comes steps (Over end) v began ub u hb h = HasEnded content end v began ub u hb h
 
   module _ (v w : Serving X V) (began : Turn) (ub u u' hb h h' : Option (List ℕ)) (s : IsUnderway content v began ub u hb h) where
     -- the same frames, with so much read and the same written
@@ -232,7 +255,7 @@ module _ {X : Type 0} {V : X → Type 0} (content : Seat X V → Content) where
     was_read : u' ≡ u → Consumes ub u' s.served.fed
     was_read same = subst (λ x. Consumes ub x s.served.fed) (sym same) s.served.read
 
-    read_more : w.turns ≡ v.turns → w.reads ≤ MOST_READS → h' ≡ h → IsRead content w s.served.now s.served.fed s.served.taken u u' → IsUnderway content w began ub u' hb h'
+    abbrev read_more : w.turns ≡ v.turns → w.reads ≤ MOST_READS → h' ≡ h → IsRead content w s.served.now s.served.fed s.served.taken u u' → IsUnderway content w began ub u' hb h'
     read_more turns reads same r = record {
       served = still (s.served.fed ++ r.piece) (Consumes-trans ub u u' s.served.fed r.piece s.served.read r.consumed) same r.next;
       counted = s.counted ∙ sym turns;
@@ -241,7 +264,7 @@ module _ {X : Type 0} {V : X → Type 0} (content : Seat X V → Content) where
     }
 
     -- a message was met, and served so
-    one_message : (m : Message) (t : Turn) → w.turns ≡ v.turns → w.reads ≡ v.reads → u' ≡ u → h' ≡ h → Serves began (s.served.taken ++ frame.Message m ∷ []) s.served.bytes t
+    abbrev one_message : (m : Message) (t : Turn) → w.turns ≡ v.turns → w.reads ≡ v.reads → u' ≡ u → h' ≡ h → Serves began (s.served.taken ++ frame.Message m ∷ []) s.served.bytes t
         → IsAt content w t s.served.fed (s.served.taken ++ frame.Message m ∷ []) → IsUnderway content w began ub u' hb h'
     one_message m t turns reads unread same r at =
         let count = turns_message s.served.taken m in record {
@@ -261,7 +284,7 @@ module _ {X : Type 0} {V : X → Type 0} (content : Seat X V → Content) where
           reads = omega (arith, reads, s.reads);
         }
 
-    met_one : w.turns ≡ v.turns → w.reads ≡ v.reads → u' ≡ u → h' ≡ h → IsMet content w s.served.now s.served.fed s.served.taken → IsUnderway content w began ub u' hb h'
+    abbrev met_one : w.turns ≡ v.turns → w.reads ≡ v.reads → u' ≡ u → h' ≡ h → IsMet content w s.served.now s.served.fed s.served.taken → IsUnderway content w began ub u' hb h'
     met_one turns reads unread same r =
         one_message r.message (met s.served.now r.message None) turns reads unread same
         (then_message r.message None (wanted_in (wanted s.served.now.server r.message) r.unwanted) s.served.serves) r.after
@@ -304,7 +327,7 @@ module _ {X : Type 0} {V : X → Type 0} (content : Seat X V → Content) where
       turns = omega (arith, turns_turn s.served.taken, s.counted, s.more);
     }
 
-    turned_one : w.turns ≡ v.turns + 1 → w.turns < MOST_TURNS → w.reads ≡ 0 → u' ≡ u → IsTurned content w s.served.now s.served.fed s.served.taken h h'
+    abbrev turned_one : w.turns ≡ v.turns + 1 → w.turns < MOST_TURNS → w.reads ≡ 0 → u' ≡ u → IsTurned content w s.served.now s.served.fed s.served.taken h h'
         → IsUnderway content w began ub u' hb h'
     turned_one turns more reads unread r = record {
       served = gave unread r;
@@ -331,11 +354,12 @@ module _ {X : Type 0} {V : X → Type 0} (content : Seat X V → Content) where
     }
 
     step : (told : Advance) → Counts told v.turns v.reads w.turns w.reads → LeavesReader told u u' → LeavesWriter told h h'
-        → Advances content told w s.served.now s.served.fed s.served.taken u u' h h' → Comes told w began ub u' hb h'
-    step Met c unread same r = met_one c.0 c.1 unread same r
+        → Advances content told w s.served.now s.served.fed s.served.taken u u' h h'
+        → Comes (far s.served.taken v.turns v.reads) told w began ub u' hb h'
+    step Met c unread same r = (met_one c.0 c.1 unread same r, far_message s.served.taken (frame.Message r.message) v.turns v.reads w.turns w.reads c.0 c.1)
     step (Wants class) c unread same r = awaits_one class c.0 c.1 unread same r
-    step Turned c unread same r = turned_one c.0 c.1 c.2 unread r
-    step Read c unread same r = read_more c.0 c.2 same r
+    step Turned c unread same r = (turned_one c.0 c.1 c.2 unread r, far_turn s.served.taken frame.Turn v.turns v.reads w.turns w.reads c.0 c.2 s.reads)
+    step Read c unread same r = (read_more c.0 c.2 same r, far_read s.served.taken v.turns v.reads w.turns w.reads c.0 c.1)
     step (Over (Faulty fault)) c unread same r = (still s.served.fed (was_read unread) same r.at, r.reads)
     step (Over LastRead) c unread same r = (still s.served.fed (was_read unread) same r.at, r.reads)
     step (Over Unread) c unread same r = (still s.served.fed (Consumes-kept ub u u' s.served.fed s.served.read r.1) same r.0.at, r.0.reads)
@@ -347,22 +371,24 @@ module _ {X : Type 0} {V : X → Type 0} (content : Seat X V → Content) where
   pub stepped : {R W : Type 0} (remaining : R → Option (List ℕ)) (contents : W → Option (List ℕ)) (v w : Serving X V) (r q : R) (x y : W) (told : Advance)
       → Counts told v.turns v.reads w.turns w.reads → LeavesReader told r q → LeavesWriter told x y
       → ((t : Turn) (fed : List ℕ) (taken : List Frame) → IsAt content v t fed taken → Advances content told w t fed taken (remaining r) (remaining q) (contents x) (contents y))
-      → (began : Turn) (unread held : Option (List ℕ)) → IsUnderway content v began unread (remaining r) held (contents x) → Comes told w began unread (remaining q) held (contents y)
+      → (began : Turn) (unread held : Option (List ℕ)) (s : IsUnderway content v began unread (remaining r) held (contents x))
+      → Comes (far s.served.taken v.turns v.reads) told w began unread (remaining q) held (contents y)
   stepped remaining contents v w r q x y told c unread same a began ub hb s =
       step v w began ub (remaining r) (remaining q) hb (contents x) (contents y) s told c (reader_as remaining told r q unread) (writer_as contents told x y same)
       (a s.served.now s.served.fed s.served.taken s.served.at)
 
-  pub goes_on : (told : Advance) (w : Serving X V) (began : Turn) (ub u hb h : Option (List ℕ)) → pause_of told ≡ None → Comes told w began ub u hb h → IsUnderway content w began ub u hb h
-  goes_on Met w began ub u hb h e c = c
-  goes_on Turned w began ub u hb h e c = c
-  goes_on Read w began ub u hb h e c = c
-  goes_on (Wants class) w began ub u hb h e c = absurd (none_known (sym e))
-  goes_on (Over end) w began ub u hb h e c = absurd (none_known (sym e))
+  pub goes_on : (steps : ℕ) (told : Advance) (w : Serving X V) (began : Turn) (ub u hb h : Option (List ℕ)) → pause_of told ≡ None → Comes steps told w began ub u hb h
+      → Goes_on steps w began ub u hb h
+  goes_on steps Met w began ub u hb h e c = c
+  goes_on steps Turned w began ub u hb h e c = c
+  goes_on steps Read w began ub u hb h e c = c
+  goes_on steps (Wants class) w began ub u hb h e c = absurd (none_known (sym e))
+  goes_on steps (Over end) w began ub u hb h e c = absurd (none_known (sym e))
 
-  pub comes_to : (told : Advance) (p : Pause) (w : Serving X V) (began : Turn) (ub u hb h : Option (List ℕ)) → Some p ≡ pause_of told → Comes told w began ub u hb h
+  pub comes_to : (steps : ℕ) (told : Advance) (p : Pause) (w : Serving X V) (began : Turn) (ub u hb h : Option (List ℕ)) → Some p ≡ pause_of told → Comes steps told w began ub u hb h
       → Pauses content p w began ub u hb h
-  comes_to Met p w began ub u hb h e c = absurd (none_known (sym e))
-  comes_to Turned p w began ub u hb h e c = absurd (none_known (sym e))
-  comes_to Read p w began ub u hb h e c = absurd (none_known (sym e))
-  comes_to (Wants class) p w began ub u hb h e c = subst (λ x. Pauses content x w began ub u hb h) (sym (some_inside p (pause.Wants class) e)) c
-  comes_to (Over end) p w began ub u hb h e c = subst (λ x. Pauses content x w began ub u hb h) (sym (some_inside p (pause.Over end) e)) c
+  comes_to steps Met p w began ub u hb h e c = absurd (none_known (sym e))
+  comes_to steps Turned p w began ub u hb h e c = absurd (none_known (sym e))
+  comes_to steps Read p w began ub u hb h e c = absurd (none_known (sym e))
+  comes_to steps (Wants class) p w began ub u hb h e c = subst (λ x. Pauses content x w began ub u hb h) (sym (some_inside p (pause.Wants class) e)) c
+  comes_to steps (Over end) p w began ub u hb h e c = subst (λ x. Pauses content x w began ub u hb h) (sym (some_inside p (pause.Over end) e)) c

@@ -1,5 +1,5 @@
 -- What a server makes of a whole link.
-use Rattle.std.specs.Prelude.{◌≡◌, ◌+◌, ◌<◌, ◌≤◌, ℕ, List, [], ◌∷◌, ◌++◌, Option, Some, None, take, true}
+use Rattle.std.specs.Prelude.{◌≡◌, ◌+◌, ◌<◌, ◌≤◌, ℕ, List, [], ◌∷◌, ◌++◌, Option, Some, None, length, take, true}
 use Rattle.std.specs.Io.KnownBytes.{Appends, Consumes, IsAtEnd}
 use Rattle.embed_core.specs.Content.{Content}
 use Rattle.embed_core.specs.Kinds.{Kind}
@@ -40,6 +40,10 @@ abbrev pub turns_in : List Frame → ℕ
 turns_in [] = 0
 turns_in (frame.Message m ∷ frames) = turns_in frames
 turns_in (frame.Turn ∷ frames) = turns_in frames + 1
+
+-- more frames than a link ever has: 2^63
+abbrev pub MANY_FRAMES : ℕ
+MANY_FRAMES = 9223372036854775808
 
 -- the first turn of a link, of a server that stands so
 abbrev pub link_begun : Turn → Turn
@@ -122,9 +126,11 @@ module _ {X : Type 0} {V : X → Type 0} (content : Seat X V → Content) where
   HasEnded LastTurn v began unread_before unread held_before held =
       (s : HasServed v began unread_before unread held_before held) × (turns_in s.taken ≡ MOST_TURNS)
 
-  -- Why a link is left for now: it wants an object, and where none is handed in it goes on without; it is over; it goes on.
+  -- Why a link is left for now: it wants an object, and where none is handed in it goes on without; it is over; it goes on, and more
+  -- frames came than ever do.
   abbrev pub Pauses : Pause → Serving X V → Turn → (unread_before unread held_before held : Option (List ℕ)) → Type 0
   Pauses (Wants class) v began unread_before unread held_before held =
       IsUnderway v began unread_before unread held_before held × IsWaiting v began unread_before unread held_before held class
   Pauses (Over end) v began unread_before unread held_before held = HasEnded end v began unread_before unread held_before held
-  Pauses Long v began unread_before unread held_before held = IsUnderway v began unread_before unread held_before held
+  Pauses Long v began unread_before unread held_before held =
+      (s : IsUnderway v began unread_before unread held_before held) × (MANY_FRAMES ≤ length s.served.taken)

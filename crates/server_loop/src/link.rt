@@ -18,7 +18,7 @@ pub enum Pause {
     Wants(ClassId),
     /// The link is over, and why.
     Over(End),
-    /// It came 2^64 - 1 steps on, and goes on.
+    /// It goes on, and more than 2^63 frames came.
     Long,
 }
 
