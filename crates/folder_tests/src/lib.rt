@@ -1,4 +1,4 @@
-//! Tests of files as folders over a folder in memory, of the calls that other languages have, and of maps.
+//! Tests of files as folders over a folder in memory, of the calls that other languages have, of maps, and of streams read by places.
 #![tactic(auto)]
 
 #[cfg(test)]
@@ -7,5 +7,7 @@ mod calls;
 mod maps;
 #[cfg(test)]
 mod memory;
+#[cfg(test)]
+mod seeking;
 #[cfg(test)]
 mod trips;

@@ -1,0 +1,163 @@
+//! Streams that are read where they lie in a file.
+
+use cfb_names::name::Name;
+use file_commands::commands::make_file;
+use file_commands::fault::GetFault;
+use file_listings::getting::get_source;
+use file_places::source::Source;
+use std::alloc::Global;
+use std::io::{self, ErrorKind};
+use std::process::Abort;
+use storage_tree::fault::TreeFault;
+use texts::input::InputFault;
+
+/// A long stream of two pieces, a short one and an empty one.
+const DESCRIPTION: &[u8] =
+    b"storage S\nfill S/Long 70000 61\nstream S/Short 0102\nstream A -\n";
+
+/// How many calls it takes to learn where a stream lies: one for the file's length, and one each for its header, the FAT,
+/// the directory and the mini FAT.
+const CALLS: usize = 5;
+
+/// Bytes of which no more is told after so many calls.
+#[derive(Drop)]
+struct Few<'a> {
+    bytes: &'a [u8],
+    calls: usize,
+}
+
+impl<'a> Few<'a> {
+    fn call(&mut self) -> io::Result<()> {
+        if self.calls == 0 {
+            return Err(io::Error::from(ErrorKind::Other));
+        }
+        self.calls -= 1;
+        Ok(())
+    }
+}
+
+impl<'a> Source for Few<'a> {
+    fn size(&mut self) -> io::Result<u64> {
+        self.call()?;
+        self.bytes.size()
+    }
+
+    fn read_at(&mut self, at: u64, buf: &mut [u8]) -> io::Result<()> {
+        self.call()?;
+        self.bytes.read_at(at, buf)
+    }
+}
+
+fn made(rt: &impl Abort, alloc: Global) -> Vec<u8> {
+    let mut text = DESCRIPTION;
+    let mut file = Vec::new(alloc);
+    make_file(alloc, &mut text, &mut file).expect(rt, "a file");
+    file
+}
+
+fn named(rt: &impl Abort, alloc: Global, path: &str) -> Vec<Name> {
+    let mut names = Vec::new(alloc);
+    for word in path.split_whitespace() {
+        let name = Name::new(word.as_bytes()).expect(rt, "a name");
+        names.push(name).expect(rt, "room");
+    }
+    names
+}
+
+fn got(
+    alloc: Global,
+    file: &[u8],
+    path: &[Name],
+    calls: usize,
+    out: &mut Vec<u8>,
+) -> Result<(), GetFault> {
+    let mut source = Few { bytes: file, calls };
+    get_source(alloc, &mut source, path, out)
+}
+
+/// Whether so many calls give a stream of so many bytes.
+fn is_got(
+    rt: &impl Abort,
+    alloc: Global,
+    file: &[u8],
+    path: &str,
+    calls: usize,
+    size: usize,
+) -> bool {
+    let names = named(rt, alloc, path);
+    let mut out = Vec::new(alloc);
+    match got(alloc, file, &names, calls, &mut out) {
+        Ok(()) => out.len() == size,
+        Err(_) => false,
+    }
+}
+
+/// Whether a read fails after so many calls, and so many bytes were written before.
+fn is_cut(
+    rt: &impl Abort,
+    alloc: Global,
+    file: &[u8],
+    path: &str,
+    calls: usize,
+    size: usize,
+) -> bool {
+    let names = named(rt, alloc, path);
+    let mut out = Vec::new(alloc);
+    match got(alloc, file, &names, calls, &mut out) {
+        Err(GetFault::Input(InputFault::Unreadable)) => out.len() == size,
+        _ => false,
+    }
+}
+
+/// Whether the tree has no stream at a path.
+fn is_missing(
+    rt: &impl Abort,
+    alloc: Global,
+    file: &[u8],
+    path: &str,
+    fault: TreeFault,
+) -> bool {
+    let names = named(rt, alloc, path);
+    let mut out = Vec::new(alloc);
+    match got(alloc, file, &names, CALLS, &mut out) {
+        Err(GetFault::Tree(told)) => told == fault,
+        _ => false,
+    }
+}
+
+/// Whether a file denotes no tree.
+fn is_no_tree(rt: &impl Abort, alloc: Global, file: &[u8], path: &str) -> bool {
+    let names = named(rt, alloc, path);
+    let mut out = Vec::new(alloc);
+    match got(alloc, file, &names, CALLS, &mut out) {
+        Err(GetFault::Read(_)) => out.is_empty(),
+        _ => false,
+    }
+}
+
+#[test]
+fn a_stream_is_read_where_it_lies(rt: HostRuntime) {
+    let file = made(&rt, rt.alloc());
+    assert!(rt; is_got(&rt, rt.alloc(), &file, "S Long", CALLS + 2, 70000));
+    assert!(rt; is_got(&rt, rt.alloc(), &file, "S Short", CALLS + 1, 2));
+    assert!(rt; is_got(&rt, rt.alloc(), &file, "A", CALLS, 0));
+}
+
+#[test]
+fn a_read_that_fails_cuts_a_stream(rt: HostRuntime) {
+    let file = made(&rt, rt.alloc());
+    assert!(rt; is_cut(&rt, rt.alloc(), &file, "S Long", CALLS + 1, 65536));
+    assert!(rt; is_cut(&rt, rt.alloc(), &file, "S Long", CALLS, 0));
+    assert!(rt; is_cut(&rt, rt.alloc(), &file, "S Short", CALLS, 0));
+    assert!(rt; is_cut(&rt, rt.alloc(), &file, "A", CALLS - 1, 0));
+}
+
+#[test]
+fn what_is_no_stream_is_not_read(rt: HostRuntime) {
+    let mut file = made(&rt, rt.alloc());
+    assert!(rt; is_missing(&rt, rt.alloc(), &file, "B", TreeFault::NotFound));
+    assert!(rt; is_missing(&rt, rt.alloc(), &file, "S", TreeFault::WrongKind));
+    assert!(rt; is_missing(&rt, rt.alloc(), &file, "A B", TreeFault::WrongKind));
+    file[512 + 4 * 20] = 255;
+    assert!(rt; is_no_tree(&rt, rt.alloc(), &file, "A"));
+}
