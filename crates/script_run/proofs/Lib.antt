@@ -1,4 +1,5 @@
 pub mod Again
+pub mod Came
 pub mod Given
 pub mod Kept
 pub mod Opened

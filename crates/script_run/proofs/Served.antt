@@ -20,7 +20,7 @@ use Rattle.script_run.proofs.Given.{links_removed}
 
 -- ---- frames
 
-append_none : {A : Type 0} (xs : List A) → xs ++ [] ≡ xs
+pub append_none : {A : Type 0} (xs : List A) → xs ++ [] ≡ xs
 append_none [] = refl
 append_none (x ∷ xs) = ap (λ ys. x ∷ ys) (append_none xs)
 
@@ -28,7 +28,7 @@ joined_both : (fs gs : List Frame) → joined (fs ++ gs) ≡ joined fs ++ joined
 joined_both [] gs = refl
 joined_both (f ∷ fs) gs = ap (λ bytes. spell f ++ bytes) (joined_both fs gs) ∙ sym (append_assoc (spell f) (joined fs) (joined gs))
 
-messages_both : (fs gs : List Frame) → messages_of (fs ++ gs) ≡ messages_of fs ++ messages_of gs
+pub messages_both : (fs gs : List Frame) → messages_of (fs ++ gs) ≡ messages_of fs ++ messages_of gs
 messages_both [] gs = refl
 messages_both (frame.Message m ∷ fs) gs = ap (λ ms. m ∷ ms) (messages_both fs gs)
 messages_both (frame.Turn ∷ fs) gs = messages_both fs gs
