@@ -19,7 +19,6 @@ use file_placing::placing::place_over;
 use file_writer::write::write_file;
 use std::alloc::{AllocError, Global};
 use std::marker::Model;
-use std::mem;
 use storage_tree::storage::Storage;
 use storage_tree::tree::Tree;
 use stream_io::fault::ReadFault;
@@ -66,9 +65,11 @@ fn placed(
 ) -> Result<Option<Vec<u8>>, AllocError>
     ensures short { IfOk result (λ file. IfSome file (λ v. length v.items ≤ MOST_BYTES)) }
 {
-    // What denotes a tree is refused for want of memory alone.
-    let Ok(outline) = read_outline(alloc, old) else {
-        return Err(AllocError);
+    let outline = match read_outline(alloc, old) {
+        Ok(outline) => outline,
+        Err(ReadFault::NoMemory) => return Err(AllocError),
+        // What denotes a tree isn't refused so.
+        Err(_) => return Ok(None),
     };
     place_over(alloc, old, &outline, &anew, root)
 }

@@ -8,7 +8,7 @@ use crate::directory::{Moves, move_directory};
 use crate::finding::{Stream, push_streams};
 use crate::minis::{Minis, minis_of};
 use crate::parts::{Parts, chain_of, parts_of};
-use crate::runs::{DIRECTORY, MINI_STREAM, Run, STREAMS, fill_runs, flat_from, sectors_of};
+use crate::runs::{MINI_STREAM, Run, STREAMS, fill_runs, flat_from, sectors_of};
 use crate::sectors::{SECTOR, joined};
 use crate::tables::first_of;
 use crate::writing::{Contents, written};
