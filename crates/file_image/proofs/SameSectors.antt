@@ -1,11 +1,11 @@
 -- Files with one header and the same sectors, as far as the FAT has entries, denote the same.
-use Rattle.std.proofs.Common.{◌≡◌, ◌<◌, ◌≤◌, ◌+◌, ◌-◌, ◌*◌, ℕ, zero, suc, List, [], ◌∷◌, ◌++◌, ◌∙◌, Bool, true, false, if◌then◌else◌, nat_lt, length, length-append, map, min, get_or, refl, sym, ap, subst, take, arith}
+use Rattle.std.proofs.Common.{◌≡◌, ◌<◌, ◌≤◌, ◌+◌, ◌*◌, ℕ, List, [], ◌∷◌, ◌++◌, ◌∙◌, Bool, true, false, if◌then◌else◌, nat_lt, length, length-append, map, min, get_or, refl, sym, ap, subst, take, arith}
 use Rattle.std.proofs.lemmas.List.{get_or_append_left, get_or-append-add}
 use Rattle.std.proofs.lemmas.List.Elements.{All-take}
 use Rattle.std.specs.List.{All}
 use Rattle.std.specs.List.Sorted.{IsStrictlySortedBy}
 use Rattle.cfb_header.specs.Bytes.{block, joined, sector, u32_at}
-use Rattle.cfb_header.specs.Header.{HeaderValue, IsHeader, difat, difat_by, fat_by, fat_count, first_directory, first_mini_fat, header_of, listed, mini_fat_count}
+use Rattle.cfb_header.specs.Header.{HeaderValue, difat, difat_by, fat_by, fat_count, first_directory, first_mini_fat, header_of, listed, mini_fat_count}
 use Rattle.cfb_chain.specs.Chain.{AreDistinct, IsChain, IsChainOf, IsPresent, Store}
 use Rattle.cfb_chain.specs.Fat.{IsFat, mini_sectors_of, sectors_in, sectors_of}
 use Rattle.cfb_chain.proofs.Chains.{chain_below}
@@ -14,7 +14,7 @@ use Rattle.cfb_directory.specs.Entries.{AreLinked, IsNamed, child, class_of, ent
 use Rattle.storage_tree.specs.Tree.{Tree, Children, tree, none, stream, storage}
 use Rattle.file_model.specs.Alike.{AgreeOn}
 use Rattle.file_model.specs.Limits.{CUTOFF}
-use Rattle.file_model.specs.Denotes.{AreChildren, Denotes, Holds, HoldsBytes, HoldsEach, IsCalled, IsLaidOut, Layout, Used, both, directory_of, entry, minis, root_of, sectors, store_for, taken, within}
+use Rattle.file_model.specs.Denotes.{AreChildren, Denotes, Holds, HoldsBytes, HoldsEach, IsCalled, IsLaidOut, Layout, Used, both, directory_of, entry, minis, root_of, sectors, store_for, taken}
 use Rattle.file_model.proofs.AlikeHeaders.{header_of_alike, is_header_alike}
 use Rattle.file_model.proofs.AlikeStores.{HaveSameLinks, chain_carried, chain_of_carried, difat_by_alike, fat_by_alike, joined_alike, minis_alike, present_carried}
 

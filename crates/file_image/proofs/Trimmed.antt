@@ -1,5 +1,5 @@
 -- What a file denotes, it denotes without what its FAT has no entries for.
-use Rattle.std.proofs.Common.{◌≡◌, ◌<◌, ◌≤◌, ◌+◌, ◌-◌, ◌*◌, ◌/◌, ℕ, zero, suc, List, [], ◌∷◌, ◌++◌, ◌∙◌, append-nil, drop, inl, inr, length, length-append, length-drop, min, refl, replicate, subst, sym, ap, take, arith}
+use Rattle.std.proofs.Common.{◌≡◌, ◌<◌, ◌≤◌, ◌+◌, ◌-◌, ◌*◌, ◌/◌, ℕ, zero, suc, List, ◌∷◌, ◌++◌, ◌∙◌, append-nil, drop, inl, inr, length, length-append, length-drop, min, refl, replicate, subst, sym, ap, take, arith}
 use Rattle.std.proofs.lemmas.Bool.{cases_lt}
 use Rattle.std.proofs.lemmas.List.{drop-append-le, drop-take, length-replicate, length-take, take-append-le, take-take, take_all}
 use Rattle.std.proofs.Math.Bridge.{le_prop}
@@ -8,7 +8,6 @@ use Rattle.std.proofs.Math.Seq.{take-append-add}
 use Rattle.cfb_header.specs.Bytes.{block, sector}
 use Rattle.cfb_header.specs.Header.{IsHeader, fat_count}
 use Rattle.cfb_chain.specs.Fat.{sectors_in}
-use Rattle.cfb_chain.proofs.Blocks.{length_block}
 use Rattle.storage_tree.specs.Tree.{Tree}
 use Rattle.file_model.specs.Denotes.{Denotes}
 use Rattle.file_image.specs.Trimmed.{trimmed, trimmed_len}
