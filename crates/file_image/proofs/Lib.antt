@@ -1,2 +1,4 @@
 pub mod Numbers
 pub mod Same
+pub mod SameSectors
+pub mod Trimmed

@@ -1,6 +1,6 @@
 -- Numbers of blocks.
-use Rattle.std.proofs.Common.{◌≡◌, ◌≤◌, ◌+◌, ◌-◌, ◌*◌, ◌∙◌, ◌++◌, ◌∷◌, [], ℕ, zero, suc, Bool, true, false, List, ap, arith, drop, length, length-drop, map, min, refl, sym, take}
-use Rattle.std.proofs.lemmas.List.{append_assoc, append-nil, drop_min, take_min}
+use Rattle.std.proofs.Common.{◌≡◌, ◌+◌, ◌-◌, ◌∙◌, ◌++◌, ◌∷◌, [], ℕ, Bool, true, false, List, ap, arith, drop, length, length-drop, map, min, refl, take}
+use Rattle.std.proofs.lemmas.List.{append-nil, drop_min, take_min}
 use Rattle.std.specs.Prelude.{if◌then◌else◌}
 use Rattle.std.specs.Str.{bytes_eq}
 use Rattle.store_model.specs.Changes.{bytes_in, change_at, change_between, changes_from}

@@ -1,8 +1,9 @@
 //! A compound file that is kept in memory.
 
-ghost use Rattle.cfb_header.specs.Header.{header_read};
 ghost use Rattle.cfb_header.specs.declared.fault.ChainFault.{ChainFault};
+ghost use Rattle.cfb_header.specs.Header.{fat_count, header_read};
 ghost use Rattle.file_image.specs.Changed.{changed_blocks};
+ghost use Rattle.file_image.specs.Trimmed.{trimmed};
 ghost use Rattle.file_model.specs.Denotes.{Denotes};
 ghost use Rattle.file_model.specs.Limits.{MOST_BYTES};
 ghost use Rattle.file_model.specs.Refusals.{Refuses, writable};
@@ -14,6 +15,7 @@ ghost use Rattle.stream_io.specs.declared.fault.ReadFault.TheVariants.{NoMemory}
 
 use crate::changed::changed;
 use crate::comparing::is_same;
+use cfb_bytes::numbers::read_u32;
 use file_model::fault::WriteFault;
 use file_placing::placing::place_over;
 use file_writer::write::write_file;
@@ -68,6 +70,7 @@ fn placed(
     let outline = match read_outline(alloc, old) {
         Ok(outline) => outline,
         Err(ReadFault::NoMemory) => return Err(AllocError),
+        // What denotes a tree isn't refused so.
         Err(_) => return Ok(None),
     };
     place_over(alloc, old, &outline, &anew, root)
@@ -122,18 +125,36 @@ fn laid_over(alloc: Global, old: &[u8], tree: &Tree) -> Result<Vec<u8>, WriteFau
     }
 }
 
+/// The file cut behind the sectors that its FAT, of so many sectors, has entries for, its last sector filled with zeros.
+fn trim(mut file: Vec<u8>, sectors: u32) -> Result<Vec<u8>, AllocError>
+    requires { sectors ≡ fat_count file.items }
+    ensures { IfOk result (λ v. v.items ≡ trimmed file.items) }
+{
+    let count = file.len().div_ceil(512).min(1 + 128 * sectors as usize);
+    file.resize(512 * count, 0)?;
+    Ok(file)
+}
+
 impl Image {
-    /// The image of a compound file.
+    /// The image of a compound file: its bytes up to the end of the sectors that the FAT has entries for, the last sector
+    /// filled with zeros.
     ///
     /// Refused: as `read_file`. The bytes are dropped then.
     pub fn open(alloc: Global, file: Vec<u8>) -> Result<Image, ReadFault>
         ensures denotes { IfOk result (λ image. (t : tree.Tree) × ∥ Denotes file.items t ∥₁ × ∥ Denotes image t ∥₁) }
+        ensures trimmed { IfOk result (λ image. image ≡ trimmed file.items) }
         ensures header { (e : ChainFault) → header_read file.items ≡ Err e → result ≡ Err (chain_fault e) }
         ensures reads { (t : tree.Tree) → Denotes file.items t → IfErr result (λ e. e ≡ NoMemory) }
         ensures refused { IfErr result (MayRefuseFile file.items) }
     {
         match read_outline(alloc, &file) {
-            Ok(_) => Ok(Image { file }),
+            Ok(_) => {
+                let sectors = read_u32(&file, 44);
+                match trim(file, sectors) {
+                    Ok(file) => Ok(Image { file }),
+                    Err(_) => Err(ReadFault::NoMemory),
+                }
+            }
             Err(fault) => Err(fault),
         }
     }

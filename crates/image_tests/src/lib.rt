@@ -8,4 +8,6 @@ mod random;
 #[cfg(test)]
 mod trees;
 #[cfg(test)]
+mod trimming;
+#[cfg(test)]
 mod wide;

@@ -1,4 +1,4 @@
-use Rattle.std.proofs.Common.{◌≡◌, ◌∙◌, ◌++◌, ℕ, List, ap, sym}
+use Rattle.std.proofs.Common.{◌∙◌, ◌++◌, ℕ, List, ap, sym}
 use Rattle.store_model.specs.Changes.{bytes_in, changes_from}
 use Rattle.file_image.specs.Changed.{numbers_between}
 use Rattle.file_image.proofs.Numbers.{next, numbers}
