@@ -12,8 +12,7 @@ use storage_tree::fault::TreeFault;
 use texts::input::InputFault;
 
 /// A long stream of two pieces, a short one and an empty one.
-const DESCRIPTION: &[u8] =
-    b"storage S\nfill S/Long 70000 61\nstream S/Short 0102\nstream A -\n";
+const DESCRIPTION: &[u8] = b"storage S\nfill S/Long 70000 61\nstream S/Short 0102\nstream A -\n";
 
 /// How many calls it takes to learn where a stream lies: one for the file's length, and one each for its header, the FAT,
 /// the directory and the mini FAT.
@@ -110,13 +109,7 @@ fn is_cut(
 }
 
 /// Whether the tree has no stream at a path.
-fn is_missing(
-    rt: &impl Abort,
-    alloc: Global,
-    file: &[u8],
-    path: &str,
-    fault: TreeFault,
-) -> bool {
+fn is_missing(rt: &impl Abort, alloc: Global, file: &[u8], path: &str, fault: TreeFault) -> bool {
     let names = named(rt, alloc, path);
     let mut out = Vec::new(alloc);
     match got(alloc, file, &names, CALLS, &mut out) {
