@@ -20,9 +20,12 @@ use Rattle.file_commands.specs.declared.fault.ListFault.TheVariants as list
 abbrev pub SOUND : List ℕ
 SOUND = 111 ∷ 107 ∷ 10 ∷ []
 
+abbrev pub step_text : ℕ → ℕ → List ℕ
+step_text n to = codes ", whose sector " ++ decimal n ++ (codes " leads to " ++ decimal to)
+
 abbrev pub from_text : Option ℕ → ℕ → List ℕ
 from_text None to = codes ", which begins at sector " ++ decimal to
-from_text (Some n) to = codes ", whose sector " ++ decimal n ++ (codes " leads to " ++ decimal to)
+from_text (Some n) to = step_text n to
 
 abbrev pub link_text : Link → List ℕ
 link_text link = from_text link.from link.to

@@ -1,6 +1,6 @@
 //! The line that tells what is wrong with a file, and where.
 
-ghost use Rattle.file_checks.specs.Checks.{IsPlaceOf, link_text, place_text, told_line};
+ghost use Rattle.file_checks.specs.Checks.{IsPlaceOf, link_text, place_text, step_text, told_line};
 ghost use Rattle.std.specs.Fmt.{decimal};
 ghost use Rattle.std.specs.Prelude.{◌≡◌, ◌++◌, IfOk, IfSome, OnOk};
 
@@ -37,16 +37,26 @@ fn push_number(
     Ok(())
 }
 
+/// Writes which sector leads to which number.
+fn push_step(alloc: Global, text: &mut Vec<u8>, from: u32, to: u32) -> Result<(), AllocError>
+    ensures { OnOk result (text.new.items ≡ text.old.items ++ step_text from to) }
+{
+    push_number(alloc, text, b", whose sector ".as_slice(), from)?;
+    push_number(alloc, text, b" leads to ".as_slice(), to)
+}
+
 /// Writes what a link is.
 fn push_link(alloc: Global, text: &mut Vec<u8>, link: Link) -> Result<(), AllocError>
     ensures { OnOk result (text.new.items ≡ text.old.items ++ link_text link) }
 {
     match link.from {
-        None => push_number(alloc, text, b", which begins at sector ".as_slice(), link.to),
-        Some(from) => {
-            push_number(alloc, text, b", whose sector ".as_slice(), from)?;
-            push_number(alloc, text, b" leads to ".as_slice(), link.to)
-        }
+        None => push_number(
+            alloc,
+            text,
+            b", which begins at sector ".as_slice(),
+            link.to,
+        ),
+        Some(from) => push_step(alloc, text, from, link.to),
     }
 }
 
