@@ -6,6 +6,8 @@ pub use program_ends::command_lines::FILE;
 use std::alloc::{AllocError, Global};
 
 /// The names of the commands and of their other arguments.
+pub const CHECK: &str = "check";
+
 pub const MAP: &str = "map";
 
 pub const EXTRACT: &str = "extract";
@@ -15,6 +17,8 @@ pub const PACK: &str = "pack";
 pub const FOLDER: &str = "folder";
 
 pub const FORCE: &str = "force";
+
+const ABOUT_CHECK: &str = "Tells what is wrong with a compound file, and where";
 
 const ABOUT_MAP: &str = "Shows what each sector of a compound file is, and how much of it is free";
 
@@ -31,6 +35,14 @@ the bytes of free sectors, those in the sectors of streams and of the mini strea
 stream's, and those past all sectors that the FAT knows. clean leaves all these out.
 
 Example: olecon map letter.doc";
+
+const PLACES: &str =
+    "Prints ok where the file holds a tree. Else one line is printed with the fault's name, and where it
+is, as far as that is found: in the header, in the lists of the FAT and the DIFAT, or in the
+chain of the directory or of the mini FAT, with the sector whose entry is at fault and the
+number that stands there. The fault is told on standard error besides, as by the other commands.
+
+Example: olecon check letter.doc";
 
 const FOLDERS: &str =
     "Names are spelled as list prints them, and a dot at a name's end as \\2e, so that none leads
@@ -75,6 +87,13 @@ fn force_argument<'a>(alloc: Global) -> Arg<'a> {
         .action(ArgAction::SetTrue)
 }
 
+fn check_command<'a>(alloc: Global) -> Result<Command<'a>, AllocError> {
+    Command::new(alloc, CHECK)
+        .about(ABOUT_CHECK)
+        .after_help(PLACES)
+        .arg(file_argument(alloc, "The file to check"))
+}
+
 fn map_command<'a>(alloc: Global) -> Result<Command<'a>, AllocError> {
     Command::new(alloc, MAP)
         .about(ABOUT_MAP)
@@ -107,13 +126,14 @@ fn with_command<'a>(
     program.subcommand(command?)
 }
 
-/// The command line of the program `olecon` with its commands over files: `make`, `list`, `get`, `clean`, `map`,
-/// `extract` and `pack`. A program with more commands adds them. `Task::of` tells what a parsed one asks for.
+/// The command line of the program `olecon` with its commands over files: `make`, `list`, `get`, `clean`, `check`,
+/// `map`, `extract` and `pack`. A program with more commands adds them. `Task::of` tells what a parsed one asks for.
 ///
 /// Refused for want of memory alone.
 pub fn command_line<'a>(alloc: Global) -> Result<Command<'a>, AllocError> {
     let files = command_lines::command_line(alloc);
-    let maps = with_command(files?, map_command(alloc));
+    let checks = with_command(files?, check_command(alloc));
+    let maps = with_command(checks?, map_command(alloc));
     let extracts = with_command(maps?, extract_command(alloc));
     with_command(extracts?, pack_command(alloc))
 }

@@ -1,6 +1,7 @@
 //! The commands over the files of a system.
 
 use cfb_names::name::Name;
+use file_checks::checking::check_file;
 use file_commands::cleaning::clean_file;
 use file_commands::commands::{list_file, make_file};
 use file_commands::fault::{GetFault, ListFault};
@@ -109,6 +110,17 @@ fn list_lines<R: Runtime + AllocGlobal>(rt: &R, mut source: R::File) -> Result<(
             &mut io::writer(rt),
         ),
         _ => list_file(rt.alloc(), &mut source, &mut io::writer(rt)),
+    }
+}
+
+/// Tells on standard output what is wrong with a file, and where.
+pub fn check<R: Runtime + AllocGlobal>(rt: &R, path: &str) -> ExitCode {
+    let Ok(mut source) = fs::open(rt, path) else {
+        return refuse(rt, &Report::File(path, "Unreadable"));
+    };
+    match check_file(rt.alloc(), &mut source, &mut io::writer(rt)) {
+        Ok(()) => ExitCode::SUCCESS,
+        Err(fault) => refuse(rt, &fault.report(path)),
     }
 }
 

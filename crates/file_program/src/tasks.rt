@@ -1,9 +1,9 @@
 //! What a command line over files asks for.
 
-use crate::command_lines::{EXTRACT, FOLDER, FORCE, MAP, PACK};
+use crate::command_lines::{CHECK, EXTRACT, FOLDER, FORCE, MAP, PACK};
 use crate::extracting::extract;
 use crate::packing::pack;
-use crate::running::{Listing, clean, get, list, make, map};
+use crate::running::{Listing, check, clean, get, list, make, map};
 use clap::ArgMatches;
 use program_ends::command_lines::{CLEAN, FILE, GET, JSON, LIST, LONG, MAKE, OUT, PATH};
 use std::process::ExitCode;
@@ -20,6 +20,8 @@ pub enum Task<'a> {
     Get(&'a str, &'a str),
     /// The tree of the file of one path, written to that of another.
     Clean(&'a str, &'a str),
+    /// What is wrong with the file of this path.
+    Check(&'a str),
     /// The map of a file of this path.
     Map(&'a str),
     /// A folder of one path, made of the file of another; whether files that stand there are replaced.
@@ -43,6 +45,9 @@ impl<'a> Task<'a> {
         if let Some(cleaned) = matches.subcommand_matches(CLEAN) {
             return cleaning(cleaned);
         }
+        if let Some(checked) = matches.subcommand_matches(CHECK) {
+            return checking(checked);
+        }
         if let Some(mapped) = matches.subcommand_matches(MAP) {
             return mapping(mapped);
         }
@@ -59,6 +64,7 @@ impl<'a> Task<'a> {
             Task::List(path, listing) => list(rt, path, listing),
             Task::Get(path, word) => get(rt, path, word),
             Task::Clean(path, out) => clean(rt, path, out),
+            Task::Check(path) => check(rt, path),
             Task::Map(path) => map(rt, path),
             Task::Extract(path, folder, is_forced) => extract(rt, path, folder, is_forced),
             Task::Pack(folder, path) => pack(rt, folder, path),
@@ -91,6 +97,10 @@ fn getting<'a>(got: &ArgMatches<'a>) -> Option<Task<'a>> {
 
 fn cleaning<'a>(cleaned: &ArgMatches<'a>) -> Option<Task<'a>> {
     Some(Task::Clean(cleaned.get_str(FILE)?, cleaned.get_str(OUT)?))
+}
+
+fn checking<'a>(checked: &ArgMatches<'a>) -> Option<Task<'a>> {
+    Some(Task::Check(checked.get_str(FILE)?))
 }
 
 fn mapping<'a>(mapped: &ArgMatches<'a>) -> Option<Task<'a>> {

@@ -1,0 +1,5 @@
+//! Checking compound files.
+#![tactic(auto)]
+
+pub mod checking;
+mod telling;
