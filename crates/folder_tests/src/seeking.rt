@@ -151,6 +151,8 @@ fn what_is_no_stream_is_not_read(rt: HostRuntime) {
     assert!(rt; is_missing(&rt, rt.alloc(), &file, "B", TreeFault::NotFound));
     assert!(rt; is_missing(&rt, rt.alloc(), &file, "S", TreeFault::WrongKind));
     assert!(rt; is_missing(&rt, rt.alloc(), &file, "A B", TreeFault::WrongKind));
-    file[512 + 4 * 20] = 255;
+    // The entry of a sector of the long stream leads out of the file.
+    let byte = file.get_mut(512 + 4 * 20).expect(&rt, "an entry");
+    *byte = 255;
     assert!(rt; is_no_tree(&rt, rt.alloc(), &file, "A"));
 }
