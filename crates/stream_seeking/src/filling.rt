@@ -35,15 +35,16 @@ pub(crate) fn fill<S: Source>(
     }
 }
 
-/// How many sectors from a place in a list on stand one after another in a file.
-fn run_length(sectors: &[u32], at: usize) -> usize
+/// How many sectors from a place in a list on stand one after another in a file, of the next ones, which are so many.
+fn run_length(sectors: &[u32], at: usize, next: usize) -> usize
     requires { at < length sectors.now }
     ensures some { 0 < result }
     ensures inside { at + result ≤ length sectors.now }
     ensures in_turn { (k : ℕ) → k < result → slice_index sectors.now (at + k) ≡ slice_index sectors.now at + k }
 {
     let mut count = 1;
-    while at + count < sectors.len()
+    while count < next
+        && at + count < sectors.len()
         && sectors[at + count] as usize == sectors[at] as usize + count
     {
         count += 1;
@@ -67,7 +68,7 @@ pub(crate) fn fill_sectors<S: Source>(
     let all = buffer.len().div_ceil(SECTOR);
     let mut done = 0;
     while done < all {
-        let count = run_length(sectors, done);
+        let count = run_length(sectors, done, all - done);
         let start = SECTOR * done;
         let end = SECTOR.saturating_mul(done + count).min(buffer.len());
         fill(
