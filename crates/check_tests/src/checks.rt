@@ -1,0 +1,55 @@
+//! Checks of a file that is sound, and of the same one once a number of its header is changed.
+
+use cfb_header::fault::ChainFault;
+use fault_places::finding::find_place;
+use fault_places::place::{FaultPlace, Link};
+use file_checks::checking::check_file;
+use file_commands::commands::make_file;
+use std::alloc::Global;
+use std::process::Abort;
+
+/// A file of one stream.
+fn file_of(rt: &impl Abort, alloc: Global) -> Vec<u8> {
+    let mut text = b"stream A 0102\n".as_slice();
+    let mut file = Vec::new(alloc);
+    make_file(alloc, &mut text, &mut file).expect(rt, "a file");
+    file
+}
+
+/// The same with another byte at a place.
+fn change(file: &mut [u8], at: usize, to: u8) {
+    if let Some(byte) = file.get_mut(at) {
+        *byte = to;
+    }
+}
+
+/// Whether a check of a file writes this, and refuses it where it isn't sound.
+fn writes(alloc: Global, file: &[u8], is_sound: bool, want: &[u8]) -> bool {
+    let mut source = file;
+    let mut text = Vec::new(alloc);
+    check_file(alloc, &mut source, &mut text).is_ok() == is_sound && text.as_slice() == want
+}
+
+/// Whether the directory begins outside the file.
+fn begins_outside(alloc: Global, file: &[u8], to: u32) -> bool {
+    match find_place(alloc, file, ChainFault::OutOfFile) {
+        Ok(Some(FaultPlace::Directory(link))) => link == Link { from: None, to },
+        _ => false,
+    }
+}
+
+#[test]
+fn a_file_is_checked(rt: HostRuntime) {
+    let mut file = file_of(&rt, rt.alloc());
+    assert!(rt;
+        writes(rt.alloc(), &file, true, b"ok\n".as_slice()),
+        "a sound file"
+    );
+    change(&mut file, 48, 99);
+    assert!(rt; begins_outside(rt.alloc(), &file, 99), "the place");
+    let want = b"OutOfFile in the directory, which begins at sector 99\n".as_slice();
+    assert!(rt;
+        writes(rt.alloc(), &file, false, want),
+        "a directory outside the file"
+    );
+}
