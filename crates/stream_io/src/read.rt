@@ -36,6 +36,7 @@ use cfb_header::header::Header;
 use cfb_names::fault::DirFault;
 use cfb_names::name::Name;
 use cfb_places::places::Places;
+use file_comparing::comparing::is_shown;
 use file_outline::filling::{bytes_at, storage_at};
 use file_outline::finding::place_at;
 use file_outline::outline::{Outline, Part, Place, is_short};
@@ -342,6 +343,26 @@ pub fn read_file(alloc: Global, file: &[u8]) -> Result<Tree, ReadFault>
     let layout = lay_out(alloc, file)?;
     let root = storage_at(alloc, &layout.fat, &layout.mini, &layout.root)?;
     Ok(Tree::from_root(alloc, root))
+}
+
+/// Whether a compound file denotes a tree, which is compared with it stream by stream. Each chain of sectors is walked as for
+/// `read_file`, and of its streams one at a time is read.
+///
+/// Refused: as `read_file`.
+pub fn is_file_of(alloc: Global, file: &[u8], wanted: &Tree) -> Result<bool, ReadFault>
+    ensures same { IfOk result (λ same. same ≡ true → ∥ Denotes file.now (kept wanted.now).now ∥₁) }
+    ensures reads { (t : tree.Tree) → Denotes file.now t → IfErr result (λ e. e ≡ NoMemory) }
+    ensures refused { IfErr result (MayRefuseFile file.now) }
+{
+    let layout = lay_out(alloc, file)?;
+    let same = is_shown(
+        alloc,
+        &layout.fat,
+        &layout.mini,
+        &layout.root,
+        wanted.root(),
+    )?;
+    Ok(same)
 }
 
 /// The outline of a compound file: its storages and streams, where each stream lies, and how many bytes it has. Each chain of
