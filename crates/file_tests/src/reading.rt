@@ -6,6 +6,7 @@ use cfb_names::name::Name;
 use file_outline::outline::{Outline, Part};
 use std::alloc::Global;
 use std::process::Abort;
+use storage_tree::class_id::ClassId;
 use storage_tree::storage::Found;
 use storage_tree::tree::Tree;
 use stream_io::fault::{ReadFault, StreamFault};
@@ -65,7 +66,7 @@ fn has_stream(rt: &impl Abort, alloc: Global, file: &[u8]) -> bool {
 /// Whether it is told of a file's tree that the file denotes it, and of another that it doesn't.
 fn is_told_of_its_tree(rt: &impl Abort, alloc: Global, file: &[u8]) -> bool {
     let tree = read_file(alloc, file).expect(rt, "a file");
-    let other = Tree::new(alloc);
+    let other = Tree::new(alloc, ClassId::from_bytes([0; 16]), 0);
     let same = is_file_of(alloc, file, &tree).expect(rt, "a file");
     same && !is_file_of(alloc, file, &other).expect(rt, "a file")
 }
