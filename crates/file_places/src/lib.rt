@@ -5,5 +5,6 @@ pub mod fault;
 mod listing;
 mod putting;
 pub mod reading;
+pub mod runs;
 mod sectors;
 pub mod source;

@@ -1,7 +1,7 @@
 //! Bytes that were read, put in their places.
 
 ghost use Rattle.cfb_bytes.specs.Bytes.{block};
-ghost use Rattle.std.specs.Prelude.{◌*◌, ◌+◌, ◌-◌, ◌<◌, ◌≡◌, ◌≤◌, ◌^◌, OnOk, length, min, slice_index, ℕ};
+ghost use Rattle.std.specs.Prelude.{◌*◌, ◌+◌, ◌-◌, ◌<◌, ◌≡◌, ◌≤◌, ◌^◌, OnOk, length, min, ℕ};
 
 use cfb_places::places::{BLOCK, Places};
 use std::alloc::AllocError;
@@ -27,20 +27,4 @@ pub(crate) fn put_run(
         file.put(first + k, &bytes[at..end])?;
     }
     Ok(())
-}
-
-/// How many sectors from a place in a list on stand one after another in a file.
-pub(crate) fn run_length(sectors: &[u32], at: usize) -> usize
-    requires { at < length sectors.now }
-    ensures some { 0 < result }
-    ensures inside { at + result ≤ length sectors.now }
-    ensures in_turn { (k : ℕ) → k < result → slice_index sectors.now (at + k) ≡ slice_index sectors.now at + k }
-{
-    let mut count = 1;
-    while at + count < sectors.len()
-        && sectors[at + count] as usize == sectors[at] as usize + count
-    {
-        count += 1;
-    }
-    count
 }

@@ -5,7 +5,8 @@ ghost use Rattle.file_places.specs.Filled.{IsChainRead, IsOfReading, IsRead, IsR
 ghost use Rattle.std.specs.Prelude.{◌≡◌, ◌≤◌, IfErr, IfOk, IfSome, OnOk, drop, length, take};
 
 use crate::fault::PlacesFault;
-use crate::putting::{put_run, run_length};
+use crate::putting::put_run;
+use crate::runs::run_length;
 use crate::source::Source;
 use cfb_chain::table::chain_from;
 use cfb_places::places::{BLOCK, Places};

@@ -2,10 +2,11 @@
 
 ghost use Rattle.cfb_bytes.specs.Bytes.{block};
 ghost use Rattle.cfb_header.specs.Bytes.{joined, sector};
-ghost use Rattle.std.specs.Prelude.{◌*◌, ◌+◌, ◌++◌, ◌<◌, ◌≡◌, ◌≤◌, ◌⊎◌, IfErr, IfOk, IfSome, OnOk, length, slice_index, take, ℕ};
+ghost use Rattle.std.specs.Prelude.{◌*◌, ◌++◌, ◌≡◌, ◌≤◌, ◌⊎◌, IfErr, IfOk, IfSome, OnOk, length, take};
 ghost use Rattle.stream_seeking.specs.declared.fault.CopyFault.TheVariants.{NoMemory, Unreadable};
 
 use crate::fault::CopyFault;
+use file_places::runs::run_length;
 use file_places::source::Source;
 use std::alloc::Global;
 
@@ -35,23 +36,6 @@ pub(crate) fn fill<S: Source>(
     }
 }
 
-/// How many sectors from a place in a list on stand one after another in a file, of the next ones, which are so many.
-fn run_length(sectors: &[u32], at: usize, next: usize) -> usize
-    requires { at < length sectors.now }
-    ensures some { 0 < result }
-    ensures inside { at + result ≤ length sectors.now }
-    ensures in_turn { (k : ℕ) → k < result → slice_index sectors.now (at + k) ≡ slice_index sectors.now at + k }
-{
-    let mut count = 1;
-    while count < next
-        && at + count < sectors.len()
-        && sectors[at + count] as usize == sectors[at] as usize + count
-    {
-        count += 1;
-    }
-    count
-}
-
 /// Fills a buffer with the first bytes of sectors, reading neighbours at once.
 pub(crate) fn fill_sectors<S: Source>(
     source: &mut S,
@@ -68,7 +52,7 @@ pub(crate) fn fill_sectors<S: Source>(
     let all = buffer.len().div_ceil(SECTOR);
     let mut done = 0;
     while done < all {
-        let count = run_length(sectors, done, all - done);
+        let count = run_length(sectors, done);
         let start = SECTOR * done;
         let end = SECTOR.saturating_mul(done + count).min(buffer.len());
         fill(
