@@ -1,7 +1,7 @@
 -- What is read of a file block by block.
 use Rattle.std.proofs.Common.{◌≡◌, ◌≢◌, inl, inr, ◌<◌, ◌≤◌, ◌+◌, ◌-◌, ◌*◌, ℕ, List, [], ◌∷◌, ◌++◌, Option, Some, None, IfSome, length, take, drop, replicate, get_or, min, refl, sym, ap, subst, ◌∙◌, arith, length-drop}
 use Rattle.std.proofs.lemmas.Bool.{cases_lt, cases_eq}
-use Rattle.std.proofs.lemmas.List.{drop-drop, get_or_default, length-take, take_all, take_min, take-take}
+use Rattle.std.proofs.lemmas.List.{get_or_default, length-take, take_min, take-take}
 use Rattle.cfb_bytes.specs.Bytes.{block}
 use Rattle.std.proofs.lemmas.List.Elements.{All-append}
 use Rattle.std.specs.List.{All}

@@ -29,7 +29,10 @@ pub(crate) fn put_run(
     Ok(())
 }
 
-/// How many sectors from a place in a list on stand one after another in a file.
+/// The most sectors that are read at once: 64 KiB, so that no part of a file stands in memory twice.
+const MOST_SECTORS: usize = 128;
+
+/// How many sectors from a place in a list on stand one after another in a file, as far as they are read at once.
 pub(crate) fn run_length(sectors: &[u32], at: usize) -> usize
     requires { at < length sectors.now }
     ensures some { 0 < result }
@@ -37,7 +40,8 @@ pub(crate) fn run_length(sectors: &[u32], at: usize) -> usize
     ensures in_turn { (k : ℕ) → k < result → slice_index sectors.now (at + k) ≡ slice_index sectors.now at + k }
 {
     let mut count = 1;
-    while at + count < sectors.len()
+    while count < MOST_SECTORS
+        && at + count < sectors.len()
         && sectors[at + count] as usize == sectors[at] as usize + count
     {
         count += 1;

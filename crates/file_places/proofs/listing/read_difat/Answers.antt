@@ -1,4 +1,4 @@
-use Rattle.std.proofs.Common.{◌≡◌, ◌+◌, ◌-◌, ◌∙◌, ◌∷◌, [], ℕ, List, ap, arith, length, refl, sym}
+use Rattle.std.proofs.Common.{◌≡◌, ◌+◌, ◌-◌, ◌∙◌, ◌∷◌, [], ℕ, List, arith, length, refl, sym}
 use Rattle.cfb_header.specs.Header.{HeaderValue, difat_by, difat_from}
 use Rattle.file_places.specs.Filled.{IsRead}
 use Rattle.file_places.proofs.Filling.{IsDifatSoFar, all_met, if_some, more_met, none_met, some_both, some_map, some_same}

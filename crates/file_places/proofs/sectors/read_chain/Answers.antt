@@ -1,4 +1,4 @@
-use Rattle.std.proofs.Common.{◌≡◌, ◌∙◌, List, ℕ, length, subst}
+use Rattle.std.proofs.Common.{◌≡◌, ◌∙◌, List, ℕ, length}
 use Rattle.file_places.specs.Filled.{IsChainRead, IsRead}
 use Rattle.file_places.proofs.Filling.{chain_was_read, some_map}
 use Rattle.file_places.proofs.sectors.read_chain.Goals as goal
