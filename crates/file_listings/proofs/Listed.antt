@@ -40,7 +40,7 @@ one_directory file dir other d e =
     d.bytes_are ∙ ap (joined (sector file)) same ∙ sym e.bytes_are
 
 -- the outline of one is that of the other, and lies there
-pub placed_alike : (a b : List ℕ) (o : Outline) → Alike a b → (t : Tree) × IsPlaced b t o → IsPlacedIn a o
+pub placed_alike : (a b : List ℕ) (o : Outline) → Alike a b → (t : Tree) × IsPlaced b t o → (t : Tree) × IsPlaced a t o
 placed_alike a b o h p =
     let q : (u : Tree) × Denotes a u × (outline_of u ≡ outline_of p.0) = alike_denotes b a (alike_back a b h) p.0 p.1.denotes in
     let dir : List ℕ = directory_of b p.1.denotes.layout in
@@ -51,4 +51,7 @@ placed_alike a b o h p =
       denotes = q.1;
       told = subst (λ (x : List ℕ). IsTold x 0 o) same p.1.told;
     } in
-    (q.0, ∣ placed ∣₁)
+    (q.0, placed)
+
+pub placed_in : (a b : List ℕ) (o : Outline) → Alike a b → (t : Tree) × IsPlaced b t o → IsPlacedIn a o
+placed_in a b o h p = let q : (t : Tree) × IsPlaced a t o = placed_alike a b o h p in (q.0, ∣ q.1 ∣₁)

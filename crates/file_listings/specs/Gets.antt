@@ -8,7 +8,8 @@ use Rattle.file_commands.specs.declared.fault.GetFault.TheVariants as get
 use Rattle.file_places.specs.declared.fault.PlacesFault.{PlacesFault}
 use Rattle.file_places.specs.declared.fault.PlacesFault.TheVariants as places
 use Rattle.stream_io.specs.Reads.{chain_fault}
-use Rattle.stream_seeking.specs.Blocks.{Begins, held_in}
+use Rattle.file_outline.specs.declared.outline.Place.{Place}
+use Rattle.stream_seeking.specs.Blocks.{Begins, held_at, held_in}
 use Rattle.stream_seeking.specs.declared.blocks.Lies.{Lies}
 use Rattle.stream_seeking.specs.declared.fault.CopyFault.{CopyFault}
 use Rattle.stream_seeking.specs.declared.fault.CopyFault.TheVariants as copy
@@ -26,6 +27,10 @@ abbrev pub of_copy_fault : CopyFault → GetFault
 of_copy_fault copy.Unreadable = get.Input input.Unreadable
 of_copy_fault copy.NoMemory = get.Input input.NoMemory
 of_copy_fault copy.Unwritable = get.Unwritable
+
+-- the stream at a path of the tree that the file denotes lies at a place
+abbrev pub LiesAt : List ℕ → List (List ℕ) → Place → Type 0
+LiesAt file path place = (t : Tree) × (d : Denotes file t) × (stream_at path t ≡ Ok (held_at file d.layout place))
 
 -- the bytes that lie there are those of the stream at a path of the tree that the file denotes
 abbrev pub Stands : List ℕ → List (List ℕ) → Lies → Type 0

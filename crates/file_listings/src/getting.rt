@@ -1,14 +1,18 @@
 //! Writing a stream of a file that can be sought in.
 
 ghost use Rattle.file_commands.specs.Getting.{Gets, MayRefuseGet};
-ghost use Rattle.file_listings.specs.Gets.{Begun, Stands, of_copy_fault, of_places_fault};
-ghost use Rattle.std.specs.Prelude.{◌≡◌, ◌≢◌, ◌⊎◌, IfErr, IfOk, IfSome, OnOk, length};
+ghost use Rattle.cfb_header.specs.Header.{IsHeader, header_read};
+ghost use Rattle.file_listings.specs.Gets.{Begun, LiesAt, Stands, of_copy_fault, of_places_fault};
+ghost use Rattle.file_model.specs.Alike.{Alike};
+ghost use Rattle.std.specs.Prelude.{◌≡◌, ◌≢◌, ◌⊎◌, IfErr, IfOk, IfSome, List, Ok, OnOk, length, ℕ};
 ghost use Rattle.texts.specs.declared.input.InputFault.TheVariants as input;
 
 use cfb_names::name::Name;
 use file_commands::fault::GetFault;
+use file_outline::finding::place_at;
+use file_outline::outline::Place;
 use file_places::fault::PlacesFault;
-use file_places::reading::read_catalog;
+use file_places::reading::{Catalog, read_catalog};
 use file_places::source::Source;
 use std::alloc::Global;
 use std::io::Write;
@@ -16,7 +20,7 @@ use stream_io::fault::ReadFault;
 use stream_io::read::read_placed;
 use stream_seeking::blocks::{Lies, blocks_at};
 use stream_seeking::copying::copy_blocks;
-use stream_seeking::fault::{CopyFault, SeekFault};
+use stream_seeking::fault::CopyFault;
 use texts::input::InputFault;
 
 /// A fault of a file of which only some blocks are read.
@@ -49,6 +53,25 @@ struct Found {
     len: usize,
 }
 
+/// The place that the outline of a file tells of the stream at a path. The outline is gone once it is known.
+///
+/// Refused: as `get_source`, but for reading and writing.
+fn place_of(alloc: Global, catalog: &Catalog, path: &[Name]) -> Result<Place, GetFault>
+    requires header { header_read catalog.now.file ≡ Ok catalog.now.header }
+    requires whole { IsHeader catalog.now.file }
+    ensures found { IfOk result (λ place. (a : List ℕ) → Alike a catalog.now.file → LiesAt a path.now place) }
+    ensures refused { IfErr result (λ fault. (a : List ℕ) → Alike a catalog.now.file → MayRefuseGet a path.now fault) }
+{
+    let outline = match read_placed(alloc, &catalog.header, &catalog.file) {
+        Ok(outline) => outline,
+        Err(fault) => return Err(GetFault::Read(fault)),
+    };
+    match place_at(&outline, path) {
+        Ok(place) => Ok(place),
+        Err(fault) => Err(GetFault::Tree(fault)),
+    }
+}
+
 /// Finds the stream at a path.
 ///
 /// Refused: as `get_source`, but for writing.
@@ -61,18 +84,16 @@ fn seek<S: Source>(alloc: Global, source: &mut S, path: &[Name]) -> Result<Found
         Ok(catalog) => catalog,
         Err(fault) => return Err(of_places(fault)),
     };
-    match read_placed(alloc, &catalog.header, &catalog.file) {
-        Ok(_) => {}
-        Err(fault) => return Err(GetFault::Read(fault)),
+    let place = match place_of(alloc, &catalog, path) {
+        Ok(place) => place,
+        Err(fault) => return Err(fault),
     };
-    match blocks_at(alloc, &catalog.header, &catalog.file, path) {
+    match blocks_at(alloc, &catalog.header, &catalog.file, place) {
         Ok(lies) => Ok(Found {
             lies,
             len: catalog.file.len(),
         }),
-        Err(SeekFault::Tree(fault)) => Err(GetFault::Tree(fault)),
-        Err(SeekFault::NoMemory) => Err(GetFault::Input(InputFault::NoMemory)),
-        Err(SeekFault::NoTree) => unreachable!(),
+        Err(_) => Err(GetFault::Input(InputFault::NoMemory)),
     }
 }
 

@@ -63,7 +63,7 @@ filled_by a n at there is =
     λ i. front i ++ replicate (left i) 0
 
 -- ---- blocks in what was joined
-block_first : (w : ℕ) (xs ys : List ℕ) (n : ℕ) → n + w ≤ length xs → block w (xs ++ ys) n ≡ block w xs n
+pub block_first : (w : ℕ) (xs ys : List ℕ) (n : ℕ) → n + w ≤ length xs → block w (xs ++ ys) n ≡ block w xs n
 unfolding block
 block_first w xs ys n h =
     let a : n ≤ length xs = omega arith in

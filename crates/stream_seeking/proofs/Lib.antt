@@ -2,6 +2,6 @@ pub mod Joined
 pub mod Filled
 pub mod Minis
 pub mod Buffers
-pub mod Found
-pub mod Paths
+pub mod Fronts
 pub mod Placing
+pub mod Shown

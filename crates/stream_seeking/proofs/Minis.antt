@@ -1,5 +1,6 @@
 -- Where the mini sectors of a stream lie in a file.
-use Rattle.std.proofs.Common.{◌≡◌, ◌<◌, ◌≤◌, ◌+◌, ◌*◌, ◌/◌, ◌%◌, ◌∙◌, ℕ, zero, suc, Bool, true, List, [], ◌∷◌, ◌++◌, length, take, get_or, if◌then◌else◌, map, nat_lt, refl, rules, sym, ap, subst, arith, append_assoc}
+use Rattle.std.proofs.Common.{◌≡◌, ◌<◌, ◌≤◌, ◌+◌, ◌*◌, ◌/◌, ◌%◌, ◌∙◌, ℕ, zero, suc, Bool, true, List, [], ◌∷◌, ◌++◌, length, take, get_or, if◌then◌else◌, map, min, nat_lt, refl, rules, sym, ap, subst, arith, append_assoc}
+use Rattle.std.proofs.lemmas.List.{get_or-take, length-take}
 use Rattle.std.proofs.lemmas.List.Elements.{All-take}
 use Rattle.std.specs.List.{All}
 use Rattle.cfb_header.specs.Bytes.{block, joined, sector, u32_at}
@@ -10,6 +11,7 @@ use Rattle.cfb_chain.proofs.Blocks.{length_block}
 use Rattle.cfb_chain.proofs.Chains.{chain_room}
 use Rattle.cfb_directory.specs.Entries.{first_of, size_of}
 use Rattle.file_model.specs.Denotes.{IsLaidOut, Layout, minis, root_of, sectors}
+use Rattle.stream_seeking.specs.Blocks.{stream_sectors}
 use Rattle.stream_seeking.specs.Chains.{begins_at, walked}
 use Rattle.stream_seeking.proofs.Filled.{mini_at}
 use Rattle.stream_seeking.proofs.Joined.{joined_cut, joined_map}
@@ -42,6 +44,14 @@ mini_block a ms m lt =
     ∙ mini_at a ms (m / 8) (m % 8) lq lr
     ∙ ap (block 64 a) (sym (placed_by ms m lq))
 
+-- and by some of the first sectors of the mini stream
+placed_front : (ms : List ℕ) (count m : ℕ) → m / 8 < count → count ≤ length ms → begins_at (take count ms) m ≡ begins_at ms m
+placed_front ms count m lt le =
+    let long : length (take count ms) ≡ min count (length ms) = length-take count ms in
+    placed_by (take count ms) m (omega (arith, lt, le, long))
+    ∙ ap (λ n. 512 * (n + 1) + 64 * (m % 8)) (get_or-take count ms (m / 8) 0 lt)
+    ∙ sym (placed_by ms m (omega (arith, lt, le)))
+
 module _ (a : List ℕ) (l : Layout) where
   pub next_is : (n : ℕ) → (minis a l).next n ≡ u32_at (joined (sector a) (take (mini_fat_count a) l.mini_fat)) (4 * n)
   unfolding mini_sectors_of
@@ -59,7 +69,7 @@ module _ (a : List ℕ) (l : Layout) where
   unfolding mini_sectors_of
   width_is = refl
 
-  sector_width : (sectors a l).width ≡ 512
+  pub sector_width : (sectors a l).width ≡ 512
   unfolding sectors_of
   sector_width = refl
 
@@ -69,7 +79,7 @@ module _ (a : List ℕ) (l : Layout) where
 
   -- the mini sectors of a stream are blocks of the file
   pub short_held : (laid : IsLaidOut a l) (first size : ℕ) (ns : List ℕ) → IsChainOf (minis a l) first size ns
-      → take size (joined (minis a l).piece ns) ≡ take size (joined (block 64 a) (map (begins_at l.mini_stream) (walked (minis a l).next first ((size + 63) / 64))))
+      → take size (joined (minis a l).piece ns) ≡ take size (joined (block 64 a) (map (begins_at (stream_sectors a l)) (walked (minis a l).next first ((size + 63) / 64))))
   short_held laid first zero ns chain = refl
   short_held laid first (suc k) ns chain =
       let size : ℕ = suc k in
@@ -80,11 +90,14 @@ module _ (a : List ℕ) (l : Layout) where
       let path : walked (minis a l).next first count ≡ take count ns = walked_leads (minis a l).next first ns END_OF_CHAIN count chain.linked fits in
       let stream_room : size_of (root_of a l) ≤ 512 * length l.mini_stream =
       subst (λ (w : ℕ). size_of (root_of a l) ≤ w * length l.mini_stream) sector_width (chain_room (sectors a l) (first_of (root_of a l)) (size_of (root_of a l)) l.mini_stream laid.mini_stream) in
-      let each : All (λ n. (minis a l).piece n ≡ block 64 a (begins_at l.mini_stream n)) ns =
+      let front : ℕ = (size_of (root_of a l) + 511) / 512 in
+      let each : All (λ n. (minis a l).piece n ≡ block 64 a (begins_at (stream_sectors a l) n)) ns =
       λ j d lt. let n : ℕ = get_or ns j d in
       let below : n < (size_of (root_of a l) + 63) / 64 = count_is n (chain.present j d lt).1 in
-      piece_is n ∙ mini_block a l.mini_stream n (omega (arith, below, stream_room)) in
+      let within : n / 8 < (size_of (root_of a l) + 511) / 512 = omega (arith, below) in
+      piece_is n ∙ mini_block a l.mini_stream n (omega (arith, below, stream_room))
+      ∙ ap (block 64 a) (sym (placed_front l.mini_stream front n within (omega (arith, stream_room)))) in
       joined_cut 64 (minis a l).piece wide_mini size count ns fits enough
-      ∙ ap (take size) (joined_map (minis a l).piece (block 64 a) (begins_at l.mini_stream) (take count ns)
-      (All-take (λ n. (minis a l).piece n ≡ block 64 a (begins_at l.mini_stream n)) count ns each))
-      ∙ ap (λ xs. take size (joined (block 64 a) (map (begins_at l.mini_stream) xs))) (sym path)
+      ∙ ap (take size) (joined_map (minis a l).piece (block 64 a) (begins_at (stream_sectors a l)) (take count ns)
+      (All-take (λ n. (minis a l).piece n ≡ block 64 a (begins_at (stream_sectors a l) n)) count ns each))
+      ∙ ap (λ xs. take size (joined (block 64 a) (map (begins_at (stream_sectors a l)) xs))) (sym path)

@@ -1,8 +1,14 @@
 -- The bytes of a stream, where it lies.
-use Rattle.std.specs.Prelude.{ℕ, List, Option, take}
+use Rattle.std.specs.Prelude.{◌+◌, ◌/◌, ℕ, List, Option, if◌then◌else◌, map, nat_lt, take}
 use Rattle.std.specs.Io.KnownBytes.{Appends}
 use Rattle.cfb_bytes.specs.Bytes.{block}
+use Rattle.cfb_chain.specs.Fat.{followed}
 use Rattle.cfb_header.specs.Bytes.{joined, sector}
+use Rattle.cfb_directory.specs.Entries.{size_of}
+use Rattle.file_model.specs.Denotes.{Layout, minis, root_of, sectors}
+use Rattle.file_model.specs.Limits.{CUTOFF}
+use Rattle.file_outline.specs.declared.outline.Place.{Place}
+use Rattle.stream_seeking.specs.Chains.{begins_at, table_of, walked}
 use Rattle.stream_seeking.specs.declared.blocks.Blocks.{Blocks}
 use Rattle.stream_seeking.specs.declared.blocks.Blocks.TheVariants.{Minis, Sectors}
 use Rattle.stream_seeking.specs.declared.blocks.Lies.{Lies}
@@ -15,6 +21,19 @@ blocks_in file (Minis places) = joined (block 64 file) places.items
 -- what a file has where a stream lies
 abbrev pub held_in : List ℕ → Lies → List ℕ
 held_in file lies = take lies.size (blocks_in file lies.blocks)
+
+-- the sectors that the bytes of the mini stream take
+abbrev pub stream_sectors : List ℕ → Layout → List ℕ
+stream_sectors file l = take ((size_of (root_of file l) + 511) / 512) l.mini_stream
+
+-- what lies at the place of a stream, in a file whose own parts lie so: the first bytes of the sectors, or of the mini sectors,
+-- from the first on, each followed by the one that the FAT, or the mini FAT, names
+abbrev pub held_at : List ℕ → Layout → Place → List ℕ
+held_at file l place = take place.size (
+    if nat_lt place.size CUTOFF
+    then joined (block 64 file) (map (begins_at (stream_sectors file l)) (walked (minis file l).next place.first ((place.size + 63) / 64)))
+    else joined (sector file) (followed (table_of (sectors file l)) ((place.size + 511) / 512) place.first)
+    )
 
 -- some of the first bytes were written
 abbrev pub Begins : Option (List ℕ) → Option (List ℕ) → List ℕ → Type 0

@@ -1,5 +1,11 @@
--- Mini sectors in a file; clauses of functions inside the crate cite these.
-use Rattle.std.specs.Prelude.{◌+◌, ◌*◌, ◌/◌, ◌%◌, ℕ, zero, suc, List, [], ◌∷◌, length, nat_lt, if◌then◌else◌, slice_index}
+-- Sectors and mini sectors that follow one another.
+use Rattle.std.specs.Prelude.{◌+◌, ◌*◌, ◌/◌, ◌%◌, ℕ, zero, suc, List, [], ◌∷◌, length, map, nat_lt, if◌then◌else◌, slice_index}
+use Rattle.std.specs.List.{range_with_len}
+use Rattle.cfb_chain.specs.Chain.{Store}
+
+-- what follows each sector of a store, as a table
+abbrev pub table_of : Store → List ℕ
+table_of s = map s.next (range_with_len 0 s.count)
 
 -- so many numbers from one on, each followed by the next
 abbrev pub walked : (ℕ → ℕ) → ℕ → ℕ → List ℕ

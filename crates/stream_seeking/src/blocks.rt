@@ -1,32 +1,29 @@
-//! Where the stream at a path lies.
+//! Where the stream of a place lies.
 
-ghost use Rattle.cfb_chain.specs.Chain.{IsChainOf};
-ghost use Rattle.cfb_directory.specs.Entries.{first_of, kind, size_of};
+ghost use Rattle.cfb_directory.specs.Entries.{first_of, size_of};
 ghost use Rattle.cfb_header.specs.Bytes.{joined, sector, u32_at};
 ghost use Rattle.cfb_header.specs.Header.{header_read};
 ghost use Rattle.file_model.specs.Alike.{Alike};
-ghost use Rattle.file_model.specs.Denotes.{Denotes, Layout, directory_of, root_of, sectors};
-ghost use Rattle.file_outline.specs.Streams.{stream_at};
+ghost use Rattle.file_model.specs.Denotes.{Denotes, directory_of, minis, root_of};
 ghost use Rattle.sector_maps.specs.Painting.{IsOver};
-ghost use Rattle.std.specs.Prelude.{◌*◌, ◌+◌, ◌/◌, ◌≡◌, IfErr, IfOk, List, Ok, map, take, ℕ};
+ghost use Rattle.std.specs.Prelude.{◌*◌, ◌+◌, ◌/◌, ◌≡◌, IfOk, List, Ok, map, ℕ};
 ghost use Rattle.storage_tree.specs.Tree.{Tree};
-ghost use Rattle.stream_seeking.specs.Blocks.{held_in};
+ghost use Rattle.stream_seeking.specs.Blocks.{held_at, held_in, stream_sectors};
 ghost use Rattle.stream_seeking.specs.Chains.{begins_at, walked};
-ghost use Rattle.stream_seeking.specs.Seeking.{MayRefuseSeek};
-ghost use Rattle.stream_seeking.specs.declared.fault.SeekFault.TheVariants.{NoMemory};
 
-use crate::chains::{chain_of, follow_minis, join, mini_places};
-use crate::fault::SeekFault;
-use crate::finding::place_below;
+use crate::chains::{follow, follow_minis, join, mini_places, number};
 use cfb_chain::difat::fat_sectors;
 use cfb_chain::image::Image;
-use cfb_chain::table::{chain_from, entries};
-use cfb_directory::entries::Entries;
+use cfb_chain::table::entries;
 use cfb_header::header::Header;
-use cfb_names::name::Name;
 use cfb_places::places::Places;
 use file_outline::outline::{Place, is_short};
 use std::alloc::{AllocError, Global};
+
+/// Which number of the directory, of four bytes each, is the first sector of the root's entry, and which is its size.
+const FIRST: u32 = 29;
+
+const SIZE: u32 = 30;
 
 /// The blocks of a stream, one after another.
 #[derive(Drop)]
@@ -60,85 +57,78 @@ fn minis_at(
     mini_places(alloc, mini_stream, &minis)
 }
 
-/// Where the mini sectors of a stream begin in a file, given its directory and the FAT's entries.
-///
-/// Refused: for want of memory alone, where the directory begins with a root.
+/// How many sectors the bytes of a place take.
+fn count_sectors(place: Place) -> usize
+    ensures { result ≡ (place.size + 511) / 512 }
+{
+    (place.size as usize + 511) / 512
+}
+
+/// Where the mini stream lies, by the root's entry, which the directory's first sector has.
+fn root_place(alloc: Global, header: &Header, file: &Places) -> Result<Place, AllocError>
+    requires read { header_read file.now ≡ Ok header.now }
+    ensures first { IfOk result (λ p. (a : List ℕ) → Alike a file.now → (t : Tree) → (d : Denotes a t) → p.first ≡ first_of (root_of a d.layout)) }
+    ensures size { IfOk result (λ p. (a : List ℕ) → Alike a file.now → (t : Tree) → (d : Denotes a t) → p.size ≡ size_of (root_of a d.layout)) }
+{
+    let front = join(alloc, file, &[header.first_directory()])?;
+    let first = number(&front, FIRST);
+    let size = number(&front, SIZE);
+    Ok(Place { first, size })
+}
+
+/// Where the mini sectors of a stream begin in a file, given the FAT's entries.
 fn short_blocks(
     alloc: Global,
     header: &Header,
     file: &Places,
-    directory: &[u8],
     table: &[u32],
     place: Place,
-) -> Result<Vec<usize>, SeekFault>
-    ensures found { IfOk result (λ v. (a : List ℕ) → (l : Layout) → IsOver a l directory.now table.now
-        → IsChainOf (sectors a l) header.now.first_mini_fat (512 * header.now.mini_fat_count) l.mini_fat
-        → IsChainOf (sectors a l) (first_of (root_of a l)) (size_of (root_of a l)) l.mini_stream
-        → v.items ≡ map (begins_at l.mini_stream) (walked (λ n. u32_at (joined (sector file.now) (take header.now.mini_fat_count l.mini_fat)) (4 * n)) place.first ((place.size + 63) / 64))) }
-    ensures refused { IfErr result (λ e. (a : List ℕ) → (l : Layout) → directory.now ≡ directory_of a l → kind (root_of a l) ≡ 5 → e ≡ NoMemory) }
+) -> Result<Vec<usize>, AllocError>
+    requires read { header_read file.now ≡ Ok header.now }
+    ensures found { IfOk result (λ v. (a : List ℕ) → Alike a file.now → (t : Tree) → (d : Denotes a t) → IsOver a d.layout (directory_of a d.layout) table.now
+        → v.items ≡ map (begins_at (stream_sectors a d.layout)) (walked (minis a d.layout).next place.first ((place.size + 63) / 64))) }
 {
-    let entries = Entries::load(alloc, directory)?;
-    let root = entries.entry(0)?;
-    let mini_stream = chain_of(alloc, table, root.first, root.size as usize)?;
+    let root = root_place(alloc, header, file)?;
+    let mini_stream = follow(alloc, table, root.first, count_sectors(root))?;
     let count = header.mini_fat_count() as usize;
-    let mini_fat = chain_of(alloc, table, header.first_mini_fat(), 512 * count)?;
-    let places = minis_at(
-        alloc,
-        file,
-        &mini_fat[..count.min(mini_fat.len())],
-        &mini_stream,
-        place,
-    )?;
+    let mini_fat = follow(alloc, table, header.first_mini_fat(), count)?;
+    let places = minis_at(alloc, file, &mini_fat, &mini_stream, place)?;
     Ok(places)
 }
 
-/// What is read of a file to find a stream: the bytes of its directory, and the FAT's entries.
-#[derive(Drop)]
-struct Tables {
-    directory: Vec<u8>,
-    table: Vec<u32>,
-}
-
-/// The directory and the FAT's entries of a file of which the blocks were read that its listing needs: those of each file
-/// that has the same bytes in those blocks.
-fn read_tables(alloc: Global, header: &Header, file: &Places) -> Result<Tables, AllocError>
+/// The FAT's entries of a file of which the blocks were read that its listing needs: those of each file that has the same
+/// bytes in those blocks.
+fn fat_entries(alloc: Global, header: &Header, file: &Places) -> Result<Vec<u32>, AllocError>
     requires read { header_read file.now ≡ Ok header.now }
-    ensures over { IfOk result (λ tables. (a : List ℕ) → Alike a file.now → (t : Tree) → (d : Denotes a t) → IsOver a d.layout tables.directory.items tables.table.items) }
+    ensures over { IfOk result (λ v. (a : List ℕ) → Alike a file.now → (t : Tree) → (d : Denotes a t) → IsOver a d.layout (directory_of a d.layout) v.items) }
 {
     let image = Image::Placed(file);
     let own = fat_sectors(alloc, header, &image)?;
     let table = entries(alloc, &image, &own.fat)?;
-    let chain = chain_from(alloc, &table, header.first_directory())?;
-    let directory = join(alloc, file, &chain)?;
-    Ok(Tables { directory, table })
+    Ok(table)
 }
 
-/// Where the stream at a path lies, of a file of which the blocks were read that its listing needs: in each file that has
-/// the same bytes in those blocks, its bytes are what lies there.
-///
-/// Refused: `NotFound` where nothing stands at the path, `WrongKind` where a storage does, or where a stream stands on the
-/// way; and for want of memory. `NoTree` is told of a file alone that denotes no tree.
+/// The blocks of the stream that an outline says lies at a place, of a file of which the blocks were read that its listing
+/// needs: in each file that has the same bytes in those blocks, and denotes a tree, they are the blocks that lie there.
 pub fn blocks_at(
     alloc: Global,
     header: &Header,
     file: &Places,
-    path: &[Name],
-) -> Result<Lies, SeekFault>
+    place: Place,
+) -> Result<Lies, AllocError>
     requires read { header_read file.now ≡ Ok header.now }
-    ensures lies { IfOk result (λ lies. (a : List ℕ) → Alike a file.now → (t : Tree) → Denotes a t → stream_at path.now t ≡ Ok (held_in a lies)) }
-    ensures refused { IfErr result (λ e. (a : List ℕ) → Alike a file.now → (t : Tree) → Denotes a t → MayRefuseSeek path.now t e) }
+    ensures lies { IfOk result (λ lies. (a : List ℕ) → Alike a file.now → (t : Tree) → (d : Denotes a t) → held_in a lies ≡ held_at a d.layout place) }
 {
-    let tables = read_tables(alloc, header, file)?;
-    let place = place_below(alloc, &tables.directory, 0, path)?;
+    let table = fat_entries(alloc, header, file)?;
     let size = place.size as usize;
     if is_short(place) {
-        let places = short_blocks(alloc, header, file, &tables.directory, &tables.table, place)?;
+        let places = short_blocks(alloc, header, file, &table, place)?;
         return Ok(Lies {
             blocks: Blocks::Minis(places),
             size,
         });
     }
-    let sectors = chain_of(alloc, &tables.table, place.first, size)?;
+    let sectors = follow(alloc, &table, place.first, count_sectors(place))?;
     Ok(Lies {
         blocks: Blocks::Sectors(sectors),
         size,

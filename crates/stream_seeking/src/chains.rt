@@ -1,30 +1,30 @@
 //! The chains of a file of which some blocks were read.
 
-ghost use Rattle.cfb_chain.specs.Chain.{IsChain, IsChainOf};
+ghost use Rattle.cfb_chain.specs.Fat.{followed};
 ghost use Rattle.cfb_header.specs.Bytes.{block, joined, sector, u32_at};
-ghost use Rattle.file_model.specs.Denotes.{Layout, sectors};
-ghost use Rattle.sector_maps.specs.Painting.{IsOver};
 ghost use Rattle.std.specs.Prelude.{◌*◌, ◌++◌, ◌<◌, ◌≡◌, ◌≤◌, IfOk, List, OnOk, length, map, ℕ};
 ghost use Rattle.stream_seeking.specs.Chains.{begins_at, walked};
 
 use cfb_bytes::numbers::read_u32;
-use cfb_chain::table::chain_from;
 use cfb_places::places::Places;
 use std::alloc::{AllocError, Global};
 
-/// The sectors of the chain that begins with one, or none where it is to hold nothing.
-pub(crate) fn chain_of(
+/// The sectors from one on, each followed by the one that its entry names, as far as entries go, and no more than so many.
+pub(crate) fn follow(
     alloc: Global,
     table: &[u32],
-    start: u32,
-    bytes: usize,
+    first: u32,
+    count: usize,
 ) -> Result<Vec<u32>, AllocError>
-    ensures { IfOk result (λ v. (file : List ℕ) → (l : Layout) → (directory : List ℕ) → IsOver file l directory table.now → (ns : List ℕ) → IsChainOf (sectors file l) start bytes ns → v.items ≡ ns) }
+    ensures { IfOk result (λ v. v.items ≡ followed table.now count first) }
 {
-    if bytes == 0 {
-        return Ok(Vec::new(alloc));
+    let mut sectors = Vec::new(alloc);
+    let mut at = first;
+    while sectors.len() < count && (at as usize) < table.len() {
+        sectors.push(at)?;
+        at = table[at as usize];
     }
-    chain_from(alloc, table, start)
+    Ok(sectors)
 }
 
 /// Adds the bytes of a sector, of which there are these, zero bytes standing for the others.
@@ -49,7 +49,7 @@ pub(crate) fn join(alloc: Global, file: &Places, sectors: &[u32]) -> Result<Vec<
 }
 
 /// Number k of four bytes each, 0 past the end.
-fn number(bytes: &[u8], k: u32) -> u32
+pub(crate) fn number(bytes: &[u8], k: u32) -> u32
     requires whole { (m : ℕ) × (length bytes.now ≡ 4 * m) }
     ensures { result ≡ u32_at bytes.now (4 * k) }
 {

@@ -1,5 +1,5 @@
-//! Where the stream at a path of a compound file lies, and its bytes copied from there, of which a piece is in memory at
-//! a time.
+//! Where a stream of a compound file lies whose place an outline tells, and its bytes copied from there, of which a piece is
+//! in memory at a time.
 #![tactic(auto)]
 
 pub mod blocks;
@@ -7,4 +7,3 @@ mod chains;
 pub mod copying;
 pub mod fault;
 mod filling;
-mod finding;

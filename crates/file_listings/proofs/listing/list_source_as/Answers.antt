@@ -7,7 +7,7 @@ use Rattle.file_outline.specs.View.{outline_view}
 use Rattle.stream_io.proofs.ReadingAlike.{alike_read}
 use Rattle.stream_io.proofs.ReadingTold.{read_refused}
 use Rattle.file_listings.specs.Lists.{ListsAs}
-use Rattle.file_listings.proofs.Listed.{lists, placed_alike}
+use Rattle.file_listings.proofs.Listed.{lists, placed_in}
 use Rattle.file_commands.specs.Run.{IsOfWriting, MayRefuseList}
 use Rattle.file_commands.specs.declared.fault.ListFault.TheVariants as list
 use Rattle.file_commands.proofs.Listed.{err_map, no_fault, not_written, ok_map, outlined_alike, some_map}
@@ -30,7 +30,7 @@ returns-clause-listed g c =
     let new : Option (List ℕ) = g.W.Write.contents c.write_form.new.writer in
     ok_map c.write_form.result (Appends old new (g.F.Form.told o)) (IfSome (g.S.Source.bytes c.args.source.now) (λ a. ListsAs g.F.Form.told a old new))
     (λ w. some_map (g.S.Source.bytes c.args.source.now) (λ a. Alike a b) (λ a. ListsAs g.F.Form.told a old new)
-    (λ a h. lists g.F.Form.told a o old new (placed_alike a b o h c.in-Ok-read_placed.ensures.placed) w) c.in-Ok.ensures.alike)
+    (λ a h. lists g.F.Form.told a o old new (placed_in a b o h c.in-Ok-read_placed.ensures.placed) w) c.in-Ok.ensures.alike)
     c.write_form.ensures.written
 
 pub returns-clause-refused : goal.returns-clause-refused
