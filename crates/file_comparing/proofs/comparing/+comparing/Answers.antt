@@ -3,10 +3,10 @@ use Rattle.std.proofs.lemmas.List.{drop_all, drop_more}
 use Rattle.cfb_names.specs.Names.{key}
 use Rattle.storage_tree.proofs.Entries.{view-out}
 use Rattle.file_outline.proofs.Outlines.{shown-out}
-use Rattle.storage_tree.specs.Change.{Seen, child}
+use Rattle.storage_tree.specs.Change.{child}
 use Rattle.storage_tree.specs.Tree.{tree}
 use Rattle.storage_tree.specs.View.{children, seen}
-use Rattle.file_outline.specs.View.{contents, shown, shown_part, shown_parts}
+use Rattle.file_outline.specs.View.{contents, shown_part, shown_parts}
 use Rattle.file_outline.specs.declared.outline.Place.{Place}
 use Rattle.file_comparing.proofs.comparing.+comparing.Goals as goal
 
