@@ -1,5 +1,5 @@
 -- What a link has come to by one more step.
-use Rattle.std.proofs.Common.{◌*◌, length-append, ◌≡◌, ℕ, List, [], ◌∷◌, ◌++◌, Option, Some, None, refl, sym, ap, subst, ◌∙◌, arith, ◌<◌, ◌≤◌, ◌+◌, append_assoc, append-nil, cond, Bool, true, false, nat_le, nat_eq, length, take, Err}
+use Rattle.std.proofs.Common.{◌*◌, length-append, ◌≡◌, ℕ, List, [], ◌∷◌, ◌++◌, Option, Some, None, refl, sym, ap, subst, ◌∙◌, arith, ◌<◌, ◌≤◌, ◌+◌, append_assoc, append-nil, cond, Bool, true, false, nat_le, nat_eq, length, Err}
 use Rattle.std.specs.Io.KnownBytes.{Appends, Consumes}
 use Rattle.std.proofs.KnownBytes.{Appends-nil, Appends-trans, Consumes-kept, Consumes-nil, Consumes-trans}
 use Rattle.embed_core.specs.Content.{Content}
@@ -14,10 +14,11 @@ use Rattle.server_model.specs.Server.{Activation, Server, after_begun, begins, b
 use Rattle.server_model.specs.declared.fault.ServerFault.{ServerFault}
 use Rattle.server_model.specs.declared.fault.ServerFault.TheVariants as fault
 use Rattle.server_core.specs.declared.server.Seat.{Seat}
-use Rattle.server_loop.specs.Links.{HasEnded, HasServed, IsHandedIn, IsUnderway, MANY_FRAMES, IsWaiting, Pauses, Serves, pause_of, turns_in}
+use Rattle.server_loop.specs.Links.{And, HasEnded, HasServed, HasServedAll, IsHandedIn, IsUnderway, IsWaiting, Leaving, MANY_FRAMES, MayOffer, Pauses, Serves, pause_of, turns_in}
 use Rattle.server_loop.specs.Links.Serves.{none, message, turn}
 use Rattle.server_loop.specs.Turns.{Turn, answered, given, met, turned}
-use Rattle.server_loop.specs.View.{Advances, AppendsFront, Awaits, Counts, IsAt, IsMet, IsRead, IsTurned, LeavesReader, LeavesWriter, MOST_READS, MOST_TURNS}
+use Rattle.message_model.specs.declared.fault.WireFault.{WireFault}
+use Rattle.server_loop.specs.View.{Advances, AppendsFront, Awaits, Counts, IsAt, IsMet, IsOut, IsRead, IsTurned, LeavesReader, LeavesWriter, MOST_READS, MOST_TURNS}
 use Rattle.server_loop.specs.declared.serving.Serving.{Serving}
 use Rattle.server_loop.specs.declared.serving.Advance.{Advance}
 use Rattle.server_loop.specs.declared.serving.Advance.TheVariants.{Met, Turned, Read, Wants, Over}
@@ -26,17 +27,17 @@ use Rattle.server_loop.specs.declared.link.Pause.{Pause}
 use Rattle.server_loop.specs.declared.link.Pause.TheVariants as pause
 
 -- one more frame
-pub then_message : {t u : Turn} {frames : List Frame} {bytes : List ℕ} (m : Message) (box : Option Kind) → IsHandedIn (wanted u.server m) box
-    → Serves t frames bytes u → Serves t (frames ++ frame.Message m ∷ []) bytes (met u m box)
+pub then_message : {made : List ℕ → Bool} {t u : Turn} {frames : List Frame} {bytes : List ℕ} (m : Message) (box : Option Kind) → IsHandedIn made (wanted u.server m) box
+    → Serves made t frames bytes u → Serves made t (frames ++ frame.Message m ∷ []) bytes (met u m box)
 then_message m box i none = message box i none
 then_message m box i (message b j r) = message b j (then_message m box i r)
 then_message m box i (turn r) = turn (then_message m box i r)
 
-pub then_turn : {t u : Turn} {frames : List Frame} {bytes : List ℕ} → Serves t frames bytes u → Serves t (frames ++ frame.Turn ∷ []) (bytes ++ given u) (turned u)
-then_turn {t} none = subst (λ bs. Serves t (frame.Turn ∷ []) bs (turned t)) (append-nil (given t)) (turn none)
+pub then_turn : {made : List ℕ → Bool} {t u : Turn} {frames : List Frame} {bytes : List ℕ} → Serves made t frames bytes u → Serves made t (frames ++ frame.Turn ∷ []) (bytes ++ given u) (turned u)
+then_turn {made} {t} none = subst (λ bs. Serves made t (frame.Turn ∷ []) bs (turned t)) (append-nil (given t)) (turn none)
 then_turn (message b j r) = message b j (then_turn r)
-then_turn {t} {u} (turn {frames = fs} {bytes = bs} r) =
-    subst (λ xs. Serves t (frame.Turn ∷ (fs ++ frame.Turn ∷ [])) xs (turned u)) (sym (append_assoc (given t) bs (given u))) (turn (then_turn r))
+then_turn {made} {t} {u} (turn {frames = fs} {bytes = bs} r) =
+    subst (λ xs. Serves made t (frame.Turn ∷ (fs ++ frame.Turn ∷ [])) xs (turned u)) (sym (append_assoc (given t) bs (given u))) (turn (then_turn r))
 
 turns_message : (fs : List Frame) (m : Message) → turns_in (fs ++ frame.Message m ∷ []) ≡ turns_in fs
 turns_message [] m = refl
@@ -88,11 +89,11 @@ passed t (Reply inc act n told) class e = refl
 passed t (Write inc act s w content) class e = refl
 passed t (Ask inc act g) class e = refl
 
-wanted_in : (w : Option (List ℕ)) → w ≡ None → IsHandedIn w None
-wanted_in w e = subst (λ x. IsHandedIn x None) (sym e) refl
+wanted_in : (made : List ℕ → Bool) (w : Option (List ℕ)) → w ≡ None → IsHandedIn made w None
+wanted_in made w e = subst (λ x. IsHandedIn made x None) (sym e) refl
 
-none_in : (w : Option (List ℕ)) (class : List ℕ) → w ≡ Some class → IsHandedIn w None
-none_in w class e = subst (λ x. IsHandedIn x None) (sym e) tt
+none_in : (made : List ℕ → Bool) (w : Option (List ℕ)) (class : List ℕ) → w ≡ Some class → made class ≡ false → IsHandedIn made w None
+none_in made w class e n = subst (λ x. IsHandedIn made x None) (sym e) n
 
 -- an object of another class than the one that is wanted makes nothing
 module _ (t : Turn) (m : Message) (v : Server) (act : ℕ) (op : Operation) (kind : Kind) (class : List ℕ) (other : is_class kind class ≡ false) where
@@ -124,18 +125,19 @@ other_met t (Write inc act s w content) kind class o e = refl
 other_met t (Ask inc act g) kind class o e = refl
 
 -- An object for a message that wants one: it is handed in, or it is of another class, and is as none.
-pub record Handed (t : Turn) (m : Message) (kind : Kind) : Type 0 where
+pub record Handed (made : List ℕ → Bool) (t : Turn) (m : Message) (kind : Kind) : Type 0 where
   pub box : Option Kind
-  pub handed : IsHandedIn (wanted t.server m) box
+  pub handed : IsHandedIn made (wanted t.server m) box
   pub same : met t m (Some kind) ≡ met t m box
 
-some_in : (w : Option (List ℕ)) (class : List ℕ) (kind : Kind) → w ≡ Some class → is_class kind class ≡ true → IsHandedIn w (Some kind)
-some_in w class kind e o = subst (λ x. IsHandedIn x (Some kind)) (sym e) o
+some_in : (made : List ℕ → Bool) (w : Option (List ℕ)) (class : List ℕ) (kind : Kind) → w ≡ Some class → is_class kind class ≡ true → IsHandedIn made w (Some kind)
+some_in made w class kind e o = subst (λ x. IsHandedIn made x (Some kind)) (sym e) o
 
-comes_in : (t : Turn) (m : Message) (kind : Kind) (class : List ℕ) → wanted t.server m ≡ Some class → (b : Bool) → is_class kind class ≡ b → Handed t m kind
-comes_in t m kind class e true o = record { box = Some kind; handed = some_in (wanted t.server m) class kind e o; same = refl }
-comes_in t m kind class e false o =
-    record { box = None; handed = none_in (wanted t.server m) class e; same = other_met t m kind class o e ∙ sym (passed t m class e) }
+comes_in : (made : List ℕ → Bool) (t : Turn) (m : Message) (kind : Kind) (class : List ℕ) → wanted t.server m ≡ Some class → MayOffer made kind class
+    → (b : Bool) → is_class kind class ≡ b → Handed made t m kind
+comes_in made t m kind class e may true o = record { box = Some kind; handed = some_in made (wanted t.server m) class kind e o; same = refl }
+comes_in made t m kind class e may false o =
+    record { box = None; handed = none_in made (wanted t.server m) class e (may o); same = other_met t m kind class o e ∙ sym (passed t m class e) }
 
 -- A bound on the steps of a link: its frames, and the most reads of each of its turns.
 abbrev pub far : List Frame → (turns reads : ℕ) → ℕ
@@ -180,10 +182,10 @@ writer_as f Turned a b e = tt
 writer_as f (Over Unwritten) a b e = tt
 writer_as f (Over LastTurn) a b e = tt
 
-module _ {X : Type 0} {V : X → Type 0} (content : Seat X V → Content) where
+module _ {X : Type 0} {V : X → Type 0} (content : Seat X V → Content) (made : List ℕ → Bool) where
   -- a link that begins
   pub begun_underway : (w : Serving X V) (t : Turn) (unread held : Option (List ℕ)) → IsAt content w t [] [] → w.turns ≡ 0 → w.reads ≡ 0
-      → IsUnderway content w t unread unread held held
+      → IsUnderway content w made t unread unread held held
   begun_underway w t unread held at turns reads = record {
     served = record {
       fed = [];
@@ -203,21 +205,22 @@ module _ {X : Type 0} {V : X → Type 0} (content : Seat X V → Content) where
 
   -- an object was handed in for the message that waits
   pub handed_underway : (v w : Serving X V) (box : Kind) (began : Turn) (unread_before unread held_before held : Option (List ℕ)) (class : List ℕ)
-      → (h : IsWaiting content v began unread_before unread held_before held class) → w.turns ≡ v.turns → w.reads ≡ v.reads
-      → IsAt content w (met h.now h.message (Some box)) h.fed (h.taken ++ frame.Message h.message ∷ [])
-      → IsUnderway content w began unread_before unread held_before held
-  handed_underway v w box began ub u hb held class h turns reads at =
-      let same = turns_message h.taken h.message in
-      let i = comes_in h.now h.message box class h.wants (is_class box class) refl in record {
+      → (h : IsWaiting content v made began unread_before unread held_before held class) → MayOffer made box class → w.turns ≡ v.turns → w.reads ≡ v.reads
+      → IsAt content w (met h.served.now h.message (Some box)) h.served.fed (h.served.taken ++ frame.Message h.message ∷ [])
+      → IsUnderway content w made began unread_before unread held_before held
+  handed_underway v w box began ub u hb held class h may turns reads at =
+      let s = h.served in
+      let same = turns_message s.taken h.message in
+      let i = comes_in made s.now h.message box class h.wants may (is_class box class) refl in record {
         served = record {
-          fed = h.fed;
-          taken = h.taken ++ frame.Message h.message ∷ [];
-          bytes = h.bytes;
-          now = met h.now h.message i.box;
-          read = h.read;
-          at = subst (λ x. IsAt content w x h.fed (h.taken ++ frame.Message h.message ∷ [])) i.same at;
-          serves = then_message h.message i.box i.handed h.serves;
-          written = h.written;
+          fed = s.fed;
+          taken = s.taken ++ frame.Message h.message ∷ [];
+          bytes = s.bytes;
+          now = met s.now h.message i.box;
+          read = s.read;
+          at = subst (λ x. IsAt content w x s.fed (s.taken ++ frame.Message h.message ∷ [])) i.same at;
+          serves = then_message h.message i.box i.handed s.serves;
+          written = s.written;
           turns = omega (arith, same, h.counted, h.more);
         };
         counted = same ∙ h.counted ∙ sym turns;
@@ -227,20 +230,20 @@ module _ {X : Type 0} {V : X → Type 0} (content : Seat X V → Content) where
 
   -- a link goes on, and came more than so many steps
   abbrev pub Goes_on : (steps : ℕ) → Serving X V → Turn → (unread_before unread held_before held : Option (List ℕ)) → Type 0
-  Goes_on steps v began ub u hb h = (s : IsUnderway content v began ub u hb h) × (steps < far s.served.taken v.turns v.reads)
+  Goes_on steps v began ub u hb h = (s : IsUnderway content v made began ub u hb h) × (steps < far s.served.taken v.turns v.reads)
 
   -- how a link stands after a step
   abbrev pub Comes : (steps : ℕ) → Advance → Serving X V → Turn → (unread_before unread held_before held : Option (List ℕ)) → Type 0
   Comes steps Met v began ub u hb h = Goes_on steps v began ub u hb h
   Comes steps Turned v began ub u hb h = Goes_on steps v began ub u hb h
   Comes steps Read v began ub u hb h = Goes_on steps v began ub u hb h
-  Comes steps (Wants class) v began ub u hb h = Pauses content (pause.Wants class) v began ub u hb h
-  Comes steps (Over end) v began ub u hb h = HasEnded content end v began ub u hb h
+  Comes steps (Wants class) v began ub u hb h = Pauses content (pause.Wants class) v made began ub u hb h
+  Comes steps (Over end) v began ub u hb h = HasEnded end (IsAt content v) made began ub u hb h
 
-  module _ (v w : Serving X V) (began : Turn) (ub u u' hb h h' : Option (List ℕ)) (s : IsUnderway content v began ub u hb h) where
-    -- the same frames, with so much read and the same written
-    abbrev still : (fed : List ℕ) → Consumes ub u' fed → h' ≡ h → IsAt content w s.served.now fed s.served.taken → HasServed content w began ub u' hb h'
-    still fed read same at = record {
+  module _ (v w : Serving X V) (began : Turn) (ub u u' hb h h' : Option (List ℕ)) (s : IsUnderway content v made began ub u hb h) where
+    -- the same frames, with so much read and the same written, and this left
+    abbrev still : (Left : Leaving) (fed : List ℕ) → Consumes ub u' fed → h' ≡ h → Left s.served.now fed s.served.taken → HasServed Left made began ub u' hb h'
+    still Left fed read same at = record {
       fed = fed;
       taken = s.served.taken;
       bytes = s.served.bytes;
@@ -255,17 +258,17 @@ module _ {X : Type 0} {V : X → Type 0} (content : Seat X V → Content) where
     was_read : u' ≡ u → Consumes ub u' s.served.fed
     was_read same = subst (λ x. Consumes ub x s.served.fed) (sym same) s.served.read
 
-    abbrev read_more : w.turns ≡ v.turns → w.reads ≤ MOST_READS → h' ≡ h → IsRead content w s.served.now s.served.fed s.served.taken u u' → IsUnderway content w began ub u' hb h'
+    abbrev read_more : w.turns ≡ v.turns → w.reads ≤ MOST_READS → h' ≡ h → IsRead content w s.served.now s.served.fed s.served.taken u u' → IsUnderway content w made began ub u' hb h'
     read_more turns reads same r = record {
-      served = still (s.served.fed ++ r.piece) (Consumes-trans ub u u' s.served.fed r.piece s.served.read r.consumed) same r.next;
+      served = still (IsAt content w) (s.served.fed ++ r.piece) (Consumes-trans ub u u' s.served.fed r.piece s.served.read r.consumed) same r.next;
       counted = s.counted ∙ sym turns;
       more = omega (arith, turns, s.more);
       reads = reads;
     }
 
     -- a message was met, and served so
-    abbrev one_message : (m : Message) (t : Turn) → w.turns ≡ v.turns → w.reads ≡ v.reads → u' ≡ u → h' ≡ h → Serves began (s.served.taken ++ frame.Message m ∷ []) s.served.bytes t
-        → IsAt content w t s.served.fed (s.served.taken ++ frame.Message m ∷ []) → IsUnderway content w began ub u' hb h'
+    abbrev one_message : (m : Message) (t : Turn) → w.turns ≡ v.turns → w.reads ≡ v.reads → u' ≡ u → h' ≡ h → Serves made began (s.served.taken ++ frame.Message m ∷ []) s.served.bytes t
+        → IsAt content w t s.served.fed (s.served.taken ++ frame.Message m ∷ []) → IsUnderway content w made began ub u' hb h'
     one_message m t turns reads unread same r at =
         let count = turns_message s.served.taken m in record {
           served = record {
@@ -284,29 +287,23 @@ module _ {X : Type 0} {V : X → Type 0} (content : Seat X V → Content) where
           reads = omega (arith, reads, s.reads);
         }
 
-    abbrev met_one : w.turns ≡ v.turns → w.reads ≡ v.reads → u' ≡ u → h' ≡ h → IsMet content w s.served.now s.served.fed s.served.taken → IsUnderway content w began ub u' hb h'
+    abbrev met_one : w.turns ≡ v.turns → w.reads ≡ v.reads → u' ≡ u → h' ≡ h → IsMet content w s.served.now s.served.fed s.served.taken → IsUnderway content w made began ub u' hb h'
     met_one turns reads unread same r =
         one_message r.message (met s.served.now r.message None) turns reads unread same
-        (then_message r.message None (wanted_in (wanted s.served.now.server r.message) r.unwanted) s.served.serves) r.after
+        (then_message r.message None (wanted_in made (wanted s.served.now.server r.message) r.unwanted) s.served.serves) r.after
 
     awaits_one : (class : List ℕ) → w.turns ≡ v.turns → w.reads ≡ v.reads → u' ≡ u → h' ≡ h → Awaits content w s.served.now s.served.fed s.served.taken class
-        → Pauses content (pause.Wants class) w began ub u' hb h'
+        → Pauses content (pause.Wants class) w made began ub u' hb h'
     awaits_one class turns reads unread same r = (
-      one_message r.message s.served.now turns reads unread same
-          (subst (λ x. Serves began (s.served.taken ++ frame.Message r.message ∷ []) s.served.bytes x) (passed s.served.now r.message class r.wants)
-          (then_message r.message None (none_in (wanted s.served.now.server r.message) class r.wants) s.served.serves)) r.after,
+      λ unmade.
+          one_message r.message s.served.now turns reads unread same
+          (subst (λ x. Serves made began (s.served.taken ++ frame.Message r.message ∷ []) s.served.bytes x) (passed s.served.now r.message class r.wants)
+          (then_message r.message None (none_in made (wanted s.served.now.server r.message) class r.wants unmade) s.served.serves)) r.after,
       record {
-        fed = s.served.fed;
-        taken = s.served.taken;
         message = r.message;
-        bytes = s.served.bytes;
-        now = s.served.now;
-        read = was_read unread;
-        at = r.after;
+        served = still (And (IsAt content w) (frame.Message r.message) (λ t. t)) s.served.fed (was_read unread) same r.after;
         wants = r.wants;
         waits = r.waits;
-        serves = s.served.serves;
-        written = subst (λ x. Appends hb x s.served.bytes) (sym same) s.served.written;
         counted = s.counted ∙ sym turns;
         more = omega (arith, turns, s.more);
         reads = omega (arith, reads, s.reads);
@@ -314,7 +311,7 @@ module _ {X : Type 0} {V : X → Type 0} (content : Seat X V → Content) where
     )
 
     -- a turn was given back
-    abbrev gave : u' ≡ u → (r : IsTurned content w s.served.now s.served.fed s.served.taken h h') → HasServed content w began ub u' hb h'
+    abbrev gave : u' ≡ u → (r : IsTurned content w s.served.now s.served.fed s.served.taken h h') → HasServed (IsAt content w) made began ub u' hb h'
     gave unread r = record {
       fed = s.served.fed;
       taken = s.served.taken ++ frame.Turn ∷ [];
@@ -328,7 +325,7 @@ module _ {X : Type 0} {V : X → Type 0} (content : Seat X V → Content) where
     }
 
     abbrev turned_one : w.turns ≡ v.turns + 1 → w.turns < MOST_TURNS → w.reads ≡ 0 → u' ≡ u → IsTurned content w s.served.now s.served.fed s.served.taken h h'
-        → IsUnderway content w began ub u' hb h'
+        → IsUnderway content w made began ub u' hb h'
     turned_one turns more reads unread r = record {
       served = gave unread r;
       counted = turns_turn s.served.taken ∙ ap (λ n. n + 1) s.counted ∙ sym turns;
@@ -336,22 +333,32 @@ module _ {X : Type 0} {V : X → Type 0} (content : Seat X V → Content) where
       reads = omega (arith, reads);
     }
 
-    last_turn : MOST_TURNS ≤ v.turns + 1 → u' ≡ u → IsTurned content w s.served.now s.served.fed s.served.taken h h' → HasEnded content LastTurn w began ub u' hb h'
+    last_turn : MOST_TURNS ≤ v.turns + 1 → u' ≡ u → IsTurned content w s.served.now s.served.fed s.served.taken h h' → HasEnded LastTurn (IsAt content w) made began ub u' hb h'
     last_turn most unread r = (gave unread r, omega (arith, turns_turn s.served.taken, s.counted, s.more, most))
 
-    unwritten : u' ≡ u → IsAt content w (turned s.served.now) s.served.fed (s.served.taken ++ frame.Turn ∷ []) → AppendsFront h h' (given s.served.now) → HasEnded content Unwritten w began ub u' hb h'
+    unwritten : u' ≡ u → IsAt content w (turned s.served.now) s.served.fed (s.served.taken ++ frame.Turn ∷ []) → AppendsFront h h' (given s.served.now)
+        → HasEnded Unwritten (IsAt content w) made began ub u' hb h'
     unwritten unread at front = record {
-      fed = s.served.fed;
-      taken = s.served.taken;
-      bytes = s.served.bytes;
-      now = s.served.now;
-      read = was_read unread;
-      at = at;
-      serves = s.served.serves;
-      part = front.0;
-      written = Appends-trans hb h h' s.served.bytes (take front.0 (given s.served.now)) s.served.written front.1;
+      before = h;
+      served = record {
+        fed = s.served.fed;
+        taken = s.served.taken;
+        bytes = s.served.bytes;
+        now = s.served.now;
+        read = was_read unread;
+        at = at;
+        serves = s.served.serves;
+        written = s.served.written;
+        turns = s.served.turns;
+      };
+      part = front;
       turns = omega (arith, s.counted, s.more);
     }
+
+    -- no frame was whole
+    abbrev all_served : (fault : Option WireFault) → Consumes ub u' s.served.fed → h' ≡ h → IsOut content w s.served.now s.served.fed s.served.taken fault
+        → HasServedAll fault (IsAt content w) made began ub u' hb h'
+    all_served fault read same r = (still (IsAt content w) s.served.fed read same r.at, r.reads)
 
     step : (told : Advance) → Counts told v.turns v.reads w.turns w.reads → LeavesReader told u u' → LeavesWriter told h h'
         → Advances content told w s.served.now s.served.fed s.served.taken u u' h h'
@@ -360,18 +367,18 @@ module _ {X : Type 0} {V : X → Type 0} (content : Seat X V → Content) where
     step (Wants class) c unread same r = awaits_one class c.0 c.1 unread same r
     step Turned c unread same r = (turned_one c.0 c.1 c.2 unread r, far_turn s.served.taken frame.Turn v.turns v.reads w.turns w.reads c.0 c.2 s.reads)
     step Read c unread same r = (read_more c.0 c.2 same r, far_read s.served.taken v.turns v.reads w.turns w.reads c.0 c.1)
-    step (Over (Faulty fault)) c unread same r = (still s.served.fed (was_read unread) same r.at, r.reads)
-    step (Over LastRead) c unread same r = (still s.served.fed (was_read unread) same r.at, r.reads)
-    step (Over Unread) c unread same r = (still s.served.fed (Consumes-kept ub u u' s.served.fed s.served.read r.1) same r.0.at, r.0.reads)
+    step (Over (Faulty fault)) c unread same r = all_served (Some fault) (was_read unread) same r
+    step (Over LastRead) c unread same r = all_served None (was_read unread) same r
+    step (Over Unread) c unread same r = all_served None (Consumes-kept ub u u' s.served.fed s.served.read r.1) same r.0
     step (Over Closed) c unread same r =
-        ((still s.served.fed (subst (Consumes ub u') (append-nil s.served.fed) (Consumes-trans ub u u' s.served.fed [] s.served.read r.1)) same r.0.at, r.0.reads), r.2)
+        (all_served None (subst (Consumes ub u') (append-nil s.served.fed) (Consumes-trans ub u u' s.served.fed [] s.served.read r.1)) same r.0, r.2)
     step (Over Unwritten) c unread same r = unwritten unread r.0 r.1
     step (Over LastTurn) c unread same r = last_turn c unread r
 
   pub stepped : {R W : Type 0} (remaining : R → Option (List ℕ)) (contents : W → Option (List ℕ)) (v w : Serving X V) (r q : R) (x y : W) (told : Advance)
       → Counts told v.turns v.reads w.turns w.reads → LeavesReader told r q → LeavesWriter told x y
       → ((t : Turn) (fed : List ℕ) (taken : List Frame) → IsAt content v t fed taken → Advances content told w t fed taken (remaining r) (remaining q) (contents x) (contents y))
-      → (began : Turn) (unread held : Option (List ℕ)) (s : IsUnderway content v began unread (remaining r) held (contents x))
+      → (began : Turn) (unread held : Option (List ℕ)) (s : IsUnderway content v made began unread (remaining r) held (contents x))
       → Comes (far s.served.taken v.turns v.reads) told w began unread (remaining q) held (contents y)
   stepped remaining contents v w r q x y told c unread same a began ub hb s =
       step v w began ub (remaining r) (remaining q) hb (contents x) (contents y) s told c (reader_as remaining told r q unread) (writer_as contents told x y same)
@@ -386,9 +393,9 @@ module _ {X : Type 0} {V : X → Type 0} (content : Seat X V → Content) where
   goes_on steps (Over end) w began ub u hb h e c = absurd (none_known (sym e))
 
   pub comes_to : (steps : ℕ) (told : Advance) (p : Pause) (w : Serving X V) (began : Turn) (ub u hb h : Option (List ℕ)) → Some p ≡ pause_of told → Comes steps told w began ub u hb h
-      → Pauses content p w began ub u hb h
+      → Pauses content p w made began ub u hb h
   comes_to steps Met p w began ub u hb h e c = absurd (none_known (sym e))
   comes_to steps Turned p w began ub u hb h e c = absurd (none_known (sym e))
   comes_to steps Read p w began ub u hb h e c = absurd (none_known (sym e))
-  comes_to steps (Wants class) p w began ub u hb h e c = subst (λ x. Pauses content x w began ub u hb h) (sym (some_inside p (pause.Wants class) e)) c
-  comes_to steps (Over end) p w began ub u hb h e c = subst (λ x. Pauses content x w began ub u hb h) (sym (some_inside p (pause.Over end) e)) c
+  comes_to steps (Wants class) p w began ub u hb h e c = subst (λ x. Pauses content x w made began ub u hb h) (sym (some_inside p (pause.Wants class) e)) c
+  comes_to steps (Over end) p w began ub u hb h e c = subst (λ x. Pauses content x w made began ub u hb h) (sym (some_inside p (pause.Over end) e)) c

@@ -1,5 +1,5 @@
 -- What a server makes of a whole link.
-use Rattle.std.specs.Prelude.{◌≡◌, ◌+◌, ◌<◌, ◌≤◌, ℕ, List, [], ◌∷◌, ◌++◌, Option, Some, None, length, take, true}
+use Rattle.std.specs.Prelude.{◌≡◌, ◌+◌, ◌<◌, ◌≤◌, ℕ, List, [], ◌∷◌, ◌++◌, Option, Some, None, length, true, false, Bool}
 use Rattle.std.specs.Io.KnownBytes.{Appends, Consumes, IsAtEnd}
 use Rattle.embed_core.specs.Content.{Content}
 use Rattle.embed_core.specs.Kinds.{Kind}
@@ -11,7 +11,7 @@ use Rattle.message_model.specs.Frames.{Reads}
 use Rattle.server_model.specs.Server.{is_class, wanted}
 use Rattle.server_core.specs.declared.server.Seat.{Seat}
 use Rattle.server_loop.specs.Turns.{Turn, given, met, turned}
-use Rattle.server_loop.specs.View.{IsAt, MOST_READS, MOST_TURNS}
+use Rattle.server_loop.specs.View.{AppendsFront, IsAt, MOST_READS, MOST_TURNS}
 use Rattle.server_loop.specs.declared.serving.Advance.{Advance}
 use Rattle.server_loop.specs.declared.serving.Advance.TheVariants as advance
 use Rattle.server_loop.specs.declared.serving.Serving.{Serving}
@@ -20,20 +20,25 @@ use Rattle.server_loop.specs.declared.serving.End.TheVariants.{Faulty, LastRead,
 use Rattle.server_loop.specs.declared.link.Pause.{Pause}
 use Rattle.server_loop.specs.declared.link.Pause.TheVariants.{Wants, Over, Long}
 
--- Which object is handed in for a message: where the server wants one of a class, one of that class or none, else none.
-abbrev pub IsHandedIn : (wanted : Option (List ℕ)) → Option Kind → Type 0
-IsHandedIn None box = box ≡ None
-IsHandedIn (Some class) None = Unit {0}
-IsHandedIn (Some class) (Some kind) = is_class kind class ≡ true
+-- Which object is handed in for a message, where an object of each class that is made is always at hand: where the server wants
+-- one of a class, one of that class, or none where that class isn't made; else none.
+abbrev pub IsHandedIn : (made : List ℕ → Bool) → (wanted : Option (List ℕ)) → Option Kind → Type 0
+IsHandedIn made None box = box ≡ None
+IsHandedIn made (Some class) None = made class ≡ false
+IsHandedIn made (Some class) (Some kind) = is_class kind class ≡ true
+
+-- Which object may be offered for a call that wants one of this class: one of it, and any where that class isn't made.
+abbrev pub MayOffer : (made : List ℕ → Bool) → Kind → (class : List ℕ) → Type 0
+MayOffer made kind class = is_class kind class ≡ false → made class ≡ false
 
 -- What a server makes of frames, from a turn on: the bytes that it writes, and the turn that it then is in. Of a message it makes
 -- its step, with the object that was handed in for it or none, and writes nothing yet. At a Turn it writes what the turn has come
 -- to, and begins the next one.
-pub data Serves : Turn → List Frame → List ℕ → Turn → Type 0 where
-  none : {t : Turn} → Serves t [] [] t
-  message : {t u : Turn} {m : Message} {frames : List Frame} {bytes : List ℕ} (box : Option Kind) → IsHandedIn (wanted t.server m) box
-      → Serves (met t m box) frames bytes u → Serves t (frame.Message m ∷ frames) bytes u
-  turn : {t u : Turn} {frames : List Frame} {bytes : List ℕ} → Serves (turned t) frames bytes u → Serves t (frame.Turn ∷ frames) (given t ++ bytes) u
+pub data Serves (made : List ℕ → Bool) : Turn → List Frame → List ℕ → Turn → Type 0 where
+  none : {t : Turn} → Serves made t [] [] t
+  message : {t u : Turn} {m : Message} {frames : List Frame} {bytes : List ℕ} (box : Option Kind) → IsHandedIn made (wanted t.server m) box
+      → Serves made (met t m box) frames bytes u → Serves made t (frame.Message m ∷ frames) bytes u
+  turn : {t u : Turn} {frames : List Frame} {bytes : List ℕ} → Serves made (turned t) frames bytes u → Serves made t (frame.Turn ∷ frames) (given t ++ bytes) u
 
 -- how many Turns are among frames
 abbrev pub turns_in : List Frame → ℕ
@@ -57,80 +62,74 @@ pause_of advance.Met = None
 pause_of advance.Turned = None
 pause_of advance.Read = None
 
--- `content` says what the object in a seat contains. A link began at a turn, with some bytes to be read and some that were written,
--- where those are known.
-module _ {X : Type 0} {V : X → Type 0} (content : Seat X V → Content) where
-  -- These bytes were read of it in all, these frames taken, and these bytes written: those that the server makes of the frames. It
-  -- stands as the frames leave it.
-  pub record HasServed (v : Serving X V) (began : Turn) (unread_before unread held_before held : Option (List ℕ)) : Type 0 where
-    pub fed : List ℕ
-    pub taken : List Frame
-    pub bytes : List ℕ
-    pub now : Turn
-    pub read : Consumes unread_before unread fed
-    pub at : IsAt content v now fed taken
-    pub serves : Serves began taken bytes now
-    pub written : Appends held_before held bytes
-    pub turns : turns_in taken ≤ MOST_TURNS
+-- what a server is left as, at a turn, where so much was read and so many frames were taken of it
+abbrev pub Leaving : Type 1
+Leaving = Turn → List ℕ → List Frame → Type 0
 
+-- A link began at a turn, with some bytes to be read and some that were written, where those are known. These bytes were read of it
+-- in all, these frames taken, and these bytes written: those that the server makes of the frames. It is left as the frames leave it.
+pub record HasServed (Left : Leaving) (made : List ℕ → Bool) (began : Turn) (unread_before unread held_before held : Option (List ℕ)) : Type 0 where
+  pub fed : List ℕ
+  pub taken : List Frame
+  pub bytes : List ℕ
+  pub now : Turn
+  pub read : Consumes unread_before unread fed
+  pub at : Left now fed taken
+  pub serves : Serves made began taken bytes now
+  pub written : Appends held_before held bytes
+  pub turns : turns_in taken ≤ MOST_TURNS
+
+-- what is left where one more frame was taken, which isn't served, and leaves this turn
+abbrev pub And : Leaving → Frame → (Turn → Turn) → Leaving
+And Left f next now fed taken = Left (next now) fed (taken ++ f ∷ [])
+
+-- The last frame is a Turn, and of what it is answered with only a front may be written. The frames before it were served.
+pub record IsUnwritten (Left : Leaving) (made : List ℕ → Bool) (began : Turn) (unread_before unread held_before held : Option (List ℕ)) : Type 0 where
+  pub before : Option (List ℕ)
+  pub served : HasServed (And Left frame.Turn turned) made began unread_before unread held_before before
+  pub part : AppendsFront before held (given served.now)
+  pub turns : turns_in served.taken < MOST_TURNS
+
+-- No whole frame is left of what was read, and its rest shows this fault, or none.
+abbrev pub HasServedAll : Option WireFault → Leaving → (List ℕ → Bool) → Turn → (unread_before unread held_before held : Option (List ℕ)) → Type 0
+HasServedAll fault Left made began unread_before unread held_before held =
+    (s : HasServed Left made began unread_before unread held_before held) × Reads s.fed s.taken fault
+
+-- The link is over.
+abbrev pub HasEnded : End → Leaving → (List ℕ → Bool) → Turn → (unread_before unread held_before held : Option (List ℕ)) → Type 0
+HasEnded (Faulty fault) Left made began unread_before unread held_before held = HasServedAll (Some fault) Left made began unread_before unread held_before held
+HasEnded LastRead Left made began unread_before unread held_before held = HasServedAll None Left made began unread_before unread held_before held
+HasEnded Unread Left made began unread_before unread held_before held = HasServedAll None Left made began unread_before unread held_before held
+HasEnded Closed Left made began unread_before unread held_before held =
+    HasServedAll None Left made began unread_before unread held_before held × IsAtEnd unread
+HasEnded Unwritten Left made began unread_before unread held_before held = IsUnwritten Left made began unread_before unread held_before held
+HasEnded LastTurn Left made began unread_before unread held_before held =
+    (s : HasServed Left made began unread_before unread held_before held) × (turns_in s.taken ≡ MOST_TURNS)
+
+-- `content` says what the object in a seat contains.
+module _ {X : Type 0} {V : X → Type 0} (content : Seat X V → Content) where
   -- The link goes on.
-  pub record IsUnderway (v : Serving X V) (began : Turn) (unread_before unread held_before held : Option (List ℕ)) : Type 0 where
-    pub served : HasServed v began unread_before unread held_before held
+  pub record IsUnderway (v : Serving X V) (made : List ℕ → Bool) (began : Turn) (unread_before unread held_before held : Option (List ℕ)) : Type 0 where
+    pub served : HasServed (IsAt content v) made began unread_before unread held_before held
     pub counted : turns_in served.taken ≡ v.turns
     pub more : v.turns < MOST_TURNS
     pub reads : v.reads ≤ MOST_READS
 
   -- The last frame is a message that wants an object of this class, and waits for it. The frames before it were served.
-  pub record IsWaiting (v : Serving X V) (began : Turn) (unread_before unread held_before held : Option (List ℕ)) (class : List ℕ) : Type 0 where
-    pub fed : List ℕ
-    pub taken : List Frame
+  pub record IsWaiting (v : Serving X V) (made : List ℕ → Bool) (began : Turn) (unread_before unread held_before held : Option (List ℕ)) (class : List ℕ) : Type 0 where
     pub message : Message
-    pub bytes : List ℕ
-    pub now : Turn
-    pub read : Consumes unread_before unread fed
-    pub at : IsAt content v now fed (taken ++ frame.Message message ∷ [])
-    pub wants : wanted now.server message ≡ Some class
+    pub served : HasServed (And (IsAt content v) (frame.Message message) (λ t. t)) made began unread_before unread held_before held
+    pub wants : wanted served.now.server message ≡ Some class
     pub waits : v.wanting ≡ Some message
-    pub serves : Serves began taken bytes now
-    pub written : Appends held_before held bytes
-    pub counted : turns_in taken ≡ v.turns
+    pub counted : turns_in served.taken ≡ v.turns
     pub more : v.turns < MOST_TURNS
     pub reads : v.reads ≤ MOST_READS
 
-  -- The last frame is a Turn, and of what it is answered with only a front may be written. The frames before it were served.
-  pub record IsUnwritten (v : Serving X V) (began : Turn) (unread_before unread held_before held : Option (List ℕ)) : Type 0 where
-    pub fed : List ℕ
-    pub taken : List Frame
-    pub bytes : List ℕ
-    pub now : Turn
-    pub read : Consumes unread_before unread fed
-    pub at : IsAt content v (turned now) fed (taken ++ frame.Turn ∷ [])
-    pub serves : Serves began taken bytes now
-    pub part : ℕ
-    pub written : Appends held_before held (bytes ++ take part (given now))
-    pub turns : turns_in taken < MOST_TURNS
-
-  -- No whole frame is left of what was read, and its rest shows this fault, or none.
-  abbrev pub HasServedAll : Option WireFault → Serving X V → Turn → (unread_before unread held_before held : Option (List ℕ)) → Type 0
-  HasServedAll fault v began unread_before unread held_before held =
-      (s : HasServed v began unread_before unread held_before held) × Reads s.fed s.taken fault
-
-  -- The link is over.
-  abbrev pub HasEnded : End → Serving X V → Turn → (unread_before unread held_before held : Option (List ℕ)) → Type 0
-  HasEnded (Faulty fault) v began unread_before unread held_before held = HasServedAll (Some fault) v began unread_before unread held_before held
-  HasEnded LastRead v began unread_before unread held_before held = HasServedAll None v began unread_before unread held_before held
-  HasEnded Unread v began unread_before unread held_before held = HasServedAll None v began unread_before unread held_before held
-  HasEnded Closed v began unread_before unread held_before held =
-      HasServedAll None v began unread_before unread held_before held × IsAtEnd unread
-  HasEnded Unwritten v began unread_before unread held_before held = IsUnwritten v began unread_before unread held_before held
-  HasEnded LastTurn v began unread_before unread held_before held =
-      (s : HasServed v began unread_before unread held_before held) × (turns_in s.taken ≡ MOST_TURNS)
-
-  -- Why a link is left for now: it wants an object, and where none is handed in it goes on without; it is over; it goes on, and more
-  -- frames came than ever do.
-  abbrev pub Pauses : Pause → Serving X V → Turn → (unread_before unread held_before held : Option (List ℕ)) → Type 0
-  Pauses (Wants class) v began unread_before unread held_before held =
-      IsUnderway v began unread_before unread held_before held × IsWaiting v began unread_before unread held_before held class
-  Pauses (Over end) v began unread_before unread held_before held = HasEnded end v began unread_before unread held_before held
-  Pauses Long v began unread_before unread held_before held =
-      (s : IsUnderway v began unread_before unread held_before held) × (MANY_FRAMES ≤ length s.served.taken)
+  -- Why a link is left for now: it wants an object, and where none of that class is made it goes on without; it is over; it goes on,
+  -- and more frames came than ever do.
+  abbrev pub Pauses : Pause → Serving X V → (List ℕ → Bool) → Turn → (unread_before unread held_before held : Option (List ℕ)) → Type 0
+  Pauses (Wants class) v made began unread_before unread held_before held =
+      (made class ≡ false → IsUnderway v made began unread_before unread held_before held) × IsWaiting v made began unread_before unread held_before held class
+  Pauses (Over end) v made began unread_before unread held_before held = HasEnded end (IsAt content v) made began unread_before unread held_before held
+  Pauses Long v made began unread_before unread held_before held =
+      (s : IsUnderway v made began unread_before unread held_before held) × (MANY_FRAMES ≤ length s.served.taken)

@@ -3,7 +3,7 @@
 ghost use Rattle.server_loop.specs.Links.{IsUnderway, Pauses, pause_of};
 ghost use Rattle.server_loop.specs.Turns.{Turn};
 ghost use Rattle.server_loop.specs.View.{IsStarted};
-ghost use Rattle.std.specs.Prelude.{◌≡◌, ℕ, List, IfOk, Option};
+ghost use Rattle.std.specs.Prelude.{◌≡◌, ℕ, List, Bool, IfOk, Option};
 
 use crate::serving::{Advance, End, Serving};
 use embed_core::embedded::Embedded;
@@ -47,8 +47,8 @@ pub fn serve_link<R: Read, W: Write>(
 ) -> Result<Pause, AllocError>
     requires { IsStarted serving.old }
     ensures started { IsStarted serving.new }
-    ensures served { (began : Turn) (unread held : Option (List ℕ)) → IsUnderway (λ s. (⟦<dyn Embedded as Embedded>⟧ s.boxed.vtable).content s.boxed.value) serving.old began unread (R.remaining reader.old) held (W.contents writer.old)
-        → IfOk result (λ told. Pauses (λ s. (⟦<dyn Embedded as Embedded>⟧ s.boxed.vtable).content s.boxed.value) told serving.new began unread (R.remaining reader.new) held (W.contents writer.new)) }
+    ensures served { (made : List ℕ → Bool) (began : Turn) (unread held : Option (List ℕ)) → IsUnderway (λ s. (⟦<dyn Embedded as Embedded>⟧ s.boxed.vtable).content s.boxed.value) serving.old made began unread (R.remaining reader.old) held (W.contents writer.old)
+        → IfOk result (λ told. Pauses (λ s. (⟦<dyn Embedded as Embedded>⟧ s.boxed.vtable).content s.boxed.value) told serving.new made began unread (R.remaining reader.new) held (W.contents writer.new)) }
 {
     for _ in 0..u64::MAX {
         let advance = serving.advance(alloc, reader, writer)?;

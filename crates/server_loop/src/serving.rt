@@ -6,11 +6,11 @@ ghost use Rattle.message_model.specs.declared.frame.Frame.{Frame};
 ghost use Rattle.message_model.specs.declared.frame.Frame.TheVariants as frame;
 ghost use Rattle.message_model.specs.Frames.{Reads};
 ghost use Rattle.server_core.specs.View.{seen};
-ghost use Rattle.server_loop.specs.Links.{IsUnderway, IsWaiting, link_begun};
+ghost use Rattle.server_loop.specs.Links.{IsUnderway, IsWaiting, MayOffer, link_begun};
 ghost use Rattle.server_loop.specs.Turns.{Turn, edited_by, first_turn, given, met, noted, noted_done, scribbled_all, sent, turned, written};
 ghost use Rattle.server_loop.specs.View.{Advances, Counts, IsAt, IsIn, IsNew, IsStarted, LeavesReader, LeavesWriter, servers_of};
 ghost use Rattle.server_model.specs.Server.{Server, scribble, wanted};
-ghost use Rattle.std.specs.Prelude.{◌≡◌, ◌<◌, ◌+◌, ◌++◌, ◌∷◌, ℕ, List, [], IfOk, OnOk, Option, Some, None, length, nat_eq, option_map, vec_capacity, vec_len};
+ghost use Rattle.std.specs.Prelude.{◌≡◌, ◌<◌, ◌+◌, ◌++◌, ◌∷◌, ℕ, List, [], Bool, IfOk, OnOk, Option, Some, None, length, nat_eq, option_map, vec_capacity, vec_len};
 ghost use Rattle.wire_msgs.specs.declared.message.Message.{Message};
 
 use crate::fronts::write_front;
@@ -213,7 +213,7 @@ impl Serving {
         ensures started { OnOk result (IsStarted self.new) }
         ensures counts { OnOk result ((self.new.turns ≡ 0) × (self.new.reads ≡ 0)) }
         ensures first { OnOk result (IsAt (λ s. (⟦<dyn Embedded as Embedded>⟧ s.boxed.vtable).content s.boxed.value) self.new (first_turn inc numbers) [] []) }
-        ensures underway { OnOk result ((unread held : Option (List ℕ)) → IsUnderway (λ s. (⟦<dyn Embedded as Embedded>⟧ s.boxed.vtable).content s.boxed.value) self.new (first_turn inc numbers) unread unread held held) }
+        ensures underway { OnOk result ((made : List ℕ → Bool) (unread held : Option (List ℕ)) → IsUnderway (λ s. (⟦<dyn Embedded as Embedded>⟧ s.boxed.vtable).content s.boxed.value) self.new made (first_turn inc numbers) unread unread held held) }
     {
         self.make(alloc, inc, numbers)
     }
@@ -224,7 +224,7 @@ impl Serving {
         ensures counts { (self.new.turns ≡ 0) × (self.new.reads ≡ 0) }
         ensures started { IsStarted self.new }
         ensures begun { (t : Turn) → IsIn (λ s. (⟦<dyn Embedded as Embedded>⟧ s.boxed.vtable).content s.boxed.value) self.old t → IsAt (λ s. (⟦<dyn Embedded as Embedded>⟧ s.boxed.vtable).content s.boxed.value) self.new (link_begun t) [] [] }
-        ensures underway { (t : Turn) (unread held : Option (List ℕ)) → IsIn (λ s. (⟦<dyn Embedded as Embedded>⟧ s.boxed.vtable).content s.boxed.value) self.old t → IsUnderway (λ s. (⟦<dyn Embedded as Embedded>⟧ s.boxed.vtable).content s.boxed.value) self.new (link_begun t) unread unread held held }
+        ensures underway { (made : List ℕ → Bool) (t : Turn) (unread held : Option (List ℕ)) → IsIn (λ s. (⟦<dyn Embedded as Embedded>⟧ s.boxed.vtable).content s.boxed.value) self.old t → IsUnderway (λ s. (⟦<dyn Embedded as Embedded>⟧ s.boxed.vtable).content s.boxed.value) self.new made (link_begun t) unread unread held held }
     {
         self.decoder = Decoder::new(alloc);
         self.out.clear();
@@ -300,8 +300,9 @@ impl Serving {
         ensures started { IsStarted self.new }
         ensures met { (t : Turn) (fed : List ℕ) (taken : List Frame) (m : Message) → IsAt (λ s. (⟦<dyn Embedded as Embedded>⟧ s.boxed.vtable).content s.boxed.value) self.old t fed taken → self.old.wanting ≡ Some m
             → OnOk result (IsAt (λ s. (⟦<dyn Embedded as Embedded>⟧ s.boxed.vtable).content s.boxed.value) self.new (met t m (Some (kind_of ((⟦<dyn Embedded as Embedded>⟧ boxed.vtable).content boxed.value)))) fed taken) }
-        ensures underway { (began : Turn) (unread_before unread held_before held : Option (List ℕ)) (class : List ℕ) → IsWaiting (λ s. (⟦<dyn Embedded as Embedded>⟧ s.boxed.vtable).content s.boxed.value) self.old began unread_before unread held_before held class
-            → OnOk result (IsUnderway (λ s. (⟦<dyn Embedded as Embedded>⟧ s.boxed.vtable).content s.boxed.value) self.new began unread_before unread held_before held) }
+        ensures underway { (made : List ℕ → Bool) (began : Turn) (unread_before unread held_before held : Option (List ℕ)) (class : List ℕ) → IsWaiting (λ s. (⟦<dyn Embedded as Embedded>⟧ s.boxed.vtable).content s.boxed.value) self.old made began unread_before unread held_before held class
+            → MayOffer made (kind_of ((⟦<dyn Embedded as Embedded>⟧ boxed.vtable).content boxed.value)) class
+            → OnOk result (IsUnderway (λ s. (⟦<dyn Embedded as Embedded>⟧ s.boxed.vtable).content s.boxed.value) self.new made began unread_before unread held_before held) }
     {
         match self.wanting.take() {
             Some(message) => self.act(alloc, message, Some(boxed)),

@@ -3,27 +3,27 @@ use Rattle.server_loop.proofs.Linked.{comes_to, far, far_long, goes_on, stepped}
 use Rattle.server_loop.proofs.link.serve_link.Goals as goal
 
 pub returns-in-Some-clause-served : goal.returns-in-Some-clause-served
-returns-in-Some-clause-served g c = λ began unread held h.
+returns-in-Some-clause-served g c = λ made began unread held h.
     let told = c.in_ok-advance.ensures in
-    let s = (c.loop.invariant.1 began unread held h).0 in
-    comes_to _ (far s.served.taken c.loop.serving.turns c.loop.serving.reads) c.in_ok-advance.advance c.in-Some.pause c.advance.new.self began unread _ held _ c.in-Some.ensures
-    (stepped _ g.R.Read.remaining g.W.Write.contents c.loop.serving c.advance.new.self c.loop.reader c.advance.new.reader c.loop.writer c.advance.new.writer
+    let s = (c.loop.invariant.1 made began unread held h).0 in
+    comes_to _ made (far s.served.taken c.loop.serving.turns c.loop.serving.reads) c.in_ok-advance.advance c.in-Some.pause c.advance.new.self began unread _ held _ c.in-Some.ensures
+    (stepped _ made g.R.Read.remaining g.W.Write.contents c.loop.serving c.advance.new.self c.loop.reader c.advance.new.reader c.loop.writer c.advance.new.writer
     c.in_ok-advance.advance told.counted told.leaves_reader told.leaves_writer told.advanced began unread held s)
 
 pub loop-preserved : goal.loop-preserved
 loop-preserved g c = (
   c.in_ok-advance.ensures.started,
-  λ began unread held h.
+  λ made began unread held h.
       let told = c.in_ok-advance.ensures in
-      let far_as = c.loop.invariant.1 began unread held h in
+      let far_as = c.loop.invariant.1 made began unread held h in
       let s = far_as.0 in
-      let next = goes_on _ (far s.served.taken c.loop.serving.turns c.loop.serving.reads) c.in_ok-advance.advance c.advance.new.self began unread _ held _ (sym c.in_default.ensures)
-      (stepped _ g.R.Read.remaining g.W.Write.contents c.loop.serving c.advance.new.self c.loop.reader c.advance.new.reader c.loop.writer c.advance.new.writer
+      let next = goes_on _ made (far s.served.taken c.loop.serving.turns c.loop.serving.reads) c.in_ok-advance.advance c.advance.new.self began unread _ held _ (sym c.in_default.ensures)
+      (stepped _ made g.R.Read.remaining g.W.Write.contents c.loop.serving c.advance.new.self c.loop.reader c.advance.new.reader c.loop.writer c.advance.new.writer
       c.in_ok-advance.advance told.counted told.leaves_reader told.leaves_writer told.advanced began unread held s) in
       (next.0, omega (arith, far_as.1, next.1)),
 )
 
 pub returns-clause-served : goal.returns-clause-served
-returns-clause-served g c = λ began unread held h.
-    let s = c.loop.invariant.1 began unread held h in
+returns-clause-served g c = λ made began unread held h.
+    let s = c.loop.invariant.1 made began unread held h in
     (s.0, far_long s.0.served.taken c.loop.serving.turns c.loop.serving.reads c.loop.counter s.0.more s.0.reads (omega (arith, c.loop-test.false)) s.1)

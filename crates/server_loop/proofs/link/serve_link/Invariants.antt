@@ -1,4 +1,4 @@
-use Rattle.std.proofs.Common.{◌≡◌, ◌≤◌, ℕ, List, Option, length}
+use Rattle.std.proofs.Common.{◌≡◌, ◌≤◌, ℕ, List, Option, Bool, length}
 use Rattle.server_loop.specs.Turns.{Turn}
 use Rattle.server_loop.specs.Links.{IsUnderway}
 use Rattle.server_loop.proofs.Linked.{far}
@@ -6,7 +6,7 @@ use Rattle.server_loop.proofs.link.serve_link.Given as goal
 
 abbrev pub invariant-loop : goal.invariant-loop
 invariant-loop g l = (length l.serving.servers.items ≡ 1)
-    × ((began : Turn) (unread held : Option (List ℕ))
-    → IsUnderway (λ s. (goal.Embedded-dyn g (s.boxed.vtable, s.boxed.value)).content s.boxed.value) l.fn.serving began unread (g.R.Read.remaining l.fn.reader) held (g.W.Write.contents l.fn.writer)
-    → (s : IsUnderway (λ s. (goal.Embedded-dyn g (s.boxed.vtable, s.boxed.value)).content s.boxed.value) l.serving began unread (g.R.Read.remaining l.reader) held (g.W.Write.contents l.writer))
+    × ((made : List ℕ → Bool) (began : Turn) (unread held : Option (List ℕ))
+    → IsUnderway (λ s. (goal.Embedded-dyn g (s.boxed.vtable, s.boxed.value)).content s.boxed.value) l.fn.serving made began unread (g.R.Read.remaining l.fn.reader) held (g.W.Write.contents l.fn.writer)
+    → (s : IsUnderway (λ s. (goal.Embedded-dyn g (s.boxed.vtable, s.boxed.value)).content s.boxed.value) l.serving made began unread (g.R.Read.remaining l.reader) held (g.W.Write.contents l.writer))
     × (l.counter ≤ far s.served.taken l.serving.turns l.serving.reads))
