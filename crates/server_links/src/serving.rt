@@ -1,0 +1,97 @@
+//! A server over one link after another.
+
+ghost use Rattle.server_links.specs.Events.{Closed};
+ghost use Rattle.server_links.specs.Served.{HasStopped, IsNext};
+ghost use Rattle.server_loop.specs.Turns.{first_turn};
+ghost use Rattle.std.specs.Prelude.{◌∷◌, IfOk};
+
+use crate::kinds::{Kind, kind_of_class, new_drawing, new_note, new_table};
+use crate::links::{Link, Links};
+use embed_core::tally::Tally;
+use server_loop::link::{Pause, serve_link};
+use server_loop::serving::Serving;
+use std::alloc::{AllocError, Global};
+use std::io::{Read, Write};
+
+/// The most links that a server serves, one after another.
+pub const MOST_LINKS: u32 = 100;
+
+/// Why a server serves no other link.
+#[derive(Clone, Copy, PartialEq, Eq)]
+pub enum Stop {
+    /// None came.
+    NoLink,
+    /// It served as many as it may.
+    MostLinks,
+    /// The last one goes on, and the server stood still more than 2^63 times.
+    Long,
+}
+
+/// Closes a link, and asks for the next one where fewer were served than may be.
+fn next_link<L: Links>(
+    links: &mut L,
+    over: Link<L::Reader, L::Writer>,
+    served: u32,
+) -> Result<Link<L::Reader, L::Writer>, Stop>
+    ensures { IsNext result served (Closed over ∷ L.told links.old) (L.told links.new) }
+{
+    links.close(over);
+    if served >= MOST_LINKS {
+        return Err(Stop::MostLinks);
+    }
+    match links.next() {
+        Some(link) => Ok(link),
+        None => Err(Stop::NoLink),
+    }
+}
+
+/// Is the server of this incarnation, which may have so many activations, and each so many writes: serves one link after
+/// another, until no other one comes. A call that wants a note, a table or a drawing gets a new one; one that wants another
+/// object is passed over. A link that is over is closed before the next one is asked for.
+///
+/// Refused for want of memory alone.
+pub fn serve_links<L: Links>(
+    alloc: Global,
+    tally: &Tally,
+    links: &mut L,
+    inc: u32,
+    numbers: u32,
+) -> Result<Stop, AllocError>
+    ensures { IfOk result (λ stop. HasStopped stop L.Reader.remaining L.Writer.contents (first_turn inc numbers) (L.told links.old) (L.told links.new)) }
+{
+    let mut serving = Serving::new(alloc);
+    serving.start(alloc, inc, numbers)?;
+    let Some(mut link) = links.next() else {
+        return Ok(Stop::NoLink);
+    };
+    let mut served = 0;
+    for _ in 0..u64::MAX {
+        let pause = serve_link(alloc, &mut serving, &mut link.reader, &mut link.writer)?;
+        match pause {
+            Pause::Wants(class) => match kind_of_class(&class) {
+                Kind::Note => {
+                    serving.offer(alloc, new_note(alloc, tally)?)?;
+                    continue;
+                }
+                Kind::Table => {
+                    serving.offer(alloc, new_table(alloc, tally)?)?;
+                    continue;
+                }
+                Kind::Drawing => {
+                    serving.offer(alloc, new_drawing(alloc, tally)?)?;
+                    continue;
+                }
+                Kind::Other => continue,
+            },
+            Pause::Long => continue,
+            Pause::Over(_) => {}
+        }
+        served += 1;
+        serving.begin(alloc);
+        match next_link(links, link, served) {
+            Ok(next) => link = next,
+            Err(stop) => return Ok(stop),
+        }
+    }
+    Ok(Stop::Long)
+}
