@@ -14,7 +14,6 @@ ghost use Rattle.stream_io.specs.Reads.{MayRefuseFile, chain_fault};
 ghost use Rattle.stream_io.specs.declared.fault.ReadFault.TheVariants.{NoMemory};
 
 use crate::changed::changed;
-use crate::comparing::is_same;
 use cfb_bytes::numbers::read_u32;
 use file_model::fault::WriteFault;
 use file_placing::placing::place_over;
@@ -24,7 +23,7 @@ use std::marker::Model;
 use storage_tree::storage::Storage;
 use storage_tree::tree::Tree;
 use stream_io::fault::ReadFault;
-use stream_io::read::{read_file, read_outline};
+use stream_io::read::{is_file_of, read_outline};
 
 /// A compound file: its bytes, which denote a tree.
 #[derive(Drop)]
@@ -81,13 +80,9 @@ fn checked(alloc: Global, file: Vec<u8>, tree: &Tree) -> Result<Option<Vec<u8>>,
     ensures denotes { IfOk result (λ checked. IfSome checked (λ v. ∥ Denotes v.items (kept tree.now).now ∥₁)) }
     ensures same { IfOk result (λ checked. IfSome checked (λ v. v.items ≡ file.items)) }
 {
-    match read_file(alloc, &file) {
-        Ok(again) => {
-            if !is_same(again.root(), tree.root()) {
-                return Ok(None);
-            }
-            Ok(Some(file))
-        }
+    match is_file_of(alloc, &file, tree) {
+        Ok(true) => Ok(Some(file)),
+        Ok(false) => Ok(None),
         Err(ReadFault::NoMemory) => Err(AllocError),
         Err(_) => Ok(None),
     }

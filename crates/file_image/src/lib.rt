@@ -2,5 +2,4 @@
 #![tactic(auto)]
 
 pub mod changed;
-mod comparing;
 pub mod image;

@@ -14,7 +14,7 @@ use Rattle.file_model.proofs.AlikeFiles.{alike_back, alike_denotes}
 use Rattle.file_faults.specs.Faults.{IsDirectory}
 use Rattle.file_faults.proofs.Alike.{directory_alike}
 use Rattle.file_outline.specs.declared.outline.Outline.{Outline}
-use Rattle.stream_io.specs.Places.{IsPlaced, IsTold}
+use Rattle.outline_entries.specs.Places.{IsPlaced, IsTold}
 use Rattle.file_listings.specs.Lists.{ListsAs}
 
 -- a tree that a file denotes, of an outline that tells where its streams lie

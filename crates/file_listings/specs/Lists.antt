@@ -3,7 +3,7 @@ use Rattle.std.specs.Prelude.{ℕ, List, Option}
 use Rattle.std.specs.Io.KnownBytes.{Appends}
 use Rattle.storage_tree.specs.Tree.{Tree}
 use Rattle.file_outline.specs.declared.outline.Outline.{Outline}
-use Rattle.stream_io.specs.Places.{IsPlaced}
+use Rattle.outline_entries.specs.Places.{IsPlaced}
 
 -- the listing was written, in the form that `told` is, of an outline of the tree that the bytes denote, which tells of each stream
 -- where its entry says that it lies

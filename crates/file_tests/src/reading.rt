@@ -6,10 +6,11 @@ use cfb_names::name::Name;
 use file_outline::outline::{Outline, Part};
 use std::alloc::Global;
 use std::process::Abort;
+use storage_tree::class_id::ClassId;
 use storage_tree::storage::Found;
 use storage_tree::tree::Tree;
 use stream_io::fault::{ReadFault, StreamFault};
-use stream_io::read::{read_file, read_outline, read_stream};
+use stream_io::read::{is_file_of, read_file, read_outline, read_stream};
 
 /// A header and a FAT, a root of class 7 with state bits 258 above the stream `A`, the mini FAT, and the mini stream with the
 /// bytes 1, 2, 3.
@@ -62,12 +63,21 @@ fn has_stream(rt: &impl Abort, alloc: Global, file: &[u8]) -> bool {
     bytes.as_slice() == b"\x01\x02\x03".as_slice()
 }
 
+/// Whether it is told of a file's tree that the file denotes it, and of another that it doesn't.
+fn is_told_of_its_tree(rt: &impl Abort, alloc: Global, file: &[u8]) -> bool {
+    let tree = read_file(alloc, file).expect(rt, "a file");
+    let other = Tree::new(alloc, ClassId::from_bytes([0; 16]), 0);
+    let same = is_file_of(alloc, file, &tree).expect(rt, "a file");
+    same && !is_file_of(alloc, file, &other).expect(rt, "a file")
+}
+
 #[test]
 fn a_file_is_read(rt: HostRuntime) {
     let file = spelled(&rt, rt.alloc(), FILE);
     assert!(rt; is_whole(&rt, rt.alloc(), &file));
     assert!(rt; is_outlined(&rt, rt.alloc(), &file));
     assert!(rt; has_stream(&rt, rt.alloc(), &file));
+    assert!(rt; is_told_of_its_tree(&rt, rt.alloc(), &file));
     assert!(rt; is_no_stream(read_stream(rt.alloc(), &file, &[])));
     assert!(rt; ReadFault::NoMemory.name() == "NoMemory");
 }

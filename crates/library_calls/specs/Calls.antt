@@ -6,7 +6,7 @@ use Rattle.file_model.specs.Denotes.{Denotes}
 use Rattle.file_outline.specs.declared.outline.Outline.{Outline}
 use Rattle.file_outline.specs.Streams.{stream_at}
 use Rattle.file_writer.specs.Laid.{IsLaidOut}
-use Rattle.stream_io.specs.Places.{IsPlaced}
+use Rattle.outline_entries.specs.Places.{IsPlaced}
 use Rattle.texts.specs.Paths.{path_read}
 use Rattle.file_commands.specs.Cleaning.{MayRefuseClean}
 use Rattle.file_commands.specs.Getting.{MayRefuseGet}

@@ -12,7 +12,6 @@ pub mod ReadingOpened
 pub mod ReadingSorted
 pub mod ReadingStreams
 pub mod ReadingFile
-pub mod ReadingPlaces
 pub mod ReadingThere
 pub mod ReadingTold
 pub mod ReadingAlike

@@ -124,10 +124,6 @@ MayRefuseNames dir ids (Chain fault) = ⊥
 MayRefuseNames dir ids (Directory directory.DuplicateName) = (m : ℕ) × (n : ℕ) × Contains ids m × Contains ids n × (m ≢ n) × (key_at dir m ≡ key_at dir n)
 MayRefuseNames dir ids (Directory fault) = (n : ℕ) × Contains ids n × MayRefuseEntry dir n fault
 
--- entries under their keys, each under that of its name
-abbrev pub IsKeyed : List ℕ → List ℕ × ℕ → Type 0
-IsKeyed dir e = e.0 ≡ key_at dir e.1
-
 -- ---- what a file is refused for
 -- what a reader reads from, with the sectors that the system's own parts have
 abbrev pub base_of : List ℕ → Reader → Base

@@ -18,9 +18,10 @@ ghost use Rattle.storage_tree.specs.Tree as tree;
 ghost use Rattle.file_model.specs.Outline.{outline_of, part_of};
 ghost use Rattle.file_model.specs.Denotes.{Denotes};
 ghost use Rattle.file_faults.specs.Faults.{Base, IsStorage, key_at};
+ghost use Rattle.outline_entries.specs.Keys.{IsKeyed};
+ghost use Rattle.outline_entries.specs.Places.{IsPartTold, IsPlaced, IsTold};
 ghost use Rattle.stream_io.specs.Marks.{IsNext};
-ghost use Rattle.stream_io.specs.Places.{IsPartTold, IsPlaced, IsTold};
-ghost use Rattle.stream_io.specs.Reads.{AreSorted, IsChildRead, IsKeyed, IsNodeRead, IsStorageRead, MayRefuseFile, MayRefuseNames, MayRefusePlace, MayRefuseStorage, MayRefuseStream, chain_fault, directory_in, met, stream_after};
+ghost use Rattle.stream_io.specs.Reads.{AreSorted, IsChildRead, IsNodeRead, IsStorageRead, MayRefuseFile, MayRefuseNames, MayRefusePlace, MayRefuseStorage, MayRefuseStream, chain_fault, directory_in, met, stream_after};
 ghost use Rattle.file_outline.specs.Streams.{stream_at};
 ghost use Rattle.file_outline.specs.View.{contents, outline_view, part_view, shown, shown_part, table_for};
 ghost use Rattle.stream_io.specs.View.{directory_bytes};
@@ -35,6 +36,7 @@ use cfb_header::header::Header;
 use cfb_names::fault::DirFault;
 use cfb_names::name::Name;
 use cfb_places::places::Places;
+use file_comparing::comparing::is_shown;
 use file_outline::filling::{bytes_at, storage_at};
 use file_outline::finding::place_at;
 use file_outline::outline::{Outline, Part, Place, is_short};
@@ -341,6 +343,26 @@ pub fn read_file(alloc: Global, file: &[u8]) -> Result<Tree, ReadFault>
     let layout = lay_out(alloc, file)?;
     let root = storage_at(alloc, &layout.fat, &layout.mini, &layout.root)?;
     Ok(Tree::from_root(alloc, root))
+}
+
+/// Whether a compound file denotes a tree, which is compared with it stream by stream. Each chain of sectors is walked as for
+/// `read_file`, and of its streams one at a time is read.
+///
+/// Refused: as `read_file`.
+pub fn is_file_of(alloc: Global, file: &[u8], wanted: &Tree) -> Result<bool, ReadFault>
+    ensures same { IfOk result (λ same. same ≡ true → ∥ Denotes file.now (kept wanted.now).now ∥₁) }
+    ensures reads { (t : tree.Tree) → Denotes file.now t → IfErr result (λ e. e ≡ NoMemory) }
+    ensures refused { IfErr result (MayRefuseFile file.now) }
+{
+    let layout = lay_out(alloc, file)?;
+    let same = is_shown(
+        alloc,
+        &layout.fat,
+        &layout.mini,
+        &layout.root,
+        wanted.root(),
+    )?;
+    Ok(same)
 }
 
 /// The outline of a compound file: its storages and streams, where each stream lies, and how many bytes it has. Each chain of

@@ -5,7 +5,8 @@ use Rattle.std.specs.BTreeMap.{is_at}
 use Rattle.std.specs.Map.{lookup, values_of}
 use Rattle.cfb_names.specs.Names.{key_cmp}
 use Rattle.file_faults.specs.Faults.{key_at}
-use Rattle.stream_io.proofs.ReadingNames.{entry_key, keyed_more, named_twice}
+use Rattle.outline_entries.proofs.Keyed.{entry_key, keyed_more}
+use Rattle.stream_io.proofs.ReadingNames.{named_twice}
 use Rattle.stream_io.proofs.read.by_key.Goals as goal
 
 pub returns-in-Ok-Some-clause-refused : goal.returns-in-Ok-Some-clause-refused

@@ -1,4 +1,4 @@
-use Rattle.stream_io.proofs.ReadingNames.{AreKeyed}
+use Rattle.outline_entries.proofs.Keyed.{AreKeyed}
 use Rattle.stream_io.proofs.read.by_key.Given as goal
 
 abbrev pub invariant-loop-id : goal.invariant-loop-id

@@ -3,7 +3,7 @@ use Rattle.std.specs.List.{Contains}
 use Rattle.std.specs.List.Sorted.{IsStrictlySortedBy}
 use Rattle.cfb_names.specs.Names.{key_cmp}
 use Rattle.file_faults.specs.Faults.{key_at}
-use Rattle.stream_io.proofs.ReadingNames.{keys_keyed}
+use Rattle.outline_entries.proofs.Keyed.{keys_keyed}
 use Rattle.stream_io.proofs.read.by_name.Goals as goal
 
 pub returns-clause-ordered : goal.returns-clause-ordered

@@ -7,10 +7,9 @@ use Rattle.cfb_header.specs.Header.{HeaderValue, IsHeader, difat, header_of, lis
 use Rattle.cfb_chain.specs.View.{image_bytes}
 use Rattle.cfb_directory.specs.Entries.{EntriesValue}
 use Rattle.storage_tree.specs.Tree.{Tree}
-use Rattle.file_model.specs.Outline.{outline_of}
 use Rattle.file_model.specs.Denotes.{Denotes, Layout, directory_of}
 use Rattle.stream_io.specs.Reads.{IsStorageRead, MayRefuseFile, base_of, chain_fault, directory_fault}
-use Rattle.stream_io.specs.Places.{IsPlaced, IsTold}
+use Rattle.outline_entries.specs.Places.{IsPlaced, IsTold}
 use Rattle.stream_io.specs.declared.read.Reader.{Reader}
 use Rattle.file_faults.proofs.Chains.{directory_refused, mini_refused, table_refused}
 use Rattle.file_faults.proofs.Opened.{IsOpened, IsReady, opened_at, read_header, ready}
@@ -19,7 +18,7 @@ use Rattle.stream_io.proofs.ReadingOpened.{directory_is, file_storage, root_next
 use Rattle.stream_io.proofs.ReadingRefused.{chain_memory, directory_memory, file_chain, file_load, file_root, same_memory}
 use Rattle.file_faults.proofs.There.{directory_there, load_not_refused, mini_there, root_marked, root_not_refused}
 use Rattle.stream_io.proofs.ReadingThere.{storage_read}
-use Rattle.file_outline.specs.View.{contents, outline_view, shown}
+use Rattle.file_outline.specs.View.{contents, shown}
 use Rattle.stream_io.specs.View.{directory_bytes}
 use Rattle.file_outline.specs.declared.outline.Place.{Place}
 use Rattle.stream_io.proofs.ReadingKept.{kept_storage}
@@ -108,44 +107,8 @@ returns-in_err-outline-clause-reads c = λ t d.
     let again : IsErrAnd c.from_residual-in_err-outline.result (λ x. x ≡ c.in_err-outline.field-0.0) = search rules in
     same_memory c.from_residual-in_err-outline.result c.in_err-outline.field-0.0 again (c.in_err-outline.ensures.there t there.0 there.1)
 
-pub returns-clause-denotes : goal.returns-clause-denotes
-returns-clause-denotes c =
-    let file : List ℕ = image_bytes c.args.file in
-    let h : HeaderValue = c.args.header.now in
-    let e : EntriesValue = c.in_ok-entries.entries in
-    let is_header : IsHeader file = c.requires.whole in
-    let is : h ≡ header_of file = read_header file h is_header (sym c.requires.read) in
-    let o : IsOpened file c.chain.new.self c.in_ok-chain.chain.items e.directory =
-    opened_at file h c.in_ok-fat.fat c.chain.new.self c.first_directory.result c.in_ok-chain.chain.items c.deref.result.now (directory_bytes c.in_ok-directory.directory)
-    e.directory is c.in_ok-fat.ensures.table c.first_directory.ensures c.in_ok-chain.ensures.linked c.in_ok-chain.ensures.free c.in_ok-chain.ensures.marks
-    c.deref.ensures.value c.in_ok-directory.ensures.bytes (ap (λ (x : EntriesValue). x.directory) c.in_ok-entries.ensures.loaded ∙ c.bytes.ensures) in
-    let mini_fat : List ℕ = c.in_ok-mini.ensures.found.0 in
-    let mini_stream : List ℕ = c.in_ok-mini.ensures.found.1 in
-    let l : Layout = record { fat = listed file; difat = difat file; directory = c.in_ok-chain.chain.items; mini_fat = mini_fat; mini_stream = mini_stream } in
-    let r : IsReady file l c.mini.new.self c.in_ok-mini.mini e.directory =
-    ready file h c.chain.new.self c.mini.new.self c.in_ok-mini.mini c.in_ok-chain.chain.items e.directory c.in_ok-root.root.first c.in_ok-root.root.size
-    mini_fat mini_stream is o c.in_ok-root.ensures.read.first c.in_ok-root.ensures.read.size
-    c.in_ok-mini.ensures.found.2 c.in_ok-mini.ensures.found.3 c.in_ok-mini.ensures.found.4 in
-    let start : Reader = record { fat = c.mini.new.self; mini = c.in_ok-mini.mini; entries = e } in
-    let marked : get_or e.used 0 true ≡ true = root_marked e (length c.bytes.result.now / 128) (ap (λ (x : EntriesValue). x.used) c.in_ok-entries.ensures.loaded) in
-    let before : Place → List ℕ = contents c.mini.new.self c.in_ok-mini.mini in
-    let t : Tree = shown before c.in_ok-outline.outline in
-    let kept : contents c.storage_outline.new.self.fat c.storage_outline.new.self.mini ≡ before =
-    (kept_storage 32 0 t start c.storage_outline.new.self c.in_ok-outline.ensures.read).content in
-    subst (λ (f : Place → List ℕ). Denotes file (shown f c.in_ok-outline.outline)) (sym kept)
-    (denoted file l start c.storage_outline.new.self t is_header r marked c.in_ok-root.ensures.read.allowed c.in_ok-outline.ensures.read).0
-
-pub returns-clause-sized : goal.returns-clause-sized
-returns-clause-sized c =
-    let before : Place → List ℕ = contents c.mini.new.self c.in_ok-mini.mini in
-    let t : Tree = shown before c.in_ok-outline.outline in
-    let start : Reader = record { fat = c.mini.new.self; mini = c.in_ok-mini.mini; entries = c.in_ok-entries.entries } in
-    let kept : contents c.storage_outline.new.self.fat c.storage_outline.new.self.mini ≡ before =
-    (kept_storage 32 0 t start c.storage_outline.new.self c.in_ok-outline.ensures.read).content in
-    subst (λ (f : Place → List ℕ). outline_of (shown f c.in_ok-outline.outline) ≡ outline_view c.in_ok-outline.outline) (sym kept) c.in_ok-outline.ensures.sized
-
-pub returns-clause-placed : goal.returns-clause-placed
-returns-clause-placed c =
+pub returns : goal.returns
+returns c =
     let file : List ℕ = image_bytes c.args.file in
     let h : HeaderValue = c.args.header.now in
     let e : EntriesValue = c.in_ok-entries.entries in
@@ -176,7 +139,9 @@ returns-clause-placed c =
       denotes = denotes.0;
       told = subst (λ (x : List ℕ). IsTold x 0 c.in_ok-outline.outline) directory c.in_ok-outline.ensures.told;
     } in
-    subst (λ (f : Place → List ℕ). IsPlaced file (shown f c.in_ok-outline.outline) c.in_ok-outline.outline) (sym kept) placed
+    let lies : IsPlaced file (shown (contents c.storage_outline.new.self.fat c.storage_outline.new.self.mini) c.in_ok-outline.outline) c.in_ok-outline.outline =
+    subst (λ (f : Place → List ℕ). IsPlaced file (shown f c.in_ok-outline.outline) c.in_ok-outline.outline) (sym kept) placed in
+    record { denotes = lies.denotes; sized = sym lies.outlined; placed = lies; reads = λ t d. tt; refused = tt }
 
 pub returns-in_err-fat-clause-refused : goal.returns-in_err-fat-clause-refused
 returns-in_err-fat-clause-refused c =

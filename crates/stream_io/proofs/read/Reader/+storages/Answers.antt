@@ -10,10 +10,10 @@ use Rattle.stream_io.specs.Marks.{IsNext}
 use Rattle.stream_io.specs.Reads.{IsChildRead, IsNodeRead, IsStorageRead, MayRefuseStorage, directory_fault, directory_in}
 use Rattle.file_outline.specs.View.{contents, part_view, shown_part, shown_parts}
 use Rattle.file_outline.specs.declared.outline.Place.{Place}
-use Rattle.stream_io.specs.Places.{AreTold, IsPartTold, holds, lies, storage}
+use Rattle.outline_entries.specs.Places.{AreInOrder, AreTold, IsPartTold, holds, lies, storage}
 use Rattle.stream_io.specs.declared.read.Reader.{Reader}
 use Rattle.file_outline.proofs.Followed.{followed}
-use Rattle.stream_io.proofs.ReadingPlaces.{in_order, told_all, told_next, told_none, view_nested}
+use Rattle.outline_entries.proofs.Told.{told_all, told_next, told_none, view_nested}
 use Rattle.stream_io.proofs.ReadingChildren.{IsFirstRead, Progress}
 use Rattle.file_faults.proofs.EntryKinds.{storage_kind}
 use Rattle.file_outline.proofs.Outlines.{AreSized, shown-nested, shown-push, shown-roll, sized-all, sized-push, view-roll}
@@ -182,7 +182,8 @@ storage_outline-returns-clause-told t c =
     let directory : directory_in mid ≡ directory_in old = ap (λ (r : Reader). directory_in r) o.mid_is in
     let each : AreTold (directory_in mid) items c.loop-child.parts.items =
     told_all (directory_in mid) items c.loop-child.parts.items c.loop-child.child-index c.loop-child-test.false c.loop-child.invariant.2 in
-    storage c.args.id _ items (in_order c.args.id items old o.sorted) (subst (λ (x : List ℕ). AreTold x items c.loop-child.parts.items) directory each)
+    let ordered : AreInOrder (directory_in old) c.args.id items = record { reached = o.sorted.reached; linked = o.sorted.linked; same = o.sorted.same; ordered = o.sorted.ordered } in
+    storage c.args.id _ items ordered (subst (λ (x : List ℕ). AreTold x items c.loop-child.parts.items) directory each)
 
 pub storage_outline-loop-child-init : goal.storage_outline-loop-child-init
 storage_outline-loop-child-init t c =

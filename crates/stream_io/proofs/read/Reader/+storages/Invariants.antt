@@ -2,7 +2,7 @@ use Rattle.std.proofs.Common.{◌+◌, ◌*◌, take}
 use Rattle.file_outline.specs.View.{contents, shown_parts}
 use Rattle.stream_io.proofs.ReadingChildren.{Progress}
 use Rattle.file_outline.proofs.Outlines.{AreSized}
-use Rattle.stream_io.specs.Places.{AreTold}
+use Rattle.outline_entries.specs.Places.{AreTold}
 use Rattle.stream_io.specs.Reads.{directory_in}
 use Rattle.stream_io.proofs.read.Reader.+storages.Given as goal
 

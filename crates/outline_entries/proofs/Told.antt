@@ -10,9 +10,7 @@ use Rattle.file_outline.specs.declared.outline.Part.{Part, fold-roll-Part}
 use Rattle.file_outline.specs.declared.outline.Part.TheOpen.{Part-F}
 use Rattle.file_outline.specs.declared.outline.Part.TheVariants as variant
 use Rattle.file_outline.specs.declared.outline.Part.TheViews.{rolls-Storage}
-use Rattle.stream_io.specs.Reads.{AreSorted, directory_in}
-use Rattle.stream_io.specs.declared.read.Reader.{Reader}
-use Rattle.stream_io.specs.Places.{AreInOrder, AreTold, IsPartTold, IsTold, more, none}
+use Rattle.outline_entries.specs.Places.{AreTold, IsPartTold, more, none}
 
 -- one more part
 told_push : (dir ids : List ℕ) (parts : List (List ℕ × Part)) (id : ℕ) (name : List ℕ) (part : Part) → AreTold dir ids parts
@@ -32,10 +30,6 @@ told_next dir items parts i name part lt told n p =
 
 pub told_all : (dir items : List ℕ) (parts : List (List ℕ × Part)) (i : ℕ) → length items ≤ i → AreTold dir (take i items) parts → AreTold dir items parts
 told_all dir items parts i le told = subst (λ (ids : List ℕ). AreTold dir ids parts) (take_all i items le) told
-
--- the children of an entry that is read
-pub in_order : (id : ℕ) (ids : List ℕ) (r : Reader) → AreSorted r.entries id ids → AreInOrder (directory_in r) id ids
-in_order id ids r h = record { reached = h.reached; linked = h.linked; same = h.same; ordered = h.ordered }
 
 -- what a storage is as a part
 pub view_nested : (o : Outline) → part_view (variant.Storage o) ≡ nested (outline_view o)

@@ -1,0 +1,86 @@
+//! Whether a storage holds what an outline of a file shows.
+
+ghost use Rattle.file_outline.specs.View.{contents, shown, shown_part};
+ghost use Rattle.std.specs.Prelude.{◌≡◌, IfOk, true};
+ghost use Rattle.storage_tree.specs.View.{seen, view};
+
+use cfb_chain::fat::Fat;
+use cfb_names::name::Name;
+use file_outline::filling::bytes_at;
+use file_outline::outline::{Outline, Part, Place};
+use std::alloc::{AllocError, Global};
+use storage_tree::storage::{Node, Storage};
+
+/// Whether the stream that lies at a place has these bytes.
+fn is_held(
+    alloc: Global,
+    fat: &Fat<'_>,
+    mini: &Fat<'_>,
+    place: Place,
+    bytes: &[u8],
+) -> Result<bool, AllocError>
+    ensures { IfOk result (λ same. same ≡ true → bytes.now ≡ contents fat.now mini.now place) }
+{
+    if place.size as usize != bytes.len() {
+        return Ok(false);
+    }
+    let held = bytes_at(alloc, fat, mini, place)?;
+    Ok(bytes == held.as_slice())
+}
+
+/// Whether a storage holds what an outline shows, given the tables of sectors and of mini sectors. Of its streams one at a
+/// time is read.
+///
+/// Refused for want of memory alone.
+#[cycle(comparing)]
+pub fn is_shown(
+    alloc: Global,
+    fat: &Fat<'_>,
+    mini: &Fat<'_>,
+    outline: &Outline,
+    storage: &Storage,
+) -> Result<bool, AllocError>
+    ensures { IfOk result (λ same. same ≡ true → view storage.now ≡ shown (contents fat.now mini.now) outline.now) }
+{
+    if storage.class != outline.class || storage.state != outline.state {
+        return Ok(false);
+    }
+    let mut children = storage.children.iter();
+    for part in &outline.parts {
+        let Some((key, child)) = children.next() else {
+            return Ok(false);
+        };
+        if *key != part.0.key() {
+            return Ok(false);
+        }
+        if child.0.as_bytes() != part.0.as_bytes() {
+            return Ok(false);
+        }
+        if !is_shown_part(alloc, fat, mini, &part.1, &child.1)? {
+            return Ok(false);
+        }
+    }
+    Ok(children.next().is_none())
+}
+
+/// Whether a node holds what a part of an outline shows.
+#[cycle(comparing)]
+fn is_shown_part(
+    alloc: Global,
+    fat: &Fat<'_>,
+    mini: &Fat<'_>,
+    part: &Part,
+    node: &Node,
+) -> Result<bool, AllocError>
+    ensures { IfOk result (λ same. same ≡ true → seen node.now ≡ shown_part (contents fat.now mini.now) part.now) }
+{
+    match (part, node) {
+        (Part::Stream(place), Node::Stream(bytes)) => {
+            is_held(alloc, fat, mini, *place, bytes.as_slice())
+        }
+        (Part::Storage(inner), Node::Storage(storage)) => {
+            is_shown(alloc, fat, mini, inner, storage)
+        }
+        _ => Ok(false),
+    }
+}

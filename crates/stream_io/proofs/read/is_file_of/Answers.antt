@@ -1,0 +1,23 @@
+use Rattle.std.proofs.Common.{◌≡◌, ◌∙◌, rules, subst, sym}
+use Rattle.std.proofs.Math.Logic.{∥∥₁_map}
+use Rattle.std.specs.Result.{IsErrAnd}
+use Rattle.cfb_chain.proofs.Results.{refused_with}
+use Rattle.storage_tree.specs.Tree.{Tree}
+use Rattle.file_model.specs.Denotes.{Denotes}
+use Rattle.stream_io.specs.Reads.{MayRefuseFile}
+use Rattle.stream_io.proofs.ReadingRefused.{same_memory}
+use Rattle.stream_io.proofs.read.is_file_of.Goals as goal
+
+pub returns-clause-same : goal.returns-clause-same
+returns-clause-same c = λ same.
+    ∥∥₁_map c.in_ok-layout.ensures.denotes (λ d. subst (λ (t : Tree). Denotes c.args.file.now t) (sym (c.in_ok-same.ensures same) ∙ c.root.ensures.value) d)
+
+pub returns-in_err-layout-clause-reads : goal.returns-in_err-layout-clause-reads
+returns-in_err-layout-clause-reads c = λ t d.
+    let again : IsErrAnd c.from_residual.result (λ x. x ≡ c.in_err-layout.field-0.0) = search rules in
+    same_memory c.from_residual.result c.in_err-layout.field-0.0 again (c.in_err-layout.ensures.reads t d)
+
+pub returns-in_err-layout-clause-refused : goal.returns-in_err-layout-clause-refused
+returns-in_err-layout-clause-refused c =
+    let again : IsErrAnd c.from_residual.result (λ x. x ≡ c.in_err-layout.field-0.0) = search rules in
+    refused_with c.from_residual.result c.in_err-layout.field-0.0 (MayRefuseFile c.args.file.now) again c.in_err-layout.ensures.refused
