@@ -1,9 +1,9 @@
-//! Checks of a file that is sound, and of the same one once a number of its header is changed.
+//! Checks of a file that is sound, and of the same one once bytes of it are changed.
 
 use cfb_header::fault::ChainFault;
 use fault_places::finding::find_place;
 use fault_places::place::{FaultPlace, Link};
-use file_checks::checking::check_file;
+use file_checks::checking::{check_file, check_source};
 use file_commands::commands::make_file;
 use std::alloc::Global;
 use std::process::Abort;
@@ -30,6 +30,13 @@ fn writes(alloc: Global, file: &[u8], is_sound: bool, want: &[u8]) -> bool {
     check_file(alloc, &mut source, &mut text).is_ok() == is_sound && text.as_slice() == want
 }
 
+/// The same by places.
+fn writes_by_places(alloc: Global, file: &[u8], is_sound: bool, want: &[u8]) -> bool {
+    let mut source = file;
+    let mut text = Vec::new(alloc);
+    check_source(alloc, &mut source, &mut text).is_ok() == is_sound && text.as_slice() == want
+}
+
 /// Whether the directory begins outside the file.
 fn begins_outside(alloc: Global, file: &[u8], to: u32) -> bool {
     match find_place(alloc, file, ChainFault::OutOfFile) {
@@ -45,6 +52,10 @@ fn a_file_is_checked(rt: HostRuntime) {
         writes(rt.alloc(), &file, true, b"ok\n".as_slice()),
         "a sound file"
     );
+    assert!(rt;
+        writes_by_places(rt.alloc(), &file, true, b"ok\n".as_slice()),
+        "a sound file by places"
+    );
     change(&mut file, 48, 99);
     assert!(rt; begins_outside(rt.alloc(), &file, 99), "the place");
     let want = b"OutOfFile in the directory, which begins at sector 99\n".as_slice();
@@ -52,4 +63,23 @@ fn a_file_is_checked(rt: HostRuntime) {
         writes(rt.alloc(), &file, false, want),
         "a directory outside the file"
     );
+    assert!(rt;
+        writes_by_places(rt.alloc(), &file, false, want),
+        "a directory outside the file, by places"
+    );
+}
+
+#[test]
+fn an_entry_is_told(rt: HostRuntime) {
+    let mut file = file_of(&rt, rt.alloc());
+    change(&mut file, 1216, 2);
+    let want = b"NameEmpty in entry 1\n".as_slice();
+    assert!(rt; writes(rt.alloc(), &file, false, want), "a name");
+    change(&mut file, 1216, 4);
+    change(&mut file, 1220, 1);
+    change(&mut file, 1221, 0);
+    change(&mut file, 1222, 0);
+    change(&mut file, 1223, 0);
+    let want = b"TreeCycle in entry 0\n".as_slice();
+    assert!(rt; writes(rt.alloc(), &file, false, want), "links in a circle");
 }

@@ -1,2 +1,4 @@
 pub mod Walks
 pub mod Places
+pub mod Steps
+pub mod Cycles

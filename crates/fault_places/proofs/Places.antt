@@ -1,20 +1,23 @@
 -- What is found at a place is what is wrong with the file.
-use Rattle.std.proofs.Common.{◌≡◌, ◌≢◌, ◌<◌, ◌≤◌, ◌*◌, ◌++◌, ◌∙◌, ℕ, Bool, true, Option, Some, None, IfSome, List, [], ◌∷◌, Result, Ok, Err, length, get_or, min, refl, sym, ap, subst, arith}
-use Rattle.std.proofs.lemmas.List.Elements.{All-head, All-tail}
+use Rattle.std.proofs.Common.{◌≡◌, ◌≢◌, ◌<◌, ◌≤◌, ◌*◌, ◌++◌, ◌∙◌, ℕ, Bool, true, Option, Some, None, IfSome, List, Result, Ok, length, get_or, min, refl, sym, ap, subst, arith}
 use Rattle.std.specs.List.{All, Contains}
 use Rattle.cfb_header.specs.Bytes.{joined, sector, u32_at}
-use Rattle.cfb_header.specs.Header.{HeaderValue, IsHeader, difat, difat_by, fat_by, first_directory, first_mini_fat, header_of, header_read, listed, mini_fat_count}
+use Rattle.cfb_header.specs.Header.{HeaderValue, IsHeader, difat, difat_by, fat_by, first_directory, header_of, header_read, listed}
 use Rattle.cfb_header.specs.declared.fault.ChainFault.{ChainFault}
 use Rattle.cfb_header.specs.declared.fault.ChainFault.TheVariants as chain
 use Rattle.cfb_header.proofs.Headers.{read_whole}
-use Rattle.cfb_chain.specs.Chain.{END_OF_CHAIN, IsChain, Leads, Store}
-use Rattle.cfb_chain.specs.Fat.{IsFat, MayRefuseFat, sectors_in, sectors_of}
-use Rattle.file_faults.specs.Faults.{IsChainAtFault, IsDirectory, IsFatAtFault, IsFileAtFault}
+use Rattle.cfb_chain.specs.Chain.{IsChain, Store}
+use Rattle.cfb_chain.specs.Fat.{AreSame, FatValue, IsFat, IsTableOf, MayRefuseFat, sectors_in, sectors_of, store_of}
+use Rattle.cfb_chain.proofs.Chains.{joined_same}
+use Rattle.file_faults.specs.Faults.{IsChainAtFault, IsDirectory, IsFatAtFault}
 use Rattle.file_faults.specs.Faults as faults
-use Rattle.fault_places.specs.Places.{IsFaultAt, IsLed, IsLinkAtFault, IsWalk, ToldIsAtFault}
+use Rattle.fault_places.specs.Places.{IsExamined, IsFaultAt, IsLinkAtFault, ToldIsAtFault}
+use Rattle.fault_places.specs.Tables.{AreTablesOf, IsTabled}
 use Rattle.fault_places.specs.declared.place.Link.{Link}
 use Rattle.fault_places.specs.declared.place.FaultPlace.{FaultPlace}
 use Rattle.fault_places.specs.declared.place.FaultPlace.TheVariants as place
+use Rattle.fault_places.specs.declared.walking.Chain.{Chain}
+use Rattle.fault_places.specs.declared.walking.Examined.TheVariants as examined
 
 header_is : (a b : HeaderValue) → ◌≡◌ {A = Result HeaderValue ChainFault} (Ok a) (Ok b) → a ≡ b
 header_is a b h = cc
@@ -31,12 +34,9 @@ width_by : (file fat : List ℕ) → (sectors_of file fat).width ≡ 512
 unfolding sectors_of
 width_by file fat = refl
 
-leads_by : (f g : ℕ → ℕ) (count start : ℕ) (ns : List ℕ) (last : ℕ) → ((n : ℕ) → n < count → f n ≡ g n) → All (λ n. n < count) ns → Leads f start ns last → Leads g start ns last
-leads_by f g count start [] last same below h = h
-leads_by f g count start (n ∷ ns) last same below h = (
-  h.0,
-  leads_by f g count (g n) ns last same (All-tail (λ n. n < count) n ns below) (subst (λ x. Leads f x ns last) (same n (All-head (λ n. n < count) n ns below)) h.1),
-)
+pieces_by : (file fat ns : List ℕ) → joined (sectors_of file fat).piece ns ≡ joined (sector file) ns
+unfolding sectors_of
+pieces_by file fat ns = refl
 
 -- ---- the law
 link_at_fault : (s : Store) (taken : ℕ → Type 0) (start size : ℕ) (fault : ChainFault) (link : Link) → IsLinkAtFault s taken start size fault link → IsChainAtFault s taken start size fault
@@ -55,6 +55,7 @@ told_is_at_fault file fault place.Header h = faults.in_header h
 told_is_at_fault file fault place.Fat h = faults.in_fat h
 told_is_at_fault file fault (place.Directory link) h = faults.in_directory (link_at_fault _ _ _ _ fault link h)
 told_is_at_fault file fault (place.MiniFat link) h = faults.in_mini_fat h.0 h.1 (link_at_fault _ _ _ _ fault link h.2)
+told_is_at_fault file fault (place.MiniStream link) h = faults.in_mini_stream h.0 h.1 h.2 h.3 h.4 (link_at_fault _ _ _ _ fault link h.5)
 
 -- ---- the header
 pub header_same : (file : List ℕ) (h : HeaderValue) → header_read file ≡ Ok h → IsHeader file → h ≡ header_of file
@@ -81,75 +82,46 @@ fat_fault file chain.TooBig other r = absurd r
 pub fat_at_fault : (file : List ℕ) (h : HeaderValue) (a b : ChainFault) → h ≡ header_of file → (a ≡ b) × (a ≢ chain.NoMemory) → MayRefuseFat file h a → IsFatAtFault file b
 fat_at_fault file h a b same e r = subst (IsFatAtFault file) e.0 (fat_fault file a e.1 (subst (λ (x : HeaderValue). MayRefuseFat file x a) same r))
 
--- ---- chains of a file with this header, whose FAT has these entries
-abbrev Tested : List ℕ → List ℕ → List ℕ → ℕ → ChainFault → Link → Type 0
-Tested table taken ns size fault link = (s : Store) → s.count ≡ length table → s.width ≡ 512 → (start : ℕ) → IsLed s start ns link → IsLinkAtFault s (Contains taken) start size fault link
+-- the tables that were read are those of the file
+pub tables_are : (file : List ℕ) (h : HeaderValue) (f : FatValue) (fat dif lists table : List ℕ) → h ≡ header_of file → IsTableOf file h f → fat ≡ fat_by file h → length fat ≤ 1125
+    → dif ≡ difat_by file h → length table ≡ min (128 * length fat) (sectors_in file)
+    → ((k : ℕ) → k < length table → get_or table k 0 ≡ u32_at (joined (sector file) fat) (4 * k)) → lists ≡ fat ++ dif → AreTablesOf file f lists table
+tables_are file h f fat dif lists table same t fat_is few dif_is count each are =
+    let fat_same : fat ≡ listed file = fat_is ∙ ap (λ (x : HeaderValue). fat_by file x) same in
+    let dif_same : dif ≡ difat file = dif_is ∙ ap (λ (x : HeaderValue). difat_by file x) same in
+    record {
+      is_fat = subst (λ (x : HeaderValue). IsFat file x) same t.is_fat;
+      same = subst (λ (x : HeaderValue). AreSame (store_of f) (sectors_of file (fat_by file x))) same t.sectors;
+      lists_are = are ∙ (λ i. fat_same i ++ dif_same i);
+      tabled = record {
+        count = counted_by file (listed file) ∙ ap (λ (ns : List ℕ). min (128 * length ns) (sectors_in file)) (sym fat_same) ∙ sym count;
+        next = λ n lt. each n lt ∙ ap (λ (ns : List ℕ). u32_at (joined (sector file) ns) (4 * n)) fat_same ∙ sym (next_by file (listed file) n);
+      };
+      few = omega (arith, count, few);
+    }
 
-module _ (file : List ℕ) (h : HeaderValue) (same : h ≡ header_of file) (whole : IsFat file h) (fat dif table : List ℕ) (fat_is : fat ≡ fat_by file h) (few : length fat ≤ 1125)
-    (dif_is : dif ≡ difat_by file h) (count : length table ≡ min (128 * length fat) (sectors_in file))
-    (each : (k : ℕ) → k < length table → get_or table k 0 ≡ u32_at (joined (sector file) fat) (4 * k)) where
-  fat_same : fat ≡ listed file
-  fat_same = fat_is ∙ ap (λ (x : HeaderValue). fat_by file x) same
+-- ---- chains of a file with these tables
+module _ (file : List ℕ) (f : FatValue) (lists table : List ℕ) (t : AreTablesOf file f lists table) where
+  pub at_link : (seen taken : List ℕ) (c : Chain) (first size : ℕ) (fault : ChainFault) (link : Link) → IsExamined table seen c fault (examined.AtFault link) → seen ≡ taken
+      → c.first ≡ first → c.size ≡ size → c.width ≡ 512 → IsLinkAtFault (sectors_of file (listed file)) (Contains taken) first size fault link
+  at_link seen taken c first size fault link e s a b w =
+      let at : IsLinkAtFault (sectors_of file (listed file)) (Contains seen) c.first c.size fault link = e (sectors_of file (listed file)) t.tabled (width_by file (listed file) ∙ sym w) in
+      subst (λ (xs : List ℕ). IsLinkAtFault (sectors_of file (listed file)) (Contains xs) first size fault link) s
+      (subst (λ (x : ℕ). IsLinkAtFault (sectors_of file (listed file)) (Contains seen) x size fault link) a
+      (subst (λ (x : ℕ). IsLinkAtFault (sectors_of file (listed file)) (Contains seen) c.first x fault link) b at))
 
-  dif_same : dif ≡ difat file
-  dif_same = dif_is ∙ ap (λ (x : HeaderValue). difat_by file x) same
+  pub whole_at : (c : Chain) (first size : ℕ) (ns : List ℕ) → ((s : Store) → IsTabled table s → s.width ≡ c.width → IsChain s c.first c.size ns)
+      → c.first ≡ first → c.size ≡ size → c.width ≡ 512 → IsChain (sectors_of file (listed file)) first size ns
+  whole_at c first size ns e a b w =
+      subst (λ (x : ℕ). IsChain (sectors_of file (listed file)) x size ns) a
+      (subst (λ (x : ℕ). IsChain (sectors_of file (listed file)) c.first x ns) b (e (sectors_of file (listed file)) t.tabled (width_by file (listed file) ∙ sym w)))
 
-  count_same : (sectors_of file (listed file)).count ≡ length table
-  count_same = counted_by file (listed file) ∙ ap (λ (ns : List ℕ). min (128 * length ns) (sectors_in file)) (sym fat_same) ∙ sym count
+  pub sectors_below : (start : ℕ) (ns : List ℕ) → IsChain (sectors_of file (listed file)) start 0 ns → All (λ n. n < length f.table) ns
+  sectors_below start ns h = λ k d lt. subst (λ (x : ℕ). get_or ns k d < x) (sym t.same.count) ((h.present k d lt).1)
 
-  next_same : (n : ℕ) → n < length table → get_or table n 0 ≡ (sectors_of file (listed file)).next n
-  next_same n lt = each n lt ∙ ap (λ (ns : List ℕ). u32_at (joined (sector file) ns) (4 * n)) fat_same ∙ sym (next_by file (listed file) n)
+  pub bytes_joined : (bytes ns : List ℕ) (start : ℕ) → IsChain (sectors_of file (listed file)) start 0 ns → bytes ≡ joined (store_of f).piece ns → bytes ≡ joined (sector file) ns
+  bytes_joined bytes ns start h e =
+      e ∙ joined_same (store_of f) (sectors_of file (listed file)) t.same ns (sectors_below start ns h) ∙ pieces_by file (listed file) ns
 
-  led : (start : ℕ) (ns : List ℕ) (link : Link) → IsWalk table start ns link → IsLed (sectors_of file (listed file)) start ns link
-  led start ns link w = record {
-    walks = record {
-      linked = leads_by (λ n. get_or table n 0) (sectors_of file (listed file)).next (length table) start ns link.to next_same w.present w.linked;
-      present = subst (λ (c : ℕ). All (λ n. n < c) ns) (sym count_same) w.present;
-    };
-    from = w.from;
-  }
-
-  pub in_directory : (taken : List ℕ) (start : ℕ) (ns : List ℕ) (link : Link) (fault : ChainFault) → taken ≡ fat ++ dif → start ≡ h.first_directory → IsWalk table start ns link
-      → Tested table taken ns 0 fault link → IsFaultAt file fault (place.Directory link)
-  in_directory taken start ns link fault t f w tested =
-      let t' : taken ≡ listed file ++ difat file = t ∙ (λ i. fat_same i ++ dif_same i) in
-      let f' : start ≡ first_directory file = f ∙ ap (λ (x : HeaderValue). x.first_directory) same in
-      let at : IsLinkAtFault (sectors_of file (listed file)) (Contains taken) start 0 fault link =
-      tested (sectors_of file (listed file)) count_same (width_by file (listed file)) start (led start ns link w) in
-      subst (λ (xs : List ℕ). IsLinkAtFault (sectors_of file (listed file)) (Contains xs) (first_directory file) 0 fault link) t'
-      (subst (λ (x : ℕ). IsLinkAtFault (sectors_of file (listed file)) (Contains taken) x 0 fault link) f' at)
-
-  is_directory : (start : ℕ) (ns : List ℕ) (link : Link) → start ≡ h.first_directory → IsWalk table start ns link → link.to ≡ END_OF_CHAIN
-      → IsChain (sectors_of file (listed file)) (first_directory file) 0 ns
-  is_directory start ns link f w end =
-      let f' : start ≡ first_directory file = f ∙ ap (λ (x : HeaderValue). x.first_directory) same in
-      let l : IsLed (sectors_of file (listed file)) start ns link = led start ns link w in
-      record {
-        linked = subst (λ (x : ℕ). Leads (sectors_of file (listed file)).next x ns END_OF_CHAIN) f'
-            (subst (λ (x : ℕ). Leads (sectors_of file (listed file)).next start ns x) end l.walks.linked);
-        present = λ k d lt. (omega (arith, w.present k d lt, count, few), l.walks.present k d lt);
-        enough = omega arith;
-      }
-
-  pub in_mini_fat : (taken : List ℕ) (start : ℕ) (ns : List ℕ) (link : Link) (dir_start : ℕ) (dir : List ℕ) (dir_link : Link) (size : ℕ) (fault : ChainFault)
-      → dir_start ≡ h.first_directory → IsWalk table dir_start dir dir_link → dir_link.to ≡ END_OF_CHAIN
-      → taken ≡ fat ++ dif ++ dir → start ≡ h.first_mini_fat → size ≡ 512 * h.mini_fat_count → IsWalk table start ns link
-      → Tested table taken ns size fault link → IsFaultAt file fault (place.MiniFat link)
-  in_mini_fat taken start ns link dir_start dir dir_link size fault df dw dend t f z w tested =
-      let d : IsDirectory file (joined (sector file) dir) = record {
-        is_fat = subst (λ (x : HeaderValue). IsFat file x) same whole;
-        sectors = dir;
-        is_chain = is_directory dir_start dir dir_link df dw dend;
-        bytes_are = refl;
-      } in
-      let t' : taken ≡ listed file ++ difat file ++ dir = t ∙ (λ i. fat_same i ++ dif_same i ++ dir) in
-      let f' : start ≡ first_mini_fat file = f ∙ ap (λ (x : HeaderValue). x.first_mini_fat) same in
-      let z' : size ≡ 512 * mini_fat_count file = z ∙ ap (λ (x : HeaderValue). 512 * x.mini_fat_count) same in
-      let at : IsLinkAtFault (sectors_of file (listed file)) (Contains taken) start size fault link =
-      tested (sectors_of file (listed file)) count_same (width_by file (listed file)) start (led start ns link w) in (
-        joined (sector file) dir,
-        d,
-        subst (λ (xs : List ℕ). IsLinkAtFault (sectors_of file (listed file)) (Contains xs) (first_mini_fat file) (512 * mini_fat_count file) fault link) t'
-            (subst (λ (x : ℕ). IsLinkAtFault (sectors_of file (listed file)) (Contains taken) x (512 * mini_fat_count file) fault link) f'
-            (subst (λ (x : ℕ). IsLinkAtFault (sectors_of file (listed file)) (Contains taken) start x fault link) z' at)),
-      )
+  abbrev pub directory_at : (dir ns : List ℕ) → IsChain (sectors_of file (listed file)) (first_directory file) 0 ns → dir ≡ joined (sector file) ns → IsDirectory file dir
+  directory_at dir ns h e = record { is_fat = t.is_fat; sectors = ns; is_chain = h; bytes_are = e }

@@ -1,1 +1,3 @@
 pub mod Places
+pub mod Tables
+pub mod Ways

@@ -1,12 +1,17 @@
 -- Where a file is at fault: what is wrong with it, with the place told.
 use Rattle.std.specs.Prelude.{◌≡◌, ◌≢◌, ◌<◌, ◌≤◌, ◌*◌, ◌++◌, ℕ, List, [], ◌∷◌, length, slice_index, Option, Some, None, Err}
 use Rattle.std.specs.List.{All, Contains}
-use Rattle.cfb_chain.specs.Chain.{END_OF_CHAIN, Leads, Store}
+use Rattle.cfb_chain.specs.Chain.{END_OF_CHAIN, IsChain, IsChainOf, Leads, Store}
 use Rattle.cfb_chain.specs.Fat.{sectors_of}
 use Rattle.cfb_header.specs.Header.{difat, first_directory, first_mini_fat, header_read, listed, mini_fat_count}
 use Rattle.cfb_header.specs.declared.fault.ChainFault.{ChainFault}
 use Rattle.cfb_header.specs.declared.fault.ChainFault.TheVariants as chain
+use Rattle.cfb_directory.specs.Entries.{entry_at, first_of, size_of}
 use Rattle.file_faults.specs.Faults.{IsDirectory, IsFatAtFault, IsFileAtFault, Walks}
+use Rattle.fault_places.specs.Tables.{IsTabled}
+use Rattle.fault_places.specs.declared.walking.Chain.{Chain}
+use Rattle.fault_places.specs.declared.walking.Examined.{Examined}
+use Rattle.fault_places.specs.declared.walking.Examined.TheVariants as examined
 use Rattle.fault_places.specs.declared.place.Link.{Link}
 use Rattle.fault_places.specs.declared.place.FaultPlace.{FaultPlace}
 use Rattle.fault_places.specs.declared.place.FaultPlace.TheVariants as place
@@ -36,8 +41,16 @@ IsLinkAtFault s taken start size chain.CrossLinked link = (ns : List ℕ) × IsL
 IsLinkAtFault s taken start size chain.ShortChain link = (ns : List ℕ) × IsLed s start ns link × (link.to ≡ END_OF_CHAIN) × (s.width * length ns < size)
 IsLinkAtFault s taken start size _ link = ⊥
 
+-- What a chain is found to be: of each store that the table tells of, and where some sectors are taken, it has the fault at
+-- a link, or these are its sectors.
+abbrev pub IsExamined : List ℕ → List ℕ → Chain → ChainFault → Examined → Type 0
+IsExamined table taken chain fault (examined.AtFault link) = (s : Store) → IsTabled table s → s.width ≡ chain.width
+    → IsLinkAtFault s (Contains taken) chain.first chain.size fault link
+IsExamined table taken chain fault (examined.Whole ns) = (s : Store) → IsTabled table s → s.width ≡ chain.width → IsChain s chain.first chain.size ns.items
+IsExamined table taken chain fault examined.Other = Unit {0}
+
 -- What is wrong with a file, with the place at which it is: as of a file that is at fault, of the header, the FAT, the
--- directory's chain and the mini FAT's.
+-- directory's chain, the mini FAT's and the mini stream's.
 abbrev pub IsFaultAt : List ℕ → ChainFault → FaultPlace → Type 0
 IsFaultAt file fault place.Header = header_read file ≡ Err fault
 IsFaultAt file fault place.Fat = IsFatAtFault file fault
@@ -45,6 +58,9 @@ IsFaultAt file fault (place.Directory link) =
     IsLinkAtFault (sectors_of file (listed file)) (Contains (listed file ++ difat file)) (first_directory file) 0 fault link
 IsFaultAt file fault (place.MiniFat link) = (dir : List ℕ) × (d : IsDirectory file dir)
     × IsLinkAtFault (sectors_of file (listed file)) (Contains (listed file ++ difat file ++ d.sectors)) (first_mini_fat file) (512 * mini_fat_count file) fault link
+IsFaultAt file fault (place.MiniStream link) = (dir : List ℕ) × (d : IsDirectory file dir) × (mini_fat : List ℕ)
+    × IsChainOf (sectors_of file (listed file)) (first_mini_fat file) (512 * mini_fat_count file) mini_fat × (0 < size_of (entry_at dir 0))
+    × IsLinkAtFault (sectors_of file (listed file)) (Contains (listed file ++ difat file ++ d.sectors ++ mini_fat)) (first_of (entry_at dir 0)) (size_of (entry_at dir 0)) fault link
 
 -- ---- the law
 -- where a place is told, the file is at fault

@@ -1,20 +1,26 @@
 //! Finding the place at which a file is at fault.
 
-ghost use Rattle.cfb_chain.specs.Fat.{IsFat, MayRefuseFat};
-ghost use Rattle.cfb_header.specs.Header.{header_of};
+ghost use Rattle.cfb_chain.specs.Chain.{IsChain, IsChainOf};
+ghost use Rattle.cfb_chain.specs.Fat.{sectors_of};
+ghost use Rattle.cfb_directory.specs.Entries.{entry_at, first_of, size_of};
+ghost use Rattle.cfb_header.specs.Header.{first_directory, first_mini_fat, header_of, listed, mini_fat_count};
 ghost use Rattle.cfb_header.specs.declared.fault.ChainFault.TheVariants.{NoMemory};
 ghost use Rattle.fault_places.specs.Places.{IsFaultAt};
-ghost use Rattle.std.specs.Prelude.{◌≡◌, ◌≢◌, IfErr, IfOk, IfSome, OnOk, true};
+ghost use Rattle.fault_places.specs.Tables.{AreTablesOf};
+ghost use Rattle.std.specs.Prelude.{◌*◌, ◌++◌, ◌≡◌, ◌≢◌, IfOk, IfSome, true};
 
 use crate::place::FaultPlace;
-use crate::walking::{Walked, is_at_fault, walk};
-use cfb_chain::difat::fat_sectors;
+use crate::tables::{Tables, tables_of};
+use crate::walking::{Chain, Examined, examine};
 use cfb_chain::fat::Fat;
 use cfb_chain::image::Image;
-use cfb_chain::table::entries;
+use cfb_directory::entries::Entries;
 use cfb_header::fault::ChainFault;
-use cfb_header::header::{END_OF_CHAIN, Header};
+use cfb_header::header::Header;
 use std::alloc::{AllocError, Global};
+
+/// The bytes of a sector.
+const SECTOR: u32 = 512;
 
 /// Whether two faults are the same one, other than want of memory.
 fn is_same(a: ChainFault, b: ChainFault) -> bool
@@ -36,18 +42,8 @@ fn place_if(found: bool, place: FaultPlace) -> Option<FaultPlace>
     None
 }
 
-/// Refuses a file whose FAT and DIFAT are not as the header lists them.
-fn check_fat(alloc: Global, header: &Header, file: &[u8]) -> Result<(), ChainFault>
-    ensures whole { OnOk result (IsFat file.now header.now) }
-    ensures refused { IfErr result (MayRefuseFat file.now header.now) }
-{
-    let fat = Fat::load(alloc, header, Image::Whole(file))?;
-    drop(fat);
-    Ok(())
-}
-
-/// The place at which a file has a fault of its header, its FAT, its directory's chain or its mini FAT's chain. None where
-/// the fault isn't found there.
+/// The place at which a file has a fault of its header, its FAT, or the chain of its directory, its mini FAT or its mini
+/// stream. None where the fault isn't found there.
 pub fn find_place(
     alloc: Global,
     file: &[u8],
@@ -71,43 +67,127 @@ fn find_in_fat(
     requires same { header.now ≡ header_of file.now }
     ensures { IfOk result (λ p. IfSome p (IsFaultAt file.now fault)) }
 {
-    match check_fat(alloc, header, file) {
-        Ok(()) => find_in_chains(alloc, header, file, fault),
+    match Fat::load(alloc, header, Image::Whole(file)) {
+        Ok(fat) => {
+            let tables = tables_of(alloc, header, file, fat)?;
+            find_in_directory(alloc, header, file, &tables, fault)
+        }
         Err(other) => Ok(place_if(is_same(other, fault), FaultPlace::Fat)),
     }
 }
 
-/// The same in a file with this header, whose FAT is as it lists it.
-fn find_in_chains(
+/// The same in a file with this header and these tables.
+fn find_in_directory(
     alloc: Global,
     header: &Header,
     file: &[u8],
+    tables: &Tables<'_>,
     fault: ChainFault,
 ) -> Result<Option<FaultPlace>, AllocError>
     requires same { header.now ≡ header_of file.now }
-    requires whole { IsFat file.now header.now }
+    requires tables { AreTablesOf file.now tables.now.fat tables.now.lists.items tables.now.entries.items }
     ensures { IfOk result (λ p. IfSome p (IsFaultAt file.now fault)) }
 {
-    let image = Image::Whole(file);
-    let own = fat_sectors(alloc, header, &image)?;
-    let table = entries(alloc, &image, &own.fat)?;
-    let mut taken = Vec::from_slice(alloc, &own.fat)?;
-    taken.extend_from_slice(&own.difat)?;
-    let directory = walk(alloc, &table, &taken, header.first_directory())?;
-    if is_at_fault(&table, &taken, &directory, 0, fault) {
-        return Ok(Some(FaultPlace::Directory(directory.link)));
+    let chain = Chain {
+        first: header.first_directory(),
+        width: SECTOR,
+        size: 0,
+    };
+    let found = examine(alloc, &tables.entries, &tables.lists, chain, fault)?;
+    match found {
+        Examined::AtFault(link) => Ok(Some(FaultPlace::Directory(link))),
+        Examined::Whole(sectors) => find_in_mini_fat(alloc, header, file, tables, &sectors, fault),
+        Examined::Other => Ok(None),
     }
-    if directory.link.to != END_OF_CHAIN {
+}
+
+/// Some sectors, and then others.
+fn both(alloc: Global, some: &[u32], others: &[u32]) -> Result<Vec<u32>, AllocError>
+    ensures { IfOk result (λ v. v.items ≡ some.now ++ others.now) }
+{
+    let mut all = Vec::from_slice(alloc, some)?;
+    all.extend_from_slice(others)?;
+    Ok(all)
+}
+
+/// The same where the directory lies in these sectors.
+fn find_in_mini_fat(
+    alloc: Global,
+    header: &Header,
+    file: &[u8],
+    tables: &Tables<'_>,
+    directory: &[u32],
+    fault: ChainFault,
+) -> Result<Option<FaultPlace>, AllocError>
+    requires same { header.now ≡ header_of file.now }
+    requires tables { AreTablesOf file.now tables.now.fat tables.now.lists.items tables.now.entries.items }
+    requires directory { IsChain (sectors_of file.now (listed file.now)) (first_directory file.now) 0 directory.now }
+    ensures { IfOk result (λ p. IfSome p (IsFaultAt file.now fault)) }
+{
+    let count = header.mini_fat_count();
+    if count == 0 {
+        return find_in_mini_stream(alloc, file, tables, directory, &[], fault);
+    }
+    let taken = both(alloc, &tables.lists, directory)?;
+    let chain = Chain {
+        first: header.first_mini_fat(),
+        width: SECTOR,
+        size: 512 * count as u64,
+    };
+    let found = examine(alloc, &tables.entries, &taken, chain, fault)?;
+    match found {
+        Examined::AtFault(link) => Ok(Some(FaultPlace::MiniFat(link))),
+        Examined::Whole(mini_fat) => {
+            find_in_mini_stream(alloc, file, tables, directory, &mini_fat, fault)
+        }
+        Examined::Other => Ok(None),
+    }
+}
+
+/// The chain of the mini stream, as the root of a directory of these bytes names it. None where there is no root.
+fn mini_stream_of(alloc: Global, directory: &[u8]) -> Option<Chain>
+    ensures { IfSome result (λ c. (c.first ≡ first_of (entry_at directory.now 0)) × (c.size ≡ size_of (entry_at directory.now 0)) × (c.width ≡ 512)) }
+{
+    let Ok(entries) = Entries::load(alloc, directory) else {
+        return None;
+    };
+    let Ok(root) = entries.entry(0) else {
+        return None;
+    };
+    Some(Chain {
+        first: root.first,
+        width: SECTOR,
+        size: root.size as u64,
+    })
+}
+
+/// The same where the mini FAT lies in these sectors.
+fn find_in_mini_stream(
+    alloc: Global,
+    file: &[u8],
+    tables: &Tables<'_>,
+    directory: &[u32],
+    mini_fat: &[u32],
+    fault: ChainFault,
+) -> Result<Option<FaultPlace>, AllocError>
+    requires tables { AreTablesOf file.now tables.now.fat tables.now.lists.items tables.now.entries.items }
+    requires directory { IsChain (sectors_of file.now (listed file.now)) (first_directory file.now) 0 directory.now }
+    requires mini_fat { IsChainOf (sectors_of file.now (listed file.now)) (first_mini_fat file.now) (512 * mini_fat_count file.now) mini_fat.now }
+    ensures { IfOk result (λ p. IfSome p (IsFaultAt file.now fault)) }
+{
+    let bytes = tables.fat.join(alloc, directory)?;
+    let Some(chain) = mini_stream_of(alloc, &bytes) else {
+        return Ok(None);
+    };
+    if chain.size == 0 {
         return Ok(None);
     }
-    taken.extend_from_slice(&directory.sectors)?;
-    let size = 512 * header.mini_fat_count() as u64;
-    if size == 0 {
-        return Ok(None);
+    let before = both(alloc, &tables.lists, directory)?;
+    let taken = both(alloc, &before, mini_fat)?;
+    let found = examine(alloc, &tables.entries, &taken, chain, fault)?;
+    match found {
+        Examined::AtFault(link) => Ok(Some(FaultPlace::MiniStream(link))),
+        Examined::Whole(_) => Ok(None),
+        Examined::Other => Ok(None),
     }
-    let mini_fat = walk(alloc, &table, &taken, header.first_mini_fat())?;
-    if is_at_fault(&table, &taken, &mini_fat, size, fault) {
-        return Ok(Some(FaultPlace::MiniFat(mini_fat.link)));
-    }
-    Ok(None)
 }

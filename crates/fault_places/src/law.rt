@@ -1,8 +1,14 @@
 //! Laws of places of faults.
 
 ghost use Rattle.fault_places.specs.Places.{ToldIsAtFault};
+ghost use Rattle.fault_places.specs.Ways.{EntryIsAtFault};
 
 /// Where a place is told, the file is at fault.
 pub fn told_is_at_fault()
     ensures { ToldIsAtFault }
+{}
+
+/// Where a place of the directory is told, the file is at fault.
+pub fn entry_is_at_fault()
+    ensures { EntryIsAtFault }
 {}

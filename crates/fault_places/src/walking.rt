@@ -1,7 +1,7 @@
 //! Walking a chain to where it stops, and what is wrong there.
 
 ghost use Rattle.cfb_chain.specs.Chain.{END_OF_CHAIN as END, Store};
-ghost use Rattle.fault_places.specs.Places.{IsLed, IsLinkAtFault, IsWalk};
+ghost use Rattle.fault_places.specs.Places.{IsExamined, IsLed, IsLinkAtFault, IsWalk};
 ghost use Rattle.std.specs.List.{Contains};
 ghost use Rattle.std.specs.Prelude.{◌*◌, ◌<◌, ◌≡◌, ◌≢◌, ◌≤◌, IfOk, length, true, ℕ};
 
@@ -10,13 +10,24 @@ use cfb_header::fault::ChainFault;
 use cfb_header::header::END_OF_CHAIN;
 use std::alloc::{AllocError, Global};
 
+/// A chain that is looked for: its first sector, how wide each is, and for how many bytes it needs room.
+#[derive(Clone, Copy)]
+pub(crate) struct Chain {
+    /// The first sector.
+    pub(crate) first: u32,
+    /// The bytes of each sector.
+    pub(crate) width: u32,
+    /// The bytes for which it needs room.
+    pub(crate) size: u64,
+}
+
 /// What was walked of a chain: its sectors, and the link at which it stops.
 #[derive(Drop)]
-pub(crate) struct Walked {
+struct Walked {
     /// The sectors, in order.
-    pub(crate) sectors: Vec<u32>,
+    sectors: Vec<u32>,
     /// The link behind them.
-    pub(crate) link: Link,
+    link: Link,
 }
 
 /// A mark for each of so many sectors: those that are taken have one.
@@ -44,12 +55,7 @@ fn is_new(marks: &[bool], n: u32) -> bool
 }
 
 /// Walks the chain from a sector on, up to what is no sector, a sector that was met before or one that is taken.
-pub(crate) fn walk(
-    alloc: Global,
-    table: &[u32],
-    taken: &[u32],
-    start: u32,
-) -> Result<Walked, AllocError>
+fn walk(alloc: Global, table: &[u32], taken: &[u32], start: u32) -> Result<Walked, AllocError>
     ensures walked { IfOk result (λ w. IsWalk table.now start w.sectors.items w.link) }
     ensures few { IfOk result (λ w. length w.sectors.items ≤ length table.now) }
 {
@@ -80,7 +86,7 @@ fn is_outside(count: usize, to: u32) -> bool
 }
 
 /// Whether a number stands in a list.
-fn stands_in(sectors: &[u32], n: u32) -> bool
+pub(crate) fn stands_in(sectors: &[u32], n: u32) -> bool
     ensures { result ≡ true → Contains sectors.now n }
 {
     sectors.contains(&n)
@@ -96,34 +102,87 @@ fn is_taken(count: usize, taken: &[u32], n: u32) -> bool
     stands_in(taken, n)
 }
 
-/// Whether a chain ends before there is room for so many bytes.
-fn is_short(len: usize, to: u32, size: u64) -> bool
+/// Whether so many sectors of a width that end at a number have no room for so many bytes.
+fn is_short(len: usize, to: u32, width: u32, size: u64) -> bool
     requires { len < 0x100000000 }
-    ensures { result ≡ true → (to ≡ END) × (512 * len < size) }
+    ensures { result ≡ true → (to ≡ END) × (width * len < size) }
 {
     if to != END_OF_CHAIN {
         return false;
     }
-    512 * (len as u64) < size
+    width as u64 * (len as u64) < size
 }
 
-/// Whether a walk, of a chain that needs room for so many bytes, stops at a link with this fault.
-pub(crate) fn is_at_fault(
+/// Whether so many sectors of a width end at a number, and have room for so many bytes.
+fn is_whole(len: usize, to: u32, width: u32, size: u64) -> bool
+    requires { len < 0x100000000 }
+    ensures { result ≡ true → (to ≡ END) × (size ≤ width * len) }
+{
+    if to != END_OF_CHAIN {
+        return false;
+    }
+    size <= width as u64 * (len as u64)
+}
+
+/// Whether a walk, of a chain of sectors of a width that needs room for so many bytes, stops at a link with this fault.
+fn is_at_fault(
     table: &[u32],
     taken: &[u32],
     walked: &Walked,
-    size: u64,
+    chain: Chain,
     fault: ChainFault,
 ) -> bool
     requires { length walked.now.sectors.items < 0x100000000 }
-    ensures { result ≡ true → (s : Store) → s.count ≡ length table.now → s.width ≡ 512 → (start : ℕ) → IsLed s start walked.now.sectors.items walked.now.link
-        → IsLinkAtFault s (Contains taken.now) start size fault walked.now.link }
+    ensures { result ≡ true → (s : Store) → s.count ≡ length table.now → s.width ≡ chain.width → (start : ℕ) → IsLed s start walked.now.sectors.items walked.now.link
+        → IsLinkAtFault s (Contains taken.now) start chain.size fault walked.now.link }
 {
     match fault {
         ChainFault::OutOfFile => is_outside(table.len(), walked.link.to),
         ChainFault::Cycle => stands_in(&walked.sectors, walked.link.to),
         ChainFault::CrossLinked => is_taken(table.len(), taken, walked.link.to),
-        ChainFault::ShortChain => is_short(walked.sectors.len(), walked.link.to, size),
+        ChainFault::ShortChain => is_short(
+            walked.sectors.len(),
+            walked.link.to,
+            chain.width,
+            chain.size,
+        ),
         _ => false,
     }
+}
+
+/// What a chain is found to be.
+#[derive(Drop)]
+pub(crate) enum Examined {
+    /// It has the fault that is looked for at this link.
+    AtFault(Link),
+    /// It is whole, and these are its sectors.
+    Whole(Vec<u32>),
+    /// Something else is wrong with it.
+    Other,
+}
+
+/// Looks for a fault in a chain, by the entries of its table, where some sectors are taken by other parts.
+pub(crate) fn examine(
+    alloc: Global,
+    table: &[u32],
+    taken: &[u32],
+    chain: Chain,
+    fault: ChainFault,
+) -> Result<Examined, AllocError>
+    requires { length table.now ≤ 0xFFFFFFF9 }
+    ensures { IfOk result (IsExamined table.now taken.now chain fault) }
+{
+    let walked = walk(alloc, table, taken, chain.first)?;
+    if is_at_fault(table, taken, &walked, chain, fault) {
+        return Ok(Examined::AtFault(walked.link));
+    }
+    if is_whole(
+        walked.sectors.len(),
+        walked.link.to,
+        chain.width,
+        chain.size,
+    ) {
+        return Ok(Examined::Whole(walked.sectors));
+    }
+    Ok(Examined::Other)
 }

@@ -2,4 +2,5 @@
 #![tactic(auto)]
 
 pub mod checking;
+mod seeking;
 mod telling;

@@ -1,0 +1,47 @@
+//! The FAT of a file and its entries.
+
+ghost use Rattle.cfb_chain.specs.Fat.{IsTableOf};
+ghost use Rattle.cfb_header.specs.Header.{header_of};
+ghost use Rattle.fault_places.specs.Tables.{AreTablesOf};
+ghost use Rattle.std.specs.Prelude.{◌≡◌, IfOk};
+
+use cfb_chain::difat::fat_sectors;
+use cfb_chain::fat::Fat;
+use cfb_chain::image::Image;
+use cfb_chain::table::entries;
+use cfb_header::header::Header;
+use std::alloc::{AllocError, Global};
+
+/// The FAT of a file.
+#[derive(Drop)]
+pub(crate) struct Tables<'a> {
+    /// The table over the file.
+    pub(crate) fat: Fat<'a>,
+    /// The sectors of the FAT, and then those of the DIFAT.
+    pub(crate) lists: Vec<u32>,
+    /// What stands in its entries.
+    pub(crate) entries: Vec<u32>,
+}
+
+/// The FAT of a file with this header, whose table is given.
+pub(crate) fn tables_of<'a>(
+    alloc: Global,
+    header: &Header,
+    file: &[u8],
+    fat: Fat<'a>,
+) -> Result<Tables<'a>, AllocError>
+    requires same { header.now ≡ header_of file.now }
+    requires table { IsTableOf file.now header.now fat }
+    ensures { IfOk result (λ t. AreTablesOf file.now t.fat t.lists.items t.entries.items) }
+{
+    let image = Image::Whole(file);
+    let own = fat_sectors(alloc, header, &image)?;
+    let entries = entries(alloc, &image, &own.fat)?;
+    let mut lists = own.fat;
+    lists.extend_from_slice(&own.difat)?;
+    Ok(Tables {
+        fat,
+        lists,
+        entries,
+    })
+}
