@@ -1,2 +1,3 @@
 pub mod LookupPlaces
+pub mod Numbers
 pub mod ServersCounted

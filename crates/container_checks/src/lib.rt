@@ -5,5 +5,6 @@
 pub mod checks;
 pub mod contents;
 pub mod lookups;
+pub mod objects;
 pub mod servers;
 pub mod verbs;

@@ -6,6 +6,7 @@ ghost use Rattle.wire_msgs.specs.Found.{find, nth, IsPlace};
 ghost use Rattle.container_model.specs.Record.{is_linked, is_object};
 ghost use Rattle.container_model.specs.Numbered.{IsNth, IsObjectAt};
 
+use crate::objects::Objects;
 use container_model::record::{Frame, Object};
 use std::alloc::{AllocError, Global};
 
@@ -24,17 +25,12 @@ pub fn place<T>(items: &[T], number: u32) -> Option<usize>
     }
 }
 
-/// Where the object of this number stands.
-pub fn place_object(objects: &[Object], number: u32) -> Option<usize>
-    ensures found { MatchOption result (find (is_object number) objects.now ≡ None) (IsPlace (is_object number) objects.now) }
-    ensures own { IfSome result (IsObjectAt objects.now) }
+/// Where the object of this number stands. It takes no walk.
+pub fn place_object(objects: &Objects, number: u32) -> Option<usize>
+    ensures found { MatchOption result (find (is_object number) objects.now.list.items ≡ None) (IsPlace (is_object number) objects.now.list.items) }
+    ensures own { IfSome result (IsObjectAt objects.now.list.items) }
 {
-    for (i, object) in objects.iter().enumerate() {
-        if object.number == number {
-            return Some(i);
-        }
-    }
-    None
+    objects.numbers.get_index_of(&number)
 }
 
 /// Where the object of this activation stands.

@@ -11,6 +11,7 @@ ghost use Rattle.object_state.specs.Verbs.{verb_of};
 
 use crate::checks::{has_numbers, is_moving, link_has_numbers};
 use crate::lookups::place_object;
+use crate::objects::Objects;
 use container_model::fault::ContainerFault;
 use container_model::record::{Frame, Object};
 use grant_core::GrantState;
@@ -96,15 +97,15 @@ pub fn holder_of(state: &GrantState) -> Option<u32>
 }
 
 /// Whether the object that has the frame, if any, has numbers left for operations.
-pub fn holder_has_numbers(numbers: u32, objects: &[Object], holder: Option<u32>) -> bool
-    requires { All (λ o. IfLinked (λ l. l.last + length l.waiting ≤ 1000000) o.link) objects.now }
-    ensures { (r : Record) → r.numbers ≡ numbers → r.objects ≡ objects.now → result ≡ holder_has_numbers r holder }
+pub fn holder_has_numbers(numbers: u32, objects: &Objects, holder: Option<u32>) -> bool
+    requires { All (λ o. IfLinked (λ l. l.last + length l.waiting ≤ 1000000) o.link) objects.now.list.items }
+    ensures { (r : Record) → r.numbers ≡ numbers → r.objects ≡ objects.now.list.items → result ≡ holder_has_numbers r holder }
 {
     let Some(holder) = holder else {
         return true;
     };
     match place_object(objects, holder) {
-        Some(i) => link_has_numbers(numbers, &objects[i].link),
+        Some(i) => link_has_numbers(numbers, &objects.list[i].link),
         None => true,
     }
 }

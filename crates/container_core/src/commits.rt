@@ -92,11 +92,11 @@ fn count_commit(
     ensures kept { OnErr result (state.new ≡ state.old) }
 {
     let operation = completion(&state.frames[place]);
-    let Ok(asking) = prepare(alloc, f, &operation, state.objects.as_slice()) else {
+    let Ok(asking) = prepare(alloc, f, &operation, state.objects.list.as_slice()) else {
         return Err(ContainerFault::NoMemory);
     };
     commit_frame(&mut state.frames[place]);
-    complete_objects(f, &mut state.objects, asking.takes);
+    complete_objects(f, &mut state.objects.list, asking.takes);
     Ok(Answer::acts(alloc, Items::from_vec(asking.actions)))
 }
 
@@ -117,11 +117,11 @@ fn drop_save(
     ensures kept { OnErr result (state.new ≡ state.old) }
 {
     let operation = dropping(&state.frames[place]);
-    let Ok(asking) = prepare(alloc, f, &operation, state.objects.as_slice()) else {
+    let Ok(asking) = prepare(alloc, f, &operation, state.objects.list.as_slice()) else {
         return Err(ContainerFault::NoMemory);
     };
     drop_frame(&mut state.frames[place]);
-    drop_objects(f, &mut state.objects, asking.takes);
+    drop_objects(f, &mut state.objects.list, asking.takes);
     Ok(Answer::acts(alloc, Items::from_vec(asking.actions)))
 }
 

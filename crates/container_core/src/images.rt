@@ -32,7 +32,7 @@ pub(crate) fn check_image(state: &State, f: u32) -> Result<(), ContainerFault>
     if !has_image(state.frames[place].phase) {
         return Err(ContainerFault::WrongState);
     }
-    if !fits(f, state.objects.as_slice()) {
+    if !fits(f, state.objects.list.as_slice()) {
         return Err(ContainerFault::Full);
     }
     Ok(())
@@ -44,7 +44,7 @@ pub(crate) fn document(alloc: Global, state: &State, f: u32) -> Result<Items<Par
     ensures refused { IfErr result (Refuses (image state.now f)) }
 {
     check_image(state, f)?;
-    match parts_in(alloc, f, state.objects.as_slice()) {
+    match parts_in(alloc, f, state.objects.list.as_slice()) {
         Ok(parts) => Ok(Items::from_vec(parts)),
         Err(_) => Err(ContainerFault::NoMemory),
     }

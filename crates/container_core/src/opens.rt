@@ -6,6 +6,7 @@ ghost use Rattle.container_model.specs.Opens.{Given, IsReadAs, opened, opened_do
 ghost use Rattle.container_model.specs.Record.{MOST_OBJECTS, Refuses, counts_none, quiet_answer};
 ghost use Rattle.container_model.specs.Room.{IsSound};
 ghost use Rattle.container_model.specs.Saves.{is_document};
+ghost use Rattle.container_steady.specs.Steady.{Steady};
 
 use container_checks::checks;
 use container_checks::lookups::object_numbers;
@@ -86,6 +87,7 @@ fn make_opened(
     h: u16,
     objects: Vec<DocObject>,
 ) -> Result<Answer, AllocError>
+    requires steady { Steady state.old }
     requires few_frames { length state.old.frames < 8 }
     requires numbers { state.old.last_object + length objects.items ≤ 1000000 }
     ensures made { IfOk result (λ a. opened_made state.old name w h objects.items ≡ counts_none state.new a) }
@@ -94,10 +96,10 @@ fn make_opened(
 {
     let frame = state.frames.len() as u32 + 1;
     let count = objects.len() as u32;
-    let mut more = opened_objects(alloc, state.last_object, frame, objects)?;
+    let more = opened_objects(alloc, state.last_object, frame, objects)?;
     let answer = made(alloc, frame, more.as_slice())?;
     state.frames.reserve(1)?;
-    state.objects.append(&mut more)?;
+    state.objects.append(more)?;
     add(&mut state.frames, opened_frame(name, w, h));
     state.last_object += count;
     Ok(answer)
@@ -112,6 +114,7 @@ fn open_document(
     h: u16,
     document: Doc,
 ) -> Result<Answer, ContainerFault>
+    requires steady { Steady state.old }
     requires sound { IsSound state.old }
     requires within { is_document document ≡ true }
     ensures taken { IfOk result (λ a. opened_document state.old name w h document ≡ Ok (counts_none state.new a)) }
@@ -139,6 +142,7 @@ fn open_named(
     h: u16,
     file: Option<&[u8]>,
 ) -> Result<Answer, ContainerFault>
+    requires steady { Steady state.old }
     requires sound { IsSound state.old }
     requires named { looked_at state.old name w h ≡ Ok tt }
     ensures taken { IfOk result (λ a. (given : Given) × IsReadAs (option_copied file.entry) given × (opened state.old name w h given ≡ Ok (counts_none state.new a))) }
@@ -167,6 +171,7 @@ pub(crate) fn open_file(
     h: u16,
     file: Option<&[u8]>,
 ) -> Result<Answer, ContainerFault>
+    requires steady { Steady state.old }
     requires sound { IsSound state.old }
     ensures taken { IfOk result (λ a. (given : Given) × IsReadAs (option_copied file.entry) given × (opened state.old name w h given ≡ Ok (counts_none state.new a))) }
     ensures few { IfOk result (λ a. length a.actions ≤ 1) }

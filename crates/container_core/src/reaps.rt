@@ -1,21 +1,40 @@
 //! What a container does at the end of a server.
 
-ghost use Rattle.std.specs.Prelude.{◌+◌, ◌≡◌, ◌≤◌, IfErr, IfOk, Ok, OnErr, length};
+ghost use Rattle.std.specs.Prelude.{◌+◌, ◌≡◌, ◌≤◌, All, IfErr, IfOk, Ok, OnErr, length};
+ghost use Rattle.container_links.specs.Asking.{HasNumber};
+ghost use Rattle.container_saves.specs.Places.{AllHavePlaces};
 ghost use Rattle.container_steady.specs.Steady.{Steady};
 ghost use Rattle.container_model.specs.Record.{Refuses, counts_none};
 ghost use Rattle.container_model.specs.Messages.{on_reap};
 ghost use Rattle.container_model.specs.Room.{IsSound};
 
+use container_checks::objects::Objects;
 use container_grants::grants::{free_frames, prepare_freed, take_grants};
 use container_links::settling::settle_into;
 use container_model::answer::Answer;
 use container_model::fault::ContainerFault;
+use container_model::record::Frame;
 use container_objects::reaps::reap_all;
 use container_saves::handing::hand_off_all;
-use container_saves::rooms::prepare_frames;
+use container_saves::rooms::{FrameRooms, prepare_frames};
 use container_state::state::State;
-use std::alloc::Global;
+use std::alloc::{AllocError, Global};
 use wire_msgs::items::Items;
+
+// Takes the memory for frames that hand off.
+fn prepare_rooms(
+    alloc: Global,
+    more: usize,
+    frames: &[Frame],
+    objects: &Objects,
+) -> Result<Vec<FrameRooms>, AllocError>
+    requires numbers { All HasNumber objects.now.list.items }
+    requires few { more ≤ 1000000 }
+    requires frames { length frames.now ≤ 1000000 }
+    ensures { IfOk result (λ v. AllHavePlaces more 1 frames.now objects.now.list.items v.items) }
+{
+    prepare_frames(alloc, more, frames, objects.list.as_slice())
+}
 
 /// The end of a server.
 pub(crate) fn on_reap(alloc: Global, state: &mut State, inc: u32) -> Result<Answer, ContainerFault>
@@ -29,33 +48,28 @@ pub(crate) fn on_reap(alloc: Global, state: &mut State, inc: u32) -> Result<Answ
     if !state.servers.is_alive(inc) {
         return Err(ContainerFault::NoSuch);
     }
-    let Ok(grants) = prepare_freed(
-        alloc,
-        inc,
-        state.frames.as_slice(),
-        state.objects.as_slice(),
-    ) else {
+    let Ok(grants) = prepare_freed(alloc, inc, state.frames.as_slice(), &state.objects) else {
         return Err(ContainerFault::NoMemory);
     };
     let frames = state.frames.as_slice();
-    let Ok(rooms) = prepare_frames(alloc, grants.len(), frames, state.objects.as_slice()) else {
+    let Ok(rooms) = prepare_rooms(alloc, grants.len(), frames, &state.objects) else {
         return Err(ContainerFault::NoMemory);
     };
-    let most = grants.len() + state.frames.len() + state.objects.len();
+    let most = grants.len() + state.frames.len() + state.objects.list.len();
     let Ok(mut actions) = Vec::with_capacity(alloc, most) else {
         return Err(ContainerFault::NoMemory);
     };
-    free_frames(inc, &mut state.frames, state.objects.as_slice());
-    reap_all(inc, &mut state.objects);
+    free_frames(inc, &mut state.frames, &state.objects);
+    reap_all(inc, &mut state.objects.list);
     state.servers.reap(inc);
     take_grants(&mut state.objects, &mut actions, grants);
     hand_off_all(
         alloc,
         &mut state.frames,
-        &mut state.objects,
+        &mut state.objects.list,
         rooms,
         &mut actions,
     );
-    settle_into(&mut actions, &mut state.frames, &state.objects);
+    settle_into(&mut actions, &mut state.frames, &state.objects.list);
     Ok(Answer::acts(alloc, Items::from_vec(actions)))
 }

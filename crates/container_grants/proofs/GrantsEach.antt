@@ -1,5 +1,5 @@
 -- Objects that are told of their grants, one after the other.
-use Rattle.std.proofs.Common.{◌≡◌, ◌++◌, ℕ, List, [], ◌∷◌, map, Option, Some, None, refl, sym, ap, ◌∙◌}
+use Rattle.std.proofs.Common.{◌≡◌, ◌++◌, ℕ, List, [], ◌∷◌, map, OnErr, OnOk, Option, Some, None, Result, Ok, Err, refl, sym, ap, ◌∙◌}
 use Rattle.std.proofs.lemmas.List.{map-append}
 use Rattle.std.specs.List.{AllByRecursion}
 use Rattle.std.specs.Prelude.{option_to_list}
@@ -98,3 +98,8 @@ actions_are before (claim ∷ claims) os a d =
     ap (λ xs. xs ++ actions_of (map (ready before) claims)) (action_one before os claim a.0)
     ∙ (ap (λ xs. sends (sent_by claim.object (UiActivate claim.g) os) ++ xs) rest
     ∙ sym (map-append Send (sent_by claim.object (UiActivate claim.g) os) (granted_sent (asked_by claim.object (UiActivate claim.g) os) claims)))
+
+-- an object keeps its number, asked or not
+pub same_number : {A E : Type 0} (r : Result A E) (o x y : Object) → y.number ≡ x.number → OnOk r (o ≡ y) → OnErr r (o ≡ x) → o.number ≡ x.number
+same_number (Ok a) o x y same made kept = ap (λ (z : Object). z.number) made ∙ same
+same_number (Err e) o x y same made kept = ap (λ (z : Object). z.number) kept

@@ -10,11 +10,12 @@ ghost use Rattle.container_grants.specs.Granted.{actions_of, asked_by, claims_if
 ghost use Rattle.wire_msgs.specs.Found.{find, nth};
 
 use container_checks::lookups::{place, place_object};
+use container_checks::objects::Objects;
 use container_links::asking::{Prepared, ask_object, install};
 use container_links::requests::{Request, add_action, prepare_one};
 use container_model::answer::Action;
 use container_model::grants::Tells;
-use container_model::record::{Frame, Link, Object};
+use container_model::record::{Frame, Link};
 use grant_core::{Claim, FrameUi, GrantFault, GrantState};
 use std::alloc::{AllocError, Global};
 use wire_msgs::items::Items;
@@ -95,9 +96,9 @@ pub fn tell_frame(frames: &mut Vec<Frame>, f: u32, told: Option<Tells>) -> bool
 }
 
 // What is needed to tell an object of its grant.
-fn prepare_grant(alloc: Global, claim: Claim, objects: &[Object]) -> Result<Granted, AllocError>
-    requires { All HasNumber objects.now }
-    ensures { IfOk result (λ q. q ≡ ready objects.now claim) }
+fn prepare_grant(alloc: Global, claim: Claim, objects: &Objects) -> Result<Granted, AllocError>
+    requires { All HasNumber objects.now.list.items }
+    ensures { IfOk result (λ q. q ≡ ready objects.now.list.items claim) }
 {
     match place_object(objects, claim.object) {
         None => Ok(Granted {
@@ -109,7 +110,7 @@ fn prepare_grant(alloc: Global, claim: Claim, objects: &[Object]) -> Result<Gran
             let Request { takes, action } = prepare_one(
                 alloc,
                 &Operation::UiActivate(claim.g),
-                &objects[i].link,
+                &objects.list[i].link,
             )?;
             Ok(Granted {
                 object: claim.object,
@@ -128,10 +129,10 @@ pub fn prepare_waiting(
     gives: Option<u32>,
     f: u32,
     frames: &[Frame],
-    objects: &[Object],
+    objects: &Objects,
 ) -> Result<Vec<Granted>, AllocError>
-    requires { All HasNumber objects.now }
-    ensures ready { IfOk result (λ v. v.items ≡ map (ready objects.now) (claims_if gives (nth frames.now f))) }
+    requires { All HasNumber objects.now.list.items }
+    ensures ready { IfOk result (λ v. v.items ≡ map (ready objects.now.list.items) (claims_if gives (nth frames.now f))) }
     ensures few { IfOk result (λ v. vec_len v ≤ 1) }
     ensures refused { OnErr result (is_some gives ≡ true) }
 {
@@ -154,19 +155,19 @@ pub fn prepare_waiting(
 }
 
 // An object takes up what was prepared for it.
-fn take_grant(objects: &mut Vec<Object>, object: u32, takes: Prepared)
-    ensures { objects.new.items ≡ installed_by object takes objects.old.items }
+fn take_grant(objects: &mut Objects, object: u32, takes: Prepared)
+    ensures { objects.new.list.items ≡ installed_by object takes objects.old.list.items }
 {
-    if let Some(i) = place_object(objects.as_slice(), object) {
-        install(&mut objects[i], takes);
+    if let Some(i) = place_object(objects, object) {
+        install(&mut objects.list[i], takes);
     }
 }
 
 /// Objects take up what was prepared for them, one after the other, and what is sent then is added to actions that have room for
 /// it. It takes no memory.
-pub fn take_grants(objects: &mut Vec<Object>, actions: &mut Vec<Action>, grants: Vec<Granted>)
+pub fn take_grants(objects: &mut Objects, actions: &mut Vec<Action>, grants: Vec<Granted>)
     requires { vec_len actions.old + vec_len grants ≤ vec_capacity actions.old }
-    ensures objects { objects.new.items ≡ installed_each grants.items objects.old.items }
+    ensures objects { objects.new.list.items ≡ installed_each grants.items objects.old.list.items }
     ensures sent { actions.new.items ≡ actions.old.items ++ actions_of grants.items }
     ensures few { vec_len actions.new ≤ vec_len actions.old + vec_len grants }
     ensures room { vec_capacity actions.old ≤ vec_capacity actions.new }
@@ -193,18 +194,18 @@ fn is_hosted(inc: u32, link: &Option<Link>) -> bool
 }
 
 // Whether the object of a number is one of this server.
-fn is_hosted_object(inc: u32, number: u32, objects: &[Object]) -> bool
-    ensures { result ≡ is_hosted_object inc (find (is_object number) objects.now) }
+fn is_hosted_object(inc: u32, number: u32, objects: &Objects) -> bool
+    ensures { result ≡ is_hosted_object inc (find (is_object number) objects.now.list.items) }
 {
     match place_object(objects, number) {
-        Some(i) => is_hosted(inc, &objects[i].link),
+        Some(i) => is_hosted(inc, &objects.list[i].link),
         None => false,
     }
 }
 
 // What an object of a server that has ended has, is to get or waits for is lost.
-fn lose(inc: u32, objects: &[Object], ui: &mut FrameUi, claim: Option<Claim>)
-    ensures { ui.new ≡ lost_by inc objects.now ui.old claim }
+fn lose(inc: u32, objects: &Objects, ui: &mut FrameUi, claim: Option<Claim>)
+    ensures { ui.new ≡ lost_by inc objects.now.list.items ui.old claim }
 {
     if let Some(claim) = claim {
         if is_hosted_object(inc, claim.object, objects) {
@@ -230,9 +231,9 @@ fn passed_to(before: GrantState, later: GrantState) -> Option<Claim>
 }
 
 // What objects of a server that has ended have of a frame is lost, first who waits. Who gets the frame then.
-fn free(inc: u32, objects: &[Object], ui: &mut FrameUi) -> Option<Claim>
-    ensures freed { ui.new ≡ freed inc objects.now ui.old }
-    ensures passed { option_to_list result ≡ passed_to (unwaited inc objects.now ui.old).state (freed inc objects.now ui.old).state }
+fn free(inc: u32, objects: &Objects, ui: &mut FrameUi) -> Option<Claim>
+    ensures freed { ui.new ≡ freed inc objects.now.list.items ui.old }
+    ensures passed { option_to_list result ≡ passed_to (unwaited inc objects.now.list.items ui.old).state (freed inc objects.now.list.items ui.old).state }
 {
     let who = ui.state().who();
     let waiting = ui.state().waiting();
@@ -249,10 +250,10 @@ pub fn prepare_freed(
     alloc: Global,
     inc: u32,
     frames: &[Frame],
-    objects: &[Object],
+    objects: &Objects,
 ) -> Result<Vec<Granted>, AllocError>
-    requires { All HasNumber objects.now }
-    ensures ready { IfOk result (λ v. v.items ≡ map (ready objects.now) (freed_claims inc objects.now frames.now)) }
+    requires { All HasNumber objects.now.list.items }
+    ensures ready { IfOk result (λ v. v.items ≡ map (ready objects.now.list.items) (freed_claims inc objects.now.list.items frames.now)) }
     ensures few { IfOk result (λ v. vec_len v ≤ length frames.now) }
 {
     let mut grants = Vec::new(alloc);
@@ -266,15 +267,15 @@ pub fn prepare_freed(
 }
 
 // The same, of which who gets it then is known.
-fn free_frame(inc: u32, frame: &mut Frame, objects: &[Object])
-    ensures { frame.new ≡ freed_frame inc objects.now frame.old }
+fn free_frame(inc: u32, frame: &mut Frame, objects: &Objects)
+    ensures { frame.new ≡ freed_frame inc objects.now.list.items frame.old }
 {
     let _ = free(inc, objects, &mut frame.ui);
 }
 
 // The same of frames.
-fn free_slice(inc: u32, frames: &mut [Frame], objects: &[Object])
-    ensures { frames.new ≡ map (freed_frame inc objects.now) frames.old }
+fn free_slice(inc: u32, frames: &mut [Frame], objects: &Objects)
+    ensures { frames.new ≡ map (freed_frame inc objects.now.list.items) frames.old }
 {
     for frame in frames.iter_mut() {
         free_frame(inc, frame, objects);
@@ -282,8 +283,8 @@ fn free_slice(inc: u32, frames: &mut [Frame], objects: &[Object])
 }
 
 /// What objects of a server that has ended have of their frames, are to get or wait for is lost. It takes no memory.
-pub fn free_frames(inc: u32, frames: &mut Vec<Frame>, objects: &[Object])
-    ensures { frames.new.items ≡ map (freed_frame inc objects.now) frames.old.items }
+pub fn free_frames(inc: u32, frames: &mut Vec<Frame>, objects: &Objects)
+    ensures { frames.new.items ≡ map (freed_frame inc objects.now.list.items) frames.old.items }
 {
     free_slice(inc, frames, objects);
 }
@@ -303,18 +304,18 @@ pub fn is_held_by(state: &GrantState, act: u32, g: u32) -> bool
 /// Refused for want of memory alone. Then nothing changes.
 pub fn ask_number(
     alloc: Global,
-    objects: &mut Vec<Object>,
+    objects: &mut Objects,
     number: u32,
     operation: Operation,
 ) -> Result<Items<Action>, AllocError>
-    requires { All HasNumber objects.old.items }
-    ensures asked { OnOk result (objects.new.items ≡ asked_by number operation objects.old.items) }
-    ensures sent { IfOk result (λ a. a ≡ sends (sent_by number operation objects.old.items)) }
+    requires { All HasNumber objects.old.list.items }
+    ensures asked { OnOk result (objects.new.list.items ≡ asked_by number operation objects.old.list.items) }
+    ensures sent { IfOk result (λ a. a ≡ sends (sent_by number operation objects.old.list.items)) }
     ensures few { IfOk result (λ a. length a ≤ 1) }
-    ensures kept { OnErr result (objects.new.items ≡ objects.old.items) }
+    ensures kept { OnErr result (objects.new.list.items ≡ objects.old.list.items) }
 {
-    match place_object(objects.as_slice(), number) {
-        Some(i) => match ask_object(alloc, &mut objects[i], operation) {
+    match place_object(objects, number) {
+        Some(i) => match ask_object(alloc, &mut objects.list[i], operation) {
             Ok(actions) => Ok(actions),
             Err(fault) => Err(fault),
         },

@@ -14,6 +14,7 @@ ghost use Rattle.wire_msgs.specs.Found.{put};
 ghost use Rattle.wire_msgs.specs.declared.operation.Operation.TheVariants.{UiDeactivate};
 
 use container_checks::lookups::place_object;
+use container_checks::objects::Objects;
 use container_links::closing::{Stepped, ask_steps, prepare_steps, take_up_steps};
 use container_links::requests::{Request, add_action, prepare_one, take_up_one};
 use container_model::answer::Action;
@@ -151,26 +152,26 @@ fn ask_both(
 /// Refused for want of memory alone. Then nothing changes.
 pub fn ask_taking(
     alloc: Global,
-    objects: &mut Vec<Object>,
+    objects: &mut Objects,
     i: usize,
     holder: Option<u32>,
     g: u32,
     steps: &[Step],
 ) -> Result<Items<Action>, AllocError>
-    requires numbers { All HasNumber objects.old.items }
-    requires place { IsObjectAt objects.old.items i }
-    requires linked { IfSome (slice_get objects.old.items i) (λ o. is_some o.link ≡ true) }
-    requires apart { IfSome (slice_get objects.old.items i) (λ o. IfSome holder (λ n. n ≢ o.number)) }
-    ensures asked { OnOk result ((o : Object) (l : Link) → slice_get objects.old.items i ≡ Some o → o.link ≡ Some l → objects.new.items ≡ put (is_object o.number) (record o { link = Some (stepped_link g l steps.now).link }) (told_objects holder objects.old.items)) }
-    ensures sent { IfOk result (λ a. (o : Object) (l : Link) → slice_get objects.old.items i ≡ Some o → o.link ≡ Some l → a ≡ sends (told_sent holder objects.old.items ++ (stepped_link g l steps.now).sent)) }
+    requires numbers { All HasNumber objects.old.list.items }
+    requires place { IsObjectAt objects.old.list.items i }
+    requires linked { IfSome (slice_get objects.old.list.items i) (λ o. is_some o.link ≡ true) }
+    requires apart { IfSome (slice_get objects.old.list.items i) (λ o. IfSome holder (λ n. n ≢ o.number)) }
+    ensures asked { OnOk result ((o : Object) (l : Link) → slice_get objects.old.list.items i ≡ Some o → o.link ≡ Some l → objects.new.list.items ≡ put (is_object o.number) (record o { link = Some (stepped_link g l steps.now).link }) (told_objects holder objects.old.list.items)) }
+    ensures sent { IfOk result (λ a. (o : Object) (l : Link) → slice_get objects.old.list.items i ≡ Some o → o.link ≡ Some l → a ≡ sends (told_sent holder objects.old.list.items ++ (stepped_link g l steps.now).sent)) }
     ensures few { IfOk result (λ a. length a ≤ 2) }
-    ensures kept { OnErr result (objects.new.items ≡ objects.old.items) }
+    ensures kept { OnErr result (objects.new.list.items ≡ objects.old.list.items) }
 {
     let Some(holder) = holder else {
-        return ask_at(alloc, objects, i, g, steps);
+        return ask_at(alloc, &mut objects.list, i, g, steps);
     };
-    let Some(j) = place_object(objects.as_slice(), holder) else {
-        return ask_at(alloc, objects, i, g, steps);
+    let Some(j) = place_object(objects, holder) else {
+        return ask_at(alloc, &mut objects.list, i, g, steps);
     };
-    ask_both(alloc, objects, i, j, g, steps)
+    ask_both(alloc, &mut objects.list, i, j, g, steps)
 }

@@ -20,6 +20,7 @@ use storage_tree::stored::Stored;
 pub fn write_one(object: &mut Object, s: u32, w: u32, content: Stored) -> Result<(), ContainerFault>
     ensures taken { OnOk result ((r : Record) (inc : ℕ) (act : ℕ) → write_link r inc act s w content object.old object.old.link ≡ Ok (counts_none (record r { objects = put (is_linked inc act) object.new r.objects }) (record quiet_answer { taken = true }))) }
     ensures refused { IfErr result (λ e. (r : Record) (inc : ℕ) (act : ℕ) → Refuses (write_link r inc act s w content object.old object.old.link) e) }
+    ensures same { object.new.number ≡ object.old.number }
     ensures kept { OnErr result (object.new ≡ object.old) }
 {
     let Some(link) = &mut object.link else {

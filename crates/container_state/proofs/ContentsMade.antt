@@ -114,6 +114,9 @@ module _ (r : Record) (inc act n : ℕ) (answer : Answer) (o : Object) (l : Link
     hands_is : hands_off o.frame u.objects x ≡ hands_off_at x.phase x.asked (awaits_but o.frame i r.objects)
     hands_is = ap (hands_off_at x.phase x.asked) waits_is
 
+    pub prepared_there : set (map (prepared o.frame HandsOff) r.objects) i (next_prepared l) ≡ map (prepared o.frame HandsOff) (set r.objects i t.object)
+    prepared_there = prepared_set o.frame r.objects i (next_prepared l) t.object (ap (prepared o.frame HandsOff) object_is ∙ takes_are o.frame refl)
+
     pub last_is : (fs last : List Frame) (os objs : List Object) (takes : List Prepared) (actions all : List Action) (reply : told_answer.Answer)
         → hands_off_at x.phase x.asked (awaits_but o.frame i r.objects) ≡ true
         → takes ≡ set (map (prepared o.frame HandsOff) r.objects) i (next_prepared l)
@@ -126,7 +129,7 @@ module _ (r : Record) (inc act n : ℕ) (answer : Answer) (o : Object) (l : Link
         → reply ≡ record quiet_answer { taken = t.taken; refused = t.refused; no_tools = false; actions = all }
         → reply_found r inc act n answer (find (is_linked inc act) r.objects) ≡ Ok (record { rec = record r { frames = last; objects = objs }; answer = reply; counted = [] })
     last_is fs last os objs takes actions all reply hands ready objects asked sent frames settled more answered =
-        let fit : takes ≡ map (prepared o.frame HandsOff) os = ready ∙ (prepared_set o.frame r.objects i (next_prepared l) t.object (ap (prepared o.frame HandsOff) object_is ∙ takes_are o.frame refl) ∙ ap (map (prepared o.frame HandsOff)) (sym objects)) in
+        let fit : takes ≡ map (prepared o.frame HandsOff) os = ready ∙ (prepared_there ∙ ap (map (prepared o.frame HandsOff)) (sym objects)) in
         let here : os ≡ u.objects = objects ∙ sym objects_are in
         let asks : sends (next_sent re.link) ≡ t.actions = ap (λ (z : ToldObject). z.actions) whole in
         let moved : objs ≡ map (asked_object o.frame HandsOff) u.objects = asked fit ∙ ap (map (asked_object o.frame HandsOff)) here in

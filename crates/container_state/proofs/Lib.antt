@@ -1,2 +1,4 @@
 pub mod ContentsMade
+pub mod Drawn
+pub mod NumbersKept
 pub mod RepliesMade

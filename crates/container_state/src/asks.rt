@@ -32,7 +32,7 @@ impl State {
         if !self.servers.is_alive(inc) {
             return Err(ContainerFault::Stale);
         }
-        let Some(i) = place_linked(&self.objects, inc, act) else {
+        let Some(i) = place_linked(&self.objects.list, inc, act) else {
             return Err(ContainerFault::Stale);
         };
         self.ask_at(alloc, i, inc, act, g)
@@ -54,14 +54,15 @@ impl State {
         ensures refused { IfErr result (Refuses (ask_found self.old act g (find (is_linked inc act) self.old.objects))) }
         ensures kept { OnErr result (self.new ≡ self.old) }
     {
-        let Some(at) = place(self.frames.as_slice(), self.objects[i].frame) else {
+        let f = self.objects.list[i].frame;
+        let Some(at) = place(self.frames.as_slice(), f) else {
             return Err(ContainerFault::Stale);
         };
         let state = self.frames[at].ui.state();
         if !is_held_by(&state, act, g) {
             return Err(ContainerFault::Stale);
         }
-        let number = self.objects[i].number;
+        let number = self.objects.list[i].number;
         let Ok(actions) = ask_number(alloc, &mut self.objects, number, Operation::UiDeactivate)
         else {
             return Err(ContainerFault::NoMemory);

@@ -50,7 +50,7 @@ impl State {
         ensures kept { OnErr result (self.new ≡ self.old) }
     {
         let frame = &mut self.frames[at];
-        let object = &mut self.objects[i];
+        let object = &mut self.objects.list[i];
         let actions = match close_one(alloc, self.numbers, frame, object, option) {
             Ok(actions) => actions,
             Err(fault) => return Err(fault),

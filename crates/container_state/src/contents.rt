@@ -1,6 +1,6 @@
 //! What a container does with a content that an object answers in a save.
 
-ghost use Rattle.std.specs.Prelude.{◌+◌, ◌≡◌, ◌≤◌, IfErr, IfOk, IfSome, Ok, OnErr, Some, length, slice_get, true, false};
+ghost use Rattle.std.specs.Prelude.{◌+◌, ◌<◌, ◌≡◌, ◌≤◌, IfErr, IfOk, IfSome, Ok, OnErr, Some, length, slice_get, true, false};
 ghost use Rattle.container_links.specs.Handing.{answers, awaits_but};
 ghost use Rattle.container_steady.specs.Steady.{Steady};
 ghost use Rattle.container_model.specs.HandOffs.{hands_off_at};
@@ -12,13 +12,23 @@ ghost use Rattle.wire_msgs.specs.Found.{find, IsPlace};
 
 use crate::state::State;
 use container_checks::lookups::place;
+use container_checks::objects::Objects;
 use container_links::handing::{hand_off, hands_off_after, prepare_after};
 use container_links::settling::settle_into;
 use container_model::answer::Answer;
 use container_model::fault::ContainerFault;
+use container_model::record::Frame;
 use container_objects::replies::{Told, answered, told_object};
 use std::alloc::Global;
 use wire_msgs::answer as reply;
+
+// Whether a frame hands off once the object that stands here has answered its content.
+fn hands_off_then(number: u32, place: usize, frame: &Frame, objects: &Objects) -> bool
+    requires { place < length objects.now.list.items }
+    ensures { result ≡ hands_off_at frame.now.phase frame.now.asked (awaits_but number place objects.now.list.items) }
+{
+    hands_off_after(number, place, frame, objects.list.as_slice())
+}
 
 impl State {
     // A content that was awaited of the object that stands here: it may be the last that its frame's save waits for.
@@ -40,11 +50,11 @@ impl State {
         ensures refused { IfErr result (Refuses (reply_found self.old inc act n answer (find (is_linked inc act) self.old.objects))) }
         ensures kept { OnErr result (self.new ≡ self.old) }
     {
-        let f = self.objects[i].frame;
+        let f = self.objects.list[i].frame;
         let Some(at) = place(self.frames.as_slice(), f) else {
             unreachable!()
         };
-        if hands_off_after(f, i, &self.frames[at], self.objects.as_slice()) {
+        if hands_off_then(f, i, &self.frames[at], &self.objects) {
             self.last_content(alloc, i, at, inc, act, n, answer)
         } else {
             self.other_content(alloc, i, at, inc, act, n, answer)
@@ -73,28 +83,28 @@ impl State {
         ensures refused { IfErr result (Refuses (reply_found self.old inc act n answer (find (is_linked inc act) self.old.objects))) }
         ensures kept { OnErr result (self.new ≡ self.old) }
     {
-        let f = self.objects[i].frame;
-        let Ok(takes) = prepare_after(alloc, f, i, self.objects.as_slice()) else {
+        let f = self.objects.list[i].frame;
+        let Ok(takes) = prepare_after(alloc, f, i, self.objects.list.as_slice()) else {
             return Err(ContainerFault::NoMemory);
         };
-        let more = self.frames.len() + self.objects.len();
+        let more = self.frames.len() + self.objects.list.len();
         let Told {
             taken,
             refused,
             grant: _,
             mut actions,
-        } = match told_object(alloc, &mut self.objects[i], n, answer, more) {
+        } = match told_object(alloc, &mut self.objects.list[i], n, answer, more) {
             Ok(replied) => replied,
             Err(fault) => return Err(fault),
         };
         hand_off(
             f,
             &mut self.frames[at],
-            &mut self.objects,
+            &mut self.objects.list,
             &mut actions,
             takes,
         );
-        settle_into(&mut actions, &mut self.frames, &self.objects);
+        settle_into(&mut actions, &mut self.frames, &self.objects.list);
         Ok(answered(alloc, taken, refused, false, actions))
     }
 
@@ -126,11 +136,11 @@ impl State {
             refused,
             grant: _,
             mut actions,
-        } = match told_object(alloc, &mut self.objects[i], n, answer, more) {
+        } = match told_object(alloc, &mut self.objects.list[i], n, answer, more) {
             Ok(replied) => replied,
             Err(fault) => return Err(fault),
         };
-        settle_into(&mut actions, &mut self.frames, &self.objects);
+        settle_into(&mut actions, &mut self.frames, &self.objects.list);
         Ok(answered(alloc, taken, refused, false, actions))
     }
 }

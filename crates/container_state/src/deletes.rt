@@ -33,10 +33,10 @@ impl State {
         ensures refused { IfErr result (λ e. IfSome (slice_get self.old.objects i) (λ o. Refuses (unless (is_some o.link) WrongState (Ok (delete_made self.old o))) e)) }
         ensures kept { OnErr result (self.new ≡ self.old) }
     {
-        if self.objects[i].link.is_some() {
+        if self.objects.list[i].link.is_some() {
             return Err(ContainerFault::WrongState);
         }
-        let _ = self.objects.remove(i);
+        self.objects.remove(i);
         Ok(Answer::quiet(alloc))
     }
 }

@@ -47,7 +47,7 @@ impl State {
         ensures refused { IfErr result (λ e. IfSome (slice_get self.old.objects i) (λ o. Refuses (edit_linked self.old o bytes o.link) e)) }
         ensures kept { OnErr result (self.new ≡ self.old) }
     {
-        let actions = match edit_one(alloc, self.numbers, &mut self.objects[i], bytes) {
+        let actions = match edit_one(alloc, self.numbers, &mut self.objects.list[i], bytes) {
             Ok(actions) => actions,
             Err(fault) => return Err(fault),
         };

@@ -4,6 +4,7 @@ ghost use Rattle.std.specs.Prelude.{◌≡◌, ◌+◌, ◌≤◌, ◌∷◌, []
 ghost use Rattle.container_model.specs.Commands.{insert, insert_at, insert_into, insert_made, kind_of};
 ghost use Rattle.container_model.specs.Record.{Record, Refuses, counts_none, quiet_answer};
 ghost use Rattle.container_model.specs.declared.command.ObjectKind.{ObjectKind};
+ghost use Rattle.container_steady.specs.Steady.{Steady};
 
 use crate::state::State;
 use container_checks::checks;
@@ -56,6 +57,7 @@ impl State {
         kind: ObjectKind,
         area: Area,
     ) -> Result<Answer, ContainerFault>
+        requires { Steady self.old }
         ensures taken { IfOk result (λ a. insert self.old frame (kind_of kind) area ≡ Ok (counts_none self.new a)) }
         ensures few { IfOk result (λ a. length a.actions ≤ 1) }
         ensures refused { IfErr result (Refuses (insert self.old frame (kind_of kind) area)) }
@@ -78,12 +80,13 @@ impl State {
         kind: ObjectKind,
         area: Area,
     ) -> Result<Answer, ContainerFault>
+        requires { Steady self.old }
         ensures taken { IfOk result (λ a. insert_into self.old frame (kind_of kind) area ≡ Ok (counts_none self.new a)) }
         ensures few { IfOk result (λ a. length a.actions ≤ 1) }
         ensures refused { IfErr result (Refuses (insert_into self.old frame (kind_of kind) area)) }
         ensures kept { OnErr result (self.new ≡ self.old) }
     {
-        if checks::count_objects(frame, self.objects.as_slice()) >= MOST_OBJECTS {
+        if checks::count_objects(frame, self.objects.list.as_slice()) >= MOST_OBJECTS {
             return Err(ContainerFault::Full);
         }
         if self.last_object >= self.numbers {
@@ -105,7 +108,8 @@ impl State {
         kind: ObjectKind,
         area: Area,
     ) -> Result<Answer, AllocError>
-        requires { number ≡ self.old.last_object + 1 }
+        requires number { number ≡ self.old.last_object + 1 }
+        requires steady { Steady self.old }
         ensures taken { IfOk result (λ a. insert_made self.old frame (kind_of kind) area ≡ counts_none self.new a) }
         ensures few { IfOk result (λ a. length a.actions ≤ 1) }
         ensures kept { OnErr result (self.new ≡ self.old) }

@@ -104,7 +104,7 @@ impl State {
         if !self.servers.is_alive(inc) {
             return Err(ContainerFault::Stale);
         }
-        let Some(place) = place_linked(&self.objects, inc, act) else {
+        let Some(place) = place_linked(&self.objects.list, inc, act) else {
             return Err(ContainerFault::Stale);
         };
         self.reply_at(alloc, place, inc, act, n, answer)
@@ -128,13 +128,13 @@ impl State {
         ensures refused { IfErr result (Refuses (reply_found self.old inc act n answer (find (is_linked inc act) self.old.objects))) }
         ensures kept { OnErr result (self.new ≡ self.old) }
     {
-        if is_content(&self.objects[place].link, n, &answer) {
+        if is_content(&self.objects.list[place].link, n, &answer) {
             return self.content_at(alloc, place, inc, act, n, answer);
         }
-        let f = self.objects[place].frame;
-        let gives = gives_up(&self.objects[place].link, n, &answer);
+        let f = self.objects.list[place].frame;
+        let gives = gives_up(&self.objects.list[place].link, n, &answer);
         let frames = self.frames.as_slice();
-        let Ok(grants) = prepare_waiting(alloc, gives, f, frames, self.objects.as_slice()) else {
+        let Ok(grants) = prepare_waiting(alloc, gives, f, frames, &self.objects) else {
             return Err(ContainerFault::NoMemory);
         };
         let more = self.frames.len() + 1;
@@ -143,13 +143,13 @@ impl State {
             refused,
             grant,
             mut actions,
-        } = match told_object(alloc, &mut self.objects[place], n, answer, more) {
+        } = match told_object(alloc, &mut self.objects.list[place], n, answer, more) {
             Ok(replied) => replied,
             Err(fault) => return Err(fault),
         };
         let no_tools = tell_frame(&mut self.frames, f, grant);
         take_grants(&mut self.objects, &mut actions, grants);
-        settle_into(&mut actions, &mut self.frames, &self.objects);
+        settle_into(&mut actions, &mut self.frames, &self.objects.list);
         Ok(answered(alloc, taken, refused, no_tools, actions))
     }
 
@@ -171,7 +171,7 @@ impl State {
         if !self.servers.is_alive(inc) {
             return Err(ContainerFault::Stale);
         }
-        let Some(place) = place_linked(&self.objects, inc, act) else {
+        let Some(place) = place_linked(&self.objects.list, inc, act) else {
             return Err(ContainerFault::Stale);
         };
         self.write_at(alloc, place, inc, act, s, w, content)
@@ -194,7 +194,7 @@ impl State {
         ensures refused { IfErr result (Refuses (write_found self.old inc act s w content (find (is_linked inc act) self.old.objects))) }
         ensures kept { OnErr result (self.new ≡ self.old) }
     {
-        match write_one(&mut self.objects[place], s, w, content) {
+        match write_one(&mut self.objects.list[place], s, w, content) {
             Ok(()) => {}
             Err(fault) => return Err(fault),
         }

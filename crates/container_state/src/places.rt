@@ -44,10 +44,10 @@ impl State {
         ensures step { IfOk result (λ p. IsSomeAnd (slice_get self.now.objects p.0) (λ o. IsSomeAnd (slice_get self.now.frames p.1) (λ frame. (step : Object → Frame → Result Took ContainerFault) → located self.now object step ≡ step o frame))) }
         ensures refused { IfErr result (λ e. (step : Object → Frame → Result Took ContainerFault) → Refuses (located self.now object step) e) }
     {
-        let Some(i) = place_object(self.objects.as_slice(), object) else {
+        let Some(i) = place_object(&self.objects, object) else {
             return Err(ContainerFault::NoSuch);
         };
-        let Some(at) = place(self.frames.as_slice(), self.objects[i].frame) else {
+        let Some(at) = place(self.frames.as_slice(), self.objects.list[i].frame) else {
             return Err(ContainerFault::NoSuch);
         };
         Ok((i, at))
@@ -67,7 +67,7 @@ impl State {
             Ok(places) => places,
             Err(fault) => return Err(fault),
         };
-        match may_ask(&self.frames[at], &self.objects[i]) {
+        match may_ask(&self.frames[at], &self.objects.list[i]) {
             Ok(()) => Ok((i, at)),
             Err(fault) => Err(fault),
         }

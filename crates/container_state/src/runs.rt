@@ -42,7 +42,7 @@ impl State {
         ensures refused { IfErr result (λ e. IfSome (slice_get self.old.objects i) (λ o. Refuses (run_object self.old o inc) e)) }
         ensures kept { OnErr result (self.new ≡ self.old) }
     {
-        let object = &self.objects[i];
+        let object = &self.objects.list[i];
         if object.link.is_some() {
             return Err(ContainerFault::WrongState);
         }
@@ -57,7 +57,7 @@ impl State {
             return Err(ContainerFault::NoMemory);
         };
         self.last_act = act;
-        begin(&mut self.objects[i], link);
+        begin(&mut self.objects.list[i], link);
         Ok(Answer::acts(alloc, actions))
     }
 }

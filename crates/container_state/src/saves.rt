@@ -13,11 +13,12 @@ ghost use Rattle.container_steps.specs.Saving.{named, unready};
 use crate::state::State;
 use container_checks::checks;
 use container_checks::lookups::place;
+use container_checks::objects::Objects;
 use container_links::asking::take_up;
 use container_links::settling::settle_into;
 use container_model::answer::Answer;
 use container_model::fault::ContainerFault;
-use container_model::record::{Frame, Object};
+use container_model::record::Frame;
 use container_objects::saves::{begin_save, go_on, prepare_save};
 use std::alloc::Global;
 use storage_tree::bytes::Bytes;
@@ -26,10 +27,10 @@ use wire_msgs::items::Items;
 // Whether the objects of a frame may be asked for their contents.
 //
 // Refused: `InDoubt`, `Busy`.
-fn may_save(number: u32, frame: &Frame, objects: &[Object]) -> Result<(), ContainerFault>
-    ensures may { OnOk result ((r : Record) (next : Result Took ContainerFault) → r.objects ≡ objects.now → unready r number frame.now next ≡ next) }
+fn may_save(number: u32, frame: &Frame, objects: &Objects) -> Result<(), ContainerFault>
+    ensures may { OnOk result ((r : Record) (next : Result Took ContainerFault) → r.objects ≡ objects.now.list.items → unready r number frame.now next ≡ next) }
     ensures idle { OnOk result (frame.now.phase ≡ Idle) }
-    ensures refused { IfErr result (λ e. (r : Record) (next : Result Took ContainerFault) → r.objects ≡ objects.now → Refuses (unready r number frame.now next) e) }
+    ensures refused { IfErr result (λ e. (r : Record) (next : Result Took ContainerFault) → r.objects ≡ objects.now.list.items → Refuses (unready r number frame.now next) e) }
 {
     if checks::is_doubtful(frame.phase) {
         return Err(ContainerFault::InDoubt);
@@ -41,7 +42,7 @@ fn may_save(number: u32, frame: &Frame, objects: &[Object]) -> Result<(), Contai
     if checks::is_moving(&state) {
         return Err(ContainerFault::Busy);
     }
-    if checks::any_busy(number, &state, objects) {
+    if checks::any_busy(number, &state, objects.list.as_slice()) {
         return Err(ContainerFault::Busy);
     }
     Ok(())
@@ -77,7 +78,7 @@ impl State {
         let Some(at) = place(self.frames.as_slice(), frame) else {
             return Err(ContainerFault::NoSuch);
         };
-        match may_save(frame, &self.frames[at], self.objects.as_slice()) {
+        match may_save(frame, &self.frames[at], &self.objects) {
             Ok(()) => self.save_numbered(alloc, frame, at, None),
             Err(fault) => Err(fault),
         }
@@ -100,7 +101,7 @@ impl State {
         let Some(at) = place(self.frames.as_slice(), frame) else {
             return Err(ContainerFault::NoSuch);
         };
-        match may_save(frame, &self.frames[at], self.objects.as_slice()) {
+        match may_save(frame, &self.frames[at], &self.objects) {
             Ok(()) => {}
             Err(fault) => return Err(fault),
         }
@@ -134,11 +135,11 @@ impl State {
     {
         let k = self.frames[at].k;
         if k >= self.numbers
-            || !checks::all_have_numbers(frame, self.numbers, self.objects.as_slice())
+            || !checks::all_have_numbers(frame, self.numbers, self.objects.list.as_slice())
         {
             return Err(ContainerFault::NumbersSpent);
         }
-        let Ok(asking) = prepare_save(alloc, frame, k + 1, self.objects.as_slice()) else {
+        let Ok(asking) = prepare_save(alloc, frame, k + 1, self.objects.list.as_slice()) else {
             return Err(ContainerFault::NoMemory);
         };
         let mut actions = asking.actions;
@@ -147,9 +148,9 @@ impl State {
         }
         let target = &mut self.frames[at];
         begin_save(target, asked);
-        take_up(&mut self.objects, asking.takes);
-        go_on(frame, target, self.objects.as_slice());
-        settle_into(&mut actions, &mut self.frames, &self.objects);
+        take_up(&mut self.objects.list, asking.takes);
+        go_on(frame, target, self.objects.list.as_slice());
+        settle_into(&mut actions, &mut self.frames, &self.objects.list);
         Ok(Answer::acts(alloc, Items::from_vec(actions)))
     }
 }

@@ -5,6 +5,7 @@ ghost use Rattle.container_model.specs.Record.{Record, empty, is_object};
 ghost use Rattle.wire_msgs.specs.Found.{find, nth};
 
 use container_checks::lookups::{place, place_object};
+use container_checks::objects::Objects;
 use container_checks::servers::Servers;
 use container_model::record::{Frame, Object};
 use std::alloc::Global;
@@ -15,7 +16,7 @@ use std::marker::Model;
 #[derive(Drop)]
 pub struct State {
     pub frames: Vec<Frame>,
-    pub objects: Vec<Object>,
+    pub objects: Objects,
     pub servers: Servers,
     pub last_object: u32,
     pub last_act: u32,
@@ -28,7 +29,7 @@ impl Model for State {
 
     ghost Value = { Record };
 
-    ghost view = { λ c. record { frames = c.frames.items; objects = c.objects.items; servers = c.servers; last_object = c.last_object; last_act = c.last_act; last_g = c.last_g; numbers = c.numbers } };
+    ghost view = { λ c. record { frames = c.frames.items; objects = c.objects.list.items; servers = c.servers; last_object = c.last_object; last_act = c.last_act; last_g = c.last_g; numbers = c.numbers } };
 }
 
 impl State {
@@ -42,7 +43,7 @@ impl State {
     {
         State {
             frames: Vec::new(alloc),
-            objects: Vec::new(alloc),
+            objects: Objects::new(alloc),
             servers: Servers::new(alloc),
             last_object: 0,
             last_act: 0,
@@ -62,7 +63,7 @@ impl State {
     pub fn objects(&self) -> &[Object]
         ensures { result.now ≡ self.now.objects }
     {
-        &self.objects
+        &self.objects.list
     }
 
     /// The frame of this number.
@@ -80,7 +81,7 @@ impl State {
         ensures { option_copied result ≡ find (is_object object) self.now.objects }
     {
         match place_object(&self.objects, object) {
-            Some(place) => Some(&self.objects[place]),
+            Some(place) => Some(&self.objects.list[place]),
             None => None,
         }
     }

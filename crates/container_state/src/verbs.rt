@@ -84,7 +84,7 @@ impl State {
         ensures refused { IfErr result (λ e. IfSome (slice_get self.old.objects i) (λ o. IfSome (slice_get self.old.frames at) (λ frame. Refuses (verb_linked self.old frame o verb o.link) e))) }
         ensures kept { OnErr result (self.new ≡ self.old) }
     {
-        let steps = match verb_steps(self.numbers, &self.objects[i], verb) {
+        let steps = match verb_steps(self.numbers, &self.objects.list[i], verb) {
             Ok(steps) => steps,
             Err(fault) => return Err(fault),
         };
@@ -115,7 +115,7 @@ impl State {
         ensures kept { OnErr result (self.new ≡ self.old) }
     {
         let frame = &mut self.frames[at];
-        let object = &mut self.objects[i];
+        let object = &mut self.objects.list[i];
         match leave_object(alloc, frame, object, steps) {
             Ok(actions) => Ok(Answer::acts(alloc, actions)),
             Err(_) => Err(ContainerFault::NoMemory),
@@ -145,7 +145,7 @@ impl State {
         if self.numbers <= self.last_g {
             return Err(ContainerFault::NumbersSpent);
         }
-        if !holder_has_numbers(self.numbers, self.objects.as_slice(), holder) {
+        if !holder_has_numbers(self.numbers, &self.objects, holder) {
             return Err(ContainerFault::NumbersSpent);
         }
         self.take_numbered(alloc, i, at, steps)
@@ -172,7 +172,7 @@ impl State {
         let state = self.frames[at].ui.state();
         let now = steps_now(&state, steps);
         let g = self.last_g + 1;
-        let claim = claim_of(&self.objects[i], g);
+        let claim = claim_of(&self.objects.list[i], g);
         let holder = holder_of(&state);
         let actions = match ask_taking(alloc, &mut self.objects, i, holder, g, now) {
             Ok(actions) => actions,

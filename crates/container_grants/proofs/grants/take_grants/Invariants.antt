@@ -11,5 +11,5 @@ invariant-loop-grant l = record {
   room : vec_len l.actions + into_iter_len l.grant-iterator ≤ vec_capacity l.actions;
   more : vec_capacity l.initial.actions ≤ vec_capacity l.actions;
   sent : l.actions.items ++ actions_of (into_iter_items l.grant-iterator) ≡ l.initial.actions.items ++ actions_of (into_iter_items l.initial.grant-iterator);
-  objects : installed_each (into_iter_items l.grant-iterator) l.objects.items ≡ installed_each (into_iter_items l.initial.grant-iterator) l.initial.objects.items;
+  objects : installed_each (into_iter_items l.grant-iterator) l.objects.list.items ≡ installed_each (into_iter_items l.initial.grant-iterator) l.initial.objects.list.items;
 }

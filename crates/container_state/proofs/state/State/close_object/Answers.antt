@@ -5,6 +5,7 @@ use Rattle.container_model.specs.Verbs.{close_linked}
 use Rattle.container_model.specs.declared.record.Frame.{Frame}
 use Rattle.container_model.specs.declared.record.Object.{Object}
 use Rattle.container_steps.proofs.VerbsPlaced.{both_changed, both_here, both_taken, frame_here, in_frame, object_here, own_here}
+use Rattle.container_checks.proofs.Numbers.{one_kept}
 use Rattle.container_state.proofs.state.State.close_object.Goals as goal
 
 pub returns-in-Err-clause-refused : goal.returns-in-Err-clause-refused
@@ -30,3 +31,7 @@ returns-clause-taken c =
     (c.in-Ok.ensures.taken r (ap (λ t. t.numbers) (sym c.self.view_is)) (at.found ∙ stands))
     (both_changed _ r _ c.args.i c.args.at o c.close_one.new.object c.close_one.new.frame c.self.view_is (own_here r c.args.i o here c.requires.place) at c.in-Ok.ensures.same refl)
     c.acts.ensures)
+
+pub invariant_of-self-inside : goal.invariant_of-self-inside
+invariant_of-self-inside c =
+    (one_kept c.self.inside.objects.numbers.keys c.self.inside.objects.list.items c.args.i c.close_one.new.object c.index_mut-object.result.now c.self.inside.objects.numbered c.index_mut-object.ensures.value c.close_one.ensures.same, tt)

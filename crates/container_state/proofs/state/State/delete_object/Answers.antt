@@ -16,4 +16,4 @@ pub returns-clause-taken : goal.returns-clause-taken
 returns-clause-taken c =
     let r : Record = c.args.self.now in
     at_object (λ o. unless (is_some o.link) WrongState (Ok (delete_made r o)) ≡ Ok (counts_none _ c.quiet.result)) _ r c.args.i c.index.result.now c.self.view_is c.requires.fits c.index.ensures
-    (deleted_is _ r _ c.args.i c.index.result.now c.remove.new.self.items c.quiet.result c.self.view_is c.requires c.index.ensures (sym c.is_some.ensures ∙ c.if-is_some.false) c.remove.ensures.items refl c.quiet.ensures)
+    (deleted_is _ r _ c.args.i c.index.result.now c.remove.new.self.list.items c.quiet.result c.self.view_is c.requires c.index.ensures (sym c.is_some.ensures ∙ c.if-is_some.false) c.remove.ensures refl c.quiet.ensures)

@@ -15,11 +15,12 @@ use Rattle.container_model.specs.declared.record.Object.{Object}
 use Rattle.container_objects.specs.Told.{ToldObject}
 use Rattle.container_state.proofs.ContentsMade.{content_linked, frame_at, other_is}
 use Rattle.container_state.proofs.RepliesMade.{reply_refused}
+use Rattle.container_checks.proofs.Numbers.{one_kept}
 use Rattle.container_state.proofs.state.State.other_content.Goals as goal
 
 pub returns-clause-taken : goal.returns-clause-taken
 returns-clause-taken c =
-    let r : Record = record { frames = c.self.inside.frames.items; objects = c.self.inside.objects.items; servers = c.self.inside.servers; last_object = c.self.inside.last_object; last_act = c.self.inside.last_act; last_g = c.self.inside.last_g; numbers = c.self.inside.numbers } in
+    let r : Record = record { frames = c.self.inside.frames.items; objects = c.self.inside.objects.list.items; servers = c.self.inside.servers; last_object = c.self.inside.last_object; last_act = c.self.inside.last_act; last_g = c.self.inside.last_g; numbers = c.self.inside.numbers } in
     let v : c.args.self.now ≡ r = sym c.self.view_is in
     let p : IsPlace (is_linked c.args.inc c.args.act) r.objects c.args.i = subst (λ (z : Record). IsPlace (is_linked c.args.inc c.args.act) z.objects c.args.i) v c.requires.place in
     let o : Object = c.index_mut.result.now in
@@ -44,7 +45,7 @@ returns-clause-taken c =
 
 pub returns-in-Err-clause-refused : goal.returns-in-Err-clause-refused
 returns-in-Err-clause-refused c =
-    let r : Record = record { frames = c.self.inside.frames.items; objects = c.self.inside.objects.items; servers = c.self.inside.servers; last_object = c.self.inside.last_object; last_act = c.self.inside.last_act; last_g = c.self.inside.last_g; numbers = c.self.inside.numbers } in
+    let r : Record = record { frames = c.self.inside.frames.items; objects = c.self.inside.objects.list.items; servers = c.self.inside.servers; last_object = c.self.inside.last_object; last_act = c.self.inside.last_act; last_g = c.self.inside.last_g; numbers = c.self.inside.numbers } in
     let v : c.args.self.now ≡ r = sym c.self.view_is in
     let p : IsPlace (is_linked c.args.inc c.args.act) r.objects c.args.i = subst (λ (z : Record). IsPlace (is_linked c.args.inc c.args.act) z.objects c.args.i) v c.requires.place in
     let o : Object = c.index_mut.result.now in
@@ -56,3 +57,8 @@ returns-in-Err-clause-refused c =
     let place : IsNth o.frame r.frames c.args.at =
     subst (λ z. IfSome z (λ (y : Object). IsNth y.frame r.frames c.args.at)) g (subst (λ (z : Record). IfSome (slice_get z.objects c.args.i) (λ (y : Object). IsNth y.frame z.frames c.args.at)) v c.requires.frame) in
     rw v (reply_refused r c.args.inc c.args.act c.args.n c.args.answer o c.in-Err.fault found c.in-Err.ensures.refused)
+
+pub invariant_of-self-inside : goal.invariant_of-self-inside
+invariant_of-self-inside c = record {
+  numbered = one_kept c.self.inside.objects.numbers.keys c.self.inside.objects.list.items c.args.i c.told_object.new.object c.index_mut.result.now c.self.inside.objects.numbered c.index_mut.ensures.value c.told_object.ensures.same;
+}

@@ -15,11 +15,12 @@ use Rattle.container_steady.specs.Steady.{Steady}
 use Rattle.container_grants.proofs.GrantsEach.{Agrees}
 use Rattle.container_grants.proofs.GrantsWaiting.{reply_agrees, reply_differs}
 use Rattle.container_state.proofs.RepliesMade.{reply_is, reply_refused}
+use Rattle.container_checks.proofs.Numbers.{one_kept}
 use Rattle.container_state.proofs.state.State.reply_at.Goals as goal
 
 pub returns-in-Err-clause-refused : goal.returns-in-Err-clause-refused
 returns-in-Err-clause-refused c =
-    let r : Record = record { frames = c.self.inside.frames.items; objects = c.self.inside.objects.items; servers = c.self.inside.servers; last_object = c.self.inside.last_object; last_act = c.self.inside.last_act; last_g = c.self.inside.last_g; numbers = c.self.inside.numbers } in
+    let r : Record = record { frames = c.self.inside.frames.items; objects = c.self.inside.objects.list.items; servers = c.self.inside.servers; last_object = c.self.inside.last_object; last_act = c.self.inside.last_act; last_g = c.self.inside.last_g; numbers = c.self.inside.numbers } in
     let v : c.args.self.now ≡ r = sym c.self.view_is in
     let p : IsPlace (is_linked c.args.inc c.args.act) r.objects c.args.place = subst (λ (x : Record). IsPlace (is_linked c.args.inc c.args.act) x.objects c.args.place) v c.requires.place in
     let g : slice_get r.objects c.args.place ≡ Some c.index_mut.result.now = slice_get-get_or r.objects c.args.place c.index_mut.result.now p.fits ∙ ap Some (sym c.index_mut.ensures.value) in
@@ -27,7 +28,7 @@ returns-in-Err-clause-refused c =
 
 pub returns-clause-taken : goal.returns-clause-taken
 returns-clause-taken c =
-    let r : Record = record { frames = c.self.inside.frames.items; objects = c.self.inside.objects.items; servers = c.self.inside.servers; last_object = c.self.inside.last_object; last_act = c.self.inside.last_act; last_g = c.self.inside.last_g; numbers = c.self.inside.numbers } in
+    let r : Record = record { frames = c.self.inside.frames.items; objects = c.self.inside.objects.list.items; servers = c.self.inside.servers; last_object = c.self.inside.last_object; last_act = c.self.inside.last_act; last_g = c.self.inside.last_g; numbers = c.self.inside.numbers } in
     let v : c.args.self.now ≡ r = sym c.self.view_is in
     let p : IsPlace (is_linked c.args.inc c.args.act) r.objects c.args.place = subst (λ (x : Record). IsPlace (is_linked c.args.inc c.args.act) x.objects c.args.place) v c.requires.place in
     let o : Object = c.index_mut.result.now in
@@ -41,9 +42,8 @@ returns-clause-taken c =
     let asked : IfSome gives (λ act. IfSome o.link (λ l. l.pending ≡ Some UiDeactivate)) = subst (λ (x : Object). IfSome gives (λ act. IfSome x.link (λ l. l.pending ≡ Some UiDeactivate))) before c.gives_up-gives.ensures.asked in
     let ready_is : c.in-Ok.grants.items ≡ map (ready r.objects) (claims_if gives (nth r.frames o.frame)) =
     c.in-Ok.ensures.ready
-    ∙ (ap (λ (os : List Object). map (ready os) (claims_if gives (nth c.as_slice-frames.result.now c.index-2.result.now.frame))) c.as_slice.ensures.value
     ∙ (ap (λ (fs : List Frame). map (ready r.objects) (claims_if gives (nth fs c.index-2.result.now.frame))) c.as_slice-frames.ensures.value
-    ∙ ap (λ (f : ℕ). map (ready r.objects) (claims_if gives (nth r.frames f))) at)) in
+    ∙ ap (λ (f : ℕ). map (ready r.objects) (claims_if gives (nth r.frames f))) at) in
     let first : c.index.result.now ≡ o = c.index.ensures ∙ (get_or_default r.objects c.args.place c.index.result.now o p.fits ∙ sym c.index_mut.ensures.value) in
     let quiet : answers o.link (reply_link c.args.n c.args.answer o.link) ≡ false = ap (λ (x : Object). answers x.link (reply_link c.args.n c.args.answer x.link)) (sym first) ∙ (sym c.is_content.ensures ∙ c.if-is_content.false) in
     let steady : Steady r = subst Steady v c.requires.steady in
@@ -51,10 +51,15 @@ returns-clause-taken c =
     let puts : put (is_linked c.args.inc c.args.act) w.object r.objects ≡ slice_set r.objects c.args.place w.object = p.puts w.object in
     let agrees : _ = subst (λ (os : List Object). Agrees r.objects os (claims_if gives (nth r.frames o.frame))) puts (reply_agrees r steady (is_linked c.args.inc c.args.act) o w.object found number c.args.n c.args.answer gives given asked) in
     rw v (reply_is r c.args.inc c.args.act c.args.n c.args.answer o w (slice_set r.objects c.args.place w.object) gives found given quiet
-    c.take_grants.new.objects.items c.tell_frame-no_tools.new.frames.items c.settle_into.new.frames.items c.take_grants.new.actions.items c.settle_into.new.actions.items c.answered.result c.tell_frame-no_tools.result
+    c.take_grants.new.objects.list.items c.tell_frame-no_tools.new.frames.items c.settle_into.new.frames.items c.take_grants.new.actions.items c.settle_into.new.actions.items c.answered.result c.tell_frame-no_tools.result
     c.in-Ok-told_object.ensures.taken puts agrees (reply_differs gives (nth r.frames o.frame))
     (c.take_grants.ensures.objects ∙ ap (λ qs. installed_each qs (slice_set r.objects c.args.place w.object)) ready_is)
     (c.tell_frame-no_tools.ensures.frames ∙ ap (λ (f : ℕ). told_frames f w.grant r.frames) at)
     (c.tell_frame-no_tools.ensures.space ∙ ap (λ (f : ℕ). told_space_in w.grant (nth r.frames f)) at)
     (c.take_grants.ensures.sent ∙ ap (λ qs. w.actions ++ actions_of qs) ready_is)
     c.settle_into.ensures.settled c.settle_into.ensures.asked c.answered.ensures)
+
+pub invariant_of-self-inside : goal.invariant_of-self-inside
+invariant_of-self-inside c = record {
+  numbered = one_kept c.self.inside.objects.numbers.keys c.self.inside.objects.list.items c.args.place c.told_object.new.object c.index_mut.result.now c.self.inside.objects.numbered c.index_mut.ensures.value c.told_object.ensures.same;
+}

@@ -5,6 +5,7 @@ use Rattle.container_model.specs.Record.{Record, counts_none}
 use Rattle.container_model.specs.declared.fault.ContainerFault.TheVariants.{NumbersSpent, UnknownClass, WrongState}
 use Rattle.container_model.specs.declared.record.Object.{Object}
 use Rattle.container_steps.proofs.CommandsRun.{at_object, few_spent, last_spent, not_spent, run_fine, run_is, run_linked, run_spent, run_unknown}
+use Rattle.container_checks.proofs.Numbers.{one_kept}
 use Rattle.container_state.proofs.state.State.run_object.Goals as goal
 use Rattle.container_state.proofs.state.State.run_object.Goals.{then-self-lt-MARGIN-via-then-self-lt-MARGIN, then-self-lt-MARGIN-via-else-self-lt-MARGIN+then-self}
 
@@ -51,3 +52,8 @@ returns-clause-taken c =
     (run_fine r x c.args.inc passive known (not_spent r _ c.self.view_is c.if-self-lt-MARGIN.false c.if-self.false)
     ∙ ap Ok (run_is _ r _ c.args.i c.args.inc x c.index_mut.result.now c.begin.new.object c.in-Ok.link c.in-Ok.actions c.acts.result c.self.view_is c.requires c.index-object.ensures c.index_mut.ensures.value
     c.in-Ok.ensures.link c.in-Ok.ensures.sent c.begin.ensures refl c.acts.ensures))
+
+pub invariant_of-self-inside : goal.invariant_of-self-inside
+invariant_of-self-inside c = record {
+  numbered = one_kept c.self.inside.objects.numbers.keys c.self.inside.objects.list.items c.args.i c.begin.new.object c.index_mut.result.now c.self.inside.objects.numbered c.index_mut.ensures.value (ap (λ (o : Object). o.number) c.begin.ensures);
+}

@@ -18,7 +18,7 @@ returns-in-Ok-clause-taken c =
     let r : Record = c.args.self.now in
     let found : IsNth c.args.frame r.frames c.in-Some.at = subst (λ (fs : List Frame). IsNth c.args.frame fs c.in-Some.at) (c.as_slice.ensures.value ∙ ap (λ (t : Record). t.frames) c.self.view_is) c.in-Some.ensures in
     let here : slice_get r.frames c.in-Some.at ≡ Some c.index.result.now = frame_here _ r c.in-Some.at c.index.result.now c.self.view_is found.fits c.index.ensures in
-    let same : r.objects ≡ c.as_slice-2.result.now = sym (c.as_slice-2.ensures.value ∙ ap (λ (t : Record). t.objects) c.self.view_is) in
+    let same : r.objects ≡ c.self.inside.objects.list.items = ap (λ (t : Record). t.objects) (sym c.self.view_is) in
     let is : save r c.args.frame ≡ save_numbered r c.args.frame c.index.result.now None = ap (save_at r c.args.frame) (found.found ∙ here) ∙ c.in-Ok.ensures.may r (save_numbered r c.args.frame c.index.result.now None) same in
     IfOk-weaker c.save_numbered.result _ _ (λ a made. is ∙ subst (λ t. IfSome t (λ x. save_numbered r c.args.frame x None ≡ Ok (counts_none c.save_numbered.new.self a))) here made) c.save_numbered.ensures.taken
 
@@ -27,7 +27,7 @@ returns-in-Ok-clause-refused c =
     let r : Record = c.args.self.now in
     let found : IsNth c.args.frame r.frames c.in-Some.at = subst (λ (fs : List Frame). IsNth c.args.frame fs c.in-Some.at) (c.as_slice.ensures.value ∙ ap (λ (t : Record). t.frames) c.self.view_is) c.in-Some.ensures in
     let here : slice_get r.frames c.in-Some.at ≡ Some c.index.result.now = frame_here _ r c.in-Some.at c.index.result.now c.self.view_is found.fits c.index.ensures in
-    let same : r.objects ≡ c.as_slice-2.result.now = sym (c.as_slice-2.ensures.value ∙ ap (λ (t : Record). t.objects) c.self.view_is) in
+    let same : r.objects ≡ c.self.inside.objects.list.items = ap (λ (t : Record). t.objects) (sym c.self.view_is) in
     let is : save r c.args.frame ≡ save_numbered r c.args.frame c.index.result.now None = ap (save_at r c.args.frame) (found.found ∙ here) ∙ c.in-Ok.ensures.may r (save_numbered r c.args.frame c.index.result.now None) same in
     IfErr-weaker c.save_numbered.result _ _ (λ e told. subst (λ t. Refuses t e) (sym is) (subst (λ t. IfSome t (λ x. Refuses (save_numbered r c.args.frame x None) e)) here told)) c.save_numbered.ensures.refused
 
@@ -36,5 +36,5 @@ returns-in-Err-clause-refused c =
     let r : Record = c.args.self.now in
     let found : IsNth c.args.frame r.frames c.in-Some.at = subst (λ (fs : List Frame). IsNth c.args.frame fs c.in-Some.at) (c.as_slice.ensures.value ∙ ap (λ (t : Record). t.frames) c.self.view_is) c.in-Some.ensures in
     let here : slice_get r.frames c.in-Some.at ≡ Some c.index.result.now = frame_here _ r c.in-Some.at c.index.result.now c.self.view_is found.fits c.index.ensures in
-    let same : r.objects ≡ c.as_slice-2.result.now = sym (c.as_slice-2.ensures.value ∙ ap (λ (t : Record). t.objects) c.self.view_is) in
+    let same : r.objects ≡ c.self.inside.objects.list.items = ap (λ (t : Record). t.objects) (sym c.self.view_is) in
     subst (λ t. Refuses t c.in-Err.fault) (sym (ap (save_at r c.args.frame) (found.found ∙ here))) (c.in-Err.ensures.refused r (save_numbered r c.args.frame c.index.result.now None) same)

@@ -13,11 +13,13 @@ use Rattle.container_model.specs.Record.{Record, acts, asked_object}
 use Rattle.container_model.specs.declared.record.Frame.{Frame}
 use Rattle.container_model.specs.declared.record.Object.{Object}
 use Rattle.container_steps.proofs.CommandsSave.{saved_is, saved_taken}
+use Rattle.container_checks.proofs.Numbers.{numbers}
+use Rattle.container_state.proofs.NumbersKept.{asked_kept}
 use Rattle.container_state.proofs.state.State.save_numbered.Goals as goal
 
 pub returns-clause-taken : goal.returns-clause-taken
 returns-clause-taken c =
-    let r : Record = record { frames = c.self.inside.frames.items; objects = c.self.inside.objects.items; servers = c.self.inside.servers; last_object = c.self.inside.last_object; last_act = c.self.inside.last_act; last_g = c.self.inside.last_g; numbers = c.self.inside.numbers } in
+    let r : Record = record { frames = c.self.inside.frames.items; objects = c.self.inside.objects.list.items; servers = c.self.inside.servers; last_object = c.self.inside.last_object; last_act = c.self.inside.last_act; last_g = c.self.inside.last_g; numbers = c.self.inside.numbers } in
     let view : r ≡ c.args.self.now = c.self.view_is in
     let f : ℕ = c.args.frame in
     let a : Frame = c.index.result.now in
@@ -36,3 +38,13 @@ returns-clause-taken c =
     c.settle_into.new.frames.items c.in-Ok.asking.actions.items c.settle_into.new.actions.items c.acts.result
     c.settle_into.ensures.settled asking.sent
     (c.settle_into.ensures.asked ∙ ap (λ t. t ++ settled_actions 1 c.take_up.new.objects.items (set c.self.inside.frames.items c.args.at c.go_on.new.frame)) c.reserve.ensures.items) (c.acts.ensures ∙ ap acts c.from_vec.ensures))
+
+pub invariant_of-self-inside : goal.invariant_of-self-inside
+invariant_of-self-inside c =
+    let r : Record = record { frames = c.self.inside.frames.items; objects = c.self.inside.objects.list.items; servers = c.self.inside.servers; last_object = c.self.inside.last_object; last_act = c.self.inside.last_act; last_g = c.self.inside.last_g; numbers = c.self.inside.numbers } in
+    let f : ℕ = c.args.frame in
+    let k : ℕ = c.index.result.now.k + 1 in
+    let asking : IsAsking f (Save k) r.objects c.in-Ok.asking.actions.items c.in-Ok.asking.takes.items =
+    subst (λ (os : List Object). IsAsking f (Save k) os c.in-Ok.asking.actions.items c.in-Ok.asking.takes.items) c.as_slice-2.ensures.value c.in-Ok.ensures in
+    let objects : c.take_up.new.objects.items ≡ map (asked_object f (Save k)) r.objects = c.take_up.ensures f (Save k) asking.takes in
+    (c.self.inside.objects.numbered ∙ (sym (asked_kept f (Save k) r.objects) ∙ ap numbers (sym objects)), tt)

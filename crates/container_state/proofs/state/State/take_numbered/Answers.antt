@@ -16,7 +16,7 @@ use Rattle.container_state.proofs.state.State.take_numbered.Goals as goal
 
 pub returns-clause-taken : goal.returns-clause-taken
 returns-clause-taken c o l frame at stands linked =
-    let s : Record = record { frames = c.self.inside.frames.items; objects = c.self.inside.objects.items; servers = c.self.inside.servers; last_object = c.self.inside.last_object; last_act = c.self.inside.last_act; last_g = c.self.inside.last_g; numbers = c.self.inside.numbers } in
+    let s : Record = record { frames = c.self.inside.frames.items; objects = c.self.inside.objects.list.items; servers = c.self.inside.servers; last_object = c.self.inside.last_object; last_act = c.self.inside.last_act; last_g = c.self.inside.last_g; numbers = c.self.inside.numbers } in
     let view : s ≡ c.args.self.now = c.self.view_is in
     let here : slice_get s.objects c.args.i ≡ Some o = subst (λ (t : Record). slice_get t.objects c.args.i ≡ Some o) (sym view) at in
     let there : slice_get s.frames c.args.at ≡ Some frame = subst (λ (t : Record). slice_get t.frames c.args.at ≡ Some frame) (sym view) stands in
@@ -30,7 +30,7 @@ returns-clause-taken c o l frame at stands linked =
     let claim : c.claim_of-claim.result ≡ claim_of o l (s.last_g + 1) =
     subst (λ t. IfSome t (λ m. c.claim_of-claim.result ≡ claim_of o m (s.last_g + 1))) linked (subst (λ (v : Object). IfSome v.link (λ m. c.claim_of-claim.result ≡ claim_of v m (s.last_g + 1))) x c.claim_of-claim.ensures) in
     let own : Object = record o { link = Some (stepped_link (s.last_g + 1) l steps).link } in
-    let asked : c.ask_taking.new.objects.items ≡ put (is_object o.number) own (told_objects (holder_of frame.ui.state) s.objects) =
+    let asked : c.ask_taking.new.objects.list.items ≡ put (is_object o.number) own (told_objects (holder_of frame.ui.state) s.objects) =
     c.in-Ok.ensures.asked o l here linked ∙ ap (λ h. put (is_object o.number) own (told_objects h s.objects)) holder in
     let sent : c.in-Ok.actions ≡ sends (told_sent (holder_of frame.ui.state) s.objects ++ (stepped_link (s.last_g + 1) l steps).sent) =
     c.in-Ok.ensures.sent o l here linked ∙ ap (λ h. sends (told_sent h s.objects ++ (stepped_link (s.last_g + 1) l steps).sent)) holder in
@@ -38,5 +38,5 @@ returns-clause-taken c o l frame at stands linked =
     c.claim_frame.ensures ∙ (ap (λ f. moved f (Ask c.claim_of-claim.result)) y2 ∙ ap (λ (k : Claim). moved frame (Ask k)) claim) in
     let place : IsNth o.frame s.frames c.args.at = subst (λ (t : Record). IsNth o.frame t.frames c.args.at) (sym view) (in_frame c.args.self.now c.args.i c.args.at o at c.requires.frame) in
     ap (λ t. taking_made t frame o l c.args.steps.now) (sym view)
-    ∙ taken_made s _ frame c.claim_frame.new.frame o l c.args.steps.now steps c.ask_taking.new.objects.items (set s.frames c.args.at c.claim_frame.new.frame) c.in-Ok.actions c.acts.result
+    ∙ taken_made s _ frame c.claim_frame.new.frame o l c.args.steps.now steps c.ask_taking.new.objects.list.items (set s.frames c.args.at c.claim_frame.new.frame) c.in-Ok.actions c.acts.result
     now made (sym (place.puts c.claim_frame.new.frame)) asked sent refl c.acts.ensures
