@@ -31,11 +31,11 @@ IsBy st f = (g : Given) → given g st ≡ gives g (f g.now)
 
 module _ {D : Type 0} {disks : Disks D} where
   pub one_step : (st : Step) (f : Record → Result Took ContainerFault) (es : List (Event D)) (r now : Record) → IsBy st f → (disks.follows_model → IsBacked disks st es) → GivesNext st es → (record_of es ≡ r → moved (record_of es) (f (record_of es)) ≡ now) → IsTold disks es r → IsTold disks (Stepped st ∷ es) now
-  one_step st f es r now by counts next is t = record { recorded = ap (λ g. g.now) (by (given_by es)) ∙ is t.recorded; sent = t.sent; heard = (next, t.heard); single = t.single; saved = λ m. ((counts m).0, t.saved m); opened = λ m. ((counts m).1, t.opened m) }
+  one_step st f es r now by counts next is t = record { recorded = ap (λ g. g.now) (by (given_by es)) ∙ is t.recorded; sent = t.sent; bounded = t.bounded; heard = (next, t.heard); single = t.single; saved = λ m. ((counts m).0, t.saved m); opened = λ m. ((counts m).1, t.opened m) }
 
   -- a step that was undone for want of memory
   pub lost_step : (st : Step) (f : Record → Result Took ContainerFault) (es : List (Event D)) (r : Record) → IsBy st f → (disks.follows_model → IsBacked disks st es) → GivesNext st es → IsTold disks es r → IsTold disks (Stepped step.NoMemory ∷ Stepped st ∷ es) r
-  lost_step st f es r by counts next t = record { recorded = ap (λ g. g.before) (by (given_by es)) ∙ t.recorded; sent = t.sent; heard = (tt, (next, t.heard)); single = t.single; saved = λ m. (tt, ((counts m).0, t.saved m)); opened = λ m. (tt, ((counts m).1, t.opened m)) }
+  lost_step st f es r by counts next t = record { recorded = ap (λ g. g.before) (by (given_by es)) ∙ t.recorded; sent = t.sent; bounded = t.bounded; heard = (tt, (next, t.heard)); single = t.single; saved = λ m. (tt, ((counts m).0, t.saved m)); opened = λ m. (tt, ((counts m).1, t.opened m)) }
 
   by_fault : (st : Step) (f : Record → Result Took ContainerFault) (es : List (Event D)) (r : Record) (e : ContainerFault) → IsBy st f → (disks.follows_model → IsBacked disks st es) → GivesNext st es → f r ≡ Err e → IsTold disks es r → IsTold disks (Stepped st ∷ es) r
   by_fault st f es r e by counts next refused = one_step st f es r r by counts next (λ is. refused_step f (record_of es) r e is refused)

@@ -3,5 +3,6 @@ pub mod Came
 pub mod Given
 pub mod Kept
 pub mod Opened
+pub mod Paces
 pub mod Saved
 pub mod Served

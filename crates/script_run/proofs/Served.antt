@@ -328,7 +328,7 @@ pub carried : {D : Type 0} (es after : List (Event D)) (ls new : List Link) → 
 carried {D = D} es after ls new is same served = subst (λ (h : List (Event D)). AreServed h new) (sym is) (subst (λ (all : List Link). AreServed es all) (sym same) served)
 
 -- Besides the link at this place none is its server's.
-none_left : {D : Type 0} (es : List (Event D)) (ls : List Link) (place : ℕ) (l : Link) → place < length ls → l ≡ slice_index_or ls place l → ((s : ℕ) → running s es ≤ 1) → AreLinked es ls → links_of l.inc (remove ls place) ≡ 0
+pub none_left : {D : Type 0} (es : List (Event D)) (ls : List Link) (place : ℕ) (l : Link) → place < length ls → l ≡ slice_index_or ls place l → ((s : ℕ) → running s es ≤ 1) → AreLinked es ls → links_of l.inc (remove ls place) ≡ 0
 none_left es ls place l within is single linked =
     let few = single l.inc in
     let all = linked l.inc in

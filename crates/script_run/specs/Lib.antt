@@ -1,4 +1,5 @@
 pub mod Again
 pub mod Came
 pub mod Links
+pub mod Ready
 pub mod Told

@@ -12,18 +12,20 @@ use Rattle.doc_store.specs.declared.outcome.Outcome.TheVariants.{Kept, Lost}
 use Rattle.store_model.specs.Store.{IsBeforeOrAfter}
 use Rattle.store_model.specs.declared.disk.Disk.{Ghosts as Disks}
 use Rattle.script_model.specs.declared.step.Step.TheVariants as step
+use Rattle.script_model.specs.Bounds.{AreBounded}
 use Rattle.script_model.specs.Containers.{record_of}
 use Rattle.script_model.specs.Events.{Event, Stepped, running}
 use Rattle.script_model.specs.Origins.{AreHeard}
 use Rattle.script_model.specs.Saved.{AreOpened, AreSaved, IsDurable, IsSince}
 use Rattle.script_model.specs.Turns.{AreTurns}
 
--- The container's record is that of the history, all that was sent were its turns, each message that it was given came on its
+-- The container's record is that of the history, all that was sent were its turns, no more was sent, made anew and read than a command may, each message that it was given came on its
 -- link, no server runs twice, and, where the disks follow the model, each commit that it counts is saved and each file that it
 -- opened was read.
 pub record IsTold {D : Type 0} (disks : Disks D) (es : List (Event D)) (r : Record) : Type 0 where
   pub recorded : record_of es ≡ r
   pub sent : AreTurns es
+  pub bounded : AreBounded es
   pub heard : AreHeard es
   pub single : (s : ℕ) → running s es ≤ 1
   pub saved : disks.follows_model → AreSaved disks es

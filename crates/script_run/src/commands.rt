@@ -1,9 +1,11 @@
 //! The commands of a script, one after another.
 
 ghost use Rattle.container_model.specs.Record.{Record};
+ghost use Rattle.script_model.specs.Bounds.{linking, pace, resting};
 ghost use Rattle.script_model.specs.Events.{running};
 ghost use Rattle.script_model.specs.Origins.{AreNext, Passed, giving, passed};
 ghost use Rattle.script_run.specs.Links.{AreLinked, AreServed, EachServed, beside, links_of};
+ghost use Rattle.script_run.specs.Ready.{AreReady, MayLink, pace_beside};
 ghost use Rattle.script_run.specs.Told.{IsTold};
 ghost use Rattle.script_run.specs.declared.links.Link.{Link};
 ghost use Rattle.std.specs.Prelude.{◌≡◌, ◌≤◌, ◌<◌, ◌++◌, ◌∷◌, [], false, true, IfOk, IfSome, OnOk, length, ℕ, slice_index_or, slice_set, vec_capacity, vec_len};
@@ -67,6 +69,7 @@ fn start<H: Host>(
     ensures told { IsTold ⟦<H::Disk as Disk>⟧ (H.told host.new) _core.now }
     ensures linked { AreLinked (H.told host.new) links.new.items }
     ensures served { AreServed (H.told host.new) links.new.items }
+    ensures paced { (s : ℕ) → pace s (H.told host.new) ≡ pace s (H.told host.old) }
 {
     if is_linked(links, inc) {
         return Err(ScriptFault::Link(inc));
@@ -104,6 +107,7 @@ fn end<H: Host>(
     ensures told { IsTold ⟦<H::Disk as Disk>⟧ (H.told host.new) core.new }
     ensures linked { AreLinked (H.told host.new) links.new.items }
     ensures served { AreServed (H.told host.new) links.new.items }
+    ensures paced { (s : ℕ) → pace s (H.told host.new) ≡ pace s (H.told host.old) }
 {
     match place_of(links, inc) {
         Some(place) => end_at(alloc, host, core, links, place, noticed),
@@ -126,6 +130,7 @@ fn act_on<H: Host>(
     ensures told { IsTold ⟦<H::Disk as Disk>⟧ (H.told host.new) core.new }
     ensures linked { AreLinked (H.told host.new) links.new.items }
     ensures served { AreServed (H.told host.new) links.new.items }
+    ensures paced { (s : ℕ) → pace s (H.told host.new) ≡ pace s (H.told host.old) }
 {
     match action {
         Action::Start(inc) => start(alloc, host, core, links, *inc),
@@ -149,6 +154,7 @@ fn act<H: Host>(
     ensures told { IsTold ⟦<H::Disk as Disk>⟧ (H.told host.new) core.new }
     ensures linked { AreLinked (H.told host.new) links.new.items }
     ensures served { AreServed (H.told host.new) links.new.items }
+    ensures paced { (s : ℕ) → pace s (H.told host.new) ≡ pace s (H.told host.old) }
 {
     for action in answer.actions.as_slice() {
         act_on(alloc, host, core, links, action, noticed)?;
@@ -171,6 +177,7 @@ fn order<H: Host>(
     ensures told { IsTold ⟦<H::Disk as Disk>⟧ (H.told host.new) core.new }
     ensures linked { AreLinked (H.told host.new) links.new.items }
     ensures served { AreServed (H.told host.new) links.new.items }
+    ensures paced { (s : ℕ) → pace s (H.told host.new) ≡ pace s (H.told host.old) }
 {
     match command(alloc, host, core, ordered) {
         Ok(answer) => {
@@ -195,15 +202,18 @@ fn cut<H: Host>(
     requires told { IsTold ⟦<H::Disk as Disk>⟧ (H.told host.old) core.old }
     requires linked { AreLinked (H.told host.old) links.old.items }
     requires served { AreServed (H.told host.old) links.old.items }
+    requires rested { (s : ℕ) → pace s (H.told host.old) ≡ resting }
     ensures told { IsTold ⟦<H::Disk as Disk>⟧ (H.told host.new) core.new }
     ensures linked { AreLinked (H.told host.new) links.new.items }
     ensures served { AreServed (H.told host.new) links.new.items }
+    ensures ready { OnOk result (AreReady 1 (H.told host.new) links.new.items) }
 {
-    send_turn(alloc, host, core, links[place].inc)?;
-    if !reconnect_at(alloc, host, links, place) {
-        end_at(alloc, host, core, links, place, noticed)?;
+    let inc = links[place].inc;
+    send_turn(alloc, host, core, inc)?;
+    if reconnect_at(alloc, host, links, place) {
+        return Ok(());
     }
-    Ok(())
+    end_at(alloc, host, core, links, place, noticed)
 }
 
 /// Hands all messages over that wait of a server. Gives whether each is one that a server may send.
@@ -221,6 +231,7 @@ fn hand_all<H: Host>(
     ensures still { (s : ℕ) → running s (H.told host.new) ≡ running s (H.told host.old) }
     ensures apart { (s : ℕ) → beside inc s (H.told host.new) ≡ beside inc s (H.told host.old) }
     ensures given { IfOk result (λ all. all ≡ true → passed inc (H.told host.new) ≡ giving waiting (passed inc (H.told host.old))) }
+    ensures paced { (s : ℕ) → pace s (H.told host.new) ≡ pace s (H.told host.old) }
 {
     for taken in waiting.into_vec() {
         if !hand_over(alloc, host, core, inc, taken, noticed)? {
@@ -249,10 +260,14 @@ fn reconnect_at<H: Host>(alloc: Global, host: &mut H, links: &mut Vec<Link>, pla
     requires single { (s : ℕ) → running s (H.told host.old) ≤ 1 }
     requires linked { AreLinked (H.told host.old) links.old.items }
     requires served { AreServed (H.told host.old) links.old.items }
+    requires may { (d : Link) → MayLink (pace (slice_index_or links.old.items place d).inc (H.told host.old)) }
     ensures told { (r : Record) → IsTold ⟦<H::Disk as Disk>⟧ (H.told host.old) r → IsTold ⟦<H::Disk as Disk>⟧ (H.told host.new) r }
     ensures linked { AreLinked (H.told host.new) links.new.items }
     ensures served { AreServed (H.told host.new) links.new.items }
     ensures many { length links.new.items ≡ length links.old.items }
+    ensures same { (d : Link) → (slice_index_or links.new.items place d).inc ≡ (slice_index_or links.old.items place d).inc }
+    ensures aside { (d : Link) (s : ℕ) → pace_beside (slice_index_or links.old.items place d).inc s (H.told host.new) ≡ pace_beside (slice_index_or links.old.items place d).inc s (H.told host.old) }
+    ensures made { (d : Link) → pace (slice_index_or links.old.items place d).inc (H.told host.new) ≡ linking result (pace (slice_index_or links.old.items place d).inc (H.told host.old)) }
 {
     reconnect(alloc, host, &mut links[place])
 }
@@ -273,6 +288,7 @@ fn release<H: Host>(
     ensures told { IsTold ⟦<H::Disk as Disk>⟧ (H.told host.new) core.new }
     ensures linked { AreLinked (H.told host.new) links.new.items }
     ensures served { OnOk result (AreServed (H.told host.new) links.new.items) }
+    ensures paced { (s : ℕ) → pace s (H.told host.new) ≡ pace s (H.told host.old) }
 {
     let inc = links[place].inc;
     let waiting = let_go(alloc, links, place);
@@ -303,9 +319,11 @@ fn at_link<H: Host>(
     requires told { IsTold ⟦<H::Disk as Disk>⟧ (H.told host.old) core.old }
     requires linked { AreLinked (H.told host.old) links.old.items }
     requires served { AreServed (H.told host.old) links.old.items }
+    requires rested { (s : ℕ) → pace s (H.told host.old) ≡ resting }
     ensures told { IsTold ⟦<H::Disk as Disk>⟧ (H.told host.new) core.new }
     ensures linked { AreLinked (H.told host.new) links.new.items }
     ensures served { OnOk result (AreServed (H.told host.new) links.new.items) }
+    ensures ready { OnOk result (AreReady 1 (H.told host.new) links.new.items) }
 {
     let inc = match command {
         ScriptCommand::Cut(inc) | ScriptCommand::Hold(inc) | ScriptCommand::Release(inc) => *inc,
@@ -352,9 +370,11 @@ fn begin<H: Host>(
     requires told { IsTold ⟦<H::Disk as Disk>⟧ (H.told host.old) core.old }
     requires linked { AreLinked (H.told host.old) links.old.items }
     requires served { AreServed (H.told host.old) links.old.items }
+    requires rested { (s : ℕ) → pace s (H.told host.old) ≡ resting }
     ensures told { IsTold ⟦<H::Disk as Disk>⟧ (H.told host.new) core.new }
     ensures linked { AreLinked (H.told host.new) links.new.items }
     ensures served { OnOk result (AreServed (H.told host.new) links.new.items) }
+    ensures ready { OnOk result (AreReady 1 (H.told host.new) links.new.items) }
 {
     match command {
         ScriptCommand::Container(ordered) => order(alloc, host, core, links, ordered, noticed),
@@ -376,6 +396,7 @@ pub(crate) fn carry_out<H: Host, W: Write>(
     requires told { IsTold ⟦<H::Disk as Disk>⟧ (H.told host.old) core.old }
     requires linked { AreLinked (H.told host.old) links.old.items }
     requires served { AreServed (H.told host.old) links.old.items }
+    requires rested { (s : ℕ) → pace s (H.told host.old) ≡ resting }
     ensures told { IsTold ⟦<H::Disk as Disk>⟧ (H.told host.new) core.new }
     ensures linked { AreLinked (H.told host.new) links.new.items }
     ensures served { OnOk result (AreServed (H.told host.new) links.new.items) }

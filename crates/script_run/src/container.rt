@@ -3,6 +3,7 @@
 ghost use Rattle.container_model.specs.Opens.{Given, IsReadAs};
 ghost use Rattle.container_model.specs.declared.command.Command.{Command};
 ghost use Rattle.document_model.specs.declared.object.DocObject.{DocObject};
+ghost use Rattle.script_model.specs.Bounds.{pace};
 ghost use Rattle.script_model.specs.Events.{running};
 ghost use Rattle.script_model.specs.Origins.{AreNext, giving, passed};
 ghost use Rattle.script_model.specs.Saved.{IsReadFrom, IsSaved};
@@ -66,6 +67,7 @@ fn noted<H: Host>(
     ensures noted { H.told host.new ≡ noted_of told (H.told host.old) }
     ensures still { (s : ℕ) → running s (H.told host.new) ≡ running s (H.told host.old) }
     ensures quiet { (s : ℕ) → passed s (H.told host.new) ≡ passed s (H.told host.old) }
+    ensures paced { (s : ℕ) → pace s (H.told host.new) ≡ pace s (H.told host.old) }
 {
     match told {
         Ok(answer) => Ok(answer),
@@ -88,6 +90,7 @@ pub(crate) fn command<H: Host>(
     ensures told { IsTold ⟦<H::Disk as Disk>⟧ (H.told host.new) core.new }
     ensures still { (s : ℕ) → running s (H.told host.new) ≡ running s (H.told host.old) }
     ensures quiet { (s : ℕ) → passed s (H.told host.new) ≡ passed s (H.told host.old) }
+    ensures paced { (s : ℕ) → pace s (H.told host.new) ≡ pace s (H.told host.old) }
 {
     let step = Step::Command(command);
     host.note(&step);
@@ -112,6 +115,7 @@ pub(crate) fn message<H: Host>(
     ensures still { (s : ℕ) → running s (H.told host.new) ≡ running s (H.told host.old) }
     ensures apart { (s : ℕ) → beside inc s (H.told host.new) ≡ beside inc s (H.told host.old) }
     ensures given { passed inc (H.told host.new) ≡ giving (message ∷ []) (passed inc (H.told host.old)) }
+    ensures paced { (s : ℕ) → pace s (H.told host.new) ≡ pace s (H.told host.old) }
 {
     let step = Step::Message(inc, message);
     host.note(&step);
@@ -139,6 +143,7 @@ pub(crate) fn opened<H: Host>(
     ensures told { IsTold ⟦<H::Disk as Disk>⟧ (H.told host.new) core.new }
     ensures still { (s : ℕ) → running s (H.told host.new) ≡ running s (H.told host.old) }
     ensures quiet { (s : ℕ) → passed s (H.told host.new) ≡ passed s (H.told host.old) }
+    ensures paced { (s : ℕ) → pace s (H.told host.new) ≡ pace s (H.told host.old) }
     ensures few { IfOk result (λ a. length a.objects ≤ 64) }
 {
     files_give_one();
@@ -162,6 +167,7 @@ pub(crate) fn reap<H: Host>(
     ensures told { IsTold ⟦<H::Disk as Disk>⟧ (H.told host.new) core.new }
     ensures still { (s : ℕ) → running s (H.told host.new) ≡ running s (H.told host.old) }
     ensures quiet { (s : ℕ) → passed s (H.told host.new) ≡ passed s (H.told host.old) }
+    ensures paced { (s : ℕ) → pace s (H.told host.new) ≡ pace s (H.told host.old) }
 {
     host.note(&Step::Reap(inc));
     let told = core.on_reap(alloc, inc);
@@ -188,6 +194,7 @@ pub(crate) fn committed<H: Host>(
     ensures told { IsTold ⟦<H::Disk as Disk>⟧ (H.told host.new) core.new }
     ensures still { (s : ℕ) → running s (H.told host.new) ≡ running s (H.told host.old) }
     ensures quiet { (s : ℕ) → passed s (H.told host.new) ≡ passed s (H.told host.old) }
+    ensures paced { (s : ℕ) → pace s (H.told host.new) ≡ pace s (H.told host.old) }
 {
     host.note(&Step::Committed(frame));
     let told = core.commit_done(alloc, frame);
@@ -205,6 +212,7 @@ pub(crate) fn failed<H: Host>(
     ensures told { IsTold ⟦<H::Disk as Disk>⟧ (H.told host.new) core.new }
     ensures still { (s : ℕ) → running s (H.told host.new) ≡ running s (H.told host.old) }
     ensures quiet { (s : ℕ) → passed s (H.told host.new) ≡ passed s (H.told host.old) }
+    ensures paced { (s : ℕ) → pace s (H.told host.new) ≡ pace s (H.told host.old) }
 {
     host.note(&Step::Failed(frame));
     let told = core.commit_failed(alloc, frame);
@@ -222,6 +230,7 @@ pub(crate) fn dropped<H: Host>(
     ensures told { IsTold ⟦<H::Disk as Disk>⟧ (H.told host.new) core.new }
     ensures still { (s : ℕ) → running s (H.told host.new) ≡ running s (H.told host.old) }
     ensures quiet { (s : ℕ) → passed s (H.told host.new) ≡ passed s (H.told host.old) }
+    ensures paced { (s : ℕ) → pace s (H.told host.new) ≡ pace s (H.told host.old) }
 {
     host.note(&Step::Resolved(frame, false));
     let told = core.resolve(alloc, frame, false);

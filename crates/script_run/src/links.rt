@@ -2,10 +2,12 @@
 
 ghost use Rattle.container_model.specs.Record.{Record};
 ghost use Rattle.message_model.specs.Spelling.{spell};
+ghost use Rattle.script_model.specs.Bounds.{IsWithin, linking, pace, reading, sending};
 ghost use Rattle.script_model.specs.Events.{running};
 ghost use Rattle.script_model.specs.Origins.{AreNext, fresh, giving, passed};
 ghost use Rattle.script_model.specs.Turns.{server_of, turn_of};
 ghost use Rattle.script_run.specs.Links.{IsServed, beside};
+ghost use Rattle.script_run.specs.Ready.{GoesOn, HadTurn, HasLeft, IsReady, MayLink, pace_beside};
 ghost use Rattle.script_run.specs.Told.{IsTold};
 ghost use Rattle.std.specs.Prelude.{◌≡◌, ◌++◌, ◌∷◌, [], IfOk, OnOk, ℕ};
 
@@ -116,10 +118,13 @@ pub(crate) fn send_turn<H: Host>(
     core: &ContainerCore,
     inc: u32,
 ) -> Result<bool, ScriptFault>
-    requires { IsTold ⟦<H::Disk as Disk>⟧ (H.told host.old) core.now }
+    requires told { IsTold ⟦<H::Disk as Disk>⟧ (H.told host.old) core.now }
+    requires within { IsWithin (sending (pace inc (H.told host.old))) }
     ensures told { IsTold ⟦<H::Disk as Disk>⟧ (H.told host.new) core.now }
     ensures still { (s : ℕ) → running s (H.told host.new) ≡ running s (H.told host.old) }
     ensures quiet { (s : ℕ) → passed s (H.told host.new) ≡ passed s (H.told host.old) }
+    ensures aside { (s : ℕ) → pace_beside inc s (H.told host.new) ≡ pace_beside inc s (H.told host.old) }
+    ensures sent { OnOk result (pace inc (H.told host.new) ≡ sending (pace inc (H.told host.old))) }
 {
     let bytes = turn_bytes(alloc, core, inc)?;
     Ok(host.send(inc, &bytes).is_ok())
@@ -149,6 +154,7 @@ pub(crate) fn hand_over<H: Host>(
     ensures still { (s : ℕ) → running s (H.told host.new) ≡ running s (H.told host.old) }
     ensures apart { (s : ℕ) → beside inc s (H.told host.new) ≡ beside inc s (H.told host.old) }
     ensures given { passed inc (H.told host.new) ≡ giving (taken ∷ []) (passed inc (H.told host.old)) }
+    ensures paced { (s : ℕ) → pace s (H.told host.new) ≡ pace s (H.told host.old) }
 {
     match message(alloc, host, core, inc, taken) {
         Ok(answer) => {
@@ -179,6 +185,7 @@ fn meet<H: Host>(
     ensures same { link.new.inc ≡ link.old.inc }
     ensures apart { (s : ℕ) → beside link.old.inc s (H.told host.new) ≡ beside link.old.inc s (H.told host.old) }
     ensures served { OnOk result (IsServed (passed link.new.inc (H.told host.new)) link.new []) }
+    ensures paced { (s : ℕ) → pace s (H.told host.new) ≡ pace s (H.told host.old) }
 {
     if link.held {
         link.waiting.push(taken)?;
@@ -202,6 +209,7 @@ fn take_frames<H: Host>(
     ensures same { link.new.inc ≡ link.old.inc }
     ensures apart { (s : ℕ) → beside link.old.inc s (H.told host.new) ≡ beside link.old.inc s (H.told host.old) }
     ensures served { OnOk result (IsServed (passed link.new.inc (H.told host.new)) link.new []) }
+    ensures paced { (s : ℕ) → pace s (H.told host.new) ≡ pace s (H.told host.old) }
 {
     for _ in 0..=PIECE {
         match link.decoder.next() {
@@ -221,11 +229,14 @@ fn take_frames<H: Host>(
 /// Reads some bytes of a link. Gives whether there were any.
 fn read_some<H: Host>(host: &mut H, link: &mut Link) -> Result<bool, ScriptFault>
     requires served { IsServed (passed link.old.inc (H.told host.old)) link.old [] }
+    requires within { IsWithin (reading (pace link.old.inc (H.told host.old))) }
     ensures told { (r : Record) → IsTold ⟦<H::Disk as Disk>⟧ (H.told host.old) r → IsTold ⟦<H::Disk as Disk>⟧ (H.told host.new) r }
     ensures still { (s : ℕ) → running s (H.told host.new) ≡ running s (H.told host.old) }
     ensures same { link.new.inc ≡ link.old.inc }
     ensures apart { (s : ℕ) → beside link.old.inc s (H.told host.new) ≡ beside link.old.inc s (H.told host.old) }
     ensures served { OnOk result (IsServed (passed link.new.inc (H.told host.new)) link.new []) }
+    ensures aside { (s : ℕ) → pace_beside link.old.inc s (H.told host.new) ≡ pace_beside link.old.inc s (H.told host.old) }
+    ensures read { pace link.new.inc (H.told host.new) ≡ reading (pace link.old.inc (H.told host.old)) }
 {
     let mut piece = [0u8; PIECE];
     let n = match host.read(link.inc, &mut piece) {
@@ -255,11 +266,15 @@ fn hear<H: Host>(
 ) -> Result<Heard, ScriptFault>
     requires told { IsTold ⟦<H::Disk as Disk>⟧ (H.told host.old) core.old }
     requires served { IsServed (passed link.old.inc (H.told host.old)) link.old [] }
+    requires within { IsWithin (pace link.old.inc (H.told host.old)) }
+    requires on { GoesOn (pace link.old.inc (H.told host.old)) (pace link.old.inc (H.told host.old)) reads.old }
     ensures told { IsTold ⟦<H::Disk as Disk>⟧ (H.told host.new) core.new }
     ensures still { (s : ℕ) → running s (H.told host.new) ≡ running s (H.told host.old) }
     ensures same { link.new.inc ≡ link.old.inc }
     ensures apart { (s : ℕ) → beside link.old.inc s (H.told host.new) ≡ beside link.old.inc s (H.told host.old) }
     ensures served { OnOk result (IsServed (passed link.new.inc (H.told host.new)) link.new []) }
+    ensures aside { (s : ℕ) → pace_beside link.old.inc s (H.told host.new) ≡ pace_beside link.old.inc s (H.told host.old) }
+    ensures on { OnOk result (GoesOn (pace link.old.inc (H.told host.old)) (pace link.new.inc (H.told host.new)) reads.new) }
 {
     while *reads > 0 {
         let heard = take_frames(alloc, host, core, link, noticed)?;
@@ -285,11 +300,15 @@ fn exchange<H: Host>(
 ) -> Result<Heard, ScriptFault>
     requires told { IsTold ⟦<H::Disk as Disk>⟧ (H.told host.old) core.old }
     requires served { IsServed (passed link.old.inc (H.told host.old)) link.old [] }
+    requires within { IsWithin (sending (pace link.old.inc (H.told host.old))) }
+    requires left { HasLeft (sending (pace link.old.inc (H.told host.old))) reads.old }
     ensures told { IsTold ⟦<H::Disk as Disk>⟧ (H.told host.new) core.new }
     ensures still { (s : ℕ) → running s (H.told host.new) ≡ running s (H.told host.old) }
     ensures same { link.new.inc ≡ link.old.inc }
     ensures apart { (s : ℕ) → beside link.old.inc s (H.told host.new) ≡ beside link.old.inc s (H.told host.old) }
     ensures served { OnOk result (IsServed (passed link.new.inc (H.told host.new)) link.new []) }
+    ensures aside { (s : ℕ) → pace_beside link.old.inc s (H.told host.new) ≡ pace_beside link.old.inc s (H.told host.old) }
+    ensures on { OnOk result (GoesOn (sending (pace link.old.inc (H.told host.old))) (pace link.new.inc (H.told host.new)) reads.new) }
 {
     if !send_turn(alloc, host, core, link.inc)? {
         return Ok(Heard::Failed);
@@ -300,11 +319,14 @@ fn exchange<H: Host>(
 /// Connects a link again: what came of the old connection and isn't carried out is dropped.
 pub(crate) fn reconnect<H: Host>(alloc: Global, host: &mut H, link: &mut Link) -> bool
     requires served { IsServed (passed link.old.inc (H.told host.old)) link.old [] }
+    requires may { MayLink (pace link.old.inc (H.told host.old)) }
     ensures told { (r : Record) → IsTold ⟦<H::Disk as Disk>⟧ (H.told host.old) r → IsTold ⟦<H::Disk as Disk>⟧ (H.told host.new) r }
     ensures still { (s : ℕ) → running s (H.told host.new) ≡ running s (H.told host.old) }
     ensures same { link.new.inc ≡ link.old.inc }
     ensures apart { (s : ℕ) → beside link.old.inc s (H.told host.new) ≡ beside link.old.inc s (H.told host.old) }
     ensures served { IsServed (passed link.new.inc (H.told host.new)) link.new [] }
+    ensures aside { (s : ℕ) → pace_beside link.old.inc s (H.told host.new) ≡ pace_beside link.old.inc s (H.told host.old) }
+    ensures linked { pace link.new.inc (H.told host.new) ≡ linking result (pace link.old.inc (H.told host.old)) }
 {
     link.decoder = Decoder::new(alloc);
     host.connect(link.inc).is_ok()
@@ -320,11 +342,14 @@ pub(crate) fn serve<H: Host>(
 ) -> Result<bool, ScriptFault>
     requires told { IsTold ⟦<H::Disk as Disk>⟧ (H.told host.old) core.old }
     requires served { IsServed (passed link.old.inc (H.told host.old)) link.old [] }
+    requires ready { IsReady 1000 (pace link.old.inc (H.told host.old)) }
     ensures told { IsTold ⟦<H::Disk as Disk>⟧ (H.told host.new) core.new }
     ensures still { (s : ℕ) → running s (H.told host.new) ≡ running s (H.told host.old) }
     ensures same { link.new.inc ≡ link.old.inc }
     ensures apart { (s : ℕ) → beside link.old.inc s (H.told host.new) ≡ beside link.old.inc s (H.told host.old) }
     ensures served { OnOk result (IsServed (passed link.new.inc (H.told host.new)) link.new []) }
+    ensures aside { (s : ℕ) → pace_beside link.old.inc s (H.told host.new) ≡ pace_beside link.old.inc s (H.told host.old) }
+    ensures turned { OnOk result (HadTurn (pace link.old.inc (H.told host.old)) (pace link.new.inc (H.told host.new))) }
 {
     let mut reads = MOST_READS;
     match exchange(alloc, host, core, link, noticed, &mut reads)? {

@@ -1,7 +1,9 @@
 //! Scripts, from their texts to their ends.
 
+ghost use Rattle.container_model.specs.Record.{Record};
+ghost use Rattle.script_model.specs.Bounds.{AreBounded, pace, resting};
 ghost use Rattle.script_model.specs.Events.{running};
-ghost use Rattle.script_model.specs.Origins.{AreHeard};
+ghost use Rattle.script_model.specs.Origins.{AreHeard, passed};
 ghost use Rattle.script_model.specs.Saved.{AreOpened, AreSaved};
 ghost use Rattle.script_model.specs.Turns.{AreTurns};
 ghost use Rattle.script_run.specs.Links.{AreLinked, AreServed};
@@ -15,6 +17,7 @@ use crate::turns::end_all;
 use container_core::container::{ContainerCore, Limits};
 use script_model::command::ScriptCommand;
 use script_model::host::Host;
+use script_model::step::Step;
 use script_texts::commands::Commands;
 use std::alloc::Global;
 use std::io::{Read, Write};
@@ -37,6 +40,16 @@ fn read_script<R: Read>(alloc: Global, reader: &mut R) -> Result<Vec<ScriptComma
     }
 }
 
+/// Notes that the command of this place begins.
+fn begins<H: Host>(host: &mut H, place: usize)
+    ensures told { (r : Record) → IsTold ⟦<H::Disk as Disk>⟧ (H.told host.old) r → IsTold ⟦<H::Disk as Disk>⟧ (H.told host.new) r }
+    ensures still { (s : ℕ) → running s (H.told host.new) ≡ running s (H.told host.old) }
+    ensures quiet { (s : ℕ) → passed s (H.told host.new) ≡ passed s (H.told host.old) }
+    ensures rested { (s : ℕ) → pace s (H.told host.new) ≡ resting }
+{
+    host.note(&Step::Begins(place));
+}
+
 /// Carries out commands, one after another.
 fn carry_out_all<H: Host, W: Write>(
     alloc: Global,
@@ -52,7 +65,8 @@ fn carry_out_all<H: Host, W: Write>(
     ensures told { IsTold ⟦<H::Disk as Disk>⟧ (H.told host.new) core.new }
     ensures linked { AreLinked (H.told host.new) links.new.items }
 {
-    for command in commands {
+    for (place, command) in commands.into_iter().enumerate() {
+        begins(host, place);
         carry_out(alloc, host, core, links, command, writer)?;
     }
     if links.iter().any(|link| link.held) {
@@ -62,7 +76,8 @@ fn carry_out_all<H: Host, W: Write>(
 }
 
 /// Carries out the commands of a text over a host, with a container of its own, and writes what is told of each as it is
-/// carried out. However this ends, each server that was started is ended and awaited.
+/// carried out. However this ends, each server that was started is ended and awaited. A command sends no server more than 1,000
+/// turns; a turn makes a link anew once at most, and reads it 1,000,000 times at most.
 ///
 /// Refused: an input that isn't read or has more than 134,217,728 bytes; the first line that spells no command; and then, as
 /// commands are carried out: a server that isn't started (`Link`); what isn't answered in 1,000 turns, or a link that is held
@@ -76,6 +91,7 @@ pub fn run_script<H: Host, R: Read, W: Write>(
     requires { H.told host.old ≡ [] }
     ensures awaited { (s : ℕ) → running s (H.told host.new) ≡ 0 }
     ensures turns { AreTurns (H.told host.new) }
+    ensures bounded { AreBounded (H.told host.new) }
     ensures heard { AreHeard (H.told host.new) }
     ensures saved { H.Disk.follows_model → AreSaved ⟦<H::Disk as Disk>⟧ (H.told host.new) }
     ensures opened { H.Disk.follows_model → AreOpened ⟦<H::Disk as Disk>⟧ (H.told host.new) }

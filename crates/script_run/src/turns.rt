@@ -1,10 +1,12 @@
 //! Turns: each link is sent what is pending for its server, and what comes back is carried out.
 
+ghost use Rattle.script_model.specs.Bounds.{AreBounded, pace};
 ghost use Rattle.script_model.specs.Events.{running};
 ghost use Rattle.script_model.specs.Origins.{AreHeard};
 ghost use Rattle.script_model.specs.Saved.{AreOpened, AreSaved};
 ghost use Rattle.script_model.specs.Turns.{AreTurns};
 ghost use Rattle.script_run.specs.Links.{AreLinked, AreServed};
+ghost use Rattle.script_run.specs.Ready.{AreReady, IsUnderway};
 ghost use Rattle.script_run.specs.Told.{IsTold};
 ghost use Rattle.std.specs.Prelude.{◌≡◌, ◌+◌, ◌<◌, OnOk, length, remove, ℕ};
 
@@ -40,6 +42,8 @@ pub(crate) fn end_at<H: Host>(
     ensures told { IsTold ⟦<H::Disk as Disk>⟧ (H.told host.new) core.new }
     ensures linked { AreLinked (H.told host.new) links.new.items }
     ensures served { AreServed (H.told host.new) links.new.items }
+    ensures rest { links.new.items ≡ remove links.old.items place }
+    ensures paced { (s : ℕ) → pace s (H.told host.new) ≡ pace s (H.told host.old) }
 {
     let link = links.remove(place);
     host.end(link.inc);
@@ -53,11 +57,13 @@ pub(crate) fn end_at<H: Host>(
 /// Ends the servers of all links.
 pub(crate) fn end_all<H: Host>(host: &mut H, links: &mut Vec<Link>)
     requires sent { AreTurns (H.told host.old) }
+    requires bounded { AreBounded (H.told host.old) }
     requires heard { AreHeard (H.told host.old) }
     requires saved { H.Disk.follows_model → AreSaved ⟦<H::Disk as Disk>⟧ (H.told host.old) }
     requires opened { H.Disk.follows_model → AreOpened ⟦<H::Disk as Disk>⟧ (H.told host.old) }
     requires linked { AreLinked (H.told host.old) links.old.items }
     ensures sent { AreTurns (H.told host.new) }
+    ensures bounded { AreBounded (H.told host.new) }
     ensures heard { AreHeard (H.told host.new) }
     ensures saved { H.Disk.follows_model → AreSaved ⟦<H::Disk as Disk>⟧ (H.told host.new) }
     ensures opened { H.Disk.follows_model → AreOpened ⟦<H::Disk as Disk>⟧ (H.told host.new) }
@@ -106,10 +112,12 @@ fn serve_at<H: Host>(
     requires told { IsTold ⟦<H::Disk as Disk>⟧ (H.told host.old) core.old }
     requires linked { AreLinked (H.told host.old) links.old.items }
     requires served { AreServed (H.told host.old) links.old.items }
+    requires ready { IsUnderway 1000 (H.told host.old) links.old.items place }
     ensures told { IsTold ⟦<H::Disk as Disk>⟧ (H.told host.new) core.new }
     ensures linked { AreLinked (H.told host.new) links.new.items }
     ensures served { OnOk result (AreServed (H.told host.new) links.new.items) }
     ensures many { length links.new.items ≡ length links.old.items }
+    ensures ready { (n : ℕ) → IsUnderway n (H.told host.old) links.old.items place → OnOk result (IsUnderway n (H.told host.new) links.new.items (place + 1)) }
 {
     serve(alloc, host, core, &mut links[place], noticed)
 }
@@ -125,9 +133,11 @@ fn turn<H: Host>(
     requires told { IsTold ⟦<H::Disk as Disk>⟧ (H.told host.old) core.old }
     requires linked { AreLinked (H.told host.old) links.old.items }
     requires served { AreServed (H.told host.old) links.old.items }
+    requires ready { AreReady 1000 (H.told host.old) links.old.items }
     ensures told { IsTold ⟦<H::Disk as Disk>⟧ (H.told host.new) core.new }
     ensures linked { AreLinked (H.told host.new) links.new.items }
     ensures served { OnOk result (AreServed (H.told host.new) links.new.items) }
+    ensures ready { (n : ℕ) → AreReady n (H.told host.old) links.old.items → OnOk result (AreReady (n + 1) (H.told host.new) links.new.items) }
 {
     let mut place = 0;
     while place < links.len() {
@@ -153,11 +163,12 @@ pub(crate) fn turns<H: Host>(
     requires told { IsTold ⟦<H::Disk as Disk>⟧ (H.told host.old) core.old }
     requires linked { AreLinked (H.told host.old) links.old.items }
     requires served { AreServed (H.told host.old) links.old.items }
+    requires ready { AreReady 1 (H.told host.old) links.old.items }
     ensures told { IsTold ⟦<H::Disk as Disk>⟧ (H.told host.new) core.new }
     ensures linked { AreLinked (H.told host.new) links.new.items }
     ensures served { OnOk result (AreServed (H.told host.new) links.new.items) }
 {
-    for _ in 0..MOST_TURNS {
+    for done in 0..MOST_TURNS {
         if !is_pending(core, links) {
             return Ok(());
         }

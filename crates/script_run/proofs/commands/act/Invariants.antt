@@ -1,3 +1,5 @@
+use Rattle.std.proofs.Common.{◌≡◌, ℕ}
+use Rattle.script_model.specs.Bounds.{pace}
 use Rattle.script_run.specs.Links.{AreLinked, AreServed}
 use Rattle.script_run.specs.Told.{IsTold}
 use Rattle.script_run.proofs.commands.act.Given as goal
@@ -7,4 +9,5 @@ invariant-loop-action g l = record {
   told : IsTold g.H.Disk.Disk (g.H.Host.told l.host) l.core;
   linked : AreLinked (g.H.Host.told l.host) l.links.items;
   served : AreServed (g.H.Host.told l.host) l.links.items;
+  paced : (s : ℕ) → pace s (g.H.Host.told l.host) ≡ pace s (g.H.Host.told l.fn.host);
 }

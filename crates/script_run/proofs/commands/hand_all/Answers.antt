@@ -11,6 +11,7 @@ loop-taken-preserved g c =
       told = c.hand_over.ensures.told;
       still = λ s. c.hand_over.ensures.still s ∙ c.loop-taken.invariant.still s;
       apart = λ s. c.hand_over.ensures.apart s ∙ c.loop-taken.invariant.apart s;
+      paced = λ s. c.hand_over.ensures.paced s ∙ c.loop-taken.invariant.paced s;
       next = others_next (passed c.args.inc (g.H.Host.told c.loop-taken.host)) (passed c.args.inc (g.H.Host.told c.hand_over.new.host)) c.in-Some.taken (into_iter_items c.loop-taken.taken-iterator)
           (into_iter_items c.next.new.self) items c.hand_over.ensures.given c.loop-taken.invariant.next;
       given = others_given (passed c.args.inc (g.H.Host.told c.loop-taken.host)) (passed c.args.inc (g.H.Host.told c.hand_over.new.host)) (giving c.args.waiting (passed c.args.inc (g.H.Host.told c.args.host.now))) c.in-Some.taken (into_iter_items c.loop-taken.taken-iterator)

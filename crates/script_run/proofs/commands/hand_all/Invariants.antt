@@ -1,5 +1,6 @@
 use Rattle.std.proofs.Common.{◌≡◌, ℕ}
 use Rattle.std.specs.Vec.Iter.{into_iter_items}
+use Rattle.script_model.specs.Bounds.{pace}
 use Rattle.script_model.specs.Events.{running}
 use Rattle.script_model.specs.Origins.{AreNext, giving, passed}
 use Rattle.script_run.specs.Links.{beside}
@@ -11,6 +12,7 @@ invariant-loop-taken g l = record {
   told : IsTold g.H.Disk.Disk (g.H.Host.told l.host) l.core;
   still : (s : ℕ) → running s (g.H.Host.told l.host) ≡ running s (g.H.Host.told l.fn.host);
   apart : (s : ℕ) → beside l.inc s (g.H.Host.told l.host) ≡ beside l.inc s (g.H.Host.told l.fn.host);
+  paced : (s : ℕ) → pace s (g.H.Host.told l.host) ≡ pace s (g.H.Host.told l.fn.host);
   next : AreNext (passed l.inc (g.H.Host.told l.host)) (into_iter_items l.taken-iterator);
   given : giving (into_iter_items l.taken-iterator) (passed l.inc (g.H.Host.told l.host)) ≡ giving l.fn.waiting (passed l.inc (g.H.Host.told l.fn.host));
 }

@@ -1,6 +1,9 @@
-use Rattle.std.proofs.Common.{ap, sym, ◌∙◌}
+use Rattle.std.proofs.Common.{◌≡◌, ℕ, ap, subst, sym, ◌∙◌}
+use Rattle.script_model.specs.Bounds.{linking, pace}
 use Rattle.script_run.specs.declared.links.Link.{Link}
+use Rattle.script_run.specs.Ready.{MayLink, pace_beside}
 use Rattle.script_run.proofs.Given.{same_links}
+use Rattle.script_run.proofs.Paces.{any_at, set_at}
 use Rattle.script_run.proofs.Served.{placed_served}
 use Rattle.script_run.proofs.commands.reconnect_at.Goals as goal
 
@@ -13,3 +16,22 @@ pub returns-clause-served : goal.returns-clause-served
 returns-clause-served g c =
     placed_served (g.H.Host.told c.args.host.now) (g.H.Host.told c.reconnect.new.host) c.args.links.now.items c.args.place c.index_mut.result.now c.reconnect.new.link c.requires.within c.index_mut.ensures.value c.requires.single c.requires.linked c.reconnect.ensures.same
     c.reconnect.ensures.apart c.reconnect.ensures.served c.requires.served
+
+pub returns-clause-same : goal.returns-clause-same
+returns-clause-same g c = λ d.
+    ap (λ (l : Link). l.inc) (set_at c.args.links.now.items c.args.place c.reconnect.new.link d c.requires.within) ∙ c.reconnect.ensures.same
+    ∙ ap (λ (l : Link). l.inc) (c.index_mut.ensures.value ∙ any_at c.args.links.now.items c.args.place c.index_mut.result.now d c.requires.within)
+
+pub reconnect-requires-clause-may : goal.reconnect-requires-clause-may
+reconnect-requires-clause-may g c = subst (λ (l : Link). MayLink (pace l.inc (g.H.Host.told c.args.host.now))) (sym c.index_mut.ensures.value) (c.requires.may c.index_mut.result.now)
+
+pub returns-clause-aside : goal.returns-clause-aside
+returns-clause-aside g c = λ d.
+    subst (λ (l : Link). (s : ℕ) → pace_beside l.inc s (g.H.Host.told c.reconnect.new.host) ≡ pace_beside l.inc s (g.H.Host.told c.args.host.now))
+    (c.index_mut.ensures.value ∙ any_at c.args.links.now.items c.args.place c.index_mut.result.now d c.requires.within) c.reconnect.ensures.aside
+
+pub returns-clause-made : goal.returns-clause-made
+returns-clause-made g c = λ d.
+    subst (λ (l : Link). pace l.inc (g.H.Host.told c.reconnect.new.host) ≡ linking c.reconnect.result (pace l.inc (g.H.Host.told c.args.host.now)))
+    (c.index_mut.ensures.value ∙ any_at c.args.links.now.items c.args.place c.index_mut.result.now d c.requires.within)
+    (subst (λ (i : ℕ). pace i (g.H.Host.told c.reconnect.new.host) ≡ linking c.reconnect.result (pace c.index_mut.result.now.inc (g.H.Host.told c.args.host.now))) c.reconnect.ensures.same c.reconnect.ensures.linked)

@@ -1,7 +1,9 @@
 use Rattle.std.proofs.Common.{◌≡◌, ℕ, []}
+use Rattle.script_model.specs.Bounds.{pace}
 use Rattle.script_model.specs.Events.{running}
 use Rattle.script_model.specs.Origins.{passed}
 use Rattle.script_run.specs.Links.{IsServed, beside}
+use Rattle.script_run.specs.Ready.{GoesOn, pace_beside}
 use Rattle.script_run.specs.Told.{IsTold}
 use Rattle.script_run.proofs.links.hear.Given as goal
 
@@ -11,6 +13,8 @@ invariant-loop-reads g l = record {
   still : (s : ℕ) → running s (g.H.Host.told l.host) ≡ running s (g.H.Host.told l.fn.host);
   same : l.link.inc ≡ l.fn.link.inc;
   apart : (s : ℕ) → beside l.fn.link.inc s (g.H.Host.told l.host) ≡ beside l.fn.link.inc s (g.H.Host.told l.fn.host);
+  aside : (s : ℕ) → pace_beside l.fn.link.inc s (g.H.Host.told l.host) ≡ pace_beside l.fn.link.inc s (g.H.Host.told l.fn.host);
+  on : GoesOn (pace l.fn.link.inc (g.H.Host.told l.fn.host)) (pace l.link.inc (g.H.Host.told l.host)) l.reads;
   served : IsServed (passed l.link.inc (g.H.Host.told l.host)) l.link [];
 }
 

@@ -1,4 +1,5 @@
 use Rattle.std.proofs.Common.{◌≡◌, ℕ, []}
+use Rattle.script_model.specs.Bounds.{pace}
 use Rattle.script_model.specs.Events.{running}
 use Rattle.script_model.specs.Origins.{passed}
 use Rattle.script_run.specs.Links.{IsServed, beside}
@@ -11,5 +12,6 @@ invariant-loop g l = record {
   still : (s : ℕ) → running s (g.H.Host.told l.host) ≡ running s (g.H.Host.told l.fn.host);
   same : l.link.inc ≡ l.fn.link.inc;
   apart : (s : ℕ) → beside l.fn.link.inc s (g.H.Host.told l.host) ≡ beside l.fn.link.inc s (g.H.Host.told l.fn.host);
+  paced : (s : ℕ) → pace s (g.H.Host.told l.host) ≡ pace s (g.H.Host.told l.fn.host);
   served : IsServed (passed l.link.inc (g.H.Host.told l.host)) l.link [];
 }

@@ -2,8 +2,8 @@ use Rattle.script_run.specs.Links.{AreLinked, AreServed}
 use Rattle.script_run.specs.Told.{IsTold}
 use Rattle.script_run.proofs.script.carry_out_all.Given as goal
 
-abbrev pub invariant-loop-command : goal.invariant-loop-command
-invariant-loop-command g l = record {
+abbrev pub invariant-loop-place : goal.invariant-loop-place
+invariant-loop-place g l = record {
   told : IsTold g.H.Disk.Disk (g.H.Host.told l.host) l.core;
   linked : AreLinked (g.H.Host.told l.host) l.links.items;
   served : AreServed (g.H.Host.told l.host) l.links.items;

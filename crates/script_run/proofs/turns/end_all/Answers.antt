@@ -5,6 +5,7 @@ use Rattle.script_run.proofs.turns.end_all.Goals as goal
 pub loop-link-preserved : goal.loop-link-preserved
 loop-link-preserved g c = record {
   sent = search (rules, c.end.ensures);
+  bounded = search (rules, c.end.ensures);
   heard = search (rules, c.end.ensures);
   saved = search (rules, c.end.ensures);
   opened = search (rules, c.end.ensures);

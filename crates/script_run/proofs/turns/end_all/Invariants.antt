@@ -1,3 +1,4 @@
+use Rattle.script_model.specs.Bounds.{AreBounded}
 use Rattle.script_model.specs.Origins.{AreHeard}
 use Rattle.script_model.specs.Saved.{AreOpened, AreSaved}
 use Rattle.script_model.specs.Turns.{AreTurns}
@@ -7,6 +8,7 @@ use Rattle.script_run.proofs.turns.end_all.Given as goal
 abbrev pub invariant-loop-link : goal.invariant-loop-link
 invariant-loop-link g l = record {
   sent : AreTurns (g.H.Host.told l.host);
+  bounded : AreBounded (g.H.Host.told l.host);
   heard : AreHeard (g.H.Host.told l.host);
   saved : g.H.Disk.Disk.follows_model → AreSaved g.H.Disk.Disk (g.H.Host.told l.host);
   opened : g.H.Disk.Disk.follows_model → AreOpened g.H.Disk.Disk (g.H.Host.told l.host);

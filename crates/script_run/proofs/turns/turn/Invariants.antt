@@ -1,5 +1,6 @@
-use Rattle.std.proofs.Common.{length, ◌-◌}
+use Rattle.std.proofs.Common.{length, ◌-◌, ℕ}
 use Rattle.script_run.specs.Links.{AreLinked, AreServed}
+use Rattle.script_run.specs.Ready.{AreReady, IsUnderway}
 use Rattle.script_run.specs.Told.{IsTold}
 use Rattle.script_run.proofs.turns.turn.Given as goal
 
@@ -8,6 +9,7 @@ invariant-loop-place g l = record {
   told : IsTold g.H.Disk.Disk (g.H.Host.told l.host) l.core;
   linked : AreLinked (g.H.Host.told l.host) l.links.items;
   served : AreServed (g.H.Host.told l.host) l.links.items;
+  each : (n : ℕ) → AreReady n (g.H.Host.told l.fn.host) l.fn.links.items → IsUnderway n (g.H.Host.told l.host) l.links.items l.place;
 }
 
 abbrev pub decreases-loop-place : goal.decreases-loop-place

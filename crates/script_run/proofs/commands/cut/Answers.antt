@@ -1,0 +1,32 @@
+use Rattle.std.proofs.Common.{◌≡◌, ◌<◌, ℕ, length, ap, sym, subst, ◌∙◌}
+use Rattle.script_model.specs.Bounds.{linking, pace}
+use Rattle.script_run.specs.declared.links.Link.{Link}
+use Rattle.script_run.specs.Ready.{AreReady, MayLink, pace_beside}
+use Rattle.script_run.proofs.Paces.{any_at, cut_ended, cut_may, cut_ready, none_ended, rests_within}
+use Rattle.script_run.proofs.Served.{on_ok}
+use Rattle.script_run.proofs.commands.cut.Goals as goal
+
+pub send_turn-requires-clause-within : goal.send_turn-requires-clause-within
+send_turn-requires-clause-within g c = rests_within (g.H.Host.told c.args.host.now) c.index.result.now.inc c.requires.rested
+
+pub reconnect_at-requires-clause-may : goal.reconnect_at-requires-clause-may
+reconnect_at-requires-clause-may g c = λ d.
+    subst (λ (l : Link). MayLink (pace l.inc (g.H.Host.told c.send_turn.new.host))) (c.index.ensures ∙ any_at c.args.links.now.items c.args.place c.index.result.now d c.requires.within)
+    (cut_may (g.H.Host.told c.args.host.now) (g.H.Host.told c.send_turn.new.host) c.index.result.now.inc c.requires.rested c.in_ok-send_turn.ensures.sent)
+
+pub returns-then-reconnect_at-clause-ready : goal.returns-then-reconnect_at-clause-ready
+returns-then-reconnect_at-clause-ready g c =
+    cut_ready (g.H.Host.told c.args.host.now) (g.H.Host.told c.send_turn.new.host) (g.H.Host.told c.reconnect_at.new.host) c.index.result.now.inc c.requires.rested c.send_turn.ensures.aside
+    (subst (λ (l : Link). (s : ℕ) → pace_beside l.inc s (g.H.Host.told c.reconnect_at.new.host) ≡ pace_beside l.inc s (g.H.Host.told c.send_turn.new.host)) (sym c.index.ensures) (c.reconnect_at.ensures.aside c.index.result.now))
+    c.reconnect_at.new.links.items c.reconnect_at.result c.if-reconnect_at.true c.in_ok-send_turn.ensures.sent
+    (subst (λ (l : Link). pace l.inc (g.H.Host.told c.reconnect_at.new.host) ≡ linking c.reconnect_at.result (pace l.inc (g.H.Host.told c.send_turn.new.host))) (sym c.index.ensures) (c.reconnect_at.ensures.made c.index.result.now))
+
+pub returns-clause-ready : goal.returns-clause-ready
+returns-clause-ready g c =
+    let within : c.args.place < length c.reconnect_at.new.links.items = subst (λ (k : ℕ). c.args.place < k) (sym c.reconnect_at.ensures.many) c.requires.within in
+    let none = none_ended (g.H.Host.told c.reconnect_at.new.host) c.reconnect_at.new.links.items c.end_at.new.links.items c.args.place c.index.result.now.inc c.index.result.now within
+    (c.reconnect_at.ensures.same c.index.result.now ∙ ap (λ (l : Link). l.inc) (sym c.index.ensures)) (c.reconnect_at.ensures.told c.args.core.now c.send_turn.ensures.told).single c.reconnect_at.ensures.linked c.end_at.ensures.rest in
+    on_ok c.end_at.result (AreReady 1 (g.H.Host.told c.end_at.new.host) c.end_at.new.links.items)
+    (cut_ended (g.H.Host.told c.args.host.now) (g.H.Host.told c.send_turn.new.host) (g.H.Host.told c.reconnect_at.new.host) c.index.result.now.inc c.requires.rested c.send_turn.ensures.aside
+    (subst (λ (l : Link). (s : ℕ) → pace_beside l.inc s (g.H.Host.told c.reconnect_at.new.host) ≡ pace_beside l.inc s (g.H.Host.told c.send_turn.new.host)) (sym c.index.ensures) (c.reconnect_at.ensures.aside c.index.result.now))
+    (g.H.Host.told c.end_at.new.host) c.end_at.new.links.items c.end_at.ensures.paced none)
