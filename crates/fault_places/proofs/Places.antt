@@ -1,5 +1,5 @@
 -- What is found at a place is what is wrong with the file.
-use Rattle.std.proofs.Common.{◌≡◌, ◌≢◌, ◌<◌, ◌≤◌, ◌*◌, ◌++◌, ◌∙◌, ℕ, Bool, true, Option, Some, None, IfSome, List, Result, Ok, length, get_or, min, refl, sym, ap, subst, arith}
+use Rattle.std.proofs.Common.{◌≡◌, ◌≢◌, ◌<◌, ◌≤◌, ◌*◌, ◌++◌, ◌∙◌, ℕ, Bool, true, Option, Some, None, IfSome, List, Result, Ok, Err, length, get_or, min, refl, sym, ap, subst, arith}
 use Rattle.std.specs.List.{All, Contains}
 use Rattle.cfb_header.specs.Bytes.{joined, sector, u32_at}
 use Rattle.cfb_header.specs.Header.{HeaderValue, IsHeader, difat, difat_by, fat_by, first_directory, header_of, header_read, listed}
@@ -60,6 +60,12 @@ told_is_at_fault file fault (place.MiniStream link) h = faults.in_mini_stream h.
 -- ---- the header
 pub header_same : (file : List ℕ) (h : HeaderValue) → header_read file ≡ Ok h → IsHeader file → h ≡ header_of file
 header_same file h read is = header_is h (header_of file) (sym read ∙ read_whole file is)
+
+same_fault : (a b : ChainFault) → ◌≡◌ {A = Result HeaderValue ChainFault} (Err a) (Err b) → a ≡ b
+same_fault a b h = cc
+
+pub header_told : (file : List ℕ) (r : Result HeaderValue ChainFault) (a b : ChainFault) → r ≡ header_read file → r ≡ Err a → header_read file ≡ Err b → a ≡ b
+header_told file r a b read is refused = same_fault a b (sym is ∙ read ∙ refused)
 
 -- a place that is told where a test holds
 pub place_told : (file : List ℕ) (fault : ChainFault) (p : Option FaultPlace) (found : Bool) (q : FaultPlace) → IfSome p (λ x. (found ≡ true) × (x ≡ q))

@@ -3,11 +3,11 @@
 ghost use Rattle.cfb_chain.specs.Chain.{IsChain, IsChainOf};
 ghost use Rattle.cfb_chain.specs.Fat.{sectors_of};
 ghost use Rattle.cfb_directory.specs.Entries.{entry_at, first_of, size_of};
-ghost use Rattle.cfb_header.specs.Header.{first_directory, first_mini_fat, header_of, listed, mini_fat_count};
+ghost use Rattle.cfb_header.specs.Header.{first_directory, first_mini_fat, header_of, header_read, listed, mini_fat_count};
 ghost use Rattle.cfb_header.specs.declared.fault.ChainFault.TheVariants.{NoMemory};
 ghost use Rattle.fault_places.specs.Places.{IsFaultAt};
 ghost use Rattle.fault_places.specs.Tables.{AreTablesOf};
-ghost use Rattle.std.specs.Prelude.{◌*◌, ◌++◌, ◌≡◌, ◌≢◌, IfOk, IfSome, true};
+ghost use Rattle.std.specs.Prelude.{◌*◌, ◌++◌, ◌≡◌, ◌≢◌, Err, IfOk, IfSome, Some, true};
 
 use crate::place::FaultPlace;
 use crate::tables::{Tables, tables_of};
@@ -24,7 +24,8 @@ const SECTOR: u32 = 512;
 
 /// Whether two faults are the same one, other than want of memory.
 fn is_same(a: ChainFault, b: ChainFault) -> bool
-    ensures { result ≡ true → (a ≡ b) × (a ≢ NoMemory) }
+    ensures only { result ≡ true → (a ≡ b) × (a ≢ NoMemory) }
+    ensures same { a ≡ b → a ≢ NoMemory → result ≡ true }
 {
     if a == ChainFault::NoMemory {
         return false;
@@ -34,7 +35,8 @@ fn is_same(a: ChainFault, b: ChainFault) -> bool
 
 /// A place, where a fault is the one that is looked for.
 fn place_if(found: bool, place: FaultPlace) -> Option<FaultPlace>
-    ensures { IfSome result (λ p. (found ≡ true) × (p ≡ place)) }
+    ensures only { IfSome result (λ p. (found ≡ true) × (p ≡ place)) }
+    ensures there { found ≡ true → result ≡ Some place }
 {
     if found {
         return Some(place);
@@ -43,18 +45,21 @@ fn place_if(found: bool, place: FaultPlace) -> Option<FaultPlace>
 }
 
 /// The place at which a file has a fault of its header, its FAT, or the chain of its directory, its mini FAT or its mini
-/// stream. None where the fault isn't found there.
+/// stream. One of the header is found; of the others none is told where the fault isn't found there.
 pub fn find_place(
     alloc: Global,
     file: &[u8],
     fault: ChainFault,
 ) -> Result<Option<FaultPlace>, AllocError>
-    ensures { IfOk result (λ p. IfSome p (IsFaultAt file.now fault)) }
+    ensures there { IfOk result (λ p. IfSome p (IsFaultAt file.now fault)) }
+    ensures header { header_read file.now ≡ Err fault → fault ≢ NoMemory → IfOk result (λ p. p ≡ Some FaultPlace.Header) }
 {
-    match Header::read(file) {
-        Ok(header) => find_in_fat(alloc, &header, file, fault),
-        Err(other) => Ok(place_if(is_same(other, fault), FaultPlace::Header)),
-    }
+    let header = match Header::read(file) {
+        Ok(header) => header,
+        Err(other) => return Ok(place_if(is_same(other, fault), FaultPlace::Header)),
+    };
+    let place = find_in_fat(alloc, &header, file, fault)?;
+    Ok(place)
 }
 
 /// The same in a file with this header.

@@ -1,8 +1,9 @@
-use Rattle.std.proofs.Common.{◌∙◌, Result, refl, sym, subst}
+use Rattle.std.proofs.Common.{◌≡◌, ◌∙◌, Result, Err, refl, sym, subst}
 use Rattle.std.specs.Result.{IsOk}
 use Rattle.cfb_header.specs.Header.{HeaderValue}
 use Rattle.cfb_header.specs.declared.fault.ChainFault.{ChainFault}
-use Rattle.fault_places.proofs.Places.{header_same}
+use Rattle.fault_places.specs.declared.place.FaultPlace.TheVariants as place
+use Rattle.fault_places.proofs.Places.{header_same, header_told, place_told}
 use Rattle.fault_places.proofs.finding.find_place.Goals as goal
 
 pub find_in_fat-requires : goal.find_in_fat-requires
@@ -10,3 +11,16 @@ find_in_fat-requires c = record {
   same = header_same c.args.file.now c.in-Ok.header (sym c.read.ensures.read ∙ c.in-Ok.is)
       (c.read.ensures.whole.0 (subst (λ (r : Result HeaderValue ChainFault). IsOk r) (sym c.in-Ok.is) refl));
 }
+
+pub returns-in-Err-clause-there : goal.returns-in-Err-clause-there
+returns-in-Err-clause-there c =
+    place_told c.args.file.now c.args.fault c.place_if.result c.is_same.result place.Header c.place_if.ensures.only
+    (λ t. let same : c.in-Err.other ≡ c.args.fault = (c.is_same.ensures.only t).0 in sym c.read.ensures.read ∙ c.in-Err.is ∙ (λ i. Err (same i)))
+
+pub returns-in-Err-clause-header : goal.returns-in-Err-clause-header
+returns-in-Err-clause-header c = λ refused some.
+    let same : c.in-Err.other ≡ c.args.fault = header_told c.args.file.now c.read.result c.in-Err.other c.args.fault c.read.ensures.read c.in-Err.is refused in
+    c.place_if.ensures.there (c.is_same.ensures.same same (λ z. some (sym same ∙ z)))
+
+pub returns-clause-header : goal.returns-clause-header
+returns-clause-header c = λ refused some. absurd (cc (c.read.ensures.read, c.in-Ok.is, refused))
