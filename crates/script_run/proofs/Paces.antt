@@ -9,7 +9,7 @@ use Rattle.script_run.specs.Links.{AreLinked, links_of}
 use Rattle.script_run.specs.Ready.{AreReady, GoesOn, HadTurn, HasLeft, IsReady, IsUnderway, MayLink, pace_beside}
 use Rattle.script_run.specs.Told.{IsTold}
 use Rattle.script_run.specs.declared.links.Link.{Link}
-use Rattle.script_run.proofs.Served.{none_left}
+use Rattle.script_run.proofs.Served.{none_left, not_this, with_this}
 
 -- ---- one server
 
@@ -143,22 +143,7 @@ module _ {D : Type 0} {disks : Disks D} where
   pub connected_told : (es after : List (Event D)) (r : Record) (inc : ℕ) (ok : Bool) → after ≡ Connected inc ok ∷ es → MayLink (pace inc es) → IsTold disks es r → IsTold disks after r
   connected_told es after r inc ok is may t = subst (λ (h : List (Event D)). IsTold disks h r) (sym is) (record { recorded = t.recorded; sent = t.sent; bounded = (may ok, t.bounded); heard = t.heard; single = t.single; saved = t.saved; opened = t.opened })
 
-  pub heard_told : (es after : List (Event D)) (r : Record) (inc : ℕ) (bytes : List ℕ) (ok : Bool) → after ≡ Heard inc bytes ok ∷ es → IsWithin (reading (pace inc es)) → IsTold disks es r → IsTold disks after r
-  heard_told es after r inc bytes ok is within t = subst (λ (h : List (Event D)). IsTold disks h r) (sym is) (record { recorded = t.recorded; sent = t.sent; bounded = (within, t.bounded); heard = t.heard; single = t.single; saved = t.saved; opened = t.opened })
-
 -- ---- one server among others
-
-not_this : (b : Bool) (n : ℕ) → n + (if b then 1 else 0) ≤ 1 → 1 ≤ n → b ≡ false
-not_this true n few some = absurd (omega (arith, few, some))
-not_this false n few some = refl
-
-with_this : (b : Bool) (n : ℕ) → b ≡ true → 1 ≤ n + (if b then 1 else 0)
-with_this true n is = omega arith
-with_this false n is = absurd (cc)
-
-none_of : (b : Bool) (n : ℕ) → n + (if b then 1 else 0) ≤ 1 → b ≡ true → n ≡ 0
-none_of true n few is = omega (arith, few)
-none_of false n few is = absurd (cc)
 
 left_out : (b : Bool) (x y : Pace) → b ≡ false → (if b then resting else x) ≡ (if b then resting else y) → x ≡ y
 left_out true x y is same = absurd (cc)
@@ -231,9 +216,6 @@ fewer_removed s (l ∷ ls) (suc place) = let few = fewer_removed s ls place in o
 -- ---- a turn of all links
 
 module _ {D : Type 0} where
-  pub all_sooner : (n m : ℕ) (es : List (Event D)) (ls : List Link) → n ≤ m → AreReady n es ls → AreReady m es ls
-  all_sooner n m es ls le ready = λ s some. sooner n m (pace s es) le (ready s some)
-
   module _ (n : ℕ) (es after : List (Event D)) (ls : List Link) (place : ℕ) (within : place < length ls) where
     -- the link at the place is next
     pub is_next : (l : Link) → l ≡ slice_index_or ls place l → IsUnderway n es ls place → IsReady n (pace l.inc es)
@@ -303,9 +285,6 @@ module _ {D : Type 0} where
     cut_ended ended ls paced none = λ s some.
         let other : (inc == s) ≡ false = not_linked inc s ls none some in
         subst (λ (p : Pace). IsReady 1 p) (sym (paced s ∙ others_rest s other)) rested
-
-  pub carried_ready : (es after : List (Event D)) (ls new : List Link) → after ≡ es → new ≡ ls → AreReady 1 es ls → AreReady 1 after new
-  carried_ready es after ls new is same ready = subst (λ (h : List (Event D)). AreReady 1 h new) (sym is) (subst (λ (all : List Link). AreReady 1 es all) (sym same) ready)
 
 -- Of each server there is one link at most.
 pub single_linked : {D : Type 0} (es : List (Event D)) (ls : List Link) (s : ℕ) → ((n : ℕ) → running n es ≤ 1) → AreLinked es ls → links_of s ls ≤ 1

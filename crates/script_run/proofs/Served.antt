@@ -240,11 +240,11 @@ no_more : (b : Bool) (n : ℕ) → n + (if b then 1 else 0) ≤ 1 → b ≡ true
 no_more true n few is = omega (arith, few)
 no_more false n few is = absurd (cc)
 
-not_this : (b : Bool) (n : ℕ) → n + (if b then 1 else 0) ≤ 1 → 1 ≤ n → b ≡ false
+pub not_this : (b : Bool) (n : ℕ) → n + (if b then 1 else 0) ≤ 1 → 1 ≤ n → b ≡ false
 not_this true n few some = absurd (omega (arith, few, some))
 not_this false n few some = refl
 
-with_this : (b : Bool) (n : ℕ) → b ≡ true → 1 ≤ n + (if b then 1 else 0)
+pub with_this : (b : Bool) (n : ℕ) → b ≡ true → 1 ≤ n + (if b then 1 else 0)
 with_this true n is = omega arith
 with_this false n is = absurd (cc)
 
