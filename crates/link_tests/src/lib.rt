@@ -6,6 +6,8 @@ mod cuts;
 #[cfg(test)]
 mod ends;
 #[cfg(test)]
+mod given;
+#[cfg(test)]
 mod server;
 #[cfg(test)]
 mod servers;
