@@ -88,15 +88,15 @@ pub loop-preserved : goal.loop-preserved
 loop-preserved g c =
     let s = c.loop.invariant.2 in
     let n = next_on _ g.L.Reader.Read.remaining g.L.Writer.Write.contents _ _ c.loop.serving c.serve_link.new.serving c.loop.link (record { reader = c.serve_link.new.reader; writer = c.serve_link.new.writer }) c.loop.served _ s
-        c.begin.new.self c.in_ok-pause.pause c.in-Over.field-0 c.in-Ok.next _ c.in-Over.is (c.in_ok-pause.ensures.served is_made _ _ _ s.on) c.in-Ok.ensures
-        (c.begin.ensures.underway is_made) in
-      (c.begin.ensures.started, n.few, n)
+    c.begin.new.self c.in_ok-pause.pause c.in-Over.field-0 c.in-Ok.next _ c.in-Over.is (c.in_ok-pause.ensures.served is_made _ _ _ s.on) c.in-Ok.ensures
+    (c.begin.ensures.underway is_made) in
+    (c.begin.ensures.started, n.few, n)
 
 pub returns-in-Err : goal.returns-in-Err
 returns-in-Err g c =
     let s = c.loop.invariant.2 in
     stopped _ g.L.Reader.Read.remaining g.L.Writer.Write.contents _ _ c.loop.serving c.serve_link.new.serving c.loop.link (record { reader = c.serve_link.new.reader; writer = c.serve_link.new.writer }) c.loop.served _ s
-        c.in_ok-pause.pause c.in-Over.field-0 c.in-Err.stop _ c.in-Over.is (c.in_ok-pause.ensures.served is_made _ _ _ s.on) c.in-Err.ensures
+    c.in_ok-pause.pause c.in-Over.field-0 c.in-Err.stop _ c.in-Over.is (c.in_ok-pause.ensures.served is_made _ _ _ s.on) c.in-Err.ensures
 
 pub returns : goal.returns
 returns g c = has_come _ g.L.Reader.Read.remaining g.L.Writer.Write.contents _ _ c.loop.serving c.loop.serving c.loop.link c.loop.link c.loop.served _ c.loop.invariant.2
