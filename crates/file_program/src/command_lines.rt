@@ -38,9 +38,10 @@ Example: olecon map letter.doc";
 
 const PLACES: &str =
     "Prints ok where the file holds a tree. Else one line is printed with the fault's name, and where it
-is, as far as that is found: in the header, in the lists of the FAT and the DIFAT, or in the
-chain of the directory or of the mini FAT, with the sector whose entry is at fault and the
-number that stands there. The fault is told on standard error besides, as by the other commands.
+is, as far as that is found: in the header, in the lists of the FAT and the DIFAT, in the chain of
+the directory, of the mini FAT or of the mini stream, with the sector whose entry is at fault and
+the number that stands there, or in an entry of the directory, with its number; the root's is 0.
+The fault is told on standard error besides, as by the other commands.
 
 Example: olecon check letter.doc";
 
