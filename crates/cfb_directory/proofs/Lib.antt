@@ -6,3 +6,4 @@ pub mod Reading
 pub mod Marked
 pub mod Trees
 pub mod Built
+pub mod Inside

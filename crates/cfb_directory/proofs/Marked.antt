@@ -13,6 +13,7 @@ use Rattle.cfb_bytes.specs.Marks.{set_all}
 use Rattle.cfb_names.specs.Names.{IsName, is_forbidden}
 use Rattle.cfb_names.specs.declared.fault.DirFault.{DirFault}
 use Rattle.cfb_names.specs.declared.fault.DirFault.TheVariants.{NameEmpty, NameTooLong, NameNotAscii, NameForbidden, DuplicateName, BadEntry, TreeCycle, TooNested, NoMemory}
+use Rattle.cfb_directory.proofs.Inside.{linked_inside}
 use Rattle.cfb_directory.proofs.Linked.{Around, around_of}
 use Rattle.cfb_directory.proofs.Marks.{free_below, length-set_all, set_all-there, set_all-else, set_all-stays}
 
@@ -176,7 +177,7 @@ linked_kept e top ids NameNotAscii a f h = absurd h
 linked_kept e top ids NameForbidden a f h = absurd h
 linked_kept e top ids DuplicateName a f h = absurd h
 linked_kept e top ids BadEntry a f h = absurd (let lt : 128 * h.0 < length e.directory = reached_inside e.directory top h.0 ids a h.1 h.2 in omega (arith, h.3))
-linked_kept e top ids TreeCycle a f h = absurd (h ids a f)
+linked_kept e top ids TreeCycle a f h = absurd (h ids (linked_inside e.directory top ids a) f)
 linked_kept e top ids TooNested a f h = absurd h
 linked_kept e top ids NoMemory a f h = absurd h
 

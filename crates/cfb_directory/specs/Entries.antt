@@ -64,6 +64,17 @@ pub data AreLinked (directory : List ℕ) : ℕ → List ℕ → Type 0 where
       → AreLinked directory (right (entry_at directory id)) after
       → AreLinked directory id (id ∷ (before ++ after))
 
+-- The same of links of which those that leave the directory lead to nobody.
+pub data AreInside (directory : List ℕ) : ℕ → List ℕ → Type 0 where
+  nobody_inside : AreInside directory NO_STREAM []
+  outside : (id : ℕ) → length directory ≤ 128 * id → AreInside directory id []
+  around_inside : (id : ℕ) (before after : List ℕ)
+      → id ≢ NO_STREAM
+      → 128 * id < length directory
+      → AreInside directory (left (entry_at directory id)) before
+      → AreInside directory (right (entry_at directory id)) after
+      → AreInside directory id (id ∷ (before ++ after))
+
 -- A directory, and which entries were met.
 pub record EntriesValue : Type 0 where
   pub directory : List ℕ
@@ -124,10 +135,10 @@ pub data Reaches (directory : List ℕ) : ℕ → ℕ → Type 0 where
   by_right : (id to : ℕ) → 128 * id < length directory → id ≢ NO_STREAM → Reaches directory (right (entry_at directory id)) to → Reaches directory id to
 
 -- when a fault may be answered for what links reach from a top: they leave the directory, or no list of unmarked
--- entries, each met once, is what they reach
+-- entries, each met once, is what they reach inside it
 abbrev pub MayRefuseLinked : EntriesValue → ℕ → DirFault → Type 0
 MayRefuseLinked e top BadEntry = (id : ℕ) × Reaches e.directory top id × (id ≢ NO_STREAM) × (length e.directory ≤ 128 * id)
-MayRefuseLinked e top TreeCycle = (ids : List ℕ) → AreLinked e.directory top ids → AreFree e ids → ⊥
+MayRefuseLinked e top TreeCycle = (ids : List ℕ) → AreInside e.directory top ids → AreFree e ids → ⊥
 MayRefuseLinked e top _ = ⊥
 
 -- when a fault may be answered for the children of an entry: the memory for the walk is taken once the entry is there

@@ -6,10 +6,10 @@ use Rattle.cfb_names.specs.Names.{is_forbidden}
 use Rattle.cfb_names.specs.declared.fault.DirFault.{DirFault}
 use Rattle.cfb_names.specs.declared.fault.DirFault.TheVariants.{NameEmpty, NameTooLong, NameNotAscii, NameForbidden, BadEntry, TreeCycle}
 
--- an entry isn't in the directory, or has no mark that is off
+-- an entry isn't in the directory, or it is there and has no mark that is off
 abbrev pub IsTaken : EntriesValue → ℕ → DirFault → Type 0
 IsTaken e id BadEntry = length e.directory ≤ 128 * id
-IsTaken e id TreeCycle = slice_index_or e.used id true ≡ true
+IsTaken e id TreeCycle = (128 * id < length e.directory) × (slice_index_or e.used id true ≡ true)
 IsTaken e id _ = ⊥
 
 -- when a fault may be answered for the name of an entry

@@ -225,7 +225,7 @@ impl<'a> Entries<'a> {
             }
             match self.check(id) {
                 Ok(()) => {}
-                Err(fault) => return Err(fault),
+                Err(stopped) => return Err(stopped),
             }
             push_within(found, id);
             self.mark(id);

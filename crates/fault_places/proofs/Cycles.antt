@@ -1,18 +1,18 @@
 -- Entries that were met, and storages that reach what others reach.
 use Rattle.std.proofs.Common.{◌≡◌, ◌≢◌, ◌⊎◌, ◌<◌, ◌≤◌, ◌/◌, ◌*◌, ◌+◌, ◌++◌, ◌∙◌, inl, inr, Bool, true, false, ℕ, List, [], ◌∷◌, length, replicate, get_or, refl, sym, ap, subst, arith}
 use Rattle.std.specs.List.{All, Contains}
-use Rattle.std.proofs.lemmas.List.Elements.{Contains-append_left, Contains-append_right}
+use Rattle.std.proofs.lemmas.List.Elements.{All-contains, Contains-append_left, Contains-append_right}
 use Rattle.cfb_header.specs.Bytes.{sector}
 use Rattle.cfb_chain.specs.Fat.{set_all}
 use Rattle.cfb_chain.proofs.Blocks.{length_block, length_joined}
 use Rattle.cfb_chain.proofs.Marks.{marked_only}
 use Rattle.cfb_names.specs.declared.fault.DirFault.{DirFault}
 use Rattle.cfb_names.specs.declared.fault.DirFault.TheVariants as directory
-use Rattle.cfb_directory.specs.Entries.{AreLinked, EntriesValue, IsFree, MayRefuseChildren, MayRefuseEntry, MayRefuseLinked, Reaches, child, entry_at, marked}
+use Rattle.cfb_directory.specs.Entries.{AreInside, EntriesValue, IsFree, MayRefuseChildren, MayRefuseEntry, MayRefuseLinked, Reaches, child, entry_at, marked}
+use Rattle.cfb_directory.proofs.Inside.{are_inside}
 use Rattle.cfb_directory.proofs.Marked.{marks_load}
 use Rattle.file_model.proofs.Lists.{Contains-cons_cases}
 use Rattle.file_faults.specs.Faults.{IsChild, IsDirectory, IsOthersChild, IsStorage, MayBeChild}
-use Rattle.file_faults.proofs.Below.{reached_from}
 use Rattle.file_faults.proofs.Lists.{all-from, contains-none}
 use Rattle.fault_places.specs.Ways.{IsChildOfOpened, IsMet, IsStorageAtFault, IsWay, end_of}
 use Rattle.fault_places.proofs.Steps.{way_below}
@@ -66,10 +66,10 @@ module _ (dir way : List ℕ) (e : EntriesValue) (opened : List ℕ) (m : IsMet 
   cycle s h = (
     s,
     λ ids linked once may.
-        let linked' : AreLinked e.directory (child (entry_at e.directory (end_of way))) ids = subst (λ (d : List ℕ). AreLinked d (child (entry_at d (end_of way))) ids) (sym m.same) linked in
+        let linked' : AreInside e.directory (child (entry_at e.directory (end_of way))) ids = subst (λ (d : List ℕ). AreInside d (child (entry_at d (end_of way))) ids) (sym m.same) linked in
         h ids linked' (record {
           free = all-from (IsFree e) ids (λ n c.
-              let inside : 128 * n < length dir = (reached_from dir (child (entry_at dir (end_of way))) n ids linked c).0 in
+              let inside : 128 * n < length dir = All-contains (λ k. 128 * k < length dir) ids n (are_inside dir (child (entry_at dir (end_of way))) ids linked) c in
               let one : MayBeChild dir (end_of way) n = subst (MayBeChild dir (end_of way)) c.2 (may c.0 n c.1) in
               (subst (λ (d : List ℕ). 128 * n < length d) (sym m.same) inside, unmarked n (get_or e.used n true) refl inside one));
           once = once;

@@ -4,7 +4,7 @@ use Rattle.std.specs.List.{All, Contains}
 use Rattle.cfb_chain.specs.Chain.{AreDistinct}
 use Rattle.cfb_names.specs.declared.fault.DirFault.{DirFault}
 use Rattle.cfb_names.specs.declared.fault.DirFault.TheVariants as directory
-use Rattle.cfb_directory.specs.Entries.{AreLinked, EntriesValue, MayRefuseEntry, child, entry_at, kind}
+use Rattle.cfb_directory.specs.Entries.{AreInside, EntriesValue, MayRefuseEntry, child, entry_at, kind}
 use Rattle.file_faults.specs.Faults.{DEEPEST, Descends, IsBelow, IsChild, IsDirectory, IsDirectoryAtFault, IsStorage, LeadsOutside, MayBeChild, key_at}
 use Rattle.fault_places.specs.declared.place.EntryPlace.{EntryPlace}
 use Rattle.fault_places.specs.declared.place.EntryPlace.TheVariants as place
@@ -25,7 +25,7 @@ abbrev pub IsStorageAtFault : List ℕ → List ℕ → DirFault → Type 0
 IsStorageAtFault dir way directory.BadEntry = LeadsOutside dir (end_of way)
 IsStorageAtFault dir way directory.TooNested = (length way ≡ suc DEEPEST) × (kind (entry_at dir (end_of way)) ≡ 1)
 IsStorageAtFault dir way directory.TreeCycle = IsStorage dir (end_of way)
-    × ((ids : List ℕ) → AreLinked dir (child (entry_at dir (end_of way))) ids → AreDistinct ids → All (MayBeChild dir (end_of way)) ids → ⊥)
+    × ((ids : List ℕ) → AreInside dir (child (entry_at dir (end_of way))) ids → AreDistinct ids → All (MayBeChild dir (end_of way)) ids → ⊥)
 IsStorageAtFault dir way _ = ⊥
 
 -- What is wrong with a directory, with the place at which it is.

@@ -10,7 +10,7 @@ use Rattle.cfb_header.specs.declared.fault.ChainFault.TheVariants as chain
 use Rattle.cfb_names.specs.Names.{is_forbidden, key}
 use Rattle.cfb_names.specs.declared.fault.DirFault.{DirFault}
 use Rattle.cfb_names.specs.declared.fault.DirFault.TheVariants as directory
-use Rattle.cfb_directory.specs.Entries.{AreLinked, IsKindOf, NO_STREAM, Reaches, child, entry_at, first_of, kind, name_length, name_of, size_of}
+use Rattle.cfb_directory.specs.Entries.{AreInside, IsKindOf, NO_STREAM, Reaches, child, entry_at, first_of, kind, name_length, name_of, size_of}
 use Rattle.file_model.specs.Alike.{Alike}
 use Rattle.file_model.specs.Limits.{CUTOFF}
 use Rattle.file_model.specs.Denotes.{IsLaidOut, Layout, directory_of, minis, sectors}
@@ -81,7 +81,7 @@ MayRefuseBelow dir directory.TooNested = (id : ℕ) × IsBelow dir (suc DEEPEST)
 MayRefuseBelow dir directory.BadEntry = (levels : ℕ) × (id : ℕ)
     × ((IsBelow dir (suc levels) id × IsBadEntry dir id) ⊎ (IsBelow dir levels id × LeadsOutside dir id))
 MayRefuseBelow dir directory.TreeCycle = (levels : ℕ) × (id : ℕ) × IsBelow dir levels id × IsStorage dir id
-    × ((ids : List ℕ) → AreLinked dir (child (entry_at dir id)) ids → AreDistinct ids → All (λ n. MayBeChild dir id n) ids → ⊥)
+    × ((ids : List ℕ) → AreInside dir (child (entry_at dir id)) ids → AreDistinct ids → All (λ n. MayBeChild dir id n) ids → ⊥)
 MayRefuseBelow dir directory.NoMemory = ⊥
 
 -- ---- chains at fault

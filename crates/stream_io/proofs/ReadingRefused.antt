@@ -12,11 +12,12 @@ use Rattle.cfb_names.specs.declared.fault.DirFault.TheVariants as directory
 use Rattle.cfb_chain.specs.Chain.{AreDistinct}
 use Rattle.cfb_chain.specs.Fat.{FatValue, IsFound, MayRefuse, store_of}
 use Rattle.cfb_header.specs.Header.{header_read}
-use Rattle.cfb_directory.specs.Entries.{AreFree, AreLinked, IsFree, MayRefuseChildren, MayRefuseEntry, MayRefuseLinked, MayRefuseLoad, child, entry_at, first_of, kind, size_of}
+use Rattle.cfb_directory.specs.Entries.{AreFree, AreInside, AreLinked, IsFree, MayRefuseChildren, MayRefuseEntry, MayRefuseLinked, MayRefuseLoad, child, entry_at, first_of, kind, size_of}
 use Rattle.file_model.proofs.Lists.{Contains-front}
 use Rattle.file_outline.specs.View.{table_for}
 use Rattle.file_faults.specs.Faults.{Base, IsBelow, IsChainAtFault, IsChild, IsDirectory, IsFileAtFault, IsInOther, IsStorage, IsStreamAtFault, IsTakenFor, LeadsOutside, MayBeChild, MayRefuseBelow, in_header, key_at, store_in}
-use Rattle.file_faults.proofs.Below.{below_some, entry_at_fault, linked_child, reached_from}
+use Rattle.cfb_directory.proofs.Inside.{are_inside}
+use Rattle.file_faults.proofs.Below.{below_some, entry_at_fault, linked_child}
 use Rattle.file_faults.proofs.Chains.{chain_refused, none_found, taken_as}
 use Rattle.stream_io.specs.Marks.{IsBegun, IsInRead, IsNext}
 use Rattle.stream_io.specs.Reads.{IsTaken, MayRefuseFile, MayRefuseNames, MayRefusePlace, MayRefuseStorage, chain_fault, directory_fault, directory_in}
@@ -164,11 +165,11 @@ module _ (b : Base) (room id : ℕ) (pending : List ℕ) (r : Reader) (at : IsNe
     storage = subst (λ (d : List ℕ). IsStorage d id) (sym directory_is) s
 
     -- entries that may be its children aren't marked
-    free_children : (ids : List ℕ) → AreLinked b.directory (child (entry_at b.directory id)) ids → AreDistinct ids → All (λ n. MayBeChild b.directory id n) ids
+    free_children : (ids : List ℕ) → AreInside b.directory (child (entry_at b.directory id)) ids → AreDistinct ids → All (λ n. MayBeChild b.directory id n) ids
         → AreFree r.entries ids
     free_children ids l once own = record {
       free = all-from (IsFree r.entries) ids (λ n c.
-          let inside : 128 * n < length b.directory = (reached_from b.directory (child (entry_at b.directory id)) n ids l c).0 in
+          let inside : 128 * n < length b.directory = All-contains (λ k. 128 * k < length b.directory) ids n (are_inside b.directory (child (entry_at b.directory id)) ids l) c in
           let may : MayBeChild b.directory id n = All-contains (λ m. MayBeChild b.directory id m) ids n own c in (
             subst (λ (d : List ℕ). 128 * n < length d) directory_is inside,
             elim (cases_Bool (get_or r.entries.used n true)) [
@@ -195,7 +196,7 @@ module _ (b : Base) (room id : ℕ) (pending : List ℕ) (r : Reader) (at : IsNe
       id,
       at.stands.below,
       storage,
-      λ ids l once own. h ids (subst (λ (d : List ℕ). AreLinked d (child (entry_at d id)) ids) directory_is l) (free_children ids l once own),
+      λ ids l once own. h ids (subst (λ (d : List ℕ). AreInside d (child (entry_at d id)) ids) directory_is l) (free_children ids l once own),
     )
     links_refused directory.TooNested h = absurd h
     links_refused directory.NoMemory h = tt

@@ -3,6 +3,7 @@ use Rattle.std.proofs.lemmas.List.{nil_from_length}
 use Rattle.std.proofs.lemmas.List.Elements.{All-push}
 use Rattle.std.specs.List.{All}
 use Rattle.cfb_directory.specs.Entries.{AreFree, EntriesValue, IsFree, Reaches, here, left, right, entry_at, marked}
+use Rattle.cfb_directory.proofs.Inside.{Begins, Begins-nobody, Begins-start, Begins-step}
 use Rattle.cfb_directory.proofs.Linked.{Completes, Completes-start, Completes-nobody, Completes-step, Completes-end, reaches_left, reaches_right}
 use Rattle.cfb_directory.proofs.Marks.{All-front, All-last, AreFree-none, AreFree-push, marked-push, unused, unused-le, unused-set}
 use Rattle.cfb_directory.proofs.Walk.{taken_refused}
@@ -21,6 +22,8 @@ loop-id-init c =
       reached = subst (All R) (sym start) (All-push R [] c.args.top (λ k d lt. absurd (omega arith)) (here c.args.top));
       linked = subst (λ (xs : List ℕ). Completes e.directory c.args.top xs c.push_within.new.list.items) (sym none)
           (subst (Completes e.directory c.args.top []) (sym start) (Completes-start e.directory c.args.top));
+      met = subst (λ (xs : List ℕ). Begins e.directory c.args.top xs c.push_within.new.list.items) (sym none)
+          (subst (Begins e.directory c.args.top []) (sym start) (Begins-start e.directory c.args.top));
       room = omega (arith, ap length none, c.requires.room, few);
       room_to_wait = omega (arith, ap length start, c.requires.room_to_wait, c.push_within.ensures.room, few);
     }
@@ -36,6 +39,8 @@ loop-id-preserved-then-id c =
       reached = All-front (Reaches d c.args.top) c.pop.new.self.items c.in-Some.id (subst (All (Reaches d c.args.top)) popped i.reached);
       linked = Completes-nobody d c.args.top c.loop-id.found.items c.pop.new.self.items c.in-Some.id c.if-id.true
           (subst (Completes d c.args.top c.loop-id.found.items) popped i.linked);
+      met = Begins-nobody d c.args.top c.loop-id.found.items c.pop.new.self.items c.in-Some.id c.if-id.true
+          (subst (Begins d c.args.top c.loop-id.found.items) popped i.met);
       room = i.room;
       room_to_wait = omega (arith, i.room_to_wait, ap length popped, length-append c.pop.new.self.items (c.in-Some.id ∷ []), c.in-Some.ensures.capacity);
     }
@@ -45,8 +50,8 @@ returns-in-Err-clause-refused c =
     let i = c.loop-id.invariant in
     let d : List ℕ = c.args.self.now.directory in
     let popped : c.loop-id.waiting.items ≡ c.pop.new.self.items ++ c.in-Some.id ∷ [] = c.in-Some.ensures.items in
-    taken_refused c.args.self.now c.loop-id.self c.args.top c.loop-id.found.items c.pop.new.self.items c.in-Some.id c.in-Err.fault i.marks
-    (subst (Completes d c.args.top c.loop-id.found.items) popped i.linked)
+    taken_refused c.args.self.now c.loop-id.self c.args.top c.loop-id.found.items c.pop.new.self.items c.in-Some.id c.in-Err.stopped i.marks
+    (subst (Begins d c.args.top c.loop-id.found.items) popped i.met)
     (All-last (Reaches d c.args.top) c.pop.new.self.items c.in-Some.id (subst (All (Reaches d c.args.top)) popped i.reached))
     c.if-id.false c.in-Err.ensures.refused
 
@@ -105,6 +110,8 @@ loop-id-preserved c =
     let met : Reaches d c.args.top id = All-last R ws id reached in
     let step : Completes d c.args.top (c.loop-id.found.items ++ id ∷ []) ((ws ++ r ∷ []) ++ l ∷ []) =
     Completes-step d c.args.top c.loop-id.found.items ws id c.if-id.false inside (subst (Completes d c.args.top c.loop-id.found.items) popped i.linked) in
+    let first : Begins d c.args.top (c.loop-id.found.items ++ id ∷ []) ((ws ++ r ∷ []) ++ l ∷ []) =
+    Begins-step d c.args.top c.loop-id.found.items ws id c.if-id.false inside (subst (Begins d c.args.top c.loop-id.found.items) popped i.met) in
     record {
       marks = found_marks e c.loop-id.self c.mark.new.self c.loop-id.found.items c.push_within-in-Some.new.list.items id i.marks c.mark.ensures pushed;
       free = found_free e c.loop-id.self c.loop-id.found.items c.push_within-in-Some.new.list.items id i.marks i.free free pushed;
@@ -113,6 +120,8 @@ loop-id-preserved c =
           (reaches_left d c.args.top id c.if-id.false inside met));
       linked = subst (λ (xs : List ℕ). Completes d c.args.top xs c.push_within-in-Some-3.new.list.items) (sym pushed)
           (subst (Completes d c.args.top (c.loop-id.found.items ++ id ∷ [])) (sym waits) step);
+      met = subst (λ (xs : List ℕ). Begins d c.args.top xs c.push_within-in-Some-3.new.list.items) (sym pushed)
+          (subst (Begins d c.args.top (c.loop-id.found.items ++ id ∷ [])) (sym waits) first);
       room = omega (arith, i.room, fewer, marks_less, ap length pushed, length-append c.loop-id.found.items (id ∷ []), c.push_within-in-Some.ensures.room);
       room_to_wait = omega (
         arith,

@@ -1,6 +1,7 @@
 use Rattle.std.proofs.Common.{◌≡◌, ◌≤◌, ◌+◌, ◌*◌, length, vec_capacity}
 use Rattle.std.specs.List.{All}
 use Rattle.cfb_directory.specs.Entries.{AreFree, Reaches, marked}
+use Rattle.cfb_directory.proofs.Inside.{Begins}
 use Rattle.cfb_directory.proofs.Linked.{Completes}
 use Rattle.cfb_directory.proofs.Marks.{unused}
 use Rattle.cfb_directory.proofs.entries.Entries.walk.Given as goal
@@ -11,6 +12,7 @@ invariant-loop-id l = record {
   free : AreFree l.initial.self l.found.items;
   reached : All (Reaches l.initial.self.directory l.top) l.waiting.items;
   linked : Completes l.initial.self.directory l.top l.found.items l.waiting.items;
+  met : Begins l.initial.self.directory l.top l.found.items l.waiting.items;
   room : length l.found.items + unused l.self.used ≤ vec_capacity l.found;
   room_to_wait : length l.waiting.items + 2 * unused l.self.used ≤ vec_capacity l.waiting;
 }
