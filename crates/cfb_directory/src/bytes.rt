@@ -24,5 +24,9 @@ pub(crate) fn entry_bytes(directory: &[u8], id: u32) -> [u8; 128]
 {
     let start = ENTRY_LEN * id as usize;
     let end = directory.len().min(start + ENTRY_LEN);
-    padded(&directory[start..end])
+    let part = &directory[start..end];
+    match part.as_array::<ENTRY_LEN>() {
+        Some(whole) => *whole,
+        None => padded(part),
+    }
 }

@@ -1,5 +1,6 @@
 pub mod ReadingRefused
-pub mod ReadingNames
+pub mod KeyNumbers
+pub mod SortedNames
 pub mod ReadingKept
 pub mod ReadingOnce
 pub mod ReadingChildren

@@ -20,7 +20,8 @@ use Rattle.cfb_directory.proofs.Inside.{are_inside}
 use Rattle.file_faults.proofs.Below.{below_some, entry_at_fault, linked_child}
 use Rattle.file_faults.proofs.Chains.{chain_refused, none_found, taken_as}
 use Rattle.stream_io.specs.Marks.{IsBegun, IsInRead, IsNext}
-use Rattle.stream_io.specs.Reads.{IsTaken, MayRefuseFile, MayRefuseNames, MayRefusePlace, MayRefuseStorage, chain_fault, directory_fault, directory_in}
+use Rattle.stream_io.specs.Reads.{IsTaken, MayRefuseFile, MayRefusePlace, MayRefuseStorage, chain_fault, directory_fault, directory_in}
+use Rattle.stream_io.specs.Sorting.{MayRefuseNames}
 use Rattle.stream_io.specs.declared.read.Reader.{Reader}
 use Rattle.stream_io.specs.declared.fault.ReadFault.TheVariants as told
 use Rattle.stream_io.specs.declared.fault.ReadFault.{ReadFault}
@@ -222,19 +223,17 @@ module _ (b : Base) (room id : ℕ) (pending : List ℕ) (r : Reader) (at : IsNe
       same_key : (m n : ℕ) → key_at (directory_in r) m ≡ key_at (directory_in r) n → key_at b.directory m ≡ key_at b.directory n
       same_key m n e = subst (λ (d : List ℕ). key_at d m ≡ key_at d n) (sym directory_is) e
 
-      pub names_below : (fault : ReadFault) → MayRefuseNames (directory_in r) ids fault → MayRefuseStorage b fault
-      names_below told.NoMemory h = tt
-      names_below (told.Chain fault) h = absurd h
-      names_below (told.Directory directory.DuplicateName) h =
+      pub names_below : (fault : DirFault) → MayRefuseNames (directory_in r) ids fault → MayRefuseStorage b (directory_fault fault)
+      names_below directory.DuplicateName h =
           (at.levels, id, at.stands.below, (h.0, h.1, is_child h.0 h.2, is_child h.1 h.3, h.4, same_key h.0 h.1 h.5))
-      names_below (told.Directory directory.NameEmpty) h = one_refused h.0 directory.NameEmpty h.1 h.2
-      names_below (told.Directory directory.NameTooLong) h = one_refused h.0 directory.NameTooLong h.1 h.2
-      names_below (told.Directory directory.NameNotAscii) h = one_refused h.0 directory.NameNotAscii h.1 h.2
-      names_below (told.Directory directory.NameForbidden) h = one_refused h.0 directory.NameForbidden h.1 h.2
-      names_below (told.Directory directory.BadEntry) h = one_refused h.0 directory.BadEntry h.1 h.2
-      names_below (told.Directory directory.TreeCycle) h = one_refused h.0 directory.TreeCycle h.1 h.2
-      names_below (told.Directory directory.TooNested) h = one_refused h.0 directory.TooNested h.1 h.2
-      names_below (told.Directory directory.NoMemory) h = one_refused h.0 directory.NoMemory h.1 h.2
+      names_below directory.NameEmpty h = below_told b directory.NameEmpty (one_refused h.0 directory.NameEmpty h.1 h.2)
+      names_below directory.NameTooLong h = below_told b directory.NameTooLong (one_refused h.0 directory.NameTooLong h.1 h.2)
+      names_below directory.NameNotAscii h = below_told b directory.NameNotAscii (one_refused h.0 directory.NameNotAscii h.1 h.2)
+      names_below directory.NameForbidden h = below_told b directory.NameForbidden (one_refused h.0 directory.NameForbidden h.1 h.2)
+      names_below directory.BadEntry h = below_told b directory.BadEntry (one_refused h.0 directory.BadEntry h.1 h.2)
+      names_below directory.TreeCycle h = below_told b directory.TreeCycle (one_refused h.0 directory.TreeCycle h.1 h.2)
+      names_below directory.TooNested h = below_told b directory.TooNested (one_refused h.0 directory.TooNested h.1 h.2)
+      names_below directory.NoMemory h = below_told b directory.NoMemory (one_refused h.0 directory.NoMemory h.1 h.2)
 
 -- ---- of the whole file
 pub file_chain : (file : List ℕ) (fault : ChainFault) → (fault ≡ chain.NoMemory) ⊎ IsFileAtFault file fault → MayRefuseFile file (chain_fault fault)

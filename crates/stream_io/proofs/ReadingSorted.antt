@@ -9,10 +9,9 @@ use Rattle.cfb_directory.specs.Entries.{AreFree, AreLinked, EntriesValue, IsFree
 use Rattle.cfb_names.specs.declared.fault.DirFault.{DirFault}
 use Rattle.cfb_names.specs.declared.fault.DirFault.TheVariants.{NameEmpty, NameTooLong, NameNotAscii, NameForbidden, DuplicateName, BadEntry, TreeCycle, TooNested, NoMemory}
 use Rattle.file_faults.specs.Faults.{key_at}
-use Rattle.stream_io.specs.Reads.{AreSorted, MayRefuseNames, met}
+use Rattle.stream_io.specs.Reads.{AreSorted, met}
+use Rattle.stream_io.specs.Sorting.{MayRefuseNames}
 use Rattle.stream_io.specs.declared.read.Reader.{Reader}
-use Rattle.stream_io.specs.declared.fault.ReadFault.{ReadFault}
-use Rattle.stream_io.specs.declared.fault.ReadFault.TheVariants as told
 use Rattle.file_model.proofs.Lists.{sorted_unique}
 use Rattle.file_model.proofs.Unique.{linked_unique}
 use Rattle.file_faults.proofs.Lists.{all-from}
@@ -35,23 +34,21 @@ module _ (e : EntriesValue) (id : ℕ) (ids : List ℕ) (root : get_or e.used 0 
       readable_not_refused e.directory n fault (All-contains (IsFree e) h.reached n h.free.free c).0
       (All-contains (λ m. m ≢ 0) h.reached n (below_root e h.reached root h.free) c) (r n ((h.same n).0 c)) refused
 
-  by_names : (fault : ReadFault) → MayRefuseNames e.directory h.reached fault → fault ≡ told.NoMemory
-  by_names told.NoMemory refused = refl
-  by_names (told.Chain fault) refused = absurd refused
-  by_names (told.Directory NameEmpty) refused = absurd (one_name refused.0 NameEmpty refused.1 refused.2)
-  by_names (told.Directory NameTooLong) refused = absurd (one_name refused.0 NameTooLong refused.1 refused.2)
-  by_names (told.Directory NameNotAscii) refused = absurd (one_name refused.0 NameNotAscii refused.1 refused.2)
-  by_names (told.Directory NameForbidden) refused = absurd (one_name refused.0 NameForbidden refused.1 refused.2)
-  by_names (told.Directory DuplicateName) refused =
-      absurd (two_keys e.directory ids refused.0 refused.1 h.ordered ((h.same refused.0).0 refused.2) ((h.same refused.1).0 refused.3) refused.4 refused.5)
-  by_names (told.Directory BadEntry) refused = absurd (one_name refused.0 BadEntry refused.1 refused.2)
-  by_names (told.Directory TreeCycle) refused = absurd (one_name refused.0 TreeCycle refused.1 refused.2)
-  by_names (told.Directory TooNested) refused = absurd (one_name refused.0 TooNested refused.1 refused.2)
-  by_names (told.Directory NoMemory) refused = absurd (one_name refused.0 NoMemory refused.1 refused.2)
+  by_names : (fault : DirFault) → MayRefuseNames e.directory h.reached fault → ⊥
+  by_names DuplicateName refused =
+      two_keys e.directory ids refused.0 refused.1 h.ordered ((h.same refused.0).0 refused.2) ((h.same refused.1).0 refused.3) refused.4 refused.5
+  by_names NameEmpty refused = one_name refused.0 NameEmpty refused.1 refused.2
+  by_names NameTooLong refused = one_name refused.0 NameTooLong refused.1 refused.2
+  by_names NameNotAscii refused = one_name refused.0 NameNotAscii refused.1 refused.2
+  by_names NameForbidden refused = one_name refused.0 NameForbidden refused.1 refused.2
+  by_names BadEntry refused = one_name refused.0 BadEntry refused.1 refused.2
+  by_names TreeCycle refused = one_name refused.0 TreeCycle refused.1 refused.2
+  by_names TooNested refused = one_name refused.0 TooNested refused.1 refused.2
+  by_names NoMemory refused = one_name refused.0 NoMemory refused.1 refused.2
 
-pub names_not_refused : (e : EntriesValue) (id : ℕ) (found ids : List ℕ) (fault : ReadFault) → get_or e.used 0 true ≡ true
+pub names_not_refused : (e : EntriesValue) (id : ℕ) (found ids : List ℕ) (fault : DirFault) → get_or e.used 0 true ≡ true
     → AreLinked e.directory (child (entry_at e.directory id)) found → AreSorted e id ids → ((n : ℕ) → Contains ids n → IsReadable e.directory n)
-    → MayRefuseNames e.directory found fault → fault ≡ told.NoMemory
+    → MayRefuseNames e.directory found fault → ⊥
 names_not_refused e id found ids fault root l h r refused =
     let top : ℕ = child (entry_at e.directory id) in
     let same : found ≡ h.reached = linked_unique e.directory top top found h.reached refl l h.linked in

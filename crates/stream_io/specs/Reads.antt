@@ -1,5 +1,5 @@
 -- How a file is read, and which files are refused.
-use Rattle.std.specs.Prelude.{◌≡◌, ◌≢◌, ◌↔◌, ◌<◌, ◌-◌, ℕ, suc, true, List, [], ◌∷◌, length, map, slice_index_or, take, if◌then◌else◌, nat_lt, Err, codes}
+use Rattle.std.specs.Prelude.{◌≡◌, ◌↔◌, ◌<◌, ◌-◌, ℕ, suc, true, List, [], ◌∷◌, length, map, slice_index_or, take, if◌then◌else◌, nat_lt, Err, codes}
 use Rattle.std.specs.List.{Contains}
 use Rattle.std.specs.List.Sorted.{IsStrictlySortedBy}
 use Rattle.cfb_header.specs.Bytes.{joined}
@@ -10,7 +10,7 @@ use Rattle.cfb_header.specs.declared.fault.ChainFault.{ChainFault}
 use Rattle.cfb_header.specs.declared.fault.ChainFault.TheVariants as chain
 use Rattle.cfb_names.specs.Faults.{name_of_fault}
 use Rattle.cfb_names.specs.Names.{IsName, key, key_cmp}
-use Rattle.cfb_directory.specs.Entries.{AreFree, AreLinked, EntriesValue, IsNamed, MayRefuseEntry, child, class_of, entry_at, first_of, kind, marked, size_of, state_of}
+use Rattle.cfb_directory.specs.Entries.{AreFree, AreLinked, EntriesValue, IsNamed, child, class_of, entry_at, first_of, kind, marked, size_of, state_of}
 use Rattle.cfb_names.specs.declared.fault.DirFault.{DirFault}
 use Rattle.cfb_names.specs.declared.fault.DirFault.TheVariants as directory
 use Rattle.storage_tree.specs.Change.{Seen, bytes, inner, place}
@@ -116,13 +116,6 @@ pub record IsChildPut (depth id : ℕ) (old new : Reader) (before after : Childr
   pub node : Seen
   pub is_read : IsChildRead depth id k name node old new
   pub is_put : after ≡ place k (name, node) before
-
--- when a fault may be answered for the names of entries
-abbrev pub MayRefuseNames : List ℕ → List ℕ → ReadFault → Type 0
-MayRefuseNames dir ids NoMemory = Unit {0}
-MayRefuseNames dir ids (Chain fault) = ⊥
-MayRefuseNames dir ids (Directory directory.DuplicateName) = (m : ℕ) × (n : ℕ) × Contains ids m × Contains ids n × (m ≢ n) × (key_at dir m ≡ key_at dir n)
-MayRefuseNames dir ids (Directory fault) = (n : ℕ) × Contains ids n × MayRefuseEntry dir n fault
 
 -- ---- what a file is refused for
 -- what a reader reads from, with the sectors that the system's own parts have

@@ -1,27 +1,23 @@
 //! Reading a compound file.
 
 ghost use Rattle.cfb_header.specs.Bytes.{joined};
-ghost use Rattle.cfb_chain.specs.Chain.{AreDistinct};
 ghost use Rattle.cfb_chain.specs.Fat.{IsFound, store_of};
 ghost use Rattle.cfb_header.specs.Header.{IsHeader, header_read};
 ghost use Rattle.cfb_chain.specs.View.{image_bytes};
 ghost use Rattle.cfb_header.specs.declared.fault.ChainFault.{ChainFault};
 ghost use Rattle.cfb_directory.specs.Entries.{IsEntry};
-ghost use Rattle.cfb_names.specs.Names.{key, key_cmp};
-ghost use Rattle.std.specs.List.{All, Contains};
-ghost use Rattle.std.specs.List.Sorted.{IsStrictlySortedBy};
-ghost use Rattle.std.specs.Map.{keys_of, values_of};
-ghost use Rattle.std.specs.Prelude.{[], ◌*◌, ◌↔◌, ◌<◌, ◌≡◌, ◌≢◌, IfErr, IfOk, List, OnOk, length, map, slice_index_or, suc, take, true, ℕ};
+ghost use Rattle.cfb_names.specs.Names.{key};
+ghost use Rattle.std.specs.List.{All};
+ghost use Rattle.std.specs.Prelude.{[], ◌*◌, ◌<◌, ◌≡◌, ◌≢◌, IfErr, IfOk, List, OnOk, length, slice_index_or, suc, take, true, ℕ};
 ghost use Rattle.storage_tree.specs.Change.{Seen};
 ghost use Rattle.storage_tree.specs.Kept.{kept};
 ghost use Rattle.storage_tree.specs.Tree as tree;
 ghost use Rattle.file_model.specs.Outline.{outline_of, part_of};
 ghost use Rattle.file_model.specs.Denotes.{Denotes};
-ghost use Rattle.file_faults.specs.Faults.{Base, IsStorage, key_at};
-ghost use Rattle.outline_entries.specs.Keys.{IsKeyed};
+ghost use Rattle.file_faults.specs.Faults.{Base, IsStorage};
 ghost use Rattle.outline_entries.specs.Places.{IsPartTold, IsPlaced, IsTold};
 ghost use Rattle.stream_io.specs.Marks.{IsNext};
-ghost use Rattle.stream_io.specs.Reads.{AreSorted, IsChildRead, IsNodeRead, IsStorageRead, MayRefuseFile, MayRefuseNames, MayRefusePlace, MayRefuseStorage, MayRefuseStream, chain_fault, directory_in, met, stream_after};
+ghost use Rattle.stream_io.specs.Reads.{AreSorted, IsChildRead, IsNodeRead, IsStorageRead, MayRefuseFile, MayRefusePlace, MayRefuseStorage, MayRefuseStream, chain_fault, directory_in, met, stream_after};
 ghost use Rattle.file_outline.specs.Streams.{stream_at};
 ghost use Rattle.file_outline.specs.View.{contents, outline_view, part_view, shown, shown_part, table_for};
 ghost use Rattle.stream_io.specs.View.{directory_bytes};
@@ -29,6 +25,7 @@ ghost use Rattle.stream_io.specs.declared.fault.ReadFault.TheVariants.{NoMemory}
 ghost use Rattle.stream_io.specs.declared.read.Reader as reader;
 
 use crate::fault::{ReadFault, StreamFault};
+use crate::sorting::by_name;
 use cfb_chain::fat::Fat;
 use cfb_chain::image::Image;
 use cfb_directory::entries::{Entries, Entry, EntryKind};
@@ -40,8 +37,7 @@ use file_comparing::comparing::is_shown;
 use file_outline::filling::{bytes_at, storage_at};
 use file_outline::finding::place_at;
 use file_outline::outline::{Outline, Part, Place, is_short};
-use std::alloc::{AllocError, Global};
-use std::collections::BTreeMap;
+use std::alloc::Global;
 use storage_tree::class_id::ClassId;
 use storage_tree::tree::Tree;
 
@@ -54,55 +50,6 @@ struct Reader<'a, 'd> {
     fat: Fat<'a>,
     mini: Fat<'a>,
     entries: Entries<'d>,
-}
-
-/// The entries under the keys of their names.
-///
-/// Refused: as `Entries::entry`, and `DuplicateName` where two names are equal in upper case.
-fn by_key(
-    alloc: Global,
-    entries: &Entries<'_>,
-    ids: &[u32],
-) -> Result<BTreeMap<[u8; 32], u32>, ReadFault>
-    requires below_root { All (λ n. n ≢ 0) ids.now }
-    requires distinct { AreDistinct ids.now }
-    ensures keyed { IfOk result (λ m. All (IsKeyed entries.now.directory) m.entries) }
-    ensures ordered { IfOk result (λ m. IsStrictlySortedBy key_cmp (keys_of m.entries)) }
-    ensures same { IfOk result (λ m. (n : ℕ) → Contains ids.now n ↔ Contains (values_of m.entries) n) }
-    ensures refused { IfErr result (MayRefuseNames entries.now.directory ids.now) }
-{
-    let mut keyed = BTreeMap::new(alloc);
-    for id in ids {
-        let entry = entries.entry(*id)?;
-        match keyed.insert(entry.name.key(), *id) {
-            Ok(None) => {}
-            Ok(Some(_)) => return Err(ReadFault::Directory(DirFault::DuplicateName)),
-            Err(_) => return Err(ReadFault::NoMemory),
-        }
-    }
-    Ok(keyed)
-}
-
-/// The values in the order of their keys.
-fn values(alloc: Global, keyed: &BTreeMap<[u8; 32], u32>) -> Result<Vec<u32>, AllocError>
-    ensures { IfOk result (λ v. v.items ≡ values_of keyed.now.entries) }
-{
-    keyed.values().copied().collect(alloc)
-}
-
-/// The entries in the order of their names.
-///
-/// Refused: as `by_key`.
-fn by_name(alloc: Global, entries: &Entries<'_>, ids: &[u32]) -> Result<Vec<u32>, ReadFault>
-    requires below_root { All (λ n. n ≢ 0) ids.now }
-    requires distinct { AreDistinct ids.now }
-    ensures ordered { IfOk result (λ v. IsStrictlySortedBy key_cmp (map (key_at entries.now.directory) v.items)) }
-    ensures same { IfOk result (λ v. (n : ℕ) → Contains ids.now n ↔ Contains v.items n) }
-    ensures refused { IfErr result (MayRefuseNames entries.now.directory ids.now) }
-{
-    let keyed = by_key(alloc, entries, ids)?;
-    let sorted = values(alloc, &keyed)?;
-    Ok(sorted)
 }
 
 impl<'a, 'd> Reader<'a, 'd> {
@@ -127,7 +74,7 @@ impl<'a, 'd> Reader<'a, 'd> {
 
     /// The children of an entry in the order of their names, which are marked.
     ///
-    /// Refused: as `Entries::children` and `by_key`.
+    /// Refused: as `Entries::children` and `by_name`.
     fn sorted_children(&mut self, alloc: Global, id: u32) -> Result<Vec<u32>, ReadFault>
         requires inside { 128 * id < length (directory_in self.old) }
         requires root_marked { slice_index_or self.old.entries.used 0 true ≡ true }
@@ -136,7 +83,8 @@ impl<'a, 'd> Reader<'a, 'd> {
         ensures refused { (b : Base) (room : ℕ) (pending : List ℕ) → IsStorage (directory_in self.old) id → IsNext b room id pending self.old → IfErr result (MayRefuseStorage b) }
     {
         let ids = self.entries.children(alloc, id)?;
-        let sorted = by_name(alloc, &self.entries, &ids)?;
+        let list = Vec::with_capacity(alloc, ids.len())?;
+        let sorted = by_name(&self.entries, ids, list)?;
         Ok(sorted)
     }
 

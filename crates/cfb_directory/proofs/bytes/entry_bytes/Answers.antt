@@ -1,6 +1,6 @@
 use Rattle.std.proofs.Common.{◌≡◌, ◌-◌, ◌*◌, ◌++◌, ℕ, List, inl, inr, length, take, drop, min, replicate, sym, ◌∙◌, ap, arith, length-drop}
 use Rattle.std.proofs.lemmas.Bool.{cases_lt}
-use Rattle.std.proofs.lemmas.List.{take_all, length-take}
+use Rattle.std.proofs.lemmas.List.{append-nil, take_all, length-take}
 use Rattle.cfb_bytes.specs.Bytes.{block}
 use Rattle.cfb_directory.proofs.bytes.entry_bytes.Goals as goal
 
@@ -15,9 +15,22 @@ cut_at rest m h =
     ] in
     (λ t. part t ++ replicate (zeros t) 0)
 
-pub returns : goal.returns
+pub returns-in-Some : goal.returns-in-Some
 unfolding block
-returns c =
+returns-in-Some c =
+    let start : ℕ = 128 * c.args.id in
+    let rest : List ℕ = drop start c.args.directory.now in
+    let n : ℕ = c.min-end.result - start in
+    let m : n ≡ min 128 (length rest) = omega (arith, c.min-end.ensures, length-drop start c.args.directory.now) in
+    let none : 128 - length (take n rest) ≡ 0 = omega (arith, c.in-Some.ensures.cases.long) in
+    c.in-Some.ensures.cases.same
+    ∙ sym (append-nil (take n rest))
+    ∙ (λ t. take n rest ++ replicate (sym none t) 0)
+    ∙ cut_at rest n m
+
+pub returns-in-None : goal.returns-in-None
+unfolding block
+returns-in-None c =
     let start : ℕ = 128 * c.args.id in
     let rest : List ℕ = drop start c.args.directory.now in
     let m : c.min-end.result - start ≡ min 128 (length rest) = omega (arith, c.min-end.ensures, length-drop start c.args.directory.now) in

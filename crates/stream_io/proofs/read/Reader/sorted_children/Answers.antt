@@ -1,10 +1,10 @@
-use Rattle.std.proofs.Common.{◌≡◌, List, ℕ, refl, ap, subst, rules}
-use Rattle.std.specs.Result.{IsErrAnd}
+use Rattle.std.proofs.Common.{◌≡◌, List, ℕ, refl, ap, subst}
 use Rattle.cfb_chain.proofs.Results.{refused_with}
 use Rattle.cfb_directory.specs.Entries.{EntriesValue}
 use Rattle.cfb_directory.proofs.Marked.{children_kept}
-use Rattle.stream_io.specs.Reads.{MayRefuseNames, MayRefuseStorage, directory_fault}
-use Rattle.stream_io.proofs.ReadingRefused.{children_below, directory_memory, names_below, same_memory}
+use Rattle.stream_io.specs.Reads.{MayRefuseStorage, directory_fault}
+use Rattle.stream_io.specs.Sorting.{MayRefuseNames}
+use Rattle.stream_io.proofs.ReadingRefused.{children_below, directory_memory, names_below}
 use Rattle.stream_io.proofs.ReadingSorted.{names_not_refused, sorted_met}
 use Rattle.stream_io.proofs.ReadingSteps.{AreTheChildren, children_of, children_readable}
 use Rattle.stream_io.proofs.read.Reader.sorted_children.Goals as goal
@@ -26,11 +26,8 @@ returns-in_err-sorted-clause-there c = λ depth t new h.
     let o : AreTheChildren depth c.args.id c.args.self.now new = children_of depth c.args.id t c.args.self.now new h in
     let dir : c.children.new.self.directory ≡ e.directory = ap (λ (x : EntriesValue). x.directory) c.in_ok-ids.ensures.marks in
     let refused : MayRefuseNames e.directory c.in_ok-ids.ids.items c.in_err-sorted.field-0.0 =
-    subst (λ (x : List ℕ). MayRefuseNames x c.in_ok-ids.ids.items c.in_err-sorted.field-0.0) dir
-    (subst (λ (xs : List ℕ). MayRefuseNames c.children.new.self.directory xs c.in_err-sorted.field-0.0) c.deref.ensures.value c.in_err-sorted.ensures.refused) in
-    let again : IsErrAnd c.from_residual-in_err-sorted.result (λ x. x ≡ c.in_err-sorted.field-0.0) = search rules in
-    same_memory c.from_residual-in_err-sorted.result c.in_err-sorted.field-0.0 again
-    (names_not_refused e c.args.id c.in_ok-ids.ids.items o.ids c.in_err-sorted.field-0.0 c.requires.root_marked
+    subst (λ (x : List ℕ). MayRefuseNames x c.in_ok-ids.ids.items c.in_err-sorted.field-0.0) dir c.in_err-sorted.ensures.refused in
+    absurd (names_not_refused e c.args.id c.in_ok-ids.ids.items o.ids c.in_err-sorted.field-0.0 c.requires.root_marked
     c.in_ok-ids.ensures.linked o.sorted (children_readable depth c.args.id c.args.self.now new o) refused)
 
 pub returns-in_err-sorted-clause-refused : goal.returns-in_err-sorted-clause-refused
@@ -38,14 +35,12 @@ returns-in_err-sorted-clause-refused c = λ b room pending s at.
     let e : EntriesValue = c.args.self.now.entries in
     let dir : c.children.new.self.directory ≡ e.directory = ap (λ (x : EntriesValue). x.directory) c.in_ok-ids.ensures.marks in
     let refused : MayRefuseNames e.directory c.in_ok-ids.ids.items c.in_err-sorted.field-0.0 =
-    subst (λ (x : List ℕ). MayRefuseNames x c.in_ok-ids.ids.items c.in_err-sorted.field-0.0) dir
-    (subst (λ (xs : List ℕ). MayRefuseNames c.children.new.self.directory xs c.in_err-sorted.field-0.0) c.deref.ensures.value c.in_err-sorted.ensures.refused) in
-    let again : IsErrAnd c.from_residual-in_err-sorted.result (λ x. x ≡ c.in_err-sorted.field-0.0) = search rules in
-    refused_with c.from_residual-in_err-sorted.result c.in_err-sorted.field-0.0 (MayRefuseStorage b) again
+    subst (λ (x : List ℕ). MayRefuseNames x c.in_ok-ids.ids.items c.in_err-sorted.field-0.0) dir c.in_err-sorted.ensures.refused in
+    refused_with c.from_residual-in_err-sorted.result (directory_fault c.in_err-sorted.field-0.0) (MayRefuseStorage b) c.from_residual-in_err-sorted.ensures.1
     (names_below b room c.args.id pending c.args.self.now at s c.in_ok-ids.ids.items c.in_ok-ids.ensures.linked c.in_ok-ids.ensures.free c.in_err-sorted.field-0.0 refused)
 
 pub returns-clause-sorted : goal.returns-clause-sorted
 returns-clause-sorted c =
-    sorted_met c.args.self.now c.args.id c.in_ok-ids.ids.items c.deref.result.now c.in_ok-sorted.sorted.items c.in_ok-sorted.sorted.items c.children.new.self.directory
-    c.children.new.self c.in_ok-ids.ensures.linked c.in_ok-ids.ensures.free c.deref.ensures.value (ap (λ (x : EntriesValue). x.directory) c.in_ok-ids.ensures.marks)
+    sorted_met c.args.self.now c.args.id c.in_ok-ids.ids.items c.in_ok-ids.ids.items c.in_ok-sorted.sorted.items c.in_ok-sorted.sorted.items c.children.new.self.directory
+    c.children.new.self c.in_ok-ids.ensures.linked c.in_ok-ids.ensures.free refl (ap (λ (x : EntriesValue). x.directory) c.in_ok-ids.ensures.marks)
     c.in_ok-sorted.ensures.ordered c.in_ok-sorted.ensures.same refl c.in_ok-ids.ensures.marks

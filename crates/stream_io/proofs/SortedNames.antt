@@ -1,0 +1,144 @@
+-- Entries that are sorted by the keys of their names, and what they are refused for.
+use Rattle.std.proofs.Common.{◌≡◌, ◌≢◌, ◌↔◌, ◌<◌, ◌≤◌, ◌+◌, ℕ, zero, suc, false, inl, inr, List, [], ◌∷◌, length, get_or, map, eqb, nat_cmp, refl, sym, ◌∙◌, ap, subst, arith}
+use Rattle.std.proofs.lemmas.Bool.Decides.{Decides-eqb, eqb_tells}
+use Rattle.std.proofs.lemmas.Cmp.{nat_list_cmp_total}
+use Rattle.std.proofs.lemmas.List.{get_or_default, get_or-map, length-map}
+use Rattle.std.proofs.lemmas.List.Sorted.{All-permutation, Contains-permutation, IsPermutation-map, IsPermutation-sym, length_permutation}
+use Rattle.std.proofs.lemmas.Map.Keys.{IsDistinct-IsPermutation}
+use Rattle.std.proofs.lemmas.Map.Lookups.{exact_bytes}
+use Rattle.std.proofs.lemmas.Map.Made.{AllPairs-from_IsDistinct, IsDistinct-from_AllPairs}
+use Rattle.std.specs.FinMap.{nat_cmp-IsAntisymmetric, slice_cmp-IsAntisymmetric}
+use Rattle.std.specs.List.{All, AllByRecursion, Contains}
+use Rattle.std.specs.List.Sorted.{IsPermutation, IsStrictlySortedBy}
+use Rattle.std.specs.Ordering.{is_lt, ordering_reverse, ordering_then}
+use Rattle.std.specs.declared.cmp.Ordering.{Ordering}
+use Rattle.std.specs.declared.cmp.Ordering.TheVariants.{Less, Equal, Greater}
+use Rattle.cfb_chain.specs.Chain.{AreDistinct}
+use Rattle.cfb_names.specs.Names.{key, key_cmp}
+use Rattle.cfb_directory.specs.Entries.{IsEntry, IsNamed, entry_at}
+use Rattle.cfb_directory.specs.declared.entries.Entry.{Entry}
+use Rattle.cfb_names.proofs.Keys.{slice_cmp-same}
+use Rattle.file_faults.specs.Faults.{key_at}
+use Rattle.stream_io.specs.Sorting.{AllAdjacentApart, AreBytes, HasEqualNeighbours, MayRefuseNames, keyed, numbers, places}
+use Rattle.stream_io.proofs.KeyNumbers.{numbers_cmp}
+use Rattle.cfb_names.specs.declared.fault.DirFault.TheVariants.{DuplicateName}
+
+-- a neighbour that isn't less and has another key has a greater one
+adjacent_less : (a b : List ℕ) (o : Ordering) → is_lt (ordering_then (key_cmp b a) o) ≡ false → a ≢ b → key_cmp a b ≡ Less
+adjacent_less a b o h ne =
+    elim (key_cmp b a) as (λ r. key_cmp b a ≡ r → is_lt (ordering_then r o) ≡ false → key_cmp a b ≡ Less) [
+      | Less ↦ λ e g. absurd (cc g)
+      | Equal ↦ λ e g. absurd (ne (sym (slice_cmp-IsAntisymmetric nat_cmp-IsAntisymmetric b a e)))
+      | Greater ↦ λ e g. nat_list_cmp_total.antisymm a b ∙ ap ordering_reverse e
+    ] refl h
+
+-- keys that rise from one to the next are below all that come after
+module _ {X : Type 0} (k : X → List ℕ) where
+  abbrev RisesFrom : X → List X → Type 0
+  RisesFrom x xs = (n : ℕ) (d : X) → suc n < length (x ∷ xs) → key_cmp (k (get_or (x ∷ xs) n d)) (k (get_or (x ∷ xs) (suc n) d)) ≡ Less
+
+  below : (low : List ℕ) (x : X) (xs : List X) → key_cmp low (k x) ≡ Less → RisesFrom x xs → AllByRecursion (λ q. key_cmp low q ≡ Less) (map k (x ∷ xs))
+  below low x [] h up = (h, tt)
+  below low x (y ∷ xs) h up =
+      let next : key_cmp (k x) (k y) ≡ Less = up 0 x (omega arith) in (
+        h,
+        below low y xs (nat_list_cmp_total.trans low (k x) (k y) h next) (λ n d lt. up (suc n) d (omega (arith, lt))),
+      )
+
+  rises : (x : X) (xs : List X) → RisesFrom x xs → IsStrictlySortedBy key_cmp (map k (x ∷ xs))
+  unfolding IsStrictlySortedBy
+  rises x [] up = (tt, tt)
+  rises x (y ∷ xs) up = (
+    below (k x) y xs (up 0 x (omega arith)) (λ n d lt. up (suc n) d (omega (arith, lt))),
+    rises y xs (λ n d lt. up (suc n) d (omega (arith, lt))),
+  )
+
+  sorted : (xs : List X) → ((n : ℕ) (d : X) → n + 1 < length xs → key_cmp (k (get_or xs n d)) (k (get_or xs (n + 1) d)) ≡ Less) → IsStrictlySortedBy key_cmp (map k xs)
+  unfolding IsStrictlySortedBy
+  sorted [] up = tt
+  sorted (x ∷ xs) up = rises x xs (λ n d lt.
+      let e : n + 1 ≡ suc n = omega arith in
+      subst (λ (m : ℕ). key_cmp (k (get_or (x ∷ xs) n d)) (k (get_or (x ∷ xs) m d)) ≡ Less) e (up n d (omega (arith, lt))))
+
+-- the key of an entry below the root
+pub entry_key : (dir : List ℕ) (id : ℕ) (e : Entry) → id ≢ 0 → IsEntry dir id e → key e.name ≡ key_at dir id
+entry_key dir zero e ne h = absurd (ne refl)
+entry_key dir (suc id) e ne h = let named : IsNamed (entry_at dir (suc id)) e.name = h.name in ap key named.units
+
+-- an entry behind the key of its name
+record IsKeyed (dir : List ℕ) (e : List ℕ × ℕ) : Type 0 where
+  pub keyed_by : e.0 ≡ numbers (key_at dir e.1)
+  pub bytes : AreBytes (key_at dir e.1)
+
+each_keyed : (dir ids : List ℕ) → All (λ n. AreBytes (key_at dir n)) ids → All (IsKeyed dir) (keyed dir ids)
+each_keyed dir ids all = λ k d lt.
+    let l : k < length ids = omega (arith, lt, length-map {B = List ℕ × ℕ} ids (λ id. (numbers (key_at dir id), id))) in
+    let n : ℕ = get_or ids k 0 in
+    let is : get_or (keyed dir ids) k d ≡ (numbers (key_at dir n), n) = get_or-map (λ id. (numbers (key_at dir id), id)) ids k 0 d l in
+    let one : IsKeyed dir (numbers (key_at dir n), n) = record { keyed_by = refl; bytes = all k 0 l } in
+    subst (IsKeyed dir) (sym is) one
+
+ids_of : (dir ids : List ℕ) → places (keyed dir ids) ≡ ids
+ids_of dir [] = refl
+ids_of dir (n ∷ ids) = ap (λ ns. n ∷ ns) (ids_of dir ids)
+
+mapped : (f : ℕ → List ℕ) (list : List (List ℕ × ℕ)) → map f (places list) ≡ map (λ e. f e.1) list
+mapped f [] = refl
+mapped f (e ∷ list) = ap (λ ks. f e.1 ∷ ks) (mapped f list)
+
+flips : (x y : ℕ) → eqb x y ≡ eqb y x
+flips x y =
+    elim (eqb_tells x y) [
+      | inl p ↦ elim (eqb_tells y x) [ inl q ↦ p.0 ∙ sym q.0 | inr q ↦ absurd (q.1 (sym p.1)) ]
+      | inr p ↦ elim (eqb_tells y x) [ inl q ↦ absurd (p.1 (sym q.1)) | inr q ↦ p.0 ∙ sym q.0 ]
+    ]
+
+module _ (dir ids : List ℕ) (list : List (List ℕ × ℕ)) (permuted : IsPermutation (keyed dir ids) list) (bytes : All (λ n. AreBytes (key_at dir n)) ids) where
+  order_permuted : IsPermutation ids (places list)
+  order_permuted = subst (λ (xs : List ℕ). IsPermutation xs (places list)) (ids_of dir ids) (IsPermutation-map (λ e. e.1) (keyed dir ids) list permuted)
+
+  pub as_many : length ids ≡ length list
+  as_many = sym (length-map {B = List ℕ × ℕ} ids (λ id. (numbers (key_at dir id), id))) ∙ sym (length_permutation (keyed dir ids) list permuted)
+
+  pub same_entries : (n : ℕ) → Contains ids n ↔ Contains (places list) n
+  same_entries n = (
+    Contains-permutation ids (places list) n order_permuted,
+    Contains-permutation (places list) ids n (IsPermutation-sym ids (places list) order_permuted),
+  )
+
+  each : All (IsKeyed dir) list
+  each = All-permutation (IsKeyed dir) (keyed dir ids) list permuted (each_keyed dir ids bytes)
+
+  -- two that stand in the list, by their numbers and by their keys
+  compared : (i j : ℕ) (d : List ℕ × ℕ) → i < length list → j < length list
+      → key_cmp (get_or list i d).0 (get_or list j d).0 ≡ key_cmp (key_at dir (get_or list i d).1) (key_at dir (get_or list j d).1)
+  compared i j d li lj =
+      let a : IsKeyed dir (get_or list i d) = each i d li in
+      let b : IsKeyed dir (get_or list j d) = each j d lj in
+      (λ t. key_cmp (a.keyed_by t) (b.keyed_by t)) ∙ numbers_cmp (key_at dir (get_or list i d).1) (key_at dir (get_or list j d).1) a.bytes b.bytes
+
+  pub in_order : ((k : ℕ) (d : List ℕ × ℕ) → 0 ≤ k → k + 1 < length list
+      → is_lt (ordering_then (key_cmp (get_or list (k + 1) d).0 (get_or list k d).0) (nat_cmp (get_or list (k + 1) d).1 (get_or list k d).1)) ≡ false)
+      → AllAdjacentApart list → IsStrictlySortedBy key_cmp (map (key_at dir) (places list))
+  in_order up apart =
+      subst (IsStrictlySortedBy key_cmp) (sym (mapped (key_at dir) list))
+      (sorted (λ e. key_at dir e.1) list (λ n d lt.
+      sym (compared n (n + 1) d (omega (arith, lt)) lt) ∙ adjacent_less _ _ _ (up n d (omega arith) lt) (apart n d lt)))
+
+  -- a name that stands twice
+  pub named_twice : AreDistinct ids → HasEqualNeighbours list → MayRefuseNames dir ids DuplicateName
+  named_twice once (k, d, lt, same) =
+      let l : k < length list = omega (arith, lt) in
+      let m : ℕ = (get_or list k d).1 in
+      let n : ℕ = (get_or list (k + 1) d).1 in
+      let long : length (places list) ≡ length list = length-map list (λ e. e.1) in
+      let at_m : get_or (places list) k 0 ≡ m = get_or-map (λ e. e.1) list k d 0 l in
+      let at_n : get_or (places list) (k + 1) 0 ≡ n = get_or-map (λ e. e.1) list (k + 1) d 0 lt in
+      let apart : AreDistinct (places list) = AllPairs-from_IsDistinct Decides-eqb (places list)
+      (IsDistinct-IsPermutation eqb flips ids (places list) order_permuted (IsDistinct-from_AllPairs Decides-eqb ids once)) in
+      let ne : m ≢ n = λ e. apart k (k + 1) 0 (omega arith) (omega (arith, lt, long)) (at_m ∙ e ∙ sym at_n) in
+      let in_m : Contains (places list) m = (k, omega (arith, l, long), get_or_default (places list) k m 0 (omega (arith, l, long)) ∙ at_m) in
+      let in_n : Contains (places list) n = (k + 1, omega (arith, lt, long), get_or_default (places list) (k + 1) n 0 (omega (arith, lt, long)) ∙ at_n) in
+      let equal : key_cmp (key_at dir m) (key_at dir n) ≡ Equal =
+      sym (compared k (k + 1) d l lt) ∙ ap (λ x. key_cmp (get_or list k d).0 x) (sym same) ∙ slice_cmp-same (get_or list k d).0 in
+      (m, n, (same_entries m).1 in_m, (same_entries n).1 in_n, ne, exact_bytes (key_at dir m) (key_at dir n) equal)
