@@ -1,6 +1,4 @@
 pub mod ReadingRefused
-pub mod KeyNumbers
-pub mod SortedNames
 pub mod ReadingKept
 pub mod ReadingOnce
 pub mod ReadingChildren

@@ -21,7 +21,7 @@ use Rattle.file_faults.proofs.Below.{below_some, entry_at_fault, linked_child}
 use Rattle.file_faults.proofs.Chains.{chain_refused, none_found, taken_as}
 use Rattle.stream_io.specs.Marks.{IsBegun, IsInRead, IsNext}
 use Rattle.stream_io.specs.Reads.{IsTaken, MayRefuseFile, MayRefusePlace, MayRefuseStorage, chain_fault, directory_fault, directory_in}
-use Rattle.stream_io.specs.Sorting.{MayRefuseNames}
+use Rattle.entry_sorting.specs.Sorting.{MayRefuseNames}
 use Rattle.stream_io.specs.declared.read.Reader.{Reader}
 use Rattle.stream_io.specs.declared.fault.ReadFault.TheVariants as told
 use Rattle.stream_io.specs.declared.fault.ReadFault.{ReadFault}

@@ -10,7 +10,7 @@ use Rattle.cfb_names.specs.declared.fault.DirFault.{DirFault}
 use Rattle.cfb_names.specs.declared.fault.DirFault.TheVariants.{NameEmpty, NameTooLong, NameNotAscii, NameForbidden, DuplicateName, BadEntry, TreeCycle, TooNested, NoMemory}
 use Rattle.file_faults.specs.Faults.{key_at}
 use Rattle.stream_io.specs.Reads.{AreSorted, met}
-use Rattle.stream_io.specs.Sorting.{MayRefuseNames}
+use Rattle.entry_sorting.specs.Sorting.{MayRefuseNames}
 use Rattle.stream_io.specs.declared.read.Reader.{Reader}
 use Rattle.file_model.proofs.Lists.{sorted_unique}
 use Rattle.file_model.proofs.Unique.{linked_unique}

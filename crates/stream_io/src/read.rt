@@ -25,7 +25,6 @@ ghost use Rattle.stream_io.specs.declared.fault.ReadFault.TheVariants.{NoMemory}
 ghost use Rattle.stream_io.specs.declared.read.Reader as reader;
 
 use crate::fault::{ReadFault, StreamFault};
-use crate::sorting::by_name;
 use cfb_chain::fat::Fat;
 use cfb_chain::image::Image;
 use cfb_directory::entries::{Entries, Entry, EntryKind};
@@ -33,6 +32,7 @@ use cfb_header::header::Header;
 use cfb_names::fault::DirFault;
 use cfb_names::name::Name;
 use cfb_places::places::Places;
+use entry_sorting::sorting::by_name;
 use file_comparing::comparing::is_shown;
 use file_outline::filling::{bytes_at, storage_at};
 use file_outline::finding::place_at;

@@ -3,7 +3,7 @@ use Rattle.cfb_chain.proofs.Results.{refused_with}
 use Rattle.cfb_directory.specs.Entries.{EntriesValue}
 use Rattle.cfb_directory.proofs.Marked.{children_kept}
 use Rattle.stream_io.specs.Reads.{MayRefuseStorage, directory_fault}
-use Rattle.stream_io.specs.Sorting.{MayRefuseNames}
+use Rattle.entry_sorting.specs.Sorting.{MayRefuseNames}
 use Rattle.stream_io.proofs.ReadingRefused.{children_below, directory_memory, names_below}
 use Rattle.stream_io.proofs.ReadingSorted.{names_not_refused, sorted_met}
 use Rattle.stream_io.proofs.ReadingSteps.{AreTheChildren, children_of, children_readable}

@@ -19,8 +19,8 @@ use Rattle.cfb_directory.specs.Entries.{IsEntry, IsNamed, entry_at}
 use Rattle.cfb_directory.specs.declared.entries.Entry.{Entry}
 use Rattle.cfb_names.proofs.Keys.{slice_cmp-same}
 use Rattle.file_faults.specs.Faults.{key_at}
-use Rattle.stream_io.specs.Sorting.{AllAdjacentApart, AreBytes, HasEqualNeighbours, MayRefuseNames, keyed, numbers, places}
-use Rattle.stream_io.proofs.KeyNumbers.{numbers_cmp}
+use Rattle.entry_sorting.specs.Sorting.{AllAdjacentApart, AreBytes, HasEqualNeighbours, MayRefuseNames, keyed, numbers, places}
+use Rattle.entry_sorting.proofs.KeyNumbers.{numbers_cmp}
 use Rattle.cfb_names.specs.declared.fault.DirFault.TheVariants.{DuplicateName}
 
 -- a neighbour that isn't less and has another key has a greater one

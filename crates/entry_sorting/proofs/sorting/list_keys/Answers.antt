@@ -3,9 +3,9 @@ use Rattle.std.proofs.lemmas.List.{length-map, length-take-le, map-append, take_
 use Rattle.std.proofs.lemmas.List.Elements.{All-push}
 use Rattle.std.specs.List.{All}
 use Rattle.file_faults.specs.Faults.{key_at}
-use Rattle.stream_io.specs.Sorting.{AreBytes, keyed, numbers}
-use Rattle.stream_io.proofs.SortedNames.{entry_key}
-use Rattle.stream_io.proofs.sorting.list_keys.Goals as goal
+use Rattle.entry_sorting.specs.Sorting.{AreBytes, keyed, numbers}
+use Rattle.entry_sorting.proofs.SortedNames.{entry_key}
+use Rattle.entry_sorting.proofs.sorting.list_keys.Goals as goal
 
 pub push_within-requires : goal.push_within-requires
 push_within-requires c =

@@ -1,6 +1,6 @@
 use Rattle.std.proofs.Common.{◌∙◌, arith}
-use Rattle.stream_io.proofs.KeyNumbers.{eight_are}
-use Rattle.stream_io.proofs.sorting.number.Goals as goal
+use Rattle.entry_sorting.proofs.KeyNumbers.{eight_are}
+use Rattle.entry_sorting.proofs.sorting.number.Goals as goal
 
 pub returns-clause-number : goal.returns-clause-number
 returns-clause-number c = c.from_be_bytes.ensures ∙ eight_are c.args.at c.args.key.now (omega (arith, c.well_formed, c.requires))

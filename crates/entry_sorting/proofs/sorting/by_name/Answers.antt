@@ -4,9 +4,9 @@ use Rattle.std.specs.List.{All, Contains}
 use Rattle.std.specs.List.Sorted.{IsPermutation, IsStrictlySortedBy}
 use Rattle.cfb_names.specs.Names.{key_cmp}
 use Rattle.file_faults.specs.Faults.{key_at}
-use Rattle.stream_io.specs.Sorting.{AllAdjacentApart, AreBytes, HasEqualNeighbours, keyed, places}
-use Rattle.stream_io.proofs.SortedNames.{as_many, in_order, named_twice, same_entries}
-use Rattle.stream_io.proofs.sorting.by_name.Goals as goal
+use Rattle.entry_sorting.specs.Sorting.{AllAdjacentApart, AreBytes, HasEqualNeighbours, keyed, places}
+use Rattle.entry_sorting.proofs.SortedNames.{as_many, in_order, named_twice, same_entries}
+use Rattle.entry_sorting.proofs.sorting.by_name.Goals as goal
 
 -- what a slice was written to is what its vector holds
 written : (new rest : List ℕ) (n : ℕ) → length new ≡ n → take n (new ++ rest) ≡ new

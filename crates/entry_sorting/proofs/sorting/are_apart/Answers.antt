@@ -3,7 +3,7 @@ use Rattle.std.proofs.lemmas.Bool.{cases_lt}
 use Rattle.std.proofs.lemmas.Bool.Decides.{Decides-eqb}
 use Rattle.std.proofs.lemmas.List.{get_or_default}
 use Rattle.std.proofs.lemmas.Slice.Eq.{slice_eq-Decides}
-use Rattle.stream_io.proofs.sorting.are_apart.Goals as goal
+use Rattle.entry_sorting.proofs.sorting.are_apart.Goals as goal
 
 pub returns-then-eq-clause-equal : goal.returns-then-eq-clause-equal
 returns-then-eq-clause-equal c = λ _.

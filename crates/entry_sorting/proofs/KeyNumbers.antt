@@ -8,7 +8,7 @@ use Rattle.std.specs.FinMap.{nat_cmp-IsAntisymmetric}
 use Rattle.std.specs.Ordering.{MatchOrdering, ordering_then}
 use Rattle.std.specs.declared.cmp.Ordering.{Ordering}
 use Rattle.std.specs.declared.cmp.Ordering.TheVariants.{Less, Equal, Greater}
-use Rattle.stream_io.specs.Sorting.{AreBytes, eight, numbers, spelled}
+use Rattle.entry_sorting.specs.Sorting.{AreBytes, eight, numbers, spelled}
 
 abbrev Bytes : List ℕ → Type 0
 Bytes xs = (k : ℕ) → get_or xs k 0 < 256

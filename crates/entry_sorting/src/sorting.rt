@@ -1,4 +1,4 @@
-//! The children of a storage in the order of their names.
+//! Entries that are put in the order of their names, with no memory taken for that.
 
 ghost use Rattle.cfb_chain.specs.Chain.{AreDistinct};
 ghost use Rattle.cfb_names.specs.Names.{key_cmp};
@@ -6,7 +6,7 @@ ghost use Rattle.file_faults.specs.Faults.{key_at};
 ghost use Rattle.std.specs.List.{All, Contains};
 ghost use Rattle.std.specs.List.Sorted.{IsStrictlySortedBy};
 ghost use Rattle.std.specs.Prelude.{[], ◌*◌, ◌++◌, ◌+◌, ◌<◌, ◌↔◌, ◌∷◌, ◌≡◌, ◌≢◌, ◌≤◌, IfErr, IfOk, OnOk, false, length, map, true, vec_capacity, vec_len, ℕ};
-ghost use Rattle.stream_io.specs.Sorting.{AllAdjacentApart, HasEqualNeighbours, MayRefuseNames, MayRefuseOneOf, AreBytes, eight, keyed, numbers, places};
+ghost use Rattle.entry_sorting.specs.Sorting.{AllAdjacentApart, HasEqualNeighbours, MayRefuseNames, MayRefuseOneOf, AreBytes, eight, keyed, numbers, places};
 
 use cfb_directory::entries::Entries;
 use cfb_names::fault::DirFault;
@@ -103,7 +103,7 @@ fn put_ids(list: &[([u64; 4], u32)], ids: &mut [u32])
 /// The entries in the order of their names. It takes no memory: it is given a list with room for all.
 ///
 /// Refused: as `Entries::entry`, and `DuplicateName` where two names are equal in upper case.
-pub(crate) fn by_name(
+pub fn by_name(
     entries: &Entries<'_>,
     mut ids: Vec<u32>,
     mut list: Vec<([u64; 4], u32)>,
