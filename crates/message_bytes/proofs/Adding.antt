@@ -1,11 +1,14 @@
 -- Bytes that are added one after another.
-use Rattle.std.proofs.Common.{◌≡◌, ℕ, ◌+◌, ◌<◌, ◌≤◌, true, List, [], ◌∷◌, ◌++◌, length, refl, ap, ◌∙◌, append_assoc, arith, suc, zero, get_or}
-use Rattle.std.proofs.lemmas.List.{length-append}
+use Rattle.std.proofs.Common.{◌≡◌, ℕ, ◌+◌, ◌<◌, ◌≤◌, true, List, [], ◌∷◌, ◌++◌, length, take, drop, refl, ap, sym, ◌∙◌, append_assoc, arith, suc, zero, get_or, Err}
+use Rattle.std.proofs.lemmas.List.{length-append, take_at, drop_at}
 use Rattle.object_parts.specs.Limits.{is_within, total}
 use Rattle.storage_tree.specs.declared.streams.NamedStream.{NamedStream}
 use Rattle.storage_tree.specs.declared.stored.Stored.{Stored}
-use Rattle.message_bytes.specs.Encoding.{Adds, AreNamed}
-use Rattle.message_model.specs.Spelling.{four_bytes, blob, streams, stored}
+use Rattle.message_bytes.specs.Encoding.{Adds, AreNamed, Encodes, EncodesInto}
+use Rattle.message_model.specs.declared.fault.WireFault.{WireFault}
+use Rattle.message_model.specs.declared.fault.WireFault.TheVariants.{BadMagic, BadVersion, BadKind, TooLong, BadField, NoMemory}
+use Rattle.message_model.specs.declared.frame.Frame.{Frame}
+use Rattle.message_model.specs.Spelling.{four_bytes, blob, head, streams, stored}
 use Rattle.message_model.proofs.Fields.{length-four_bytes}
 use Rattle.message_model.proofs.Lengths.{length-stored}
 
@@ -41,3 +44,27 @@ part_of (t ∷ ss) (suc i) s e lt = let p : length s.bytes ≤ total ss = part_o
 
 pub content_added : (old a b new : List ℕ) (s : Stored) → is_within s ≡ true → AreNamed s.streams → a ≡ old ++ length s.streams ∷ [] → b ≡ a ++ streams s.streams → new ≡ b ++ blob s.picture → Adds old new (stored s) 262437
 content_added old a b new s within named p q r = adds_three old a b new (length s.streams ∷ []) (streams s.streams) (blob s.picture) 262437 p q r (length-stored s named within)
+
+-- a head but for its length
+abbrev begun : ℕ → List ℕ
+begun kind = 79 ∷ 76 ∷ 67 ∷ 77 ∷ 1 ∷ kind ∷ []
+
+-- what stands behind other bytes, its head's length put into its place
+pub patched : (old a b new rest : List ℕ) (kind at len : ℕ) → at ≡ length old → a ≡ old ++ 79 ∷ 76 ∷ 67 ∷ 77 ∷ 1 ∷ kind ∷ 0 ∷ 0 ∷ 0 ∷ 0 ∷ [] → b ≡ a ++ rest
+    → new ≡ take (at + 6) b ++ (four_bytes len ++ drop (at + 10) b) → len ≡ length rest → new ≡ old ++ (head kind (length rest) ++ rest)
+patched old a b new rest kind at len here p q written same =
+    let whole : b ≡ (old ++ (begun kind ++ 0 ∷ 0 ∷ 0 ∷ 0 ∷ [])) ++ rest = q ∙ ap (λ x. x ++ rest) p in
+    let parts : b ≡ (old ++ begun kind) ++ 0 ∷ 0 ∷ 0 ∷ 0 ∷ rest = whole ∙ append_assoc old (begun kind ++ 0 ∷ 0 ∷ 0 ∷ 0 ∷ []) rest ∙ sym (append_assoc old (begun kind) (0 ∷ 0 ∷ 0 ∷ 0 ∷ rest)) in
+    let front : take (at + 6) b ≡ old ++ begun kind = ap (take (at + 6)) parts ∙ take_at (old ++ begun kind) (0 ∷ 0 ∷ 0 ∷ 0 ∷ rest) (at + 6) (length-append old (begun kind) ∙ ap (λ n. n + 6) (sym here)) in
+    let behind : drop (at + 10) b ≡ rest = ap (drop (at + 10)) whole ∙ drop_at (old ++ (begun kind ++ 0 ∷ 0 ∷ 0 ∷ 0 ∷ [])) rest (at + 10) (length-append old (begun kind ++ 0 ∷ 0 ∷ 0 ∷ 0 ∷ []) ∙ ap (λ n. n + 10) (sym here)) in
+    written ∙ ap (λ x. x ++ (four_bytes len ++ drop (at + 10) b)) front ∙ ap (λ x. (old ++ begun kind) ++ (four_bytes len ++ x)) behind
+    ∙ append_assoc old (begun kind) (four_bytes len ++ rest) ∙ ap (λ n. old ++ (begun kind ++ (four_bytes n ++ rest))) same
+
+-- what encode refuses
+pub refused_alone : (fault : WireFault) (old new : List ℕ) (frame : Frame) → EncodesInto (Err fault) old new frame → Encodes (Err fault) frame
+refused_alone BadMagic old new frame e = e
+refused_alone BadVersion old new frame e = e
+refused_alone BadKind old new frame e = e
+refused_alone TooLong old new frame e = e
+refused_alone BadField old new frame e = e.0
+refused_alone NoMemory old new frame e = e

@@ -20,6 +20,16 @@ Encodes (Err BadVersion) frame = ⊥
 Encodes (Err BadKind) frame = ⊥
 Encodes (Err TooLong) frame = ⊥
 
+-- The same behind other bytes. A frame that may not be sent adds nothing.
+abbrev pub EncodesInto : Result (Unit {0}) WireFault → List ℕ → List ℕ → Frame → Type 0
+EncodesInto (Ok u) old new frame = (fits frame ≡ true) × (new ≡ old ++ spell frame)
+EncodesInto (Err BadField) old new frame = (fits frame ≡ false) × (new ≡ old)
+EncodesInto (Err NoMemory) old new frame = fits frame ≡ true
+EncodesInto (Err BadMagic) old new frame = ⊥
+EncodesInto (Err BadVersion) old new frame = ⊥
+EncodesInto (Err BadKind) old new frame = ⊥
+EncodesInto (Err TooLong) old new frame = ⊥
+
 -- bytes with these at their end, which are at most so many
 pub record Adds (old new text : List ℕ) (most : ℕ) : Type 0 where
   pub added : new ≡ old ++ text

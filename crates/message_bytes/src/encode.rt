@@ -1,13 +1,14 @@
 //! Frames as bytes.
 
 ghost use Rattle.cfb_names.specs.Names.{IsName};
-ghost use Rattle.message_bytes.specs.Encoding.{Adds, AreNamed, Encodes};
+ghost use Rattle.message_bytes.specs.Encoding.{Adds, AreNamed, Encodes, EncodesInto};
 ghost use Rattle.message_model.specs.Frames.{MOST_BODY, MOST_EDIT, answer_fits, fits, operation_fits};
 ghost use Rattle.message_model.specs.Spelling.{answer, blob, body, four_bytes, kind, operation, option_number, stored, streams, text, two_bytes, widths};
 ghost use Rattle.object_parts.specs.Limits.{is_within, total};
 ghost use Rattle.wire_msgs.specs.declared.operation.Operation.TheVariants.{SaveCompleted};
-ghost use Rattle.std.specs.Prelude.{[], ◌∷◌, ◌++◌, ◌≡◌, ◌≤◌, ◌<◌, ◌^◌, OnOk, drop, length, take, true};
+ghost use Rattle.std.specs.Prelude.{[], ◌∷◌, ◌++◌, ◌≡◌, ◌≤◌, ◌<◌, ◌+◌, ◌^◌, OnOk, drop, length, take, true};
 
+use crate::unfinished::MOST_HELD;
 use message_model::fault::WireFault;
 use message_model::frame::Frame;
 pub use message_model::frame::MOST_EDIT;
@@ -19,6 +20,9 @@ use storage_tree::streams::NamedStream;
 use wire_msgs::answer::Answer;
 use wire_msgs::message::Message;
 use wire_msgs::operation::Operation;
+
+/// How many bytes stand beside a stream's name and its bytes in a content.
+const MOST_BESIDE: usize = 5;
 
 // Whether an operation may be sent.
 fn operation_fits(operation: &Operation) -> bool
@@ -369,13 +373,64 @@ fn kind_number(frame: &Frame) -> u8
     }
 }
 
-// Writes the length of the body into its place.
+// Writes the length of the body of a frame that begins here into its place.
 #[tactic(auto, unfolding(message_model::specs::Spelling::four_bytes))]
-fn set_length(out: &mut [u8], len: u32)
-    requires { 10 ≤ length out.old }
-    ensures { out.new ≡ take 6 out.old ++ (four_bytes len ++ drop 10 out.old) }
+fn set_length(out: &mut [u8], at: usize, len: u32)
+    requires { at + 10 ≤ length out.old }
+    ensures { out.new ≡ take (at + 6) out.old ++ (four_bytes len ++ drop (at + 10) out.old) }
 {
-    out[6..10].copy_from_slice(&len.to_le_bytes());
+    out[at + 6..at + 10].copy_from_slice(&len.to_le_bytes());
+}
+
+// How many bytes a content takes.
+fn stored_room(content: &Stored) -> usize {
+    let mut room = content.picture.len();
+    for stream in content.streams.as_slice() {
+        room = room
+            .saturating_add(stream.name.as_bytes().len())
+            .saturating_add(stream.bytes.len())
+            .saturating_add(MOST_BESIDE);
+    }
+    room
+}
+
+// How many bytes a frame takes at the most, so that its vector grows once. It is a guess: what doesn't fit grows it again.
+fn room(frame: &Frame) -> usize {
+    let inside = match frame {
+        Frame::Message(Message::Call { operation, .. }) => match operation {
+            Operation::Load(_, content) => stored_room(content),
+            Operation::Edit(bytes) => bytes.len(),
+            _ => 0,
+        },
+        Frame::Message(Message::Reply { answer, .. }) => match answer {
+            Answer::Content(content) => stored_room(content),
+            _ => 0,
+        },
+        Frame::Message(Message::Write { content, .. }) => stored_room(content),
+        Frame::Message(Message::Ask { .. }) => 0,
+        // A head alone.
+        Frame::Turn => return 10,
+    };
+    inside.saturating_add(MOST_HELD)
+}
+
+/// Adds the byte form of a frame, as `encode` gives it.
+///
+/// Refused: `BadField` for a frame that may not be sent (see `fits`), and nothing is added; then `NoMemory`, behind which
+/// nothing is said of the bytes.
+pub fn encode_into(out: &mut Vec<u8>, frame: &Frame) -> Result<(), WireFault>
+    ensures { EncodesInto result out.old.items out.new.items frame.now }
+{
+    if !fits(frame) {
+        return Err(WireFault::BadField);
+    }
+    let at = out.len();
+    out.reserve(room(frame))?;
+    push_bytes(out, &[79, 76, 67, 77, 1, kind_number(frame), 0, 0, 0, 0])?;
+    push_body(out, frame)?;
+    let len = (out.len() - at - 10) as u32;
+    set_length(out, at, len);
+    Ok(())
 }
 
 /// The byte form of a frame.
@@ -384,16 +439,9 @@ fn set_length(out: &mut [u8], len: u32)
 pub fn encode(alloc: Global, frame: &Frame) -> Result<Vec<u8>, WireFault>
     ensures { Encodes result frame.now }
 {
-    if !fits(frame) {
-        return Err(WireFault::BadField);
-    }
     let mut out = Vec::new(alloc);
-    push_bytes(
-        &mut out,
-        &[79, 76, 67, 77, 1, kind_number(frame), 0, 0, 0, 0],
-    )?;
-    push_body(&mut out, frame)?;
-    let len = (out.len() - 10) as u32;
-    set_length(&mut out, len);
-    Ok(out)
+    match encode_into(&mut out, frame) {
+        Ok(()) => Ok(out),
+        Err(fault) => Err(fault),
+    }
 }
