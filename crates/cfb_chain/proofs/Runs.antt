@@ -1,6 +1,9 @@
 -- Sectors that stand one after another.
-use Rattle.std.proofs.Common.{◌≡◌, ◌<◌, ◌≤◌, ◌+◌, ◌-◌, ◌*◌, ℕ, zero, suc, List, [], ◌∷◌, ◌++◌, length, take, drop, replicate, get_or, sym, ap, subst, ◌∙◌, arith, length-drop}
-use Rattle.std.proofs.lemmas.List.{append-nil, drop-drop, take_all}
+use Rattle.std.proofs.Common.{inl, inr, min, ◌≡◌, ◌<◌, ◌≤◌, ◌+◌, ◌-◌, ◌*◌, ℕ, zero, suc, List, [], ◌∷◌, ◌++◌, length, take, drop, replicate, get_or, sym, ap, subst, ◌∙◌, arith, length-drop}
+use Rattle.std.proofs.lemmas.List.{append-nil, drop-drop, take-append-drop, take-append-le, take_all}
+use Rattle.std.proofs.lemmas.List.Concat.{flat_map-append}
+use Rattle.std.proofs.lemmas.Bool.{cases_lt}
+use Rattle.std.proofs.Math.Seq.{take-append-add}
 use Rattle.std.specs.List.{slice_range}
 use Rattle.cfb_header.specs.Bytes.{block, joined, sector}
 
@@ -78,3 +81,34 @@ placed_joined file run first count ns each count_is long same =
     ∙ placed_from file run first 0 ns
     (λ k l. let e : 0 + k ≡ k = omega arith in each k l ∙ ap (λ m. first + m) (sym e)) (omega (arith, all))
     (λ k l. let e : 0 + k ≡ k = omega arith in subst (λ m. block 512 run (512 * m) ≡ block 512 file (512 * (first + 1 + m))) (sym e) (same k (omega (arith, l, count_is))))
+
+-- ---- bytes that are compared where they stand
+-- what a list of sectors holds: those in a row, and the rest
+pub joined_cut : (piece : ℕ → List ℕ) (ns : List ℕ) (at count : ℕ)
+    → joined piece (drop at ns) ≡ joined piece (take count (drop at ns)) ++ joined piece (drop (at + count) ns)
+joined_cut piece ns at count =
+    let rest : List ℕ = drop at ns in
+    let cut : rest ≡ take count rest ++ drop count rest = sym (take-append-drop count rest) in
+    let behind : drop count rest ≡ drop (at + count) ns = drop-drop count at ns in
+    ap (joined piece) cut ∙ flat_map-append piece (take count rest) (drop count rest)
+    ∙ ap (λ xs. joined piece (take count rest) ++ joined piece xs) behind
+
+-- bytes whose front was seen, and whose rest is what stands behind
+pub shown_more : (rest run behind : List ℕ) (len : ℕ) → len ≡ min (length rest) (length run) → take len rest ≡ take len run
+    → drop len rest ≡ take (length (drop len rest)) behind → rest ≡ take (length rest) (run ++ behind)
+shown_more rest run behind len least front back =
+    elim (cases_lt (length run) (length rest)) [
+      | inr all ↦
+          let e : len ≡ length rest = omega (arith, least, all) in
+          sym (take_all (length rest) rest (omega arith)) ∙ ap (λ n. take n rest) (sym e) ∙ front ∙ ap (λ n. take n run) e
+          ∙ sym (take-append-le (length rest) run behind (omega (arith, all)))
+      | inl more ↦
+          let e : len ≡ length run = omega (arith, least, more) in
+          let left : length rest ≡ length run + length (drop len rest) = omega (arith, length-drop len rest, e, more) in
+          sym (take-append-drop len rest)
+          ∙ (λ i. front i ++ back i)
+          ∙ ap (λ n. take n run ++ take (length (drop len rest)) behind) e
+          ∙ ap (λ xs. xs ++ take (length (drop len rest)) behind) (take_all (length run) run (omega arith))
+          ∙ sym (take-append-add run behind (length (drop len rest)))
+          ∙ ap (λ n. take n (run ++ behind)) (sym left)
+    ]

@@ -1,18 +1,19 @@
 //! The table of sectors and its chains (MS-CFB 2.3, 2.4).
 
-ghost use Rattle.cfb_header.specs.Bytes.{block, joined};
+ghost use Rattle.cfb_header.specs.Bytes.{block, joined, u32_at};
 ghost use Rattle.cfb_chain.specs.Chain.{AreDistinct, FREE_SECTOR, IsChain};
 ghost use Rattle.cfb_header.specs.Header.{NAMED, difat_by, fat_by};
 ghost use Rattle.cfb_chain.specs.Fat.{AreFree, FatValue, IsFat, IsFound, IsFree, IsFreeChain, IsMiniFound, IsMiniTable, IsTableOf, MayRefuse, MayRefuseChain, MayRefuseFat, MayRefuseMini, followed, held, marked, sectors_in, store_of};
 ghost use Rattle.cfb_chain.specs.View.{bytes_of, image_bytes, start_of, width_of};
 ghost use Rattle.cfb_header.specs.declared.fault.ChainFault.TheVariants.{CrossLinked, Cycle, NoMemory, OutOfFile, ShortChain};
 ghost use Rattle.std.specs.List.{All, Contains};
-ghost use Rattle.std.specs.Prelude.{◌*◌, ◌+◌, ◌++◌, ◌<◌, ◌^◌, ◌≡◌, ◌≢◌, ◌≤◌, ◌⊎◌, IfErr, IfNone, IfOk, IfSome, List, OnErr, OnOk, length, slice_index, take, ℕ};
+ghost use Rattle.std.specs.Prelude.{◌*◌, ◌+◌, ◌++◌, ◌<◌, ◌^◌, ◌≡◌, ◌≢◌, ◌≤◌, ◌⊎◌, IfErr, IfNone, IfOk, IfSome, List, OnErr, OnOk, length, slice_index, take, true, ℕ};
 
 use crate::difat::{FatSectors, fat_sectors};
 use crate::image::{Image, join_placed};
-use crate::sectors::{MINI_SECTOR, SECTOR, join_blocks, numbers, run_of};
-use crate::table::{count_entries, follow, table_in};
+use crate::links::Links;
+use crate::sectors::{MINI_SECTOR, SECTOR, are_equal, join_blocks, numbers, row_length, run_of};
+use crate::table::{count_entries, follow};
 use cfb_header::fault::ChainFault;
 use cfb_header::header::{END_OF_CHAIN, Header, NAMED};
 use cfb_places::places::Places;
@@ -27,7 +28,7 @@ pub const FREE_SECTOR: u32 = 0xffff_ffff;
 #[derive(Drop)]
 pub struct Fat<'a> {
     pieces: Pieces<'a>,
-    next: Vec<u32>,
+    next: Links<'a>,
     used: Vec<bool>,
 }
 
@@ -84,6 +85,27 @@ impl<'a> Pieces<'a> {
             Pieces::MiniPlaced(_, _) => None,
         }
     }
+
+    /// Whether the first bytes of some, one after another, are these, so far as that is seen where they stand in memory.
+    fn show(&self, numbers: &[u32], bytes: &[u8]) -> bool
+        ensures { result ≡ true → bytes.now ≡ take (length bytes.now) (joined (λ n. block (width_of self.now) (bytes_of self.now) (start_of self.now + width_of self.now * n)) numbers.now) }
+    {
+        let mut rest = bytes;
+        let mut at = 0;
+        while at < numbers.len() {
+            let count = row_length(numbers, at);
+            let Some(run) = self.run(&numbers[at..at + count]) else {
+                return false;
+            };
+            let len = rest.len().min(run.len());
+            if !are_equal(&rest[..len], &run[..len]) {
+                return false;
+            }
+            rest = &rest[len..];
+            at += count;
+        }
+        rest.is_empty()
+    }
 }
 
 impl<'a> Model for Fat<'a> {
@@ -92,9 +114,9 @@ impl<'a> Model for Fat<'a> {
 
     ghost Value = { FatValue };
 
-    ghost view = { λ f. record { bytes = bytes_of f.pieces; start = start_of f.pieces; width = width_of f.pieces; table = f.next.items; used = f.used.items } };
+    ghost view = { λ f. record { bytes = bytes_of f.pieces; start = start_of f.pieces; width = width_of f.pieces; table = f.next; used = f.used.items } };
 
-    ghost invariant = { λ f. IsSound f.next.items f.used.items };
+    ghost invariant = { λ f. IsSound f.next f.used.items };
 }
 
 /// Refuses a sector that isn't among the first `count`.
@@ -167,7 +189,7 @@ impl<'a> Fat<'a> {
         check_apart(&sectors.difat)?;
         let own = sectors.all(alloc)?;
         check_present(&own, count)?;
-        let next = table_in(alloc, &file, &sectors.fat, count)?;
+        let next = Links::load(alloc, &file, &sectors.fat, count)?;
         let used = vec![in alloc; false; count]?;
         let mut fat = Fat {
             pieces: Pieces::Sectors(file),
@@ -243,6 +265,21 @@ impl<'a> Fat<'a> {
         Ok(held)
     }
 
+    /// Whether the first bytes of what the chain from a sector on holds, as far as it goes, are these, whether its sectors are
+    /// marked or not. They are compared where they stand, sectors in a row at once, and joined only where they aren't seen to be
+    /// the same so.
+    pub fn holds(&self, alloc: Global, start: u32, bytes: &[u8]) -> Result<bool, AllocError>
+        ensures { IfOk result (λ same. same ≡ true → bytes.now ≡ held self.now start (length bytes.now)) }
+    {
+        let sectors = follow(alloc, &self.next, start)?;
+        if self.pieces.show(&sectors, bytes) {
+            return Ok(true);
+        }
+        let mut held = self.join(alloc, &sectors)?;
+        held.truncate(bytes.len());
+        Ok(bytes == held.as_slice())
+    }
+
     /// The table of the mini stream of `size` bytes that begins at `start`, with the mini FAT that the header names. The
     /// sectors of both chains are marked. A refusal marks none.
     ///
@@ -300,12 +337,34 @@ impl<'a> Fat<'a> {
     {
         let mini_stream = self.find(alloc, start, size as u64)?;
         let pieces = self.mini_pieces(alloc, &mini_stream)?;
-        let entries = self.join(alloc, mini_fat)?;
         let count = (128 * mini_fat.len()).min((size as usize + 63) / 64);
-        let next = numbers(alloc, &entries, count)?;
+        let next = self.mini_links(alloc, mini_fat, count)?;
         let used = vec![in alloc; false; count]?;
         self.mark(&mini_stream);
         Ok(Fat { pieces, next, used })
+    }
+
+    /// The first entries of a mini FAT that lies in these sectors.
+    fn mini_links(
+        &self,
+        alloc: Global,
+        sectors: &[u32],
+        count: usize,
+    ) -> Result<Links<'a>, AllocError>
+        requires present { All (λ n. n < length self.now.table) sectors.now }
+        requires either { (self.now.width ≡ 512) ⊎ (self.now.width ≡ 64) }
+        requires fits { count < 2 ^ 60 }
+        ensures count { IfOk result (λ l. length l ≡ count) }
+        ensures each { IfOk result (λ l. (k : ℕ) → k < count → slice_index l k ≡ u32_at (joined (store_of self.now).piece sectors.now) (4 * k)) }
+    {
+        if let Some(bytes) = self.run(sectors) {
+            if count <= bytes.len() / 4 {
+                return Ok(Links::over(bytes, count));
+            }
+        }
+        let entries = self.join(alloc, sectors)?;
+        let numbers = numbers(alloc, &entries, count)?;
+        Ok(Links::of(numbers))
     }
 
     /// The mini sectors of a mini stream that lies in these sectors.
@@ -333,7 +392,7 @@ impl<'a> Fat<'a> {
         ensures none { IfNone result ((k : ℕ) → IsFree self.now k → slice_index self.now.table k ≢ FREE_SECTOR) }
     {
         for n in 0..self.next.len() {
-            if self.next[n] == FREE_SECTOR && !self.used[n] {
+            if self.next.entry(n) == FREE_SECTOR && !self.used[n] {
                 return Some(n as u32);
             }
         }
@@ -407,7 +466,7 @@ impl<'a> Fat<'a> {
                 turn = 2 * count + 1;
             }
             count += 1;
-            at = self.next[n];
+            at = self.next.entry(n);
         }
         Ok(count)
     }
@@ -425,7 +484,7 @@ impl<'a> Fat<'a> {
         let mut at = start;
         while at != END_OF_CHAIN {
             sectors.push(at)?;
-            at = self.next[at as usize];
+            at = self.next.entry(at as usize);
         }
         Ok(sectors)
     }
@@ -465,7 +524,7 @@ impl<'a> Fat<'a> {
         let mut at = start;
         for _ in 0..count {
             let n = at as usize;
-            at = self.next[n];
+            at = self.next.entry(n);
             self.used[n] = true;
         }
     }

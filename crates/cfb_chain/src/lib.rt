@@ -4,5 +4,6 @@
 pub mod difat;
 pub mod fat;
 pub mod image;
+pub mod links;
 mod sectors;
 pub mod table;

@@ -64,6 +64,28 @@ pub(crate) fn are_consecutive(first: u32, sectors: &[u32]) -> bool
     true
 }
 
+/// Whether bytes are the same.
+pub(crate) fn are_equal(a: &[u8], b: &[u8]) -> bool
+    ensures { result ≡ true → a.now ≡ b.now }
+{
+    a == b
+}
+
+/// How many numbers of a list from a place on are each one more than that before it.
+pub(crate) fn row_length(sectors: &[u32], at: usize) -> usize
+    requires { at < length sectors.now }
+    ensures some { 0 < result }
+    ensures inside { at + result ≤ length sectors.now }
+{
+    let mut count = 1;
+    while at + count < sectors.len()
+        && sectors[at + count] as usize == sectors[at] as usize + count
+    {
+        count += 1;
+    }
+    count
+}
+
 /// The bytes of sectors, the first of which stands at `start`, where they are whole and stand one after another.
 pub(crate) fn run_of<'a>(
     width: usize,

@@ -8,6 +8,7 @@ ghost use Rattle.std.specs.List.{All};
 ghost use Rattle.std.specs.Prelude.{◌*◌, ◌<◌, ◌≤◌, ◌^◌, ◌≡◌, IfOk, List, length, min, slice_index, ℕ};
 
 use crate::image::Image;
+use crate::links::Links;
 use crate::sectors::numbers;
 use cfb_header::header::END_OF_CHAIN;
 use std::alloc::{AllocError, Global};
@@ -46,7 +47,7 @@ pub fn entries(alloc: Global, file: &Image<'_>, fat: &[u32]) -> Result<Vec<u32>,
 }
 
 /// The sectors from one on, each followed by the one that its entry names, as far as entries go.
-pub(crate) fn follow(alloc: Global, table: &[u32], start: u32) -> Result<Vec<u32>, AllocError>
+pub(crate) fn follow(alloc: Global, table: &Links<'_>, start: u32) -> Result<Vec<u32>, AllocError>
     ensures listed { IfOk result (λ v. v.items ≡ followed table.now (length table.now) start) }
     ensures below { IfOk result (λ v. All (λ n. n < length table.now) v.items) }
 {
@@ -54,21 +55,28 @@ pub(crate) fn follow(alloc: Global, table: &[u32], start: u32) -> Result<Vec<u32
     let mut at = start;
     while sectors.len() < table.len() && (at as usize) < table.len() {
         sectors.push(at)?;
-        at = table[at as usize];
+        at = table.entry(at as usize);
     }
     Ok(sectors)
 }
 
 /// The sectors of the chain that begins with one, and none where the entries lead to no end.
-pub fn chain_from(alloc: Global, table: &[u32], start: u32) -> Result<Vec<u32>, AllocError>
+pub fn linked_from(alloc: Global, table: &Links<'_>, start: u32) -> Result<Vec<u32>, AllocError>
     ensures { IfOk result (λ v. (ns : List ℕ) → length table.now ≤ END_OF_CHAIN → Leads (slice_index table.now) start ns END_OF_CHAIN → All (λ n. n < length table.now) ns → v.items ≡ ns) }
 {
     let sectors = follow(alloc, table, start)?;
     let Some(last) = sectors.last() else {
         return Ok(sectors);
     };
-    if table[*last as usize] != END_OF_CHAIN {
+    if table.entry(*last as usize) != END_OF_CHAIN {
         return Ok(Vec::new(alloc));
     }
     Ok(sectors)
+}
+
+/// The sectors of the chain that begins with one by the entries of a table, and none where these lead to no end.
+pub fn chain_from(alloc: Global, table: &[u32], start: u32) -> Result<Vec<u32>, AllocError>
+    ensures { IfOk result (λ v. (ns : List ℕ) → length table.now ≤ END_OF_CHAIN → Leads (slice_index table.now) start ns END_OF_CHAIN → All (λ n. n < length table.now) ns → v.items ≡ ns) }
+{
+    linked_from(alloc, &Links::lent(table), start)
 }

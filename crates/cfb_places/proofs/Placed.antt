@@ -1,12 +1,55 @@
 -- The blocks of a file of which only some were read.
 use Rattle.std.proofs.Common.{◌≡◌, ◌≢◌, inl, inr, ◌<◌, ◌≤◌, ◌+◌, ◌-◌, ◌*◌, ◌/◌, ℕ, zero, suc, List, [], ◌∷◌, ◌++◌, length, take, drop, replicate, get_or, set, min, refl, sym, ap, subst, ◌∙◌, arith, append_assoc, drop-drop, length-append, length-drop, length-set}
-use Rattle.std.proofs.lemmas.List.{append-nil, drop_all, drop-append-le, get_or-set_other, get_or-set_same, length-replicate, length-take, take-append-le, take_all, take_at, take-take}
+use Rattle.std.proofs.lemmas.List.{append-nil, drop_all, drop-append-le, get_or-set_other, get_or-set_same, get_or_default, length-replicate, length-take, same_lists, take-append-le, take_all, take_at, take-take}
 use Rattle.std.proofs.lemmas.Bool.{cases_lt}
 use Rattle.std.proofs.Math.Seq.{drop-append_seam, drop-append-add}
 use Rattle.std.proofs.lemmas.List.Elements.{All-replicate, All-set}
 use Rattle.std.specs.List.{All, flat_map, slice_range}
 use Rattle.cfb_bytes.specs.Bytes.{block}
-use Rattle.cfb_places.specs.Places.{IsPlaced, placed}
+use Rattle.cfb_places.specs.Places.{IsPlaced, filled, placed}
+
+-- ---- places behind which no block was read
+get_zeros : (n k : ℕ) → let zero_there : ℕ = get_or (replicate n 0) k 0 in zero_there ≡ 0
+get_zeros zero k = refl
+get_zeros (suc n) zero = refl
+get_zeros (suc n) (suc k) = get_zeros n k
+
+get_front : (xs : List ℕ) (n k : ℕ) → get_or (xs ++ replicate n 0) k 0 ≡ get_or xs k 0
+get_front [] n k = get_zeros n k
+get_front (x ∷ xs) n zero = refl
+get_front (x ∷ xs) n (suc k) = get_front xs n k
+
+pub get_filled : (count : ℕ) (xs : List ℕ) (k : ℕ) → get_or (filled count xs) k 0 ≡ get_or xs k 0
+get_filled count xs k = get_front xs (count - length xs) k
+
+pub length_filled : (count : ℕ) (xs : List ℕ) → length (filled count xs) ≡ length xs + (count - length xs)
+length_filled count xs = length-append xs (replicate (count - length xs) 0) ∙ omega (arith, length-replicate {A = ℕ} (count - length xs) 0)
+
+set_front : (xs zs : List ℕ) (n at : ℕ) → n < length xs → set (xs ++ zs) n at ≡ set xs n at ++ zs
+set_front [] zs n at l = absurd (omega arith)
+set_front (x ∷ xs) zs zero at l = refl
+set_front (x ∷ xs) zs (suc n) at l = ap (λ ys. x ∷ ys) (set_front xs zs n at (omega arith))
+
+pub set_inside : (count : ℕ) (xs : List ℕ) (n at : ℕ) → n < length xs → filled count (set xs n at) ≡ set (filled count xs) n at
+set_inside count xs n at l =
+    ap (λ k. set xs n at ++ replicate (count - k) 0) (length-set xs n at) ∙ sym (set_front xs (replicate (count - length xs) 0) n at l)
+
+filled_twice : (m count : ℕ) (xs : List ℕ) → m ≤ count → filled count (filled m xs) ≡ filled count xs
+filled_twice m count xs le =
+    let long : length (filled count (filled m xs)) ≡ length (filled count xs) =
+    omega (arith, length_filled count (filled m xs), length_filled m xs, length_filled count xs, le) in
+    same_lists (filled count (filled m xs)) (filled count xs) long
+    (λ k d l.
+    get_or_default (filled count (filled m xs)) k d 0 l ∙ get_filled count (filled m xs) k ∙ get_filled m xs k
+    ∙ sym (get_filled count xs k) ∙ get_or_default (filled count xs) k 0 d (omega (arith, l, long)))
+
+pub set_past : (count : ℕ) (xs ys : List ℕ) (n at : ℕ) → length xs ≤ n → n < count → ys ≡ take (n + 1) xs ++ replicate (n + 1 - length xs) 0
+    → filled count (set ys n at) ≡ set (filled count xs) n at
+set_past count xs ys n at past l is =
+    let grown : ys ≡ filled (n + 1) xs = is ∙ ap (λ zs. zs ++ replicate (n + 1 - length xs) 0) (take_all (n + 1) xs (omega (arith, past))) in
+    let here : n < length ys = omega (arith, ap length grown, length_filled (n + 1) xs, past) in
+    set_inside count ys n at here ∙ ap (λ zs. set (filled count zs) n at) grown
+    ∙ ap (λ zs. set zs n at) (filled_twice (n + 1) count xs (omega (arith, l)))
 
 -- a block has its size
 pub length_block : (w : ℕ) (bytes : List ℕ) (at : ℕ) → length (block w bytes at) ≡ w
@@ -28,11 +71,11 @@ length_placed len pool places h =
     length-take len (flat_map (block 512 pool) places) ∙ omega (arith, h.enough, length_blocks pool places)
 
 -- so many bytes, of which none was read
-pub new_placed : (len count : ℕ) (pool places : List ℕ) → pool ≡ replicate 512 0 → places ≡ replicate count 0 → len ≤ 512 * count → IsPlaced len pool places
+pub new_placed : (len count : ℕ) (pool places : List ℕ) → pool ≡ replicate 512 0 → places ≡ [] → len ≤ 512 * count → IsPlaced len pool (filled count places)
 new_placed len count pool places p ps room = record {
-  enough = omega (arith, room, ap length ps, length-replicate {A = ℕ} count 0);
-  inside = subst (λ xs. All (λ at. at + 512 ≤ length pool) xs) (sym ps)
-      (All-replicate (λ at. at + 512 ≤ length pool) count 0 (omega (arith, ap length p, length-replicate {A = ℕ} 512 0)));
+  enough = omega (arith, room, length_filled count places);
+  inside = subst (λ xs. All (λ at. at + 512 ≤ length pool) (filled count xs)) (sym ps)
+      (All-replicate (λ at. at + 512 ≤ length pool) (count - 0) 0 (omega (arith, ap length p, length-replicate {A = ℕ} 512 0)));
 }
 
 -- the bytes from block k on, and how many there are
@@ -101,10 +144,10 @@ take_of_block pool at m room =
     cut_twice 512 m rest ∙ ap (take m) (sym whole)
 
 -- ---- a block that is looked at
-pub part_past : (len : ℕ) (pool places bytes : List ℕ) (n : ℕ) → IsPlaced len pool places → placed len pool places ≡ bytes → length places ≤ n
+pub part_past : (len : ℕ) (pool places bytes : List ℕ) (n : ℕ) → IsPlaced len pool places → placed len pool places ≡ bytes → len ≤ 512 * n
     → block 512 [] 0 ≡ block 512 bytes (512 * n)
 part_past len pool places bytes n h is past =
-    sym (block_past bytes (512 * n) (omega (arith, sym (ap length is) ∙ length_placed len pool places h, h.enough)))
+    sym (block_past bytes (512 * n) (omega (arith, sym (ap length is) ∙ length_placed len pool places h, past)))
 
 pub part_here : (len : ℕ) (pool places bytes : List ℕ) (n at size : ℕ) → IsPlaced len pool places → placed len pool places ≡ bytes → n < length places
     → at ≡ get_or places n 0 → size ≡ min (len - 512 * n) 512
@@ -212,6 +255,10 @@ module _ (len : ℕ) (pool places bytes new old : List ℕ) (n at : ℕ) (h : Is
   put_elsewhere m other =
       ap (λ xs. block 512 xs (512 * m)) same ∙ put_apart len pool places (whole bytes) n h long m other ∙ ap (λ xs. block 512 xs (512 * m)) is
 
+-- a block that is there has a place
+pub has_place : (len : ℕ) (pool places old : List ℕ) (n : ℕ) → IsPlaced len pool places → placed len pool places ≡ old → 512 * n < length old → n < len / 512 + 1
+has_place len pool places old n h is inside = omega (arith, ap length is, length_placed len pool places h, inside)
+
 -- bytes, and then zeros up to a block
 pub filled_up : (n end at count : ℕ) (pool bytes mid new : List ℕ) → at ≡ length pool → end ≡ at + 512 → length bytes ≡ min 512 n → mid ≡ pool ++ bytes
     → count ≡ length mid → new ≡ take end mid ++ replicate (end - count) 0 → new ≡ pool ++ whole bytes
@@ -261,11 +308,11 @@ block_again pool at m all =
     let long : length a ≡ 512 = length_block 512 pool at in
     ap (λ xs. block 512 xs 0) (take_all m a (omega (arith, long, all))) ∙ whole_front a long
 
-module _ (len : ℕ) (pool places bytes mem table rest run : List ℕ) (first count at : ℕ) (mem_is : mem ≡ pool) (table_is : table ≡ places) (h : IsPlaced len pool places) (is : placed len pool places ≡ bytes)
+module _ (len : ℕ) (pool places bytes mem table rest run : List ℕ) (first count at : ℕ) (mem_is : mem ≡ pool) (table_is : (k : ℕ) → get_or places k 0 ≡ get_or table k 0) (h : IsPlaced len pool places) (is : placed len pool places ≡ bytes)
     (some : 0 < count) (inside : first + count ≤ len / 512) (turns : (k : ℕ) → k < count → get_or table (first + k) 0 ≡ at + 512 * k)
     (rest_is : rest ≡ slice_range mem at (length mem)) (run_is : run ≡ slice_range rest 0 (512 * count)) where
   in_turn : (k : ℕ) → k < count → get_or places (first + k) 0 ≡ at + 512 * k
-  in_turn k l = ap (λ xs. get_or xs (first + k) 0) (sym table_is) ∙ turns k l
+  in_turn k l = table_is (first + k) ∙ turns k l
 
   in_pool : at + 512 * count ≤ length pool
   in_pool =

@@ -1,11 +1,15 @@
 -- A file of which only some blocks were read.
-use Rattle.std.specs.Prelude.{◌≤◌, ◌+◌, ◌*◌, ℕ, List, length, take}
+use Rattle.std.specs.Prelude.{◌≤◌, ◌+◌, ◌-◌, ◌*◌, ◌++◌, ℕ, List, length, replicate, take}
 use Rattle.std.specs.List.{All, flat_map}
 use Rattle.cfb_bytes.specs.Bytes.{block}
 
 -- the blocks that begin at these places of a pool, one after another, up to so many bytes
 abbrev pub placed : ℕ → List ℕ → List ℕ → List ℕ
 placed len pool places = take len (flat_map (block 512 pool) places)
+
+-- the places of so many blocks, the first of which begin at these; the others begin where the pool does, at zero bytes
+abbrev pub filled : ℕ → List ℕ → List ℕ
+filled count places = places ++ replicate (count - length places) 0
 
 -- there are as many blocks as the bytes need, each whole in the pool
 pub record IsPlaced (len : ℕ) (pool places : List ℕ) : Type 0 where

@@ -1,7 +1,8 @@
 //! A file in memory of which only some blocks were read.
 
 ghost use Rattle.cfb_bytes.specs.Bytes.{block};
-ghost use Rattle.std.specs.Prelude.{◌*◌, ◌+◌, ◌-◌, ◌<◌, ◌≡◌, ◌≢◌, ◌≤◌, ◌^◌, IfOk, IfSome, OnOk, length, min, slice_index, true, ℕ};
+ghost use Rattle.cfb_places.specs.Places.{filled};
+ghost use Rattle.std.specs.Prelude.{◌*◌, ◌+◌, ◌-◌, ◌<◌, ◌≡◌, ◌≢◌, ◌≤◌, ◌^◌, IfOk, IfSome, OnErr, OnOk, length, min, slice_index, slice_set, true, ℕ};
 
 use std::alloc::{AllocError, Global};
 use std::marker::Model;
@@ -9,23 +10,52 @@ use std::marker::Model;
 /// The size of a block.
 pub const BLOCK: usize = 512;
 
-/// A file of which only some blocks were read; zero bytes stand for the others, which take four bytes of memory each.
+/// A file of which only some blocks were read; zero bytes stand for the others. Each block before the last that was read takes four
+/// bytes of memory.
 #[derive(Drop)]
 pub struct Places {
     len: usize,
     pool: Vec<u8>,
+    /// Where the first blocks begin in the pool; those behind them weren't read.
     places: Vec<u32>,
 }
 
 impl Model for Places {
     ghost use Rattle.std.specs.Prelude.{List, ℕ};
-    ghost use Rattle.cfb_places.specs.Places.{IsPlaced, placed};
+    ghost use Rattle.std.specs.Prelude.{◌+◌, ◌/◌};
+    ghost use Rattle.cfb_places.specs.Places.{IsPlaced, filled, placed};
 
     ghost Value = { List ℕ };
 
-    ghost view = { λ p. placed p.len p.pool.items p.places.items };
+    ghost view = { λ p. placed p.len p.pool.items (filled (p.len / 512 + 1) p.places.items) };
 
-    ghost invariant = { λ p. IsPlaced p.len p.pool.items p.places.items };
+    ghost invariant = { λ p. IsPlaced p.len p.pool.items (filled (p.len / 512 + 1) p.places.items) };
+}
+
+/// Where a block begins in the pool, whose first bytes are zeros.
+fn place_at(places: &[u32], n: usize) -> usize
+    ensures { result ≡ slice_index places.now n }
+{
+    if n < places.len() {
+        places[n] as usize
+    } else {
+        0
+    }
+}
+
+/// Says of a block where it begins in the pool.
+fn set_place(places: &mut Vec<u32>, n: usize, at: u32) -> Result<(), AllocError>
+    requires { n < 2 ^ 60 }
+    ensures put { OnOk result ((count : ℕ) → n < count → filled count places.new.items ≡ slice_set (filled count places.old.items) n at) }
+    ensures kept { OnErr result (places.new.items ≡ places.old.items) }
+{
+    if n < places.len() {
+        places[n] = at;
+        return Ok(());
+    }
+    places.resize(n + 1, 0)?;
+    places[n] = at;
+    Ok(())
 }
 
 /// Whether so many places from one on are a block apart, the first of them being `at`.
@@ -50,7 +80,7 @@ impl Places {
         ensures { IfOk result (λ p. length p ≡ len) }
     {
         let pool = vec![in alloc; 0; BLOCK]?;
-        let places = vec![in alloc; 0; len / BLOCK + 1]?;
+        let places = Vec::with_capacity(alloc, len / BLOCK + 1)?;
         Ok(Places { len, pool, places })
     }
 
@@ -66,10 +96,10 @@ impl Places {
         requires { n ≤ 2 ^ 32 }
         ensures { block 512 result.now 0 ≡ block 512 self.now (512 * n) }
     {
-        if n >= self.places.len() {
+        if n > self.len / BLOCK {
             return &[];
         }
-        let at = self.places[n] as usize;
+        let at = place_at(&self.places, n);
         let size = self.len.saturating_sub(BLOCK * n).min(BLOCK);
         &self.pool[at..at + size]
     }
@@ -80,7 +110,7 @@ impl Places {
         ensures each { IfSome result (λ run. (k : ℕ) → k < count → block 512 run.now (512 * k) ≡ block 512 self.now (512 * (first + k))) }
     {
         let end = first.checked_add(count)?;
-        if count == 0 || end > self.len / BLOCK {
+        if count == 0 || end > self.len / BLOCK || end > self.places.len() {
             return None;
         }
         let at = self.places[first] as usize;
@@ -106,7 +136,7 @@ impl Places {
         let end = self.pool.len() + BLOCK;
         self.pool.extend_from_slice(bytes)?;
         self.pool.resize(end, 0)?;
-        self.places[n] = at;
+        set_place(&mut self.places, n, at)?;
         Ok(())
     }
 }

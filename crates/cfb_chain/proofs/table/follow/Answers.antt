@@ -1,4 +1,4 @@
-use Rattle.std.proofs.Common.{◌≡◌, ◌<◌, ◌+◌, ◌-◌, ◌++◌, ◌∷◌, [], arith, get_or, length, length-append, refl, subst}
+use Rattle.std.proofs.Common.{◌≡◌, ◌<◌, ◌+◌, ◌-◌, ◌++◌, ◌∷◌, [], arith, length, length-append, subst}
 use Rattle.std.proofs.lemmas.List.Elements.{All-push}
 use Rattle.cfb_chain.specs.Fat.{followed}
 use Rattle.cfb_chain.proofs.Followed.{followed_more}
@@ -15,8 +15,8 @@ loop-sectors-preserved c =
     let more : length (met ++ at ∷ []) ≡ length met + 1 = length-append met (at ∷ []) in
     let less : length table - length met - 1 ≡ length table - length (met ++ at ∷ []) = omega (arith, more) in
     rw c.in_ok-push.ensures.items (
-      subst (λ n. (met ++ at ∷ []) ++ followed table n (get_or table at 0) ≡ followed table (length table) c.args.start) less
-          (followed_more table met (length table - length met) at (get_or table at 0) (followed table (length table) c.args.start) lt some refl i.0),
+      subst (λ n. (met ++ at ∷ []) ++ followed table n c.entry-at.result ≡ followed table (length table) c.args.start) less
+          (followed_more table met (length table - length met) at c.entry-at.result (followed table (length table) c.args.start) lt some c.entry-at.ensures i.0),
       All-push (λ n. n < length table) met at i.1 lt,
       omega (arith, more, some),
     )

@@ -17,7 +17,7 @@ loop-n-preserved c = record {
 pub returns : goal.returns
 returns c = λ f made free.
     let ns = c.args.sectors.now in
-    let v : record { bytes = bytes_of c.self.inside.pieces; start = start_of c.self.inside.pieces; width = width_of c.self.inside.pieces; table = c.self.inside.next.items; used = c.self.inside.used.items } ≡ marked f ns = c.self.view_is ∙ made in
+    let v : record { bytes = bytes_of c.self.inside.pieces; start = start_of c.self.inside.pieces; width = width_of c.self.inside.pieces; table = c.self.inside.next; used = c.self.inside.used.items } ≡ marked f ns = c.self.view_is ∙ made in
     let all : take c.loop-n.n-index ns ≡ ns = take_all c.loop-n.n-index ns (omega arith) in
     let used : c.loop-n.self-inside.used.items ≡ f.used =
     c.loop-n.invariant.used ∙ (λ i. clear_all (v i).used (all i)) ∙ set_and_cleared f.used ns (λ k d l. (free.free k d l).1) in
@@ -25,6 +25,6 @@ returns c = λ f made free.
       bytes = (ap bytes_of c.loop-n.invariant.pieces ∙ ap (λ (x : FatValue). x.bytes) v) i;
       start = (ap start_of c.loop-n.invariant.pieces ∙ ap (λ (x : FatValue). x.start) v) i;
       width = (ap width_of c.loop-n.invariant.pieces ∙ ap (λ (x : FatValue). x.width) v) i;
-      table = (ap (λ x. x.items) c.loop-n.invariant.next ∙ ap (λ (x : FatValue). x.table) v) i;
+      table = (c.loop-n.invariant.next ∙ ap (λ (x : FatValue). x.table) v) i;
       used = used i;
     }

@@ -35,7 +35,7 @@ met_further ns at met new (inr c) (inr e) = inr (subst (Contains (ns ++ at ∷ [
 pub loop-at-preserved : goal.loop-at-preserved
 loop-at-preserved c =
     let ns = c.loop-at.invariant.0 in
-    let e : c.index-at.result.now ≡ get_or c.args.self.now.table c.loop-at.at 0 = grind (arith, common_steps, c.index-at.ensures, c.self.view_is) in
+    let e : c.entry-at.result ≡ get_or c.args.self.now.table c.loop-at.at 0 = grind (arith, common_steps, c.entry-at.ensures, c.self.view_is) in
     rw e (
       ns ++ c.loop-at.at ∷ [],
       leads_push _ _ _ _ c.loop-at.invariant.1,

@@ -21,7 +21,7 @@ loop-at-preserved c =
     let i = c.loop-at.invariant in
     let g : NextStep (λ n. get_or c.args.self.now.table n 0) (IsFree c.args.self.now) c.loop-at.at i.0 =
     next_step (λ n. get_or c.args.self.now.table n 0) (IsFree c.args.self.now) c.loop-at.at i.0 i.2 i.4 c.loop-at-test.true in
-    let e : c.index-at.result.now ≡ get_or c.args.self.now.table c.loop-at.at 0 = grind (arith, common_steps, c.index-at.ensures, c.self.view_is) in
+    let e : c.entry-at.result ≡ get_or c.args.self.now.table c.loop-at.at 0 = grind (arith, common_steps, c.entry-at.ensures, c.self.view_is) in
     rw (c.in_ok-push.ensures.items, e) (
       g.more,
       leads_push _ _ _ _ i.1,
@@ -49,8 +49,8 @@ returns-clause-counted c =
     ends_here (λ n. get_or c.args.self.now.table n 0) (length c.args.self.now.table) c.loop-at.at i.0 few i.2 (λ k d l. (i.4 k d l).0) c.loop-at-test.false in
     omega (arith, none, i.5)
 
-pub index-at-requires : goal.index-at-requires
-index-at-requires c =
+pub entry-at-requires : goal.entry-at-requires
+entry-at-requires c =
     let i = c.loop-at.invariant in
     let g : NextStep (λ n. get_or c.args.self.now.table n 0) (IsFree c.args.self.now) c.loop-at.at i.0 =
     next_step (λ n. get_or c.args.self.now.table n 0) (IsFree c.args.self.now) c.loop-at.at i.0 i.2 i.4 c.loop-at-test.true in

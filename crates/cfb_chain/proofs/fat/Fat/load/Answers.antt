@@ -113,7 +113,7 @@ returns-in_err-mark_apart-clause-refused c =
     refused_with c.from_residual-in_err-mark_apart.result c.in_err-mark_apart.field-0.0 (MayRefuseFat file h) c.from_residual-in_err-mark_apart.ensures.1
     (subst (MayRefuseFat file h) (sym r.0)
     (crossed file h c.deref-4.result.now (c.deref-4.ensures.value ∙ own_is) whole c.count_entries-count.result counted
-    c.in_ok-next.next.items c.in_ok-used.used.items c.in_ok-next.ensures.count (c.in_ok-used.ensures.items_if_clones_equal (λ y e. e))
+    c.in_ok-next.next c.in_ok-used.used.items c.in_ok-next.ensures.count (c.in_ok-used.ensures.items_if_clones_equal (λ y e. e))
     (subst (λ xs. All (λ n. n < c.count_entries-count.result) xs) (c.deref-2.ensures.value ∙ sym c.deref-4.ensures.value) c.in_ok-check_present-2.ensures.present) r.1))
 
 pub returns-in_err-mark_apart-clause-there : goal.returns-in_err-mark_apart-clause-there
@@ -131,7 +131,7 @@ returns-in_err-mark_apart-clause-there c = λ g.
     (refused_not_fat file h c.in_err-mark_apart.field-0.0 g
     (subst (MayRefuseFat file h) (sym r.0)
     (crossed file h c.deref-4.result.now (c.deref-4.ensures.value ∙ own_is) whole c.count_entries-count.result counted
-    c.in_ok-next.next.items c.in_ok-used.used.items c.in_ok-next.ensures.count (c.in_ok-used.ensures.items_if_clones_equal (λ y e. e))
+    c.in_ok-next.next c.in_ok-used.used.items c.in_ok-next.ensures.count (c.in_ok-used.ensures.items_if_clones_equal (λ y e. e))
     (subst (λ xs. All (λ n. n < c.count_entries-count.result) xs) (c.deref-2.ensures.value ∙ sym c.deref-4.ensures.value) c.in_ok-check_present-2.ensures.present) r.1)))
 
 pub returns-in_err-sectors-clause-refused : goal.returns-in_err-sectors-clause-refused
@@ -201,7 +201,7 @@ returns-clause-table c =
     let own_is : c.in_ok-own.own.items ≡ fat_by file h ++ difat_by file h =
     c.in_ok-own.ensures ∙ (λ i. c.in_ok-sectors.ensures.fat i ++ c.in_ok-sectors.ensures.difat i) in
     loaded file h c.deref-4.result.now (c.deref-4.ensures.value ∙ own_is) whole c.count_entries-count.result counted
-    c.in_ok-next.next.items c.in_ok-used.used.items (joined (sector file) c.deref-3.result.now) c.mark_apart.new.self few
+    c.in_ok-next.next c.in_ok-used.used.items (joined (sector file) c.deref-3.result.now) c.mark_apart.new.self few
     (subst (λ xs. All (λ n. n < c.count_entries-count.result) xs) (c.deref-2.ensures.value ∙ sym c.deref-4.ensures.value) c.in_ok-check_present-2.ensures.present)
     (ap (joined (sector file)) (c.deref-3.ensures.value ∙ c.in_ok-sectors.ensures.fat)) c.in_ok-next.ensures.count c.in_ok-next.ensures.each
     (c.in_ok-used.ensures.items_if_clones_equal (λ y e. e))

@@ -1,5 +1,4 @@
 use Rattle.std.proofs.Common.{◌≡◌, ◌<◌, ◌-◌, ◌∙◌, ap, arith, get_or, length, refl, slice_set, subst, sym, true, ◌+◌}
-use Rattle.std.proofs.lemmas.List.{get_or_default}
 use Rattle.cfb_chain.specs.Fat.{FatValue, IsFreeChain, marked, set_all}
 use Rattle.cfb_chain.specs.View.{bytes_of, start_of, width_of}
 use Rattle.cfb_chain.proofs.Followed.{Marking, marking_below, marking_end, marking_start, marking_step}
@@ -16,34 +15,32 @@ pub index_mut-requires : goal.index_mut-requires
 index_mut-requires c =
     let m = c.loop.invariant.2 in
     let some : 0 < c.args.count - c.loop.counter = omega arith in
-    let lt : c.loop.at < length c.self.inside.next.items =
-    marking_below c.self.inside.next.items c.args.start c.loop.at (c.args.count - c.loop.counter) c.self.inside.used.items c.loop.self-inside.used.items m some in
+    let lt : c.loop.at < length c.self.inside.next =
+    marking_below c.self.inside.next c.args.start c.loop.at (c.args.count - c.loop.counter) c.self.inside.used.items c.loop.self-inside.used.items m some in
     omega (arith, lt, m.long, c.self.invariant.0)
 
-pub index-at-requires : goal.index-at-requires
-index-at-requires c =
+pub entry-at-requires : goal.entry-at-requires
+entry-at-requires c =
     let m = c.loop.invariant.2 in
     let some : 0 < c.args.count - c.loop.counter = omega arith in
-    let lt : c.loop.at < length c.self.inside.next.items =
-    marking_below c.self.inside.next.items c.args.start c.loop.at (c.args.count - c.loop.counter) c.self.inside.used.items c.loop.self-inside.used.items m some in
-    let same = ap (λ x. length x.items) c.loop.invariant.0 in
+    let lt : c.loop.at < length c.self.inside.next =
+    marking_below c.self.inside.next c.args.start c.loop.at (c.args.count - c.loop.counter) c.self.inside.used.items c.loop.self-inside.used.items m some in
+    let same = ap length c.loop.invariant.0 in
     omega (arith, lt, same)
 
 pub loop-preserved : goal.loop-preserved
 loop-preserved c =
     let m = c.loop.invariant.2 in
     let some : 0 < c.args.count - c.loop.counter = omega arith in
-    let lt : c.loop.at < length c.self.inside.next.items =
-    marking_below c.self.inside.next.items c.args.start c.loop.at (c.args.count - c.loop.counter) c.self.inside.used.items c.loop.self-inside.used.items m some in
-    let same = ap (λ x. length x.items) c.loop.invariant.0 in
-    let inside : c.loop.at < length c.loop.self-inside.next.items = omega (arith, lt, same) in
-    let next : c.index-at.result.now ≡ get_or c.self.inside.next.items c.loop.at 0 =
-    c.index-at.ensures ∙ get_or_default c.loop.self-inside.next.items c.loop.at c.index-at.result.now 0 inside ∙ ap (λ x. get_or x.items c.loop.at 0) c.loop.invariant.0 in
+    let lt : c.loop.at < length c.self.inside.next =
+    marking_below c.self.inside.next c.args.start c.loop.at (c.args.count - c.loop.counter) c.self.inside.used.items c.loop.self-inside.used.items m some in
+    let next : c.entry-at.result ≡ get_or c.self.inside.next c.loop.at 0 =
+    c.entry-at.ensures ∙ ap (λ xs. get_or xs c.loop.at 0) c.loop.invariant.0 in
     let less : c.args.count - c.loop.counter - 1 ≡ c.args.count - (c.loop.counter + 1) = omega arith in (
       c.loop.invariant.0,
       c.loop.invariant.1,
-      subst (λ n. Marking c.self.inside.next.items c.args.start c.index-at.result.now n c.self.inside.used.items (slice_set c.loop.self-inside.used.items c.loop.at true)) less
-          (marking_step c.self.inside.next.items c.args.start c.loop.at (c.args.count - c.loop.counter) c.index-at.result.now c.self.inside.used.items
+      subst (λ n. Marking c.self.inside.next c.args.start c.entry-at.result n c.self.inside.used.items (slice_set c.loop.self-inside.used.items c.loop.at true)) less
+          (marking_step c.self.inside.next c.args.start c.loop.at (c.args.count - c.loop.counter) c.entry-at.result c.self.inside.used.items
           c.loop.self-inside.used.items m some next),
     )
 
@@ -54,18 +51,18 @@ returns c = λ ns h e.
       bytes = bytes_of c.self.inside.pieces;
       start = start_of c.self.inside.pieces;
       width = width_of c.self.inside.pieces;
-      table = c.self.inside.next.items;
+      table = c.self.inside.next;
       used = c.self.inside.used.items;
     } in
     let end : c.args.count - c.loop.counter ≡ 0 = omega arith in
     let done : c.loop.self-inside.used.items ≡ set_all c.self.inside.used.items ns =
     marking_end f c.args.start c.loop.at ns c.self.inside.used.items c.loop.self-inside.used.items c.self.invariant.1
     (subst (λ (x : FatValue). IsFreeChain x c.args.start ns) (sym c.self.view_is) h)
-    (subst (λ n. Marking c.self.inside.next.items c.args.start c.loop.at n c.self.inside.used.items c.loop.self-inside.used.items) end inv.2) in
+    (subst (λ n. Marking c.self.inside.next c.args.start c.loop.at n c.self.inside.used.items c.loop.self-inside.used.items) end inv.2) in
     (λ i. record {
       bytes = bytes_of (inv.1 i);
       start = start_of (inv.1 i);
       width = width_of (inv.1 i);
-      table = (inv.0 i).items;
+      table = inv.0 i;
       used = done i;
     }) ∙ ap (λ (x : FatValue). marked x ns) c.self.view_is
