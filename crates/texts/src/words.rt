@@ -1,7 +1,7 @@
 //! Bytes in the words of texts.
 
 ghost use Rattle.std.specs.Option.{option_map};
-ghost use Rattle.std.specs.Prelude.{◌≡◌, ◌<◌, vec_items, is_some, IfErr, IfOk, IfSome, IsSome};
+ghost use Rattle.std.specs.Prelude.{◌≡◌, ◌<◌, ◌/◌, None, Some, false, length, true, vec_items, is_some, IfErr, IfOk, IfSome, IsSome};
 ghost use Rattle.texts.specs.Words.{byte_read, content_read, hex_digit, hex_read, is_hidden, is_visible, lower_digit, pair_value};
 
 use std::alloc::{AllocError, Global};
@@ -90,20 +90,33 @@ pub fn is_content(word: &[u8]) -> bool
     }
 }
 
+/// Fills a buffer of half as many bytes as a word has with those that it spells in two hexadecimal digits each, and says
+/// whether it spells bytes.
+fn fill_hex(buffer: &mut [u8], word: &[u8]) -> bool
+    requires { length buffer.old ≡ length word.now / 2 }
+    ensures found { result ≡ true → hex_read word.now ≡ Some buffer.new }
+    ensures none { result ≡ false → hex_read word.now ≡ None }
+{
+    let mut filled = 0;
+    let mut rest = word;
+    while let [high, low, more @ ..] = rest {
+        match pair(*high, *low) {
+            Some(byte) => buffer[filled] = byte,
+            None => return false,
+        }
+        filled += 1;
+        rest = more;
+    }
+    rest.is_empty()
+}
+
 /// Bytes in two hexadecimal digits each.
 fn hex(alloc: Global, word: &[u8]) -> Result<Option<Vec<u8>>, AllocError>
     ensures { IfOk result (λ bytes. option_map vec_items bytes ≡ hex_read word.now) }
 {
-    let mut bytes = Vec::with_capacity(alloc, word.len() / 2)?;
-    let mut rest = word;
-    while let [high, low, more @ ..] = rest {
-        match pair(*high, *low) {
-            Some(byte) => bytes.push(byte)?,
-            None => return Ok(None),
-        }
-        rest = more;
-    }
-    if rest.is_empty() {
+    // A place to write to is known without a test for room, which a push would make for each byte.
+    let mut bytes = vec![in alloc; 0; word.len() / 2]?;
+    if fill_hex(bytes.as_mut_slice(), word) {
         Ok(Some(bytes))
     } else {
         Ok(None)
