@@ -16,7 +16,7 @@ ghost use Rattle.wire_msgs.specs.declared.message.Message.{Message};
 use crate::fronts::write_front;
 use embed_core::embedded::Embedded;
 use message_bytes::decoder::Decoder;
-use message_bytes::encode::encode;
+use message_bytes::encode::encode_into;
 use message_bytes::fault::WireFault;
 use message_bytes::frame::Frame;
 use server_core::server::ServerCore;
@@ -85,6 +85,8 @@ pub struct Serving {
     wanting: Option<Message>,
     turns: u32,
     reads: u32,
+    // What was read last. It is kept, as a new one would be cleared for each read.
+    piece: [u8; PIECE],
 }
 
 /// Whether a call is the one behind an activation's last.
@@ -163,14 +165,11 @@ fn note(edited: &mut Vec<u32>, edit: Option<u32>, reply: &Message) -> Result<(),
 }
 
 /// Adds the byte form of a frame, where it may be sent.
-fn push_frame(alloc: Global, out: &mut Vec<u8>, frame: &Frame) -> Result<(), AllocError>
+fn push_frame(out: &mut Vec<u8>, frame: &Frame) -> Result<(), AllocError>
     ensures { OnOk result (out.new.items ≡ out.old.items ++ sent frame.now) }
 {
-    match encode(alloc, frame) {
-        Ok(bytes) => {
-            out.extend_from_slice(&bytes)?;
-            Ok(())
-        }
+    match encode_into(out, frame) {
+        Ok(()) => Ok(()),
         Err(WireFault::NoMemory) => Err(AllocError),
         Err(_) => Ok(()),
     }
@@ -189,6 +188,7 @@ impl Serving {
             wanting: None,
             turns: 0,
             reads: 0,
+            piece: [0; PIECE],
         }
     }
 
@@ -235,7 +235,7 @@ impl Serving {
     }
 
     /// Answers, and notes an edit that was done.
-    fn reply(&mut self, alloc: Global, reply: Message, edit: Option<u32>) -> Result<(), AllocError>
+    fn reply(&mut self, reply: Message, edit: Option<u32>) -> Result<(), AllocError>
         ensures counts { (self.new.turns ≡ self.old.turns) × (self.new.reads ≡ self.old.reads) }
         ensures servers { self.new.servers.items ≡ self.old.servers.items }
         ensures decoder { self.new.decoder ≡ self.old.decoder }
@@ -243,7 +243,7 @@ impl Serving {
         ensures edited { OnOk result (self.new.edited.items ≡ noted_done edit reply self.old.edited.items) }
     {
         note(&mut self.edited, edit, &reply)?;
-        push_frame(alloc, &mut self.out, &Frame::Message(reply))
+        push_frame(&mut self.out, &Frame::Message(reply))
     }
 
     /// Does what a message asks.
@@ -261,7 +261,7 @@ impl Serving {
     {
         let edit = edited_by(&self.servers[0].core, &message);
         match self.servers[0].core.on_call(alloc, message, boxed) {
-            Ok(reaction) => self.reply(alloc, reaction.reply, edit),
+            Ok(reaction) => self.reply(reaction.reply, edit),
             Err(refusal) => match refusal.fault {
                 ServerFault::NoMemory => Err(AllocError),
                 _ => Ok(()),
@@ -320,7 +320,7 @@ impl Serving {
         ensures written { (t : Turn) → IsIn (λ s. (⟦<dyn Embedded as Embedded>⟧ s.boxed.vtable).content s.boxed.value) self.old t → OnOk result (IsIn (λ s. (⟦<dyn Embedded as Embedded>⟧ s.boxed.vtable).content s.boxed.value) self.new (written t (scribble t.server act))) }
     {
         match self.servers[0].core.scribble(alloc, act) {
-            Ok(message) => push_frame(alloc, &mut self.out, &Frame::Message(message)),
+            Ok(message) => push_frame(&mut self.out, &Frame::Message(message)),
             Err(fault) => match fault {
                 ServerFault::NoMemory => Err(AllocError),
                 _ => Ok(()),
@@ -357,7 +357,7 @@ impl Serving {
     {
         self.scribble_all(alloc)?;
         self.edited.clear();
-        push_frame(alloc, &mut self.out, &Frame::Turn)
+        push_frame(&mut self.out, &Frame::Turn)
     }
 
     /// Gives the turn back.
@@ -396,15 +396,14 @@ impl Serving {
             return Ok(Advance::Over(End::LastRead));
         }
         self.reads += 1;
-        let mut piece = [0u8; PIECE];
-        let n = match reader.read(&mut piece) {
+        let n = match reader.read(&mut self.piece) {
             Ok(n) => n,
             Err(_) => return Ok(Advance::Over(End::Unread)),
         };
         if n == 0 {
             return Ok(Advance::Over(End::Closed));
         }
-        match self.decoder.feed(&piece[..n]) {
+        match self.decoder.feed(&self.piece[..n]) {
             Ok(()) => Ok(Advance::Read),
             Err(fault) => match fault {
                 WireFault::NoMemory => Err(AllocError),
