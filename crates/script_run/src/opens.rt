@@ -6,11 +6,11 @@ ghost use Rattle.script_model.specs.Bounds.{pace};
 ghost use Rattle.script_model.specs.Events.{running};
 ghost use Rattle.script_model.specs.Origins.{passed};
 ghost use Rattle.script_model.specs.Saved.{IsReadFrom, IsReadOf};
-ghost use Rattle.script_run.specs.Told.{IsTold};
+ghost use Rattle.script_links.specs.Told.{IsTold};
 ghost use Rattle.std.specs.Prelude.{◌≡◌, ℕ, IfOk, IfSome, Some};
 
-use crate::container::opened;
-use crate::fault::ScriptFault;
+use script_links::container::opened;
+use script_links::fault::ScriptFault;
 use container_core::container::ContainerCore;
 use container_documents::reading::document_in;
 use container_model::fault::ContainerFault;

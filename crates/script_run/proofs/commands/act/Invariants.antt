@@ -1,7 +1,7 @@
 use Rattle.std.proofs.Common.{◌≡◌, ℕ}
 use Rattle.script_model.specs.Bounds.{pace}
-use Rattle.script_run.specs.Links.{AreLinked, AreServed}
-use Rattle.script_run.specs.Told.{IsTold}
+use Rattle.script_links.specs.Links.{AreLinked, AreServed}
+use Rattle.script_links.specs.Told.{IsTold}
 use Rattle.script_run.proofs.commands.act.Given as goal
 
 abbrev pub invariant-loop-action : goal.invariant-loop-action

@@ -1,7 +1,7 @@
 use Rattle.std.proofs.Common.{◌≡◌, ◌∷◌, ◌∙◌, rules}
 use Rattle.std.specs.Vec.Iter.{into_iter_items}
 use Rattle.script_model.specs.Origins.{giving, passed}
-use Rattle.script_run.proofs.Served.{others_given, others_next}
+use Rattle.script_links.proofs.Served.{others_given, others_next}
 use Rattle.script_run.proofs.commands.hand_all.Goals as goal
 
 pub loop-taken-preserved : goal.loop-taken-preserved

@@ -3,8 +3,8 @@ use Rattle.std.specs.Vec.Iter.{into_iter_items}
 use Rattle.script_model.specs.Bounds.{pace}
 use Rattle.script_model.specs.Events.{running}
 use Rattle.script_model.specs.Origins.{AreNext, giving, passed}
-use Rattle.script_run.specs.Links.{beside}
-use Rattle.script_run.specs.Told.{IsTold}
+use Rattle.script_links.specs.Links.{beside}
+use Rattle.script_links.specs.Told.{IsTold}
 use Rattle.script_run.proofs.commands.hand_all.Given as goal
 
 abbrev pub invariant-loop-taken : goal.invariant-loop-taken

@@ -1,5 +1,5 @@
-use Rattle.script_run.specs.Links.{AreLinked, AreServed}
-use Rattle.script_run.specs.Told.{IsTold}
+use Rattle.script_links.specs.Links.{AreLinked, AreServed}
+use Rattle.script_links.specs.Told.{IsTold}
 use Rattle.script_run.proofs.script.carry_out_all.Given as goal
 
 abbrev pub invariant-loop-place : goal.invariant-loop-place
