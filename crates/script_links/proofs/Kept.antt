@@ -7,12 +7,16 @@ use Rattle.store_model.specs.Store.{IsBeforeOrAfter, StandsFor}
 use Rattle.store_model.specs.declared.disk.Disk.{Ghosts as Disks}
 use Rattle.doc_store.specs.declared.outcome.Outcome.{Outcome}
 use Rattle.doc_store.specs.declared.outcome.Outcome.TheVariants.{Kept, Lost}
-use Rattle.script_model.specs.Saved.{IsAsGiven, IsAsGivenOr, IsReadOf, IsSavedOn, IsSince}
-use Rattle.script_links.specs.Told.{IfKept, IsReplacedOn}
+use Rattle.script_model.specs.Saved.{IsAsGiven, IsAsGivenOr, IsLostOn, IsReadOf, IsSavedOn, IsSince}
+use Rattle.script_links.specs.Told.{IfKept, IfLost, IsLeftOn, IsReplacedOn}
 
 kept_then : (o : Outcome) (P Q : Type 0) → (P → Q) → IfKept o P → IfKept o Q
 kept_then Kept P Q then has = then has
 kept_then (Lost fault) P Q then has = tt
+
+lost_then : (o : Outcome) (P Q : Type 0) → (P → Q) → IfLost o P → IfLost o Q
+lost_then Kept P Q then has = tt
+lost_then (Lost fault) P Q then has = then has
 
 module _ {D : Type 0} (disks : Disks D) where
   -- one run after another, where what either leaves has Q
@@ -42,6 +46,21 @@ module _ {D : Type 0} (disks : Disks D) where
     durable = replaced.1;
   }
 
+  opened_left : (given mid disk : D) (document bytes : List ℕ) → disks.may_leave given (disks.reads given) → restored (disks.reads given) ≡ Some document → IsSince disks given mid (IsAsGiven disks given)
+      → IsLeftOn disks mid document bytes disk → IsLostOn disks given bytes disk
+  opened_left given mid disk document bytes left opened first kept = record {
+    since = joined given mid disk (IsAsGiven disks given) (IsBeforeOrAfter document bytes) (IsAsGivenOr disks given bytes) first (λ c stands. inl stands) kept.0
+        (λ c either. ⊎_elim (λ old. inl (as_given given document left opened c old)) (λ new. inr new) either);
+    stays = λ c now. as_given given document left opened c (kept.1 c now);
+  }
+
+  again_left : (given mid disk : D) (bytes : List ℕ) → IsSince disks given mid (IsAsGiven disks given) → IsLostOn disks mid bytes disk → IsLostOn disks given bytes disk
+  again_left given mid disk bytes first lost = record {
+    since = joined given mid disk (IsAsGiven disks given) (IsAsGivenOr disks mid bytes) (IsAsGivenOr disks given bytes) first (λ c stands. inl stands) lost.since
+        (λ c either. ⊎_elim (λ old. inl (as_given_before given mid first.now c old)) (λ new. inr new) either);
+    stays = λ c now. as_given_before given mid first.now c (lost.stays c now);
+  }
+
   again_then : (given mid disk : D) (bytes : List ℕ) → IsSince disks given mid (IsAsGiven disks given) → IsSavedOn disks mid bytes disk → IsSavedOn disks given bytes disk
   again_then given mid disk bytes first saved = record {
     since = joined given mid disk (IsAsGiven disks given) (IsAsGivenOr disks mid bytes) (IsAsGivenOr disks given bytes) first (λ c stands. inl stands) saved.since
@@ -61,6 +80,19 @@ module _ {D : Type 0} (disks : Disks D) where
       → IfOk told (λ o. IfKept o (IsSavedOn disks mid bytes disk)) → IfOk told (λ o. IfKept o (IsSavedOn disks given bytes disk))
   saved_again (Ok o) given mid disk bytes first has = kept_then o (IsSavedOn disks mid bytes disk) (IsSavedOn disks given bytes disk) (again_then given mid disk bytes first) has
   saved_again (Err e) given mid disk bytes first has = tt
+
+  -- What is left of a store's document is left on the disk that the store was opened on.
+  pub lost_on_opened : {E : Type 0} (told : Result Outcome E) (given mid disk : D) (document bytes : List ℕ) → disks.may_leave given (disks.reads given) → restored (disks.reads given) ≡ Some document
+      → IsSince disks given mid (IsAsGiven disks given) → IfOk told (λ o. IfLost o (IsLeftOn disks mid document bytes disk)) → IfOk told (λ o. IfLost o (IsLostOn disks given bytes disk))
+  lost_on_opened (Ok o) given mid disk document bytes left opened first has =
+      lost_then o (IsLeftOn disks mid document bytes disk) (IsLostOn disks given bytes disk) (opened_left given mid disk document bytes left opened first) has
+  lost_on_opened (Err e) given mid disk document bytes left opened first has = tt
+
+  -- What isn't saved on a disk that wasn't opened at first isn't saved on this disk as it was given.
+  pub lost_again : {E : Type 0} (told : Result Outcome E) (given mid disk : D) (bytes : List ℕ) → IsSince disks given mid (IsAsGiven disks given)
+      → IfOk told (λ o. IfLost o (IsLostOn disks mid bytes disk)) → IfOk told (λ o. IfLost o (IsLostOn disks given bytes disk))
+  lost_again (Ok o) given mid disk bytes first has = lost_then o (IsLostOn disks mid bytes disk) (IsLostOn disks given bytes disk) (again_left given mid disk bytes first) has
+  lost_again (Err e) given mid disk bytes first has = tt
 
   read_then : (given mid held disk : D) (bytes : List ℕ) → disks.may_leave given (disks.reads given) → restored (disks.reads given) ≡ Some (disks.reads mid).document
       → IsSince disks given mid (IsAsGiven disks given) → IsSince disks mid held (StandsFor (disks.reads mid).document) → disk ≡ held → disks.reads held ≡ disks.reads mid → bytes ≡ (disks.reads mid).document

@@ -45,7 +45,17 @@ abbrev pub IfKept : Outcome → Type 0 → Type 0
 IfKept Kept fact = fact
 IfKept (Lost fault) fact = Unit {0}
 
+-- what is said of a commit that was lost
+abbrev pub IfLost : Outcome → Type 0 → Type 0
+IfLost Kept fact = Unit {0}
+IfLost (Lost fault) fact = fact
+
 -- These bytes took the place of a document on a disk: a crash since then leaves what stands for either, and a crash now leaves
 -- what stands for these bytes.
 abbrev pub IsReplacedOn : {D : Type 0} (disks : Disks D) → D → (document bytes : List ℕ) → D → Type 0
 IsReplacedOn disks before document bytes disk = IsSince disks before disk (IsBeforeOrAfter document bytes) × IsDurable disks disk bytes
+
+-- These bytes were to take the place of a document on a disk, and didn't: a crash since then leaves what stands for either, and a
+-- crash now leaves what stands for the document.
+abbrev pub IsLeftOn : {D : Type 0} (disks : Disks D) → D → (document bytes : List ℕ) → D → Type 0
+IsLeftOn disks before document bytes disk = IsSince disks before disk (IsBeforeOrAfter document bytes) × IsDurable disks disk document

@@ -6,7 +6,7 @@ ghost use Rattle.document_model.specs.declared.object.DocObject.{DocObject};
 ghost use Rattle.script_model.specs.Bounds.{pace};
 ghost use Rattle.script_model.specs.Events.{running};
 ghost use Rattle.script_model.specs.Origins.{AreNext, giving, passed};
-ghost use Rattle.script_model.specs.Saved.{IsReadFrom, IsSaved};
+ghost use Rattle.script_model.specs.Saved.{IsLost, IsReadFrom, IsSaved};
 ghost use Rattle.script_model.specs.declared.step.Step.TheVariants as given;
 ghost use Rattle.script_links.specs.Links.{beside};
 ghost use Rattle.script_links.specs.Told.{IsTold, noted_of};
@@ -201,14 +201,16 @@ pub fn committed<H: Host>(
     heard(&noted(host, told))
 }
 
-/// Tells the container that the commit of a frame's file failed.
+/// Tells the container that the commit of a frame's file failed: the disk that was given back last holds what it held before, or
+/// no file can hold its document.
 pub fn failed<H: Host>(
     alloc: Global,
     host: &mut H,
     core: &mut ContainerCore,
     frame: u32,
 ) -> Result<(), ScriptFault>
-    requires { IsTold ⟦<H::Disk as Disk>⟧ (H.told host.old) core.old }
+    requires lost { H.Disk.follows_model → IsLost ⟦<H::Disk as Disk>⟧ (H.told host.old) frame }
+    requires told { IsTold ⟦<H::Disk as Disk>⟧ (H.told host.old) core.old }
     ensures told { IsTold ⟦<H::Disk as Disk>⟧ (H.told host.new) core.new }
     ensures still { (s : ℕ) → running s (H.told host.new) ≡ running s (H.told host.old) }
     ensures quiet { (s : ℕ) → passed s (H.told host.new) ≡ passed s (H.told host.old) }

@@ -5,8 +5,8 @@ ghost use Rattle.doc_store.specs.Opened.{disk_of, needs_reopen_of};
 ghost use Rattle.script_model.specs.Bounds.{pace};
 ghost use Rattle.script_model.specs.Events.{running};
 ghost use Rattle.script_model.specs.Origins.{passed};
-ghost use Rattle.script_model.specs.Saved.{IsSavedOn, IsShutWith, file_name};
-ghost use Rattle.script_links.specs.Told.{IfKept, IsImage, IsReplacedOn, IsTold};
+ghost use Rattle.script_model.specs.Saved.{IsLost, IsLostOn, IsSavedOn, IsShutWith, IsShutWithout, file_name};
+ghost use Rattle.script_links.specs.Told.{IfKept, IfLost, IsImage, IsLeftOn, IsReplacedOn, IsTold};
 ghost use Rattle.std.specs.Prelude.{◌≡◌, ℕ, IfOk, false};
 
 use crate::container::{committed, dropped, failed};
@@ -36,7 +36,8 @@ pub fn first_of(before: Option<Told>, next: Option<Told>) -> Option<Told> {
 /// document what became of them.
 fn replace<D: Disk + Drop>(store: Store<D>, bytes: &[u8]) -> (Result<Outcome, StoreFault>, D)
     requires { needs_reopen_of store ≡ false }
-    ensures { D.follows_model → IfOk result.0 (λ outcome. IfKept outcome (IsReplacedOn ⟦<D as Disk>⟧ (disk_of store) (D.reads (disk_of store)).document bytes.now result.1)) }
+    ensures kept { D.follows_model → IfOk result.0 (λ outcome. IfKept outcome (IsReplacedOn ⟦<D as Disk>⟧ (disk_of store) (D.reads (disk_of store)).document bytes.now result.1)) }
+    ensures lost { D.follows_model → IfOk result.0 (λ outcome. IfLost outcome (IsLeftOn ⟦<D as Disk>⟧ (disk_of store) (D.reads (disk_of store)).document bytes.now result.1)) }
 {
     match commit_resolved(store, bytes) {
         Ok((outcome, store)) => (Ok(outcome), store.into_disk()),
@@ -51,7 +52,8 @@ fn compare<D: Disk + Drop>(
     fault: StoreFault,
 ) -> (Result<Outcome, StoreFault>, D)
     requires { needs_reopen_of store ≡ false }
-    ensures { D.follows_model → IfOk result.0 (λ outcome. IfKept outcome (IsReplacedOn ⟦<D as Disk>⟧ (disk_of store) (D.reads (disk_of store)).document bytes.now result.1)) }
+    ensures kept { D.follows_model → IfOk result.0 (λ outcome. IfKept outcome (IsReplacedOn ⟦<D as Disk>⟧ (disk_of store) (D.reads (disk_of store)).document bytes.now result.1)) }
+    ensures lost { D.follows_model → IfOk result.0 (λ outcome. IfLost outcome (IsLeftOn ⟦<D as Disk>⟧ (disk_of store) (D.reads (disk_of store)).document bytes.now result.1)) }
 {
     let mut store = store;
     match store.holds(bytes) {
@@ -72,7 +74,8 @@ fn try_again<D: Disk + Drop>(
     bytes: &[u8],
     fault: StoreFault,
 ) -> (Result<Outcome, StoreFault>, D)
-    ensures { D.follows_model → IfOk result.0 (λ outcome. IfKept outcome (IsSavedOn ⟦<D as Disk>⟧ disk bytes.now result.1)) }
+    ensures kept { D.follows_model → IfOk result.0 (λ outcome. IfKept outcome (IsSavedOn ⟦<D as Disk>⟧ disk bytes.now result.1)) }
+    ensures lost { D.follows_model → IfOk result.0 (λ outcome. IfLost outcome (IsLostOn ⟦<D as Disk>⟧ disk bytes.now result.1)) }
 {
     match Store::open(alloc, disk) {
         Ok(store) => compare(store, bytes, fault),
@@ -87,7 +90,8 @@ fn commit_to<D: Disk + Drop>(
     disk: D,
     bytes: &[u8],
 ) -> (Result<Outcome, StoreFault>, D)
-    ensures { D.follows_model → IfOk result.0 (λ outcome. IfKept outcome (IsSavedOn ⟦<D as Disk>⟧ disk bytes.now result.1)) }
+    ensures kept { D.follows_model → IfOk result.0 (λ outcome. IfKept outcome (IsSavedOn ⟦<D as Disk>⟧ disk bytes.now result.1)) }
+    ensures lost { D.follows_model → IfOk result.0 (λ outcome. IfLost outcome (IsLostOn ⟦<D as Disk>⟧ disk bytes.now result.1)) }
 {
     match Store::open(alloc, disk) {
         Ok(store) => replace(store, bytes),
@@ -108,6 +112,7 @@ fn commit_again<H: Host>(
     ensures quiet { (s : ℕ) → passed s (H.told host.new) ≡ passed s (H.told host.old) }
     ensures paced { (s : ℕ) → pace s (H.told host.new) ≡ pace s (H.told host.old) }
     ensures shut { H.Disk.follows_model → IfOk result (λ outcome. IfKept outcome (IsShutWith ⟦<H::Disk as Disk>⟧ (H.told host.new) name.now bytes.now)) }
+    ensures left { H.Disk.follows_model → IfOk result (λ outcome. IfLost outcome (IsShutWithout ⟦<H::Disk as Disk>⟧ (H.told host.new) name.now bytes.now)) }
 {
     match host.disk(name) {
         Ok(disk) => {
@@ -133,6 +138,7 @@ fn commit<H: Host>(
     ensures quiet { (s : ℕ) → passed s (H.told host.new) ≡ passed s (H.told host.old) }
     ensures paced { (s : ℕ) → pace s (H.told host.new) ≡ pace s (H.told host.old) }
     ensures shut { H.Disk.follows_model → IfOk result (λ outcome. IfKept outcome (IsShutWith ⟦<H::Disk as Disk>⟧ (H.told host.new) name.now bytes.now)) }
+    ensures left { H.Disk.follows_model → IfOk result (λ outcome. IfLost outcome (IsShutWithout ⟦<H::Disk as Disk>⟧ (H.told host.new) name.now bytes.now)) }
 {
     let given = host.disk(name);
     match given {
@@ -162,7 +168,8 @@ fn lose<H: Host>(
     core: &mut ContainerCore,
     frame: u32,
 ) -> Result<(), ScriptFault>
-    requires { IsTold ⟦<H::Disk as Disk>⟧ (H.told host.old) core.old }
+    requires lost { H.Disk.follows_model → IsLost ⟦<H::Disk as Disk>⟧ (H.told host.old) frame }
+    requires told { IsTold ⟦<H::Disk as Disk>⟧ (H.told host.old) core.old }
     ensures told { IsTold ⟦<H::Disk as Disk>⟧ (H.told host.new) core.new }
     ensures still { (s : ℕ) → running s (H.told host.new) ≡ running s (H.told host.old) }
     ensures quiet { (s : ℕ) → passed s (H.told host.new) ≡ passed s (H.told host.old) }
