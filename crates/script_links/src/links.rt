@@ -4,6 +4,7 @@ ghost use Rattle.container_model.specs.Record.{Record};
 ghost use Rattle.message_model.specs.Spelling.{spell};
 ghost use Rattle.script_model.specs.Bounds.{IsWithin, linking, pace, reading, sending};
 ghost use Rattle.script_model.specs.Events.{running};
+ghost use Rattle.script_model.specs.Orders.{orders};
 ghost use Rattle.script_model.specs.Origins.{AreNext, fresh, giving, passed};
 ghost use Rattle.script_model.specs.Turns.{server_of, turn_of};
 ghost use Rattle.script_links.specs.Links.{IsServed, beside};
@@ -125,6 +126,7 @@ pub fn send_turn<H: Host>(
     ensures quiet { (s : ℕ) → passed s (H.told host.new) ≡ passed s (H.told host.old) }
     ensures aside { (s : ℕ) → pace_beside inc s (H.told host.new) ≡ pace_beside inc s (H.told host.old) }
     ensures sent { OnOk result (pace inc (H.told host.new) ≡ sending (pace inc (H.told host.old))) }
+    ensures ordered { orders (H.told host.new) ≡ orders (H.told host.old) }
 {
     let bytes = turn_bytes(alloc, core, inc)?;
     Ok(host.send(inc, &bytes).is_ok())
@@ -155,6 +157,7 @@ pub fn hand_over<H: Host>(
     ensures apart { (s : ℕ) → beside inc s (H.told host.new) ≡ beside inc s (H.told host.old) }
     ensures given { passed inc (H.told host.new) ≡ giving (taken ∷ []) (passed inc (H.told host.old)) }
     ensures paced { (s : ℕ) → pace s (H.told host.new) ≡ pace s (H.told host.old) }
+    ensures ordered { orders (H.told host.new) ≡ orders (H.told host.old) }
 {
     match message(alloc, host, core, inc, taken) {
         Ok(answer) => {
@@ -186,6 +189,7 @@ fn meet<H: Host>(
     ensures apart { (s : ℕ) → beside link.old.inc s (H.told host.new) ≡ beside link.old.inc s (H.told host.old) }
     ensures served { OnOk result (IsServed (passed link.new.inc (H.told host.new)) link.new []) }
     ensures paced { (s : ℕ) → pace s (H.told host.new) ≡ pace s (H.told host.old) }
+    ensures ordered { orders (H.told host.new) ≡ orders (H.told host.old) }
 {
     if link.held {
         link.waiting.push(taken)?;
@@ -210,6 +214,7 @@ fn take_frames<H: Host>(
     ensures apart { (s : ℕ) → beside link.old.inc s (H.told host.new) ≡ beside link.old.inc s (H.told host.old) }
     ensures served { OnOk result (IsServed (passed link.new.inc (H.told host.new)) link.new []) }
     ensures paced { (s : ℕ) → pace s (H.told host.new) ≡ pace s (H.told host.old) }
+    ensures ordered { orders (H.told host.new) ≡ orders (H.told host.old) }
 {
     for _ in 0..=PIECE {
         match link.decoder.next() {
@@ -237,6 +242,7 @@ fn read_some<H: Host>(host: &mut H, link: &mut Link) -> Result<bool, ScriptFault
     ensures served { OnOk result (IsServed (passed link.new.inc (H.told host.new)) link.new []) }
     ensures aside { (s : ℕ) → pace_beside link.old.inc s (H.told host.new) ≡ pace_beside link.old.inc s (H.told host.old) }
     ensures read { pace link.new.inc (H.told host.new) ≡ reading (pace link.old.inc (H.told host.old)) }
+    ensures ordered { orders (H.told host.new) ≡ orders (H.told host.old) }
 {
     let mut piece = [0u8; PIECE];
     let n = match host.read(link.inc, &mut piece) {
@@ -275,6 +281,7 @@ fn hear<H: Host>(
     ensures served { OnOk result (IsServed (passed link.new.inc (H.told host.new)) link.new []) }
     ensures aside { (s : ℕ) → pace_beside link.old.inc s (H.told host.new) ≡ pace_beside link.old.inc s (H.told host.old) }
     ensures on { OnOk result (GoesOn (pace link.old.inc (H.told host.old)) (pace link.new.inc (H.told host.new)) reads.new) }
+    ensures ordered { orders (H.told host.new) ≡ orders (H.told host.old) }
 {
     while *reads > 0 {
         let heard = take_frames(alloc, host, core, link, noticed)?;
@@ -309,6 +316,7 @@ fn exchange<H: Host>(
     ensures served { OnOk result (IsServed (passed link.new.inc (H.told host.new)) link.new []) }
     ensures aside { (s : ℕ) → pace_beside link.old.inc s (H.told host.new) ≡ pace_beside link.old.inc s (H.told host.old) }
     ensures on { OnOk result (GoesOn (sending (pace link.old.inc (H.told host.old))) (pace link.new.inc (H.told host.new)) reads.new) }
+    ensures ordered { orders (H.told host.new) ≡ orders (H.told host.old) }
 {
     if !send_turn(alloc, host, core, link.inc)? {
         return Ok(Heard::Failed);
@@ -327,6 +335,7 @@ pub fn reconnect<H: Host>(alloc: Global, host: &mut H, link: &mut Link) -> bool
     ensures served { IsServed (passed link.new.inc (H.told host.new)) link.new [] }
     ensures aside { (s : ℕ) → pace_beside link.old.inc s (H.told host.new) ≡ pace_beside link.old.inc s (H.told host.old) }
     ensures linked { pace link.new.inc (H.told host.new) ≡ linking result (pace link.old.inc (H.told host.old)) }
+    ensures ordered { orders (H.told host.new) ≡ orders (H.told host.old) }
 {
     link.decoder = Decoder::new(alloc);
     host.connect(link.inc).is_ok()
@@ -350,6 +359,7 @@ pub fn serve<H: Host>(
     ensures served { OnOk result (IsServed (passed link.new.inc (H.told host.new)) link.new []) }
     ensures aside { (s : ℕ) → pace_beside link.old.inc s (H.told host.new) ≡ pace_beside link.old.inc s (H.told host.old) }
     ensures turned { OnOk result (HadTurn (pace link.old.inc (H.told host.old)) (pace link.new.inc (H.told host.new))) }
+    ensures ordered { orders (H.told host.new) ≡ orders (H.told host.old) }
 {
     let mut reads = MOST_READS;
     match exchange(alloc, host, core, link, noticed, &mut reads)? {

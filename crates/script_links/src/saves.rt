@@ -4,6 +4,7 @@ ghost use Rattle.container_model.specs.Record.{Record};
 ghost use Rattle.doc_store.specs.Opened.{disk_of, needs_reopen_of};
 ghost use Rattle.script_model.specs.Bounds.{pace};
 ghost use Rattle.script_model.specs.Events.{running};
+ghost use Rattle.script_model.specs.Orders.{orders};
 ghost use Rattle.script_model.specs.Origins.{passed};
 ghost use Rattle.script_model.specs.Saved.{IsLost, IsLostOn, IsSavedOn, IsShutWith, IsShutWithout, file_name};
 ghost use Rattle.script_links.specs.Told.{IfKept, IfLost, IsImage, IsLeftOn, IsReplacedOn, IsTold};
@@ -113,6 +114,7 @@ fn commit_again<H: Host>(
     ensures paced { (s : ℕ) → pace s (H.told host.new) ≡ pace s (H.told host.old) }
     ensures shut { H.Disk.follows_model → IfOk result (λ outcome. IfKept outcome (IsShutWith ⟦<H::Disk as Disk>⟧ (H.told host.new) name.now bytes.now)) }
     ensures left { H.Disk.follows_model → IfOk result (λ outcome. IfLost outcome (IsShutWithout ⟦<H::Disk as Disk>⟧ (H.told host.new) name.now bytes.now)) }
+    ensures ordered { orders (H.told host.new) ≡ orders (H.told host.old) }
 {
     match host.disk(name) {
         Ok(disk) => {
@@ -139,6 +141,7 @@ fn commit<H: Host>(
     ensures paced { (s : ℕ) → pace s (H.told host.new) ≡ pace s (H.told host.old) }
     ensures shut { H.Disk.follows_model → IfOk result (λ outcome. IfKept outcome (IsShutWith ⟦<H::Disk as Disk>⟧ (H.told host.new) name.now bytes.now)) }
     ensures left { H.Disk.follows_model → IfOk result (λ outcome. IfLost outcome (IsShutWithout ⟦<H::Disk as Disk>⟧ (H.told host.new) name.now bytes.now)) }
+    ensures ordered { orders (H.told host.new) ≡ orders (H.told host.old) }
 {
     let given = host.disk(name);
     match given {
@@ -174,6 +177,7 @@ fn lose<H: Host>(
     ensures still { (s : ℕ) → running s (H.told host.new) ≡ running s (H.told host.old) }
     ensures quiet { (s : ℕ) → passed s (H.told host.new) ≡ passed s (H.told host.old) }
     ensures paced { (s : ℕ) → pace s (H.told host.new) ≡ pace s (H.told host.old) }
+    ensures ordered { orders (H.told host.new) ≡ orders (H.told host.old) }
 {
     failed(alloc, host, core, frame)?;
     dropped(alloc, host, core, frame)
@@ -193,6 +197,7 @@ fn save_file<H: Host>(
     ensures still { (s : ℕ) → running s (H.told host.new) ≡ running s (H.told host.old) }
     ensures quiet { (s : ℕ) → passed s (H.told host.new) ≡ passed s (H.told host.old) }
     ensures paced { (s : ℕ) → pace s (H.told host.new) ≡ pace s (H.told host.old) }
+    ensures ordered { orders (H.told host.new) ≡ orders (H.told host.old) }
 {
     let Some(found) = core.frame(frame) else {
         return Ok(None);
@@ -225,6 +230,7 @@ fn save<H: Host>(
     ensures still { (s : ℕ) → running s (H.told host.new) ≡ running s (H.told host.old) }
     ensures quiet { (s : ℕ) → passed s (H.told host.new) ≡ passed s (H.told host.old) }
     ensures paced { (s : ℕ) → pace s (H.told host.new) ≡ pace s (H.told host.old) }
+    ensures ordered { orders (H.told host.new) ≡ orders (H.told host.old) }
 {
     match core.image(alloc, frame) {
         Ok(file) => save_file(alloc, host, core, frame, &file),
@@ -250,6 +256,7 @@ pub fn save_all<H: Host>(
     ensures still { (s : ℕ) → running s (H.told host.new) ≡ running s (H.told host.old) }
     ensures quiet { (s : ℕ) → passed s (H.told host.new) ≡ passed s (H.told host.old) }
     ensures paced { (s : ℕ) → pace s (H.told host.new) ≡ pace s (H.told host.old) }
+    ensures ordered { orders (H.told host.new) ≡ orders (H.told host.old) }
 {
     for action in answer.actions.as_slice() {
         if let Action::Commit(frame) = action {

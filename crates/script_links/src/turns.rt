@@ -2,6 +2,7 @@
 
 ghost use Rattle.script_model.specs.Bounds.{AreBounded, pace};
 ghost use Rattle.script_model.specs.Events.{running};
+ghost use Rattle.script_model.specs.Orders.{orders};
 ghost use Rattle.script_model.specs.Origins.{AreHeard};
 ghost use Rattle.script_model.specs.Saved.{AreOpened, AreSaved};
 ghost use Rattle.script_model.specs.Turns.{AreTurns};
@@ -44,6 +45,7 @@ pub fn end_at<H: Host>(
     ensures served { AreServed (H.told host.new) links.new.items }
     ensures rest { links.new.items ≡ remove links.old.items place }
     ensures paced { (s : ℕ) → pace s (H.told host.new) ≡ pace s (H.told host.old) }
+    ensures ordered { orders (H.told host.new) ≡ orders (H.told host.old) }
 {
     let link = links.remove(place);
     host.end(link.inc);
@@ -68,6 +70,7 @@ pub fn end_all<H: Host>(host: &mut H, links: &mut Vec<Link>)
     ensures saved { H.Disk.follows_model → AreSaved ⟦<H::Disk as Disk>⟧ (H.told host.new) }
     ensures opened { H.Disk.follows_model → AreOpened ⟦<H::Disk as Disk>⟧ (H.told host.new) }
     ensures ended { (s : ℕ) → running s (H.told host.new) ≡ 0 }
+    ensures ordered { orders (H.told host.new) ≡ orders (H.told host.old) }
 {
     while let Some(link) = links.pop() {
         host.end(link.inc);
@@ -118,6 +121,7 @@ fn serve_at<H: Host>(
     ensures served { OnOk result (AreServed (H.told host.new) links.new.items) }
     ensures many { length links.new.items ≡ length links.old.items }
     ensures ready { (n : ℕ) → IsUnderway n (H.told host.old) links.old.items place → OnOk result (IsUnderway n (H.told host.new) links.new.items (place + 1)) }
+    ensures ordered { orders (H.told host.new) ≡ orders (H.told host.old) }
 {
     serve(alloc, host, core, &mut links[place], noticed)
 }
@@ -138,6 +142,7 @@ fn turn<H: Host>(
     ensures linked { AreLinked (H.told host.new) links.new.items }
     ensures served { OnOk result (AreServed (H.told host.new) links.new.items) }
     ensures ready { (n : ℕ) → AreReady n (H.told host.old) links.old.items → OnOk result (AreReady (n + 1) (H.told host.new) links.new.items) }
+    ensures ordered { orders (H.told host.new) ≡ orders (H.told host.old) }
 {
     let mut place = 0;
     while place < links.len() {
@@ -167,6 +172,7 @@ pub fn turns<H: Host>(
     ensures told { IsTold ⟦<H::Disk as Disk>⟧ (H.told host.new) core.new }
     ensures linked { AreLinked (H.told host.new) links.new.items }
     ensures served { OnOk result (AreServed (H.told host.new) links.new.items) }
+    ensures ordered { orders (H.told host.new) ≡ orders (H.told host.old) }
 {
     for done in 0..MOST_TURNS {
         if !is_pending(core, links) {

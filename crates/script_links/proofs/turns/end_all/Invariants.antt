@@ -1,4 +1,5 @@
 use Rattle.script_model.specs.Bounds.{AreBounded}
+use Rattle.script_model.specs.Orders.{orders}
 use Rattle.script_model.specs.Origins.{AreHeard}
 use Rattle.script_model.specs.Saved.{AreOpened, AreSaved}
 use Rattle.script_model.specs.Turns.{AreTurns}
@@ -13,6 +14,7 @@ invariant-loop-link g l = record {
   saved : g.H.Disk.Disk.follows_model → AreSaved g.H.Disk.Disk (g.H.Host.told l.host);
   opened : g.H.Disk.Disk.follows_model → AreOpened g.H.Disk.Disk (g.H.Host.told l.host);
   linked : AreLinked (g.H.Host.told l.host) l.links.items;
+  ordered : orders (g.H.Host.told l.host) ≡ orders (g.H.Host.told l.fn.host);
 }
 
 abbrev pub decreases-loop-link : goal.decreases-loop-link

@@ -1,4 +1,5 @@
 use Rattle.std.proofs.Common.{length, ◌-◌, ℕ}
+use Rattle.script_model.specs.Orders.{orders}
 use Rattle.script_links.specs.Links.{AreLinked, AreServed}
 use Rattle.script_links.specs.Ready.{AreReady, IsUnderway}
 use Rattle.script_links.specs.Told.{IsTold}
@@ -10,6 +11,7 @@ invariant-loop-place g l = record {
   linked : AreLinked (g.H.Host.told l.host) l.links.items;
   served : AreServed (g.H.Host.told l.host) l.links.items;
   each : (n : ℕ) → AreReady n (g.H.Host.told l.fn.host) l.fn.links.items → IsUnderway n (g.H.Host.told l.host) l.links.items l.place;
+  ordered : orders (g.H.Host.told l.host) ≡ orders (g.H.Host.told l.fn.host);
 }
 
 abbrev pub decreases-loop-place : goal.decreases-loop-place

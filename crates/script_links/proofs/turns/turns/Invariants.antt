@@ -1,4 +1,5 @@
 use Rattle.std.proofs.Common.{◌+◌}
+use Rattle.script_model.specs.Orders.{orders}
 use Rattle.script_links.specs.Links.{AreLinked, AreServed}
 use Rattle.script_links.specs.Ready.{AreReady}
 use Rattle.script_links.specs.Told.{IsTold}
@@ -10,4 +11,5 @@ invariant-loop-done g l = record {
   linked : AreLinked (g.H.Host.told l.host) l.links.items;
   served : AreServed (g.H.Host.told l.host) l.links.items;
   ready : AreReady (l.done + 1) (g.H.Host.told l.host) l.links.items;
+  ordered : orders (g.H.Host.told l.host) ≡ orders (g.H.Host.told l.fn.host);
 }
