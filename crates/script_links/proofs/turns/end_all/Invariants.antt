@@ -1,3 +1,4 @@
+use Rattle.std.proofs.Common.{◌≡◌}
 use Rattle.script_model.specs.Bounds.{AreBounded}
 use Rattle.script_model.specs.Orders.{orders}
 use Rattle.script_model.specs.Origins.{AreHeard}

@@ -1,4 +1,4 @@
-use Rattle.std.proofs.Common.{length, ◌-◌, ℕ}
+use Rattle.std.proofs.Common.{length, ◌≡◌, ◌-◌, ℕ}
 use Rattle.script_model.specs.Orders.{orders}
 use Rattle.script_links.specs.Links.{AreLinked, AreServed}
 use Rattle.script_links.specs.Ready.{AreReady, IsUnderway}
