@@ -27,4 +27,5 @@ loop-reads-preserved g c = record {
       (paced_on (pace c.args.link.now.inc (g.H.Host.told c.args.host.now)) (pace c.loop-reads.link.inc (g.H.Host.told c.loop-reads.host)) (pace c.take_frames.new.link.inc (g.H.Host.told c.take_frames.new.host)) c.loop-reads.reads
       (ap (λ (i : ℕ). pace i (g.H.Host.told c.take_frames.new.host)) c.take_frames.ensures.same ∙ c.take_frames.ensures.paced c.loop-reads.link.inc) c.loop-reads.invariant.on);
   served = c.in_ok-read_some.ensures.served;
+  ordered = c.read_some.ensures.ordered ∙ c.take_frames.ensures.ordered ∙ c.loop-reads.invariant.ordered;
 }

@@ -1,4 +1,4 @@
-use Rattle.std.proofs.Common.{◌+◌}
+use Rattle.std.proofs.Common.{◌+◌, ◌∙◌}
 use Rattle.script_links.proofs.turns.turns.Goals as goal
 
 pub loop-done-preserved : goal.loop-done-preserved
@@ -7,4 +7,5 @@ loop-done-preserved g c = record {
   linked = c.turn.ensures.linked;
   served = c.in_ok-turn.ensures.served;
   ready = c.in_ok-turn.ensures.ready (c.loop-done.done + 1) c.loop-done.invariant.ready;
+  ordered = c.turn.ensures.ordered ∙ c.loop-done.invariant.ordered;
 }
