@@ -5,6 +5,7 @@ ghost use Rattle.script_model.specs.Bounds.{linking, pace, resting};
 ghost use Rattle.script_model.specs.Events.{running};
 ghost use Rattle.script_model.specs.Orders.{behind_command, orders};
 ghost use Rattle.script_model.specs.Origins.{AreNext, Passed, giving, passed};
+ghost use Rattle.script_model.specs.declared.step.Step.{Step};
 ghost use Rattle.script_links.specs.Links.{AreLinked, AreServed, EachServed, beside, links_of};
 ghost use Rattle.script_links.specs.Ready.{AreReady, MayLink, pace_beside};
 ghost use Rattle.script_links.specs.Told.{IsTold};
