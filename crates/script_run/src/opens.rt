@@ -10,13 +10,13 @@ ghost use Rattle.script_model.specs.Saved.{IsReadFrom, IsReadOf};
 ghost use Rattle.script_links.specs.Told.{IsTold};
 ghost use Rattle.std.specs.Prelude.{◌≡◌, ℕ, IfOk, IfSome, Some};
 
-use script_links::container::opened;
-use script_links::fault::ScriptFault;
 use container_core::container::ContainerCore;
 use container_documents::reading::document_in;
 use container_model::fault::ContainerFault;
 use doc_store::store::Store;
 use ole_streams::doc::Doc;
+use script_links::container::opened;
+use script_links::fault::ScriptFault;
 use script_model::answer::Told;
 use script_model::host::Host;
 use script_texts::answers::opened_by;

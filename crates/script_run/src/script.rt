@@ -14,10 +14,10 @@ ghost use Rattle.script_links.specs.Told.{IsTold};
 ghost use Rattle.std.specs.Prelude.{◌≡◌, ◌∷◌, ℕ, [], IfOk, IfSome, Ok, OnOk};
 
 use crate::commands::carry_out;
+use container_core::container::{ContainerCore, Limits};
 use script_links::fault::ScriptFault;
 use script_links::links::Link;
 use script_links::turns::end_all;
-use container_core::container::{ContainerCore, Limits};
 use script_model::command::ScriptCommand;
 use script_model::host::Host;
 use script_model::step::Step;

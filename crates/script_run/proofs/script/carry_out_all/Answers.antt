@@ -22,5 +22,5 @@ returns-in_err-carry_out-clause-begun g c =
     let at : c.in-Some.place ≡ c.loop-place.place-iterator.count = search rules in
     let counts : c.next.new.self.count ≡ c.loop-place.place-iterator.count + 1 = search rules in
     let now = so_far_more (g.H.Host.told c.loop-place.host) (g.H.Host.told c.begins.new.host) (g.H.Host.told c.carry_out.new.host) c.args.commands.items (into_iter_items c.loop-place.place-iterator.iter)
-        (into_iter_items c.next.new.self.iter) c.in-Some.command c.loop-place.place-iterator.count c.in-Some.place c.next.new.self.count c.loop-place.invariant.so_far at counts items c.begins.ensures.ordered c.carry_out.ensures.ordered in
+    (into_iter_items c.next.new.self.iter) c.in-Some.command c.loop-place.place-iterator.count c.in-Some.place c.next.new.self.count c.loop-place.invariant.so_far at counts items c.begins.ensures.ordered c.carry_out.ensures.ordered in
     so_far_begun (g.H.Host.told c.carry_out.new.host) c.args.commands.items (into_iter_items c.next.new.self.iter) c.next.new.self.count now
