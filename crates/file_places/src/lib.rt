@@ -1,6 +1,7 @@
 //! Reading only the blocks of a compound file that its listing needs.
 #![tactic(auto)]
 
+mod chains;
 pub mod fault;
 mod listing;
 mod putting;

@@ -5,12 +5,11 @@ ghost use Rattle.file_model.specs.Alike.{Alike};
 ghost use Rattle.file_places.specs.Filled.{MayRefusePlaces, most};
 ghost use Rattle.std.specs.Prelude.{◌≡◌, ◌≤◌, IfErr, IfOk, IfSome, Ok, length};
 
+use crate::chains::find_chains;
 use crate::fault::PlacesFault;
 use crate::listing::read_lists;
-use crate::sectors::{read_bytes, read_chain};
+use crate::sectors::{read_bytes, read_sectors};
 use crate::source::Source;
-use cfb_chain::image::Image;
-use cfb_chain::table::entries;
 use cfb_header::header::Header;
 use cfb_places::places::{BLOCK, Places};
 use std::alloc::Global;
@@ -64,8 +63,8 @@ pub fn read_catalog<S: Source>(alloc: Global, source: &mut S) -> Result<Catalog,
     let mut file = Places::new(alloc, len)?;
     file.put(0, &front)?;
     let sectors = read_lists(alloc, source, &mut file, &header)?;
-    let table = entries(alloc, &Image::Placed(&file), &sectors.fat)?;
-    read_chain(alloc, source, &mut file, &table, header.first_directory())?;
-    read_chain(alloc, source, &mut file, &table, header.first_mini_fat())?;
+    let chains = find_chains(alloc, &file, &sectors.fat, &header)?;
+    read_sectors(alloc, source, &mut file, &chains.directory)?;
+    read_sectors(alloc, source, &mut file, &chains.mini_fat)?;
     Ok(Catalog { header, file })
 }

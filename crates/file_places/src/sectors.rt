@@ -1,14 +1,13 @@
 //! Sectors read into their places.
 
 ghost use Rattle.cfb_bytes.specs.Bytes.{block};
-ghost use Rattle.file_places.specs.Filled.{IsChainRead, IsOfReading, IsRead, IsRunRead};
+ghost use Rattle.file_places.specs.Filled.{IsOfReading, IsRead, IsRunRead};
 ghost use Rattle.std.specs.Prelude.{◌≡◌, ◌≤◌, IfErr, IfOk, IfSome, OnOk, drop, length, take};
 
 use crate::fault::PlacesFault;
 use crate::putting::put_run;
 use crate::runs::run_length;
 use crate::source::Source;
-use cfb_chain::table::chain_from;
 use cfb_places::places::{BLOCK, Places};
 use std::alloc::Global;
 
@@ -74,24 +73,5 @@ pub(crate) fn read_sectors<S: Source>(
         read_run(alloc, source, file, sectors[at], count)?;
         at += count;
     }
-    Ok(())
-}
-
-/// Reads the sectors of the chain that begins with one, and none where the entries lead to no end.
-pub(crate) fn read_chain<S: Source>(
-    alloc: Global,
-    source: &mut S,
-    file: &mut Places,
-    table: &[u32],
-    start: u32,
-) -> Result<(), PlacesFault>
-    ensures len { length file.new ≡ length file.old }
-    ensures front { OnOk result (block 512 file.new 0 ≡ block 512 file.old 0) }
-    ensures read { OnOk result (IfSome (S.bytes source.old) (λ a. length a ≡ length file.old → IsChainRead a file.old file.new table.now start)) }
-    ensures told { IfErr result IsOfReading }
-    ensures kept { S.bytes source.new ≡ S.bytes source.old }
-{
-    let sectors = chain_from(alloc, table, start)?;
-    read_sectors(alloc, source, file, &sectors)?;
     Ok(())
 }
