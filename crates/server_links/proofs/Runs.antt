@@ -1,27 +1,22 @@
 -- What a server has come to by one more link, or one more pause of it.
-use Rattle.std.proofs.Common.{◌≡◌, ◌<◌, ◌≤◌, ◌+◌, ℕ, List, [], ◌∷◌, ◌++◌, Option, Some, Ok, Err, Bool, true, false, refl, sym, ap, subst, ◌∙◌, append_assoc, arith}
-use Rattle.std.specs.List.{AllByRecursion}
+use Rattle.std.proofs.Common.{◌≡◌, ◌<◌, ◌≤◌, ◌+◌, ℕ, List, [], ◌∷◌, ◌++◌, Option, Some, Result, Ok, Err, Bool, true, false, refl, sym, ap, subst, ◌∙◌, arith, inr}
+use Rattle.std.specs.Prelude.{OnOk}
 use Rattle.embed_core.specs.Content.{Content}
 use Rattle.embed_core.specs.Kinds as embed
-use Rattle.message_model.specs.declared.frame.Frame.{Frame}
 use Rattle.message_model.specs.declared.frame.Frame.TheVariants as frame
-use Rattle.message_model.specs.Frames.{IsFrame}
-use Rattle.message_model.specs.Spelling.{joined}
-use Rattle.message_bytes.specs.Fronts.{Stands}
-use Rattle.message_bytes.specs.declared.decoder.Decoder.{Decoder}
-use Rattle.message_bytes.proofs.Fronts.{joined-append}
 use Rattle.server_core.specs.declared.server.Seat.{Seat}
 use Rattle.server_model.specs.Server.{is_class}
-use Rattle.server_loop.specs.Links.{HasEnded, HasServed, IsUnderway, IsWaiting, MayOffer, Pauses, link_begun}
+use Rattle.server_loop.proofs.Lacking.{first, left_as, wait_lacked}
+use Rattle.server_loop.specs.Links.{And, HasEnded, HasLacked, HasServed, IsUnderway, IsWaiting, MayOffer, Pauses, link_begun}
 use Rattle.server_loop.specs.Turns.{Turn, turned}
-use Rattle.server_loop.specs.View.{IsAt, IsIn}
+use Rattle.server_loop.specs.View.{AreFirst, IsAt, IsIn, IsStarted}
 use Rattle.server_loop.specs.declared.link.Pause.{Pause}
 use Rattle.server_loop.specs.declared.link.Pause.TheVariants as pause
 use Rattle.server_loop.specs.declared.serving.End.{End}
 use Rattle.server_loop.specs.declared.serving.End.TheVariants.{Faulty, LastRead, Unread, Closed as over_closed, Unwritten, LastTurn}
 use Rattle.server_loop.specs.declared.serving.Serving.{Serving}
 use Rattle.server_links.specs.Events.{Came, Closed, Event}
-use Rattle.server_links.specs.Served.{AreFirst, HasCome, HasStopped, IsKindOf, IsLeft, IsNext, MOST_LINKS, Served, is_made}
+use Rattle.server_links.specs.Served.{GoesOn, HasServedPart, HasStopped, HasWanted, IsKindOf, IsLeft, IsNext, MOST_LINKS, Served, is_made}
 use Rattle.server_links.specs.Served.Served.{none, one_more}
 use Rattle.server_links.specs.declared.kinds.Kind.{Kind}
 use Rattle.server_links.specs.declared.kinds.Kind.TheVariants as kinds
@@ -36,18 +31,6 @@ Is false = ⊥
 true_false : true ≡ false → ⊥
 true_false e = subst Is e tt
 
-all_front : (fs gs : List Frame) → AllByRecursion IsFrame (fs ++ gs) → AllByRecursion IsFrame fs
-all_front [] gs e = tt
-all_front (f ∷ fs) gs e = (e.0, all_front fs gs e.1)
-
--- the frames that a decoder handed out
-abbrev first : (d : Decoder) (fed : List ℕ) (taken : List Frame) → Stands d fed taken → AreFirst fed taken
-first d fed taken s = record {
-  rest = joined d.waiting.items ++ s.rest;
-  whole = s.whole ∙ ap (λ a. a ++ s.rest) (joined-append taken d.waiting.items) ∙ append_assoc (joined taken) (joined d.waiting.items) s.rest;
-  each = all_front taken d.waiting.items s.each;
-}
-
 module _ {X : Type 0} {V : X → Type 0} (content : Seat X V → Content) (v : Serving X V) (made : List ℕ → Bool) (began : Turn) (ub u hb h : Option (List ℕ)) where
   -- A link is over, and leaves the server at a turn.
   pub record Leaves (end : End) : Type 0 where
@@ -56,17 +39,7 @@ module _ {X : Type 0} {V : X → Type 0} (content : Seat X V → Content) (v : S
     pub gone : HasEnded end (IsLeft left) made began ub u hb h
 
   abbrev left_so : (s : HasServed (IsAt content v) made began ub u hb h) → HasServed (IsLeft s.now) made began ub u hb h
-  left_so s = record {
-    fed = s.fed;
-    taken = s.taken;
-    bytes = s.bytes;
-    now = s.now;
-    read = s.read;
-    at = (refl, first v.decoder s.fed s.taken s.at.read);
-    serves = s.serves;
-    written = s.written;
-    turns = s.turns;
-  }
+  left_so s = left_as (IsAt content v) (IsLeft s.now) made began ub u hb h s (refl, first v.decoder s.fed s.taken s.at.read)
 
   pub leaves : (end : End) → HasEnded end (IsAt content v) made began ub u hb h → Leaves end
   leaves (Faulty fault) e = record { left = e.0.now; is = e.0.at.turn; gone = (left_so e.0, e.1) }
@@ -80,17 +53,8 @@ module _ {X : Type 0} {V : X → Type 0} (content : Seat X V → Content) (v : S
         is = s.at.turn;
         gone = record {
           before = e.before;
-          served = record {
-            fed = s.fed;
-            taken = s.taken;
-            bytes = s.bytes;
-            now = s.now;
-            read = s.read;
-            at = (refl, first v.decoder s.fed (s.taken ++ frame.Turn ∷ []) s.at.read);
-            serves = s.serves;
-            written = s.written;
-            turns = s.turns;
-          };
+          served = left_as (And (IsAt content v) frame.Turn turned) (And (IsLeft (turned s.now)) frame.Turn turned) made began ub u hb e.before s
+              (refl, first v.decoder s.fed (s.taken ++ frame.Turn ∷ []) s.at.read);
           part = e.part;
           turns = e.turns;
         };
@@ -121,8 +85,25 @@ module _ {X : Type 0} {V : X → Type 0} (content : Seat X V → Content) {R W :
   }
 
   module _ (v w : Serving X V) (link later : Link R W) (count : ℕ) (told : List (Event R W)) (s : IsOn v link count told) where
-    pub has_come : HasCome remaining contents begun before told
-    has_come = (s.came, record { links = s.links; count = count; left = s.left; served = s.served; few = s.few; behind = s.behind })
+    -- it was closed, and was served so
+    abbrev closed_so : (Part : Turn → (unread_before unread held_before held : Option (List ℕ)) → Type 0) (now : List (Event R W)) → now ≡ Closed later ∷ told
+        → Part (link_begun s.left) (remaining s.came.reader) (remaining later.reader) (contents s.came.writer) (contents later.writer) → HasServedPart remaining contents begun before now Part
+    closed_so Part now e part = record {
+      links = s.links;
+      count = count;
+      left = s.left;
+      served = s.served;
+      few = s.few;
+      came = s.came;
+      closed = later;
+      behind = e ∙ ap (λ x. Closed later ∷ x) s.behind;
+      part = part;
+    }
+
+    -- memory was wanted on it
+    pub lacked_on : (now : List (Event R W)) → now ≡ Closed later ∷ told
+        → HasLacked is_made (link_begun s.left) (remaining s.came.reader) (remaining later.reader) (contents s.came.writer) (contents later.writer) → HasWanted remaining contents begun before now
+    lacked_on now e h = inr (closed_so (HasLacked is_made) now e h)
 
     -- it goes on
     abbrev pub still_on : IsUnderway content w is_made (link_begun s.left) (remaining s.came.reader) (remaining later.reader) (contents s.came.writer) (contents later.writer)
@@ -138,24 +119,41 @@ module _ {X : Type 0} {V : X → Type 0} (content : Seat X V → Content) {R W :
     pub long_on : (p : Pause) → p ≡ pause.Long → PausedAs p → IsOn w later count told
     long_on p e h = still_on ((subst PausedAs e h).0)
 
+    -- memory was wanted for the object that a call wants
+    pub wait_lacked_on : (p : Pause) (class : List ℕ) (now : List (Event R W)) → p ≡ pause.Wants class → PausedAs p → now ≡ Closed later ∷ told → HasWanted remaining contents begun before now
+    wait_lacked_on p class now is h e =
+        lacked_on now e (wait_lacked content is_made w (link_begun s.left) (remaining s.came.reader) (remaining later.reader) (contents s.came.writer) (contents later.writer) class ((subst PausedAs is h).1))
+
+    -- what the server is left as where it goes on
+    abbrev pub Stays : Serving X V → Type 0
+    Stays x = IsStarted x × (count < MOST_LINKS) × IsOn x later count told
+
     -- a call wants an object of a class that isn't made
-    pub passed_on : (p : Pause) (class : List ℕ) (kind : Kind) → p ≡ pause.Wants class → kind ≡ kinds.Other → IsKindOf kind class → PausedAs p → IsOn w later count told
-    passed_on p class kind e is k h = still_on ((subst PausedAs e h).0 (subst (λ x. IsKindOf x class) is k))
+    pub passed_on : (x : Serving X V) (p : Pause) (class : List ℕ) (kind : Kind) → x ≡ w → IsStarted w → p ≡ pause.Wants class → kind ≡ kinds.Other → IsKindOf kind class → PausedAs p → Stays x
+    passed_on x p class kind same started e is k h =
+        subst Stays (sym same) (started, s.few, still_on ((subst PausedAs e h).0 (subst (λ x. IsKindOf x class) is k)))
 
     -- an object is offered to a call that wants one, by what an offer does
-    pub offered_on : (x : Serving X V) (p : Pause) (class : List ℕ) (kind : embed.Kind) → p ≡ pause.Wants class → is_class kind class ≡ true → PausedAs p
-        → ((began : Turn) (ub u hb h : Option (List ℕ)) (c : List ℕ) → IsWaiting content w is_made began ub u hb h c → MayOffer is_made kind c → IsUnderway content x is_made began ub u hb h)
-        → IsOn x later count told
-    offered_on x p class kind e is h offer = record {
-      came = s.came;
-      links = s.links;
-      left = s.left;
-      served = s.served;
-      few = s.few;
-      behind = s.behind;
-      on = offer (link_begun s.left) (remaining s.came.reader) (remaining later.reader) (contents s.came.writer) (contents later.writer) class
-          ((subst PausedAs e h).1) (λ n. absurd (true_false (sym is ∙ n)));
-    }
+    pub offered_on : {A E : Type 0} (x y : Serving X V) (offered done : Result A E) (a : A) (p : Pause) (class : List ℕ) (kind : embed.Kind) → y ≡ x → IsStarted x → offered ≡ done → offered ≡ Ok a
+        → p ≡ pause.Wants class → is_class kind class ≡ true → PausedAs p
+        → ((began : Turn) (ub u hb h : Option (List ℕ)) (c : List ℕ) → IsWaiting content w is_made began ub u hb h c → MayOffer is_made kind c → OnOk done (IsUnderway content x is_made began ub u hb h))
+        → Stays y
+    offered_on x y offered done a p class kind same started e ok is of h offer =
+        subst Stays (sym same) (
+          started,
+          s.few,
+          record {
+            came = s.came;
+            links = s.links;
+            left = s.left;
+            served = s.served;
+            few = s.few;
+            behind = s.behind;
+            on = subst (λ r. OnOk r (IsUnderway content x is_made (link_begun s.left) (remaining s.came.reader) (remaining later.reader) (contents s.came.writer) (contents later.writer))) (sym e ∙ ok)
+                (offer (link_begun s.left) (remaining s.came.reader) (remaining later.reader) (contents s.came.writer) (contents later.writer) class
+                ((subst PausedAs is h).1) (λ n. absurd (true_false (sym of ∙ n))));
+          },
+        )
 
     -- It is over. Behind its closing the next one came, or none.
     abbrev closed : (end : End) → PausedAs (pause.Over end) → Leaves content w is_made (link_begun s.left) (remaining s.came.reader) (remaining later.reader) (contents s.came.writer) (contents later.writer) end
@@ -196,3 +194,13 @@ module _ {X : Type 0} {V : X → Type 0} (content : Seat X V → Content) {R W :
           (subst (λ k. Served remaining contents begun before (Closed later ∷ told) k (closed end (subst PausedAs e h)).left) (most n.0) (one end (subst PausedAs e h))),
     )
     stopped p end Long now e h n = absurd n
+
+  -- it goes on and on, and was closed
+  pub long_stopped : (v : Serving X V) (link : Link R W) (count : ℕ) (told now : List (Event R W)) → IsOn v link count told → now ≡ Closed link ∷ told → HasStopped Long remaining contents begun before now
+  long_stopped v link count told now s e =
+      let u = s.on in
+      closed_so v v link link count told s GoesOn now e (
+        left_as (IsAt content v) (λ now. AreFirst) is_made (link_begun s.left) (remaining s.came.reader) (remaining link.reader) (contents s.came.writer) (contents link.writer) u.served
+            (first v.decoder u.served.fed u.served.taken u.served.at.read),
+        omega (arith, u.counted, u.more),
+      )

@@ -1,13 +1,10 @@
 -- What a server makes of one link after another.
-use Rattle.std.specs.Prelude.{◌≡◌, ◌+◌, ◌<◌, ◌≤◌, ◌||◌, ℕ, Bool, true, false, List, ◌∷◌, ◌++◌, Option, Some, None, Result, Ok, Err}
-use Rattle.std.specs.List.{AllByRecursion}
+use Rattle.std.specs.Prelude.{◌≡◌, ◌+◌, ◌<◌, ◌≤◌, ◌||◌, ◌⊎◌, ℕ, Bool, true, false, List, ◌∷◌, Option, Some, None, Result, Ok, Err}
 use Rattle.embed_core.specs.Kinds.{Note, Table, Drawing}
-use Rattle.message_model.specs.declared.frame.Frame.{Frame}
-use Rattle.message_model.specs.Frames.{IsFrame}
-use Rattle.message_model.specs.Spelling.{joined}
 use Rattle.server_model.specs.Server.{is_class}
-use Rattle.server_loop.specs.Links.{HasEnded, Leaving, link_begun}
+use Rattle.server_loop.specs.Links.{HasEnded, HasLacked, HasServed, Leaving, link_begun, turns_in}
 use Rattle.server_loop.specs.Turns.{Turn}
+use Rattle.server_loop.specs.View.{AreFirst, MOST_TURNS}
 use Rattle.server_loop.specs.declared.serving.End.{End}
 use Rattle.server_links.specs.Events.{Came, Closed, Event}
 use Rattle.server_links.specs.declared.kinds.Kind.{Kind}
@@ -29,12 +26,6 @@ IsKindOf kind.Other class = is_made class ≡ false
 -- the most links of a server
 abbrev pub MOST_LINKS : ℕ
 MOST_LINKS = 100
-
--- the frames that were taken are the first of what was read
-pub record AreFirst (fed : List ℕ) (taken : List Frame) : Type 0 where
-  pub rest : List ℕ
-  pub whole : fed ≡ joined taken ++ rest
-  pub each : AllByRecursion IsFrame taken
 
 -- a server is left at this turn
 abbrev pub IsLeft : Turn → Leaving
@@ -60,15 +51,33 @@ module _ {R W : Type 0} (remaining : R → Option (List ℕ)) (contents : W → 
     pub few : count < MOST_LINKS
     pub behind : told ≡ Came last ∷ links
 
-  -- The last link came, and wasn't closed.
-  abbrev pub HasCome : Type 0
-  HasCome = (link : Link R W) × HasServedFew (Some link)
+  -- Behind the links that were served, which are fewer than may be, one came that was closed before its end. The server was at a
+  -- turn as it came, and what was read and written of it until it was closed is so.
+  pub record HasServedPart (Part : Turn → (unread_before unread held_before held : Option (List ℕ)) → Type 0) : Type 0 where
+    pub links : List (Event R W)
+    pub count : ℕ
+    pub left : Turn
+    pub served : Served remaining contents first before links count left
+    pub few : count < MOST_LINKS
+    pub came : Link R W
+    pub closed : Link R W
+    pub behind : told ≡ Closed closed ∷ Came (Some came) ∷ links
+    pub part : Part (link_begun left) (remaining came.reader) (remaining closed.reader) (contents came.writer) (contents closed.writer)
 
--- Why a server serves no other link: none came; it served the most; the last one goes on.
+  -- Where memory was wanted: no link was asked for yet; or the last one was closed where memory was wanted on it.
+  abbrev pub HasWanted : Type 0
+  HasWanted = (told ≡ before) ⊎ HasServedPart (HasLacked is_made)
+
+-- A link goes on, of which these frames were served.
+abbrev pub GoesOn : Turn → (unread_before unread held_before held : Option (List ℕ)) → Type 0
+GoesOn began unread_before unread held_before held =
+    (s : HasServed (λ now. AreFirst) is_made began unread_before unread held_before held) × (turns_in s.taken < MOST_TURNS)
+
+-- Why a server serves no other link: none came; it served the most; the last one, which was closed, goes on and on.
 abbrev pub HasStopped : Stop → {R W : Type 0} (remaining : R → Option (List ℕ)) (contents : W → Option (List ℕ)) (first : Turn) (before told : List (Event R W)) → Type 0
 HasStopped NoLink remaining contents first before told = HasServedFew remaining contents first before told None
 HasStopped MostLinks remaining contents first before told = (left : Turn) × Served remaining contents first before told MOST_LINKS left
-HasStopped Long remaining contents first before told = HasCome remaining contents first before told
+HasStopped Long remaining contents first before told = HasServedPart remaining contents first before told GoesOn
 
 -- The next link, behind so many that were served: one that came, or none did, or the most were served and none was asked for.
 abbrev pub IsNext : {R W : Type 0} → Result (Link R W) Stop → (count : ℕ) → (before told : List (Event R W)) → Type 0

@@ -1,9 +1,9 @@
 //! A server over one link after another.
 
 ghost use Rattle.server_links.specs.Events.{Closed};
-ghost use Rattle.server_links.specs.Served.{HasStopped, IsNext};
+ghost use Rattle.server_links.specs.Served.{HasStopped, HasWanted, IsNext};
 ghost use Rattle.server_loop.specs.Turns.{first_turn};
-ghost use Rattle.std.specs.Prelude.{◌∷◌, IfOk};
+ghost use Rattle.std.specs.Prelude.{◌∷◌, IfOk, OnErr};
 
 use crate::kinds::{Kind, kind_of_class, new_drawing, new_note, new_table};
 use crate::links::{Link, Links};
@@ -47,9 +47,10 @@ fn next_link<L: Links>(
 
 /// Is the server of this incarnation, which may have so many activations, and each so many writes: serves one link after
 /// another, until no other one comes. A call that wants a note, a table or a drawing gets a new one; one that wants another
-/// object is passed over. A link that is over is closed before the next one is asked for.
+/// object is passed over. A link that came is closed on every way out, and before the next one is asked for.
 ///
-/// Refused for want of memory alone.
+/// Refused for want of memory alone: before a link was asked for, or on the last one. The links before that one were served to
+/// their ends, and nothing was written on it of the frame that memory was wanted for.
 pub fn serve_links<L: Links>(
     alloc: Global,
     tally: &Tally,
@@ -57,7 +58,8 @@ pub fn serve_links<L: Links>(
     inc: u32,
     numbers: u32,
 ) -> Result<Stop, AllocError>
-    ensures { IfOk result (λ stop. HasStopped stop L.Reader.remaining L.Writer.contents (first_turn inc numbers) (L.told links.old) (L.told links.new)) }
+    ensures stopped { IfOk result (λ stop. HasStopped stop L.Reader.remaining L.Writer.contents (first_turn inc numbers) (L.told links.old) (L.told links.new)) }
+    ensures wanting { OnErr result (HasWanted L.Reader.remaining L.Writer.contents (first_turn inc numbers) (L.told links.old) (L.told links.new)) }
 {
     let mut serving = Serving::new(alloc);
     serving.start(alloc, inc, numbers)?;
@@ -66,23 +68,36 @@ pub fn serve_links<L: Links>(
     };
     let mut served = 0;
     for _ in 0..u64::MAX {
-        let pause = serve_link(alloc, &mut serving, &mut link.reader, &mut link.writer)?;
+        let pause = match serve_link(alloc, &mut serving, &mut link.reader, &mut link.writer) {
+            Ok(pause) => pause,
+            Err(error) => {
+                links.close(link);
+                return Err(error);
+            }
+        };
         match pause {
-            Pause::Wants(class) => match kind_of_class(&class) {
-                Kind::Note => {
-                    serving.offer(alloc, new_note(alloc, tally)?)?;
-                    continue;
+            Pause::Wants(class) => {
+                let offered = match kind_of_class(&class) {
+                    Kind::Note => match new_note(alloc, tally) {
+                        Ok(note) => serving.offer(alloc, note),
+                        Err(error) => Err(error),
+                    },
+                    Kind::Table => match new_table(alloc, tally) {
+                        Ok(table) => serving.offer(alloc, table),
+                        Err(error) => Err(error),
+                    },
+                    Kind::Drawing => match new_drawing(alloc, tally) {
+                        Ok(drawing) => serving.offer(alloc, drawing),
+                        Err(error) => Err(error),
+                    },
+                    Kind::Other => Ok(()),
+                };
+                if let Err(error) = offered {
+                    links.close(link);
+                    return Err(error);
                 }
-                Kind::Table => {
-                    serving.offer(alloc, new_table(alloc, tally)?)?;
-                    continue;
-                }
-                Kind::Drawing => {
-                    serving.offer(alloc, new_drawing(alloc, tally)?)?;
-                    continue;
-                }
-                Kind::Other => continue,
-            },
+                continue;
+            }
             Pause::Long => continue,
             Pause::Over(_) => {}
         }
@@ -93,5 +108,6 @@ pub fn serve_links<L: Links>(
             Err(stop) => return Ok(stop),
         }
     }
+    links.close(link);
     Ok(Stop::Long)
 }

@@ -1,3 +1,4 @@
+pub mod Lacking
 pub mod Linked
 mod Noted
 mod Parts

@@ -11,7 +11,7 @@ use Rattle.message_model.specs.Frames.{Reads}
 use Rattle.server_model.specs.Server.{is_class, wanted}
 use Rattle.server_core.specs.declared.server.Seat.{Seat}
 use Rattle.server_loop.specs.Turns.{Turn, given, met, turned}
-use Rattle.server_loop.specs.View.{AppendsFront, IsAt, MOST_READS, MOST_TURNS}
+use Rattle.server_loop.specs.View.{AppendsFront, AreFirst, IsAt, MOST_READS, MOST_TURNS}
 use Rattle.server_loop.specs.declared.serving.Advance.{Advance}
 use Rattle.server_loop.specs.declared.serving.Advance.TheVariants as advance
 use Rattle.server_loop.specs.declared.serving.Serving.{Serving}
@@ -105,6 +105,19 @@ HasEnded Closed Left made began unread_before unread held_before held =
 HasEnded Unwritten Left made began unread_before unread held_before held = IsUnwritten Left made began unread_before unread held_before held
 HasEnded LastTurn Left made began unread_before unread held_before held =
     (s : HasServed Left made began unread_before unread held_before held) × (turns_in s.taken ≡ MOST_TURNS)
+
+-- For what memory was wanted: for the frame that comes next, or for a piece that was read, as no frame was whole.
+pub data LacksAt (fed : List ℕ) (taken : List Frame) : Type 0 where
+  for_frame : (f : Frame) → AreFirst fed (taken ++ f ∷ []) → LacksAt fed taken
+  for_piece : (before piece : List ℕ) → fed ≡ before ++ piece → Reads before taken None → LacksAt fed taken
+
+abbrev pub Lacking : Leaving
+Lacking now fed taken = LacksAt fed taken
+
+-- Memory was wanted on a link: the frames before were served, and nothing was written of the one that memory was wanted for.
+abbrev pub HasLacked : (made : List ℕ → Bool) → Turn → (unread_before unread held_before held : Option (List ℕ)) → Type 0
+HasLacked made began unread_before unread held_before held =
+    (s : HasServed Lacking made began unread_before unread held_before held) × (turns_in s.taken < MOST_TURNS)
 
 -- `content` says what the object in a seat contains.
 module _ {X : Type 0} {V : X → Type 0} (content : Seat X V → Content) where

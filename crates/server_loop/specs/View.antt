@@ -1,12 +1,14 @@
 -- A server on a link, as it is seen.
 use Rattle.std.specs.Prelude.{◌≡◌, ◌+◌, ◌<◌, ◌≤◌, ℕ, List, [], ◌∷◌, ◌++◌, Option, Some, None, length, map, take}
 use Rattle.std.specs.Io.KnownBytes.{Appends, Consumes, IsAtEnd, Keeps}
+use Rattle.std.specs.List.{AllByRecursion}
 use Rattle.embed_core.specs.Content.{Content}
 use Rattle.wire_msgs.specs.declared.message.Message.{Message}
 use Rattle.message_model.specs.declared.fault.WireFault.{WireFault}
 use Rattle.message_model.specs.declared.frame.Frame.{Frame}
 use Rattle.message_model.specs.declared.frame.Frame.TheVariants as frame
-use Rattle.message_model.specs.Frames.{Reads}
+use Rattle.message_model.specs.Frames.{IsFrame, Reads}
+use Rattle.message_model.specs.Spelling.{joined}
 use Rattle.message_bytes.specs.Fronts.{Stands}
 use Rattle.server_model.specs.Server.{Server, wanted}
 use Rattle.server_core.specs.View.{seen}
@@ -80,6 +82,18 @@ LeavesWriter (Over Closed) before after = after ≡ before
 LeavesWriter Turned before after = Unit {0}
 LeavesWriter (Over Unwritten) before after = Unit {0}
 LeavesWriter (Over LastTurn) before after = Unit {0}
+
+-- These frames are the first of what was read.
+pub record AreFirst (fed : List ℕ) (frames : List Frame) : Type 0 where
+  pub rest : List ℕ
+  pub whole : fed ≡ joined frames ++ rest
+  pub each : AllByRecursion IsFrame frames
+
+-- Memory was wanted in a step: for the frame that came next, and nothing was read; or for a piece that was read, as no frame was
+-- whole.
+pub data Lacks (fed : List ℕ) (taken : List Frame) (before after : Option (List ℕ)) : Type 0 where
+  for_frame : (f : Frame) → AreFirst fed (taken ++ f ∷ []) → after ≡ before → Lacks fed taken before after
+  for_piece : (piece : List ℕ) → Reads fed taken None → Consumes before after piece → Lacks fed taken before after
 
 -- `content` says what the object in a seat contains.
 module _ {X : Type 0} {V : X → Type 0} (content : Seat X V → Content) where

@@ -1,9 +1,9 @@
 //! A link of a server, from one pause to the next.
 
-ghost use Rattle.server_loop.specs.Links.{IsUnderway, Pauses, pause_of};
+ghost use Rattle.server_loop.specs.Links.{HasLacked, IsUnderway, Pauses, pause_of};
 ghost use Rattle.server_loop.specs.Turns.{Turn};
 ghost use Rattle.server_loop.specs.View.{IsStarted};
-ghost use Rattle.std.specs.Prelude.{◌≡◌, ℕ, List, Bool, IfOk, Option};
+ghost use Rattle.std.specs.Prelude.{◌≡◌, ℕ, List, Bool, IfOk, OnErr, Option};
 
 use crate::serving::{Advance, End, Serving};
 use embed_core::embedded::Embedded;
@@ -38,7 +38,8 @@ fn pause_of(advance: &Advance) -> Option<Pause>
 /// Serves a link until it is over, or wants an object. All that was written on it since it began are the answers to the frames
 /// that were taken since then, in order.
 ///
-/// Refused for want of memory alone.
+/// Refused for want of memory alone. The frames before the one that memory was wanted for were served, and nothing of that one was
+/// written. The link can't be gone on with then.
 pub fn serve_link<R: Read, W: Write>(
     alloc: Global,
     serving: &mut Serving,
@@ -49,6 +50,8 @@ pub fn serve_link<R: Read, W: Write>(
     ensures started { IsStarted serving.new }
     ensures served { (made : List ℕ → Bool) (began : Turn) (unread held : Option (List ℕ)) → IsUnderway (λ s. (⟦<dyn Embedded as Embedded>⟧ s.boxed.vtable).content s.boxed.value) serving.old made began unread (R.remaining reader.old) held (W.contents writer.old)
         → IfOk result (λ told. Pauses (λ s. (⟦<dyn Embedded as Embedded>⟧ s.boxed.vtable).content s.boxed.value) told serving.new made began unread (R.remaining reader.new) held (W.contents writer.new)) }
+    ensures lacking { (made : List ℕ → Bool) (began : Turn) (unread held : Option (List ℕ)) → IsUnderway (λ s. (⟦<dyn Embedded as Embedded>⟧ s.boxed.vtable).content s.boxed.value) serving.old made began unread (R.remaining reader.old) held (W.contents writer.old)
+        → OnErr result (HasLacked made began unread (R.remaining reader.new) held (W.contents writer.new)) }
 {
     for _ in 0..u64::MAX {
         let advance = serving.advance(alloc, reader, writer)?;

@@ -8,9 +8,10 @@ ghost use Rattle.message_model.specs.Frames.{Reads};
 ghost use Rattle.server_core.specs.View.{seen};
 ghost use Rattle.server_loop.specs.Links.{IsUnderway, IsWaiting, MayOffer, link_begun};
 ghost use Rattle.server_loop.specs.Turns.{Turn, edited_by, first_turn, given, met, noted, noted_done, scribbled_all, sent, turned, written};
-ghost use Rattle.server_loop.specs.View.{Advances, Counts, IsAt, IsIn, IsNew, IsStarted, LeavesReader, LeavesWriter, servers_of};
+ghost use Rattle.server_loop.specs.View.{Advances, Counts, IsAt, IsIn, IsNew, IsStarted, Lacks, LeavesReader, LeavesWriter, servers_of};
 ghost use Rattle.server_model.specs.Server.{Server, scribble, wanted};
-ghost use Rattle.std.specs.Prelude.{◌≡◌, ◌<◌, ◌+◌, ◌++◌, ◌∷◌, ℕ, List, [], Bool, IfOk, OnOk, Option, Some, None, length, nat_eq, option_map, vec_capacity, vec_len};
+ghost use Rattle.std.specs.Io.KnownBytes.{Consumes};
+ghost use Rattle.std.specs.Prelude.{◌≡◌, ◌<◌, ◌+◌, ◌++◌, ◌∷◌, ℕ, List, [], Bool, IfOk, OnErr, OnOk, Option, Some, None, length, nat_eq, option_map, vec_capacity, vec_len};
 ghost use Rattle.wire_msgs.specs.declared.message.Message.{Message};
 
 use crate::fronts::write_front;
@@ -368,6 +369,7 @@ impl Serving {
         ensures turned { (t : Turn) (fed : List ℕ) (taken : List Frame) (unread_before unread : Option (List ℕ)) → IsIn (λ s. (⟦<dyn Embedded as Embedded>⟧ s.boxed.vtable).content s.boxed.value) self.old t → Stands self.old.decoder fed (taken ++ frame.Turn ∷ [])
             → IfOk result (λ told. Advances (λ s. (⟦<dyn Embedded as Embedded>⟧ s.boxed.vtable).content s.boxed.value) told self.new t fed taken unread_before unread (W.contents writer.old) (W.contents writer.new)) }
         ensures leaves { IfOk result (λ told. LeavesWriter told writer.old writer.new) }
+        ensures unwritten { OnErr result (writer.new ≡ writer.old) }
     {
         self.close_turn(alloc)?;
         let is_written = write_front(writer, &self.out);
@@ -391,6 +393,7 @@ impl Serving {
         ensures leaves { IfOk result (λ told. LeavesReader told reader.old reader.new) }
         ensures read { (t : Turn) (fed : List ℕ) (taken : List Frame) (held_before held : Option (List ℕ)) → IsAt (λ s. (⟦<dyn Embedded as Embedded>⟧ s.boxed.vtable).content s.boxed.value) self.old t fed taken → Reads fed taken None
             → IfOk result (λ told. Advances (λ s. (⟦<dyn Embedded as Embedded>⟧ s.boxed.vtable).content s.boxed.value) told self.new t fed taken (R.remaining reader.old) (R.remaining reader.new) held_before held) }
+        ensures lacking { OnErr result ((piece : List ℕ) × Consumes (R.remaining reader.old) (R.remaining reader.new) piece) }
     {
         if self.reads >= MOST_READS {
             return Ok(Advance::Over(End::LastRead));
@@ -418,7 +421,8 @@ impl Serving {
     /// The link is over where a read or the write of a turn fails, where nothing more comes, at its 1,000th Turn, at the
     /// 1,000,001st read of a turn, which isn't made, and where what came shows a fault, which stays unanswered.
     ///
-    /// Refused for want of memory alone.
+    /// Refused for want of memory alone, for the frame that came next or for a piece that was read. Nothing was written then, and the
+    /// link can't be gone on with: that frame, or that piece, is lost.
     pub fn advance<R: Read, W: Write>(
         &mut self,
         alloc: Global,
@@ -432,6 +436,9 @@ impl Serving {
         ensures leaves_writer { IfOk result (λ told. LeavesWriter told writer.old writer.new) }
         ensures advanced { (t : Turn) (fed : List ℕ) (taken : List Frame) → IsAt (λ s. (⟦<dyn Embedded as Embedded>⟧ s.boxed.vtable).content s.boxed.value) self.old t fed taken
             → IfOk result (λ told. Advances (λ s. (⟦<dyn Embedded as Embedded>⟧ s.boxed.vtable).content s.boxed.value) told self.new t fed taken (R.remaining reader.old) (R.remaining reader.new) (W.contents writer.old) (W.contents writer.new)) }
+        ensures unwritten { OnErr result (writer.new ≡ writer.old) }
+        ensures lacking { (t : Turn) (fed : List ℕ) (taken : List Frame) → IsAt (λ s. (⟦<dyn Embedded as Embedded>⟧ s.boxed.vtable).content s.boxed.value) self.old t fed taken
+            → OnErr result (Lacks fed taken (R.remaining reader.old) (R.remaining reader.new)) }
     {
         self.wanting = None;
         match self.decoder.next() {

@@ -1,4 +1,5 @@
-use Rattle.std.proofs.Common.{sym, arith}
+use Rattle.std.proofs.Common.{ap, sym, arith}
+use Rattle.server_loop.proofs.Lacking.{err_any, lacked}
 use Rattle.server_loop.proofs.Linked.{comes_to, far, far_long, goes_on, stepped}
 use Rattle.server_loop.proofs.link.serve_link.Goals as goal
 
@@ -27,3 +28,10 @@ pub returns-clause-served : goal.returns-clause-served
 returns-clause-served g c = λ made began unread held h.
     let s = c.loop.invariant.1 made began unread held h in
     (s.0, far_long s.0.served.taken c.loop.serving.turns c.loop.serving.reads c.loop.counter s.0.more s.0.reads (omega (arith, c.loop-test.false)) s.1)
+
+pub returns-in_err-advance-clause-lacking : goal.returns-in_err-advance-clause-lacking
+returns-in_err-advance-clause-lacking g c = λ made began unread held h.
+    let told = c.in_err-advance.ensures in
+    let s = (c.loop.invariant.1 made began unread held h).0 in
+    err_any c.from_residual.result (lacked _ made c.loop.serving began unread _ held _ _ _ s (ap g.W.Write.contents told.unwritten)
+    (told.lacking s.served.now s.served.fed s.served.taken s.served.at))

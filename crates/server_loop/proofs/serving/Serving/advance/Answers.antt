@@ -1,5 +1,6 @@
 use Rattle.std.proofs.Common.{Some, ap, ◌∙◌}
 use Rattle.message_bytes.proofs.Leaving.{on_ok}
+use Rattle.server_loop.proofs.Lacking.{lacks_frame, lacks_piece}
 use Rattle.server_loop.proofs.Served.{handed_none, handed_out, reader_same, writer_same}
 use Rattle.server_loop.proofs.serving.Serving.advance.Goals as goal
 
@@ -27,3 +28,17 @@ pub returns-in-Ok-None-clause-advanced : goal.returns-in-Ok-None-clause-advanced
 returns-in-Ok-None-clause-advanced g c = λ t fed taken h.
     let none = handed_none c.in-Ok-None.field-0 fed taken c.next.new.self c.in-Ok-None.field-0-is (c.in-Ok-None.ensures fed taken h.read) in
     c.read.ensures.read t fed taken _ _ (record { turn = record { server = h.turn.server; out = h.turn.out; edited = h.turn.edited }; read = none.0 }) none.1
+
+pub returns-in-Ok-Some-Message-clause-lacking : goal.returns-in-Ok-Some-Message-clause-lacking
+returns-in-Ok-Some-Message-clause-lacking g c = λ t fed taken h.
+    lacks_frame c.meet.result c.in-Ok-Some-Message.field-0 _ fed taken c.next.new.self _ (c.in-Ok-Some-Message.field-0-is ∙ ap (λ f. Some f) c.in-Ok-Some-Message.field-0-0-is)
+    (c.in-Ok-Some-Message.ensures fed taken h.read)
+
+pub returns-in-Ok-Some-Turn-clause-lacking : goal.returns-in-Ok-Some-Turn-clause-lacking
+returns-in-Ok-Some-Turn-clause-lacking g c = λ t fed taken h.
+    lacks_frame c.give_turn.result c.in-Ok-Some-Turn.field-0 _ fed taken c.next.new.self _ (c.in-Ok-Some-Turn.field-0-is ∙ ap (λ f. Some f) c.in-Ok-Some-Turn.field-0-0-is)
+    (c.in-Ok-Some-Turn.ensures fed taken h.read)
+
+pub returns-in-Ok-None-clause-lacking : goal.returns-in-Ok-None-clause-lacking
+returns-in-Ok-None-clause-lacking g c = λ t fed taken h.
+    lacks_piece c.read.result fed taken _ _ (handed_none c.in-Ok-None.field-0 fed taken c.next.new.self c.in-Ok-None.field-0-is (c.in-Ok-None.ensures fed taken h.read)).1 c.read.ensures.lacking
