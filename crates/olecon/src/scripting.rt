@@ -1,7 +1,7 @@
 //! Scripts of a container, whose servers are child processes.
 
 use file_program::ends::refuse;
-use script_run::fault::ScriptFault;
+use script_links::fault::ScriptFault;
 use script_run::script::run_script;
 use std::fs::File;
 use std::net::Net;

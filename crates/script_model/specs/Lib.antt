@@ -2,6 +2,7 @@ pub mod Events
 pub mod Containers
 pub mod Turns
 pub mod Bounds
+pub mod Orders
 pub mod Saved
 pub mod Origins
 pub mod Answers

@@ -1,5 +1,5 @@
 -- What a history says of files: which disk stands behind each commit that the container counts, and behind each file that is opened.
-use Rattle.std.specs.Prelude.{◌≡◌, ◌⊎◌, ℕ, Bool, true, false, List, [], ◌∷◌, Option, Some, None, Ok}
+use Rattle.std.specs.Prelude.{◌≡◌, ◌⊎◌, ℕ, Bool, true, false, List, [], ◌∷◌, Option, Some, None, Ok, Err}
 use Rattle.file_model.specs.Denotes.{Denotes}
 use Rattle.document_model.specs.DocOf.{DocOf}
 use Rattle.document_model.specs.declared.object.DocObject.{DocObject}
@@ -13,6 +13,7 @@ use Rattle.container_model.specs.declared.record.Frame.{Frame}
 use Rattle.container_model.specs.Opens.{Given, IsReadAs}
 use Rattle.container_model.specs.Record.{Record}
 use Rattle.container_model.specs.Saves.{document, document_tree, image}
+use Rattle.container_model.specs.declared.fault.ContainerFault.TheVariants.{Full}
 use Rattle.script_model.specs.declared.step.Step.{Step}
 use Rattle.script_model.specs.declared.step.Step.TheVariants as step
 use Rattle.script_model.specs.Containers.{record_of}
@@ -41,6 +42,12 @@ IsAsGivenOr disks given bytes c = IsAsGiven disks given c ⊎ StandsFor bytes c
 pub record IsSavedOn {D : Type 0} (disks : Disks D) (given : D) (bytes : List ℕ) (disk : D) : Type 0 where
   pub since : IsSince disks given disk (IsAsGivenOr disks given bytes)
   pub durable : IsDurable disks disk bytes
+
+-- These bytes weren't saved on a disk that was given: a crash since then leaves what stands for what the disk as it was given
+-- might have stood for, or for these bytes, and a crash now leaves what stands for the first alone.
+pub record IsLostOn {D : Type 0} (disks : Disks D) (given : D) (bytes : List ℕ) (disk : D) : Type 0 where
+  pub since : IsSince disks given disk (IsAsGivenOr disks given bytes)
+  pub stays : (c : Image) → disks.may_leave disk c → IsAsGiven disks given c
 
 -- These bytes were read of a disk that was given: it stood for them then, a crash since then leaves what stands for what the
 -- disk as it was given might have stood for, and a crash now leaves what stands for these bytes.
@@ -86,18 +93,38 @@ pub record IsSaved {D : Type 0} (disks : Disks D) (es : List (Event D)) (f : ℕ
   pub shut : IsShutWith disks es name bytes
   pub file : IsFileOf (record_of es) f name bytes
 
+-- The last call gave a disk back under this name, the call before it had given this disk under the same name, and in between these
+-- bytes were to be saved on it and weren't.
+pub record IsShutWithout {D : Type 0} (disks : Disks D) (es : List (Event D)) (name bytes : List ℕ) : Type 0 where
+  pub given : D
+  pub disk : D
+  pub before : List (Event D)
+  pub last : es ≡ Shut name disk ∷ Opened name (Some given) ∷ before
+  pub lost : IsLostOn disks given bytes disk
+
+-- The last call gave a disk back on which the file of a frame was to be saved and wasn't.
+pub record IsLeft {D : Type 0} (disks : Disks D) (es : List (Event D)) (f : ℕ) : Type 0 where
+  pub name : List ℕ
+  pub bytes : List ℕ
+  pub shut : IsShutWithout disks es name bytes
+  pub file : IsFileOf (record_of es) f name bytes
+
+-- The commit of a frame's file failed: no file can hold its document, or it wasn't saved.
+abbrev pub IsLost : {D : Type 0} (disks : Disks D) → List (Event D) → ℕ → Type 0
+IsLost disks es f = (image (record_of es) f ≡ Err Full) ⊎ IsLeft disks es f
+
 abbrev pub KeptIsSaved : {D : Type 0} (disks : Disks D) → Bool → List (Event D) → ℕ → Type 0
 KeptIsSaved disks true es f = IsSaved disks es f
 KeptIsSaved disks false es f = Unit {0}
 
--- a step that counts a commit, behind these calls
+-- a step that counts a commit, or tells that one failed, behind these calls
 abbrev pub CountsSaved : {D : Type 0} (disks : Disks D) → Step → List (Event D) → Type 0
 CountsSaved disks (step.Begins n) es = Unit {0}
 CountsSaved disks (step.Command c) es = Unit {0}
 CountsSaved disks (step.Message inc m) es = Unit {0}
 CountsSaved disks (step.Reap inc) es = Unit {0}
 CountsSaved disks (step.Committed f) es = IsSaved disks es f
-CountsSaved disks (step.Failed f) es = Unit {0}
+CountsSaved disks (step.Failed f) es = IsLost disks es f
 CountsSaved disks (step.Resolved f is_kept) es = KeptIsSaved disks is_kept es f
 CountsSaved disks (step.Open name w h objects) es = Unit {0}
 CountsSaved disks step.NoMemory es = Unit {0}
@@ -147,7 +174,9 @@ OfEachStep P (Found name disk ∷ es) = OfEachStep P es
 OfEachStep P (Shut name disk ∷ es) = OfEachStep P es
 
 -- Each commit that the container counts stands directly behind the giving back of the disk that the host gave under the
--- frame's name directly before, and which then holds the frame's file, whatever a crash leaves of it.
+-- frame's name directly before, and which then holds the frame's file, whatever a crash leaves of it. Each that fails stands
+-- directly behind the giving back of such a disk, which then holds what it held as it was given, whatever a crash leaves of it,
+-- or no file can hold its document.
 abbrev pub AreSaved : {D : Type 0} (disks : Disks D) → List (Event D) → Type 0
 AreSaved disks es = OfEachStep (CountsSaved disks) es
 

@@ -10,7 +10,7 @@ use Rattle.script_model.specs.declared.step.Step.TheVariants as step
 use Rattle.script_model.specs.Events.{Event, Started, Connected, Sent, Heard, Ended, Opened, Found, Shut, Stepped}
 use Rattle.script_model.specs.Origins.{AreFirst, AreHeard, AreNext, Begins, Passed, fresh, giving, hearing, messages_of, passed, relinked, unlinked}
 use Rattle.script_run.specs.Came.{MessagesAreThoseThatCame}
-use Rattle.script_run.proofs.Served.{append_none, messages_both}
+use Rattle.script_links.proofs.Served.{append_none, messages_both}
 
 -- ---- what keeps the messages that came
 

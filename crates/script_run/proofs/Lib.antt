@@ -1,8 +1,3 @@
 pub mod Again
 pub mod Came
-pub mod Given
-pub mod Kept
-pub mod Opened
-pub mod Paces
-pub mod Saved
-pub mod Served
+pub mod Carried

@@ -1,5 +1,3 @@
 pub mod Again
 pub mod Came
-pub mod Links
-pub mod Ready
-pub mod Told
+pub mod Carried

@@ -3,23 +3,25 @@
 ghost use Rattle.container_model.specs.Record.{Record};
 ghost use Rattle.script_model.specs.Bounds.{linking, pace, resting};
 ghost use Rattle.script_model.specs.Events.{running};
+ghost use Rattle.script_model.specs.Orders.{behind_command, orders};
 ghost use Rattle.script_model.specs.Origins.{AreNext, Passed, giving, passed};
-ghost use Rattle.script_run.specs.Links.{AreLinked, AreServed, EachServed, beside, links_of};
-ghost use Rattle.script_run.specs.Ready.{AreReady, MayLink, pace_beside};
-ghost use Rattle.script_run.specs.Told.{IsTold};
-ghost use Rattle.script_run.specs.declared.links.Link.{Link};
+ghost use Rattle.script_model.specs.declared.step.Step.{Step};
+ghost use Rattle.script_links.specs.Links.{AreLinked, AreServed, EachServed, beside, links_of};
+ghost use Rattle.script_links.specs.Ready.{AreReady, MayLink, pace_beside};
+ghost use Rattle.script_links.specs.Told.{IsTold};
+ghost use Rattle.script_links.specs.declared.links.Link.{Link};
 ghost use Rattle.std.specs.Prelude.{◌≡◌, ◌≤◌, ◌<◌, ◌++◌, ◌∷◌, [], false, true, IfOk, IfSome, OnOk, length, ℕ, slice_index_or, slice_set, vec_capacity, vec_len};
 
-use crate::container::command;
-use crate::fault::ScriptFault;
-use crate::links::{Link, hand_over, reconnect, send_turn};
 use crate::opens::open;
-use crate::saves::save_all;
-use crate::turns::{end_at, turns};
 use container_core::container::ContainerCore;
 use container_model::answer::{Action, Answer};
 use container_model::command::Command;
 use container_model::fault::ContainerFault;
+use script_links::container::command;
+use script_links::fault::ScriptFault;
+use script_links::links::{Link, hand_over, reconnect, send_turn};
+use script_links::saves::save_all;
+use script_links::turns::{end_at, turns};
 use script_model::answer::Told;
 use script_model::command::ScriptCommand;
 use script_model::host::Host;
@@ -70,6 +72,7 @@ fn start<H: Host>(
     ensures linked { AreLinked (H.told host.new) links.new.items }
     ensures served { AreServed (H.told host.new) links.new.items }
     ensures paced { (s : ℕ) → pace s (H.told host.new) ≡ pace s (H.told host.old) }
+    ensures ordered { orders (H.told host.new) ≡ orders (H.told host.old) }
 {
     if is_linked(links, inc) {
         return Err(ScriptFault::Link(inc));
@@ -108,6 +111,7 @@ fn end<H: Host>(
     ensures linked { AreLinked (H.told host.new) links.new.items }
     ensures served { AreServed (H.told host.new) links.new.items }
     ensures paced { (s : ℕ) → pace s (H.told host.new) ≡ pace s (H.told host.old) }
+    ensures ordered { orders (H.told host.new) ≡ orders (H.told host.old) }
 {
     match place_of(links, inc) {
         Some(place) => end_at(alloc, host, core, links, place, noticed),
@@ -131,6 +135,7 @@ fn act_on<H: Host>(
     ensures linked { AreLinked (H.told host.new) links.new.items }
     ensures served { AreServed (H.told host.new) links.new.items }
     ensures paced { (s : ℕ) → pace s (H.told host.new) ≡ pace s (H.told host.old) }
+    ensures ordered { orders (H.told host.new) ≡ orders (H.told host.old) }
 {
     match action {
         Action::Start(inc) => start(alloc, host, core, links, *inc),
@@ -155,6 +160,7 @@ fn act<H: Host>(
     ensures linked { AreLinked (H.told host.new) links.new.items }
     ensures served { AreServed (H.told host.new) links.new.items }
     ensures paced { (s : ℕ) → pace s (H.told host.new) ≡ pace s (H.told host.old) }
+    ensures ordered { orders (H.told host.new) ≡ orders (H.told host.old) }
 {
     for action in answer.actions.as_slice() {
         act_on(alloc, host, core, links, action, noticed)?;
@@ -178,6 +184,7 @@ fn order<H: Host>(
     ensures linked { AreLinked (H.told host.new) links.new.items }
     ensures served { AreServed (H.told host.new) links.new.items }
     ensures paced { (s : ℕ) → pace s (H.told host.new) ≡ pace s (H.told host.old) }
+    ensures ordered { orders (H.told host.new) ≡ Step.Command ordered ∷ orders (H.told host.old) }
 {
     match command(alloc, host, core, ordered) {
         Ok(answer) => {
@@ -207,6 +214,7 @@ fn cut<H: Host>(
     ensures linked { AreLinked (H.told host.new) links.new.items }
     ensures served { AreServed (H.told host.new) links.new.items }
     ensures ready { OnOk result (AreReady 1 (H.told host.new) links.new.items) }
+    ensures ordered { orders (H.told host.new) ≡ orders (H.told host.old) }
 {
     let inc = links[place].inc;
     send_turn(alloc, host, core, inc)?;
@@ -232,6 +240,7 @@ fn hand_all<H: Host>(
     ensures apart { (s : ℕ) → beside inc s (H.told host.new) ≡ beside inc s (H.told host.old) }
     ensures given { IfOk result (λ all. all ≡ true → passed inc (H.told host.new) ≡ giving waiting (passed inc (H.told host.old))) }
     ensures paced { (s : ℕ) → pace s (H.told host.new) ≡ pace s (H.told host.old) }
+    ensures ordered { orders (H.told host.new) ≡ orders (H.told host.old) }
 {
     for taken in waiting.into_vec() {
         if !hand_over(alloc, host, core, inc, taken, noticed)? {
@@ -268,6 +277,7 @@ fn reconnect_at<H: Host>(alloc: Global, host: &mut H, links: &mut Vec<Link>, pla
     ensures same { (d : Link) → (slice_index_or links.new.items place d).inc ≡ (slice_index_or links.old.items place d).inc }
     ensures aside { (d : Link) (s : ℕ) → pace_beside (slice_index_or links.old.items place d).inc s (H.told host.new) ≡ pace_beside (slice_index_or links.old.items place d).inc s (H.told host.old) }
     ensures made { (d : Link) → pace (slice_index_or links.old.items place d).inc (H.told host.new) ≡ linking result (pace (slice_index_or links.old.items place d).inc (H.told host.old)) }
+    ensures ordered { orders (H.told host.new) ≡ orders (H.told host.old) }
 {
     reconnect(alloc, host, &mut links[place])
 }
@@ -289,6 +299,7 @@ fn release<H: Host>(
     ensures linked { AreLinked (H.told host.new) links.new.items }
     ensures served { OnOk result (AreServed (H.told host.new) links.new.items) }
     ensures paced { (s : ℕ) → pace s (H.told host.new) ≡ pace s (H.told host.old) }
+    ensures ordered { orders (H.told host.new) ≡ orders (H.told host.old) }
 {
     let inc = links[place].inc;
     let waiting = let_go(alloc, links, place);
@@ -324,6 +335,7 @@ fn at_link<H: Host>(
     ensures linked { AreLinked (H.told host.new) links.new.items }
     ensures served { OnOk result (AreServed (H.told host.new) links.new.items) }
     ensures ready { OnOk result (AreReady 1 (H.told host.new) links.new.items) }
+    ensures ordered { orders (H.told host.new) ≡ orders (H.told host.old) }
 {
     let inc = match command {
         ScriptCommand::Cut(inc) | ScriptCommand::Hold(inc) | ScriptCommand::Release(inc) => *inc,
@@ -375,6 +387,7 @@ fn begin<H: Host>(
     ensures linked { AreLinked (H.told host.new) links.new.items }
     ensures served { OnOk result (AreServed (H.told host.new) links.new.items) }
     ensures ready { OnOk result (AreReady 1 (H.told host.new) links.new.items) }
+    ensures ordered { orders (H.told host.new) ≡ behind_command command (orders (H.told host.old)) }
 {
     match command {
         ScriptCommand::Container(ordered) => order(alloc, host, core, links, ordered, noticed),
@@ -400,6 +413,7 @@ pub(crate) fn carry_out<H: Host, W: Write>(
     ensures told { IsTold ⟦<H::Disk as Disk>⟧ (H.told host.new) core.new }
     ensures linked { AreLinked (H.told host.new) links.new.items }
     ensures served { OnOk result (AreServed (H.told host.new) links.new.items) }
+    ensures ordered { orders (H.told host.new) ≡ behind_command command (orders (H.told host.old)) }
 {
     let mut noticed = None;
     let mut text = Vec::new(alloc);

@@ -2,11 +2,6 @@
 #![tactic(auto)]
 
 mod commands;
-mod container;
-pub mod fault;
 pub mod laws;
-mod links;
 mod opens;
-mod saves;
 pub mod script;
-mod turns;

@@ -4,18 +4,19 @@ ghost use Rattle.container_model.specs.Opens.{Given, IsReadAs};
 ghost use Rattle.container_model.specs.Record.{Record};
 ghost use Rattle.script_model.specs.Bounds.{pace};
 ghost use Rattle.script_model.specs.Events.{running};
+ghost use Rattle.script_model.specs.Orders.{orders};
 ghost use Rattle.script_model.specs.Origins.{passed};
 ghost use Rattle.script_model.specs.Saved.{IsReadFrom, IsReadOf};
-ghost use Rattle.script_run.specs.Told.{IsTold};
+ghost use Rattle.script_links.specs.Told.{IsTold};
 ghost use Rattle.std.specs.Prelude.{◌≡◌, ℕ, IfOk, IfSome, Some};
 
-use crate::container::opened;
-use crate::fault::ScriptFault;
 use container_core::container::ContainerCore;
 use container_documents::reading::document_in;
 use container_model::fault::ContainerFault;
 use doc_store::store::Store;
 use ole_streams::doc::Doc;
+use script_links::container::opened;
+use script_links::fault::ScriptFault;
 use script_model::answer::Told;
 use script_model::host::Host;
 use script_texts::answers::opened_by;
@@ -44,6 +45,7 @@ fn read<H: Host>(alloc: Global, host: &mut H, name: &[u8]) -> Result<Option<Vec<
     ensures quiet { (s : ℕ) → passed s (H.told host.new) ≡ passed s (H.told host.old) }
     ensures paced { (s : ℕ) → pace s (H.told host.new) ≡ pace s (H.told host.old) }
     ensures read { H.Disk.follows_model → IfOk result (λ found. IfSome found (λ file. IsReadFrom ⟦<H::Disk as Disk>⟧ (H.told host.new) name.now file.items)) }
+    ensures ordered { orders (H.told host.new) ≡ orders (H.told host.old) }
 {
     match host.find(name) {
         Ok(Some(disk)) => {
@@ -77,6 +79,7 @@ fn make_frame<H: Host>(
     ensures still { (s : ℕ) → running s (H.told host.new) ≡ running s (H.told host.old) }
     ensures quiet { (s : ℕ) → passed s (H.told host.new) ≡ passed s (H.told host.old) }
     ensures paced { (s : ℕ) → pace s (H.told host.new) ≡ pace s (H.told host.old) }
+    ensures ordered { orders (H.told host.new) ≡ orders (H.told host.old) }
 {
     match opened(alloc, host, core, name, width, height, document, file) {
         Ok(answer) => Ok(opened_by(&answer)),
@@ -101,6 +104,7 @@ fn open_found<H: Host>(
     ensures still { (s : ℕ) → running s (H.told host.new) ≡ running s (H.told host.old) }
     ensures quiet { (s : ℕ) → passed s (H.told host.new) ≡ passed s (H.told host.old) }
     ensures paced { (s : ℕ) → pace s (H.told host.new) ≡ pace s (H.told host.old) }
+    ensures ordered { orders (H.told host.new) ≡ orders (H.told host.old) }
 {
     match document_in(alloc, file) {
         Ok(Some(document)) => make_frame(alloc, host, core, name, width, height, document, file),
@@ -127,6 +131,7 @@ pub(crate) fn open<H: Host>(
     ensures still { (s : ℕ) → running s (H.told host.new) ≡ running s (H.told host.old) }
     ensures quiet { (s : ℕ) → passed s (H.told host.new) ≡ passed s (H.told host.old) }
     ensures paced { (s : ℕ) → pace s (H.told host.new) ≡ pace s (H.told host.old) }
+    ensures ordered { orders (H.told host.new) ≡ orders (H.told host.old) }
 {
     match core.may_open(name.as_slice(), width, height) {
         Ok(()) => {}

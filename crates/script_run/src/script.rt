@@ -3,18 +3,21 @@
 ghost use Rattle.container_model.specs.Record.{Record};
 ghost use Rattle.script_model.specs.Bounds.{AreBounded, pace, resting};
 ghost use Rattle.script_model.specs.Events.{running};
+ghost use Rattle.script_model.specs.Orders.{HaveBegun, behind_command, behind_commands, orders};
 ghost use Rattle.script_model.specs.Origins.{AreHeard, passed};
 ghost use Rattle.script_model.specs.Saved.{AreOpened, AreSaved};
 ghost use Rattle.script_model.specs.Turns.{AreTurns};
-ghost use Rattle.script_run.specs.Links.{AreLinked, AreServed};
-ghost use Rattle.script_run.specs.Told.{IsTold};
-ghost use Rattle.std.specs.Prelude.{◌≡◌, ℕ, []};
+ghost use Rattle.script_run.specs.Carried.{AreCarriedOut, MayHaveBegun};
+ghost use Rattle.script_texts.specs.Commands.{commands_read};
+ghost use Rattle.script_links.specs.Links.{AreLinked, AreServed};
+ghost use Rattle.script_links.specs.Told.{IsTold};
+ghost use Rattle.std.specs.Prelude.{◌≡◌, ◌∷◌, ℕ, [], IfOk, IfSome, Ok, OnOk};
 
 use crate::commands::carry_out;
-use crate::fault::ScriptFault;
-use crate::links::Link;
-use crate::turns::end_all;
 use container_core::container::{ContainerCore, Limits};
+use script_links::fault::ScriptFault;
+use script_links::links::Link;
+use script_links::turns::end_all;
 use script_model::command::ScriptCommand;
 use script_model::host::Host;
 use script_model::step::Step;
@@ -29,7 +32,9 @@ use texts::lines::parse_lines;
 const MOST_NUMBERS: u32 = 1_000_000;
 
 /// The commands that a text spells.
-fn read_script<R: Read>(alloc: Global, reader: &mut R) -> Result<Vec<ScriptCommand>, ScriptFault> {
+fn read_script<R: Read>(alloc: Global, reader: &mut R) -> Result<Vec<ScriptCommand>, ScriptFault>
+    ensures { IfOk result (λ commands. IfSome (R.remaining reader.old) (λ text. commands_read text ≡ Ok commands.items)) }
+{
     let text = match read_all(alloc, reader) {
         Ok(text) => text,
         Err(fault) => return Err(ScriptFault::Input(fault)),
@@ -46,6 +51,7 @@ fn begins<H: Host>(host: &mut H, place: usize)
     ensures still { (s : ℕ) → running s (H.told host.new) ≡ running s (H.told host.old) }
     ensures quiet { (s : ℕ) → passed s (H.told host.new) ≡ passed s (H.told host.old) }
     ensures rested { (s : ℕ) → pace s (H.told host.new) ≡ resting }
+    ensures ordered { orders (H.told host.new) ≡ Step.Begins place ∷ orders (H.told host.old) }
 {
     host.note(&Step::Begins(place));
 }
@@ -62,8 +68,11 @@ fn carry_out_all<H: Host, W: Write>(
     requires told { IsTold ⟦<H::Disk as Disk>⟧ (H.told host.old) core.old }
     requires linked { AreLinked (H.told host.old) links.old.items }
     requires served { AreServed (H.told host.old) links.old.items }
+    requires none { orders (H.told host.old) ≡ [] }
     ensures told { IsTold ⟦<H::Disk as Disk>⟧ (H.told host.new) core.new }
     ensures linked { AreLinked (H.told host.new) links.new.items }
+    ensures ordered { OnOk result (orders (H.told host.new) ≡ behind_commands 0 commands.items []) }
+    ensures begun { HaveBegun (H.told host.new) commands.items }
 {
     for (place, command) in commands.into_iter().enumerate() {
         begins(host, place);
@@ -95,6 +104,8 @@ pub fn run_script<H: Host, R: Read, W: Write>(
     ensures heard { AreHeard (H.told host.new) }
     ensures saved { H.Disk.follows_model → AreSaved ⟦<H::Disk as Disk>⟧ (H.told host.new) }
     ensures opened { H.Disk.follows_model → AreOpened ⟦<H::Disk as Disk>⟧ (H.told host.new) }
+    ensures carried { OnOk result (IfSome (R.remaining reader.old) (λ text. AreCarriedOut (H.told host.new) text)) }
+    ensures begun { IfSome (R.remaining reader.old) (λ text. MayHaveBegun (H.told host.new) text) }
 {
     let commands = match read_script(alloc, reader) {
         Ok(commands) => commands,

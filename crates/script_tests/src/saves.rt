@@ -3,7 +3,7 @@
 use crate::files::Files;
 use doc_store::memory_disk::{Faults, MemoryDisk};
 use doc_store::store::Store;
-use script_run::fault::ScriptFault;
+use script_links::fault::ScriptFault;
 use script_run::script::run_script;
 use std::alloc::{AllocError, Global};
 use std::process::Abort;

@@ -1,7 +1,8 @@
 use Rattle.std.proofs.Common.{◌≡◌, ℕ}
+use Rattle.script_model.specs.Orders.{orders}
 use Rattle.script_model.specs.Bounds.{pace}
-use Rattle.script_run.specs.Links.{AreLinked, AreServed}
-use Rattle.script_run.specs.Told.{IsTold}
+use Rattle.script_links.specs.Links.{AreLinked, AreServed}
+use Rattle.script_links.specs.Told.{IsTold}
 use Rattle.script_run.proofs.commands.act.Given as goal
 
 abbrev pub invariant-loop-action : goal.invariant-loop-action
@@ -10,4 +11,5 @@ invariant-loop-action g l = record {
   linked : AreLinked (g.H.Host.told l.host) l.links.items;
   served : AreServed (g.H.Host.told l.host) l.links.items;
   paced : (s : ℕ) → pace s (g.H.Host.told l.host) ≡ pace s (g.H.Host.told l.fn.host);
+  ordered : orders (g.H.Host.told l.host) ≡ orders (g.H.Host.told l.fn.host);
 }

@@ -1,6 +1,6 @@
 use Rattle.std.proofs.Common.{ap}
 use Rattle.script_model.specs.Origins.{passed}
-use Rattle.script_run.proofs.Served.{carried}
+use Rattle.script_links.proofs.Served.{carried}
 use Rattle.script_run.proofs.commands.at_link.Goals as goal
 use Rattle.script_run.proofs.commands.at_link.Goals.{in-Cut-command+in_ok-cut-in-Cut-command, in-Release+in_ok-release-in-Release, in_default-command}
 

@@ -1,6 +1,6 @@
-use Rattle.script_run.specs.Ready.{AreReady}
-use Rattle.script_run.proofs.Paces.{all_rested, still_rested}
-use Rattle.script_run.proofs.Served.{on_ok}
+use Rattle.script_links.specs.Ready.{AreReady}
+use Rattle.script_links.proofs.Paces.{all_rested, still_rested}
+use Rattle.script_links.proofs.Served.{on_ok}
 use Rattle.script_run.proofs.commands.begin.Goals as goal
 
 pub returns-in-Container-clause-ready : goal.returns-in-Container-clause-ready

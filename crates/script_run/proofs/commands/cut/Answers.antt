@@ -1,9 +1,9 @@
 use Rattle.std.proofs.Common.{◌≡◌, ◌<◌, ℕ, length, ap, sym, subst, ◌∙◌}
 use Rattle.script_model.specs.Bounds.{linking, pace}
-use Rattle.script_run.specs.declared.links.Link.{Link}
-use Rattle.script_run.specs.Ready.{AreReady, MayLink, pace_beside}
-use Rattle.script_run.proofs.Paces.{any_at, cut_ended, cut_may, cut_ready, none_ended, rests_within}
-use Rattle.script_run.proofs.Served.{on_ok}
+use Rattle.script_links.specs.declared.links.Link.{Link}
+use Rattle.script_links.specs.Ready.{AreReady, MayLink, pace_beside}
+use Rattle.script_links.proofs.Paces.{any_at, cut_ended, cut_may, cut_ready, none_ended, rests_within}
+use Rattle.script_links.proofs.Served.{on_ok}
 use Rattle.script_run.proofs.commands.cut.Goals as goal
 
 pub send_turn-requires-clause-within : goal.send_turn-requires-clause-within

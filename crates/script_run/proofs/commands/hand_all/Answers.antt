@@ -1,7 +1,7 @@
 use Rattle.std.proofs.Common.{◌≡◌, ◌∷◌, ◌∙◌, rules}
 use Rattle.std.specs.Vec.Iter.{into_iter_items}
 use Rattle.script_model.specs.Origins.{giving, passed}
-use Rattle.script_run.proofs.Served.{others_given, others_next}
+use Rattle.script_links.proofs.Served.{others_given, others_next}
 use Rattle.script_run.proofs.commands.hand_all.Goals as goal
 
 pub loop-taken-preserved : goal.loop-taken-preserved
@@ -16,4 +16,5 @@ loop-taken-preserved g c =
           (into_iter_items c.next.new.self) items c.hand_over.ensures.given c.loop-taken.invariant.next;
       given = others_given (passed c.args.inc (g.H.Host.told c.loop-taken.host)) (passed c.args.inc (g.H.Host.told c.hand_over.new.host)) (giving c.args.waiting (passed c.args.inc (g.H.Host.told c.args.host.now))) c.in-Some.taken (into_iter_items c.loop-taken.taken-iterator)
           (into_iter_items c.next.new.self) items c.hand_over.ensures.given c.loop-taken.invariant.given;
+      ordered = c.hand_over.ensures.ordered ∙ c.loop-taken.invariant.ordered;
     }

@@ -1,10 +1,11 @@
 use Rattle.std.proofs.Common.{◌≡◌, ℕ}
+use Rattle.script_model.specs.Orders.{orders}
 use Rattle.std.specs.Vec.Iter.{into_iter_items}
 use Rattle.script_model.specs.Bounds.{pace}
 use Rattle.script_model.specs.Events.{running}
 use Rattle.script_model.specs.Origins.{AreNext, giving, passed}
-use Rattle.script_run.specs.Links.{beside}
-use Rattle.script_run.specs.Told.{IsTold}
+use Rattle.script_links.specs.Links.{beside}
+use Rattle.script_links.specs.Told.{IsTold}
 use Rattle.script_run.proofs.commands.hand_all.Given as goal
 
 abbrev pub invariant-loop-taken : goal.invariant-loop-taken
@@ -15,4 +16,5 @@ invariant-loop-taken g l = record {
   paced : (s : ℕ) → pace s (g.H.Host.told l.host) ≡ pace s (g.H.Host.told l.fn.host);
   next : AreNext (passed l.inc (g.H.Host.told l.host)) (into_iter_items l.taken-iterator);
   given : giving (into_iter_items l.taken-iterator) (passed l.inc (g.H.Host.told l.host)) ≡ giving l.fn.waiting (passed l.inc (g.H.Host.told l.fn.host));
+  ordered : orders (g.H.Host.told l.host) ≡ orders (g.H.Host.told l.fn.host);
 }

@@ -1,5 +1,5 @@
 use Rattle.std.proofs.Common.{◌≡◌, drop}
-use Rattle.script_run.specs.Links.{links_of}
+use Rattle.script_links.specs.Links.{links_of}
 use Rattle.script_run.proofs.commands.is_linked.Given as goal
 
 abbrev pub invariant-loop-link : goal.invariant-loop-link

@@ -1,7 +1,7 @@
 use Rattle.std.proofs.Common.{false, [], slice_index_or}
 use Rattle.script_model.specs.Origins.{passed}
-use Rattle.script_run.specs.Links.{AreServed}
-use Rattle.script_run.proofs.Served.{on_ok, others_placed, release_next, release_served}
+use Rattle.script_links.specs.Links.{AreServed}
+use Rattle.script_links.proofs.Served.{on_ok, others_placed, release_next, release_served}
 use Rattle.script_run.proofs.commands.release.Goals as goal
 
 pub hand_all-requires-clause-next : goal.hand_all-requires-clause-next

@@ -1,7 +1,7 @@
 use Rattle.std.proofs.Common.{◌≡◌, ◌++◌, ◌∷◌, [], ap, sym, ◌∙◌, rules}
-use Rattle.script_run.specs.Links.{links_of}
-use Rattle.script_run.proofs.Given.{started_linked}
-use Rattle.script_run.proofs.Served.{started_served, unstarted_served}
+use Rattle.script_links.specs.Links.{links_of}
+use Rattle.script_links.proofs.Given.{started_linked}
+use Rattle.script_links.proofs.Served.{started_served, unstarted_served}
 use Rattle.script_run.proofs.commands.start.Goals as goal
 
 pub returns-in-Ok-clause-linked : goal.returns-in-Ok-clause-linked

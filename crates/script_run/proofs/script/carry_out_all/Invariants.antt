@@ -1,5 +1,7 @@
-use Rattle.script_run.specs.Links.{AreLinked, AreServed}
-use Rattle.script_run.specs.Told.{IsTold}
+use Rattle.std.specs.Vec.Iter.{into_iter_items}
+use Rattle.script_links.specs.Links.{AreLinked, AreServed}
+use Rattle.script_links.specs.Told.{IsTold}
+use Rattle.script_run.proofs.Carried.{SoFar}
 use Rattle.script_run.proofs.script.carry_out_all.Given as goal
 
 abbrev pub invariant-loop-place : goal.invariant-loop-place
@@ -7,4 +9,5 @@ invariant-loop-place g l = record {
   told : IsTold g.H.Disk.Disk (g.H.Host.told l.host) l.core;
   linked : AreLinked (g.H.Host.told l.host) l.links.items;
   served : AreServed (g.H.Host.told l.host) l.links.items;
+  so_far : SoFar (g.H.Host.told l.host) l.fn.commands.items (into_iter_items l.place-iterator.iter) l.place-iterator.count;
 }

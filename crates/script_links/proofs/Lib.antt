@@ -1,0 +1,6 @@
+pub mod Given
+pub mod Kept
+pub mod Opened
+pub mod Paces
+pub mod Saved
+pub mod Served

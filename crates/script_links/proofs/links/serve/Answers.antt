@@ -1,0 +1,38 @@
+use Rattle.script_model.specs.Bounds.{pace}
+use Rattle.script_links.proofs.Paces.{all_left, left_again, may_link, may_send, may_send_again, turn_again, turn_over, turn_unlinked}
+use Rattle.script_links.proofs.links.serve.Goals as goal
+
+pub exchange-requires-clause-within : goal.exchange-requires-clause-within
+exchange-requires-clause-within g c = may_send (pace c.args.link.now.inc (g.H.Host.told c.args.host.now)) c.requires.ready
+
+pub exchange-requires-clause-left : goal.exchange-requires-clause-left
+exchange-requires-clause-left g c = all_left 1000 (pace c.args.link.now.inc (g.H.Host.told c.args.host.now)) c.requires.ready
+
+pub returns-in-Turn-clause-turned : goal.returns-in-Turn-clause-turned
+returns-in-Turn-clause-turned g c =
+    turn_over (pace c.args.link.now.inc (g.H.Host.told c.args.host.now)) (pace c.exchange.new.link.inc (g.H.Host.told c.exchange.new.host)) c.exchange.new.reads c.in_ok-exchange.ensures.on
+
+pub returns-in_default-clause-turned : goal.returns-in_default-clause-turned
+returns-in_default-clause-turned g c =
+    turn_over (pace c.args.link.now.inc (g.H.Host.told c.args.host.now)) (pace c.exchange.new.link.inc (g.H.Host.told c.exchange.new.host)) c.exchange.new.reads c.in_ok-exchange.ensures.on
+
+pub reconnect-requires-clause-may : goal.reconnect-requires-clause-may
+reconnect-requires-clause-may g c =
+    may_link (pace c.args.link.now.inc (g.H.Host.told c.args.host.now)) (pace c.exchange.new.link.inc (g.H.Host.told c.exchange.new.host)) c.exchange.new.reads c.requires.ready c.in_ok-exchange.ensures.on
+
+pub returns-then-not-reconnect-clause-turned : goal.returns-then-not-reconnect-clause-turned
+returns-then-not-reconnect-clause-turned g c =
+    turn_unlinked (pace c.args.link.now.inc (g.H.Host.told c.args.host.now)) (pace c.exchange.new.link.inc (g.H.Host.told c.exchange.new.host)) (pace c.reconnect.new.link.inc (g.H.Host.told c.reconnect.new.host)) c.exchange.new.reads c.reconnect.result (cc) c.reconnect.ensures.linked c.in_ok-exchange.ensures.on
+
+pub exchange-requires-2-clause-within : goal.exchange-requires-2-clause-within
+exchange-requires-2-clause-within g c =
+    may_send_again (pace c.args.link.now.inc (g.H.Host.told c.args.host.now)) (pace c.exchange.new.link.inc (g.H.Host.told c.exchange.new.host)) (pace c.reconnect.new.link.inc (g.H.Host.told c.reconnect.new.host)) c.exchange.new.reads c.reconnect.result (cc) c.reconnect.ensures.linked c.requires.ready c.in_ok-exchange.ensures.on
+
+pub exchange-requires-2-clause-left : goal.exchange-requires-2-clause-left
+exchange-requires-2-clause-left g c =
+    left_again _ (pace c.exchange.new.link.inc (g.H.Host.told c.exchange.new.host)) (pace c.reconnect.new.link.inc (g.H.Host.told c.reconnect.new.host)) c.exchange.new.reads c.reconnect.result (cc) c.reconnect.ensures.linked c.in_ok-exchange.ensures.on
+
+pub returns-clause-turned : goal.returns-clause-turned
+returns-clause-turned g c =
+    turn_again (pace c.args.link.now.inc (g.H.Host.told c.args.host.now)) (pace c.exchange.new.link.inc (g.H.Host.told c.exchange.new.host)) (pace c.reconnect.new.link.inc (g.H.Host.told c.reconnect.new.host)) (pace c.exchange-2.new.link.inc (g.H.Host.told c.exchange-2.new.host))
+    c.exchange.new.reads c.exchange-2.new.reads c.reconnect.result (cc) c.reconnect.ensures.linked c.in_ok-exchange.ensures.on c.in_ok-heard.ensures.on

@@ -1,0 +1,9 @@
+use Rattle.script_model.specs.Origins.{passed}
+use Rattle.script_links.proofs.Served.{message_taken, turn_taken}
+use Rattle.script_links.proofs.links.take_frames.Goals as goal
+
+pub returns-in-Ok-Some-Turn-clause-served : goal.returns-in-Ok-Some-Turn-clause-served
+returns-in-Ok-Some-Turn-clause-served g c = turn_taken (passed c.loop.link.inc (g.H.Host.told c.loop.host)) c.loop.link c.next.new.self c.next.result (cc) c.next.ensures c.loop.invariant.served
+
+pub meet-requires-clause-served : goal.meet-requires-clause-served
+meet-requires-clause-served g c = message_taken (passed c.loop.link.inc (g.H.Host.told c.loop.host)) c.loop.link c.next.new.self c.in-Ok-Some-Message.taken c.next.result (cc) c.next.ensures c.loop.invariant.served

@@ -1,0 +1,19 @@
+use Rattle.std.proofs.Common.{◌≡◌, ℕ, []}
+use Rattle.script_model.specs.Orders.{orders}
+use Rattle.script_model.specs.Bounds.{pace}
+use Rattle.script_model.specs.Events.{running}
+use Rattle.script_model.specs.Origins.{passed}
+use Rattle.script_links.specs.Links.{IsServed, beside}
+use Rattle.script_links.specs.Told.{IsTold}
+use Rattle.script_links.proofs.links.take_frames.Given as goal
+
+abbrev pub invariant-loop : goal.invariant-loop
+invariant-loop g l = record {
+  told : IsTold g.H.Disk.Disk (g.H.Host.told l.host) l.core;
+  still : (s : ℕ) → running s (g.H.Host.told l.host) ≡ running s (g.H.Host.told l.fn.host);
+  same : l.link.inc ≡ l.fn.link.inc;
+  apart : (s : ℕ) → beside l.fn.link.inc s (g.H.Host.told l.host) ≡ beside l.fn.link.inc s (g.H.Host.told l.fn.host);
+  paced : (s : ℕ) → pace s (g.H.Host.told l.host) ≡ pace s (g.H.Host.told l.fn.host);
+  served : IsServed (passed l.link.inc (g.H.Host.told l.host)) l.link [];
+  ordered : orders (g.H.Host.told l.host) ≡ orders (g.H.Host.told l.fn.host);
+}

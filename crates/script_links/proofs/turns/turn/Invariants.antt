@@ -1,0 +1,18 @@
+use Rattle.std.proofs.Common.{length, ◌≡◌, ◌-◌, ℕ}
+use Rattle.script_model.specs.Orders.{orders}
+use Rattle.script_links.specs.Links.{AreLinked, AreServed}
+use Rattle.script_links.specs.Ready.{AreReady, IsUnderway}
+use Rattle.script_links.specs.Told.{IsTold}
+use Rattle.script_links.proofs.turns.turn.Given as goal
+
+abbrev pub invariant-loop-place : goal.invariant-loop-place
+invariant-loop-place g l = record {
+  told : IsTold g.H.Disk.Disk (g.H.Host.told l.host) l.core;
+  linked : AreLinked (g.H.Host.told l.host) l.links.items;
+  served : AreServed (g.H.Host.told l.host) l.links.items;
+  each : (n : ℕ) → AreReady n (g.H.Host.told l.fn.host) l.fn.links.items → IsUnderway n (g.H.Host.told l.host) l.links.items l.place;
+  ordered : orders (g.H.Host.told l.host) ≡ orders (g.H.Host.told l.fn.host);
+}
+
+abbrev pub decreases-loop-place : goal.decreases-loop-place
+decreases-loop-place g l = length l.links.items - l.place

@@ -1,0 +1,15 @@
+use Rattle.std.proofs.Common.{◌≡◌, ◌+◌}
+use Rattle.script_model.specs.Orders.{orders}
+use Rattle.script_links.specs.Links.{AreLinked, AreServed}
+use Rattle.script_links.specs.Ready.{AreReady}
+use Rattle.script_links.specs.Told.{IsTold}
+use Rattle.script_links.proofs.turns.turns.Given as goal
+
+abbrev pub invariant-loop-done : goal.invariant-loop-done
+invariant-loop-done g l = record {
+  told : IsTold g.H.Disk.Disk (g.H.Host.told l.host) l.core;
+  linked : AreLinked (g.H.Host.told l.host) l.links.items;
+  served : AreServed (g.H.Host.told l.host) l.links.items;
+  ready : AreReady (l.done + 1) (g.H.Host.told l.host) l.links.items;
+  ordered : orders (g.H.Host.told l.host) ≡ orders (g.H.Host.told l.fn.host);
+}

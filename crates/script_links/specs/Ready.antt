@@ -1,0 +1,45 @@
+-- Servers that may be sent their next turn.
+use Rattle.std.specs.Prelude.{◌≡◌, ◌≤◌, ◌+◌, ◌==◌, ℕ, Bool, false, List, drop, if◌then◌else◌}
+use Rattle.script_model.specs.Bounds.{IsWithin, MOST_READS, Pace, linking, most_anew, pace, resting, sending}
+use Rattle.script_model.specs.Events.{Event}
+use Rattle.script_links.specs.Links.{links_of}
+use Rattle.script_links.specs.declared.links.Link.{Link}
+
+-- The next turn of a server is at most its turn of this number in its command, and its link may be made anew once in it.
+pub record IsReady (number : ℕ) (p : Pace) : Type 0 where
+  pub turns : (sending p).turns ≤ number
+  pub anew : (sending p).anew + 1 ≤ most_anew (sending p).turns
+  pub reads : (sending p).reads ≡ 0
+
+-- Each server that has one of these links is ready.
+abbrev pub AreReady : {D : Type 0} → ℕ → List (Event D) → List Link → Type 0
+AreReady number es ls = (s : ℕ) → 1 ≤ links_of s ls → IsReady number (pace s es)
+
+-- Of a turn of all links those before a place had theirs, and those from there on didn't yet.
+pub record IsUnderway {D : Type 0} (number : ℕ) (es : List (Event D)) (ls : List Link) (place : ℕ) : Type 0 where
+  pub all : AreReady (number + 1) es ls
+  pub later : AreReady number es (drop place ls)
+
+-- A link may be read so often still in its turn.
+abbrev pub HasLeft : Pace → ℕ → Type 0
+HasLeft p left = left + p.reads ≤ MOST_READS
+
+-- A turn that was sent goes on.
+pub record GoesOn (before now : Pace) (left : ℕ) : Type 0 where
+  pub turns : now.turns ≡ before.turns
+  pub anew : now.anew ≡ before.anew
+  pub sent : now.is_anew ≡ false
+  pub reads : HasLeft now left
+
+-- A server had its next turn.
+pub record HadTurn (before now : Pace) : Type 0 where
+  pub turns : now.turns ≡ (sending before).turns
+  pub sent : now.is_anew ≡ false
+
+-- A link may be made anew.
+abbrev pub MayLink : Pace → Type 0
+MayLink p = (ok : Bool) → IsWithin (linking ok p)
+
+-- how far a server is, but for one server
+abbrev pub pace_beside : {D : Type 0} → ℕ → ℕ → List (Event D) → Pace
+pace_beside inc s es = if inc == s then resting else pace s es

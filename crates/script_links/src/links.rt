@@ -1,0 +1,375 @@
+//! The links to servers, and what comes on one of them in a turn.
+
+ghost use Rattle.container_model.specs.Record.{Record};
+ghost use Rattle.message_model.specs.Spelling.{spell};
+ghost use Rattle.script_model.specs.Bounds.{IsWithin, linking, pace, reading, sending};
+ghost use Rattle.script_model.specs.Events.{running};
+ghost use Rattle.script_model.specs.Orders.{orders};
+ghost use Rattle.script_model.specs.Origins.{AreNext, fresh, giving, passed};
+ghost use Rattle.script_model.specs.Turns.{server_of, turn_of};
+ghost use Rattle.script_links.specs.Links.{IsServed, beside};
+ghost use Rattle.script_links.specs.Ready.{GoesOn, HadTurn, HasLeft, IsReady, MayLink, pace_beside};
+ghost use Rattle.script_links.specs.Told.{IsTold};
+ghost use Rattle.std.specs.Prelude.{◌≡◌, ◌++◌, ◌∷◌, [], IfOk, OnOk, ℕ};
+
+use crate::container::message;
+use crate::fault::ScriptFault;
+use crate::saves::{first_of, save_all};
+use container_core::container::ContainerCore;
+use container_model::fault::ContainerFault;
+use message_bytes::decoder::Decoder;
+use message_bytes::encode::encode;
+use message_bytes::fault::WireFault;
+use message_bytes::frame::Frame;
+use script_model::answer::Told;
+use script_model::host::Host;
+use std::alloc::{AllocError, Global};
+use store_model::disk::Disk;
+use wire_msgs::items::Items;
+use wire_msgs::message::Message;
+use wire_msgs::refusal::Refusal;
+
+/// The most reads of a link in a turn.
+const MOST_READS: u32 = 1_000_000;
+
+/// How many bytes are read at once.
+const PIECE: usize = 4096;
+
+/// A link to a server that was started and isn't ended.
+#[derive(Drop)]
+pub struct Link {
+    pub inc: u32,
+    pub decoder: Decoder,
+    /// Whether what comes waits.
+    pub held: bool,
+    pub waiting: Items<Message>,
+}
+
+impl Link {
+    /// A link on which nothing came yet.
+    pub fn new(alloc: Global, inc: u32) -> Link
+        ensures server { result.inc ≡ inc }
+        ensures served { IsServed fresh result [] }
+    {
+        Link {
+            inc,
+            decoder: Decoder::new(alloc),
+            held: false,
+            waiting: Items::new(alloc),
+        }
+    }
+}
+
+/// How far what comes on a link in a turn is.
+#[derive(Clone, Copy, PartialEq, Eq)]
+pub enum Heard {
+    /// All that was whole is carried out.
+    Part,
+    /// The server gave the turn back.
+    Turn,
+    /// The link failed.
+    Failed,
+    /// What came is none that a server may send.
+    Faulty,
+}
+
+/// Adds the byte form of a frame.
+fn push_frame(alloc: Global, out: &mut Vec<u8>, frame: &Frame) -> Result<(), ScriptFault>
+    ensures { OnOk result (out.new.items ≡ out.old.items ++ spell frame.now) }
+{
+    match encode(alloc, frame) {
+        Ok(bytes) => {
+            out.extend_from_slice(&bytes)?;
+            Ok(())
+        }
+        Err(_) => Err(ScriptFault::NoMemory),
+    }
+}
+
+/// The server that a message is to or from.
+pub fn server_of(message: &Message) -> u32
+    ensures { result ≡ server_of message.now }
+{
+    match message {
+        Message::Call { inc, .. } => *inc,
+        Message::Reply { inc, .. } => *inc,
+        Message::Write { inc, .. } => *inc,
+        Message::Ask { inc, .. } => *inc,
+    }
+}
+
+/// The calls that are pending for a server, and a Turn, as bytes.
+fn turn_bytes(alloc: Global, core: &ContainerCore, inc: u32) -> Result<Vec<u8>, ScriptFault>
+    ensures { IfOk result (λ v. v.items ≡ turn_of core.now inc) }
+{
+    let mut out = Vec::new(alloc);
+    for call in core.resend(alloc)? {
+        if server_of(&call) == inc {
+            push_frame(alloc, &mut out, &Frame::Message(call))?;
+        }
+    }
+    push_frame(alloc, &mut out, &Frame::Turn)?;
+    Ok(out)
+}
+
+/// Sends a link its turn. Gives whether it was sent.
+pub fn send_turn<H: Host>(
+    alloc: Global,
+    host: &mut H,
+    core: &ContainerCore,
+    inc: u32,
+) -> Result<bool, ScriptFault>
+    requires told { IsTold ⟦<H::Disk as Disk>⟧ (H.told host.old) core.now }
+    requires within { IsWithin (sending (pace inc (H.told host.old))) }
+    ensures told { IsTold ⟦<H::Disk as Disk>⟧ (H.told host.new) core.now }
+    ensures still { (s : ℕ) → running s (H.told host.new) ≡ running s (H.told host.old) }
+    ensures quiet { (s : ℕ) → passed s (H.told host.new) ≡ passed s (H.told host.old) }
+    ensures aside { (s : ℕ) → pace_beside inc s (H.told host.new) ≡ pace_beside inc s (H.told host.old) }
+    ensures sent { OnOk result (pace inc (H.told host.new) ≡ sending (pace inc (H.told host.old))) }
+    ensures ordered { orders (H.told host.new) ≡ orders (H.told host.old) }
+{
+    let bytes = turn_bytes(alloc, core, inc)?;
+    Ok(host.send(inc, &bytes).is_ok())
+}
+
+/// What is told of a refusal.
+fn notice_of(refused: Option<Refusal>) -> Option<Told> {
+    match refused {
+        Some(refusal) => Some(Told::Refused(refusal)),
+        None => None,
+    }
+}
+
+/// Hands a message of a link over to the container. Gives whether it is one that a server may send; one of something that is
+/// over is passed over.
+pub fn hand_over<H: Host>(
+    alloc: Global,
+    host: &mut H,
+    core: &mut ContainerCore,
+    inc: u32,
+    taken: Message,
+    noticed: &mut Option<Told>,
+) -> Result<bool, ScriptFault>
+    requires told { IsTold ⟦<H::Disk as Disk>⟧ (H.told host.old) core.old }
+    requires next { AreNext (passed inc (H.told host.old)) (taken ∷ []) }
+    ensures told { IsTold ⟦<H::Disk as Disk>⟧ (H.told host.new) core.new }
+    ensures still { (s : ℕ) → running s (H.told host.new) ≡ running s (H.told host.old) }
+    ensures apart { (s : ℕ) → beside inc s (H.told host.new) ≡ beside inc s (H.told host.old) }
+    ensures given { passed inc (H.told host.new) ≡ giving (taken ∷ []) (passed inc (H.told host.old)) }
+    ensures paced { (s : ℕ) → pace s (H.told host.new) ≡ pace s (H.told host.old) }
+    ensures ordered { orders (H.told host.new) ≡ orders (H.told host.old) }
+{
+    match message(alloc, host, core, inc, taken) {
+        Ok(answer) => {
+            *noticed = first_of(*noticed, notice_of(answer.refused));
+            save_all(alloc, host, core, &answer, noticed)?;
+            Ok(true)
+        }
+        Err(ContainerFault::NoMemory) => Err(ScriptFault::NoMemory),
+        Err(ContainerFault::WrongLink) => Ok(false),
+        Err(ContainerFault::BadAnswer) => Ok(false),
+        Err(_) => Ok(true),
+    }
+}
+
+/// Carries out a message of a link, or puts it to those that wait. Gives whether it is one that a server may send.
+fn meet<H: Host>(
+    alloc: Global,
+    host: &mut H,
+    core: &mut ContainerCore,
+    link: &mut Link,
+    taken: Message,
+    noticed: &mut Option<Told>,
+) -> Result<bool, ScriptFault>
+    requires told { IsTold ⟦<H::Disk as Disk>⟧ (H.told host.old) core.old }
+    requires served { IsServed (passed link.old.inc (H.told host.old)) link.old (taken ∷ []) }
+    ensures told { IsTold ⟦<H::Disk as Disk>⟧ (H.told host.new) core.new }
+    ensures still { (s : ℕ) → running s (H.told host.new) ≡ running s (H.told host.old) }
+    ensures same { link.new.inc ≡ link.old.inc }
+    ensures apart { (s : ℕ) → beside link.old.inc s (H.told host.new) ≡ beside link.old.inc s (H.told host.old) }
+    ensures served { OnOk result (IsServed (passed link.new.inc (H.told host.new)) link.new []) }
+    ensures paced { (s : ℕ) → pace s (H.told host.new) ≡ pace s (H.told host.old) }
+    ensures ordered { orders (H.told host.new) ≡ orders (H.told host.old) }
+{
+    if link.held {
+        link.waiting.push(taken)?;
+        return Ok(true);
+    }
+    hand_over(alloc, host, core, link.inc, taken, noticed)
+}
+
+/// Carries out the frames that came on a link, up to a Turn.
+fn take_frames<H: Host>(
+    alloc: Global,
+    host: &mut H,
+    core: &mut ContainerCore,
+    link: &mut Link,
+    noticed: &mut Option<Told>,
+) -> Result<Heard, ScriptFault>
+    requires told { IsTold ⟦<H::Disk as Disk>⟧ (H.told host.old) core.old }
+    requires served { IsServed (passed link.old.inc (H.told host.old)) link.old [] }
+    ensures told { IsTold ⟦<H::Disk as Disk>⟧ (H.told host.new) core.new }
+    ensures still { (s : ℕ) → running s (H.told host.new) ≡ running s (H.told host.old) }
+    ensures same { link.new.inc ≡ link.old.inc }
+    ensures apart { (s : ℕ) → beside link.old.inc s (H.told host.new) ≡ beside link.old.inc s (H.told host.old) }
+    ensures served { OnOk result (IsServed (passed link.new.inc (H.told host.new)) link.new []) }
+    ensures paced { (s : ℕ) → pace s (H.told host.new) ≡ pace s (H.told host.old) }
+    ensures ordered { orders (H.told host.new) ≡ orders (H.told host.old) }
+{
+    for _ in 0..=PIECE {
+        match link.decoder.next() {
+            Ok(None) => return Ok(Heard::Part),
+            Ok(Some(Frame::Turn)) => return Ok(Heard::Turn),
+            Ok(Some(Frame::Message(taken))) => {
+                if !meet(alloc, host, core, link, taken, noticed)? {
+                    return Ok(Heard::Faulty);
+                }
+            }
+            Err(_) => return Ok(Heard::Faulty),
+        }
+    }
+    Ok(Heard::Failed)
+}
+
+/// Reads some bytes of a link. Gives whether there were any.
+fn read_some<H: Host>(host: &mut H, link: &mut Link) -> Result<bool, ScriptFault>
+    requires served { IsServed (passed link.old.inc (H.told host.old)) link.old [] }
+    requires within { IsWithin (reading (pace link.old.inc (H.told host.old))) }
+    ensures told { (r : Record) → IsTold ⟦<H::Disk as Disk>⟧ (H.told host.old) r → IsTold ⟦<H::Disk as Disk>⟧ (H.told host.new) r }
+    ensures still { (s : ℕ) → running s (H.told host.new) ≡ running s (H.told host.old) }
+    ensures same { link.new.inc ≡ link.old.inc }
+    ensures apart { (s : ℕ) → beside link.old.inc s (H.told host.new) ≡ beside link.old.inc s (H.told host.old) }
+    ensures served { OnOk result (IsServed (passed link.new.inc (H.told host.new)) link.new []) }
+    ensures aside { (s : ℕ) → pace_beside link.old.inc s (H.told host.new) ≡ pace_beside link.old.inc s (H.told host.old) }
+    ensures read { pace link.new.inc (H.told host.new) ≡ reading (pace link.old.inc (H.told host.old)) }
+    ensures ordered { orders (H.told host.new) ≡ orders (H.told host.old) }
+{
+    let mut piece = [0u8; PIECE];
+    let n = match host.read(link.inc, &mut piece) {
+        Ok(n) => n,
+        Err(_) => return Ok(false),
+    };
+    if n == 0 {
+        return Ok(false);
+    }
+    match link.decoder.feed(&piece[..n]) {
+        Ok(()) => Ok(true),
+        Err(fault) => match fault {
+            WireFault::NoMemory => Err(ScriptFault::NoMemory),
+            _ => Ok(true),
+        },
+    }
+}
+
+/// Reads a link up to a Turn, and carries out what comes.
+fn hear<H: Host>(
+    alloc: Global,
+    host: &mut H,
+    core: &mut ContainerCore,
+    link: &mut Link,
+    noticed: &mut Option<Told>,
+    reads: &mut u32,
+) -> Result<Heard, ScriptFault>
+    requires told { IsTold ⟦<H::Disk as Disk>⟧ (H.told host.old) core.old }
+    requires served { IsServed (passed link.old.inc (H.told host.old)) link.old [] }
+    requires within { IsWithin (pace link.old.inc (H.told host.old)) }
+    requires on { GoesOn (pace link.old.inc (H.told host.old)) (pace link.old.inc (H.told host.old)) reads.old }
+    ensures told { IsTold ⟦<H::Disk as Disk>⟧ (H.told host.new) core.new }
+    ensures still { (s : ℕ) → running s (H.told host.new) ≡ running s (H.told host.old) }
+    ensures same { link.new.inc ≡ link.old.inc }
+    ensures apart { (s : ℕ) → beside link.old.inc s (H.told host.new) ≡ beside link.old.inc s (H.told host.old) }
+    ensures served { OnOk result (IsServed (passed link.new.inc (H.told host.new)) link.new []) }
+    ensures aside { (s : ℕ) → pace_beside link.old.inc s (H.told host.new) ≡ pace_beside link.old.inc s (H.told host.old) }
+    ensures on { OnOk result (GoesOn (pace link.old.inc (H.told host.old)) (pace link.new.inc (H.told host.new)) reads.new) }
+    ensures ordered { orders (H.told host.new) ≡ orders (H.told host.old) }
+{
+    while *reads > 0 {
+        let heard = take_frames(alloc, host, core, link, noticed)?;
+        if heard != Heard::Part {
+            return Ok(heard);
+        }
+        *reads -= 1;
+        if !read_some(host, link)? {
+            return Ok(Heard::Failed);
+        }
+    }
+    Ok(Heard::Failed)
+}
+
+/// A link's turn over the connection that it has.
+fn exchange<H: Host>(
+    alloc: Global,
+    host: &mut H,
+    core: &mut ContainerCore,
+    link: &mut Link,
+    noticed: &mut Option<Told>,
+    reads: &mut u32,
+) -> Result<Heard, ScriptFault>
+    requires told { IsTold ⟦<H::Disk as Disk>⟧ (H.told host.old) core.old }
+    requires served { IsServed (passed link.old.inc (H.told host.old)) link.old [] }
+    requires within { IsWithin (sending (pace link.old.inc (H.told host.old))) }
+    requires left { HasLeft (sending (pace link.old.inc (H.told host.old))) reads.old }
+    ensures told { IsTold ⟦<H::Disk as Disk>⟧ (H.told host.new) core.new }
+    ensures still { (s : ℕ) → running s (H.told host.new) ≡ running s (H.told host.old) }
+    ensures same { link.new.inc ≡ link.old.inc }
+    ensures apart { (s : ℕ) → beside link.old.inc s (H.told host.new) ≡ beside link.old.inc s (H.told host.old) }
+    ensures served { OnOk result (IsServed (passed link.new.inc (H.told host.new)) link.new []) }
+    ensures aside { (s : ℕ) → pace_beside link.old.inc s (H.told host.new) ≡ pace_beside link.old.inc s (H.told host.old) }
+    ensures on { OnOk result (GoesOn (sending (pace link.old.inc (H.told host.old))) (pace link.new.inc (H.told host.new)) reads.new) }
+    ensures ordered { orders (H.told host.new) ≡ orders (H.told host.old) }
+{
+    if !send_turn(alloc, host, core, link.inc)? {
+        return Ok(Heard::Failed);
+    }
+    hear(alloc, host, core, link, noticed, reads)
+}
+
+/// Connects a link again: what came of the old connection and isn't carried out is dropped.
+pub fn reconnect<H: Host>(alloc: Global, host: &mut H, link: &mut Link) -> bool
+    requires served { IsServed (passed link.old.inc (H.told host.old)) link.old [] }
+    requires may { MayLink (pace link.old.inc (H.told host.old)) }
+    ensures told { (r : Record) → IsTold ⟦<H::Disk as Disk>⟧ (H.told host.old) r → IsTold ⟦<H::Disk as Disk>⟧ (H.told host.new) r }
+    ensures still { (s : ℕ) → running s (H.told host.new) ≡ running s (H.told host.old) }
+    ensures same { link.new.inc ≡ link.old.inc }
+    ensures apart { (s : ℕ) → beside link.old.inc s (H.told host.new) ≡ beside link.old.inc s (H.told host.old) }
+    ensures served { IsServed (passed link.new.inc (H.told host.new)) link.new [] }
+    ensures aside { (s : ℕ) → pace_beside link.old.inc s (H.told host.new) ≡ pace_beside link.old.inc s (H.told host.old) }
+    ensures linked { pace link.new.inc (H.told host.new) ≡ linking result (pace link.old.inc (H.told host.old)) }
+    ensures ordered { orders (H.told host.new) ≡ orders (H.told host.old) }
+{
+    link.decoder = Decoder::new(alloc);
+    host.connect(link.inc).is_ok()
+}
+
+/// A link's turn. One that fails is connected again, once. Gives whether the link stands.
+pub fn serve<H: Host>(
+    alloc: Global,
+    host: &mut H,
+    core: &mut ContainerCore,
+    link: &mut Link,
+    noticed: &mut Option<Told>,
+) -> Result<bool, ScriptFault>
+    requires told { IsTold ⟦<H::Disk as Disk>⟧ (H.told host.old) core.old }
+    requires served { IsServed (passed link.old.inc (H.told host.old)) link.old [] }
+    requires ready { IsReady 1000 (pace link.old.inc (H.told host.old)) }
+    ensures told { IsTold ⟦<H::Disk as Disk>⟧ (H.told host.new) core.new }
+    ensures still { (s : ℕ) → running s (H.told host.new) ≡ running s (H.told host.old) }
+    ensures same { link.new.inc ≡ link.old.inc }
+    ensures apart { (s : ℕ) → beside link.old.inc s (H.told host.new) ≡ beside link.old.inc s (H.told host.old) }
+    ensures served { OnOk result (IsServed (passed link.new.inc (H.told host.new)) link.new []) }
+    ensures aside { (s : ℕ) → pace_beside link.old.inc s (H.told host.new) ≡ pace_beside link.old.inc s (H.told host.old) }
+    ensures turned { OnOk result (HadTurn (pace link.old.inc (H.told host.old)) (pace link.new.inc (H.told host.new))) }
+    ensures ordered { orders (H.told host.new) ≡ orders (H.told host.old) }
+{
+    let mut reads = MOST_READS;
+    match exchange(alloc, host, core, link, noticed, &mut reads)? {
+        Heard::Turn => return Ok(true),
+        Heard::Failed => {}
+        _ => return Ok(false),
+    }
+    if !reconnect(alloc, host, link) {
+        return Ok(false);
+    }
+    let heard = exchange(alloc, host, core, link, noticed, &mut reads)?;
+    Ok(heard == Heard::Turn)
+}

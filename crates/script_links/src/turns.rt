@@ -1,0 +1,187 @@
+//! Turns: each link is sent what is pending for its server, and what comes back is carried out.
+
+ghost use Rattle.script_model.specs.Bounds.{AreBounded, pace};
+ghost use Rattle.script_model.specs.Events.{running};
+ghost use Rattle.script_model.specs.Orders.{orders};
+ghost use Rattle.script_model.specs.Origins.{AreHeard};
+ghost use Rattle.script_model.specs.Saved.{AreOpened, AreSaved};
+ghost use Rattle.script_model.specs.Turns.{AreTurns};
+ghost use Rattle.script_links.specs.Links.{AreLinked, AreServed};
+ghost use Rattle.script_links.specs.Ready.{AreReady, IsUnderway};
+ghost use Rattle.script_links.specs.Told.{IsTold};
+ghost use Rattle.std.specs.Prelude.{◌≡◌, ◌+◌, ◌<◌, OnOk, length, remove, ℕ};
+
+use crate::container::reap;
+use crate::fault::ScriptFault;
+use crate::links::{Link, serve};
+use crate::saves::save_all;
+use container_core::container::ContainerCore;
+use container_model::fault::ContainerFault;
+use container_model::record::Object;
+use script_model::answer::Told;
+use script_model::host::Host;
+use std::alloc::Global;
+use store_model::disk::Disk;
+
+/// The most turns of a command.
+const MOST_TURNS: u32 = 1_000;
+
+/// Ends the server of the link at a place, and tells the container its end.
+pub fn end_at<H: Host>(
+    alloc: Global,
+    host: &mut H,
+    core: &mut ContainerCore,
+    links: &mut Vec<Link>,
+    place: usize,
+    noticed: &mut Option<Told>,
+) -> Result<(), ScriptFault>
+    requires within { place < length links.old.items }
+    requires told { IsTold ⟦<H::Disk as Disk>⟧ (H.told host.old) core.old }
+    requires linked { AreLinked (H.told host.old) links.old.items }
+    requires served { AreServed (H.told host.old) (remove links.old.items place) }
+    ensures less { length links.new.items + 1 ≡ length links.old.items }
+    ensures told { IsTold ⟦<H::Disk as Disk>⟧ (H.told host.new) core.new }
+    ensures linked { AreLinked (H.told host.new) links.new.items }
+    ensures served { AreServed (H.told host.new) links.new.items }
+    ensures rest { links.new.items ≡ remove links.old.items place }
+    ensures paced { (s : ℕ) → pace s (H.told host.new) ≡ pace s (H.told host.old) }
+    ensures ordered { orders (H.told host.new) ≡ orders (H.told host.old) }
+{
+    let link = links.remove(place);
+    host.end(link.inc);
+    match reap(alloc, host, core, link.inc) {
+        Ok(answer) => save_all(alloc, host, core, &answer, noticed),
+        Err(ContainerFault::NoMemory) => Err(ScriptFault::NoMemory),
+        Err(_) => Ok(()),
+    }
+}
+
+/// Ends the servers of all links.
+pub fn end_all<H: Host>(host: &mut H, links: &mut Vec<Link>)
+    requires sent { AreTurns (H.told host.old) }
+    requires bounded { AreBounded (H.told host.old) }
+    requires heard { AreHeard (H.told host.old) }
+    requires saved { H.Disk.follows_model → AreSaved ⟦<H::Disk as Disk>⟧ (H.told host.old) }
+    requires opened { H.Disk.follows_model → AreOpened ⟦<H::Disk as Disk>⟧ (H.told host.old) }
+    requires linked { AreLinked (H.told host.old) links.old.items }
+    ensures sent { AreTurns (H.told host.new) }
+    ensures bounded { AreBounded (H.told host.new) }
+    ensures heard { AreHeard (H.told host.new) }
+    ensures saved { H.Disk.follows_model → AreSaved ⟦<H::Disk as Disk>⟧ (H.told host.new) }
+    ensures opened { H.Disk.follows_model → AreOpened ⟦<H::Disk as Disk>⟧ (H.told host.new) }
+    ensures ended { (s : ℕ) → running s (H.told host.new) ≡ 0 }
+    ensures ordered { orders (H.told host.new) ≡ orders (H.told host.old) }
+{
+    while let Some(link) = links.pop() {
+        host.end(link.inc);
+    }
+}
+
+/// The server that an object has a pending call for.
+fn pending_server(object: &Object) -> Option<u32> {
+    match &object.link {
+        Some(link) if link.pending.is_some() => Some(link.inc),
+        _ => None,
+    }
+}
+
+/// Whether a link of this server is there, and isn't held.
+fn is_free(links: &[Link], inc: u32) -> bool {
+    links.iter().any(|link| link.inc == inc && !link.held)
+}
+
+/// Whether a call is pending on a link that isn't held.
+fn is_pending(core: &ContainerCore, links: &[Link]) -> bool {
+    for object in core.all_objects() {
+        if let Some(inc) = pending_server(object) {
+            if is_free(links, inc) {
+                return true;
+            }
+        }
+    }
+    false
+}
+
+/// The turn of the link at a place. Gives whether the link stands.
+fn serve_at<H: Host>(
+    alloc: Global,
+    host: &mut H,
+    core: &mut ContainerCore,
+    links: &mut Vec<Link>,
+    place: usize,
+    noticed: &mut Option<Told>,
+) -> Result<bool, ScriptFault>
+    requires within { place < length links.old.items }
+    requires told { IsTold ⟦<H::Disk as Disk>⟧ (H.told host.old) core.old }
+    requires linked { AreLinked (H.told host.old) links.old.items }
+    requires served { AreServed (H.told host.old) links.old.items }
+    requires ready { IsUnderway 1000 (H.told host.old) links.old.items place }
+    ensures told { IsTold ⟦<H::Disk as Disk>⟧ (H.told host.new) core.new }
+    ensures linked { AreLinked (H.told host.new) links.new.items }
+    ensures served { OnOk result (AreServed (H.told host.new) links.new.items) }
+    ensures many { length links.new.items ≡ length links.old.items }
+    ensures ready { (n : ℕ) → IsUnderway n (H.told host.old) links.old.items place → OnOk result (IsUnderway n (H.told host.new) links.new.items (place + 1)) }
+    ensures ordered { orders (H.told host.new) ≡ orders (H.told host.old) }
+{
+    serve(alloc, host, core, &mut links[place], noticed)
+}
+
+/// A turn of each link, by rising number. A link that doesn't stand is ended.
+fn turn<H: Host>(
+    alloc: Global,
+    host: &mut H,
+    core: &mut ContainerCore,
+    links: &mut Vec<Link>,
+    noticed: &mut Option<Told>,
+) -> Result<(), ScriptFault>
+    requires told { IsTold ⟦<H::Disk as Disk>⟧ (H.told host.old) core.old }
+    requires linked { AreLinked (H.told host.old) links.old.items }
+    requires served { AreServed (H.told host.old) links.old.items }
+    requires ready { AreReady 1000 (H.told host.old) links.old.items }
+    ensures told { IsTold ⟦<H::Disk as Disk>⟧ (H.told host.new) core.new }
+    ensures linked { AreLinked (H.told host.new) links.new.items }
+    ensures served { OnOk result (AreServed (H.told host.new) links.new.items) }
+    ensures ready { (n : ℕ) → AreReady n (H.told host.old) links.old.items → OnOk result (AreReady (n + 1) (H.told host.new) links.new.items) }
+    ensures ordered { orders (H.told host.new) ≡ orders (H.told host.old) }
+{
+    let mut place = 0;
+    while place < links.len() {
+        if serve_at(alloc, host, core, links, place, noticed)? {
+            place += 1;
+        } else {
+            end_at(alloc, host, core, links, place, noticed)?;
+        }
+    }
+    Ok(())
+}
+
+/// Turns, until nothing is pending on a link that isn't held.
+///
+/// Refused: `Stalled` where something is pending after 1,000 turns.
+pub fn turns<H: Host>(
+    alloc: Global,
+    host: &mut H,
+    core: &mut ContainerCore,
+    links: &mut Vec<Link>,
+    noticed: &mut Option<Told>,
+) -> Result<(), ScriptFault>
+    requires told { IsTold ⟦<H::Disk as Disk>⟧ (H.told host.old) core.old }
+    requires linked { AreLinked (H.told host.old) links.old.items }
+    requires served { AreServed (H.told host.old) links.old.items }
+    requires ready { AreReady 1 (H.told host.old) links.old.items }
+    ensures told { IsTold ⟦<H::Disk as Disk>⟧ (H.told host.new) core.new }
+    ensures linked { AreLinked (H.told host.new) links.new.items }
+    ensures served { OnOk result (AreServed (H.told host.new) links.new.items) }
+    ensures ordered { orders (H.told host.new) ≡ orders (H.told host.old) }
+{
+    for done in 0..MOST_TURNS {
+        if !is_pending(core, links) {
+            return Ok(());
+        }
+        turn(alloc, host, core, links, noticed)?;
+    }
+    if is_pending(core, links) {
+        return Err(ScriptFault::Stalled);
+    }
+    Ok(())
+}

@@ -1,6 +1,0 @@
-use Rattle.script_model.specs.Origins.{passed}
-use Rattle.script_run.proofs.Served.{hand_next}
-use Rattle.script_run.proofs.links.meet.Goals as goal
-
-pub hand_over-requires-clause-next : goal.hand_over-requires-clause-next
-hand_over-requires-clause-next g c = hand_next (passed c.args.link.now.inc (g.H.Host.told c.args.host.now)) c.args.link.now c.args.taken c.if-link.false c.requires.served

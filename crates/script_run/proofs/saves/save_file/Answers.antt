@@ -1,8 +1,0 @@
-use Rattle.std.proofs.Common.{sym, ◌∙◌}
-use Rattle.script_run.proofs.Saved.{saved_by}
-use Rattle.script_run.proofs.saves.save_file.Goals as goal
-
-pub committed-requires-clause-saved : goal.committed-requires-clause-saved
-committed-requires-clause-saved g c = λ m.
-    saved_by (g.H.Host.told c.commit.new.host) c.args.core.now c.args.frame c.in-Some.found.now c.deref.result.now c.args.file.now c.in-Ok-Kept.field-0 c.in-Ok-Kept.field-0-is
-    (c.commit.ensures.told c.args.core.now c.requires.told) (c.in-Ok-Kept.ensures.shut m) (sym c.in-Some.ensures) (c.deref.ensures.value ∙ c.in_ok-name.ensures) c.requires.image

@@ -1,8 +1,0 @@
-use Rattle.doc_store.specs.Opened.{disk_of}
-use Rattle.script_run.proofs.Kept.{saved_on_opened}
-use Rattle.script_run.proofs.saves.try_again.Goals as goal
-
-pub returns-in-Ok : goal.returns-in-Ok
-returns-in-Ok g c = λ m.
-    saved_on_opened g.D.Disk c.compare.result.0 c.args.disk (disk_of c.in-Ok.store) _ (g.D.Disk.reads (disk_of c.in-Ok.store)).document c.args.bytes.now
-    (g.met.D.Disk.reads_are_left c.args.disk) (c.in-Ok.ensures.document m) (c.in-Ok.ensures.any_moment m) (c.compare.ensures m)
