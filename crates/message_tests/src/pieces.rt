@@ -5,7 +5,7 @@ ghost use Rattle.std.specs.Prelude.{◌<◌};
 use crate::contents::bytes;
 use crate::texts::{number, spelled, word};
 use message_bytes::decoder::Decoder;
-use message_bytes::encode::encode;
+use message_bytes::encode::{encode, encode_into};
 use message_bytes::fault::WireFault;
 use message_bytes::frame::Frame;
 use std::alloc::Global;
@@ -193,6 +193,14 @@ fn is_spelled(rt: &impl Abort, alloc: Global, frame: &Frame, spelled: &[u8]) -> 
     encoded(rt, alloc, frame).as_slice() == spelled
 }
 
+/// Whether a frame's bytes are put behind those that stand there.
+fn is_added(rt: &impl Abort, alloc: Global, frame: &Frame, large: &[u8]) -> bool {
+    let mut out = encoded(rt, alloc, &Frame::Turn);
+    let len = out.len();
+    encode_into(&mut out, frame).expect(rt, "a frame that fits");
+    out.get(len..) == Some(large)
+}
+
 /// Whether the next frame is spelled so, where one comes.
 pub(crate) fn next_is(
     rt: &impl Abort,
@@ -235,6 +243,7 @@ fn first(large: &[u8]) -> &[u8] {
 fn a_large_write_comes_in_pieces(rt: HostRuntime) {
     let large = encoded(&rt, rt.alloc(), &write(&rt, rt.alloc(), 262_144));
     assert!(rt; large.len() == 10 + 16 + 1 + 4 + 262_144);
+    assert!(rt; is_added(&rt, rt.alloc(), &write(&rt, rt.alloc(), 262_144), &large));
     assert!(rt; comes(&rt, rt.alloc(), &large));
     assert!(rt; is_begun(rt.alloc(), first(&large)));
 }
