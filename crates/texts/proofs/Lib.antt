@@ -3,6 +3,7 @@ pub mod Hex
 pub mod Inputs
 pub mod LineByLine
 pub mod Named
+pub mod Plain
 pub mod Numbers
 pub mod Pushed
 pub mod Spelled

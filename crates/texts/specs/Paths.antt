@@ -1,5 +1,5 @@
 -- How paths are spelled.
-use Rattle.std.specs.Prelude.{◌||◌, ℕ, Option, Some, None, List, [], ◌∷◌, Result, Ok, Err, nat_eq, if◌then◌else◌, map}
+use Rattle.std.specs.Prelude.{◌||◌, ℕ, Bool, Option, Some, None, List, [], ◌∷◌, Result, Ok, Err, nat_eq, if◌then◌else◌, map}
 use Rattle.std.specs.List.{join_with_byte}
 use Rattle.std.specs.Option.{option_map}
 use Rattle.cfb_names.specs.Names.{name_read as taken_name}
@@ -12,7 +12,11 @@ pub use Rattle.text_model.specs.Spelled.{byte_text, name_text}
 abbrev pub path_text : List (List ℕ) → List ℕ
 path_text names = join_with_byte 47 (map name_text names)
 
--- what stands for itself in a name
+-- what doesn't stand for itself in a name
+abbrev pub is_escaped : ℕ → Bool
+is_escaped c = is_hidden c || nat_eq c 92
+
+-- what does
 abbrev pub plain_byte : ℕ → Option ℕ
 plain_byte c = if is_hidden c || nat_eq c 92 then None else Some c
 

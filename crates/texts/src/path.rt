@@ -1,9 +1,10 @@
 //! Paths of names, as they are spelled in texts.
 
 ghost use Rattle.cfb_names.specs.Names.{name_read as taken_name};
+ghost use Rattle.std.specs.List.{list_any};
 ghost use Rattle.std.specs.Option.{option_map};
 ghost use Rattle.std.specs.Prelude.{◌≡◌, ◌<◌, ◌++◌, [], ◌∷◌, Some, None, Ok, Err, true, false, length, is_some, IfErr, IfNone, IfOk, IfSome, IsOk, IsSome, MatchResult, OnOk};
-ghost use Rattle.texts.specs.Paths.{name_read, names_read, path_read};
+ghost use Rattle.texts.specs.Paths.{is_escaped, name_read, names_read, path_read};
 ghost use Rattle.texts.specs.Words.{onto};
 
 use crate::words::{is_hidden, lower_digit};
@@ -70,10 +71,17 @@ fn spelled(alloc: Global, word: &[u8]) -> Result<Option<Path>, AllocError>
     if word.is_empty() {
         return Ok(None);
     }
-    let mut buffer = Vec::with_capacity(alloc, word.len())?;
+    let mut buffer = Vec::new(alloc);
     let mut names = Vec::with_capacity(alloc, 1)?;
     let mut parts = Pieces::new(word, b'/');
     while let Some(part) = parts.next_piece() {
+        // Nearly all names are spelled so, and take no buffer then.
+        if is_plain(part) {
+            if let Err(fault) = add_name(&mut names, part)? {
+                return Ok(refused(names, fault, parts));
+            }
+            continue;
+        }
         if !read_name(&mut buffer, part)? {
             return Ok(None);
         }
@@ -177,6 +185,27 @@ fn first_byte(part: &[u8]) -> Option<(u8, &[u8])>
         }
         [] => None,
     }
+}
+
+/// Whether a byte of a name's spelling doesn't stand for itself.
+fn is_escaped(byte: u8) -> bool
+    ensures { result ≡ is_escaped byte }
+{
+    is_hidden(byte) || byte == b'\\'
+}
+
+/// Whether one of the bytes doesn't.
+fn has_escaped(part: &[u8]) -> bool
+    ensures { result ≡ list_any is_escaped part.now }
+{
+    part.iter().any(|byte| is_escaped(*byte))
+}
+
+/// Whether each byte of a part of a path stands for itself, so that the part spells the name of its bytes.
+fn is_plain(part: &[u8]) -> bool
+    ensures { result ≡ true → name_read part.now ≡ Some part.now }
+{
+    !has_escaped(part)
 }
 
 /// Leaves the name that a part of a path spells in the buffer, and says whether it spells one.
