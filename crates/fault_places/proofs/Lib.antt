@@ -2,3 +2,5 @@ pub mod Walks
 pub mod Places
 pub mod Steps
 pub mod Cycles
+pub mod Owned
+pub mod Laid

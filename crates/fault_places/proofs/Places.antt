@@ -30,16 +30,16 @@ next_by : (file fat : List ℕ) (n : ℕ) → (sectors_of file fat).next n ≡ u
 unfolding sectors_of
 next_by file fat n = refl
 
-width_by : (file fat : List ℕ) → (sectors_of file fat).width ≡ 512
+pub width_by : (file fat : List ℕ) → (sectors_of file fat).width ≡ 512
 unfolding sectors_of
 width_by file fat = refl
 
-pieces_by : (file fat ns : List ℕ) → joined (sectors_of file fat).piece ns ≡ joined (sector file) ns
+pub pieces_by : (file fat ns : List ℕ) → joined (sectors_of file fat).piece ns ≡ joined (sector file) ns
 unfolding sectors_of
 pieces_by file fat ns = refl
 
 -- ---- the law
-link_at_fault : (s : Store) (taken : ℕ → Type 0) (start size : ℕ) (fault : ChainFault) (link : Link) → IsLinkAtFault s taken start size fault link → IsChainAtFault s taken start size fault
+pub link_at_fault : (s : Store) (taken : ℕ → Type 0) (start size : ℕ) (fault : ChainFault) (link : Link) → IsLinkAtFault s taken start size fault link → IsChainAtFault s taken start size fault
 link_at_fault s taken start size chain.OutOfFile link h = (h.0, link.to, h.1.walks, h.2, h.3)
 link_at_fault s taken start size chain.Cycle link h = (h.0, link.to, h.1.walks, h.2)
 link_at_fault s taken start size chain.CrossLinked link h = (h.0, link.to, h.1.walks, h.2, h.3)

@@ -31,6 +31,18 @@ fn directory_of(alloc: Global, header: &Header, file: &[u8]) -> Option<Vec<u8>>
     Some(bytes)
 }
 
+/// The bytes of the directory of a file. None where the header, the FAT or the directory's chain is at fault, or for want of
+/// memory.
+pub fn read_directory(alloc: Global, file: &[u8]) -> Option<Vec<u8>>
+    ensures { IfSome result (λ v. IsDirectory file.now v.items) }
+{
+    let Ok(header) = Header::read(file) else {
+        return None;
+    };
+    let joined = directory_of(alloc, &header, file)?;
+    Some(joined)
+}
+
 /// The place at which the directory of a file has a fault. None where the fault isn't found there, or for want of memory.
 pub fn find_entry(
     alloc: Global,

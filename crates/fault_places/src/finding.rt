@@ -20,7 +20,7 @@ use cfb_header::header::Header;
 use std::alloc::{AllocError, Global};
 
 /// The bytes of a sector.
-const SECTOR: u32 = 512;
+pub(crate) const SECTOR: u32 = 512;
 
 /// Whether two faults are the same one, other than want of memory.
 fn is_same(a: ChainFault, b: ChainFault) -> bool
@@ -107,7 +107,7 @@ fn find_in_directory(
 }
 
 /// Some sectors, and then others.
-fn both(alloc: Global, some: &[u32], others: &[u32]) -> Result<Vec<u32>, AllocError>
+pub(crate) fn both(alloc: Global, some: &[u32], others: &[u32]) -> Result<Vec<u32>, AllocError>
     ensures { IfOk result (λ v. v.items ≡ some.now ++ others.now) }
 {
     let mut all = Vec::from_slice(alloc, some)?;

@@ -1,6 +1,7 @@
 //! Laws of places of faults.
 
 ghost use Rattle.fault_places.specs.Places.{ToldIsAtFault};
+ghost use Rattle.fault_places.specs.Streams.{StreamIsAtFault};
 ghost use Rattle.fault_places.specs.Ways.{EntryIsAtFault};
 
 /// Where a place is told, the file is at fault.
@@ -11,4 +12,9 @@ pub fn told_is_at_fault()
 /// Where a place of the directory is told, the file is at fault.
 pub fn entry_is_at_fault()
     ensures { EntryIsAtFault }
+{}
+
+/// Where a place of a stream is told, the file is at fault.
+pub fn stream_is_at_fault()
+    ensures { StreamIsAtFault }
 {}

@@ -9,7 +9,7 @@ ghost use Rattle.std.specs.Prelude.{[], ◌≡◌, ◌≢◌, ◌<◌, ◌*◌, 
 
 use crate::place::EntryPlace;
 use crate::walking::stands_in;
-use crate::ways::{end_of, push_ways};
+use crate::ways::{end_of, push_ways, root_way};
 use cfb_directory::entries::{Entries, EntryKind};
 use cfb_names::fault::DirFault;
 use std::alloc::{AllocError, Global};
@@ -259,8 +259,7 @@ fn search_of<'a>(alloc: Global, entries: Entries<'a>) -> Result<Search<'a>, Allo
     ensures opened { IfOk result (λ s. s.opened.items ≡ []) }
     ensures ways { IfOk result (λ s. All (λ w. w.items ≡ []) s.ways.items) }
 {
-    let mut ways = Vec::new(alloc);
-    ways.push(Vec::new(alloc))?;
+    let ways = root_way(alloc)?;
     Ok(Search {
         entries,
         opened: Vec::new(alloc),

@@ -1,9 +1,10 @@
 //! Walking a chain to where it stops, and what is wrong there.
 
-ghost use Rattle.cfb_chain.specs.Chain.{END_OF_CHAIN as END, Store};
+ghost use Rattle.cfb_chain.specs.Chain.{END_OF_CHAIN as END, IsChain, Store};
 ghost use Rattle.fault_places.specs.Places.{IsExamined, IsLed, IsLinkAtFault, IsWalk};
+ghost use Rattle.fault_places.specs.Tables.{IsTabled};
 ghost use Rattle.std.specs.List.{Contains};
-ghost use Rattle.std.specs.Prelude.{◌*◌, ◌<◌, ◌≡◌, ◌≢◌, ◌≤◌, IfOk, length, true, ℕ};
+ghost use Rattle.std.specs.Prelude.{◌*◌, ◌<◌, ◌≡◌, ◌≢◌, ◌≤◌, IfOk, IfSome, length, true, ℕ};
 
 use crate::place::Link;
 use cfb_header::fault::ChainFault;
@@ -65,6 +66,25 @@ fn walk(alloc: Global, table: &[u32], taken: &[u32], start: u32) -> Result<Walke
     let mut at = start;
     while sectors.len() < table.len() && is_new(&marks, at) {
         marks[at as usize] = true;
+        sectors.push(at)?;
+        from = Some(at);
+        at = table[at as usize];
+    }
+    Ok(Walked {
+        sectors,
+        link: Link { from, to: at },
+    })
+}
+
+/// Follows the chain from a sector on, over as many sectors as there are, up to what is no sector.
+fn follow(alloc: Global, table: &[u32], start: u32) -> Result<Walked, AllocError>
+    ensures walked { IfOk result (λ w. IsWalk table.now start w.sectors.items w.link) }
+    ensures few { IfOk result (λ w. length w.sectors.items ≤ length table.now) }
+{
+    let mut sectors = Vec::new(alloc);
+    let mut from = None;
+    let mut at = start;
+    while sectors.len() < table.len() && (at as usize) < table.len() {
         sectors.push(at)?;
         from = Some(at);
         at = table[at as usize];
@@ -185,4 +205,25 @@ pub(crate) fn examine(
         return Ok(Examined::Whole(walked.sectors));
     }
     Ok(Examined::Other)
+}
+
+/// The sectors of a chain, by the entries of its table. None where it isn't whole.
+pub(crate) fn chain_at(
+    alloc: Global,
+    table: &[u32],
+    chain: Chain,
+) -> Result<Option<Vec<u32>>, AllocError>
+    requires { length table.now ≤ 0xFFFFFFF9 }
+    ensures { IfOk result (λ v. IfSome v (λ ns. (s : Store) → IsTabled table.now s → s.width ≡ chain.width → IsChain s chain.first chain.size ns.items)) }
+{
+    let walked = follow(alloc, table, chain.first)?;
+    if is_whole(
+        walked.sectors.len(),
+        walked.link.to,
+        chain.width,
+        chain.size,
+    ) {
+        return Ok(Some(walked.sectors));
+    }
+    Ok(None)
 }

@@ -3,7 +3,7 @@
 ghost use Rattle.fault_places.specs.Ways.{IsWay, end_of};
 ghost use Rattle.file_faults.specs.Faults.{IsChild};
 ghost use Rattle.std.specs.List.{All, Contains};
-ghost use Rattle.std.specs.Prelude.{◌≡◌, ◌≢◌, OnOk, true};
+ghost use Rattle.std.specs.Prelude.{[], ◌≡◌, ◌≢◌, IfOk, OnOk, true};
 
 use std::alloc::{AllocError, Global};
 
@@ -66,4 +66,13 @@ pub(crate) fn push_ways(
         push_way(alloc, directory, ways, way, *child)?;
     }
     Ok(())
+}
+
+/// The way to the root alone.
+pub(crate) fn root_way(alloc: Global) -> Result<Vec<Vec<u32>>, AllocError>
+    ensures { IfOk result (λ v. All (λ w. w.items ≡ []) v.items) }
+{
+    let mut ways = Vec::new(alloc);
+    ways.push(Vec::new(alloc))?;
+    Ok(ways)
 }
