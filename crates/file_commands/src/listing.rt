@@ -12,11 +12,14 @@ use std::alloc::{AllocError, Global};
 use storage_tree::class_id::ClassId;
 use texts::writing::{push_class, push_name, push_numbered};
 
+/// How many bytes a line usually has: room for so many is taken at once for each child of the root.
+const USUAL_LINE: usize = 24;
+
 /// The listing of an outline.
 pub fn list(alloc: Global, outline: &Outline) -> Result<Vec<u8>, AllocError>
     ensures { IfOk result (λ text. text.items ≡ listed (outline_view outline.now)) }
 {
-    let mut text = Vec::new(alloc);
+    let mut text = Vec::with_capacity(alloc, outline.parts.len().saturating_mul(USUAL_LINE))?;
     push_root(&mut text, &outline.class)?;
     push_below(alloc, &mut text, &[], outline)?;
     Ok(text)
@@ -44,17 +47,19 @@ fn push_storage(text: &mut Vec<u8>, path: &[u8], class: &ClassId) -> Result<(), 
     Ok(())
 }
 
-/// Writes a stream's line.
+/// Writes a stream's line. Its path is written where it stands, so that no buffer is taken for it.
 fn push_stream(
     alloc: Global,
     text: &mut Vec<u8>,
-    path: &[u8],
+    within: &[u8],
+    name: &Name,
     size: usize,
 ) -> Result<(), AllocError>
-    ensures { OnOk result (text.new.items ≡ text.old.items ++ stream_line path.now size) }
+    ensures { OnOk result (text.new.items ≡ text.old.items ++ stream_line (within.now ++ name_text name.now) size) }
 {
     text.extend_from_slice(b"stream ".as_slice())?;
-    text.extend_from_slice(path)?;
+    text.extend_from_slice(within)?;
+    push_name(text, name.as_bytes())?;
     push_numbered(alloc, text, " ", size)?;
     text.push(b'\n')?;
     Ok(())
@@ -96,10 +101,12 @@ fn push_part(
 ) -> Result<(), AllocError>
     ensures { OnOk result (text.new.items ≡ text.old.items ++ child_lines within.now name.now (part_view part.now)) }
 {
-    let path = path_text(alloc, within, name)?;
     match part {
-        Part::Stream(place) => push_stream(alloc, text, &path, place.size as usize),
-        Part::Storage(inner) => push_inner(alloc, text, path, inner),
+        Part::Stream(place) => push_stream(alloc, text, within, name, place.size as usize),
+        Part::Storage(inner) => {
+            let path = path_text(alloc, within, name)?;
+            push_inner(alloc, text, path, inner)
+        }
     }
 }
 
