@@ -6,8 +6,7 @@ ghost use Rattle.storage_tree.specs.View.{seen, view};
 
 use cfb_chain::fat::Fat;
 use cfb_names::name::Name;
-use file_outline::filling::bytes_at;
-use file_outline::outline::{Outline, Part, Place};
+use file_outline::outline::{Outline, Part, Place, is_short};
 use std::alloc::{AllocError, Global};
 use storage_tree::storage::{Node, Storage};
 
@@ -24,12 +23,15 @@ fn is_held(
     if place.size as usize != bytes.len() {
         return Ok(false);
     }
-    let held = bytes_at(alloc, fat, mini, place)?;
-    Ok(bytes == held.as_slice())
+    if is_short(place) {
+        mini.holds(alloc, place.first, bytes)
+    } else {
+        fat.holds(alloc, place.first, bytes)
+    }
 }
 
-/// Whether a storage holds what an outline shows, given the tables of sectors and of mini sectors. Of its streams one at a
-/// time is read.
+/// Whether a storage holds what an outline shows, given the tables of sectors and of mini sectors. Its streams are compared where
+/// they stand in the file; one that isn't seen to be the same so is read, one at a time.
 ///
 /// Refused for want of memory alone.
 #[cycle(comparing)]
