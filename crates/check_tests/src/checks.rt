@@ -1,8 +1,11 @@
 //! Checks of a file that is sound, and of the same one once bytes of it are changed.
 
 use cfb_header::fault::ChainFault;
+use fault_places::chains::find_stream;
 use fault_places::finding::find_place;
 use fault_places::place::{FaultPlace, Link};
+use fault_places::ways::end_of;
+use fault_texts::telling::Form;
 use file_checks::checking::{check_file, check_source};
 use file_commands::commands::make_file;
 use std::alloc::Global;
@@ -27,20 +30,38 @@ fn change(file: &mut [u8], at: usize, to: u8) {
 fn writes(alloc: Global, file: &[u8], is_sound: bool, want: &[u8]) -> bool {
     let mut source = file;
     let mut text = Vec::new(alloc);
-    check_file(alloc, &mut source, &mut text).is_ok() == is_sound && text.as_slice() == want
+    check_file(alloc, &mut source, Form::Line, &mut text).is_ok() == is_sound
+        && text.as_slice() == want
 }
 
 /// The same by places.
 fn writes_by_places(alloc: Global, file: &[u8], is_sound: bool, want: &[u8]) -> bool {
     let mut source = file;
     let mut text = Vec::new(alloc);
-    check_source(alloc, &mut source, &mut text).is_ok() == is_sound && text.as_slice() == want
+    check_source(alloc, &mut source, Form::Json, &mut text).is_ok() == is_sound
+        && text.as_slice() == want
 }
 
 /// Whether the directory begins outside the file.
 fn begins_outside(alloc: Global, file: &[u8], to: u32) -> bool {
     match find_place(alloc, file, ChainFault::OutOfFile) {
         Ok(Some(FaultPlace::Directory(link))) => link == Link { from: None, to },
+        _ => false,
+    }
+}
+
+/// The mini sector at which the chain of the one stream of a file comes back to itself, which lies in mini sectors.
+fn comes_back(alloc: Global, file: &[u8], n: u32) -> bool {
+    match find_stream(alloc, file, ChainFault::Cycle) {
+        Ok(Some(place)) => {
+            place.is_mini
+                && end_of(&place.way) == 1
+                && place.link
+                    == Link {
+                        from: Some(n),
+                        to: n,
+                    }
+        }
         _ => false,
     }
 }
@@ -53,16 +74,18 @@ fn a_file_is_checked(rt: HostRuntime) {
         "a sound file"
     );
     assert!(rt;
-        writes_by_places(rt.alloc(), &file, true, b"ok\n".as_slice()),
+        writes_by_places(rt.alloc(), &file, true, b"{\"ok\":true}\n".as_slice()),
         "a sound file by places"
     );
     change(&mut file, 48, 99);
     assert!(rt; begins_outside(rt.alloc(), &file, 99), "the place");
-    let want = b"OutOfFile in the directory, which begins at sector 99\n".as_slice();
+    let want = b"OutOfFile in the directory, which begins at sector 99, at byte 48\n".as_slice();
     assert!(rt;
         writes(rt.alloc(), &file, false, want),
         "a directory outside the file"
     );
+    let want =
+        b"{\"ok\":false,\"fault\":\"OutOfFile\",\"part\":\"directory\",\"sector\":null,\"to\":99,\"entry\":null,\"path\":null,\"byte\":48,\"other\":null}\n".as_slice();
     assert!(rt;
         writes_by_places(rt.alloc(), &file, false, want),
         "a directory outside the file, by places"
@@ -73,13 +96,35 @@ fn a_file_is_checked(rt: HostRuntime) {
 fn an_entry_is_told(rt: HostRuntime) {
     let mut file = file_of(&rt, rt.alloc());
     change(&mut file, 1216, 2);
-    let want = b"NameEmpty in entry 1\n".as_slice();
+    let want = b"NameEmpty in entry 1, at byte 1152\n".as_slice();
     assert!(rt; writes(rt.alloc(), &file, false, want), "a name");
     change(&mut file, 1216, 4);
     change(&mut file, 1220, 1);
     change(&mut file, 1221, 0);
     change(&mut file, 1222, 0);
     change(&mut file, 1223, 0);
-    let want = b"TreeCycle in entry 0\n".as_slice();
+    let want = b"TreeCycle in entry 0, at byte 1024\n".as_slice();
     assert!(rt; writes(rt.alloc(), &file, false, want), "links in a circle");
+}
+
+#[test]
+fn a_stream_is_told(rt: HostRuntime) {
+    let mut file = file_of(&rt, rt.alloc());
+    change(&mut file, 1536, 0);
+    change(&mut file, 1537, 0);
+    change(&mut file, 1538, 0);
+    change(&mut file, 1539, 0);
+    assert!(rt; comes_back(rt.alloc(), &file, 0), "the place");
+    let want =
+        b"Cycle in the stream of entry 1, A, whose mini sector 0 leads to 0, at byte 1536\n".as_slice();
+    assert!(rt;
+        writes(rt.alloc(), &file, false, want),
+        "a chain in a circle"
+    );
+    let want =
+        b"{\"ok\":false,\"fault\":\"Cycle\",\"part\":\"short_stream\",\"sector\":0,\"to\":0,\"entry\":1,\"path\":\"A\",\"byte\":1536,\"other\":null}\n".as_slice();
+    assert!(rt;
+        writes_by_places(rt.alloc(), &file, false, want),
+        "a chain in a circle, by places"
+    );
 }

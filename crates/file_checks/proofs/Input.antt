@@ -4,8 +4,10 @@ use Rattle.std.proofs.lemmas.List.{take_all}
 use Rattle.std.specs.Result.{is_ok}
 use Rattle.stream_io.specs.declared.fault.ReadFault.{ReadFault}
 use Rattle.stream_io.specs.declared.fault.ReadFault.TheVariants as read
+use Rattle.fault_texts.specs.declared.telling.Form.{Form}
+use Rattle.file_commands.specs.declared.fault.ListFault.{ListFault}
 use Rattle.file_commands.specs.declared.fault.ListFault.TheVariants as list
-use Rattle.file_checks.specs.Checks.{Tells, TellsFault}
+use Rattle.file_checks.specs.Checks.{IsJudged, IsUnwritten, MayRefuseCheck, Tells, TellsFault}
 
 -- what was read are the bytes of the input, where these are known
 pub of_input : (P : List ℕ → Type 0) (input : Option (List ℕ)) (bytes seen : List ℕ) → IfSome input (λ file. bytes ≡ file) → seen ≡ bytes → P seen → IfSome input P
@@ -22,12 +24,25 @@ pub whole_read : (known then : Option (List ℕ)) (n : ℕ) (bytes : List ℕ) �
 whole_read known then n bytes same c f = read_one known n bytes c (subst (λ (k : Option (List ℕ)). IfSome k (λ all. bytes ≡ take n (drop 0 all))) same f)
 
 -- a fault of the file is told by its line
-pub told_fault : (file : List ℕ) (fault : ReadFault) (old new : Option (List ℕ)) → fault ≢ read.NoMemory → TellsFault file fault old new → Tells file (list.Read fault) old new
-told_fault file (read.Chain fault) old new some h = h
-told_fault file (read.Directory fault) old new some h = h
-told_fault file read.NoMemory old new some h = absurd (some refl)
+pub told_fault : (file : List ℕ) (form : Form) (fault : ReadFault) (old new : Option (List ℕ)) → fault ≢ read.NoMemory → TellsFault file form fault old new → Tells file form (list.Read fault) old new
+told_fault file form (read.Chain fault) old new some h = h
+told_fault file form (read.Directory fault) old new some h = h
+told_fault file form read.NoMemory old new some h = absurd (some refl)
 
 -- what holds of what is Ok
 pub ok_gives : {A E : Type 0} (P : A → Type 0) (Q : Type 0) (r : Result A E) → is_ok r ≡ true → IfOk r P → ((a : A) → P a → Q) → Q
 ok_gives P Q (Ok a) is h f = f a h
 ok_gives P Q (Err e) is h f = absurd (cc is)
+
+-- ---- where a text isn't written
+pub unwritten_told : (file : List ℕ) (form : Form) (fault : ListFault) (old new : Option (List ℕ)) → IsUnwritten fault old new → Tells file form fault old new
+unwritten_told file form list.Unwritable old new h = tt
+unwritten_told file form list.NoMemory old new h = h
+unwritten_told file form (list.Input fault) old new h = absurd h
+unwritten_told file form (list.Read fault) old new h = absurd h
+
+pub unwritten_judged : (file : List ℕ) (fault : ListFault) (old new : Option (List ℕ)) → IsUnwritten fault old new → IsJudged file → MayRefuseCheck file fault
+unwritten_judged file list.Unwritable old new h j = j
+unwritten_judged file list.NoMemory old new h j = j
+unwritten_judged file (list.Input fault) old new h j = absurd h
+unwritten_judged file (list.Read fault) old new h j = absurd h

@@ -3,4 +3,3 @@
 
 pub mod checking;
 mod seeking;
-mod telling;

@@ -2,7 +2,7 @@
 
 use clap::{Arg, ArgAction, Command};
 use program_ends::command_lines;
-pub use program_ends::command_lines::FILE;
+pub use program_ends::command_lines::{FILE, JSON};
 use std::alloc::{AllocError, Global};
 
 /// The names of the commands and of their other arguments.
@@ -39,11 +39,18 @@ Example: olecon map letter.doc";
 const PLACES: &str =
     "Prints ok where the file holds a tree. Else one line is printed with the fault's name, and where it
 is, as far as that is found: in the header, in the lists of the FAT and the DIFAT, in the chain of
-the directory, of the mini FAT or of the mini stream, with the sector whose entry is at fault and
-the number that stands there, or in an entry of the directory, with its number; the root's is 0.
-The fault is told on standard error besides, as by the other commands.
+the directory, of the mini FAT, of the mini stream or of a stream, with the sector whose entry is
+at fault and the number that stands there, or in an entry of the directory. An entry is told by its
+number, the root's being 0, and by its path as far as its names can be read, as list spells it; one
+that ends with a slash is that of the storage around it. Last comes the byte of the file at which
+the number stands, or the entry begins. The fault is told on standard error besides, as by the
+other commands.
 
-Example: olecon check letter.doc";
+With --json it is one JSON value instead, {\"ok\":true} or an object with the members ok, fault, part,
+sector, to, entry, path, byte and other (the entry whose sector or whose name it is too); each is
+null where it isn't known.
+
+Example: olecon check --json letter.doc | jq -r .fault";
 
 const FOLDERS: &str =
     "Names are spelled as list prints them, and a dot at a name's end as \\2e, so that none leads
@@ -88,11 +95,19 @@ fn force_argument<'a>(alloc: Global) -> Arg<'a> {
         .action(ArgAction::SetTrue)
 }
 
+fn json_argument<'a>(alloc: Global) -> Arg<'a> {
+    Arg::new(alloc, JSON)
+        .long(JSON)
+        .help("Writes one JSON value")
+        .action(ArgAction::SetTrue)
+}
+
 fn check_command<'a>(alloc: Global) -> Result<Command<'a>, AllocError> {
     Command::new(alloc, CHECK)
         .about(ABOUT_CHECK)
         .after_help(PLACES)
-        .arg(file_argument(alloc, "The file to check"))
+        .arg(file_argument(alloc, "The file to check"))?
+        .arg(json_argument(alloc))
 }
 
 fn map_command<'a>(alloc: Global) -> Result<Command<'a>, AllocError> {

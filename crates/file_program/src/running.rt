@@ -1,6 +1,7 @@
 //! The commands over the files of a system.
 
 use cfb_names::name::Name;
+use fault_texts::telling::Form as CheckForm;
 use file_checks::checking::{check_file, check_source};
 use file_commands::cleaning::clean_file;
 use file_commands::commands::{list_file, make_file};
@@ -114,25 +115,30 @@ fn list_lines<R: Runtime + AllocGlobal>(rt: &R, mut source: R::File) -> Result<(
 }
 
 /// Tells on standard output what is wrong with a file, and where.
-pub fn check<R: Runtime + AllocGlobal>(rt: &R, path: &str) -> ExitCode {
+pub fn check<R: Runtime + AllocGlobal>(rt: &R, path: &str, form: CheckForm) -> ExitCode {
     let Ok(source) = fs::open(rt, path) else {
         return refuse(rt, &Report::File(path, "Unreadable"));
     };
-    match check_open(rt, source) {
+    match check_open(rt, source, form) {
         Ok(()) => ExitCode::SUCCESS,
         Err(fault) => refuse(rt, &fault.report(path)),
     }
 }
 
 /// Checks an open file. Of one that tells how long it is, and holds a tree, only what its listing needs is read.
-fn check_open<R: Runtime + AllocGlobal>(rt: &R, mut source: R::File) -> Result<(), ListFault> {
+fn check_open<R: Runtime + AllocGlobal>(
+    rt: &R,
+    mut source: R::File,
+    form: CheckForm,
+) -> Result<(), ListFault> {
     match source.metadata() {
         Ok(about) if about.is_file() && about.len() > 0 => check_source(
             rt.alloc(),
             &mut Sought::new(source),
+            form,
             &mut io::writer(rt),
         ),
-        _ => check_file(rt.alloc(), &mut source, &mut io::writer(rt)),
+        _ => check_file(rt.alloc(), &mut source, form, &mut io::writer(rt)),
     }
 }
 

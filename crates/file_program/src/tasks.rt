@@ -5,6 +5,7 @@ use crate::extracting::extract;
 use crate::packing::pack;
 use crate::running::{Listing, check, clean, get, list, make, map};
 use clap::ArgMatches;
+use fault_texts::telling::Form;
 use program_ends::command_lines::{CLEAN, FILE, GET, JSON, LIST, LONG, MAKE, OUT, PATH};
 use std::process::ExitCode;
 use std::rt::Runtime;
@@ -20,8 +21,8 @@ pub enum Task<'a> {
     Get(&'a str, &'a str),
     /// The tree of the file of one path, written to that of another.
     Clean(&'a str, &'a str),
-    /// What is wrong with the file of this path.
-    Check(&'a str),
+    /// What is wrong with the file of this path, and how that is told.
+    Check(&'a str, Form),
     /// The map of a file of this path.
     Map(&'a str),
     /// A folder of one path, made of the file of another; whether files that stand there are replaced.
@@ -64,7 +65,7 @@ impl<'a> Task<'a> {
             Task::List(path, listing) => list(rt, path, listing),
             Task::Get(path, word) => get(rt, path, word),
             Task::Clean(path, out) => clean(rt, path, out),
-            Task::Check(path) => check(rt, path),
+            Task::Check(path, form) => check(rt, path, form),
             Task::Map(path) => map(rt, path),
             Task::Extract(path, folder, is_forced) => extract(rt, path, folder, is_forced),
             Task::Pack(folder, path) => pack(rt, folder, path),
@@ -100,7 +101,12 @@ fn cleaning<'a>(cleaned: &ArgMatches<'a>) -> Option<Task<'a>> {
 }
 
 fn checking<'a>(checked: &ArgMatches<'a>) -> Option<Task<'a>> {
-    Some(Task::Check(checked.get_str(FILE)?))
+    let form = if checked.get_flag(JSON) {
+        Form::Json
+    } else {
+        Form::Line
+    };
+    Some(Task::Check(checked.get_str(FILE)?, form))
 }
 
 fn mapping<'a>(mapped: &ArgMatches<'a>) -> Option<Task<'a>> {

@@ -10,8 +10,8 @@ returns-clause-sound g c =
     let known : Option (List ℕ) = g.R.Read.remaining c.args.reader.now in
     let old : Option (List ℕ) = g.W.Write.contents c.args.writer.now in
     let new : Option (List ℕ) = g.W.Write.contents c.check_bytes.new.writer in
-    ok_map c.check_bytes.result (IsSound seen old new) (IfSome known (λ file. IsSound file old new))
-    (of_input (λ file. IsSound file old new) known c.in-Ok.file.items seen c.in-Ok.ensures.whole c.deref.ensures.value) c.check_bytes.ensures.sound
+    ok_map c.check_bytes.result (IsSound seen c.args.form old new) (IfSome known (λ file. IsSound file c.args.form old new))
+    (of_input (λ file. IsSound file c.args.form old new) known c.in-Ok.file.items seen c.in-Ok.ensures.whole c.deref.ensures.value) c.check_bytes.ensures.sound
 
 pub returns-clause-refused : goal.returns-clause-refused
 returns-clause-refused g c =
@@ -26,5 +26,5 @@ returns-clause-told g c =
     let known : Option (List ℕ) = g.R.Read.remaining c.args.reader.now in
     let old : Option (List ℕ) = g.W.Write.contents c.args.writer.now in
     let new : Option (List ℕ) = g.W.Write.contents c.check_bytes.new.writer in
-    err_map c.check_bytes.result (λ fault. Tells seen fault old new) (λ fault. IfSome known (λ file. Tells file fault old new))
-    (λ fault r. of_input (λ file. Tells file fault old new) known c.in-Ok.file.items seen c.in-Ok.ensures.whole c.deref.ensures.value r) c.check_bytes.ensures.told
+    err_map c.check_bytes.result (λ fault. Tells seen c.args.form fault old new) (λ fault. IfSome known (λ file. Tells file c.args.form fault old new))
+    (λ fault r. of_input (λ file. Tells file c.args.form fault old new) known c.in-Ok.file.items seen c.in-Ok.ensures.whole c.deref.ensures.value r) c.check_bytes.ensures.told

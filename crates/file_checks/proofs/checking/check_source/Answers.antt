@@ -6,8 +6,9 @@ use Rattle.texts.specs.Input.{MayRefuseInput}
 use Rattle.file_commands.specs.declared.fault.ListFault.{ListFault}
 use Rattle.file_commands.specs.declared.fault.ListFault.TheVariants as list
 use Rattle.file_commands.proofs.Listed.{err_map, ok_map, some_map}
-use Rattle.file_checks.specs.Checks.{IsSound, MayRefuseCheck, SOUND, Tells}
-use Rattle.file_checks.proofs.Input.{of_input}
+use Rattle.fault_texts.specs.Json.{sound_text}
+use Rattle.file_checks.specs.Checks.{IsSound, IsUnwritten, MayRefuseCheck, Tells}
+use Rattle.file_checks.proofs.Input.{of_input, unwritten_judged, unwritten_told}
 use Rattle.file_checks.proofs.checking.check_source.Goals as goal
 
 pub returns-then-sound-clause-sound : goal.returns-then-sound-clause-sound
@@ -15,15 +16,17 @@ returns-then-sound-clause-sound g c =
     let known : Option (List ℕ) = g.S.Source.bytes c.args.source.now in
     let old : Option (List ℕ) = g.W.Write.contents c.args.writer.now in
     let new : Option (List ℕ) = g.W.Write.contents c.write_sound.new.writer in
-    ok_map c.write_sound.result (Appends old new SOUND) (IfSome known (λ file. IsSound file old new))
-    (λ w. some_map known (λ file. (t : Tree) × ∥ Denotes file t ∥₁) (λ file. IsSound file old new) (λ file d. record { t = d.0; denotes = d.1; written = w })
+    ok_map c.write_sound.result (Appends old new (sound_text c.args.form)) (IfSome known (λ file. IsSound file c.args.form old new))
+    (λ w. some_map known (λ file. (t : Tree) × ∥ Denotes file t ∥₁) (λ file. IsSound file c.args.form old new) (λ file d. record { t = d.0; denotes = d.1; written = w })
     (c.in-Ok.ensures.sound c.if-sound.true)) c.write_sound.ensures.written
 
 pub returns-then-sound-clause-refused : goal.returns-then-sound-clause-refused
 returns-then-sound-clause-refused g c =
     let known : Option (List ℕ) = g.S.Source.bytes c.args.source.now in
-    err_map c.write_sound.result (λ fault. fault ≡ list.Unwritable) (λ fault. IfSome known (λ file. MayRefuseCheck file fault))
-    (λ fault is. some_map known (λ file. (t : Tree) × ∥ Denotes file t ∥₁) (λ file. MayRefuseCheck file fault) (λ file d. subst (MayRefuseCheck file) (sym is) (inl d))
+    let old : Option (List ℕ) = g.W.Write.contents c.args.writer.now in
+    let new : Option (List ℕ) = g.W.Write.contents c.write_sound.new.writer in
+    err_map c.write_sound.result (λ fault. IsUnwritten fault old new) (λ fault. IfSome known (λ file. MayRefuseCheck file fault))
+    (λ fault h. some_map known (λ file. (t : Tree) × ∥ Denotes file t ∥₁) (λ file. MayRefuseCheck file fault) (λ file d. unwritten_judged file fault old new h (inl d))
     (c.in-Ok.ensures.sound c.if-sound.true)) c.write_sound.ensures.refused
 
 pub returns-then-sound-clause-told : goal.returns-then-sound-clause-told
@@ -31,9 +34,9 @@ returns-then-sound-clause-told g c =
     let known : Option (List ℕ) = g.S.Source.bytes c.args.source.now in
     let old : Option (List ℕ) = g.W.Write.contents c.args.writer.now in
     let new : Option (List ℕ) = g.W.Write.contents c.write_sound.new.writer in
-    err_map c.write_sound.result (λ fault. fault ≡ list.Unwritable) (λ fault. IfSome known (λ file. Tells file fault old new))
-    (λ fault is. some_map known (λ file. (t : Tree) × ∥ Denotes file t ∥₁) (λ file. Tells file fault old new)
-    (λ file d. subst (λ (f : ListFault). Tells file f old new) (sym is) tt) (c.in-Ok.ensures.sound c.if-sound.true)) c.write_sound.ensures.refused
+    err_map c.write_sound.result (λ fault. IsUnwritten fault old new) (λ fault. IfSome known (λ file. Tells file c.args.form fault old new))
+    (λ fault h. some_map known (λ file. (t : Tree) × ∥ Denotes file t ∥₁) (λ file. Tells file c.args.form fault old new)
+    (λ file d. unwritten_told file c.args.form fault old new h) (c.in-Ok.ensures.sound c.if-sound.true)) c.write_sound.ensures.refused
 
 pub returns-in-Err-read_whole-clause-refused : goal.returns-in-Err-read_whole-clause-refused
 returns-in-Err-read_whole-clause-refused g c =
@@ -47,8 +50,8 @@ returns-clause-sound g c =
     let old : Option (List ℕ) = g.W.Write.contents c.args.writer.now in
     let new : Option (List ℕ) = g.W.Write.contents c.check_bytes.new.writer in
     let whole : IfSome known (λ file. bytes ≡ file) = subst (λ (k : Option (List ℕ)). IfSome k (λ file. bytes ≡ file)) c.is_sound.ensures.kept c.in-Ok-read_whole.ensures.whole in
-    ok_map c.check_bytes.result (IsSound seen old new) (IfSome known (λ file. IsSound file old new))
-    (of_input (λ file. IsSound file old new) known bytes seen whole c.deref.ensures.value) c.check_bytes.ensures.sound
+    ok_map c.check_bytes.result (IsSound seen c.args.form old new) (IfSome known (λ file. IsSound file c.args.form old new))
+    (of_input (λ file. IsSound file c.args.form old new) known bytes seen whole c.deref.ensures.value) c.check_bytes.ensures.sound
 
 pub returns-clause-refused : goal.returns-clause-refused
 returns-clause-refused g c =
@@ -67,5 +70,5 @@ returns-clause-told g c =
     let old : Option (List ℕ) = g.W.Write.contents c.args.writer.now in
     let new : Option (List ℕ) = g.W.Write.contents c.check_bytes.new.writer in
     let whole : IfSome known (λ file. bytes ≡ file) = subst (λ (k : Option (List ℕ)). IfSome k (λ file. bytes ≡ file)) c.is_sound.ensures.kept c.in-Ok-read_whole.ensures.whole in
-    err_map c.check_bytes.result (λ fault. Tells seen fault old new) (λ fault. IfSome known (λ file. Tells file fault old new))
-    (λ fault r. of_input (λ file. Tells file fault old new) known bytes seen whole c.deref.ensures.value r) c.check_bytes.ensures.told
+    err_map c.check_bytes.result (λ fault. Tells seen c.args.form fault old new) (λ fault. IfSome known (λ file. Tells file c.args.form fault old new))
+    (λ fault r. of_input (λ file. Tells file c.args.form fault old new) known bytes seen whole c.deref.ensures.value r) c.check_bytes.ensures.told

@@ -2,18 +2,18 @@ use Rattle.std.proofs.Common.{◌∙◌, inr, ℕ, List, Option, subst}
 use Rattle.std.specs.Io.KnownBytes.{Appends}
 use Rattle.file_checks.specs.Checks.{TellsFault}
 use Rattle.file_checks.proofs.Input.{told_fault}
-use Rattle.file_checks.proofs.checking.tell_line.Goals as goal
+use Rattle.file_checks.proofs.checking.tell_fault.Goals as goal
 
 pub returns-in-Ok-write_all-clause-told : goal.returns-in-Ok-write_all-clause-told
 returns-in-Ok-write_all-clause-told g c =
     let old : Option (List ℕ) = g.W.Write.contents c.args.writer.now in
     let new : Option (List ℕ) = g.W.Write.contents c.write_all.new.writer in
-    let told : TellsFault c.args.file.now c.args.fault old new = record {
-      at = c.place_of-place.result;
-      is_there = c.place_of-place.ensures;
+    let told : TellsFault c.args.file.now c.args.form c.args.fault old new = record {
+      at = c.find_spot-spot.result;
+      is_there = c.find_spot-spot.ensures;
       written = subst (Appends old new) (c.deref.ensures.value ∙ c.in-Ok.ensures) c.in-Ok-write_all.ensures;
     } in
-    told_fault c.args.file.now c.args.fault old new c.requires.its_own told
+    told_fault c.args.file.now c.args.form c.args.fault old new c.requires.its_own told
 
 pub returns-in_default-clause-ends : goal.returns-in_default-clause-ends
 returns-in_default-clause-ends g c = λ r. inr (c.args.fault, c.requires.its_own, r)

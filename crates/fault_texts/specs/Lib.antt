@@ -1,0 +1,3 @@
+pub mod Spots
+pub mod Lines
+pub mod Json

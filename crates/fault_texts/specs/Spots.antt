@@ -1,0 +1,99 @@
+-- Where a file is at fault, with the path of the entry and the byte of the file.
+use Rattle.std.specs.Prelude.{◌≡◌, ◌⊎◌, ◌<◌, ◌≤◌, ◌+◌, ◌*◌, ◌++◌, ℕ, List, [], ◌∷◌, IfSome, drop, flat_map, length, string_bytes, take}
+use Rattle.cfb_header.specs.Bytes.{u32_at}
+use Rattle.cfb_directory.specs.Entries.{IsNamed, entry_at}
+use Rattle.text_model.specs.Spelled.{name_text}
+use Rattle.file_faults.specs.Faults.{IsDirectory}
+use Rattle.fault_places.specs.Places.{IsFaultAt}
+use Rattle.fault_places.specs.Streams.{IsFaultOfStream}
+use Rattle.fault_places.specs.Ways.{IsFaultOfEntry, end_of}
+use Rattle.fault_places.specs.declared.place.Link.{Link}
+use Rattle.fault_places.specs.declared.place.FaultPlace.{FaultPlace}
+use Rattle.fault_places.specs.declared.place.FaultPlace.TheVariants as chain
+use Rattle.fault_places.specs.declared.place.EntryPlace.{EntryPlace}
+use Rattle.fault_places.specs.declared.place.EntryPlace.TheVariants as entry
+use Rattle.stream_io.specs.declared.fault.ReadFault.{ReadFault}
+use Rattle.stream_io.specs.declared.fault.ReadFault.TheVariants as read
+use Rattle.fault_texts.specs.declared.spot.Place.{Place}
+use Rattle.fault_texts.specs.declared.spot.Place.TheVariants as place
+use Rattle.fault_texts.specs.declared.spot.Spot.{Spot}
+
+-- a place at which a file has a fault
+abbrev pub IsPlaceOf : List ℕ → ReadFault → Place → Type 0
+IsPlaceOf file (read.Chain fault) (place.Chain p) = IsFaultAt file fault p
+IsPlaceOf file (read.Chain fault) (place.Stream p) = IsFaultOfStream file fault p
+IsPlaceOf file (read.Chain fault) (place.Entry p) = ⊥
+IsPlaceOf file (read.Directory fault) (place.Chain p) = ⊥
+IsPlaceOf file (read.Directory fault) (place.Stream p) = ⊥
+IsPlaceOf file (read.Directory fault) (place.Entry p) = IsFaultOfEntry file fault p
+IsPlaceOf file read.NoMemory (place.Chain p) = ⊥
+IsPlaceOf file read.NoMemory (place.Stream p) = ⊥
+IsPlaceOf file read.NoMemory (place.Entry p) = ⊥
+
+-- ---- the path
+-- the way to the entry of a place; of two with one name it is that of the second
+abbrev pub way_of : Place → List ℕ
+way_of (place.Chain p) = []
+way_of (place.Stream p) = p.way.items
+way_of (place.Entry entry.Nowhere) = []
+way_of (place.Entry (entry.Entry way)) = way.items
+way_of (place.Entry (entry.Twins way m n)) = way.items ++ n ∷ []
+
+-- the names of the first entries on a way
+abbrev pub AreNamesOf : List ℕ → List ℕ → List (List ℕ) → Type 0
+AreNamesOf dir way [] = Unit {0}
+AreNamesOf dir [] (name ∷ names) = ⊥
+AreNamesOf dir (id ∷ way) (name ∷ names) = IsNamed (entry_at dir id) name × AreNamesOf dir way names
+
+-- names as `list` spells them, with a slash behind each
+abbrev pub within : List (List ℕ) → List ℕ
+within [] = []
+within (name ∷ names) = name_text name ++ 47 ∷ within names
+
+-- The path of the entry to which a way leads, or its front, which ends with a slash, as far as names are known.
+abbrev pub IsPathIn : List ℕ → List ℕ → List ℕ → Type 0
+IsPathIn dir way path = ((names : List (List ℕ)) × AreNamesOf dir way names × (length names < length way) × (path ≡ within names))
+    ⊎ ((names : List (List ℕ)) × (name : List ℕ) × AreNamesOf dir way (names ++ name ∷ []) × (length names + 1 ≡ length way) × (path ≡ within names ++ name_text name))
+
+-- the same of a file
+abbrev pub IsPathOf : List ℕ → List ℕ → List ℕ → Type 0
+IsPathOf file way path = (dir : List ℕ) × IsDirectory file dir × IsPathIn dir way path
+
+-- ---- the byte
+-- a number stands at a byte of a file
+pub record IsWordAt (file : List ℕ) (byte n : ℕ) : Type 0 where
+  pub inside : byte + 4 ≤ length file
+  pub is : u32_at file byte ≡ n
+
+-- an entry of the directory begins at a byte of a file
+pub record IsEntryAt (file : List ℕ) (byte id : ℕ) : Type 0 where
+  pub dir : List ℕ
+  pub directory : IsDirectory file dir
+  pub inside : byte + 128 ≤ length file
+  pub same : take 128 (drop byte file) ≡ take 128 (drop (128 * id) dir)
+
+-- where the number stands that a link names
+abbrev pub IsByteOfChain : List ℕ → FaultPlace → ℕ → Type 0
+IsByteOfChain file chain.Header byte = ⊥
+IsByteOfChain file chain.Fat byte = ⊥
+IsByteOfChain file (chain.Directory link) byte = IsWordAt file byte link.to
+IsByteOfChain file (chain.MiniFat link) byte = IsWordAt file byte link.to
+IsByteOfChain file (chain.MiniStream link) byte = IsWordAt file byte link.to
+
+-- where the entry begins; of two with one name it is the second
+abbrev pub IsByteOfEntry : List ℕ → EntryPlace → ℕ → Type 0
+IsByteOfEntry file entry.Nowhere byte = ⊥
+IsByteOfEntry file (entry.Entry way) byte = IsEntryAt file byte (end_of way.items)
+IsByteOfEntry file (entry.Twins way m n) byte = IsEntryAt file byte n
+
+-- the byte of a place
+abbrev pub IsByteOf : List ℕ → Place → ℕ → Type 0
+IsByteOf file (place.Chain p) byte = IsByteOfChain file p byte
+IsByteOf file (place.Stream p) byte = IsWordAt file byte p.link.to
+IsByteOf file (place.Entry p) byte = IsByteOfEntry file p byte
+
+-- ---- all of it
+pub record IsSpotOf (file : List ℕ) (fault : ReadFault) (s : Spot) : Type 0 where
+  pub at : IsPlaceOf file fault s.place
+  pub path : IfSome s.path (λ p. IsPathOf file (way_of s.place) (string_bytes p))
+  pub byte : IfSome s.byte (λ b. IsByteOf file s.place b)

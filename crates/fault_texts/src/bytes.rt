@@ -1,0 +1,191 @@
+//! The bytes of a file at which what is wrong stands.
+
+ghost use Rattle.cfb_header.specs.Bytes.{u32_at};
+ghost use Rattle.fault_texts.specs.Spots.{IsByteOf, IsByteOfChain, IsByteOfEntry, IsEntryAt, IsWordAt};
+ghost use Rattle.file_faults.specs.Faults.{IsDirectory};
+ghost use Rattle.std.specs.Prelude.{◌*◌, ◌+◌, ◌≡◌, ◌≤◌, IfSome, drop, length, take, true};
+
+use crate::spot::Place;
+use cfb_bytes::numbers::read_u32;
+use cfb_chain::difat::fat_sectors;
+use cfb_chain::fat::Fat;
+use cfb_chain::image::Image;
+use cfb_header::header::Header;
+use fault_places::directory::read_directory;
+use fault_places::place::{EntryPlace, FaultPlace, Link, StreamPlace};
+use fault_places::ways::end_of;
+use std::alloc::Global;
+
+/// The bytes of a sector.
+const SECTOR: usize = 512;
+
+/// The fields of the header that tell where the directory and the mini FAT begin, and that of an entry that tells where its
+/// stream begins.
+const FIRST_DIRECTORY: usize = 48;
+
+const FIRST_MINI_FAT: usize = 60;
+
+const FIRST: usize = 116;
+
+/// The bytes of a number of a table, and of an entry of the directory.
+const NUMBER: usize = 4;
+
+const ENTRY: usize = 128;
+
+/// The byte at which an item of a table stands that lies in these sectors, each item of so many bytes.
+fn byte_in(sectors: &[u32], width: usize, n: u32) -> Option<usize> {
+    let per_sector = SECTOR.checked_div(width)?;
+    let at = (n as usize).checked_div(per_sector)?;
+    let sector = *sectors.get(at)? as usize;
+    let inside = (n as usize).checked_rem(per_sector)?;
+    Some(SECTOR + SECTOR * sector + width.checked_mul(inside)?)
+}
+
+/// The byte of the entry of a sector in the FAT.
+fn byte_in_fat(alloc: Global, file: &[u8], n: u32) -> Option<usize> {
+    let header = Header::read(file).ok()?;
+    let own = fat_sectors(alloc, &header, &Image::Whole(file)).ok()?;
+    byte_in(&own.fat, NUMBER, n)
+}
+
+/// The byte of an entry of the directory.
+fn byte_in_directory(alloc: Global, file: &[u8], id: u32) -> Option<usize> {
+    let header = Header::read(file).ok()?;
+    let mut fat = Fat::load(alloc, &header, Image::Whole(file)).ok()?;
+    let sectors = fat.chain(alloc, header.first_directory()).ok()?;
+    byte_in(&sectors, ENTRY, id)
+}
+
+/// The byte of the entry of a mini sector in the mini FAT.
+fn byte_in_mini_fat(alloc: Global, file: &[u8], n: u32) -> Option<usize> {
+    let header = Header::read(file).ok()?;
+    let mut fat = Fat::load(alloc, &header, Image::Whole(file)).ok()?;
+    let sectors = fat.chain(alloc, header.first_mini_fat()).ok()?;
+    byte_in(&sectors, NUMBER, n)
+}
+
+/// The byte of the first number of the stream of an entry.
+fn byte_of_first(alloc: Global, file: &[u8], id: u32) -> Option<usize> {
+    byte_in_directory(alloc, file, id)?.checked_add(FIRST)
+}
+
+/// The byte of the number of a link of a chain of sectors, of which the first one stands at another.
+fn byte_of_link(alloc: Global, file: &[u8], link: Link, first: Option<usize>) -> Option<usize> {
+    match link.from {
+        Some(from) => byte_in_fat(alloc, file, from),
+        None => first,
+    }
+}
+
+/// The byte of the number of a link of a stream's chain.
+fn byte_of_stream_link(alloc: Global, file: &[u8], stream: &StreamPlace) -> Option<usize> {
+    match stream.link.from {
+        Some(from) if stream.is_mini => byte_in_mini_fat(alloc, file, from),
+        Some(from) => byte_in_fat(alloc, file, from),
+        None => byte_of_first(alloc, file, end_of(&stream.way)),
+    }
+}
+
+/// Whether a number stands at a byte.
+fn has_word(file: &[u8], at: usize, n: u32) -> bool
+    ensures { result ≡ true → IsWordAt file.now at n }
+{
+    if file.len() < NUMBER || at > file.len() - NUMBER {
+        return false;
+    }
+    read_u32(file, at) == n
+}
+
+/// A byte, where a number stands there.
+fn word_at(file: &[u8], at: Option<usize>, n: u32) -> Option<u32>
+    ensures { IfSome result (λ byte. IsWordAt file.now byte n) }
+{
+    let at = at?;
+    if at < 0x1_0000_0000 && has_word(file, at, n) {
+        return Some(at as u32);
+    }
+    None
+}
+
+/// The 128 bytes from a place on.
+fn entry_bytes<'a>(bytes: &'a [u8], at: usize) -> Option<&'a [u8]>
+    ensures { IfSome result (λ part. (at + 128 ≤ length bytes.now) × (part.now ≡ take 128 (drop at bytes.now))) }
+{
+    let rest = bytes.get(at..)?;
+    let part = rest.get(..ENTRY)?;
+    Some(part)
+}
+
+/// Whether the same 128 bytes stand at two places.
+fn are_same(bytes: &[u8], at: usize, others: &[u8], other: usize) -> bool
+    ensures { result ≡ true → (at + 128 ≤ length bytes.now) × (take 128 (drop at bytes.now) ≡ take 128 (drop other others.now)) }
+{
+    let Some(one) = entry_bytes(bytes, at) else {
+        return false;
+    };
+    let Some(two) = entry_bytes(others, other) else {
+        return false;
+    };
+    one == two
+}
+
+/// The byte at which an entry of the directory begins.
+fn entry_at(alloc: Global, file: &[u8], id: u32) -> Option<u32>
+    ensures { IfSome result (λ byte. IsEntryAt file.now byte id) }
+{
+    let at = byte_in_directory(alloc, file, id)?;
+    let directory = read_directory(alloc, file)?;
+    if at < 0x1_0000_0000 && are_same(file, at, &directory, ENTRY * id as usize) {
+        return Some(at as u32);
+    }
+    None
+}
+
+/// The byte of a place of a chain of the system's own parts.
+fn byte_of_chain(alloc: Global, file: &[u8], place: FaultPlace) -> Option<u32>
+    ensures { IfSome result (IsByteOfChain file.now place) }
+{
+    match place {
+        FaultPlace::Header => None,
+        FaultPlace::Fat => None,
+        FaultPlace::Directory(link) => {
+            let at = byte_of_link(alloc, file, link, Some(FIRST_DIRECTORY));
+            word_at(file, at, link.to)
+        }
+        FaultPlace::MiniFat(link) => {
+            let at = byte_of_link(alloc, file, link, Some(FIRST_MINI_FAT));
+            word_at(file, at, link.to)
+        }
+        FaultPlace::MiniStream(link) => {
+            let first = byte_of_first(alloc, file, 0);
+            let at = byte_of_link(alloc, file, link, first);
+            word_at(file, at, link.to)
+        }
+    }
+}
+
+/// The byte of a place of the directory.
+fn byte_of_entry(alloc: Global, file: &[u8], place: &EntryPlace) -> Option<u32>
+    ensures { IfSome result (IsByteOfEntry file.now place.now) }
+{
+    match place {
+        EntryPlace::Nowhere => None,
+        EntryPlace::Entry(way) => entry_at(alloc, file, end_of(way)),
+        EntryPlace::Twins(_, _, other) => entry_at(alloc, file, *other),
+    }
+}
+
+/// The byte of a place: where the number stands that a chain goes wrong by, or where the entry begins. None for the header and
+/// the lists of the FAT, and for want of memory.
+pub(crate) fn byte_of(alloc: Global, file: &[u8], place: &Place) -> Option<u32>
+    ensures { IfSome result (IsByteOf file.now place.now) }
+{
+    match place {
+        Place::Chain(chain) => byte_of_chain(alloc, file, *chain),
+        Place::Stream(stream) => {
+            let at = byte_of_stream_link(alloc, file, stream);
+            word_at(file, at, stream.link.to)
+        }
+        Place::Entry(entry) => byte_of_entry(alloc, file, entry),
+    }
+}

@@ -1,0 +1,81 @@
+//! The paths of entries.
+
+ghost use Rattle.cfb_directory.specs.Entries.{IsNamed, entry_at};
+ghost use Rattle.cfb_names.specs.Names.{IsName};
+ghost use Rattle.fault_texts.specs.Spots.{IsPathIn, IsPathOf};
+ghost use Rattle.std.specs.Prelude.{◌≡◌, ◌++◌, IfOk, IfSome, OnOk, string_bytes};
+ghost use Rattle.text_model.specs.Spelled.{name_text};
+
+use cfb_directory::entries::Entries;
+use cfb_names::name::Name;
+use fault_places::directory::read_directory;
+use std::alloc::{AllocError, Global};
+use texts::writing::push_name;
+
+/// The name of an entry other than the root, where it can be read.
+fn name_at(entries: &Entries<'_>, id: u32) -> Option<Name>
+    ensures named { IfSome result (IsNamed (entry_at entries.now.directory id)) }
+    ensures valid { IfSome result IsName }
+{
+    if id == 0 {
+        return None;
+    }
+    match entries.entry(id) {
+        Ok(entry) => Some(entry.name),
+        Err(_) => None,
+    }
+}
+
+/// Adds a name to a path.
+fn push_part(path: &mut Vec<u8>, name: &Name) -> Result<(), AllocError>
+    ensures { OnOk result (path.new.items ≡ path.old.items ++ name_text name.now) }
+{
+    push_name(path, name.as_bytes())
+}
+
+/// The path of the entry to which a way leads that isn't the root, in a directory with these entries, as far as names can be
+/// read.
+fn path_in(alloc: Global, entries: &Entries<'_>, way: &[u32]) -> Result<Option<Vec<u8>>, AllocError>
+    ensures { IfOk result (λ v. IfSome v (λ path. IsPathIn entries.now.directory way.now path.items)) }
+{
+    let mut path = Vec::new(alloc);
+    for k in 0..way.len() {
+        let Some(name) = name_at(entries, way[k]) else {
+            return Ok(Some(path));
+        };
+        push_part(&mut path, &name)?;
+        if k + 1 == way.len() {
+            return Ok(Some(path));
+        }
+        path.push(b'/')?;
+    }
+    Ok(None)
+}
+
+/// A path as text, where it has a name. All names are ASCII.
+fn text_of(path: Vec<u8>) -> Option<String>
+    ensures { IfSome result (λ text. string_bytes text ≡ path.items) }
+{
+    if path.is_empty() {
+        return None;
+    }
+    match String::from_utf8(path) {
+        Ok(text) => Some(text),
+        Err(_) => None,
+    }
+}
+
+/// The path of the entry of a file to which a way leads, as far as names can be read. None where no name is read, where the
+/// way leads to the root, and for want of memory.
+pub(crate) fn path_of(alloc: Global, file: &[u8], way: &[u32]) -> Option<String>
+    ensures { IfSome result (λ path. IsPathOf file.now way.now (string_bytes path)) }
+{
+    let directory = read_directory(alloc, file)?;
+    let Ok(entries) = Entries::load(alloc, &directory) else {
+        return None;
+    };
+    let Ok(Some(path)) = path_in(alloc, &entries, way) else {
+        return None;
+    };
+    text_of(path)
+}

@@ -1,0 +1,132 @@
+//! The place at which a file is at fault, with the path of its entry and the byte at which it stands.
+
+ghost use Rattle.fault_texts.specs.Spots.{IsPathOf, IsPlaceOf, IsSpotOf, way_of};
+ghost use Rattle.std.specs.Prelude.{[], ◌∷◌, ◌≡◌, ◌++◌, IfOk, IfSome, string_bytes};
+
+use crate::bytes::byte_of;
+use crate::paths::path_of;
+use cfb_header::fault::ChainFault;
+use cfb_names::fault::DirFault;
+use fault_places::chains::find_stream;
+use fault_places::directory::find_entry;
+use fault_places::finding::find_place;
+use fault_places::place::{EntryPlace, FaultPlace, StreamPlace};
+use std::alloc::{AllocError, Global};
+use stream_io::fault::ReadFault;
+
+/// A place at which a file has a fault.
+#[derive(Drop)]
+pub enum Place {
+    /// Of the header, or of a chain of one of the system's own parts.
+    Chain(FaultPlace),
+    /// Of a stream's chain.
+    Stream(StreamPlace),
+    /// Of the directory.
+    Entry(EntryPlace),
+}
+
+/// A place at which a file has a fault, and what is known of it.
+#[derive(Drop)]
+pub struct Spot {
+    /// The place.
+    pub place: Place,
+    /// The path of the entry that it is of, as `list` spells it. Where the name of an entry on the way to it can't be read,
+    /// the path ends before it, with a slash. None for the root, and where no name is known.
+    pub path: Option<String>,
+    /// The byte of the file at which the number stands that a chain goes wrong by, or at which the entry begins.
+    pub byte: Option<u32>,
+}
+
+/// The place at which a file has a fault of its header or a chain of its parts.
+fn place_in_parts(alloc: Global, file: &[u8], fault: ChainFault) -> Option<Place>
+    ensures { IfSome result (IsPlaceOf file.now (ReadFault.Chain fault)) }
+{
+    match find_place(alloc, file, fault) {
+        Ok(Some(place)) => Some(Place::Chain(place)),
+        _ => None,
+    }
+}
+
+/// The place at which a file has a fault of a stream's chain.
+fn place_in_streams(alloc: Global, file: &[u8], fault: ChainFault) -> Option<Place>
+    ensures { IfSome result (IsPlaceOf file.now (ReadFault.Chain fault)) }
+{
+    match find_stream(alloc, file, fault) {
+        Ok(Some(place)) => Some(Place::Stream(place)),
+        _ => None,
+    }
+}
+
+/// The place at which a file has a fault of its header or a chain.
+fn place_in_chains(alloc: Global, file: &[u8], fault: ChainFault) -> Option<Place>
+    ensures { IfSome result (IsPlaceOf file.now (ReadFault.Chain fault)) }
+{
+    match place_in_parts(alloc, file, fault) {
+        Some(place) => Some(place),
+        None => place_in_streams(alloc, file, fault),
+    }
+}
+
+/// The place at which a file has a fault of its directory.
+fn place_in_directory(alloc: Global, file: &[u8], fault: DirFault) -> Option<Place>
+    ensures { IfSome result (IsPlaceOf file.now (ReadFault.Directory fault)) }
+{
+    match find_entry(alloc, file, fault) {
+        Ok(Some(place)) => Some(Place::Entry(place)),
+        _ => None,
+    }
+}
+
+/// The place at which a file has a fault.
+fn place_of(alloc: Global, file: &[u8], fault: ReadFault) -> Option<Place>
+    ensures { IfSome result (IsPlaceOf file.now fault) }
+{
+    match fault {
+        ReadFault::Chain(chain) => place_in_chains(alloc, file, chain),
+        ReadFault::Directory(directory) => place_in_directory(alloc, file, directory),
+        ReadFault::NoMemory => None,
+    }
+}
+
+/// The way to the entry of a place: the entries on it below the root. None where it is of no entry, or of the root.
+fn way_of(alloc: Global, place: &Place) -> Result<Vec<u32>, AllocError>
+    ensures { IfOk result (λ way. way.items ≡ way_of place.now) }
+{
+    match place {
+        Place::Chain(_) => Ok(Vec::new(alloc)),
+        Place::Stream(stream) => Vec::from_slice(alloc, &stream.way),
+        Place::Entry(EntryPlace::Nowhere) => Ok(Vec::new(alloc)),
+        Place::Entry(EntryPlace::Entry(way)) => Vec::from_slice(alloc, way),
+        Place::Entry(EntryPlace::Twins(way, _, other)) => with_last(alloc, way, *other),
+    }
+}
+
+/// A way with one entry more.
+fn with_last(alloc: Global, way: &[u32], last: u32) -> Result<Vec<u32>, AllocError>
+    ensures { IfOk result (λ v. v.items ≡ way.now ++ last ∷ []) }
+{
+    let mut longer = Vec::from_slice(alloc, way)?;
+    longer.push(last)?;
+    Ok(longer)
+}
+
+/// The path of the entry of a place, as far as it is known.
+fn known_path(alloc: Global, file: &[u8], place: &Place) -> Option<String>
+    ensures { IfSome result (λ path. IsPathOf file.now (way_of place.now) (string_bytes path)) }
+{
+    let Ok(way) = way_of(alloc, place) else {
+        return None;
+    };
+    path_of(alloc, file, &way)
+}
+
+/// The place at which a file has a fault, where one is found and there is memory to look for it, with the path of its entry
+/// and the byte, where these are known.
+pub fn find_spot(alloc: Global, file: &[u8], fault: ReadFault) -> Option<Spot>
+    ensures { IfSome result (IsSpotOf file.now fault) }
+{
+    let place = place_of(alloc, file, fault)?;
+    let path = known_path(alloc, file, &place);
+    let byte = byte_of(alloc, file, &place);
+    Some(Spot { place, path, byte })
+}
