@@ -123,9 +123,29 @@ fn is_refused(alloc: Global, fat: &mut Fat, start: u32, want: &str) -> bool {
 /// Whether a chain is marked and has these first bytes, or isn't for this fault.
 fn holds(rt: &impl Abort, alloc: Global, fat: &mut Fat, start: u32, len: u32, want: &str) -> bool {
     match fat.mark_chain(start, len) {
-        Ok(()) => are_spelled(rt, alloc, &held(rt, alloc, fat, start, len), want),
+        Ok(()) => are_held(
+            rt,
+            alloc,
+            fat,
+            start,
+            &held(rt, alloc, fat, start, len),
+            want,
+        ),
         Err(fault) => fault.name() == want,
     }
+}
+
+/// Whether bytes of a chain are these, also as they are compared where they stand.
+fn are_held(
+    rt: &impl Abort,
+    alloc: Global,
+    fat: &Fat,
+    start: u32,
+    bytes: &[u8],
+    want: &str,
+) -> bool {
+    let same = fat.holds(alloc, start, bytes).expect(rt, "memory");
+    same && are_spelled(rt, alloc, bytes, want)
 }
 
 fn held(rt: &impl Abort, alloc: Global, fat: &Fat, start: u32, len: u32) -> Vec<u8> {
