@@ -18,7 +18,7 @@ use crate::saves::{first_of, save_all};
 use container_core::container::ContainerCore;
 use container_model::fault::ContainerFault;
 use message_bytes::decoder::Decoder;
-use message_bytes::encode::encode;
+use message_bytes::encode::encode_into;
 use message_bytes::fault::WireFault;
 use message_bytes::frame::Frame;
 use script_model::answer::Told;
@@ -74,14 +74,11 @@ pub enum Heard {
 }
 
 /// Adds the byte form of a frame.
-fn push_frame(alloc: Global, out: &mut Vec<u8>, frame: &Frame) -> Result<(), ScriptFault>
+fn push_frame(out: &mut Vec<u8>, frame: &Frame) -> Result<(), ScriptFault>
     ensures { OnOk result (out.new.items ≡ out.old.items ++ spell frame.now) }
 {
-    match encode(alloc, frame) {
-        Ok(bytes) => {
-            out.extend_from_slice(&bytes)?;
-            Ok(())
-        }
+    match encode_into(out, frame) {
+        Ok(()) => Ok(()),
         Err(_) => Err(ScriptFault::NoMemory),
     }
 }
@@ -105,10 +102,10 @@ fn turn_bytes(alloc: Global, core: &ContainerCore, inc: u32) -> Result<Vec<u8>, 
     let mut out = Vec::new(alloc);
     for call in core.resend(alloc)? {
         if server_of(&call) == inc {
-            push_frame(alloc, &mut out, &Frame::Message(call))?;
+            push_frame(&mut out, &Frame::Message(call))?;
         }
     }
-    push_frame(alloc, &mut out, &Frame::Turn)?;
+    push_frame(&mut out, &Frame::Turn)?;
     Ok(out)
 }
 
