@@ -7,7 +7,7 @@ ghost use Rattle.cfb_chain.specs.Fat.{AreFree, FatValue, IsFat, IsFound, IsFree,
 ghost use Rattle.cfb_chain.specs.View.{bytes_of, image_bytes, start_of, width_of};
 ghost use Rattle.cfb_header.specs.declared.fault.ChainFault.TheVariants.{CrossLinked, Cycle, NoMemory, OutOfFile, ShortChain};
 ghost use Rattle.std.specs.List.{All, Contains};
-ghost use Rattle.std.specs.Prelude.{◌*◌, ◌+◌, ◌++◌, ◌<◌, ◌^◌, ◌≡◌, ◌≢◌, ◌≤◌, ◌⊎◌, IfErr, IfNone, IfOk, IfSome, List, OnErr, OnOk, length, slice_index, take, true, ℕ};
+ghost use Rattle.std.specs.Prelude.{◌*◌, ◌+◌, ◌++◌, ◌<◌, ◌^◌, ◌≡◌, ◌≢◌, ◌≤◌, ◌↔◌, ◌⊎◌, IfErr, IfNone, IfOk, IfSome, IsTrue, List, OnErr, OnOk, length, slice_index, take, true, ℕ};
 
 use crate::difat::{FatSectors, fat_sectors};
 use crate::image::{Image, join_placed};
@@ -269,7 +269,7 @@ impl<'a> Fat<'a> {
     /// marked or not. They are compared where they stand, sectors in a row at once, and joined only where they aren't seen to be
     /// the same so.
     pub fn holds(&self, alloc: Global, start: u32, bytes: &[u8]) -> Result<bool, AllocError>
-        ensures { IfOk result (λ same. same ≡ true → bytes.now ≡ held self.now start (length bytes.now)) }
+        ensures { IfOk result (λ same. IsTrue same ↔ bytes.now ≡ held self.now start (length bytes.now)) }
     {
         let sectors = follow(alloc, &self.next, start)?;
         if self.pieces.show(&sectors, bytes) {

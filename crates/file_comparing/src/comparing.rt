@@ -1,7 +1,8 @@
 //! Whether a storage holds what an outline of a file shows.
 
-ghost use Rattle.file_outline.specs.View.{contents, shown, shown_part};
-ghost use Rattle.std.specs.Prelude.{◌≡◌, IfOk, true};
+ghost use Rattle.file_model.specs.Outline.{outline_of, part_of};
+ghost use Rattle.file_outline.specs.View.{contents, outline_view, part_view, shown, shown_part};
+ghost use Rattle.std.specs.Prelude.{◌≡◌, IfOk, length, true};
 ghost use Rattle.storage_tree.specs.View.{seen, view};
 
 use cfb_chain::fat::Fat;
@@ -18,7 +19,8 @@ fn is_held(
     place: Place,
     bytes: &[u8],
 ) -> Result<bool, AllocError>
-    ensures { IfOk result (λ same. same ≡ true → bytes.now ≡ contents fat.now mini.now place) }
+    ensures same { IfOk result (λ same. same ≡ true → bytes.now ≡ contents fat.now mini.now place) }
+    ensures missed { length (contents fat.now mini.now place) ≡ place.size → IfOk result (λ same. bytes.now ≡ contents fat.now mini.now place → same ≡ true) }
 {
     if place.size as usize != bytes.len() {
         return Ok(false);
@@ -31,7 +33,8 @@ fn is_held(
 }
 
 /// Whether a storage holds what an outline shows, given the tables of sectors and of mini sectors. Its streams are compared where
-/// they stand in the file; one that isn't seen to be the same so is read, one at a time.
+/// they stand in the file; one that isn't seen to be the same so is read, one at a time. Where each stream of the outline is as
+/// long as it says, the answer is no for another storage alone.
 ///
 /// Refused for want of memory alone.
 #[cycle(comparing)]
@@ -42,7 +45,9 @@ pub fn is_shown(
     outline: &Outline,
     storage: &Storage,
 ) -> Result<bool, AllocError>
-    ensures { IfOk result (λ same. same ≡ true → view storage.now ≡ shown (contents fat.now mini.now) outline.now) }
+    ensures same { IfOk result (λ same. same ≡ true → view storage.now ≡ shown (contents fat.now mini.now) outline.now) }
+    ensures missed { outline_of (shown (contents fat.now mini.now) outline.now) ≡ outline_view outline.now
+        → IfOk result (λ same. view storage.now ≡ shown (contents fat.now mini.now) outline.now → same ≡ true) }
 {
     if storage.class != outline.class || storage.state != outline.state {
         return Ok(false);
@@ -74,7 +79,9 @@ fn is_shown_part(
     part: &Part,
     node: &Node,
 ) -> Result<bool, AllocError>
-    ensures { IfOk result (λ same. same ≡ true → seen node.now ≡ shown_part (contents fat.now mini.now) part.now) }
+    ensures same { IfOk result (λ same. same ≡ true → seen node.now ≡ shown_part (contents fat.now mini.now) part.now) }
+    ensures missed { part_of (shown_part (contents fat.now mini.now) part.now) ≡ part_view part.now
+        → IfOk result (λ same. seen node.now ≡ shown_part (contents fat.now mini.now) part.now → same ≡ true) }
 {
     match (part, node) {
         (Part::Stream(place), Node::Stream(bytes)) => {

@@ -19,7 +19,7 @@ pub followed-front : (k : List ℕ) (c : List ℕ × Seen) (cs ds : Children) �
 followed-front k (n, bytes b) cs ds = refl
 followed-front k (n, inner t) cs ds = refl
 
-outlines-child : (k n : List ℕ) (s : Seen) (cs : Children) → outlines_of (child k (n, s) cs) ≡ part n (part_of s) (outlines_of cs)
+pub outlines-child : (k n : List ℕ) (s : Seen) (cs : Children) → outlines_of (child k (n, s) cs) ≡ part n (part_of s) (outlines_of cs)
 outlines-child k n (bytes b) cs = refl
 outlines-child k n (inner t) cs = refl
 

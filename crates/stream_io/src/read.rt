@@ -8,7 +8,7 @@ ghost use Rattle.cfb_header.specs.declared.fault.ChainFault.{ChainFault};
 ghost use Rattle.cfb_directory.specs.Entries.{IsEntry};
 ghost use Rattle.cfb_names.specs.Names.{key};
 ghost use Rattle.std.specs.List.{All};
-ghost use Rattle.std.specs.Prelude.{[], ◌*◌, ◌<◌, ◌≡◌, ◌≢◌, IfErr, IfOk, List, OnOk, length, slice_index_or, suc, take, true, ℕ};
+ghost use Rattle.std.specs.Prelude.{[], ◌*◌, ◌<◌, ◌≡◌, ◌≢◌, ◌↔◌, IfErr, IfOk, IsTrue, List, OnOk, length, slice_index_or, suc, take, true, ℕ};
 ghost use Rattle.storage_tree.specs.Change.{Seen};
 ghost use Rattle.storage_tree.specs.Kept.{kept};
 ghost use Rattle.storage_tree.specs.Tree as tree;
@@ -298,7 +298,7 @@ pub fn read_file(alloc: Global, file: &[u8]) -> Result<Tree, ReadFault>
 ///
 /// Refused: as `read_file`.
 pub fn is_file_of(alloc: Global, file: &[u8], wanted: &Tree) -> Result<bool, ReadFault>
-    ensures same { IfOk result (λ same. same ≡ true → ∥ Denotes file.now (kept wanted.now).now ∥₁) }
+    ensures same { IfOk result (λ same. IsTrue same ↔ ∥ Denotes file.now (kept wanted.now).now ∥₁) }
     ensures reads { (t : tree.Tree) → Denotes file.now t → IfErr result (λ e. e ≡ NoMemory) }
     ensures refused { IfErr result (MayRefuseFile file.now) }
 {

@@ -6,11 +6,17 @@ use Rattle.storage_tree.specs.Tree.{Tree}
 use Rattle.file_model.specs.Denotes.{Denotes}
 use Rattle.stream_io.specs.Reads.{MayRefuseFile}
 use Rattle.stream_io.proofs.ReadingRefused.{same_memory}
+use Rattle.stream_io.proofs.ReadingSame.{told_same}
+use Rattle.file_outline.specs.View.{contents, shown}
+use Rattle.storage_tree.specs.Kept.{kept}
 use Rattle.stream_io.proofs.read.is_file_of.Goals as goal
 
 pub returns-clause-same : goal.returns-clause-same
-returns-clause-same c = λ same.
-    ∥∥₁_map c.in_ok-layout.ensures.denotes (λ d. subst (λ (t : Tree). Denotes c.args.file.now t) (sym (c.in_ok-same.ensures same) ∙ c.root.ensures.value) d)
+returns-clause-same c = (
+  λ same. ∥∥₁_map c.in_ok-layout.ensures.denotes (λ d. subst (λ (t : Tree). Denotes c.args.file.now t) (sym (c.in_ok-same.ensures.same same) ∙ c.root.ensures.value) d),
+  told_same c.in_ok-same.same c.args.file.now (shown (contents c.in_ok-layout.layout.fat c.in_ok-layout.layout.mini) c.in_ok-layout.layout.root) (kept c.args.wanted.now).now c.in_ok-layout.ensures.denotes
+      (λ e. c.in_ok-same.ensures.missed c.in_ok-layout.ensures.sized (c.root.ensures.value ∙ e)),
+)
 
 pub returns-in_err-layout-clause-reads : goal.returns-in_err-layout-clause-reads
 returns-in_err-layout-clause-reads c = λ t d.

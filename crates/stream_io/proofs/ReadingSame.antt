@@ -1,0 +1,14 @@
+-- A tree that a file denotes is told as its tree.
+use Rattle.std.proofs.Common.{◌≡◌, Bool, true, false, List, ℕ, refl, rules}
+use Rattle.std.proofs.Math.Logic.{∥∥₁_elim, ⊥_prop}
+use Rattle.std.specs.Prelude.{IsTrue}
+use Rattle.storage_tree.specs.Tree.{Tree}
+use Rattle.file_model.specs.Denotes.{Denotes}
+use Rattle.file_model.proofs.Unique.{one_tree}
+
+false_true : false ≡ true → ⊥
+false_true h = search rules
+
+pub told_same : (same : Bool) (file : List ℕ) (a b : Tree) → ∥ Denotes file a ∥₁ → (b ≡ a → same ≡ true) → ∥ Denotes file b ∥₁ → IsTrue same
+told_same true file a b one told two = search rules
+told_same false file a b one told two = absurd (∥∥₁_elim one ⊥_prop (λ x. ∥∥₁_elim two ⊥_prop (λ y. false_true (told (one_tree file b a y x)))))
