@@ -1,7 +1,7 @@
 -- Where two trees are one, so are their parts; where an outline tells a tree's sizes, so does each of its parts.
 use Rattle.std.proofs.Common.{◌≡◌, ◌∙◌, ℕ, List, [], ◌∷◌, ap, drop, rules, subst, suc, sym, zero}
 use Rattle.cfb_names.specs.Names.{key}
-use Rattle.storage_tree.specs.Tree.{Tree, Children, none, stream, storage, tree}
+use Rattle.storage_tree.specs.Tree.{Children, none, tree}
 use Rattle.storage_tree.specs.Change.{Seen, bytes, inner, child}
 use Rattle.storage_tree.specs.View.{children, seen, view}
 use Rattle.storage_tree.specs.declared.storage.Node.{Node}

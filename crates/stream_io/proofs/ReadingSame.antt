@@ -1,10 +1,13 @@
 -- A tree that a file denotes is told as its tree.
-use Rattle.std.proofs.Common.{◌≡◌, Bool, true, false, List, ℕ, refl, rules}
-use Rattle.std.proofs.Math.Logic.{∥∥₁_elim, ⊥_prop}
+use Rattle.std.proofs.Common.{◌≡◌, Bool, true, false, List, ℕ, rules}
+use Rattle.std.proofs.Math.Logic.{∥∥₁_elim}
 use Rattle.std.specs.Prelude.{IsTrue}
 use Rattle.storage_tree.specs.Tree.{Tree}
 use Rattle.file_model.specs.Denotes.{Denotes}
 use Rattle.file_model.proofs.Unique.{one_tree}
+
+⊥_prop : (a b : ⊥) → a ≡ b
+⊥_prop a b = absurd a
 
 false_true : false ≡ true → ⊥
 false_true h = search rules

@@ -1,7 +1,7 @@
 use Rattle.std.proofs.Common.{◌≡◌, ◌+◌, ◌∙◌, ◌∷◌, [], ℕ, List, ap, drop, get_or, rules, sym}
 use Rattle.std.proofs.lemmas.List.{drop_all, drop_more}
 use Rattle.cfb_names.specs.Names.{key}
-use Rattle.file_comparing.proofs.Parts.{all_shown, next_is, none_left, none_shown, sized_next}
+use Rattle.file_comparing.proofs.Parts.{all_shown, next_is, none_left, sized_next}
 use Rattle.storage_tree.proofs.Entries.{view-out}
 use Rattle.file_outline.proofs.Outlines.{shown-out}
 use Rattle.storage_tree.specs.Change.{child}
