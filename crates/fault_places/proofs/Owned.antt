@@ -152,6 +152,7 @@ placed parts b s fault taken link o p base is some at owned e =
           (subst (λ (x : ℕ). IsLinkAtFault (store_in b (size_of (entry_at b.directory (end_of p.way.items)))) (IsTakenFor b (end_of s.way.items))
           x (size_of (entry_at b.directory (end_of p.way.items))) fault link) first_is
           (subst (λ (x : ℕ). IsLinkAtFault (store_in b x) (IsTakenFor b (end_of s.way.items)) s.first x fault link) size_is taken_is)));
+      told = λ c nobody. e.4 c (sym e.3 ∙ nobody);
       owned = subst (λ (x : Owner). IsOwner b (end_of p.way.items) p.link.to x) (sym e.3)
           (subst (λ (x : Link). IsOwner b (end_of p.way.items) x.to o) l' (subst (λ (x : List ℕ). IsOwner b (end_of x) link.to o) w' own));
     }

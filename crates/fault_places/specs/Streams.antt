@@ -3,6 +3,7 @@ use Rattle.std.specs.Prelude.{◌≡◌, ◌≢◌, ◌<◌, ◌≤◌, ℕ, Boo
 use Rattle.std.specs.List.{Contains}
 use Rattle.cfb_chain.specs.Chain.{IsChainOf}
 use Rattle.cfb_header.specs.declared.fault.ChainFault.{ChainFault}
+use Rattle.cfb_header.specs.declared.fault.ChainFault.TheVariants as chain
 use Rattle.cfb_directory.specs.Entries.{entry_at, first_of, kind, size_of}
 use Rattle.file_model.specs.Limits.{CUTOFF}
 use Rattle.file_model.specs.Denotes.{IsLaidOut, Layout}
@@ -37,7 +38,8 @@ IsOwner b id n (owner.Stream way) = IsStreamAt b.directory way.items × (end_of 
     × IsChainOf (store_in b (size_of (entry_at b.directory (end_of way.items)))) (first_of (entry_at b.directory (end_of way.items))) (size_of (entry_at b.directory (end_of way.items))) ns
     × Contains ns n)
 
--- What is wrong with the chain of a stream that isn't empty, at which link, and whose the sector is that it names.
+-- What is wrong with the chain of a stream that isn't empty, at which link, and whose the sector is that it names, which is told
+-- wherever the chain leads to a taken one.
 pub record IsStreamPlace (b : Base) (fault : ChainFault) (p : StreamPlace) : Type 0 where
   pub stream : IsStreamAt b.directory p.way.items
   pub some : 0 < size_of (entry_at b.directory (end_of p.way.items))
@@ -45,6 +47,7 @@ pub record IsStreamPlace (b : Base) (fault : ChainFault) (p : StreamPlace) : Typ
   pub at : IsLinkAtFault (store_in b (size_of (entry_at b.directory (end_of p.way.items)))) (IsTakenFor b (end_of p.way.items))
       (first_of (entry_at b.directory (end_of p.way.items))) (size_of (entry_at b.directory (end_of p.way.items))) fault p.link
   pub owned : IsOwner b (end_of p.way.items) p.link.to p.owner
+  pub told : fault ≡ chain.CrossLinked → p.owner ≢ owner.Nobody
 
 -- the same of a file
 abbrev pub IsFaultOfStream : List ℕ → ChainFault → StreamPlace → Type 0

@@ -8,6 +8,7 @@ use Rattle.cfb_directory.specs.Entries.{AreInside, EntriesValue, MayRefuseEntry,
 use Rattle.file_faults.specs.Faults.{DEEPEST, Descends, IsBelow, IsChild, IsDirectory, IsDirectoryAtFault, IsStorage, LeadsOutside, MayBeChild, key_at}
 use Rattle.fault_places.specs.declared.place.EntryPlace.{EntryPlace}
 use Rattle.fault_places.specs.declared.place.EntryPlace.TheVariants as place
+use Rattle.fault_places.specs.declared.directory.Directory.{Directory}
 use Rattle.fault_places.specs.declared.looking.Looked.{Looked}
 use Rattle.fault_places.specs.declared.looking.Looked.TheVariants as looked
 
@@ -27,6 +28,10 @@ IsStorageAtFault dir way directory.TooNested = (length way ≡ suc DEEPEST) × (
 IsStorageAtFault dir way directory.TreeCycle = IsStorage dir (end_of way)
     × ((ids : List ℕ) → AreInside dir (child (entry_at dir (end_of way))) ids → AreDistinct ids → All (MayBeChild dir (end_of way)) ids → ⊥)
 IsStorageAtFault dir way _ = ⊥
+
+-- the directory of a file, with the sectors of its chain
+abbrev pub IsDirectoryOf : List ℕ → Directory → Type 0
+IsDirectoryOf file d = (is : IsDirectory file d.bytes.items) × (is.sectors ≡ d.sectors.items)
 
 -- What is wrong with a directory, with the place at which it is.
 abbrev pub IsEntryAtFault : List ℕ → DirFault → EntryPlace → Type 0

@@ -1,8 +1,7 @@
 //! Finding the place at which the directory of a file is at fault.
 
 ghost use Rattle.cfb_header.specs.Header.{header_of};
-ghost use Rattle.fault_places.specs.Ways.{IsFaultOfEntry};
-ghost use Rattle.file_faults.specs.Faults.{IsDirectory};
+ghost use Rattle.fault_places.specs.Ways.{IsDirectoryOf, IsFaultOfEntry};
 ghost use Rattle.std.specs.Prelude.{◌≡◌, IfOk, IfSome};
 
 use crate::looking::find_in_entries;
@@ -13,11 +12,19 @@ use cfb_header::header::Header;
 use cfb_names::fault::DirFault;
 use std::alloc::{AllocError, Global};
 
-/// The bytes of the directory of a file with this header. None where the FAT or the directory's chain is at fault, or for
-/// want of memory.
-fn directory_of(alloc: Global, header: &Header, file: &[u8]) -> Option<Vec<u8>>
+/// The directory of a file.
+#[derive(Drop)]
+pub struct Directory {
+    /// The sectors of its chain.
+    pub sectors: Vec<u32>,
+    /// What they hold, one after another.
+    pub bytes: Vec<u8>,
+}
+
+/// The directory of a file with this header. None where the FAT or the directory's chain is at fault, or for want of memory.
+fn directory_of(alloc: Global, header: &Header, file: &[u8]) -> Option<Directory>
     requires same { header.now ≡ header_of file.now }
-    ensures { IfSome result (λ v. IsDirectory file.now v.items) }
+    ensures { IfSome result (IsDirectoryOf file.now) }
 {
     let Ok(mut fat) = Fat::load(alloc, header, Image::Whole(file)) else {
         return None;
@@ -28,19 +35,18 @@ fn directory_of(alloc: Global, header: &Header, file: &[u8]) -> Option<Vec<u8>>
     let Ok(bytes) = fat.join(alloc, &sectors) else {
         return None;
     };
-    Some(bytes)
+    Some(Directory { sectors, bytes })
 }
 
-/// The bytes of the directory of a file. None where the header, the FAT or the directory's chain is at fault, or for want of
-/// memory.
-pub fn read_directory(alloc: Global, file: &[u8]) -> Option<Vec<u8>>
-    ensures { IfSome result (λ v. IsDirectory file.now v.items) }
+/// The directory of a file. None where the header, the FAT or the directory's chain is at fault, or for want of memory.
+pub fn read_directory(alloc: Global, file: &[u8]) -> Option<Directory>
+    ensures { IfSome result (IsDirectoryOf file.now) }
 {
     let Ok(header) = Header::read(file) else {
         return None;
     };
-    let joined = directory_of(alloc, &header, file)?;
-    Some(joined)
+    let directory = directory_of(alloc, &header, file)?;
+    Some(directory)
 }
 
 /// The place at which the directory of a file has a fault. None where the fault isn't found there, or for want of memory.
@@ -57,6 +63,6 @@ pub fn find_entry(
     let Some(directory) = directory_of(alloc, &header, file) else {
         return Ok(None);
     };
-    let found = find_in_entries(alloc, &directory, fault)?;
+    let found = find_in_entries(alloc, &directory.bytes, fault)?;
     Ok(found)
 }

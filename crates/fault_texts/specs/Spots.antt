@@ -1,17 +1,20 @@
 -- Where a file is at fault, with the path of the entry and the byte of the file.
-use Rattle.std.specs.Prelude.{◌≡◌, ◌⊎◌, ◌<◌, ◌≤◌, ◌+◌, ◌*◌, ◌++◌, ℕ, List, [], ◌∷◌, IfSome, drop, flat_map, length, string_bytes, take}
+use Rattle.std.specs.Prelude.{◌≡◌, ◌⊎◌, ◌<◌, ◌≤◌, ◌+◌, ◌*◌, ◌/◌, ◌%◌, ◌++◌, ℕ, Bool, true, false, List, [], ◌∷◌, Option, Some, None, IfSome, drop, length, slice_index, string_bytes, take}
 use Rattle.cfb_header.specs.Bytes.{u32_at}
+use Rattle.cfb_header.specs.Header.{first_mini_fat, listed}
+use Rattle.cfb_chain.specs.Chain.{IsChain}
+use Rattle.cfb_chain.specs.Fat.{sectors_of}
 use Rattle.cfb_directory.specs.Entries.{IsNamed, entry_at}
 use Rattle.text_model.specs.Spelled.{name_text}
 use Rattle.file_faults.specs.Faults.{IsDirectory}
 use Rattle.fault_places.specs.Places.{IsFaultAt}
 use Rattle.fault_places.specs.Streams.{IsFaultOfStream}
 use Rattle.fault_places.specs.Ways.{IsFaultOfEntry, end_of}
-use Rattle.fault_places.specs.declared.place.Link.{Link}
 use Rattle.fault_places.specs.declared.place.FaultPlace.{FaultPlace}
 use Rattle.fault_places.specs.declared.place.FaultPlace.TheVariants as chain
 use Rattle.fault_places.specs.declared.place.EntryPlace.{EntryPlace}
 use Rattle.fault_places.specs.declared.place.EntryPlace.TheVariants as entry
+use Rattle.fault_places.specs.declared.place.StreamPlace.{StreamPlace}
 use Rattle.stream_io.specs.declared.fault.ReadFault.{ReadFault}
 use Rattle.stream_io.specs.declared.fault.ReadFault.TheVariants as read
 use Rattle.fault_texts.specs.declared.spot.Place.{Place}
@@ -60,25 +63,61 @@ abbrev pub IsPathOf : List ℕ → List ℕ → List ℕ → Type 0
 IsPathOf file way path = (dir : List ℕ) × IsDirectory file dir × IsPathIn dir way path
 
 -- ---- the byte
+-- An item of a table begins at a byte of a file: the table lies in these sectors, one after another, and its items have so many
+-- bytes each.
+pub record IsItemAt (sectors : List ℕ) (width n byte : ℕ) : Type 0 where
+  pub within : n / (512 / width) < length sectors
+  pub is : byte ≡ 512 + 512 * slice_index sectors (n / (512 / width)) + width * (n % (512 / width))
+
 -- a number stands at a byte of a file
 pub record IsWordAt (file : List ℕ) (byte n : ℕ) : Type 0 where
   pub inside : byte + 4 ≤ length file
   pub is : u32_at file byte ≡ n
 
--- an entry of the directory begins at a byte of a file
+-- the directory of a file, in whose sectors an entry begins at a byte
+pub record IsEntryIn (file dir : List ℕ) (byte id : ℕ) : Type 0 where
+  pub directory : IsDirectory file dir
+  pub at : IsItemAt directory.sectors 128 id byte
+
+-- an entry of the directory begins at a byte of a file, and stands there
 pub record IsEntryAt (file : List ℕ) (byte id : ℕ) : Type 0 where
   pub dir : List ℕ
-  pub directory : IsDirectory file dir
+  pub begins : IsEntryIn file dir byte id
   pub inside : byte + 128 ≤ length file
   pub same : take 128 (drop byte file) ≡ take 128 (drop (128 * id) dir)
+
+-- where an entry names the first sector of its stream
+abbrev pub IsFirstOf : List ℕ → ℕ → ℕ → Type 0
+IsFirstOf file id byte = (dir : List ℕ) × (entry : ℕ) × IsEntryIn file dir entry id × (byte ≡ entry + 116)
+
+-- where the FAT names the sector behind another
+abbrev pub IsNextOf : List ℕ → ℕ → ℕ → Type 0
+IsNextOf file n byte = IsItemAt (listed file) 4 n byte
+
+-- where the mini FAT names the mini sector behind another
+abbrev pub IsNextMiniOf : List ℕ → ℕ → ℕ → Type 0
+IsNextMiniOf file n byte = (ns : List ℕ) × IsChain (sectors_of file (listed file)) (first_mini_fat file) 0 ns × IsItemAt ns 4 n byte
+
+-- where a link stands: that of a sector, or the first one of its chain
+abbrev pub IsLinkAt : (ℕ → ℕ → Type 0) → (ℕ → Type 0) → Option ℕ → ℕ → Type 0
+IsLinkAt next first None byte = first byte
+IsLinkAt next first (Some n) byte = next n byte
 
 -- where the number stands that a link names
 abbrev pub IsByteOfChain : List ℕ → FaultPlace → ℕ → Type 0
 IsByteOfChain file chain.Header byte = ⊥
 IsByteOfChain file chain.Fat byte = ⊥
-IsByteOfChain file (chain.Directory link) byte = IsWordAt file byte link.to
-IsByteOfChain file (chain.MiniFat link) byte = IsWordAt file byte link.to
-IsByteOfChain file (chain.MiniStream link) byte = IsWordAt file byte link.to
+IsByteOfChain file (chain.Directory link) byte = IsWordAt file byte link.to × IsLinkAt (IsNextOf file) (λ b. b ≡ 48) link.from byte
+IsByteOfChain file (chain.MiniFat link) byte = IsWordAt file byte link.to × IsLinkAt (IsNextOf file) (λ b. b ≡ 60) link.from byte
+IsByteOfChain file (chain.MiniStream link) byte = IsWordAt file byte link.to × IsLinkAt (IsNextOf file) (IsFirstOf file 0) link.from byte
+
+-- the same of a stream, which lies in mini sectors or in sectors
+abbrev pub IsStreamLinkAt : List ℕ → Bool → (ℕ → Type 0) → Option ℕ → ℕ → Type 0
+IsStreamLinkAt file true = IsLinkAt (IsNextMiniOf file)
+IsStreamLinkAt file false = IsLinkAt (IsNextOf file)
+
+abbrev pub IsByteOfStream : List ℕ → StreamPlace → ℕ → Type 0
+IsByteOfStream file p byte = IsWordAt file byte p.link.to × IsStreamLinkAt file p.is_mini (IsFirstOf file (end_of p.way.items)) p.link.from byte
 
 -- where the entry begins; of two with one name it is the second
 abbrev pub IsByteOfEntry : List ℕ → EntryPlace → ℕ → Type 0
@@ -89,7 +128,7 @@ IsByteOfEntry file (entry.Twins way m n) byte = IsEntryAt file byte n
 -- the byte of a place
 abbrev pub IsByteOf : List ℕ → Place → ℕ → Type 0
 IsByteOf file (place.Chain p) byte = IsByteOfChain file p byte
-IsByteOf file (place.Stream p) byte = IsWordAt file byte p.link.to
+IsByteOf file (place.Stream p) byte = IsByteOfStream file p byte
 IsByteOf file (place.Entry p) byte = IsByteOfEntry file p byte
 
 -- ---- all of it

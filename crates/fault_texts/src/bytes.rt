@@ -1,9 +1,9 @@
 //! The bytes of a file at which what is wrong stands.
 
 ghost use Rattle.cfb_header.specs.Bytes.{u32_at};
-ghost use Rattle.fault_texts.specs.Spots.{IsByteOf, IsByteOfChain, IsByteOfEntry, IsEntryAt, IsWordAt};
-ghost use Rattle.file_faults.specs.Faults.{IsDirectory};
-ghost use Rattle.std.specs.Prelude.{◌*◌, ◌+◌, ◌≡◌, ◌≤◌, IfSome, drop, length, take, true};
+ghost use Rattle.fault_places.specs.Ways.{end_of};
+ghost use Rattle.fault_texts.specs.Spots.{IsByteOf, IsByteOfChain, IsByteOfEntry, IsEntryAt, IsFirstOf, IsItemAt, IsNextMiniOf, IsNextOf, IsStreamLinkAt, IsWordAt};
+ghost use Rattle.std.specs.Prelude.{◌*◌, ◌+◌, ◌≡◌, ◌≤◌, IfNone, IfSome, Some, drop, length, take, true};
 
 use crate::spot::Place;
 use cfb_bytes::numbers::read_u32;
@@ -32,8 +32,11 @@ const NUMBER: usize = 4;
 
 const ENTRY: usize = 128;
 
-/// The byte at which an item of a table stands that lies in these sectors, each item of so many bytes.
-fn byte_in(sectors: &[u32], width: usize, n: u32) -> Option<usize> {
+/// The byte at which an item of a table begins that lies in these sectors, each item of so many bytes. None where the table
+/// hasn't so many.
+fn byte_in(sectors: &[u32], width: usize, n: u32) -> Option<usize>
+    ensures { IfSome result (IsItemAt sectors.now width n) }
+{
     let per_sector = SECTOR.checked_div(width)?;
     let at = (n as usize).checked_div(per_sector)?;
     let sector = *sectors.get(at)? as usize;
@@ -42,35 +45,47 @@ fn byte_in(sectors: &[u32], width: usize, n: u32) -> Option<usize> {
 }
 
 /// The byte of the entry of a sector in the FAT.
-fn byte_in_fat(alloc: Global, file: &[u8], n: u32) -> Option<usize> {
+fn byte_in_fat(alloc: Global, file: &[u8], n: u32) -> Option<usize>
+    ensures { IfSome result (IsNextOf file.now n) }
+{
     let header = Header::read(file).ok()?;
     let own = fat_sectors(alloc, &header, &Image::Whole(file)).ok()?;
     byte_in(&own.fat, NUMBER, n)
 }
 
-/// The byte of an entry of the directory.
-fn byte_in_directory(alloc: Global, file: &[u8], id: u32) -> Option<usize> {
-    let header = Header::read(file).ok()?;
-    let mut fat = Fat::load(alloc, &header, Image::Whole(file)).ok()?;
-    let sectors = fat.chain(alloc, header.first_directory()).ok()?;
-    byte_in(&sectors, ENTRY, id)
-}
-
 /// The byte of the entry of a mini sector in the mini FAT.
-fn byte_in_mini_fat(alloc: Global, file: &[u8], n: u32) -> Option<usize> {
-    let header = Header::read(file).ok()?;
-    let mut fat = Fat::load(alloc, &header, Image::Whole(file)).ok()?;
-    let sectors = fat.chain(alloc, header.first_mini_fat()).ok()?;
+fn byte_in_mini_fat(alloc: Global, file: &[u8], n: u32) -> Option<usize>
+    ensures { IfSome result (IsNextMiniOf file.now n) }
+{
+    let Ok(header) = Header::read(file) else {
+        return None;
+    };
+    let Ok(mut fat) = Fat::load(alloc, &header, Image::Whole(file)) else {
+        return None;
+    };
+    let Ok(sectors) = fat.chain(alloc, header.first_mini_fat()) else {
+        return None;
+    };
     byte_in(&sectors, NUMBER, n)
 }
 
 /// The byte of the first number of the stream of an entry.
-fn byte_of_first(alloc: Global, file: &[u8], id: u32) -> Option<usize> {
-    byte_in_directory(alloc, file, id)?.checked_add(FIRST)
+fn byte_of_first(alloc: Global, file: &[u8], id: u32) -> Option<usize>
+    ensures { IfSome result (IsFirstOf file.now id) }
+{
+    let directory = read_directory(alloc, file)?;
+    let at = byte_in(&directory.sectors, ENTRY, id)?;
+    if at >= 0x1_0000_0000 {
+        return None;
+    }
+    Some(at + FIRST)
 }
 
 /// The byte of the number of a link of a chain of sectors, of which the first one stands at another.
-fn byte_of_link(alloc: Global, file: &[u8], link: Link, first: Option<usize>) -> Option<usize> {
+fn byte_of_link(alloc: Global, file: &[u8], link: Link, first: Option<usize>) -> Option<usize>
+    ensures next { IfSome link.from (λ n. IfSome result (IsNextOf file.now n)) }
+    ensures first { IfNone link.from (result ≡ first) }
+{
     match link.from {
         Some(from) => byte_in_fat(alloc, file, from),
         None => first,
@@ -78,7 +93,9 @@ fn byte_of_link(alloc: Global, file: &[u8], link: Link, first: Option<usize>) ->
 }
 
 /// The byte of the number of a link of a stream's chain.
-fn byte_of_stream_link(alloc: Global, file: &[u8], stream: &StreamPlace) -> Option<usize> {
+fn byte_of_stream_link(alloc: Global, file: &[u8], stream: &StreamPlace) -> Option<usize>
+    ensures { IfSome result (IsStreamLinkAt file.now stream.now.is_mini (IsFirstOf file.now (end_of stream.now.way.items)) stream.now.link.from) }
+{
     match stream.link.from {
         Some(from) if stream.is_mini => byte_in_mini_fat(alloc, file, from),
         Some(from) => byte_in_fat(alloc, file, from),
@@ -98,7 +115,8 @@ fn has_word(file: &[u8], at: usize, n: u32) -> bool
 
 /// A byte, where a number stands there.
 fn word_at(file: &[u8], at: Option<usize>, n: u32) -> Option<u32>
-    ensures { IfSome result (λ byte. IsWordAt file.now byte n) }
+    ensures word { IfSome result (λ byte. IsWordAt file.now byte n) }
+    ensures at { IfSome result (λ byte. at ≡ Some byte) }
 {
     let at = at?;
     if at < 0x1_0000_0000 && has_word(file, at, n) {
@@ -133,9 +151,9 @@ fn are_same(bytes: &[u8], at: usize, others: &[u8], other: usize) -> bool
 fn entry_at(alloc: Global, file: &[u8], id: u32) -> Option<u32>
     ensures { IfSome result (λ byte. IsEntryAt file.now byte id) }
 {
-    let at = byte_in_directory(alloc, file, id)?;
     let directory = read_directory(alloc, file)?;
-    if at < 0x1_0000_0000 && are_same(file, at, &directory, ENTRY * id as usize) {
+    let at = byte_in(&directory.sectors, ENTRY, id)?;
+    if at < 0x1_0000_0000 && are_same(file, at, &directory.bytes, ENTRY * id as usize) {
         return Some(at as u32);
     }
     None

@@ -71,7 +71,7 @@ pub(crate) fn path_of(alloc: Global, file: &[u8], way: &[u32]) -> Option<String>
     ensures { IfSome result (λ path. IsPathOf file.now way.now (string_bytes path)) }
 {
     let directory = read_directory(alloc, file)?;
-    let Ok(entries) = Entries::load(alloc, &directory) else {
+    let Ok(entries) = Entries::load(alloc, &directory.bytes) else {
         return None;
     };
     let Ok(Some(path)) = path_in(alloc, &entries, way) else {

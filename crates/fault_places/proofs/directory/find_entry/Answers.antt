@@ -16,8 +16,8 @@ directory_of-requires c = record {
 
 pub find_in_entries-requires : goal.find_in_entries-requires
 find_in_entries-requires c =
-    whole_entries c.args.file.now c.deref.result.now (subst (IsDirectory c.args.file.now) (sym c.deref.ensures.value) c.in-Some.ensures)
+    whole_entries c.args.file.now c.deref.result.now (subst (IsDirectory c.args.file.now) (sym c.deref.ensures.value) c.in-Some.ensures.0)
 
 pub returns : goal.returns
 returns c =
-    found_of c.args.file.now c.deref.result.now c.args.fault c.in_ok-found.found (subst (IsDirectory c.args.file.now) (sym c.deref.ensures.value) c.in-Some.ensures) c.in_ok-found.ensures
+    found_of c.args.file.now c.deref.result.now c.args.fault c.in_ok-found.found (subst (IsDirectory c.args.file.now) (sym c.deref.ensures.value) c.in-Some.ensures.0) c.in_ok-found.ensures
