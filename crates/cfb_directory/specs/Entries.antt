@@ -141,12 +141,19 @@ MayRefuseLinked e top BadEntry = (id : ℕ) × Reaches e.directory top id × (id
 MayRefuseLinked e top TreeCycle = (ids : List ℕ) → AreInside e.directory top ids → AreFree e ids → ⊥
 MayRefuseLinked e top _ = ⊥
 
--- when a fault may be answered for the children of an entry: the memory for the walk is taken once the entry is there
+-- unmarked entries are just those that links reach from the child of an entry
+pub record HasChildren (e : EntriesValue) (id : ℕ) : Type 0 where
+  pub inside : 128 * id < length e.directory
+  pub ids : List ℕ
+  pub linked : AreLinked e.directory (child (entry_at e.directory id)) ids
+  pub free : AreFree e ids
+
+-- When a fault may be answered for the children of an entry. Want of memory is told only where they are there.
 abbrev pub MayRefuseChildren : EntriesValue → ℕ → DirFault → Type 0
 MayRefuseChildren e id fault = (length e.directory ≤ 128 * id) × (fault ≡ BadEntry) ⊎ MayRefuseLinked e (child (entry_at e.directory id)) fault
-    ⊎ (128 * id < length e.directory) × (fault ≡ NoMemory)
+    ⊎ HasChildren e id × (fault ≡ NoMemory)
 
 abbrev pub MayRefuseLoad : List ℕ → DirFault → Type 0
 MayRefuseLoad directory BadEntry = length directory < 128
-MayRefuseLoad directory NoMemory = Unit {0}
+MayRefuseLoad directory NoMemory = 128 ≤ length directory
 MayRefuseLoad directory _ = ⊥

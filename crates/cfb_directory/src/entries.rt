@@ -4,7 +4,7 @@ ghost use Rattle.cfb_directory.specs.Entries.{AreFree, AreLinked, IsEntry, IsFre
 ghost use Rattle.cfb_bytes.specs.Marks.{set_all};
 ghost use Rattle.cfb_names.specs.Names.{IsName};
 ghost use Rattle.cfb_directory.specs.Walk.{IsTaken, MayRefuseName, unmarked};
-ghost use Rattle.cfb_names.specs.declared.fault.DirFault.TheVariants.{BadEntry};
+ghost use Rattle.cfb_names.specs.declared.fault.DirFault.TheVariants.{BadEntry, NoMemory};
 ghost use Rattle.std.specs.List.{All};
 ghost use Rattle.std.specs.Prelude.{◌≡◌, ◌<◌, ◌≤◌, ◌*◌, ◌/◌, ◌∷◌, ◌++◌, [], false, replicate, length, vec_capacity, vec_len, IfErr, IfOk, OnErr, OnOk};
 
@@ -38,11 +38,19 @@ pub struct Entry {
     pub size: u32,
 }
 
-/// The entries of a directory, which marks those that were met.
+/// The entries of a directory, of which some are marked.
 #[derive(Drop)]
-pub struct Entries<'a> {
+struct Table<'a> {
     directory: &'a [u8],
     used: Vec<bool>,
+}
+
+/// The entries of a directory, which marks those that were met, with room to walk over all of them.
+#[derive(Drop)]
+pub struct Entries<'a> {
+    table: Table<'a>,
+    waiting: Vec<u32>,
+    found: Vec<u32>,
 }
 
 /// The kind of an entry: entry 0 is the root, and all others are storages and streams.
@@ -109,40 +117,33 @@ fn push_within(list: &mut Vec<u32>, id: u32)
     }
 }
 
-impl<'a> Model for Entries<'a> {
+impl<'a> Model for Table<'a> {
     ghost use Rattle.std.specs.Prelude.{◌≡◌, ◌/◌, length};
     ghost use Rattle.cfb_directory.specs.Entries.{EntriesValue};
 
     ghost Value = { EntriesValue };
 
-    ghost view = { λ e. record { directory = e.directory.now; used = e.used.items } };
+    ghost view = { λ t. record { directory = t.directory.now; used = t.used.items } };
 
-    ghost invariant = { λ e. length e.used.items ≡ length e.directory.now / 128 };
+    ghost invariant = { λ t. length t.used.items ≡ length t.directory.now / 128 };
 }
 
-impl<'a> Entries<'a> {
-    /// The entries of a directory, of which the root alone is marked.
+impl<'a> Table<'a> {
+    /// The entries of a directory that has some, of which the root alone is marked.
     ///
-    /// Refused: `BadEntry` for a directory without an entry.
-    pub fn load(alloc: Global, directory: &'a [u8]) -> Result<Entries<'a>, DirFault>
+    /// Refused for want of memory alone.
+    fn load(alloc: Global, directory: &'a [u8]) -> Result<Table<'a>, DirFault>
+        requires some { 128 ≤ length directory.now }
         ensures loaded { IfOk result (λ e. e ≡ record { directory = directory.now; used = set_all (replicate (length directory.now / 128) false) (0 ∷ []) }) }
-        ensures refused { IfErr result (MayRefuseLoad directory.now) }
+        ensures refused { IfErr result (λ e. e ≡ NoMemory) }
     {
-        let count = directory.len() / ENTRY_LEN;
-        if count == 0 {
-            return Err(DirFault::BadEntry);
-        }
-        let mut used = vec![in alloc; false; count]?;
+        let mut used = vec![in alloc; false; directory.len() / ENTRY_LEN]?;
         used[0] = true;
-        Ok(Entries { directory, used })
+        Ok(Table { directory, used })
     }
 
-    /// What an entry says. The root is named `Root Entry`, whatever stands in the file.
-    ///
-    /// Refused: `BadEntry` for an id outside the directory, for an entry 0 that isn't a root, for another entry that is
-    /// neither a storage nor a stream, and for an odd length of its name; what `Name::new` refuses for its name, whose
-    /// length with the closing zero is from 4 to 64 bytes (MS-CFB 2.6.1).
-    pub fn entry(&self, id: u32) -> Result<Entry, DirFault>
+    /// What an entry says.
+    fn entry(&self, id: u32) -> Result<Entry, DirFault>
         ensures read { IfOk result (IsEntry self.now.directory id) }
         ensures valid { IfOk result (λ e. IsName e.name) }
         ensures refused { IfErr result (MayRefuseEntry self.now.directory id) }
@@ -171,36 +172,6 @@ impl<'a> Entries<'a> {
         })
     }
 
-    /// The children of an entry: just those that links reach from its child, which it marks. A refusal marks none.
-    ///
-    /// Refused: `BadEntry` for an id outside the directory; then `NoMemory`, before any link is followed; then `BadEntry`
-    /// where a link leaves the directory, `TreeCycle` where an entry is marked or reached twice.
-    pub fn children(&mut self, alloc: Global, id: u32) -> Result<Vec<u32>, DirFault>
-        ensures linked { IfOk result (λ v. AreLinked self.old.directory (child (entry_at self.old.directory id)) v.items) }
-        ensures free { IfOk result (λ v. AreFree self.old v.items) }
-        ensures marks { IfOk result (λ v. self.new ≡ marked self.old v.items) }
-        ensures refused { IfErr result (MayRefuseChildren self.old id) }
-        ensures kept { OnErr result (self.new ≡ self.old) }
-    {
-        let top = self.child(id)?;
-        let count = self.used.len();
-        let mut found = match Vec::with_capacity(alloc, count) {
-            Ok(found) => found,
-            Err(_) => return Err(DirFault::NoMemory),
-        };
-        let mut waiting = match Vec::with_capacity(alloc, 2 * count + 1) {
-            Ok(waiting) => waiting,
-            Err(_) => return Err(DirFault::NoMemory),
-        };
-        match self.walk(top, &mut waiting, &mut found) {
-            Ok(()) => Ok(found),
-            Err(fault) => {
-                self.unmark(found);
-                Err(fault)
-            }
-        }
-    }
-
     /// Finds and marks what links reach from an entry, a parent before what it links to, in lists with room for all entries.
     /// A refusal leaves those that were found marked.
     fn walk(
@@ -217,6 +188,8 @@ impl<'a> Entries<'a> {
         ensures free { AreFree self.old found.new.items }
         ensures marks { self.new ≡ marked self.old found.new.items }
         ensures refused { IfErr result (MayRefuseLinked self.old top) }
+        ensures waiting_kept { vec_capacity waiting.old ≤ vec_capacity waiting.new }
+        ensures found_kept { vec_capacity found.old ≤ vec_capacity found.new }
     {
         push_within(waiting, top);
         while let Some(id) = waiting.pop() {
@@ -237,9 +210,10 @@ impl<'a> Entries<'a> {
     }
 
     /// Takes marks back, the last one first.
-    fn unmark(&mut self, mut found: Vec<u32>)
-        requires { All (λ n. n < length self.old.used) found.items }
-        ensures { self.new ≡ unmarked self.old found.items }
+    fn unmark(&mut self, found: &mut Vec<u32>)
+        requires { All (λ n. n < length self.old.used) found.old.items }
+        ensures unmarked { self.new ≡ unmarked self.old found.old.items }
+        ensures kept { vec_capacity found.old ≤ vec_capacity found.new }
     {
         while let Some(id) = found.pop() {
             self.used[id as usize] = false;
@@ -287,5 +261,83 @@ impl<'a> Entries<'a> {
         ensures { self.new ≡ marked self.old (id ∷ []) }
     {
         self.used[id as usize] = true;
+    }
+}
+
+impl<'a> Model for Entries<'a> {
+    ghost use Rattle.std.specs.Prelude.{◌<◌, ◌≤◌, ◌*◌, length, vec_capacity};
+    ghost use Rattle.cfb_directory.specs.Entries.{EntriesValue};
+
+    ghost Value = { EntriesValue };
+
+    ghost view = { λ e. e.table };
+
+    ghost invariant = { λ e. (2 * length e.table.used < vec_capacity e.waiting) × (length e.table.used ≤ vec_capacity e.found) };
+}
+
+impl<'a> Entries<'a> {
+    /// The entries of a directory, of which the root alone is marked.
+    ///
+    /// Refused: `BadEntry` for a directory without an entry, else `NoMemory`: here all memory is taken that following links
+    /// needs.
+    pub fn load(alloc: Global, directory: &'a [u8]) -> Result<Entries<'a>, DirFault>
+        ensures loaded { IfOk result (λ e. e ≡ record { directory = directory.now; used = set_all (replicate (length directory.now / 128) false) (0 ∷ []) }) }
+        ensures refused { IfErr result (MayRefuseLoad directory.now) }
+    {
+        let count = directory.len() / ENTRY_LEN;
+        if count == 0 {
+            return Err(DirFault::BadEntry);
+        }
+        let table = Table::load(alloc, directory)?;
+        let waiting = Vec::with_capacity(alloc, 2 * count + 1)?;
+        let found = Vec::with_capacity(alloc, count)?;
+        Ok(Entries {
+            table,
+            waiting,
+            found,
+        })
+    }
+
+    /// What an entry says. The root is named `Root Entry`, whatever stands in the file.
+    ///
+    /// Refused: `BadEntry` for an id outside the directory, for an entry 0 that isn't a root, for another entry that is
+    /// neither a storage nor a stream, and for an odd length of its name; what `Name::new` refuses for its name, whose
+    /// length with the closing zero is from 4 to 64 bytes (MS-CFB 2.6.1).
+    pub fn entry(&self, id: u32) -> Result<Entry, DirFault>
+        ensures read { IfOk result (IsEntry self.now.directory id) }
+        ensures valid { IfOk result (λ e. IsName e.name) }
+        ensures refused { IfErr result (MayRefuseEntry self.now.directory id) }
+    {
+        self.table.entry(id)
+    }
+
+    /// The children of an entry: just those that links reach from its child, which it marks. A refusal marks none.
+    ///
+    /// Refused: `BadEntry` for an id outside the directory and where a link leaves it, `TreeCycle` where an entry is marked or
+    /// reached twice; `NoMemory` only of children that are there, for the list of them.
+    pub fn children(&mut self, alloc: Global, id: u32) -> Result<Vec<u32>, DirFault>
+        ensures linked { IfOk result (λ v. AreLinked self.old.directory (child (entry_at self.old.directory id)) v.items) }
+        ensures free { IfOk result (λ v. AreFree self.old v.items) }
+        ensures marks { IfOk result (λ v. self.new ≡ marked self.old v.items) }
+        ensures refused { IfErr result (MayRefuseChildren self.old id) }
+        ensures kept { OnErr result (self.new ≡ self.old) }
+    {
+        let top = self.table.child(id)?;
+        self.waiting.clear();
+        self.found.clear();
+        match self.table.walk(top, &mut self.waiting, &mut self.found) {
+            Ok(()) => {}
+            Err(fault) => {
+                self.table.unmark(&mut self.found);
+                return Err(fault);
+            }
+        }
+        match Vec::from_slice(alloc, &self.found) {
+            Ok(children) => Ok(children),
+            Err(_) => {
+                self.table.unmark(&mut self.found);
+                Err(DirFault::NoMemory)
+            }
+        }
     }
 }

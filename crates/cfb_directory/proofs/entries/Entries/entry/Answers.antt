@@ -1,11 +1,6 @@
-use Rattle.std.proofs.Common.{List, ℕ, ap, subst, ◌∙◌}
-use Rattle.cfb_directory.specs.Entries.{entry_at}
-use Rattle.cfb_directory.specs.Walk.{MayRefuseName}
-use Rattle.cfb_directory.proofs.Reading.{name_refused}
+use Rattle.std.proofs.Common.{IfErr, subst}
+use Rattle.cfb_directory.specs.Entries.{EntriesValue, MayRefuseEntry}
 use Rattle.cfb_directory.proofs.entries.Entries.entry.Goals as goal
 
-pub returns-in-Err-clause-refused : goal.returns-in-Err-clause-refused
-returns-in-Err-clause-refused c =
-    let is = c.entry_bytes-entry.ensures ∙ ap (λ e. entry_at e.directory c.args.id) c.self.view_is in
-    name_refused c.args.self.now.directory c.args.id c.in-Err.fault c.if-id-eq0.false
-    (subst (λ (xs : List ℕ). MayRefuseName xs c.in-Err.fault) is c.in-Err.ensures.refused)
+pub returns-clause-refused : goal.returns-clause-refused
+returns-clause-refused c = subst (λ (e : EntriesValue). IfErr c.entry.result (MayRefuseEntry e.directory c.args.id)) c.self.view_is c.entry.ensures.refused

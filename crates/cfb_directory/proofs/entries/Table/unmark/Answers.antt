@@ -3,7 +3,7 @@ use Rattle.std.proofs.Math.ListN.{length-set}
 use Rattle.std.specs.List.{All}
 use Rattle.cfb_directory.specs.Walk.{clear_all}
 use Rattle.cfb_directory.proofs.Marks.{All-front, clear_all-push}
-use Rattle.cfb_directory.proofs.entries.Entries.unmark.Goals as goal
+use Rattle.cfb_directory.proofs.entries.Table.unmark.Goals as goal
 
 pub loop-id-preserved : goal.loop-id-preserved
 loop-id-preserved c =
@@ -18,5 +18,6 @@ loop-id-preserved c =
       directory = i.directory;
       count = sym same ∙ i.count;
       inside = All-front P rest id (subst (All P) popped (λ k d lt. let l = i.inside k d lt in omega (arith, l)));
+      kept = omega (arith, i.kept, c.in-Some.ensures.capacity);
       cleared = sym (clear_all-push used rest id) ∙ ap (clear_all used) (sym popped) ∙ i.cleared;
     }

@@ -1,13 +1,14 @@
-use Rattle.std.proofs.Common.{◌≡◌, ◌<◌, length}
+use Rattle.std.proofs.Common.{◌≡◌, ◌<◌, ◌≤◌, length, vec_capacity}
 use Rattle.std.specs.List.{All}
 use Rattle.cfb_directory.specs.Walk.{clear_all}
-use Rattle.cfb_directory.proofs.entries.Entries.unmark.Given as goal
+use Rattle.cfb_directory.proofs.entries.Table.unmark.Given as goal
 
 abbrev pub invariant-loop-id : goal.invariant-loop-id
 invariant-loop-id l = record {
   directory : l.self-inside.directory ≡ l.initial.self-inside.directory;
   count : length l.self-inside.used.items ≡ length l.initial.self-inside.used.items;
   inside : All (λ n. n < length l.self-inside.used.items) l.found.items;
+  kept : vec_capacity l.initial.found ≤ vec_capacity l.found;
   cleared : clear_all l.self-inside.used.items l.found.items ≡ clear_all l.initial.self-inside.used.items l.initial.found.items;
 }
 

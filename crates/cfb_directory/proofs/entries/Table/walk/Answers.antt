@@ -7,7 +7,7 @@ use Rattle.cfb_directory.proofs.Inside.{Begins, Begins-nobody, Begins-start, Beg
 use Rattle.cfb_directory.proofs.Linked.{Completes, Completes-start, Completes-nobody, Completes-step, Completes-end, reaches_left, reaches_right}
 use Rattle.cfb_directory.proofs.Marks.{All-front, All-last, AreFree-none, AreFree-push, marked-push, unused, unused-le, unused-set}
 use Rattle.cfb_directory.proofs.Walk.{taken_refused}
-use Rattle.cfb_directory.proofs.entries.Entries.walk.Goals as goal
+use Rattle.cfb_directory.proofs.entries.Table.walk.Goals as goal
 
 pub loop-id-init : goal.loop-id-init
 loop-id-init c =
@@ -26,6 +26,8 @@ loop-id-init c =
           (subst (Begins e.directory c.args.top []) (sym start) (Begins-start e.directory c.args.top));
       room = omega (arith, ap length none, c.requires.room, few);
       room_to_wait = omega (arith, ap length start, c.requires.room_to_wait, c.push_within.ensures.room, few);
+      found_kept = omega arith;
+      waiting_kept = omega (arith, c.push_within.ensures.room);
     }
 
 pub loop-id-preserved-then-id : goal.loop-id-preserved-then-id
@@ -43,6 +45,8 @@ loop-id-preserved-then-id c =
           (subst (Begins d c.args.top c.loop-id.found.items) popped i.met);
       room = i.room;
       room_to_wait = omega (arith, i.room_to_wait, ap length popped, length-append c.pop.new.self.items (c.in-Some.id ∷ []), c.in-Some.ensures.capacity);
+      found_kept = i.found_kept;
+      waiting_kept = omega (arith, i.waiting_kept, c.in-Some.ensures.capacity);
     }
 
 pub returns-in-Err-clause-refused : goal.returns-in-Err-clause-refused
@@ -137,6 +141,9 @@ loop-id-preserved c =
         c.push_within-in-Some-2.ensures.room,
         c.push_within-in-Some-3.ensures.room,
       );
+      found_kept = omega (arith, i.found_kept, c.push_within-in-Some.ensures.room);
+      waiting_kept =
+          omega (arith, i.waiting_kept, c.in-Some.ensures.capacity, c.push_within-in-Some-2.ensures.room, c.push_within-in-Some-3.ensures.room);
     }
 
 -- what is pushed has room

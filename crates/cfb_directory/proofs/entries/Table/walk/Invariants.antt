@@ -4,7 +4,7 @@ use Rattle.cfb_directory.specs.Entries.{AreFree, Reaches, marked}
 use Rattle.cfb_directory.proofs.Inside.{Begins}
 use Rattle.cfb_directory.proofs.Linked.{Completes}
 use Rattle.cfb_directory.proofs.Marks.{unused}
-use Rattle.cfb_directory.proofs.entries.Entries.walk.Given as goal
+use Rattle.cfb_directory.proofs.entries.Table.walk.Given as goal
 
 abbrev pub invariant-loop-id : goal.invariant-loop-id
 invariant-loop-id l = record {
@@ -15,6 +15,8 @@ invariant-loop-id l = record {
   met : Begins l.initial.self.directory l.top l.found.items l.waiting.items;
   room : length l.found.items + unused l.self.used ≤ vec_capacity l.found;
   room_to_wait : length l.waiting.items + 2 * unused l.self.used ≤ vec_capacity l.waiting;
+  found_kept : vec_capacity l.initial.found ≤ vec_capacity l.found;
+  waiting_kept : vec_capacity l.initial.waiting ≤ vec_capacity l.waiting;
 }
 
 abbrev pub decreases-loop-id : goal.decreases-loop-id
