@@ -14,3 +14,4 @@ pub mod ReadingFile
 pub mod ReadingThere
 pub mod ReadingTold
 pub mod ReadingAlike
+pub mod ReadingMemory
