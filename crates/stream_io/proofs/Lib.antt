@@ -15,3 +15,4 @@ pub mod ReadingThere
 pub mod ReadingTold
 pub mod ReadingAlike
 pub mod ReadingSame
+pub mod ReadingMemory

@@ -10,7 +10,7 @@ use Rattle.cfb_header.specs.declared.fault.ChainFault.{ChainFault}
 use Rattle.cfb_header.specs.declared.fault.ChainFault.TheVariants as chain
 use Rattle.cfb_names.specs.Faults.{name_of_fault}
 use Rattle.cfb_names.specs.Names.{IsName, key, key_cmp}
-use Rattle.cfb_directory.specs.Entries.{AreFree, AreLinked, EntriesValue, IsNamed, child, class_of, entry_at, first_of, kind, marked, size_of, state_of}
+use Rattle.cfb_directory.specs.Entries.{AreFree, AreLinked, EntriesValue, HasChildren, IsNamed, child, class_of, entry_at, first_of, kind, marked, size_of, state_of}
 use Rattle.cfb_names.specs.declared.fault.DirFault.{DirFault}
 use Rattle.cfb_names.specs.declared.fault.DirFault.TheVariants as directory
 use Rattle.storage_tree.specs.Change.{Seen, bytes, inner, place}
@@ -132,6 +132,11 @@ MayRefusePlace r first size (Chain fault) = (0 < size)
     × IsChainAtFault (store_of (table_for size r.fat r.mini)) (IsTaken (table_for size r.fat r.mini)) first size fault
 MayRefusePlace r first size (Directory fault) = ⊥
 MayRefusePlace r first size NoMemory = ⊥
+
+-- a fault that is told of a storage is want of memory only where its children are there
+abbrev pub MayWant : EntriesValue → ℕ → ReadFault → Type 0
+MayWant e id NoMemory = HasChildren e id
+MayWant e id fault = Unit {0}
 
 -- when a fault may be answered for what stands below the root
 abbrev pub MayRefuseStorage : Base → ReadFault → Type 0

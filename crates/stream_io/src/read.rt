@@ -17,7 +17,7 @@ ghost use Rattle.file_model.specs.Denotes.{Denotes};
 ghost use Rattle.file_faults.specs.Faults.{Base, IsStorage};
 ghost use Rattle.outline_entries.specs.Places.{IsPartTold, IsPlaced, IsTold};
 ghost use Rattle.stream_io.specs.Marks.{IsNext};
-ghost use Rattle.stream_io.specs.Reads.{AreSorted, IsChildRead, IsNodeRead, IsStorageRead, MayRefuseFile, MayRefusePlace, MayRefuseStorage, MayRefuseStream, chain_fault, directory_in, met, stream_after};
+ghost use Rattle.stream_io.specs.Reads.{AreSorted, IsChildRead, IsNodeRead, IsStorageRead, MayRefuseFile, MayRefusePlace, MayRefuseStorage, MayRefuseStream, MayWant, chain_fault, directory_in, met, stream_after};
 ghost use Rattle.file_outline.specs.Streams.{stream_at};
 ghost use Rattle.file_outline.specs.View.{contents, outline_view, part_view, shown, shown_part, table_for};
 ghost use Rattle.stream_io.specs.View.{directory_bytes};
@@ -74,12 +74,13 @@ impl<'a, 'd> Reader<'a, 'd> {
 
     /// The children of an entry in the order of their names, which are marked.
     ///
-    /// Refused: as `Entries::children` and `by_name`.
+    /// Refused: as `Entries::children` and `by_name`, and `NoMemory` only where the children are there.
     fn sorted_children(&mut self, alloc: Global, id: u32) -> Result<Vec<u32>, ReadFault>
         requires inside { 128 * id < length (directory_in self.old) }
         requires root_marked { slice_index_or self.old.entries.used 0 true ≡ true }
         ensures sorted { IfOk result (λ v. (sorted : AreSorted self.old.entries id v.items) × (self.new ≡ met sorted.reached self.old)) }
         ensures there { (depth : ℕ) (t : tree.Tree) (new : reader.Reader) → IsStorageRead depth id t self.old new → IfErr result (λ e. e ≡ NoMemory) }
+        ensures memory { IfErr result (MayWant self.old.entries id) }
         ensures refused { (b : Base) (room : ℕ) (pending : List ℕ) → IsStorage (directory_in self.old) id → IsNext b room id pending self.old → IfErr result (MayRefuseStorage b) }
     {
         let ids = self.entries.children(alloc, id)?;
@@ -106,6 +107,7 @@ impl<'a, 'd> Reader<'a, 'd> {
         ensures sized { IfOk result (λ o. outline_of (shown (contents self.old.fat self.old.mini) o) ≡ outline_view o) }
         ensures told { IfOk result (λ o. IsTold (directory_in self.old) id o) }
         ensures there { (t : tree.Tree) (new : reader.Reader) → IsStorageRead depth id t self.old new → IfErr result (λ e. e ≡ NoMemory) }
+        ensures memory { IfErr result (MayWant self.old.entries id) }
         ensures refused { (b : Base) (pending : List ℕ) → IsNext b (suc depth) id pending self.old → IfErr result (MayRefuseStorage b) }
     {
         let ids = self.sorted_children(alloc, id)?;
@@ -137,6 +139,7 @@ impl<'a, 'd> Reader<'a, 'd> {
         ensures sized { IfOk result (λ c. part_of (shown_part (contents self.old.fat self.old.mini) c.1) ≡ part_view c.1) }
         ensures told { IfOk result (λ c. IsPartTold (directory_in self.old) id c.1) }
         ensures there { (k name : List ℕ) (s : Seen) (new : reader.Reader) → IsChildRead depth id k name s self.old new → IfErr result (λ e. e ≡ NoMemory) }
+        ensures memory { IfErr result (MayWant self.old.entries id) }
         ensures refused { (b : Base) (pending : List ℕ) → IsNext b depth id pending self.old → IfErr result (MayRefuseStorage b) }
     {
         let entry = self.entries.entry(id)?;
@@ -163,6 +166,7 @@ impl<'a, 'd> Reader<'a, 'd> {
         ensures sized { IfOk result (λ part. part_of (shown_part (contents self.old.fat self.old.mini) part) ≡ part_view part) }
         ensures told { IfOk result (λ part. IsPartTold (directory_in self.old) id part) }
         ensures there { (s : Seen) (new : reader.Reader) → IsNodeRead depth id s self.old new → IfErr result (λ e. e ≡ NoMemory) }
+        ensures memory { IfErr result (MayWant self.old.entries id) }
         ensures refused { (b : Base) (pending : List ℕ) → IsNext b depth id pending self.old → IfErr result (MayRefuseStorage b) }
     {
         match entry.kind {

@@ -7,7 +7,7 @@ use Rattle.file_model.specs.Outline.{nested, outline, outline_of, part_of}
 use Rattle.storage_tree.specs.Change.{Seen, child}
 use Rattle.storage_tree.specs.Tree.{Tree, Children, none, tree}
 use Rattle.stream_io.specs.Marks.{IsNext}
-use Rattle.stream_io.specs.Reads.{IsChildRead, IsNodeRead, IsStorageRead, MayRefuseStorage, directory_fault, directory_in}
+use Rattle.stream_io.specs.Reads.{IsChildRead, IsNodeRead, IsStorageRead, MayRefuseStorage, MayWant, directory_fault, directory_in}
 use Rattle.file_outline.specs.View.{contents, part_view, shown_part, shown_parts}
 use Rattle.file_outline.specs.declared.outline.Place.{Place}
 use Rattle.outline_entries.specs.Places.{AreInOrder, AreTold, IsPartTold, holds, lies, storage}
@@ -17,6 +17,7 @@ use Rattle.outline_entries.proofs.Told.{told_all, told_next, told_none, view_nes
 use Rattle.stream_io.proofs.ReadingChildren.{IsFirstRead, Progress}
 use Rattle.file_faults.proofs.EntryKinds.{storage_kind}
 use Rattle.file_outline.proofs.Outlines.{AreSized, shown-nested, shown-push, shown-roll, sized-all, sized-push, view-roll}
+use Rattle.stream_io.proofs.ReadingMemory.{by_entry, by_place, when_sorted}
 use Rattle.stream_io.proofs.ReadingRefused.{entry_below, never_ok, same_memory, stream_below}
 use Rattle.stream_io.proofs.ReadingSteps.{AreOpen, all_read, entry_not_refused, inner_read, next_at, next_below, next_root, next_there, opened, positive, put, step}
 use Rattle.stream_io.proofs.read.Reader.+storages.Goals as goal
@@ -55,6 +56,8 @@ part_outline-returns-in_err-inner-in_default t c =
       there = λ s new h.
           let r : (u : Tree) × IsStorageRead (c.args.depth - 1) c.args.id u c.args.self.now new = inner_read c.args.depth c.args.id s c.args.self.now new h kind_is in
           same_memory c.from_residual-in_err-inner-in_default.result c.in_err-inner-in_default.field-0.0 again (c.in_err-inner-in_default.ensures.there r.0 new r.1);
+      memory = refused_with c.from_residual-in_err-inner-in_default.result c.in_err-inner-in_default.field-0.0 (MayWant c.args.self.now.entries c.args.id) again
+          c.in_err-inner-in_default.ensures.memory;
       refused = λ b pending at.
           let room : c.args.depth ≡ suc (c.args.depth - 1) = omega (arith, positive c.args.depth c.if-depth-eq0.false) in
           refused_with c.from_residual-in_err-inner-in_default.result c.in_err-inner-in_default.field-0.0 (MayRefuseStorage b) again
@@ -211,5 +214,41 @@ part_outline-returns-in_ok-inner-in_default t c =
       sized = ap part_of (shown-nested content o) ∙ ap nested c.in_ok-inner-in_default.ensures.sized ∙ sym (view_nested o);
       told = holds c.args.id o kind_is c.in_ok-inner-in_default.ensures.told;
       there = λ s new h. tt;
+      memory = tt;
       refused = λ b pending at. tt;
     }
+
+-- want of memory is told only where the children are there
+pub child_outline-returns-in_err-entry-clause-memory : goal.child_outline-returns-in_err-entry-clause-memory
+child_outline-returns-in_err-entry-clause-memory t c =
+    refused_with c.from_residual.result (directory_fault c.in_err-entry.field-0.0) (MayWant c.args.self.now.entries c.args.id) c.from_residual.ensures.1
+    (by_entry c.args.self.now.entries c.args.id (directory_in c.args.self.now) c.in_err-entry.field-0.0 c.in_err-entry.ensures.refused)
+
+pub child_outline-returns-in_err-part-clause-memory : goal.child_outline-returns-in_err-part-clause-memory
+child_outline-returns-in_err-part-clause-memory t c =
+    let again : IsErrAnd c.from_residual-in_err-part.result (λ x. x ≡ c.in_err-part.field-0.0) = search rules in
+    refused_with c.from_residual-in_err-part.result c.in_err-part.field-0.0 (MayWant c.args.self.now.entries c.args.id) again c.in_err-part.ensures.memory
+
+pub part_outline-returns-in_err-mark_stream-in-Stream-clause-memory : goal.part_outline-returns-in_err-mark_stream-in-Stream-clause-memory
+part_outline-returns-in_err-mark_stream-in-Stream-clause-memory t c =
+    let again : IsErrAnd c.from_residual.result (λ x. x ≡ c.in_err-mark_stream-in-Stream.field-0.0) = search rules in
+    refused_with c.from_residual.result c.in_err-mark_stream-in-Stream.field-0.0 (MayWant c.args.self.now.entries c.args.id) again
+    (by_place c.args.self.now.entries c.args.id c.args.self.now c.args.entry.now.first c.args.entry.now.size c.in_err-mark_stream-in-Stream.field-0.0
+    c.in_err-mark_stream-in-Stream.ensures.refused)
+
+pub storage_outline-returns-in_err-ids-clause-memory : goal.storage_outline-returns-in_err-ids-clause-memory
+storage_outline-returns-in_err-ids-clause-memory t c =
+    let again : IsErrAnd c.from_residual.result (λ x. x ≡ c.in_err-ids.field-0.0) = search rules in
+    refused_with c.from_residual.result c.in_err-ids.field-0.0 (MayWant c.args.self.now.entries c.args.id) again c.in_err-ids.ensures.memory
+
+pub storage_outline-returns-in_err-parts-clause-memory : goal.storage_outline-returns-in_err-parts-clause-memory
+storage_outline-returns-in_err-parts-clause-memory t c =
+    when_sorted c.args.self.now.entries c.args.id c.from_residual-in_err-parts.result c.in_ok-ids.ids.items c.requires.entry.inside c.in_ok-ids.ensures.sorted.0
+
+pub storage_outline-returns-in_err-part-clause-memory : goal.storage_outline-returns-in_err-part-clause-memory
+storage_outline-returns-in_err-part-clause-memory t c =
+    when_sorted c.args.self.now.entries c.args.id c.from_residual-in_err-part.result c.in_ok-ids.ids.items c.requires.entry.inside c.in_ok-ids.ensures.sorted.0
+
+pub storage_outline-returns-in_err-push-clause-memory : goal.storage_outline-returns-in_err-push-clause-memory
+storage_outline-returns-in_err-push-clause-memory t c =
+    when_sorted c.args.self.now.entries c.args.id c.from_residual-in_err-push.result c.in_ok-ids.ids.items c.requires.entry.inside c.in_ok-ids.ensures.sorted.0

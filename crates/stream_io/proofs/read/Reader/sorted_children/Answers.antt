@@ -2,8 +2,9 @@ use Rattle.std.proofs.Common.{◌≡◌, List, ℕ, refl, ap, subst}
 use Rattle.cfb_chain.proofs.Results.{refused_with}
 use Rattle.cfb_directory.specs.Entries.{EntriesValue}
 use Rattle.cfb_directory.proofs.Marked.{children_kept}
-use Rattle.stream_io.specs.Reads.{MayRefuseStorage, directory_fault}
+use Rattle.stream_io.specs.Reads.{MayRefuseStorage, MayWant, directory_fault}
 use Rattle.entry_sorting.specs.Sorting.{MayRefuseNames}
+use Rattle.stream_io.proofs.ReadingMemory.{by_children, when_found}
 use Rattle.stream_io.proofs.ReadingRefused.{children_below, directory_memory, names_below}
 use Rattle.stream_io.proofs.ReadingSorted.{names_not_refused, sorted_met}
 use Rattle.stream_io.proofs.ReadingSteps.{AreTheChildren, children_of, children_readable}
@@ -44,3 +45,17 @@ returns-clause-sorted c =
     sorted_met c.args.self.now c.args.id c.in_ok-ids.ids.items c.in_ok-ids.ids.items c.in_ok-sorted.sorted.items c.in_ok-sorted.sorted.items c.children.new.self.directory
     c.children.new.self c.in_ok-ids.ensures.linked c.in_ok-ids.ensures.free refl (ap (λ (x : EntriesValue). x.directory) c.in_ok-ids.ensures.marks)
     c.in_ok-sorted.ensures.ordered c.in_ok-sorted.ensures.same refl c.in_ok-ids.ensures.marks
+
+pub returns-in_err-ids-clause-memory : goal.returns-in_err-ids-clause-memory
+returns-in_err-ids-clause-memory c =
+    refused_with c.from_residual.result (directory_fault c.in_err-ids.field-0.0) (MayWant c.args.self.now.entries c.args.id) c.from_residual.ensures.1
+    (by_children c.args.self.now.entries c.args.id c.in_err-ids.field-0.0 c.in_err-ids.ensures.refused)
+
+pub returns-in_err-list-clause-memory : goal.returns-in_err-list-clause-memory
+returns-in_err-list-clause-memory c =
+    when_found c.args.self.now.entries c.args.id c.from_residual-in_err-list.result c.in_ok-ids.ids.items c.requires.inside c.in_ok-ids.ensures.linked c.in_ok-ids.ensures.free
+
+pub returns-in_err-sorted-clause-memory : goal.returns-in_err-sorted-clause-memory
+returns-in_err-sorted-clause-memory c =
+    when_found c.args.self.now.entries c.args.id c.from_residual-in_err-sorted.result c.in_ok-ids.ids.items c.requires.inside c.in_ok-ids.ensures.linked
+    c.in_ok-ids.ensures.free
