@@ -1,2 +1,3 @@
 pub mod Fresh
+pub mod Lending
 pub mod Went

@@ -4,6 +4,7 @@
 
 pub mod checks;
 pub mod contents;
+pub mod frames;
 pub mod lookups;
 pub mod objects;
 pub mod servers;

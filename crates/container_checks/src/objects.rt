@@ -59,20 +59,29 @@ impl Objects {
         Ok(())
     }
 
-    /// More of them, of new numbers.
+    /// Room for so many more. The objects stay as they are.
     ///
-    /// Refused for want of memory alone. Then nothing changes.
-    pub fn append(&mut self, more: Vec<Object>) -> Result<(), AllocError>
-        requires { AreFresh (map (λ o. o.number) self.old.list.items) (map (λ o. o.number) more.items) }
-        ensures items { OnOk result (self.new.list.items ≡ self.old.list.items ++ more.items) }
-        ensures kept { OnErr result (self.new.list.items ≡ self.old.list.items) }
+    /// Refused for want of memory alone.
+    pub fn reserve(&mut self, count: usize) -> Result<(), AllocError>
+        ensures kept { self.new.list.items ≡ self.old.list.items }
+        ensures places { OnOk result (vec_len self.new.list + count ≤ vec_capacity self.new.list) }
+        ensures room { OnOk result (count ≤ spare self.new.numbers) }
     {
-        self.list.reserve(more.len())?;
-        self.numbers.reserve(more.len())?;
+        self.list.reserve(count)?;
+        self.numbers.reserve(count)?;
+        Ok(())
+    }
+
+    /// More of them, of new numbers, for which there is room. It takes no memory.
+    pub fn append_reserved(&mut self, more: Vec<Object>)
+        requires fresh { AreFresh (map (λ o. o.number) self.old.list.items) (map (λ o. o.number) more.items) }
+        requires places { vec_len self.old.list + vec_len more ≤ vec_capacity self.old.list }
+        requires room { vec_len more ≤ spare self.old.numbers }
+        ensures { self.new.list.items ≡ self.old.list.items ++ more.items }
+    {
         for object in more {
             self.add(object);
         }
-        Ok(())
     }
 
     /// The object that stands there goes.

@@ -1,14 +1,14 @@
 -- A file that is opened: what its tests say of the step, and what is made.
-use Rattle.std.proofs.Common.{◌≡◌, ◌≤◌, ◌<◌, ◌+◌, ◌||◌, ◌++◌, ℕ, suc, Bool, true, false, not, List, [], ◌∷◌, length, map, Option, Some, None, Result, Ok, Err, IfErr, IfOk, OnErr, refl, sym, ◌∙◌, ap, arith, subst}
+use Rattle.std.proofs.Common.{◌≡◌, ◌≤◌, ◌<◌, ◌+◌, ◌||◌, ◌++◌, ℕ, Bool, true, false, not, List, [], ◌∷◌, length, map, Option, Some, None, Result, Ok, Err, IfErr, IfOk, OnErr, refl, sym, ◌∙◌, ap, arith, subst}
 use Rattle.std.proofs.lemmas.Bool.{leb-false, leb-true, ltb-false}
-use Rattle.std.specs.Prelude.{IsOk, nat_le, nat_lt, is_some}
+use Rattle.std.specs.Prelude.{nat_le, nat_lt}
 use Rattle.std.specs.List.{range_with_len}
 use Rattle.document_model.specs.declared.object.DocObject.{DocObject}
 use Rattle.container_model.specs.declared.answer.Answer.{Answer}
 use Rattle.container_model.specs.declared.fault.ContainerFault.{ContainerFault}
 use Rattle.container_model.specs.declared.record.Frame.{Frame}
 use Rattle.container_model.specs.declared.record.Object.{Object}
-use Rattle.container_model.specs.declared.fault.ContainerFault.TheVariants.{BadFile, Busy, Full, NoMemory, NoSuch, NumbersSpent, WrongState}
+use Rattle.container_model.specs.declared.fault.ContainerFault.TheVariants.{BadFile, Busy, Full, NoSuch, NumbersSpent, WrongState}
 use Rattle.container_model.specs.Record.{Record, Took, MOST_FRAMES, MOST_OBJECTS, Refuses, counts_none, quiet_answer, unless}
 use Rattle.container_model.specs.Commands.{is_named, is_size}
 use Rattle.container_model.specs.Opens.{Given, IsReadAs, opened, opened_document, opened_frame, opened_given, opened_made, opened_objects}
@@ -16,7 +16,7 @@ use Rattle.container_model.specs.Room.{IsSound}
 use Rattle.container_model.specs.Saves.{are_objects, is_document}
 use Rattle.container_steady.proofs.SteadyTells.{and_both, or_false, unless_ok}
 use Rattle.container_documents.specs.Reading.{as_given as given_of}
-use Rattle.container_core.specs.Opening.{MayRefuse, as_given, looked_at, reading, room, unread}
+use Rattle.container_core.specs.Opening.{MayRefuse, as_given, looked_at, room, unread}
 
 -- ---- names and sizes
 abbrev fine : Result (Unit {0}) ContainerFault

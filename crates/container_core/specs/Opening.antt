@@ -1,5 +1,5 @@
 -- When a file isn't opened.
-use Rattle.std.specs.Prelude.{◌≡◌, ◌+◌, ◌||◌, ℕ, true, List, length, Option, Some, is_some, Result, Ok, Err, nat_le, nat_lt}
+use Rattle.std.specs.Prelude.{◌≡◌, ◌+◌, ◌||◌, ℕ, true, List, length, Option, is_some, Result, Ok, Err, nat_le, nat_lt}
 use Rattle.container_model.specs.declared.fault.ContainerFault.{ContainerFault}
 use Rattle.container_model.specs.declared.fault.ContainerFault.TheVariants.{Full, NoMemory, NumbersSpent}
 use Rattle.container_model.specs.Record.{Record, MOST_FRAMES, Refuses, unless}

@@ -11,7 +11,6 @@ ghost use Rattle.container_model.specs.declared.record.Frame as declared;
 
 use crate::images::check_image;
 use container_checks::checks::{is_committing, is_doubtful};
-use container_checks::lookups::place;
 use container_links::asking::prepare;
 use container_model::answer::Answer;
 use container_model::fault::ContainerFault;
@@ -30,7 +29,7 @@ fn place_committing(state: &State, f: u32) -> Result<usize, ContainerFault>
     ensures told { OnOk result ((frame : declared.Frame) → nth state.now.frames f ≡ Some frame → (is_committing frame.phase ≡ true) × (commit_done state.now f ≡ Ok (commit_made state.now f frame))) }
     ensures refused { IfErr result (Refuses (commit_done state.now f)) }
 {
-    let Some(place) = place(state.frames.as_slice(), f) else {
+    let Some(place) = state.frames.place(f) else {
         return Err(ContainerFault::NoSuch);
     };
     if !is_committing(state.frames[place].phase) {
@@ -48,7 +47,7 @@ fn place_kept(state: &State, f: u32) -> Result<usize, ContainerFault>
     ensures told { OnOk result ((frame : declared.Frame) → nth state.now.frames f ≡ Some frame → (is_doubtful frame.phase ≡ true) × (resolve state.now f true ≡ Ok (commit_made state.now f frame))) }
     ensures refused { IfErr result (Refuses (resolve state.now f true)) }
 {
-    let Some(place) = place(state.frames.as_slice(), f) else {
+    let Some(place) = state.frames.place(f) else {
         return Err(ContainerFault::NoSuch);
     };
     if !is_doubtful(state.frames[place].phase) {
@@ -66,7 +65,7 @@ fn place_lost(state: &State, f: u32) -> Result<usize, ContainerFault>
     ensures told { OnOk result ((frame : declared.Frame) → nth state.now.frames f ≡ Some frame → (is_doubtful frame.phase ≡ true) × (resolve state.now f false ≡ Ok (save_dropped state.now f frame))) }
     ensures refused { IfErr result (Refuses (resolve state.now f false)) }
 {
-    let Some(place) = place(state.frames.as_slice(), f) else {
+    let Some(place) = state.frames.place(f) else {
         return Err(ContainerFault::NoSuch);
     };
     if !is_doubtful(state.frames[place].phase) {
@@ -152,7 +151,7 @@ pub(crate) fn commit_failed(
     ensures refused { IfErr result (Refuses (commit_failed state.old f)) }
     ensures kept { OnErr result (state.new ≡ state.old) }
 {
-    let Some(place) = place(state.frames.as_slice(), f) else {
+    let Some(place) = state.frames.place(f) else {
         return Err(ContainerFault::NoSuch);
     };
     if !is_committing(state.frames[place].phase) {

@@ -1,6 +1,6 @@
 //! The documents of frames whose commits are asked for or in doubt, and their files.
 
-ghost use Rattle.std.specs.Prelude.{◌≡◌, ◌≤◌, IfErr, IfOk, List, Ok, OnOk, length};
+ghost use Rattle.std.specs.Prelude.{◌≡◌, ◌≤◌, IfErr, IfOk, Ok, OnOk, length};
 ghost use Rattle.container_model.specs.Record.{Refuses};
 ghost use Rattle.container_model.specs.Saves as saves;
 ghost use Rattle.container_model.specs.Saves.{document_tree, image, parts_in};
@@ -11,7 +11,6 @@ ghost use Rattle.file_model.specs.Limits.{MOST_BYTES};
 ghost use Rattle.file_writer.specs.Laid.{IsLaidOut};
 
 use container_checks::checks::has_image;
-use container_checks::lookups::place;
 use container_documents::documents::{file_of, fits, parts_in};
 use container_model::answer::Part;
 use container_model::fault::ContainerFault;
@@ -26,7 +25,7 @@ pub(crate) fn check_image(state: &State, f: u32) -> Result<(), ContainerFault>
     ensures fine { OnOk result (image state.now f ≡ Ok (parts_in f state.now.objects)) }
     ensures refused { IfErr result (Refuses (image state.now f)) }
 {
-    let Some(place) = place(state.frames.as_slice(), f) else {
+    let Some(place) = state.frames.place(f) else {
         return Err(ContainerFault::NoSuch);
     };
     if !has_image(state.frames[place].phase) {

@@ -1,6 +1,6 @@
 //! Files that are opened as frames.
 
-ghost use Rattle.std.specs.Prelude.{◌≡◌, ◌+◌, ◌≤◌, ◌<◌, ◌++◌, ◌∷◌, [], IfErr, IfOk, Ok, OnErr, Some, length, map, option_copied, true, vec_capacity, vec_len};
+ghost use Rattle.std.specs.Prelude.{◌≡◌, ◌+◌, ◌≤◌, ◌<◌, IfErr, IfOk, Ok, OnErr, Some, length, map, option_copied, true};
 ghost use Rattle.container_core.specs.Opening.{MayRefuse, looked_at, room};
 ghost use Rattle.container_model.specs.Opens.{Given, IsReadAs, opened, opened_document, opened_made};
 ghost use Rattle.container_model.specs.Record.{MOST_OBJECTS, Refuses, counts_none, quiet_answer};
@@ -24,17 +24,6 @@ use wire_msgs::items::Items;
 
 // How many frames there may be.
 const MOST_FRAMES: usize = 8;
-
-// Adds what there is room for.
-fn add<T: Drop>(items: &mut Vec<T>, item: T)
-    requires { vec_len items.old < vec_capacity items.old }
-    ensures { items.new.items ≡ items.old.items ++ item ∷ [] }
-{
-    match items.push(item) {
-        Ok(()) => {}
-        Err(_) => unreachable!(),
-    }
-}
 
 // The answer that a frame with objects was made.
 fn made(alloc: Global, frame: u32, objects: &[Object]) -> Result<Answer, AllocError>
@@ -98,9 +87,9 @@ fn make_opened(
     let count = objects.len() as u32;
     let more = opened_objects(alloc, state.last_object, frame, objects)?;
     let answer = made(alloc, frame, more.as_slice())?;
-    state.frames.reserve(1)?;
-    state.objects.append(more)?;
-    add(&mut state.frames, opened_frame(name, w, h));
+    state.objects.reserve(more.len())?;
+    state.frames.push(opened_frame(name, w, h))?;
+    state.objects.append_reserved(more);
     state.last_object += count;
     Ok(answer)
 }

@@ -9,7 +9,8 @@ ghost use Rattle.container_model.specs.Record.{is_object, sends};
 ghost use Rattle.container_grants.specs.Granted.{actions_of, asked_by, claims_if, installed_by, installed_each, ready, sent_by, told_frame, told_frames, told_space, told_space_in};
 ghost use Rattle.wire_msgs.specs.Found.{find, nth};
 
-use container_checks::lookups::{place, place_object};
+use container_checks::frames::Frames;
+use container_checks::lookups::place_object;
 use container_checks::objects::Objects;
 use container_links::asking::{Prepared, ask_object, install};
 use container_links::requests::{Request, add_action, prepare_one};
@@ -81,15 +82,15 @@ fn tell(frame: &mut Frame, told: Tells) -> bool
 
 /// What an answer of an object tells of its frame's grant moves it. Whether the object got the frame without border space. It
 /// takes no memory.
-pub fn tell_frame(frames: &mut Vec<Frame>, f: u32, told: Option<Tells>) -> bool
-    ensures frames { frames.new.items ≡ told_frames f told frames.old.items }
-    ensures len { length frames.new.items ≡ length frames.old.items }
-    ensures space { result ≡ told_space_in told (nth frames.old.items f) }
+pub fn tell_frame(frames: &mut Frames, f: u32, told: Option<Tells>) -> bool
+    ensures frames { frames.new ≡ told_frames f told frames.old }
+    ensures len { length frames.new ≡ length frames.old }
+    ensures space { result ≡ told_space_in told (nth frames.old f) }
 {
     let Some(told) = told else {
         return false;
     };
-    match place(frames.as_slice(), f) {
+    match frames.place(f) {
         Some(i) => tell(&mut frames[i], told),
         None => false,
     }
@@ -128,7 +129,7 @@ pub fn prepare_waiting(
     alloc: Global,
     gives: Option<u32>,
     f: u32,
-    frames: &[Frame],
+    frames: &Frames,
     objects: &Objects,
 ) -> Result<Vec<Granted>, AllocError>
     requires { All HasNumber objects.now.list.items }
@@ -140,7 +141,7 @@ pub fn prepare_waiting(
     let Some(act) = gives else {
         return Ok(grants);
     };
-    let Some(at) = place(frames, f) else {
+    let Some(at) = frames.place(f) else {
         return Ok(grants);
     };
     let state = frames[at].ui.state();
@@ -283,10 +284,10 @@ fn free_slice(inc: u32, frames: &mut [Frame], objects: &Objects)
 }
 
 /// What objects of a server that has ended have of their frames, are to get or wait for is lost. It takes no memory.
-pub fn free_frames(inc: u32, frames: &mut Vec<Frame>, objects: &Objects)
-    ensures { frames.new.items ≡ map (freed_frame inc objects.now.list.items) frames.old.items }
+pub fn free_frames(inc: u32, frames: &mut Frames, objects: &Objects)
+    ensures { frames.new ≡ map (freed_frame inc objects.now.list.items) frames.old }
 {
-    free_slice(inc, frames, objects);
+    free_slice(inc, frames.as_mut_slice(), objects);
 }
 
 /// Whether an activation has a frame under this grant.

@@ -4,6 +4,7 @@ ghost use Rattle.std.specs.Prelude.{◌≡◌, ◌+◌, ◌≤◌, ◌<◌, ◌+
 ghost use Rattle.container_model.specs.Saves.{awaits, is_awaited_link, is_away, is_keeping_link, is_ready, keeps, settled_action, settled_actions, settled_frame, settled_frames};
 ghost use Rattle.container_model.specs.HandOffs.{hands_off};
 
+use container_checks::frames::Frames;
 use container_model::answer::Action;
 use container_model::record::{Frame, Link, Object, Phase};
 use object_state::PersistState;
@@ -136,13 +137,13 @@ fn settle_slice(frames: &mut [Frame], objects: &[Object])
 }
 
 /// Saves go on, by rising frame, and their commits are asked for. It takes no memory.
-pub fn settle_into(actions: &mut Vec<Action>, frames: &mut Vec<Frame>, objects: &Vec<Object>)
-    requires room { vec_len actions.old + length frames.old.items ≤ vec_capacity actions.old }
-    requires few { length frames.old.items ≤ 1000000 }
-    ensures asked { actions.new.items ≡ actions.old.items ++ settled_actions 1 objects.now.items frames.old.items }
-    ensures few { vec_len actions.new ≤ vec_len actions.old + length frames.old.items }
-    ensures settled { frames.new.items ≡ settled_frames 1 objects.now.items frames.old.items }
+pub fn settle_into(actions: &mut Vec<Action>, frames: &mut Frames, objects: &Vec<Object>)
+    requires room { vec_len actions.old + length frames.old ≤ vec_capacity actions.old }
+    requires few { length frames.old ≤ 1000000 }
+    ensures asked { actions.new.items ≡ actions.old.items ++ settled_actions 1 objects.now.items frames.old }
+    ensures few { vec_len actions.new ≤ vec_len actions.old + length frames.old }
+    ensures settled { frames.new ≡ settled_frames 1 objects.now.items frames.old }
 {
     push_commits(actions, frames.as_slice(), objects.as_slice());
-    settle_slice(frames, objects.as_slice());
+    settle_slice(frames.as_mut_slice(), objects.as_slice());
 }

@@ -8,7 +8,7 @@ ghost use Rattle.wire_msgs.specs.Found.{nth};
 ghost use Rattle.wire_msgs.specs.declared.operation.Operation.TheVariants.{HandsOff};
 
 use crate::rooms::{FrameRooms, Room};
-use container_checks::lookups::place;
+use container_checks::frames::Frames;
 use container_links::settling::hands_off;
 use container_model::answer::Action;
 use container_model::record::{Frame, Link, Object, Phase};
@@ -156,20 +156,20 @@ fn hand_frame(frame: &mut Frame)
 pub fn hand_off_in(
     alloc: Global,
     f: u32,
-    frames: &mut Vec<Frame>,
+    frames: &mut Frames,
     objects: &mut Vec<Object>,
     rooms: Vec<Room>,
     actions: &mut Vec<Action>,
 )
-    requires places { IfSome (nth frames.old.items f) (λ frame. is_leaving frame ≡ true → HavePlaces 0 f objects.old.items rooms.items) }
+    requires places { IfSome (nth frames.old f) (λ frame. is_leaving frame ≡ true → HavePlaces 0 f objects.old.items rooms.items) }
     requires room { vec_len actions.old + free objects.old.items ≤ vec_capacity actions.old }
-    ensures handed { (r : Record) → r.frames ≡ frames.old.items → r.objects ≡ objects.old.items → (hand_off_in r f).rec ≡ record r { frames = frames.new.items; objects = objects.new.items } }
-    ensures sent { (r : Record) → r.frames ≡ frames.old.items → r.objects ≡ objects.old.items → actions.new.items ≡ actions.old.items ++ sends (hand_off_in r f).sent }
-    ensures len { length frames.new.items ≡ length frames.old.items }
+    ensures handed { (r : Record) → r.frames ≡ frames.old → r.objects ≡ objects.old.items → (hand_off_in r f).rec ≡ record r { frames = frames.new; objects = objects.new.items } }
+    ensures sent { (r : Record) → r.frames ≡ frames.old → r.objects ≡ objects.old.items → actions.new.items ≡ actions.old.items ++ sends (hand_off_in r f).sent }
+    ensures len { length frames.new ≡ length frames.old }
     ensures few { vec_len actions.new + free objects.new.items ≤ vec_len actions.old + free objects.old.items }
     ensures room { vec_capacity actions.old ≤ vec_capacity actions.new }
 {
-    let Some(at) = place(frames.as_slice(), f) else {
+    let Some(at) = frames.place(f) else {
         return;
     };
     if !hands_off(f, &frames[at], objects.as_slice()) {
@@ -182,17 +182,17 @@ pub fn hand_off_in(
 /// The same of all frames, by rising number.
 pub fn hand_off_all(
     alloc: Global,
-    frames: &mut Vec<Frame>,
+    frames: &mut Frames,
     objects: &mut Vec<Object>,
     rooms: Vec<FrameRooms>,
     actions: &mut Vec<Action>,
 )
-    requires few { length frames.old.items ≤ 1000000 }
-    requires places { AllHavePlaces 0 1 frames.old.items objects.old.items rooms.items }
+    requires few { length frames.old ≤ 1000000 }
+    requires places { AllHavePlaces 0 1 frames.old objects.old.items rooms.items }
     requires room { vec_len actions.old + free objects.old.items ≤ vec_capacity actions.old }
-    ensures handed { (r : Record) → r.frames ≡ frames.old.items → r.objects ≡ objects.old.items → (hand_off r).rec ≡ record r { frames = frames.new.items; objects = objects.new.items } }
-    ensures sent { (r : Record) → r.frames ≡ frames.old.items → r.objects ≡ objects.old.items → actions.new.items ≡ actions.old.items ++ sends (hand_off r).sent }
-    ensures len { length frames.new.items ≡ length frames.old.items }
+    ensures handed { (r : Record) → r.frames ≡ frames.old → r.objects ≡ objects.old.items → (hand_off r).rec ≡ record r { frames = frames.new; objects = objects.new.items } }
+    ensures sent { (r : Record) → r.frames ≡ frames.old → r.objects ≡ objects.old.items → actions.new.items ≡ actions.old.items ++ sends (hand_off r).sent }
+    ensures len { length frames.new ≡ length frames.old }
     ensures few { vec_len actions.new + free objects.new.items ≤ vec_len actions.old + free objects.old.items }
     ensures room { vec_capacity actions.old ≤ vec_capacity actions.new }
 {

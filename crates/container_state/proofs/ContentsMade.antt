@@ -5,7 +5,7 @@ use Rattle.wire_msgs.specs.Found.{find, nth, put, set_nth}
 use Rattle.wire_msgs.specs.declared.answer.Answer.{Answer}
 use Rattle.wire_msgs.specs.declared.message.Message.{Message}
 use Rattle.wire_msgs.specs.declared.operation.Operation.TheVariants.{HandsOff}
-use Rattle.container_links.specs.Asking.{prepared, prepared_link}
+use Rattle.container_links.specs.Asking.{prepared}
 use Rattle.container_links.specs.declared.asking.Prepared.{Prepared}
 use Rattle.container_links.specs.Handing.{answers, awaits_but, next_prepared}
 use Rattle.container_links.proofs.Handings.{IsContent, content_is_kept, kept_prepared, kept_unawaited}
@@ -17,8 +17,8 @@ use Rattle.container_model.specs.declared.record.Frame.{Frame}
 use Rattle.container_model.specs.declared.record.Link.{Link}
 use Rattle.container_model.specs.declared.record.Object.{Object}
 use Rattle.container_model.specs.HandOffs.{hand_off_at, handed_off, handing_frame, hands_off, hands_off_at, unasked}
-use Rattle.container_model.specs.Messages.{Replied, next_sent, replied_object, replied_record, reply_found, reply_link, reply_made, reply_taken}
-use Rattle.container_model.specs.Record.{Record, Took, asked_all, asked_object, is_linked, quiet_answer, sends}
+use Rattle.container_model.specs.Messages.{Replied, next_sent, replied_object, replied_record, reply_found, reply_link}
+use Rattle.container_model.specs.Record.{Record, asked_all, asked_object, is_linked, quiet_answer, sends}
 use Rattle.container_model.specs.Saves.{awaits, is_awaited_link, settle, settle_actions, settled_actions, settled_frames}
 use Rattle.std.specs.List.{AllByRecursion}
 use Rattle.container_model.specs.Room.{IsSound}

@@ -1,5 +1,5 @@
 -- A steady record's objects have numbers that were drawn, so the next ones are new.
-use Rattle.std.proofs.Common.{◌≡◌, ◌+◌, ◌≤◌, ℕ, false, List, [], ◌∷◌, map, nat_eq, ap, subst, sym, ◌∙◌}
+use Rattle.std.proofs.Common.{◌≡◌, ◌+◌, ◌≤◌, ℕ, false, List, [], ◌∷◌, nat_eq, ap, subst, sym, ◌∙◌}
 use Rattle.std.specs.List.{AllByRecursion, list_any, range_with_len}
 use Rattle.container_model.specs.Record.{Record}
 use Rattle.container_model.specs.declared.record.Object.{Object}

@@ -1,5 +1,5 @@
 -- Objects keep their numbers where all of them change at once.
-use Rattle.std.proofs.Common.{◌≡◌, ◌∙◌, ◌+◌, ◌==◌, ℕ, Bool, true, false, List, [], ◌∷◌, map, Option, Some, None, if◌then◌else◌, refl}
+use Rattle.std.proofs.Common.{◌≡◌, ◌∙◌, ◌+◌, ◌==◌, ℕ, true, false, List, [], ◌∷◌, map, Option, Some, None, if◌then◌else◌, refl}
 use Rattle.wire_msgs.specs.Found.{nth}
 use Rattle.wire_msgs.specs.declared.operation.Operation.{Operation}
 use Rattle.wire_msgs.specs.declared.operation.Operation.TheVariants.{HandsOff, SaveDropped}

@@ -7,7 +7,7 @@ ghost use Rattle.container_model.specs.Room.{IsSound};
 ghost use Rattle.wire_msgs.specs.Found.{find, IsPlace};
 
 use crate::state::State;
-use container_checks::lookups::{place, place_linked};
+use container_checks::lookups::place_linked;
 use container_grants::grants::{ask_number, is_held_by};
 use container_model::answer::Answer;
 use container_model::fault::ContainerFault;
@@ -55,7 +55,7 @@ impl State {
         ensures kept { OnErr result (self.new ≡ self.old) }
     {
         let f = self.objects.list[i].frame;
-        let Some(at) = place(self.frames.as_slice(), f) else {
+        let Some(at) = self.frames.place(f) else {
             return Err(ContainerFault::Stale);
         };
         let state = self.frames[at].ui.state();

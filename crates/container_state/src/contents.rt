@@ -11,7 +11,6 @@ ghost use Rattle.container_model.specs.Room.{IsSound};
 ghost use Rattle.wire_msgs.specs.Found.{find, IsPlace};
 
 use crate::state::State;
-use container_checks::lookups::place;
 use container_checks::objects::Objects;
 use container_links::handing::{hand_off, hands_off_after, prepare_after};
 use container_links::settling::settle_into;
@@ -51,7 +50,7 @@ impl State {
         ensures kept { OnErr result (self.new ≡ self.old) }
     {
         let f = self.objects.list[i].frame;
-        let Some(at) = place(self.frames.as_slice(), f) else {
+        let Some(at) = self.frames.place(f) else {
             unreachable!()
         };
         if hands_off_then(f, i, &self.frames[at], &self.objects) {

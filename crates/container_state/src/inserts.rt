@@ -8,7 +8,6 @@ ghost use Rattle.container_steady.specs.Steady.{Steady};
 
 use crate::state::State;
 use container_checks::checks;
-use container_checks::lookups::place;
 use container_model::answer::Answer;
 use container_model::command::ObjectKind;
 use container_model::fault::ContainerFault;
@@ -63,7 +62,7 @@ impl State {
         ensures refused { IfErr result (Refuses (insert self.old frame (kind_of kind) area)) }
         ensures kept { OnErr result (self.new ≡ self.old) }
     {
-        let Some(at) = place(self.frames.as_slice(), frame) else {
+        let Some(at) = self.frames.place(frame) else {
             return Err(ContainerFault::NoSuch);
         };
         match may_insert(&self.frames[at], area) {

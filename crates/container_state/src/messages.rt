@@ -133,8 +133,7 @@ impl State {
         }
         let f = self.objects.list[place].frame;
         let gives = gives_up(&self.objects.list[place].link, n, &answer);
-        let frames = self.frames.as_slice();
-        let Ok(grants) = prepare_waiting(alloc, gives, f, frames, &self.objects) else {
+        let Ok(grants) = prepare_waiting(alloc, gives, f, &self.frames, &self.objects) else {
             return Err(ContainerFault::NoMemory);
         };
         let more = self.frames.len() + 1;

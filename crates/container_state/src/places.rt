@@ -10,7 +10,7 @@ ghost use Rattle.container_model.specs.declared.record.Object.{Object};
 
 use crate::state::State;
 use container_checks::checks;
-use container_checks::lookups::{place, place_object};
+use container_checks::lookups::place_object;
 use container_model::fault::ContainerFault;
 use container_model::record::{Frame, Object};
 
@@ -47,7 +47,7 @@ impl State {
         let Some(i) = place_object(&self.objects, object) else {
             return Err(ContainerFault::NoSuch);
         };
-        let Some(at) = place(self.frames.as_slice(), self.objects.list[i].frame) else {
+        let Some(at) = self.frames.place(self.objects.list[i].frame) else {
             return Err(ContainerFault::NoSuch);
         };
         Ok((i, at))

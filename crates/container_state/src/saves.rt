@@ -12,7 +12,6 @@ ghost use Rattle.container_steps.specs.Saving.{named, unready};
 
 use crate::state::State;
 use container_checks::checks;
-use container_checks::lookups::place;
 use container_checks::objects::Objects;
 use container_links::asking::take_up;
 use container_links::settling::settle_into;
@@ -75,7 +74,7 @@ impl State {
         ensures refused { IfErr result (Refuses (save self.old frame)) }
         ensures kept { OnErr result (self.new ≡ self.old) }
     {
-        let Some(at) = place(self.frames.as_slice(), frame) else {
+        let Some(at) = self.frames.place(frame) else {
             return Err(ContainerFault::NoSuch);
         };
         match may_save(frame, &self.frames[at], &self.objects) {
@@ -98,7 +97,7 @@ impl State {
         ensures refused { IfErr result (Refuses (save_as self.old frame name)) }
         ensures kept { OnErr result (self.new ≡ self.old) }
     {
-        let Some(at) = place(self.frames.as_slice(), frame) else {
+        let Some(at) = self.frames.place(frame) else {
             return Err(ContainerFault::NoSuch);
         };
         match may_save(frame, &self.frames[at], &self.objects) {

@@ -1,10 +1,7 @@
 //! What a container is made of.
 
-ghost use Rattle.std.specs.Prelude.{◌≡◌, ◌≤◌, Some, None, option_copied};
-ghost use Rattle.container_model.specs.Record.{Record, empty, is_object};
-ghost use Rattle.wire_msgs.specs.Found.{find, nth};
-
-use container_checks::lookups::{place, place_object};
+use container_checks::frames::Frames;
+use container_checks::lookups::place_object;
 use container_checks::objects::Objects;
 use container_checks::servers::Servers;
 use container_model::record::{Frame, Object};
@@ -15,7 +12,7 @@ use std::marker::Model;
 /// what stays true of a record, and its methods ask for that where they need it.
 #[derive(Drop)]
 pub struct State {
-    pub frames: Vec<Frame>,
+    pub frames: Frames,
     pub objects: Objects,
     pub servers: Servers,
     pub last_object: u32,
@@ -29,11 +26,11 @@ impl Model for State {
 
     ghost Value = { Record };
 
-    ghost view = { λ c. record { frames = c.frames.items; objects = c.objects.list.items; servers = c.servers; last_object = c.last_object; last_act = c.last_act; last_g = c.last_g; numbers = c.numbers } };
+    ghost view = { λ c. record { frames = c.frames; objects = c.objects.list.items; servers = c.servers; last_object = c.last_object; last_act = c.last_act; last_g = c.last_g; numbers = c.numbers } };
 }
 
 impl State {
-    ghost use Rattle.std.specs.Prelude.{◌≡◌, ◌≤◌, option_copied};
+    ghost use Rattle.std.specs.Prelude.{◌≡◌, option_copied};
     ghost use Rattle.wire_msgs.specs.Found.{find, nth};
     ghost use Rattle.container_model.specs.Record.{empty, is_object};
 
@@ -42,7 +39,7 @@ impl State {
         ensures { result ≡ empty numbers }
     {
         State {
-            frames: Vec::new(alloc),
+            frames: Frames::new(alloc),
             objects: Objects::new(alloc),
             servers: Servers::new(alloc),
             last_object: 0,
@@ -56,7 +53,7 @@ impl State {
     pub fn frames(&self) -> &[Frame]
         ensures { result.now ≡ self.now.frames }
     {
-        &self.frames
+        self.frames.as_slice()
     }
 
     /// The objects, in the order in which they were made.
@@ -70,10 +67,7 @@ impl State {
     pub fn frame(&self, frame: u32) -> Option<&Frame>
         ensures { option_copied result ≡ nth self.now.frames frame }
     {
-        match place(&self.frames, frame) {
-            Some(place) => Some(&self.frames[place]),
-            None => None,
-        }
+        self.frames.get(frame)
     }
 
     /// The object of this number.

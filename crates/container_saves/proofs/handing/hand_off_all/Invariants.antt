@@ -10,14 +10,14 @@ invariant-loop-place l = record {
   can_next : (goal.iterator-loop-place).can_next l.place-iterator;
   is_finite : (goal.iterator-loop-place).is_finite l.place-iterator;
   count : into_iter_len l.place-iterator ≡ length (into_iter_items l.place-iterator);
-  few : l.f ≤ length l.initial.frames.items;
-  len : length l.frames.items ≡ length l.initial.frames.items;
-  left : drop l.f l.frames.items ≡ drop l.f l.initial.frames.items;
-  places : AllHavePlaces 0 (l.f + 1) (drop l.f l.initial.frames.items) l.objects.items (into_iter_items l.place-iterator);
-  handed : (r : Record) → r.frames ≡ l.initial.frames.items → r.objects ≡ l.initial.objects.items
-      → (hand_off_each (l.f + 1) (drop l.f l.initial.frames.items) (record r { frames = l.frames.items; objects = l.objects.items })).rec ≡ (hand_off r).rec;
-  sent : (r : Record) → r.frames ≡ l.initial.frames.items → r.objects ≡ l.initial.objects.items
-      → l.actions.items ++ sends (hand_off_each (l.f + 1) (drop l.f l.initial.frames.items) (record r { frames = l.frames.items; objects = l.objects.items })).sent ≡ l.initial.actions.items ++ sends (hand_off r).sent;
+  few : l.f ≤ length l.initial.frames;
+  len : length l.frames ≡ length l.initial.frames;
+  left : drop l.f l.frames ≡ drop l.f l.initial.frames;
+  places : AllHavePlaces 0 (l.f + 1) (drop l.f l.initial.frames) l.objects.items (into_iter_items l.place-iterator);
+  handed : (r : Record) → r.frames ≡ l.initial.frames → r.objects ≡ l.initial.objects.items
+      → (hand_off_each (l.f + 1) (drop l.f l.initial.frames) (record r { frames = l.frames; objects = l.objects.items })).rec ≡ (hand_off r).rec;
+  sent : (r : Record) → r.frames ≡ l.initial.frames → r.objects ≡ l.initial.objects.items
+      → l.actions.items ++ sends (hand_off_each (l.f + 1) (drop l.f l.initial.frames) (record r { frames = l.frames; objects = l.objects.items })).sent ≡ l.initial.actions.items ++ sends (hand_off r).sent;
   free : vec_len l.actions + free l.objects.items ≤ vec_len l.initial.actions + free l.initial.objects.items;
   room : vec_capacity l.initial.actions ≤ vec_capacity l.actions;
 }

@@ -1,7 +1,7 @@
-use Rattle.std.proofs.Common.{◌≡◌, ◌<◌, ◌++◌, arith, ◌||◌, ℕ, true, false, IfSome, List, Option, Some, slice_get, slice_set, length, vec_len, rules, map, ap, subst, sym, ◌∙◌, refl}
+use Rattle.std.proofs.Common.{◌≡◌, ◌++◌, arith, ℕ, true, IfSome, List, Some, slice_get, slice_set, length, vec_len, rules, map, ap, subst, sym, ◌∙◌, refl}
 use Rattle.std.proofs.lemmas.List.{get_or_default, length-map, length-set}
 use Rattle.std.proofs.lemmas.Option.{slice_get-get_or}
-use Rattle.wire_msgs.specs.Found.{find, nth, put, IsPlace}
+use Rattle.wire_msgs.specs.Found.{find, nth, IsPlace}
 use Rattle.wire_msgs.specs.declared.operation.Operation.TheVariants.{HandsOff}
 use Rattle.container_links.specs.Asking.{prepared}
 use Rattle.container_links.specs.Handing.{answers, awaits_but, next_prepared}
@@ -23,7 +23,7 @@ use Rattle.container_state.proofs.state.State.last_content.Goals as goal
 
 pub returns-clause-taken : goal.returns-clause-taken
 returns-clause-taken c =
-    let r : Record = record { frames = c.self.inside.frames.items; objects = c.self.inside.objects.list.items; servers = c.self.inside.servers; last_object = c.self.inside.last_object; last_act = c.self.inside.last_act; last_g = c.self.inside.last_g; numbers = c.self.inside.numbers } in
+    let r : Record = record { frames = c.self.inside.frames; objects = c.self.inside.objects.list.items; servers = c.self.inside.servers; last_object = c.self.inside.last_object; last_act = c.self.inside.last_act; last_g = c.self.inside.last_g; numbers = c.self.inside.numbers } in
     let v : c.args.self.now ≡ r = sym c.self.view_is in
     let p : IsPlace (is_linked c.args.inc c.args.act) r.objects c.args.i = subst (λ (z : Record). IsPlace (is_linked c.args.inc c.args.act) z.objects c.args.i) v c.requires.place in
     let o : Object = c.index_mut.result.now in
@@ -49,7 +49,7 @@ returns-clause-taken c =
     (subst (λ z. IfSome z (λ (q : Object). IfSome q.link (λ (l : Link). c.in-Ok.takes.items ≡ slice_set (map (prepared c.index.result.now.frame HandsOff) r.objects) c.args.i (next_prepared l)))) g
     (subst (λ (os : List Object). IfSome (slice_get os c.args.i) (λ (q : Object). IfSome q.link (λ (l : Link). c.in-Ok.takes.items ≡ slice_set (map (prepared c.index.result.now.frame HandsOff) os) c.args.i (next_prepared l)))) c.as_slice.ensures.value c.in-Ok.ensures))) in
     rw v (last_is r c.args.inc c.args.act c.args.n c.args.answer o k.0 x k.2 found k.1 there k.3 content w c.in-Ok-told_object.ensures.taken c.args.i p.fits (p.puts w.object)
-    (slice_set r.frames c.args.at c.hand_off.new.frame) c.settle_into.new.frames.items (slice_set r.objects c.args.i w.object) c.hand_off.new.objects.items c.in-Ok.takes.items c.hand_off.new.actions.items c.settle_into.new.actions.items c.answered.result
+    (slice_set r.frames c.args.at c.hand_off.new.frame) c.settle_into.new.frames (slice_set r.objects c.args.i w.object) c.hand_off.new.objects.items c.in-Ok.takes.items c.hand_off.new.actions.items c.settle_into.new.actions.items c.answered.result
     hands ready refl
     (subst (λ (f : ℕ). c.in-Ok.takes.items ≡ map (prepared f HandsOff) (slice_set r.objects c.args.i w.object) → c.hand_off.new.objects.items ≡ map (asked_object f HandsOff) (slice_set r.objects c.args.i w.object)) at c.hand_off.ensures.objects)
     (subst (λ (f : ℕ). c.in-Ok.takes.items ≡ map (prepared f HandsOff) (slice_set r.objects c.args.i w.object) → c.hand_off.new.actions.items ≡ w.actions ++ sends (asked_all f HandsOff (slice_set r.objects c.args.i w.object))) at c.hand_off.ensures.asked)
@@ -58,7 +58,7 @@ returns-clause-taken c =
 
 pub index_mut-requires-2 : goal.index_mut-requires-2
 index_mut-requires-2 c =
-    let r : Record = record { frames = c.self.inside.frames.items; objects = c.self.inside.objects.list.items; servers = c.self.inside.servers; last_object = c.self.inside.last_object; last_act = c.self.inside.last_act; last_g = c.self.inside.last_g; numbers = c.self.inside.numbers } in
+    let r : Record = record { frames = c.self.inside.frames; objects = c.self.inside.objects.list.items; servers = c.self.inside.servers; last_object = c.self.inside.last_object; last_act = c.self.inside.last_act; last_g = c.self.inside.last_g; numbers = c.self.inside.numbers } in
     let v : c.args.self.now ≡ r = sym c.self.view_is in
     let p : IsPlace (is_linked c.args.inc c.args.act) r.objects c.args.i = subst (λ (z : Record). IsPlace (is_linked c.args.inc c.args.act) z.objects c.args.i) v c.requires.place in
     let o : Object = c.index_mut.result.now in
@@ -69,21 +69,19 @@ index_mut-requires-2 c =
     let k = content_linked o.link c.args.n c.args.answer content in
     let place : IsNth o.frame r.frames c.args.at =
     subst (λ z. IfSome z (λ (y : Object). IsNth y.frame r.frames c.args.at)) g (subst (λ (z : Record). IfSome (slice_get z.objects c.args.i) (λ (y : Object). IsNth y.frame z.frames c.args.at)) v c.requires.frame) in
-    let n : length c.self.inside.frames.items ≡ vec_len c.self.inside.frames = search rules in
-    subst (λ (k : ℕ). c.args.at < k) n place.fits
+    place.fits
 
 pub told_object-requires-clause-few : goal.told_object-requires-clause-few
 told_object-requires-clause-few c =
-    let r : Record = record { frames = c.self.inside.frames.items; objects = c.self.inside.objects.list.items; servers = c.self.inside.servers; last_object = c.self.inside.last_object; last_act = c.self.inside.last_act; last_g = c.self.inside.last_g; numbers = c.self.inside.numbers } in
+    let r : Record = record { frames = c.self.inside.frames; objects = c.self.inside.objects.list.items; servers = c.self.inside.servers; last_object = c.self.inside.last_object; last_act = c.self.inside.last_act; last_g = c.self.inside.last_g; numbers = c.self.inside.numbers } in
     let v : c.args.self.now ≡ r = sym c.self.view_is in
     let few = few_all r (subst Steady v c.requires.steady) (subst IsSound v c.requires.sound) in
-    let frames : length c.self.inside.frames.items ≡ vec_len c.self.inside.frames = search rules in
     let objects : length c.self.inside.objects.list.items ≡ vec_len c.self.inside.objects.list = search rules in
-    omega (arith, few, frames, objects, c.len.ensures, c.len-2.ensures)
+    omega (arith, few, objects, c.len.ensures, c.len-2.ensures)
 
 pub hand_off-requires-clause-len : goal.hand_off-requires-clause-len
 hand_off-requires-clause-len c =
-    let r : Record = record { frames = c.self.inside.frames.items; objects = c.self.inside.objects.list.items; servers = c.self.inside.servers; last_object = c.self.inside.last_object; last_act = c.self.inside.last_act; last_g = c.self.inside.last_g; numbers = c.self.inside.numbers } in
+    let r : Record = record { frames = c.self.inside.frames; objects = c.self.inside.objects.list.items; servers = c.self.inside.servers; last_object = c.self.inside.last_object; last_act = c.self.inside.last_act; last_g = c.self.inside.last_g; numbers = c.self.inside.numbers } in
     let v : c.args.self.now ≡ r = sym c.self.view_is in
     let p : IsPlace (is_linked c.args.inc c.args.act) r.objects c.args.i = subst (λ (z : Record). IsPlace (is_linked c.args.inc c.args.act) z.objects c.args.i) v c.requires.place in
     let o : Object = c.index_mut.result.now in
@@ -106,7 +104,7 @@ hand_off-requires-clause-len c =
 
 pub returns-in-Err-clause-refused : goal.returns-in-Err-clause-refused
 returns-in-Err-clause-refused c =
-    let r : Record = record { frames = c.self.inside.frames.items; objects = c.self.inside.objects.list.items; servers = c.self.inside.servers; last_object = c.self.inside.last_object; last_act = c.self.inside.last_act; last_g = c.self.inside.last_g; numbers = c.self.inside.numbers } in
+    let r : Record = record { frames = c.self.inside.frames; objects = c.self.inside.objects.list.items; servers = c.self.inside.servers; last_object = c.self.inside.last_object; last_act = c.self.inside.last_act; last_g = c.self.inside.last_g; numbers = c.self.inside.numbers } in
     let v : c.args.self.now ≡ r = sym c.self.view_is in
     let p : IsPlace (is_linked c.args.inc c.args.act) r.objects c.args.i = subst (λ (z : Record). IsPlace (is_linked c.args.inc c.args.act) z.objects c.args.i) v c.requires.place in
     let o : Object = c.index_mut.result.now in
@@ -121,7 +119,7 @@ returns-in-Err-clause-refused c =
 
 pub returns-in_default-clause-refused : goal.returns-in_default-clause-refused
 returns-in_default-clause-refused c =
-    let r : Record = record { frames = c.self.inside.frames.items; objects = c.self.inside.objects.list.items; servers = c.self.inside.servers; last_object = c.self.inside.last_object; last_act = c.self.inside.last_act; last_g = c.self.inside.last_g; numbers = c.self.inside.numbers } in
+    let r : Record = record { frames = c.self.inside.frames; objects = c.self.inside.objects.list.items; servers = c.self.inside.servers; last_object = c.self.inside.last_object; last_act = c.self.inside.last_act; last_g = c.self.inside.last_g; numbers = c.self.inside.numbers } in
     let v : c.args.self.now ≡ r = sym c.self.view_is in
     rw v (content_fine r c.args.inc c.args.act c.args.n c.args.answer c.args.i (subst (λ (z : Record). IsPlace (is_linked c.args.inc c.args.act) z.objects c.args.i) v c.requires.place)
     (subst (λ (z : Record). IfSome (slice_get z.objects c.args.i) (λ (y : Object). answers y.link (reply_link c.args.n c.args.answer y.link) ≡ true)) v c.requires.content))
@@ -133,7 +131,7 @@ invariant_of-self-inside c = record {
 
 pub invariant_of-self-inside-2 : goal.invariant_of-self-inside-2
 invariant_of-self-inside-2 c =
-    let r : Record = record { frames = c.self.inside.frames.items; objects = c.self.inside.objects.list.items; servers = c.self.inside.servers; last_object = c.self.inside.last_object; last_act = c.self.inside.last_act; last_g = c.self.inside.last_g; numbers = c.self.inside.numbers } in
+    let r : Record = record { frames = c.self.inside.frames; objects = c.self.inside.objects.list.items; servers = c.self.inside.servers; last_object = c.self.inside.last_object; last_act = c.self.inside.last_act; last_g = c.self.inside.last_g; numbers = c.self.inside.numbers } in
     let v : c.args.self.now ≡ r = sym c.self.view_is in
     let p : IsPlace (is_linked c.args.inc c.args.act) r.objects c.args.i = subst (λ (z : Record). IsPlace (is_linked c.args.inc c.args.act) z.objects c.args.i) v c.requires.place in
     let o : Object = c.index_mut.result.now in

@@ -1,16 +1,12 @@
-use Rattle.std.proofs.Common.{◌≡◌, ◌++◌, ◌||◌, ℕ, true, false, IfSome, List, Option, Some, slice_get, slice_set, map, ap, subst, sym, ◌∙◌, refl}
-use Rattle.std.proofs.lemmas.List.{get_or_default}
+use Rattle.std.proofs.Common.{◌≡◌, true, false, IfSome, Some, slice_get, slice_set, ap, subst, sym, ◌∙◌, refl}
 use Rattle.std.proofs.lemmas.Option.{slice_get-get_or}
-use Rattle.wire_msgs.specs.Found.{find, nth, put, IsPlace}
-use Rattle.wire_msgs.specs.declared.operation.Operation.TheVariants.{HandsOff}
-use Rattle.container_links.specs.Asking.{prepared}
-use Rattle.container_links.specs.Handing.{answers, awaits_but, next_prepared}
+use Rattle.wire_msgs.specs.Found.{find, nth, IsPlace}
+use Rattle.container_links.specs.Handing.{answers, awaits_but}
 use Rattle.container_model.specs.HandOffs.{hands_off_at}
 use Rattle.container_model.specs.Messages.{reply_link}
 use Rattle.container_model.specs.Numbered.{IsNth}
 use Rattle.container_model.specs.Record.{Record, is_linked}
 use Rattle.container_model.specs.declared.record.Frame.{Frame}
-use Rattle.container_model.specs.declared.record.Link.{Link}
 use Rattle.container_model.specs.declared.record.Object.{Object}
 use Rattle.container_objects.specs.Told.{ToldObject}
 use Rattle.container_state.proofs.ContentsMade.{content_linked, frame_at, other_is}
@@ -20,7 +16,7 @@ use Rattle.container_state.proofs.state.State.other_content.Goals as goal
 
 pub returns-clause-taken : goal.returns-clause-taken
 returns-clause-taken c =
-    let r : Record = record { frames = c.self.inside.frames.items; objects = c.self.inside.objects.list.items; servers = c.self.inside.servers; last_object = c.self.inside.last_object; last_act = c.self.inside.last_act; last_g = c.self.inside.last_g; numbers = c.self.inside.numbers } in
+    let r : Record = record { frames = c.self.inside.frames; objects = c.self.inside.objects.list.items; servers = c.self.inside.servers; last_object = c.self.inside.last_object; last_act = c.self.inside.last_act; last_g = c.self.inside.last_g; numbers = c.self.inside.numbers } in
     let v : c.args.self.now ≡ r = sym c.self.view_is in
     let p : IsPlace (is_linked c.args.inc c.args.act) r.objects c.args.i = subst (λ (z : Record). IsPlace (is_linked c.args.inc c.args.act) z.objects c.args.i) v c.requires.place in
     let o : Object = c.index_mut.result.now in
@@ -40,12 +36,12 @@ returns-clause-taken c =
     (subst (λ (z : Record). IfSome (slice_get z.objects c.args.i) (λ (q : Object). IfSome (slice_get z.frames c.args.at) (λ (y : Frame). hands_off_at y.phase y.asked (awaits_but q.frame c.args.i z.objects) ≡ false))) v c.requires.hands)) in
     let w : ToldObject = record { object = c.told_object.new.object; taken = c.in-Ok.replied.taken; refused = c.in-Ok.replied.refused; grant = c.in-Ok.replied.grant; actions = c.in-Ok.replied.actions.items } in
     rw v (other_is r c.args.inc c.args.act c.args.n c.args.answer o k.0 x k.2 found k.1 there k.3 content w c.in-Ok.ensures.taken c.args.i p.fits (p.puts w.object)
-    c.settle_into.new.frames.items (slice_set r.objects c.args.i w.object) c.settle_into.new.actions.items c.answered.result
+    c.settle_into.new.frames (slice_set r.objects c.args.i w.object) c.settle_into.new.actions.items c.answered.result
     hands refl c.settle_into.ensures.settled c.settle_into.ensures.asked c.answered.ensures)
 
 pub returns-in-Err-clause-refused : goal.returns-in-Err-clause-refused
 returns-in-Err-clause-refused c =
-    let r : Record = record { frames = c.self.inside.frames.items; objects = c.self.inside.objects.list.items; servers = c.self.inside.servers; last_object = c.self.inside.last_object; last_act = c.self.inside.last_act; last_g = c.self.inside.last_g; numbers = c.self.inside.numbers } in
+    let r : Record = record { frames = c.self.inside.frames; objects = c.self.inside.objects.list.items; servers = c.self.inside.servers; last_object = c.self.inside.last_object; last_act = c.self.inside.last_act; last_g = c.self.inside.last_g; numbers = c.self.inside.numbers } in
     let v : c.args.self.now ≡ r = sym c.self.view_is in
     let p : IsPlace (is_linked c.args.inc c.args.act) r.objects c.args.i = subst (λ (z : Record). IsPlace (is_linked c.args.inc c.args.act) z.objects c.args.i) v c.requires.place in
     let o : Object = c.index_mut.result.now in

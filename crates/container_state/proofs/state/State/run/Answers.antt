@@ -1,13 +1,12 @@
-use Rattle.std.proofs.Common.{◌≡◌, Ok, Result, refl, subst, sym, ◌∙◌, ap, false, not, true}
+use Rattle.std.proofs.Common.{◌≡◌, Ok, Result, subst, sym, ◌∙◌, false, true}
 use Rattle.std.proofs.lemmas.Result.{IfErr-weaker, IfOk-weaker}
 use Rattle.container_model.specs.Commands.{run, run_object}
-use Rattle.container_model.specs.Record.{Record, Refuses, Took, counts_none, is_object, is_alive, unless}
+use Rattle.container_model.specs.Record.{Record, Refuses, Took, counts_none, is_alive}
 use Rattle.container_model.specs.declared.fault.ContainerFault.{ContainerFault}
 use Rattle.container_model.specs.declared.record.Frame.{Frame}
 use Rattle.container_model.specs.declared.record.Object.{Object}
 use Rattle.container_model.specs.Located.{located, ready}
 use Rattle.container_steps.proofs.LocatedSteps.{by_object, stood}
-use Rattle.container_model.specs.declared.fault.ContainerFault.TheVariants.{NoSuch}
 use Rattle.container_steps.proofs.CommandsRun.{run_alive, run_dead}
 use Rattle.container_state.proofs.state.State.run.Goals as goal
 

@@ -1,9 +1,8 @@
-use Rattle.std.proofs.Common.{◌≡◌, ◌∙◌, IfSome, List, None, Ok, Some, ap, slice_get, subst, sym}
+use Rattle.std.proofs.Common.{◌≡◌, ◌∙◌, IfSome, None, Ok, Some, ap, refl, slice_get, subst, sym}
 use Rattle.std.proofs.lemmas.Result.{IfErr-weaker, IfOk-weaker}
 use Rattle.container_model.specs.Commands.{save, save_at, save_numbered}
 use Rattle.container_model.specs.Numbered.{IsNth}
 use Rattle.container_model.specs.Record.{Record, Refuses, counts_none}
-use Rattle.container_model.specs.declared.record.Frame.{Frame}
 use Rattle.container_steps.proofs.VerbsPlaced.{frame_here}
 use Rattle.container_steps.proofs.InsertsMade.{no_such}
 use Rattle.container_state.proofs.state.State.save.Goals as goal
@@ -11,12 +10,12 @@ use Rattle.container_state.proofs.state.State.save.Goals as goal
 pub returns-in_default-clause-refused : goal.returns-in_default-clause-refused
 returns-in_default-clause-refused c =
     let r : Record = c.args.self.now in
-    no_such _ r (save_at r c.args.frame) c.args.frame _ c.self.view_is c.as_slice.ensures.value c.in_default.ensures
+    no_such _ r (save_at r c.args.frame) c.args.frame _ c.self.view_is refl c.in_default.ensures
 
 pub returns-in-Ok-clause-taken : goal.returns-in-Ok-clause-taken
 returns-in-Ok-clause-taken c =
     let r : Record = c.args.self.now in
-    let found : IsNth c.args.frame r.frames c.in-Some.at = subst (λ (fs : List Frame). IsNth c.args.frame fs c.in-Some.at) (c.as_slice.ensures.value ∙ ap (λ (t : Record). t.frames) c.self.view_is) c.in-Some.ensures in
+    let found : IsNth c.args.frame r.frames c.in-Some.at = subst (λ (t : Record). IsNth c.args.frame t.frames c.in-Some.at) c.self.view_is c.in-Some.ensures in
     let here : slice_get r.frames c.in-Some.at ≡ Some c.index.result.now = frame_here _ r c.in-Some.at c.index.result.now c.self.view_is found.fits c.index.ensures in
     let same : r.objects ≡ c.self.inside.objects.list.items = ap (λ (t : Record). t.objects) (sym c.self.view_is) in
     let is : save r c.args.frame ≡ save_numbered r c.args.frame c.index.result.now None = ap (save_at r c.args.frame) (found.found ∙ here) ∙ c.in-Ok.ensures.may r (save_numbered r c.args.frame c.index.result.now None) same in
@@ -25,7 +24,7 @@ returns-in-Ok-clause-taken c =
 pub returns-in-Ok-clause-refused : goal.returns-in-Ok-clause-refused
 returns-in-Ok-clause-refused c =
     let r : Record = c.args.self.now in
-    let found : IsNth c.args.frame r.frames c.in-Some.at = subst (λ (fs : List Frame). IsNth c.args.frame fs c.in-Some.at) (c.as_slice.ensures.value ∙ ap (λ (t : Record). t.frames) c.self.view_is) c.in-Some.ensures in
+    let found : IsNth c.args.frame r.frames c.in-Some.at = subst (λ (t : Record). IsNth c.args.frame t.frames c.in-Some.at) c.self.view_is c.in-Some.ensures in
     let here : slice_get r.frames c.in-Some.at ≡ Some c.index.result.now = frame_here _ r c.in-Some.at c.index.result.now c.self.view_is found.fits c.index.ensures in
     let same : r.objects ≡ c.self.inside.objects.list.items = ap (λ (t : Record). t.objects) (sym c.self.view_is) in
     let is : save r c.args.frame ≡ save_numbered r c.args.frame c.index.result.now None = ap (save_at r c.args.frame) (found.found ∙ here) ∙ c.in-Ok.ensures.may r (save_numbered r c.args.frame c.index.result.now None) same in
@@ -34,7 +33,7 @@ returns-in-Ok-clause-refused c =
 pub returns-in-Err-clause-refused : goal.returns-in-Err-clause-refused
 returns-in-Err-clause-refused c =
     let r : Record = c.args.self.now in
-    let found : IsNth c.args.frame r.frames c.in-Some.at = subst (λ (fs : List Frame). IsNth c.args.frame fs c.in-Some.at) (c.as_slice.ensures.value ∙ ap (λ (t : Record). t.frames) c.self.view_is) c.in-Some.ensures in
+    let found : IsNth c.args.frame r.frames c.in-Some.at = subst (λ (t : Record). IsNth c.args.frame t.frames c.in-Some.at) c.self.view_is c.in-Some.ensures in
     let here : slice_get r.frames c.in-Some.at ≡ Some c.index.result.now = frame_here _ r c.in-Some.at c.index.result.now c.self.view_is found.fits c.index.ensures in
     let same : r.objects ≡ c.self.inside.objects.list.items = ap (λ (t : Record). t.objects) (sym c.self.view_is) in
     subst (λ t. Refuses t c.in-Err.fault) (sym (ap (save_at r c.args.frame) (found.found ∙ here))) (c.in-Err.ensures.refused r (save_numbered r c.args.frame c.index.result.now None) same)

@@ -19,7 +19,7 @@ use Rattle.container_state.proofs.state.State.save_numbered.Goals as goal
 
 pub returns-clause-taken : goal.returns-clause-taken
 returns-clause-taken c =
-    let r : Record = record { frames = c.self.inside.frames.items; objects = c.self.inside.objects.list.items; servers = c.self.inside.servers; last_object = c.self.inside.last_object; last_act = c.self.inside.last_act; last_g = c.self.inside.last_g; numbers = c.self.inside.numbers } in
+    let r : Record = record { frames = c.self.inside.frames; objects = c.self.inside.objects.list.items; servers = c.self.inside.servers; last_object = c.self.inside.last_object; last_act = c.self.inside.last_act; last_g = c.self.inside.last_g; numbers = c.self.inside.numbers } in
     let view : r ≡ c.args.self.now = c.self.view_is in
     let f : ℕ = c.args.frame in
     let a : Frame = c.index.result.now in
@@ -35,13 +35,13 @@ returns-clause-taken c =
     saved_taken r c.args.self.now f c.args.at a c.args.asked _ view place.fits c.index.ensures (omega (arith, c.if-k-self.false)) has
     (saved_is r f a c.args.asked steady there idle c.args.at c.index_mut-target.result.now c.begin_save.new.frame c.go_on.new.frame c.take_up.new.objects.items
     place c.index.ensures c.index_mut-target.ensures.value c.begin_save.ensures objects (c.go_on.ensures ∙ ap (λ (os : List Object). if hands_off f os c.begin_save.new.frame then handing_frame c.begin_save.new.frame else c.begin_save.new.frame) c.as_slice-3.ensures.value)
-    c.settle_into.new.frames.items c.in-Ok.asking.actions.items c.settle_into.new.actions.items c.acts.result
+    c.settle_into.new.frames c.in-Ok.asking.actions.items c.settle_into.new.actions.items c.acts.result
     c.settle_into.ensures.settled asking.sent
-    (c.settle_into.ensures.asked ∙ ap (λ t. t ++ settled_actions 1 c.take_up.new.objects.items (set c.self.inside.frames.items c.args.at c.go_on.new.frame)) c.reserve.ensures.items) (c.acts.ensures ∙ ap acts c.from_vec.ensures))
+    (c.settle_into.ensures.asked ∙ ap (λ t. t ++ settled_actions 1 c.take_up.new.objects.items (set c.self.inside.frames c.args.at c.go_on.new.frame)) c.reserve.ensures.items) (c.acts.ensures ∙ ap acts c.from_vec.ensures))
 
 pub invariant_of-self-inside : goal.invariant_of-self-inside
 invariant_of-self-inside c =
-    let r : Record = record { frames = c.self.inside.frames.items; objects = c.self.inside.objects.list.items; servers = c.self.inside.servers; last_object = c.self.inside.last_object; last_act = c.self.inside.last_act; last_g = c.self.inside.last_g; numbers = c.self.inside.numbers } in
+    let r : Record = record { frames = c.self.inside.frames; objects = c.self.inside.objects.list.items; servers = c.self.inside.servers; last_object = c.self.inside.last_object; last_act = c.self.inside.last_act; last_g = c.self.inside.last_g; numbers = c.self.inside.numbers } in
     let f : ℕ = c.args.frame in
     let k : ℕ = c.index.result.now.k + 1 in
     let asking : IsAsking f (Save k) r.objects c.in-Ok.asking.actions.items c.in-Ok.asking.takes.items =

@@ -1,11 +1,10 @@
-use Rattle.std.proofs.Common.{◌≡◌, ◌∙◌, ℕ, Ok, Option, Result, ap, refl, subst, sym}
+use Rattle.std.proofs.Common.{◌≡◌, ◌∙◌, Ok, Option, ap, sym}
 use Rattle.std.proofs.Math.Facts.{to_z-of_z}
 use Rattle.std.proofs.lemmas.Result.{IfErr-weaker, IfOk-weaker}
 use Rattle.object_state.specs.Verbs.{verb_of}
 use Rattle.object_state.specs.declared.verbs.Verb.{Verb}
-use Rattle.container_model.specs.Record.{Record, Refuses, Took, counts_none}
+use Rattle.container_model.specs.Record.{Record, Refuses, counts_none}
 use Rattle.container_model.specs.Verbs.{verb, verb_framed}
-use Rattle.container_model.specs.declared.fault.ContainerFault.{ContainerFault}
 use Rattle.container_model.specs.Located.{located, ready}
 use Rattle.container_steps.proofs.LocatedSteps.{by_both, stood}
 use Rattle.container_state.proofs.state.State.verb.Goals as goal

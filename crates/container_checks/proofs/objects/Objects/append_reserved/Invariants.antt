@@ -2,7 +2,7 @@ use Rattle.std.proofs.Common.{◌≡◌, ◌+◌, ◌≤◌, ◌++◌, map, vec_
 use Rattle.std.specs.Vec.Iter.{into_iter_items, into_iter_len}
 use Rattle.indexmap.specs.IndexSet.{spare}
 use Rattle.container_checks.specs.Fresh.{AreFresh}
-use Rattle.container_checks.proofs.objects.Objects.append.Given as goal
+use Rattle.container_checks.proofs.objects.Objects.append_reserved.Given as goal
 
 abbrev pub invariant-loop-object : goal.invariant-loop-object
 invariant-loop-object l = record {
