@@ -1,4 +1,5 @@
 pub mod Numbers
+pub mod Overlaid
 pub mod Same
 pub mod SameSectors
 pub mod Trimmed

@@ -8,10 +8,10 @@ ghost use Rattle.file_model.specs.Limits.{MOST_BYTES};
 use std::alloc::{AllocError, Global};
 
 /// The size of a block: a sector, or the header.
-const BLOCK: usize = 512;
+pub(crate) const BLOCK: usize = 512;
 
 /// The bytes of a file in its block of this number.
-fn block(file: &[u8], number: usize) -> &[u8]
+pub(crate) fn block(file: &[u8], number: usize) -> &[u8]
     requires { number < 2 ^ 32 }
     ensures { result.now ≡ bytes_in number file.now }
 {
@@ -21,7 +21,7 @@ fn block(file: &[u8], number: usize) -> &[u8]
 }
 
 /// Adds a block's number unless its bytes are what they were.
-fn push_changed(
+pub(crate) fn push_changed(
     numbers: &mut Vec<u32>,
     number: u32,
     was: &[u8],

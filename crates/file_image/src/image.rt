@@ -14,10 +14,11 @@ ghost use Rattle.stream_io.specs.Reads.{MayRefuseFile, chain_fault};
 ghost use Rattle.stream_io.specs.declared.fault.ReadFault.TheVariants.{NoMemory};
 
 use crate::changed::changed;
+use crate::update::{Update, overlaid};
 use cfb_bytes::numbers::read_u32;
 use file_model::fault::WriteFault;
 use file_placing::placing::place_over;
-use file_writer::write::write_file;
+use file_writer::write::{fits, write_file};
 use std::alloc::{AllocError, Global};
 use std::marker::Model;
 use storage_tree::storage::Storage;
@@ -56,15 +57,20 @@ fn written(alloc: Global, tree: &Tree) -> Result<Vec<u8>, WriteFault>
     Ok(file)
 }
 
-/// A file in the sectors of an older one, which denotes a tree, made of a file of the tree with this root that was laid out
-/// anew. None where those sectors won't do.
-fn placed(
-    alloc: Global,
-    old: &[u8],
-    anew: Vec<u8>,
-    root: &Storage,
-) -> Result<Option<Vec<u8>>, AllocError>
-    ensures short { IfOk result (λ file. IfSome file (λ v. length v.items ≤ MOST_BYTES)) }
+/// Whether a file can hold a tree. It takes no memory.
+///
+/// Refused: as `write_file`, but never `NoMemory`.
+fn check_room(tree: &Tree) -> Result<(), WriteFault>
+    ensures refused { IfErr result (Refuses (writable (kept tree.now).now)) }
+    ensures allowed { OnOk result (writable (kept tree.now).now ≡ Ok tt) }
+{
+    fits(tree.root())?;
+    Ok(())
+}
+
+/// The file of a tree with this root in the sectors of an older one, which denotes a tree. None where those sectors won't do.
+fn placed(alloc: Global, old: &[u8], root: &Storage) -> Result<Option<Update>, AllocError>
+    ensures { IfOk result (λ update. IfSome update (λ u. u.numbers.items ≡ changed_blocks old.now u.file.items)) }
 {
     let outline = match read_outline(alloc, old) {
         Ok(outline) => outline,
@@ -72,15 +78,18 @@ fn placed(
         // What denotes a tree isn't refused so.
         Err(_) => return Ok(None),
     };
-    place_over(alloc, old, &outline, &anew, root)
+    let Some(laid) = place_over(alloc, old, &outline, root)? else {
+        return Ok(None);
+    };
+    let blocks = laid.blocks(alloc)?;
+    Ok(Some(overlaid(alloc, old, &blocks)?))
 }
 
 /// The file, if it denotes the tree: it is read again. Nothing is known of it but this.
-fn checked(alloc: Global, file: Vec<u8>, tree: &Tree) -> Result<Option<Vec<u8>>, AllocError>
-    ensures denotes { IfOk result (λ checked. IfSome checked (λ v. ∥ Denotes v.items (kept tree.now).now ∥₁)) }
-    ensures same { IfOk result (λ checked. IfSome checked (λ v. v.items ≡ file.items)) }
+fn checked<'a>(alloc: Global, file: &'a [u8], tree: &Tree) -> Result<Option<&'a [u8]>, AllocError>
+    ensures { IfOk result (λ checked. IfSome checked (λ _. ∥ Denotes file.now (kept tree.now).now ∥₁)) }
 {
-    match is_file_of(alloc, &file, tree) {
+    match is_file_of(alloc, file, tree) {
         Ok(true) => Ok(Some(file)),
         Ok(false) => Ok(None),
         Err(ReadFault::NoMemory) => Err(AllocError),
@@ -91,32 +100,50 @@ fn checked(alloc: Global, file: Vec<u8>, tree: &Tree) -> Result<Option<Vec<u8>>,
 /// The file of a tree in the sectors of an older one, which denotes a tree. None where those sectors won't do.
 ///
 /// Refused: as `write_file`.
-fn moved(alloc: Global, old: &[u8], tree: &Tree) -> Result<Option<Vec<u8>>, WriteFault>
-    ensures denotes { IfOk result (λ file. IfSome file (λ v. ∥ Denotes v.items (kept tree.now).now ∥₁)) }
-    ensures short { IfOk result (λ file. IfSome file (λ v. length v.items ≤ MOST_BYTES)) }
+fn moved(alloc: Global, old: &[u8], tree: &Tree) -> Result<Option<Update>, WriteFault>
+    ensures denotes { IfOk result (λ update. IfSome update (λ u. ∥ Denotes u.file.items (kept tree.now).now ∥₁)) }
+    ensures changed { IfOk result (λ update. IfSome update (λ u. u.numbers.items ≡ changed_blocks old.now u.file.items)) }
     ensures refused { IfErr result (Refuses (writable (kept tree.now).now)) }
     ensures allowed { OnOk result (writable (kept tree.now).now ≡ Ok tt) }
 {
-    let anew = written(alloc, tree)?;
-    let Some(file) = placed(alloc, old, anew, tree.root())? else {
+    check_room(tree)?;
+    let Some(update) = placed(alloc, old, tree.root())? else {
         return Ok(None);
     };
-    let moved = checked(alloc, file, tree)?;
-    Ok(moved)
+    match checked(alloc, &update.file, tree)? {
+        Some(_) => Ok(Some(update)),
+        None => Ok(None),
+    }
+}
+
+/// The file of a tree, laid out anew, in the place of an older one.
+///
+/// Refused: as `write_file`.
+fn anew(alloc: Global, old: &[u8], tree: &Tree) -> Result<Update, WriteFault>
+    ensures denotes { IfOk result (λ u. ∥ Denotes u.file.items (kept tree.now).now ∥₁) }
+    ensures changed { IfOk result (λ u. u.numbers.items ≡ changed_blocks old.now u.file.items) }
+    ensures refused { IfErr result (Refuses (writable (kept tree.now).now)) }
+    ensures allowed { OnOk result (writable (kept tree.now).now ≡ Ok tt) }
+{
+    let file = written(alloc, tree)?;
+    match changed(alloc, old, &file) {
+        Ok(numbers) => Ok(Update { file, numbers }),
+        Err(_) => Err(WriteFault::NoMemory),
+    }
 }
 
 /// The file of a tree that takes the place of one that denotes a tree: in its sectors, or else laid out anew.
 ///
 /// Refused: as `write_file`.
-fn laid_over(alloc: Global, old: &[u8], tree: &Tree) -> Result<Vec<u8>, WriteFault>
-    ensures denotes { IfOk result (λ v. ∥ Denotes v.items (kept tree.now).now ∥₁) }
-    ensures short { IfOk result (λ v. length v.items ≤ MOST_BYTES) }
+fn laid_over(alloc: Global, old: &[u8], tree: &Tree) -> Result<Update, WriteFault>
+    ensures denotes { IfOk result (λ u. ∥ Denotes u.file.items (kept tree.now).now ∥₁) }
+    ensures changed { IfOk result (λ u. u.numbers.items ≡ changed_blocks old.now u.file.items) }
     ensures refused { IfErr result (Refuses (writable (kept tree.now).now)) }
     ensures allowed { OnOk result (writable (kept tree.now).now ≡ Ok tt) }
 {
     match moved(alloc, old, tree)? {
-        Some(file) => Ok(file),
-        None => written(alloc, tree),
+        Some(update) => Ok(update),
+        None => anew(alloc, old, tree),
     }
 }
 
@@ -185,11 +212,7 @@ impl Image {
         ensures allowed { OnOk result (writable (kept tree.now).now ≡ Ok tt) }
         ensures kept { OnErr result (self.new ≡ self.old) }
     {
-        let file = laid_over(alloc, &self.file, tree)?;
-        let numbers = match changed(alloc, &self.file, &file) {
-            Ok(numbers) => numbers,
-            Err(_) => return Err(WriteFault::NoMemory),
-        };
+        let Update { file, numbers } = laid_over(alloc, &self.file, tree)?;
         self.file = file;
         Ok(numbers)
     }

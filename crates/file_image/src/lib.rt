@@ -3,3 +3,4 @@
 
 pub mod changed;
 pub mod image;
+mod update;

@@ -1,16 +1,24 @@
 //! The streams of a tree, and where those of their names lay.
 
 use cfb_names::name::Name;
+use file_model::limit::CUTOFF;
 use file_outline::outline::{Outline, Part, Place};
 use std::alloc::AllocError;
 use std::cmp::Ordering;
 use storage_tree::storage::{Node, Storage};
 
-/// A stream: how many bytes it has, and where it lay if it was there before.
+/// A stream: its bytes, and where it lay if it was there before.
 #[derive(Clone, Copy)]
-pub(crate) struct Stream {
-    pub size: usize,
+pub(crate) struct Stream<'a> {
+    pub bytes: &'a [u8],
     pub was: Option<Place>,
+}
+
+impl Stream<'_> {
+    /// Whether it lies in mini sectors.
+    pub(crate) fn is_short(&self) -> bool {
+        self.bytes.len() < CUTOFF
+    }
 }
 
 /// The first part from one on whose name isn't less than a name. Parts stand in name order.
@@ -40,12 +48,12 @@ fn parts_in(outline: Option<&Outline>) -> &[(Name, Part)] {
     }
 }
 
-/// Adds the streams below a storage, in the order in which a file that is laid out anew has them, given the outline of the
-/// storage of its name, if there was one.
+/// Adds the streams below a storage in the order of their entries, given the outline of the storage of its name, if there was
+/// one.
 #[cycle(streams)]
-pub(crate) fn push_streams(
-    streams: &mut Vec<Stream>,
-    storage: &Storage,
+pub(crate) fn push_streams<'a>(
+    streams: &mut Vec<Stream<'a>>,
+    storage: &'a Storage,
     was: Option<&Outline>,
 ) -> Result<(), AllocError> {
     let parts = parts_in(was);
@@ -59,7 +67,11 @@ pub(crate) fn push_streams(
 
 /// Adds a child's.
 #[cycle(streams)]
-fn push_node(streams: &mut Vec<Stream>, node: &Node, was: Option<&Part>) -> Result<(), AllocError> {
+fn push_node<'a>(
+    streams: &mut Vec<Stream<'a>>,
+    node: &'a Node,
+    was: Option<&Part>,
+) -> Result<(), AllocError> {
     match node {
         Node::Stream(bytes) => {
             let was = match was {
@@ -67,7 +79,7 @@ fn push_node(streams: &mut Vec<Stream>, node: &Node, was: Option<&Part>) -> Resu
                 _ => None,
             };
             streams.push(Stream {
-                size: bytes.len(),
+                bytes: bytes.as_slice(),
                 was,
             })?;
         }

@@ -1,7 +1,7 @@
 //! Where the sectors of a file go that takes an older one's place: what stays keeps its sectors.
 #![tactic(auto)]
 
-mod directory;
+mod entries;
 mod finding;
 mod free;
 mod minis;

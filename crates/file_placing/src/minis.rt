@@ -1,10 +1,8 @@
 //! The mini stream of a file, and its table.
 
-ghost use Rattle.file_placing.specs.declared.free.TheConstants.{MOST};
-ghost use Rattle.std.specs.Prelude.{◌≤◌};
-
-use crate::runs::{Run, flat_from};
-use crate::sectors::{piece, put};
+use crate::finding::Stream;
+use crate::runs::{Run, sectors_of};
+use crate::sectors::{piece, put_filled};
 use crate::tables::{free_table, link_all};
 use std::alloc::{AllocError, Global};
 
@@ -14,55 +12,71 @@ const MINI: usize = 64;
 /// The mini sectors of a file.
 #[derive(Drop)]
 pub(crate) struct Minis {
-    /// Where those of a file that was laid out anew go.
-    pub places: Vec<u32>,
-    /// How many sectors the mini FAT has.
-    pub fat_count: u32,
-    /// Its entries.
-    pub table: Vec<u32>,
-    /// How many bytes the mini stream has.
-    pub bytes: u32,
+    /// Where the short streams lie, in the order of their entries.
+    pub runs: Vec<Run>,
+    /// How many mini sectors there are up to the last one of them.
+    pub count: u32,
     /// The mini stream, in whole sectors.
     pub stream: Vec<u8>,
 }
 
-/// The mini stream in so many sectors, of which those are taken that the mini sectors of another one go to. What else there
-/// is stays as it was.
-fn stream_with(
-    was: Vec<u8>,
-    sectors: u32,
-    anew: &[u8],
-    places: &[u32],
-) -> Result<Vec<u8>, AllocError> {
-    let mut stream = was;
-    stream.resize(512 * sectors as usize, 0)?;
-    for k in 0..places.len() {
-        put(&mut stream, MINI * places[k] as usize, piece(anew, MINI, k));
+impl Minis {
+    /// How many sectors the mini FAT has.
+    pub(crate) fn fat_sectors(&self) -> u32 {
+        self.count.div_ceil(128)
     }
-    Ok(stream)
+
+    /// How many sectors the mini stream has.
+    pub(crate) fn stream_sectors(&self) -> u32 {
+        self.count.div_ceil(8)
+    }
+
+    /// How many bytes the mini stream has.
+    pub(crate) fn bytes(&self) -> u32 {
+        self.count.saturating_mul(64)
+    }
+
+    /// The mini FAT.
+    pub(crate) fn table(&self, alloc: Global) -> Result<Vec<u32>, AllocError> {
+        let mut table = free_table(alloc, 128 * self.fat_sectors() as usize)?;
+        link_all(&mut table, &self.runs);
+        Ok(table)
+    }
 }
 
-/// The mini sectors that lie in these runs, so many up to the last one of them: those of a mini stream that is laid out
-/// anew, in the place of the one that was.
-pub(crate) fn minis_of(
+/// Puts the bytes of a stream into mini sectors, zeros behind the last ones.
+fn put_minis(stream: &mut [u8], sectors: &[u32], bytes: &[u8]) {
+    for k in 0..sectors.len() {
+        put_filled(
+            stream,
+            MINI * sectors[k] as usize,
+            MINI,
+            piece(bytes, MINI, k),
+        );
+    }
+}
+
+/// The short ones of these streams in mini sectors, which lie in runs, so many up to the last one of them, in the place of an
+/// older mini stream. What no stream lies in is as it was.
+pub(crate) fn minis_in(
     alloc: Global,
     was: Vec<u8>,
-    anew: &[u8],
-    runs: &[Run],
+    streams: &[Stream<'_>],
+    runs: Vec<Run>,
     count: u32,
-) -> Result<Minis, AllocError>
-    requires { count ≤ MOST }
-{
-    let places = flat_from(alloc, runs, 0)?;
-    let fat_count = count.div_ceil(128);
-    let mut table = free_table(alloc, 128 * fat_count as usize)?;
-    link_all(&mut table, runs);
-    let stream = stream_with(was, count.div_ceil(8), anew, &places)?;
+) -> Result<Minis, AllocError> {
+    let mut stream = was;
+    stream.resize(512 * count.div_ceil(8) as usize, 0)?;
+    let mut at: usize = 0;
+    for short in streams {
+        if short.is_short() {
+            put_minis(&mut stream, sectors_of(&runs, at), short.bytes);
+            at = at.saturating_add(1);
+        }
+    }
     Ok(Minis {
-        places,
-        fat_count,
-        table,
-        bytes: 64 * count,
+        runs,
+        count,
         stream,
     })
 }

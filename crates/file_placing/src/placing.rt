@@ -1,27 +1,31 @@
 //! A file in the sectors of an older one.
 
-ghost use Rattle.file_model.specs.Limits.{MOST_BYTES};
 ghost use Rattle.file_placing.specs.declared.free.TheConstants.{MOST};
-ghost use Rattle.std.specs.Prelude.{◌≡◌, ◌≤◌, ◌+◌, ◌*◌, IfOk, IfSome, length};
+ghost use Rattle.std.specs.Prelude.{◌≤◌, ◌*◌, IfOk, IfSome};
 
-use crate::directory::{Moves, move_directory};
+use crate::entries::{StreamRuns, count_below, directory_of};
 use crate::finding::{Stream, push_streams};
-use crate::minis::{Minis, minis_of};
+use crate::minis::{Minis, minis_in};
 use crate::parts::{Parts, chain_of, parts_of};
-use crate::runs::{MINI_STREAM, Run, STREAMS, fill_runs, flat_from, sectors_of};
-use crate::sectors::{SECTOR, joined};
+use crate::runs::{MINI_STREAM, Run, STREAMS, fill_runs, sectors_of};
+use crate::sectors::{SECTOR, joined, number_bytes};
 use crate::tables::first_of;
-use crate::writing::{Contents, written};
+use crate::writing::{Laid, difat_numbers, fat_of, header_of};
 use cfb_header::header::Header;
-use file_model::limit::{CUTOFF, MOST_FAT_SECTORS};
-use file_model::need::difat_sectors;
+use file_model::limit::{MANY, MOST_FAT_SECTORS};
+use file_model::need::{difat_sectors, fat_sectors};
 use file_outline::outline::{Outline, is_short};
 use std::alloc::{AllocError, Global};
 use storage_tree::storage::Storage;
 
 /// The sectors, or mini sectors, that a stream keeps: its chain in this table, if it is of the same table and as long.
-fn run_of(alloc: Global, stream: Stream, short: bool, table: &[u32]) -> Result<Run, AllocError> {
-    let count = stream.size.div_ceil(if short { 64 } else { SECTOR });
+fn run_of(
+    alloc: Global,
+    stream: Stream<'_>,
+    short: bool,
+    table: &[u32],
+) -> Result<Run, AllocError> {
+    let count = stream.bytes.len().div_ceil(if short { 64 } else { SECTOR });
     let was = match stream.was {
         Some(place) => {
             if is_short(place) == short {
@@ -39,12 +43,12 @@ fn run_of(alloc: Global, stream: Stream, short: bool, table: &[u32]) -> Result<R
 fn push_runs(
     alloc: Global,
     runs: &mut Vec<Run>,
-    streams: &[Stream],
+    streams: &[Stream<'_>],
     short: bool,
     table: &[u32],
 ) -> Result<(), AllocError> {
     for stream in streams {
-        if (stream.size < CUTOFF) == short {
+        if stream.is_short() == short {
             runs.push(run_of(alloc, *stream, short, table)?)?;
         }
     }
@@ -64,7 +68,7 @@ struct Counts {
 fn kept_runs(
     alloc: Global,
     was: &Parts,
-    streams: &[Stream],
+    streams: &[Stream<'_>],
     counts: Counts,
 ) -> Result<Vec<Run>, AllocError>
     requires { counts.fat ≤ MOST_FAT_SECTORS }
@@ -91,7 +95,7 @@ struct Placed {
 fn place_with(
     alloc: Global,
     was: &Parts,
-    streams: &[Stream],
+    streams: &[Stream<'_>],
     counts: Counts,
 ) -> Result<Option<Placed>, AllocError>
     requires { counts.fat ≤ MOST_FAT_SECTORS }
@@ -108,7 +112,7 @@ fn place_with(
 fn place_within(
     alloc: Global,
     was: &Parts,
-    streams: &[Stream],
+    streams: &[Stream<'_>],
     least: Counts,
 ) -> Result<Option<Placed>, AllocError>
     ensures { IfOk result (λ placed. IfSome placed (λ p. p.count ≤ 128 * MOST_FAT_SECTORS)) }
@@ -129,92 +133,84 @@ fn place_within(
     Ok(None)
 }
 
-/// How many sectors stand before the streams in a file that is laid out anew.
-fn streams_from(now: &Parts) -> usize {
-    now.fat
-        .len()
-        .saturating_add(now.difat.len())
-        .saturating_add(now.directory.len())
-        .saturating_add(now.mini_fat.len())
-        .saturating_add(now.mini_stream.len())
+/// How many sectors the parts of a file have, of which so many are the directory's.
+fn least_of(streams: &[Stream<'_>], minis: &Minis, directory: usize) -> Counts {
+    let mini_fat = minis.fat_sectors() as usize;
+    let mini_stream = minis.stream_sectors() as usize;
+    let mut sectors = directory
+        .saturating_add(mini_fat)
+        .saturating_add(mini_stream);
+    for stream in streams {
+        if !stream.is_short() {
+            sectors = sectors.saturating_add(stream.bytes.len().div_ceil(SECTOR));
+        }
+    }
+    Counts {
+        fat: fat_sectors(sectors.min(MANY as usize) as u32),
+        directory,
+        mini_fat,
+        mini_stream,
+    }
 }
 
-/// The bytes of a file from a sector on.
-fn bytes_from(file: &[u8], sector: usize) -> &[u8] {
-    let at = SECTOR.saturating_mul(sector.saturating_add(1));
-    &file[at.min(file.len())..]
+/// The streams that lie in sectors.
+fn long_streams<'a>(alloc: Global, streams: &[Stream<'a>]) -> Result<Vec<&'a [u8]>, AllocError> {
+    let mut longs = Vec::new(alloc);
+    for stream in streams {
+        if !stream.is_short() {
+            longs.push(stream.bytes)?;
+        }
+    }
+    Ok(longs)
 }
 
-/// What takes the place of a file: the bytes of a tree, laid out anew, and where their parts lie.
-#[derive(Clone, Copy)]
-struct Anew<'a> {
-    bytes: &'a [u8],
-    parts: &'a Parts,
-}
-
-/// The file whose parts have their sectors.
-fn file_in(
+/// The file of a tree with this root whose parts have their sectors, and whose streams are these.
+fn laid<'a>(
     alloc: Global,
-    old: &[u8],
-    anew: &Anew<'_>,
-    minis: &Minis,
-    placed: &Placed,
-) -> Result<Option<Vec<u8>>, AllocError>
-    ensures { IfOk result (λ file. IfSome file (λ v. length v.items ≡ 512 * (1 + placed.now.count))) }
-{
-    let from = streams_from(anew.parts);
-    let sectors = flat_from(alloc, &placed.runs, STREAMS)?;
-    let mut directory = joined(alloc, anew.bytes, &anew.parts.directory)?;
-    let moves = Moves {
-        streams_from: from,
-        sectors: &sectors,
-        minis: &minis.places,
+    root: &Storage,
+    streams: &[Stream<'a>],
+    minis: Minis,
+    placed: Placed,
+) -> Result<Option<Laid<'a>>, AllocError> {
+    let Placed { runs, count } = placed;
+    let Some(header) = header_of(&runs, minis.fat_sectors()) else {
+        return Ok(None);
     };
-    move_directory(
-        &mut directory,
-        &moves,
-        first_of(sectors_of(&placed.runs, MINI_STREAM)),
-        minis.bytes,
-    );
-    let contents = Contents {
-        directory: &directory,
-        mini_table: &minis.table,
-        mini_stream: &minis.stream,
-        streams: bytes_from(anew.bytes, from),
+    let stream_runs = StreamRuns {
+        minis: &minis.runs,
+        sectors: &runs[STREAMS.min(runs.len())..],
     };
-    written(
-        alloc,
-        old,
-        placed.count,
-        &placed.runs,
-        minis.fat_count,
-        &contents,
-    )
+    let mini_stream = first_of(sectors_of(&runs, MINI_STREAM));
+    let directory = directory_of(alloc, root, stream_runs, mini_stream, minis.bytes())?;
+    Ok(Some(Laid {
+        count,
+        header,
+        fat: number_bytes(alloc, &fat_of(alloc, &runs)?)?,
+        difat: number_bytes(alloc, &difat_numbers(alloc, &runs)?)?,
+        directory,
+        mini_fat: number_bytes(alloc, &minis.table(alloc)?)?,
+        mini_stream: minis.stream,
+        streams: long_streams(alloc, streams)?,
+        runs,
+    }))
 }
 
-/// The file of a tree with this root, `anew`, which was laid out anew, in the sectors of an older one, which has this
-/// outline. A stream whose number of sectors and whose table stay has its sectors, and so has a mini stream's; the
-/// directory, the mini FAT and the mini stream keep the front of theirs; each new one is the least free one, and what is
-/// freed keeps its bytes. None where that would pass the limit.
+/// The file of a tree with this root in the sectors of an older one, which has this outline. A stream whose number of
+/// sectors and whose table stay has its sectors, and so has a mini stream's; the directory, the mini FAT and the mini stream
+/// keep the front of theirs; each new one is the least free one, and what is freed keeps its bytes. None where that would
+/// pass the limit.
 ///
 /// Nothing is promised of what it denotes: whoever takes it reads it again.
-pub fn place_over(
+pub fn place_over<'a>(
     alloc: Global,
     old: &[u8],
     outline: &Outline,
-    anew: &[u8],
-    root: &Storage,
-) -> Result<Option<Vec<u8>>, AllocError>
-    ensures { IfOk result (λ file. IfSome file (λ v. length v.items ≤ MOST_BYTES)) }
-{
-    let Ok(old_header) = Header::read(old) else {
+    root: &'a Storage,
+) -> Result<Option<Laid<'a>>, AllocError> {
+    let Ok(header) = Header::read(old) else {
         return Ok(None);
     };
-    let Ok(header) = Header::read(anew) else {
-        return Ok(None);
-    };
-    let was = parts_of(alloc, &old_header, old)?;
-    let now = parts_of(alloc, &header, anew)?;
+    let was = parts_of(alloc, &header, old)?;
     let mut streams = Vec::new(alloc);
     push_streams(&mut streams, root, Some(outline))?;
     let mut mini_runs = Vec::new(alloc);
@@ -223,20 +219,11 @@ pub fn place_over(
         return Ok(None);
     };
     let old_minis = joined(alloc, old, &was.mini_stream)?;
-    let new_minis = joined(alloc, anew, &now.mini_stream)?;
-    let minis = minis_of(alloc, old_minis, &new_minis, &mini_runs, count)?;
-    let least = Counts {
-        fat: header.fat_count(),
-        directory: now.directory.len(),
-        mini_fat: minis.fat_count as usize,
-        mini_stream: count.div_ceil(8) as usize,
-    };
+    let minis = minis_in(alloc, old_minis, &streams, mini_runs, count)?;
+    let entries = count_below(root) as usize + 1;
+    let least = least_of(&streams, &minis, entries.div_ceil(4));
     let Some(placed) = place_within(alloc, &was, &streams, least)? else {
         return Ok(None);
     };
-    let anew = Anew {
-        bytes: anew,
-        parts: &now,
-    };
-    file_in(alloc, old, &anew, &minis, &placed)
+    laid(alloc, root, &streams, minis, placed)
 }

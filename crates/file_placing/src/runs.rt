@@ -101,12 +101,3 @@ pub(crate) fn sectors_of(runs: &[Run], at: usize) -> &[u32] {
         None => &[],
     }
 }
-
-/// The sectors of the runs from one on, one list after another.
-pub(crate) fn flat_from(alloc: Global, runs: &[Run], from: usize) -> Result<Vec<u32>, AllocError> {
-    let mut flat = Vec::new(alloc);
-    for at in from..runs.len() {
-        flat.extend_from_slice(&runs[at].sectors)?;
-    }
-    Ok(flat)
-}

@@ -1,8 +1,5 @@
 //! Sectors and numbers in the bytes of a file. What is past the end reads as zeros, and isn't written.
 
-ghost use Rattle.file_placing.specs.declared.sectors.TheConstants.{SECTOR};
-ghost use Rattle.std.specs.Prelude.{◌≡◌, ◌+◌, ◌*◌};
-
 use cfb_bytes::numbers::read_u32;
 use std::alloc::{AllocError, Global};
 
@@ -27,49 +24,21 @@ pub(crate) fn numbers(alloc: Global, bytes: &[u8]) -> Result<Vec<u32>, AllocErro
     Ok(numbers)
 }
 
-/// Puts bytes at a place.
-pub(crate) fn put(bytes: &mut [u8], at: usize, new: &[u8]) {
-    if at <= bytes.len() && new.len() <= bytes.len() - at {
+/// Puts bytes at a place, and zeros behind them up to a width.
+pub(crate) fn put_filled(bytes: &mut [u8], at: usize, width: usize, new: &[u8]) {
+    if at <= bytes.len() && new.len() <= width && width <= bytes.len() - at {
         bytes[at..at + new.len()].copy_from_slice(new);
+        bytes[at + new.len()..at + width].fill(0);
     }
 }
 
-/// Puts a number into the four bytes at a place.
-pub(crate) fn put_number(bytes: &mut [u8], at: usize, number: u32) {
-    put(bytes, at, &number.to_le_bytes());
-}
-
-/// Where a sector begins in a file.
-fn start_of(sector: u32) -> usize
-    ensures { result ≡ SECTOR * (sector + 1) }
-{
-    SECTOR * (sector as usize + 1)
-}
-
-/// Puts the next bytes into a sector, from the one of this number on.
-pub(crate) fn put_sector(file: &mut [u8], sector: u32, bytes: &[u8], number: usize) {
-    put(file, start_of(sector), piece(bytes, SECTOR, number));
-}
-
-/// Puts bytes into sectors, as far as both go.
-pub(crate) fn put_sectors(file: &mut [u8], sectors: &[u32], bytes: &[u8]) {
-    for k in 0..sectors.len() {
-        put_sector(file, sectors[k], bytes, k);
+/// Numbers as bytes, each of four.
+pub(crate) fn number_bytes(alloc: Global, numbers: &[u32]) -> Result<Vec<u8>, AllocError> {
+    let mut bytes = Vec::new(alloc);
+    for number in numbers {
+        bytes.extend_from_slice(&number.to_le_bytes())?;
     }
-}
-
-/// Puts one of the numbers that lie in sectors.
-fn put_one(file: &mut [u8], sectors: &[u32], at: usize, number: u32) {
-    if let Some(sector) = sectors.get(at / 128) {
-        put_number(file, start_of(*sector) + 4 * (at % 128), number);
-    }
-}
-
-/// Puts numbers into sectors.
-pub(crate) fn put_numbers(file: &mut [u8], sectors: &[u32], numbers: &[u32]) {
-    for k in 0..numbers.len() {
-        put_one(file, sectors, k, numbers[k]);
-    }
+    Ok(bytes)
 }
 
 /// One of the pieces of equal width in bytes, or what there is of it.

@@ -1,14 +1,14 @@
-//! The bytes of a file whose parts were given their sectors.
+//! What the blocks of a file are to hold whose parts were given their sectors.
 
-ghost use Rattle.std.specs.Prelude.{◌≡◌, ◌<◌, ◌^◌, ◌+◌, ◌*◌, IfOk, IfSome, length};
+ghost use Rattle.file_model.specs.declared.limit.TheConstants.{MOST_FAT_SECTORS};
+ghost use Rattle.std.specs.Prelude.{◌≤◌, ◌<◌, ◌^◌, ◌+◌, ◌*◌, IfOk, length};
 
-use crate::runs::{
-    DIFAT, DIRECTORY, FAT, MINI_FAT, MINI_STREAM, Run, STREAMS, flat_from, sectors_of,
-};
-use crate::sectors::{SECTOR, put, put_numbers, put_sectors};
+use crate::runs::{DIFAT, DIRECTORY, FAT, MINI_FAT, MINI_STREAM, Run, STREAMS, sectors_of};
+use crate::sectors::{SECTOR, piece};
 use crate::tables::{entry_at, first_of, free_table, link_all, set_all};
 use cfb_chain::fat::FREE_SECTOR;
 use cfb_header::header::{END_OF_CHAIN, Header, LISTED, MOST_DIFAT_SECTORS, NAMED};
+use file_model::limit::MOST_FAT_SECTORS;
 use std::alloc::{AllocError, Global};
 
 /// The value of a sector that holds a part of the FAT.
@@ -17,29 +17,8 @@ const FAT_SECTOR: u32 = 0xffff_fffd;
 /// The value of a sector that holds a part of the DIFAT.
 const DIFAT_SECTOR: u32 = 0xffff_fffc;
 
-/// What stands in the parts behind the FAT and the DIFAT.
-#[derive(Clone, Copy)]
-pub(crate) struct Contents<'a> {
-    pub directory: &'a [u8],
-    pub mini_table: &'a [u32],
-    pub mini_stream: &'a [u8],
-    /// The streams that lie in sectors, one after another.
-    pub streams: &'a [u8],
-}
-
-/// The bytes of an older file, as many as the header and so many sectors have, and zeros behind them.
-fn old_bytes(alloc: Global, old: &[u8], count: u32) -> Result<Vec<u8>, AllocError>
-    ensures { IfOk result (λ v. length v.items ≡ 512 * (1 + count)) }
-{
-    let len = SECTOR * (1 + count as usize);
-    let mut file = Vec::with_capacity(alloc, len)?;
-    file.extend_from_slice(&old[..len.min(old.len())])?;
-    file.resize(len, 0)?;
-    Ok(file)
-}
-
 /// The FAT of a file whose parts lie in these runs.
-fn fat_of(alloc: Global, runs: &[Run]) -> Result<Vec<u32>, AllocError> {
+pub(crate) fn fat_of(alloc: Global, runs: &[Run]) -> Result<Vec<u32>, AllocError> {
     let fat = sectors_of(runs, FAT);
     let mut table = free_table(alloc, fat.len().saturating_mul(128))?;
     link_all(&mut table, runs);
@@ -58,9 +37,11 @@ fn push_named(numbers: &mut Vec<u32>, fat: &[u32], from: usize) -> Result<(), Al
     Ok(())
 }
 
-/// The numbers of a DIFAT: the FAT's sectors that the header has no room for, in each sector as many as it names, and the
-/// DIFAT sector that is next.
-fn difat_numbers(alloc: Global, fat: &[u32], difat: &[u32]) -> Result<Vec<u32>, AllocError> {
+/// The numbers of the DIFAT of a file whose parts lie in these runs: the FAT's sectors that the header has no room for, in
+/// each sector as many as it names, and the DIFAT sector that is next.
+pub(crate) fn difat_numbers(alloc: Global, runs: &[Run]) -> Result<Vec<u32>, AllocError> {
+    let fat = sectors_of(runs, FAT);
+    let difat = sectors_of(runs, DIFAT);
     let mut numbers = Vec::new(alloc);
     for k in 0..difat.len().min(MOST_DIFAT_SECTORS as usize) {
         push_named(&mut numbers, fat, LISTED + NAMED * k)?;
@@ -70,7 +51,7 @@ fn difat_numbers(alloc: Global, fat: &[u32], difat: &[u32]) -> Result<Vec<u32>, 
 }
 
 /// The header of a file whose parts lie in these runs; none for more sectors of the FAT or of the DIFAT than a file has.
-fn header_of(runs: &[Run], mini_fat_count: u32) -> Option<[u8; 512]> {
+pub(crate) fn header_of(runs: &[Run], mini_fat_count: u32) -> Option<[u8; 512]> {
     match Header::new(
         sectors_of(runs, FAT),
         sectors_of(runs, DIFAT),
@@ -83,34 +64,59 @@ fn header_of(runs: &[Run], mini_fat_count: u32) -> Option<[u8; 512]> {
     }
 }
 
-/// The file of so many sectors whose parts lie in these runs. What no part lies in is as in an older file.
-pub(crate) fn written(
-    alloc: Global,
-    old: &[u8],
-    count: u32,
-    runs: &[Run],
-    mini_fat_count: u32,
-    contents: &Contents<'_>,
-) -> Result<Option<Vec<u8>>, AllocError>
-    ensures { IfOk result (λ file. IfSome file (λ v. length v.items ≡ 512 * (1 + count))) }
-{
-    let Some(header) = header_of(runs, mini_fat_count) else {
-        return Ok(None);
-    };
-    let fat = fat_of(alloc, runs)?;
-    let difat = difat_numbers(alloc, sectors_of(runs, FAT), sectors_of(runs, DIFAT))?;
-    let streams = flat_from(alloc, runs, STREAMS)?;
-    let mut file = old_bytes(alloc, old, count)?;
-    put(&mut file, 0, &header);
-    put_numbers(&mut file, sectors_of(runs, FAT), &fat);
-    put_numbers(&mut file, sectors_of(runs, DIFAT), &difat);
-    put_sectors(&mut file, sectors_of(runs, DIRECTORY), contents.directory);
-    put_numbers(&mut file, sectors_of(runs, MINI_FAT), contents.mini_table);
-    put_sectors(
-        &mut file,
-        sectors_of(runs, MINI_STREAM),
-        contents.mini_stream,
-    );
-    put_sectors(&mut file, &streams, contents.streams);
-    Ok(Some(file))
+/// A file of so many sectors whose parts lie in these runs, and what stands in them.
+#[derive(Drop)]
+pub struct Laid<'a> {
+    pub(crate) count: u32,
+    pub(crate) runs: Vec<Run>,
+    pub(crate) header: [u8; 512],
+    pub(crate) fat: Vec<u8>,
+    pub(crate) difat: Vec<u8>,
+    pub(crate) directory: Vec<u8>,
+    pub(crate) mini_fat: Vec<u8>,
+    pub(crate) mini_stream: Vec<u8>,
+    /// The streams that lie in sectors, in the order of their runs.
+    pub(crate) streams: Vec<&'a [u8]>,
+}
+
+/// Gives a block these bytes, if there is such a block.
+fn set_block<'a>(blocks: &mut [&'a [u8]], at: usize, bytes: &'a [u8]) {
+    if at < blocks.len() {
+        blocks[at] = bytes;
+    }
+}
+
+/// Lays bytes into sectors, as far as both go.
+fn lay<'a>(blocks: &mut [&'a [u8]], sectors: &[u32], bytes: &'a [u8]) {
+    for k in 0..sectors.len() {
+        set_block(blocks, sectors[k] as usize + 1, piece(bytes, SECTOR, k));
+    }
+}
+
+impl Laid<'_> {
+    /// Lays what stands in the parts into the blocks.
+    fn fill<'b>(&'b self, blocks: &mut [&'b [u8]]) {
+        let runs = &self.runs;
+        set_block(blocks, 0, &self.header);
+        lay(blocks, sectors_of(runs, FAT), &self.fat);
+        lay(blocks, sectors_of(runs, DIFAT), &self.difat);
+        lay(blocks, sectors_of(runs, DIRECTORY), &self.directory);
+        lay(blocks, sectors_of(runs, MINI_FAT), &self.mini_fat);
+        lay(blocks, sectors_of(runs, MINI_STREAM), &self.mini_stream);
+        for k in 0..self.streams.len() {
+            lay(blocks, sectors_of(runs, STREAMS + k), self.streams[k]);
+        }
+    }
+
+    /// What each block of 512 bytes is to hold, the header first: at most 512 bytes, with zeros behind them up to 512. One
+    /// that is to hold nothing stays as it was in the older file.
+    pub fn blocks(&self, alloc: Global) -> Result<Vec<&[u8]>, AllocError>
+        ensures { IfOk result (λ v. length v.items ≤ 1 + 128 * MOST_FAT_SECTORS) }
+    {
+        let count = 1 + self.count.min(128 * MOST_FAT_SECTORS) as usize;
+        let none: &[u8] = &[];
+        let mut blocks = vec![in alloc; none; count]?;
+        self.fill(&mut blocks);
+        Ok(blocks)
+    }
 }

@@ -67,4 +67,4 @@ refused_alone BadVersion old new frame e = e
 refused_alone BadKind old new frame e = e
 refused_alone TooLong old new frame e = e
 refused_alone BadField old new frame e = e.0
-refused_alone NoMemory old new frame e = e
+refused_alone NoMemory old new frame e = e.0

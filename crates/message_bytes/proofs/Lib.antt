@@ -1,4 +1,5 @@
 pub mod Adding
+pub mod Begins
 pub mod Fronts
 pub mod Heads
 pub mod Bodies

@@ -1,5 +1,5 @@
 -- What encode answers.
-use Rattle.std.specs.Prelude.{◌≡◌, ◌≤◌, ℕ, List, ◌++◌, length, true, false, Result, Ok, Err}
+use Rattle.std.specs.Prelude.{◌≡◌, ◌≤◌, ℕ, List, [], ◌∷◌, ◌++◌, length, take, true, false, Result, Ok, Err}
 use Rattle.std.specs.Global.{Vec}
 use Rattle.std.specs.List.{AllByRecursion}
 use Rattle.cfb_names.specs.Names.{IsName}
@@ -7,8 +7,8 @@ use Rattle.storage_tree.specs.declared.streams.NamedStream.{NamedStream}
 use Rattle.message_model.specs.declared.fault.WireFault.{WireFault}
 use Rattle.message_model.specs.declared.fault.WireFault.TheVariants.{BadMagic, BadVersion, BadKind, TooLong, BadField, NoMemory}
 use Rattle.message_model.specs.declared.frame.Frame.{Frame}
-use Rattle.message_model.specs.Frames.{fits}
-use Rattle.message_model.specs.Spelling.{spell}
+use Rattle.message_model.specs.Frames.{MOST_BODY, fits}
+use Rattle.message_model.specs.Spelling.{body, kind, spell}
 
 -- The byte form of a frame that may be sent, and BadField for any other.
 abbrev pub Encodes : Result (Vec ℕ) WireFault → Frame → Type 0
@@ -20,15 +20,24 @@ Encodes (Err BadVersion) frame = ⊥
 Encodes (Err BadKind) frame = ⊥
 Encodes (Err TooLong) frame = ⊥
 
--- The same behind other bytes. A frame that may not be sent adds nothing.
+-- The same behind other bytes. A frame that is refused adds nothing.
 abbrev pub EncodesInto : Result (Unit {0}) WireFault → List ℕ → List ℕ → Frame → Type 0
 EncodesInto (Ok u) old new frame = (fits frame ≡ true) × (new ≡ old ++ spell frame)
 EncodesInto (Err BadField) old new frame = (fits frame ≡ false) × (new ≡ old)
-EncodesInto (Err NoMemory) old new frame = fits frame ≡ true
+EncodesInto (Err NoMemory) old new frame = (fits frame ≡ true) × (new ≡ old)
 EncodesInto (Err BadMagic) old new frame = ⊥
 EncodesInto (Err BadVersion) old new frame = ⊥
 EncodesInto (Err BadKind) old new frame = ⊥
 EncodesInto (Err TooLong) old new frame = ⊥
+
+-- bytes that stand before others
+pub record Begins (old new : List ℕ) : Type 0 where
+  pub same : take (length old) new ≡ old
+
+-- a frame behind other bytes, but that its head has 0 in the place of the length of its body
+pub record IsUnmeasured (old new : List ℕ) (frame : Frame) : Type 0 where
+  pub added : new ≡ (old ++ 79 ∷ 76 ∷ 67 ∷ 77 ∷ 1 ∷ kind frame ∷ 0 ∷ 0 ∷ 0 ∷ 0 ∷ []) ++ body frame
+  pub short : length (body frame) ≤ MOST_BODY
 
 -- bytes with these at their end, which are at most so many
 pub record Adds (old new text : List ℕ) (most : ℕ) : Type 0 where

@@ -1,7 +1,7 @@
 //! Frames as bytes.
 
 ghost use Rattle.cfb_names.specs.Names.{IsName};
-ghost use Rattle.message_bytes.specs.Encoding.{Adds, AreNamed, Encodes, EncodesInto};
+ghost use Rattle.message_bytes.specs.Encoding.{Adds, AreNamed, Begins, Encodes, EncodesInto, IsUnmeasured};
 ghost use Rattle.message_model.specs.Frames.{MOST_BODY, MOST_EDIT, answer_fits, fits, operation_fits};
 ghost use Rattle.message_model.specs.Spelling.{answer, blob, body, four_bytes, kind, operation, option_number, stored, streams, text, two_bytes, widths};
 ghost use Rattle.object_parts.specs.Limits.{is_within, total};
@@ -86,43 +86,51 @@ pub fn fits(frame: &Frame) -> bool
 }
 
 // Adds a byte.
+#[tactic(auto, using(crate::proofs::Begins::put))]
 fn push_byte(out: &mut Vec<u8>, byte: u8) -> Result<(), AllocError>
-    ensures { OnOk result (out.new.items ≡ out.old.items ++ byte ∷ []) }
+    ensures added { OnOk result (out.new.items ≡ out.old.items ++ byte ∷ []) }
+    ensures begins { Begins out.old.items out.new.items }
 {
     out.push(byte)?;
     Ok(())
 }
 
 // Adds bytes.
+#[tactic(auto, using(crate::proofs::Begins::put))]
 fn push_bytes(out: &mut Vec<u8>, bytes: &[u8]) -> Result<(), AllocError>
-    ensures { OnOk result (out.new.items ≡ out.old.items ++ bytes.now) }
+    ensures added { OnOk result (out.new.items ≡ out.old.items ++ bytes.now) }
+    ensures begins { Begins out.old.items out.new.items }
 {
     out.extend_from_slice(bytes)?;
     Ok(())
 }
 
 // Adds a number in two bytes.
-#[tactic(auto, unfolding(message_model::specs::Spelling::two_bytes))]
+#[tactic(auto, using(crate::proofs::Begins::put), unfolding(message_model::specs::Spelling::two_bytes))]
 fn push_u16(out: &mut Vec<u8>, n: u16) -> Result<(), AllocError>
-    ensures { OnOk result (out.new.items ≡ out.old.items ++ two_bytes n) }
+    ensures added { OnOk result (out.new.items ≡ out.old.items ++ two_bytes n) }
+    ensures begins { Begins out.old.items out.new.items }
 {
     out.extend_from_slice(&n.to_le_bytes())?;
     Ok(())
 }
 
 // Adds a number in four bytes.
-#[tactic(auto, unfolding(message_model::specs::Spelling::four_bytes))]
+#[tactic(auto, using(crate::proofs::Begins::put), unfolding(message_model::specs::Spelling::four_bytes))]
 fn push_u32(out: &mut Vec<u8>, n: u32) -> Result<(), AllocError>
-    ensures { OnOk result (out.new.items ≡ out.old.items ++ four_bytes n) }
+    ensures added { OnOk result (out.new.items ≡ out.old.items ++ four_bytes n) }
+    ensures begins { Begins out.old.items out.new.items }
 {
     out.extend_from_slice(&n.to_le_bytes())?;
     Ok(())
 }
 
 // Adds a name or a text behind its length.
+#[tactic(auto, using(crate::proofs::Begins::through))]
 fn push_text(out: &mut Vec<u8>, bytes: &[u8]) -> Result<(), AllocError>
     requires { length bytes.now < 256 }
-    ensures { OnOk result (out.new.items ≡ out.old.items ++ text bytes.now) }
+    ensures added { OnOk result (out.new.items ≡ out.old.items ++ text bytes.now) }
+    ensures begins { Begins out.old.items out.new.items }
 {
     push_byte(out, bytes.len() as u8)?;
     push_bytes(out, bytes)?;
@@ -130,9 +138,11 @@ fn push_text(out: &mut Vec<u8>, bytes: &[u8]) -> Result<(), AllocError>
 }
 
 // Adds bytes behind their length.
+#[tactic(auto, using(crate::proofs::Begins::through))]
 fn push_blob(out: &mut Vec<u8>, bytes: &[u8]) -> Result<(), AllocError>
     requires { length bytes.now < 2 ^ 32 }
-    ensures { OnOk result (out.new.items ≡ out.old.items ++ blob bytes.now) }
+    ensures added { OnOk result (out.new.items ≡ out.old.items ++ blob bytes.now) }
+    ensures begins { Begins out.old.items out.new.items }
 {
     push_u32(out, bytes.len() as u32)?;
     push_bytes(out, bytes)?;
@@ -140,10 +150,12 @@ fn push_blob(out: &mut Vec<u8>, bytes: &[u8]) -> Result<(), AllocError>
 }
 
 // Adds a stream.
+#[tactic(auto, using(crate::proofs::Begins::through))]
 fn push_stream(out: &mut Vec<u8>, stream: &NamedStream) -> Result<(), AllocError>
     requires { length stream.now.bytes < 2 ^ 32 }
     ensures added { OnOk result (out.new.items ≡ out.old.items ++ (text stream.now.name ++ blob stream.now.bytes)) }
     ensures named { IsName stream.now.name }
+    ensures begins { Begins out.old.items out.new.items }
 {
     push_text(out, stream.name.as_bytes())?;
     push_blob(out, stream.bytes.as_slice())?;
@@ -151,10 +163,12 @@ fn push_stream(out: &mut Vec<u8>, stream: &NamedStream) -> Result<(), AllocError
 }
 
 // Adds streams.
+#[tactic(auto, using(crate::proofs::Begins::through))]
 fn push_streams(out: &mut Vec<u8>, list: &[NamedStream]) -> Result<(), AllocError>
     requires { total list.now < 2 ^ 32 }
     ensures added { OnOk result (out.new.items ≡ out.old.items ++ streams list.now) }
     ensures named { OnOk result (AreNamed list.now) }
+    ensures begins { Begins out.old.items out.new.items }
 {
     for stream in list {
         push_stream(out, stream)?;
@@ -163,9 +177,11 @@ fn push_streams(out: &mut Vec<u8>, list: &[NamedStream]) -> Result<(), AllocErro
 }
 
 // Adds a content.
+#[tactic(auto, using(crate::proofs::Begins::through))]
 fn push_stored(out: &mut Vec<u8>, content: &Stored) -> Result<(), AllocError>
     requires { is_within content.now ≡ true }
-    ensures { OnOk result (Adds out.old.items out.new.items (stored content.now) 262437) }
+    ensures added { OnOk result (Adds out.old.items out.new.items (stored content.now) 262437) }
+    ensures begins { Begins out.old.items out.new.items }
 {
     push_byte(out, content.streams.len() as u8)?;
     push_streams(out, content.streams.as_slice())?;
@@ -174,8 +190,10 @@ fn push_stored(out: &mut Vec<u8>, content: &Stored) -> Result<(), AllocError>
 }
 
 // Adds the number of an operation that carries a number, and that number.
+#[tactic(auto, using(crate::proofs::Begins::through))]
 fn push_numbered(out: &mut Vec<u8>, code: u8, n: u32) -> Result<(), AllocError>
-    ensures { OnOk result (Adds out.old.items out.new.items (code ∷ four_bytes n) 5) }
+    ensures added { OnOk result (Adds out.old.items out.new.items (code ∷ four_bytes n) 5) }
+    ensures begins { Begins out.old.items out.new.items }
 {
     push_byte(out, code)?;
     push_u32(out, n)?;
@@ -193,9 +211,11 @@ fn option_number(option: CloseOption) -> u8
 }
 
 // Adds a Load.
+#[tactic(auto, using(crate::proofs::Begins::through))]
 fn push_load(out: &mut Vec<u8>, class: &[u8; 16], content: &Stored) -> Result<(), AllocError>
     requires { is_within content.now ≡ true }
-    ensures { OnOk result (Adds out.old.items out.new.items (2 ∷ (class.now ++ stored content.now)) 300000) }
+    ensures added { OnOk result (Adds out.old.items out.new.items (2 ∷ (class.now ++ stored content.now)) 300000) }
+    ensures begins { Begins out.old.items out.new.items }
 {
     push_byte(out, 2)?;
     push_bytes(out, class)?;
@@ -204,8 +224,10 @@ fn push_load(out: &mut Vec<u8>, class: &[u8; 16], content: &Stored) -> Result<()
 }
 
 // Adds an InitNew.
+#[tactic(auto, using(crate::proofs::Begins::through))]
 fn push_init_new(out: &mut Vec<u8>, class: &[u8; 16]) -> Result<(), AllocError>
-    ensures { OnOk result (Adds out.old.items out.new.items (1 ∷ class.now) 300000) }
+    ensures added { OnOk result (Adds out.old.items out.new.items (1 ∷ class.now) 300000) }
+    ensures begins { Begins out.old.items out.new.items }
 {
     push_byte(out, 1)?;
     push_bytes(out, class)?;
@@ -213,9 +235,11 @@ fn push_init_new(out: &mut Vec<u8>, class: &[u8; 16]) -> Result<(), AllocError>
 }
 
 // Adds an Edit.
+#[tactic(auto, using(crate::proofs::Begins::through))]
 fn push_edit(out: &mut Vec<u8>, bytes: &[u8]) -> Result<(), AllocError>
     requires { length bytes.now ≤ MOST_EDIT }
-    ensures { OnOk result (Adds out.old.items out.new.items (8 ∷ blob bytes.now) 300000) }
+    ensures added { OnOk result (Adds out.old.items out.new.items (8 ∷ blob bytes.now) 300000) }
+    ensures begins { Begins out.old.items out.new.items }
 {
     push_byte(out, 8)?;
     push_blob(out, bytes)?;
@@ -223,8 +247,10 @@ fn push_edit(out: &mut Vec<u8>, bytes: &[u8]) -> Result<(), AllocError>
 }
 
 // Adds a SaveCompleted.
+#[tactic(auto, using(crate::proofs::Begins::through))]
 fn push_completed(out: &mut Vec<u8>, save: u32, storage: bool) -> Result<(), AllocError>
-    ensures { OnOk result (Adds out.old.items out.new.items (operation (SaveCompleted save storage)) 300000) }
+    ensures added { OnOk result (Adds out.old.items out.new.items (operation (SaveCompleted save storage)) 300000) }
+    ensures begins { Begins out.old.items out.new.items }
 {
     push_numbered(out, 11, save)?;
     push_byte(out, if storage { 1 } else { 0 })?;
@@ -232,9 +258,11 @@ fn push_completed(out: &mut Vec<u8>, save: u32, storage: bool) -> Result<(), All
 }
 
 // Adds a write's numbers and content.
+#[tactic(auto, using(crate::proofs::Begins::through))]
 fn push_write(out: &mut Vec<u8>, w: u32, content: &Stored) -> Result<(), AllocError>
     requires { is_within content.now ≡ true }
-    ensures { OnOk result (Adds out.old.items out.new.items (four_bytes w ++ stored content.now) 300000) }
+    ensures added { OnOk result (Adds out.old.items out.new.items (four_bytes w ++ stored content.now) 300000) }
+    ensures begins { Begins out.old.items out.new.items }
 {
     push_u32(out, w)?;
     push_stored(out, content)?;
@@ -244,7 +272,8 @@ fn push_write(out: &mut Vec<u8>, w: u32, content: &Stored) -> Result<(), AllocEr
 // Adds an operation.
 fn push_operation(out: &mut Vec<u8>, op: &Operation) -> Result<(), AllocError>
     requires { operation_fits op.now ≡ true }
-    ensures { OnOk result (Adds out.old.items out.new.items (operation op.now) 300000) }
+    ensures added { OnOk result (Adds out.old.items out.new.items (operation op.now) 300000) }
+    ensures begins { Begins out.old.items out.new.items }
 {
     match op {
         Operation::InitNew(class) => push_init_new(out, class.as_bytes()),
@@ -265,15 +294,18 @@ fn push_operation(out: &mut Vec<u8>, op: &Operation) -> Result<(), AllocError>
 
 // Adds a menu text.
 fn push_menu(out: &mut Vec<u8>, menu: &MenuText) -> Result<(), AllocError>
-    ensures { OnOk result (Adds out.old.items out.new.items (text menu.now) 17) }
+    ensures added { OnOk result (Adds out.old.items out.new.items (text menu.now) 17) }
+    ensures begins { Begins out.old.items out.new.items }
 {
     push_text(out, menu.as_bytes())?;
     Ok(())
 }
 
 // Adds four widths.
+#[tactic(auto, using(crate::proofs::Begins::through))]
 fn push_widths(out: &mut Vec<u8>, border: &[u16; 4]) -> Result<(), AllocError>
-    ensures { OnOk result (Adds out.old.items out.new.items (widths border.now) 8) }
+    ensures added { OnOk result (Adds out.old.items out.new.items (widths border.now) 8) }
+    ensures begins { Begins out.old.items out.new.items }
 {
     for width in border {
         push_u16(out, *width)?;
@@ -282,9 +314,11 @@ fn push_widths(out: &mut Vec<u8>, border: &[u16; 4]) -> Result<(), AllocError>
 }
 
 // Adds an answer.
+#[tactic(auto, using(crate::proofs::Begins::through))]
 fn push_answer(out: &mut Vec<u8>, said: &Answer) -> Result<(), AllocError>
     requires { answer_fits said.now ≡ true }
-    ensures { OnOk result (Adds out.old.items out.new.items (answer said.now) 300000) }
+    ensures added { OnOk result (Adds out.old.items out.new.items (answer said.now) 300000) }
+    ensures begins { Begins out.old.items out.new.items }
 {
     match said {
         Answer::Done => push_byte(out, 0)?,
@@ -305,8 +339,10 @@ fn push_answer(out: &mut Vec<u8>, said: &Answer) -> Result<(), AllocError>
 }
 
 // Adds three numbers.
+#[tactic(auto, using(crate::proofs::Begins::through))]
 fn push_three(out: &mut Vec<u8>, a: u32, b: u32, c: u32) -> Result<(), AllocError>
-    ensures { OnOk result (Adds out.old.items out.new.items (four_bytes a ++ (four_bytes b ++ four_bytes c)) 12) }
+    ensures added { OnOk result (Adds out.old.items out.new.items (four_bytes a ++ (four_bytes b ++ four_bytes c)) 12) }
+    ensures begins { Begins out.old.items out.new.items }
 {
     push_u32(out, a)?;
     push_u32(out, b)?;
@@ -315,9 +351,11 @@ fn push_three(out: &mut Vec<u8>, a: u32, b: u32, c: u32) -> Result<(), AllocErro
 }
 
 // Adds a frame's body.
+#[tactic(auto, using(crate::proofs::Begins::through))]
 fn push_body(out: &mut Vec<u8>, frame: &Frame) -> Result<(), AllocError>
     requires { fits frame.now ≡ true }
-    ensures { OnOk result (Adds out.old.items out.new.items (body frame.now) MOST_BODY) }
+    ensures added { OnOk result (Adds out.old.items out.new.items (body frame.now) MOST_BODY) }
+    ensures begins { Begins out.old.items out.new.items }
 {
     match frame {
         Frame::Message(
@@ -414,10 +452,22 @@ fn room(frame: &Frame) -> usize {
     inside.saturating_add(MOST_HELD)
 }
 
+// Adds a frame, but that its head has 0 in the place of the length of its body.
+#[tactic(auto, using(crate::proofs::Begins::through))]
+fn push_frame(out: &mut Vec<u8>, frame: &Frame) -> Result<(), AllocError>
+    requires { fits frame.now ≡ true }
+    ensures added { OnOk result (IsUnmeasured out.old.items out.new.items frame.now) }
+    ensures begins { Begins out.old.items out.new.items }
+{
+    out.reserve(room(frame))?;
+    push_bytes(out, &[79, 76, 67, 77, 1, kind_number(frame), 0, 0, 0, 0])?;
+    push_body(out, frame)?;
+    Ok(())
+}
+
 /// Adds the byte form of a frame, as `encode` gives it.
 ///
-/// Refused: `BadField` for a frame that may not be sent (see `fits`), and nothing is added; then `NoMemory`, behind which
-/// nothing is said of the bytes.
+/// Refused: `BadField` for a frame that may not be sent (see `fits`); then `NoMemory`. Nothing is added then.
 pub fn encode_into(out: &mut Vec<u8>, frame: &Frame) -> Result<(), WireFault>
     ensures { EncodesInto result out.old.items out.new.items frame.now }
 {
@@ -425,12 +475,17 @@ pub fn encode_into(out: &mut Vec<u8>, frame: &Frame) -> Result<(), WireFault>
         return Err(WireFault::BadField);
     }
     let at = out.len();
-    out.reserve(room(frame))?;
-    push_bytes(out, &[79, 76, 67, 77, 1, kind_number(frame), 0, 0, 0, 0])?;
-    push_body(out, frame)?;
-    let len = (out.len() - at - 10) as u32;
-    set_length(out, at, len);
-    Ok(())
+    match push_frame(out, frame) {
+        Ok(()) => {
+            let len = (out.len() - at - 10) as u32;
+            set_length(out, at, len);
+            Ok(())
+        }
+        Err(_) => {
+            out.truncate(at);
+            Err(WireFault::NoMemory)
+        }
+    }
 }
 
 /// The byte form of a frame.
