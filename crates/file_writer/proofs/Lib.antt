@@ -4,3 +4,5 @@ pub mod Denoted
 pub mod ContentsPush
 pub mod ContentsStreams
 pub mod Lists
+pub mod Sent
+pub mod Zeros

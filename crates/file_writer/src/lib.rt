@@ -2,5 +2,6 @@
 #![tactic(auto)]
 
 mod entries;
+pub mod sending;
 mod streams;
 pub mod write;

@@ -53,7 +53,7 @@ fn mini_zeros(len: usize) -> usize
 }
 
 /// How many stand behind them up to whole sectors.
-fn sector_zeros(len: usize) -> usize
+pub(crate) fn sector_zeros(len: usize) -> usize
     ensures few { result < 512 }
     ensures zeros { result ≡ 512 * pieces 512 len - len }
 {

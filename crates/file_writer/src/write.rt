@@ -11,7 +11,7 @@ ghost use Rattle.storage_tree.specs.View.{view};
 ghost use Rattle.storage_tree.specs.Whole.{IsTree};
 ghost use Rattle.file_model.specs.Denotes.{Denotes};
 ghost use Rattle.file_layout.specs.Directory.{IsSpelled, balanced, long_streams, parts_of, short_streams};
-ghost use Rattle.file_layout.specs.Image.{behind_fat, counts as runs_behind, difat_numbers, image, names, own_entries, pieces_of, run, runs, start, table_bytes};
+ghost use Rattle.file_layout.specs.Image.{behind_fat, counts as runs_behind, difat_numbers, image, names, own_entries, pieces_of, run, runs, start, table_bytes, whole_pieces};
 ghost use Rattle.file_model.specs.Need.{data_sectors, entries, fat_sectors as fat_needed, long_sectors, mini_sectors};
 ghost use Rattle.file_model.specs.Refusals.{Refuses, writable};
 ghost use Rattle.file_model.specs.declared.limit.TheConstants.{MANY, MOST_FAT_SECTORS};
@@ -224,18 +224,23 @@ fn push_header(
     Ok(())
 }
 
-/// The file of a tree with these counts, in memory that is taken once.
+/// What stands before the long streams in the file of a tree with these counts, with room for so many bytes taken at once.
 #[tactic(auto, unfolding(file_layout::specs::Image::image))]
-fn lay_out(alloc: Global, root: &Storage, counts: Counts) -> Result<Vec<u8>, AllocError>
+pub(crate) fn lay_front(
+    alloc: Global,
+    root: &Storage,
+    counts: Counts,
+    room: usize,
+) -> Result<Vec<u8>, AllocError>
     requires { AreEnough counts (view root.now) }
-    ensures laid_out { IfOk result (λ v. v.items ≡ image counts.fat (parts_of balanced counts.fat (view root.now))) }
+    ensures laid_out { IfOk result (λ v. v.items ++ whole_pieces 512 (long_streams (view root.now)) ≡ image counts.fat (parts_of balanced counts.fat (view root.now))) }
     ensures spelled { OnOk result (IsSpelled (view root.now)) }
 {
     let fat = fat_table(alloc, root, counts)?;
     let minis = mini_table(alloc, root)?;
     let directory_count = counts.directory_sectors();
     let mini_fat_count = counts.mini_fat_sectors();
-    let mut out = Vec::with_capacity(alloc, counts.file_len())?;
+    let mut out = Vec::with_capacity(alloc, room)?;
     let difat = counts.difat_sectors();
     push_header(
         alloc,
@@ -250,6 +255,16 @@ fn lay_out(alloc: Global, root: &Storage, counts: Counts) -> Result<Vec<u8>, All
     push_directory(alloc, &mut out, root, counts)?;
     push_table(&mut out, mini_fat_count, &minis)?;
     push_mini_stream(&mut out, root)?;
+    Ok(out)
+}
+
+/// The file of a tree with these counts, in memory that is taken once.
+fn lay_out(alloc: Global, root: &Storage, counts: Counts) -> Result<Vec<u8>, AllocError>
+    requires { AreEnough counts (view root.now) }
+    ensures laid_out { IfOk result (λ v. v.items ≡ image counts.fat (parts_of balanced counts.fat (view root.now))) }
+    ensures spelled { OnOk result (IsSpelled (view root.now)) }
+{
+    let mut out = lay_front(alloc, root, counts, counts.file_len())?;
     push_long(&mut out, root)?;
     Ok(out)
 }
@@ -271,7 +286,7 @@ fn survey(root: &Storage) -> Counts
 /// The counts of a tree, and the least number of FAT sectors that covers it.
 ///
 /// Refused: `TooBig` where that is above the limit.
-fn count(root: &Storage) -> Result<Counts, WriteFault>
+pub(crate) fn count(root: &Storage) -> Result<Counts, WriteFault>
     ensures refused { IfErr result (λ e. writable (view root.now) ≡ Err e) }
     ensures allowed { OnOk result (writable (view root.now) ≡ Ok tt) }
     ensures counted { IfOk result (λ counts. AreEnough counts (view root.now)) }

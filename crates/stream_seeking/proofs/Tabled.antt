@@ -1,0 +1,18 @@
+-- What is read by the tables of a file.
+use Rattle.std.proofs.Common.{◌≡◌, ◌+◌, ◌*◌, ◌∙◌, ℕ, List, ap, length, min, sym, take}
+use Rattle.std.proofs.lemmas.List.{take_all, take_min}
+use Rattle.std.proofs.Math.Nat.{le_refl}
+use Rattle.cfb_header.specs.Bytes.{joined, sector}
+use Rattle.cfb_chain.proofs.Blocks.{length_block, length_joined}
+
+sectors_long : (a ns : List ℕ) → length (joined (sector a) ns) ≡ 512 * length ns
+sectors_long a ns = length_joined (sector a) 512 ns (λ n. length_block 512 a (512 + 512 * n))
+
+-- no more is read than the sectors have
+pub front_read_of : (a ns : List ℕ) (size all : ℕ) → all ≡ min size (512 * length ns) → take all (joined (sector a) ns) ≡ take size (joined (sector a) ns)
+front_read_of a ns size all e =
+    ap (λ k. take k (joined (sector a) ns)) (e ∙ ap (min size) (sym (sectors_long a ns))) ∙ take_min size (joined (sector a) ns)
+
+-- all that the sectors have
+pub whole_read_of : (a ns : List ℕ) → take (512 * length ns) (joined (sector a) ns) ≡ joined (sector a) ns
+whole_read_of a ns = ap (λ k. take k (joined (sector a) ns)) (sym (sectors_long a ns)) ∙ take_all (length (joined (sector a) ns)) (joined (sector a) ns) (le_refl (length (joined (sector a) ns)))
