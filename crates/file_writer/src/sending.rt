@@ -92,11 +92,7 @@ fn send_zeros<W: Write>(writer: &mut W, waiting: &mut Vec<u8>, count: usize) -> 
 }
 
 /// Sends the bytes of a stream, with zeros up to whole sectors.
-fn send_sectors<W: Write>(
-    writer: &mut W,
-    waiting: &mut Vec<u8>,
-    bytes: &Bytes,
-) -> io::Result<()>
+fn send_sectors<W: Write>(writer: &mut W, waiting: &mut Vec<u8>, bytes: &Bytes) -> io::Result<()>
     ensures { OnOk result (Sends (W.contents writer.old) (W.contents writer.new) waiting.old.items waiting.new.items (padded 512 bytes.now)) }
 {
     send(writer, waiting, bytes.as_slice())?;
@@ -107,11 +103,7 @@ fn send_sectors<W: Write>(
 /// Sends the streams below a storage that have 4,096 bytes or more, in the order of their entries, each in whole
 /// sectors.
 #[cycle(send_long)]
-fn send_long<W: Write>(
-    writer: &mut W,
-    waiting: &mut Vec<u8>,
-    storage: &Storage,
-) -> io::Result<()>
+fn send_long<W: Write>(writer: &mut W, waiting: &mut Vec<u8>, storage: &Storage) -> io::Result<()>
     ensures { OnOk result (Sends (W.contents writer.old) (W.contents writer.new) waiting.old.items waiting.new.items (whole_pieces 512 (long_streams (view storage.now)))) }
 {
     for (_, node) in storage.children.iter() {
@@ -122,11 +114,7 @@ fn send_long<W: Write>(
 
 /// Sends a child's.
 #[cycle(send_long)]
-fn send_long_child<W: Write>(
-    writer: &mut W,
-    waiting: &mut Vec<u8>,
-    child: &Node,
-) -> io::Result<()>
+fn send_long_child<W: Write>(writer: &mut W, waiting: &mut Vec<u8>, child: &Node) -> io::Result<()>
     ensures { OnOk result (Sends (W.contents writer.old) (W.contents writer.new) waiting.old.items waiting.new.items (whole_pieces 512 (long_within (seen child.now)))) }
 {
     match child {

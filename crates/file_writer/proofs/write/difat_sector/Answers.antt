@@ -1,4 +1,4 @@
-use Rattle.std.proofs.Common.{◌≡◌, ◌-◌, ◌++◌, ◌∷◌, [], arith, min, replicate, rules}
+use Rattle.std.proofs.Common.{◌≡◌, ◌-◌, ◌++◌, ◌∷◌, [], arith, replicate, rules}
 use Rattle.std.specs.List.{range_with_len}
 use Rattle.cfb_chain.specs.Chain.{FREE_SECTOR}
 use Rattle.file_writer.proofs.Lists.{names_pushed}

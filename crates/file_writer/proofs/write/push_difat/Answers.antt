@@ -1,4 +1,4 @@
-use Rattle.std.proofs.Common.{◌≡◌, ◌+◌, ◌*◌, ◌++◌, ◌∷◌, [], List, ℕ, arith, rules}
+use Rattle.std.proofs.Common.{◌≡◌, ◌+◌, ◌*◌, ◌++◌, ◌∷◌, [], rules}
 use Rattle.file_layout.specs.Image.{difat_numbers, names}
 use Rattle.file_layout.proofs.Tables.{numbers_bytes}
 use Rattle.file_writer.proofs.Lists.{difat_none, difat_pushed, difat_whole}
