@@ -122,7 +122,11 @@ fn short_blocks(
 
 /// The FAT's entries of a file of which the blocks were read that its listing needs: those of each file that has the same
 /// bytes in those blocks.
-pub(crate) fn fat_entries(alloc: Global, header: &Header, file: &Places) -> Result<Vec<u32>, AllocError>
+pub(crate) fn fat_entries(
+    alloc: Global,
+    header: &Header,
+    file: &Places,
+) -> Result<Vec<u32>, AllocError>
     requires read { header_read file.now ≡ Ok header.now }
     ensures over { IfOk result (λ v. (a : List ℕ) → Alike a file.now → (t : Tree) → (d : Denotes a t) → IsOver a d.layout (directory_of a d.layout) v.items) }
 {

@@ -9,9 +9,7 @@ ghost use Rattle.std.specs.Prelude.{◌*◌, ◌≡◌, IfOk, IfSome, List, Ok, 
 ghost use Rattle.storage_tree.specs.Tree.{Tree};
 ghost use Rattle.stream_seeking.specs.Tables.{AreTablesOf, minis_read, read_by};
 
-use crate::blocks::{
-    count_minis, count_sectors, fat_entries, mini_fat_bytes, mini_stream_sectors,
-};
+use crate::blocks::{count_minis, count_sectors, fat_entries, mini_fat_bytes, mini_stream_sectors};
 use crate::chains::{follow, follow_minis};
 use crate::fault::{CopyFault, SeekFault};
 use crate::filling::{SECTOR, fill_sectors, read_minis};
@@ -135,11 +133,5 @@ pub fn read_place<S: Source>(
         return read_short(alloc, &tables.mini_stream, &tables.mini_fat, place);
     }
     let sectors = follow(alloc, &tables.fat, place.first, count_sectors(place))?;
-    read_sectors(
-        alloc,
-        source,
-        tables.len,
-        &sectors,
-        place.size as usize,
-    )
+    read_sectors(alloc, source, tables.len, &sectors, place.size as usize)
 }

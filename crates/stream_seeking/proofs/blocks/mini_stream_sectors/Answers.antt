@@ -1,4 +1,4 @@
-use Rattle.std.proofs.Common.{◌≡◌, ◌∙◌, ◌+◌, ◌/◌, ℕ, List, ap, subst, sym}
+use Rattle.std.proofs.Common.{◌≡◌, ◌∙◌, ◌+◌, ◌/◌, ℕ, ap, subst, sym}
 use Rattle.cfb_chain.specs.Chain.{IsChainOf}
 use Rattle.cfb_directory.specs.Entries.{first_of, size_of}
 use Rattle.file_model.specs.Denotes.{Layout, directory_of, root_of, sectors}

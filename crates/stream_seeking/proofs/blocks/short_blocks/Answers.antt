@@ -1,6 +1,5 @@
 use Rattle.std.proofs.Common.{◌≡◌, ◌∙◌, ◌+◌, ◌*◌, ◌/◌, ℕ, List, ap, length, map, subst, sym}
 use Rattle.cfb_header.specs.Bytes.{u32_at}
-use Rattle.file_model.specs.Denotes.{minis}
 use Rattle.stream_seeking.specs.Blocks.{stream_sectors}
 use Rattle.stream_seeking.specs.Chains.{begins_at, walked}
 use Rattle.stream_seeking.proofs.blocks.short_blocks.Goals as goal
