@@ -1,5 +1,5 @@
 -- What is read of a file that can be sought in, where its bytes are known.
-use Rattle.std.proofs.Common.{◌≡◌, ◌∙◌, ℕ, List, Option, Some, None, Result, Ok, Err, IfSome, ap, length, refl, subst, sym}
+use Rattle.std.proofs.Common.{◌≡◌, ◌∙◌, ℕ, List, Option, Some, None, Result, Ok, Err, IfSome, ap, refl, subst, sym}
 use Rattle.cfb_header.specs.Header.{HeaderValue}
 use Rattle.cfb_header.specs.declared.fault.ChainFault.{ChainFault}
 use Rattle.cfb_header.proofs.Headers.{read_whole}

@@ -4,7 +4,7 @@ ghost use Rattle.cfb_header.specs.Header.{IsHeader, header_read};
 ghost use Rattle.file_model.specs.Alike.{Alike};
 ghost use Rattle.file_model.specs.Denotes.{Denotes};
 ghost use Rattle.outline_entries.specs.Places.{IsPlaced};
-ghost use Rattle.std.specs.Prelude.{◌×◌, ◌≡◌, IfErr, IfOk, IfSome, List, Ok, ℕ};
+ghost use Rattle.std.specs.Prelude.{◌≡◌, IfErr, IfOk, IfSome, List, Ok, ℕ};
 ghost use Rattle.storage_tree.specs.Tree.{Tree};
 ghost use Rattle.storage_tree.specs.View.{view};
 ghost use Rattle.stream_io.specs.Reads.{MayRefuseRead};

@@ -8,8 +8,8 @@ use Rattle.tree_seeking.proofs.reading.outline_of.Goals as goal
 pub returns-in-Ok-clause-placed : goal.returns-in-Ok-clause-placed
 returns-in-Ok-clause-placed c = λ a h. placed_in a c.args.catalog.now.file c.in-Ok.outline h c.in-Ok.ensures.placed
 
-pub returns-clause-refused : goal.returns-clause-refused
-returns-clause-refused c = λ a h.
+pub returns-in-Err-clause-refused : goal.returns-in-Err-clause-refused
+returns-in-Err-clause-refused c = λ a h.
     let b : List ℕ = c.args.catalog.now.file in
     alike_read a b c.in-Err.fault h
     (read_refused b c.read_placed.result c.in-Err.fault c.in-Err.is (λ e he. absurd (no_fault (sym c.requires.header ∙ he))) c.read_placed.ensures.reads c.read_placed.ensures.refused)

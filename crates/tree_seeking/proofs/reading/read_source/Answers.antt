@@ -1,4 +1,4 @@
-use Rattle.std.proofs.Common.{◌≡◌, ◌∙◌, ℕ, List, IfSome, subst, sym}
+use Rattle.std.proofs.Common.{◌∙◌, IfSome, subst, sym}
 use Rattle.std.proofs.Math.Logic.{∥∥₁_map}
 use Rattle.storage_tree.specs.View.{view}
 use Rattle.file_model.specs.Alike.{Alike}
