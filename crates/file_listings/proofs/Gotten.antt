@@ -24,7 +24,7 @@ use Rattle.stream_seeking.specs.declared.fault.CopyFault.{CopyFault}
 use Rattle.stream_seeking.specs.declared.fault.CopyFault.TheVariants as copy
 use Rattle.stream_seeking.proofs.Shown.{shown_is}
 use Rattle.file_listings.specs.Gets.{Begun, LiesAt, Stands, of_copy_fault, of_places_fault}
-use Rattle.file_listings.proofs.Listed.{placed_alike}
+use Rattle.stream_seeking.proofs.Alike.{placed_alike}
 
 pub catalog_refused : (a : List ℕ) (path : List (List ℕ)) (fault : PlacesFault) → MayRefusePlaces a fault → MayRefuseGet a path (of_places_fault fault)
 catalog_refused a path places.Unreadable r = tt

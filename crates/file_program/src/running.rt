@@ -3,9 +3,10 @@
 use cfb_names::name::Name;
 use fault_texts::telling::Form as CheckForm;
 use file_checks::checking::{check_file, check_source};
+use file_cleaning::cleaning::clean_source;
 use file_commands::cleaning::clean_file;
 use file_commands::commands::{list_file, make_file};
-use file_commands::fault::{GetFault, ListFault};
+use file_commands::fault::{CleanFault, GetFault, ListFault};
 use file_commands::getting::get_file;
 use file_commands::seeking::list_source;
 use file_listings::getting::get_source;
@@ -201,25 +202,29 @@ fn get_open<R: Runtime + AllocGlobal>(
 
 /// Writes the tree of a file to another, or to the same.
 pub fn clean<R: Runtime + AllocGlobal>(rt: &R, path: &str, out: &str) -> ExitCode {
-    match fs::open(rt, path) {
-        Ok(mut source) => clean_open(rt, &mut source, path, out),
-        Err(_) => refuse(rt, &Report::File(path, "Unreadable")),
-    }
-}
-
-/// Writes the tree of an open file of a path to another.
-fn clean_open<R: Runtime + AllocGlobal>(
-    rt: &R,
-    source: &mut R::File,
-    path: &str,
-    out: &str,
-) -> ExitCode {
+    let Ok(source) = fs::open(rt, path) else {
+        return refuse(rt, &Report::File(path, "Unreadable"));
+    };
     let mut new = NewFile::new(rt, out);
-    match clean_file(rt.alloc(), source, &mut new) {
+    match clean_open(rt, source, &mut new) {
         Ok(count) => keep(rt, new, out, count),
         Err(fault) => {
             new.discard();
             refuse(rt, &fault.report(path, out))
         }
+    }
+}
+
+/// Writes the tree of an open file to another. One that tells how long it is isn't held whole.
+fn clean_open<R: Runtime + AllocGlobal>(
+    rt: &R,
+    mut source: R::File,
+    new: &mut NewFile<'_, R>,
+) -> Result<usize, CleanFault> {
+    match source.metadata() {
+        Ok(about) if about.is_file() && about.len() > 0 => {
+            clean_source(rt.alloc(), &mut Sought::new(source), new)
+        }
+        _ => clean_file(rt.alloc(), &mut source, new),
     }
 }

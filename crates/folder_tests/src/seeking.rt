@@ -1,8 +1,9 @@
 //! Streams that are read where they lie in a file.
 
 use cfb_names::name::Name;
+use file_cleaning::cleaning::clean_source;
 use file_commands::commands::make_file;
-use file_commands::fault::GetFault;
+use file_commands::fault::{CleanFault, GetFault};
 use file_listings::getting::get_source;
 use file_places::source::Source;
 use std::alloc::Global;
@@ -155,4 +156,32 @@ fn what_is_no_stream_is_not_read(rt: HostRuntime) {
     let byte = file.get_mut(512 + 4 * 20).expect(&rt, "an entry");
     *byte = 255;
     assert!(rt; is_no_tree(&rt, rt.alloc(), &file, "A"));
+}
+
+/// Whether so many calls write a file anew, to the same bytes as it has.
+fn is_cleaned(alloc: Global, file: &[u8], calls: usize) -> bool {
+    let mut source = Few { bytes: file, calls };
+    let mut out = Vec::new(alloc);
+    match clean_source(alloc, &mut source, &mut out) {
+        Ok(count) => count == out.len() && out.as_slice() == file,
+        Err(_) => false,
+    }
+}
+
+/// Whether so many calls are too few for it, and nothing is written.
+fn is_left(alloc: Global, file: &[u8], calls: usize) -> bool {
+    let mut source = Few { bytes: file, calls };
+    let mut out = Vec::new(alloc);
+    match clean_source(alloc, &mut source, &mut out) {
+        Err(CleanFault::Input(InputFault::Unreadable)) => out.is_empty(),
+        _ => false,
+    }
+}
+
+#[test]
+fn a_file_is_cleaned_by_places(rt: HostRuntime) {
+    let file = made(&rt, rt.alloc());
+    assert!(rt; is_cleaned(rt.alloc(), &file, CALLS + 3));
+    assert!(rt; is_left(rt.alloc(), &file, CALLS + 2));
+    assert!(rt; is_left(rt.alloc(), &file, CALLS));
 }

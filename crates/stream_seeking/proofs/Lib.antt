@@ -5,3 +5,5 @@ pub mod Buffers
 pub mod Fronts
 pub mod Placing
 pub mod Shown
+pub mod Alike
+pub mod Tabled

@@ -101,3 +101,32 @@ module _ (a : List ℕ) (l : Layout) where
       ∙ ap (take size) (joined_map (minis a l).piece (block 64 a) (begins_at (stream_sectors a l)) (take count ns)
       (All-take (λ n. (minis a l).piece n ≡ block 64 a (begins_at (stream_sectors a l) n)) count ns each))
       ∙ ap (λ xs. take size (joined (block 64 a) (map (begins_at (stream_sectors a l)) xs))) (sym path)
+
+  -- the same, of the bytes of the mini stream alone
+  pub short_read : (laid : IsLaidOut a l) (first size : ℕ) (ns : List ℕ) → IsChainOf (minis a l) first size ns
+      → take size (joined (minis a l).piece ns)
+      ≡ take size (joined (block 64 (joined (sector a) (stream_sectors a l))) (map (λ n. 64 * n) (walked (minis a l).next first ((size + 63) / 64))))
+  short_read laid first zero ns chain = refl
+  short_read laid first (suc k) ns chain =
+      let size : ℕ = suc k in
+      let count : ℕ = (suc k + 63) / 64 in
+      let ms : List ℕ = stream_sectors a l in
+      let bytes : List ℕ = joined (sector a) ms in
+      let room : suc k ≤ 64 * length ns = subst (λ (w : ℕ). suc k ≤ w * length ns) width_is chain.enough in
+      let fits : (suc k + 63) / 64 ≤ length ns = omega (arith, room) in
+      let enough : suc k ≤ 64 * ((suc k + 63) / 64) = omega arith in
+      let path : walked (minis a l).next first count ≡ take count ns = walked_leads (minis a l).next first ns END_OF_CHAIN count chain.linked fits in
+      let stream_room : size_of (root_of a l) ≤ 512 * length l.mini_stream =
+      subst (λ (w : ℕ). size_of (root_of a l) ≤ w * length l.mini_stream) sector_width (chain_room (sectors a l) (first_of (root_of a l)) (size_of (root_of a l)) l.mini_stream laid.mini_stream) in
+      let front : ℕ = (size_of (root_of a l) + 511) / 512 in
+      let long : length ms ≡ min ((size_of (root_of a l) + 511) / 512) (length l.mini_stream) = length-take front l.mini_stream in
+      let each : All (λ n. (minis a l).piece n ≡ block 64 bytes (64 * n)) ns =
+      λ j d lt. let n : ℕ = get_or ns j d in
+      let below : n < (size_of (root_of a l) + 63) / 64 = count_is n (chain.present j d lt).1 in
+      let within : n / 8 < (size_of (root_of a l) + 511) / 512 = omega (arith, below) in
+      piece_is n ∙ mini_block a l.mini_stream n (omega (arith, below, stream_room))
+      ∙ ap (block 64 a) (sym (placed_front l.mini_stream front n within (omega (arith, stream_room))))
+      ∙ sym (mini_block a ms n (omega (arith, below, stream_room, long))) in
+      joined_cut 64 (minis a l).piece wide_mini size count ns fits enough
+      ∙ ap (take size) (joined_map (minis a l).piece (block 64 bytes) (λ n. 64 * n) (take count ns) (All-take (λ n. (minis a l).piece n ≡ block 64 bytes (64 * n)) count ns each))
+      ∙ ap (λ xs. take size (joined (block 64 bytes) (map (λ n. 64 * n) xs))) (sym path)

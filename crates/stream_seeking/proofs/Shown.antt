@@ -6,7 +6,7 @@ use Rattle.cfb_chain.specs.Chain.{IsChainOf}
 use Rattle.cfb_chain.specs.Fat.{followed, sectors_of}
 use Rattle.cfb_chain.proofs.Blocks.{length_block}
 use Rattle.cfb_directory.specs.Entries.{child, first_of, kind, name_of, size_of}
-use Rattle.cfb_header.specs.Bytes.{block, joined, sector}
+use Rattle.cfb_header.specs.Bytes.{block, joined, sector, u32_at}
 use Rattle.cfb_names.specs.Names.{key, key_cmp}
 use Rattle.storage_tree.specs.Tree.{Tree, Children, tree, none, stream, storage}
 use Rattle.storage_tree.specs.Change as change
@@ -28,9 +28,11 @@ use Rattle.outline_entries.proofs.Told.{view_nested}
 use Rattle.sector_maps.specs.Painting.{IsOver}
 use Rattle.stream_seeking.specs.Blocks.{held_at, stream_sectors}
 use Rattle.stream_seeking.specs.Chains.{begins_at, table_of, walked}
+use Rattle.stream_seeking.specs.Tables.{AreTablesOf, read_by}
+use Rattle.stream_seeking.specs.declared.tables.Tables.{Tables}
 use Rattle.stream_seeking.proofs.Fronts.{chain_followed, table_over}
 use Rattle.stream_seeking.proofs.Joined.{joined_cut}
-use Rattle.stream_seeking.proofs.Minis.{sector_width, short_held}
+use Rattle.stream_seeking.proofs.Minis.{sector_width, short_held, short_read}
 
 -- ---- what stands first in an outline's parts
 abbrev first_in : model.Parts → model.Part
@@ -169,4 +171,25 @@ pub shown_is : (file : List ℕ) (t : Tree) (o : Outline) (p : IsPlaced file t o
 shown_is file t o p =
     let d : Denotes file t = p.denotes in
     storage_shown file d.layout (held_at file d.layout) (λ place ns chain. held_by file d.layout d.laid_out (nat_lt place.size 4096) place.first place.size ns chain)
+    0 o t d.used p.told p.outlined d.holds
+
+-- ---- what is read by tables
+module _ (file : List ℕ) (l : Layout) (tables : Tables) (are : AreTablesOf file l tables) where
+  read_held : IsLaidOut file l → (short : Bool) (first size : ℕ) (ns : List ℕ) → IsChainOf (if short then minis file l else sectors file l) first size ns
+      → take size (if short then joined (block 64 tables.mini_stream.items) (map (λ n. 64 * n) (walked (λ n. u32_at tables.mini_fat.items (4 * n)) first ((size + 63) / 64)))
+      else joined (sector file) (followed tables.fat.items ((size + 511) / 512) first))
+      ≡ take size (joined (if short then minis file l else sectors file l).piece ns)
+  read_held laid true first size ns chain =
+      (λ i. take size (joined (block 64 (are.stream i)) (map (λ n. 64 * n) (walked (are.next i) first ((size + 63) / 64)))))
+      ∙ sym (short_read file l laid first size ns chain)
+  read_held laid false first size ns chain =
+      ap (λ xs. take size (joined (sector file) (followed xs ((size + 511) / 512) first))) (table_over file l (directory_of file l) tables.fat.items are.over)
+      ∙ long_held file l first size ns chain
+
+-- the same tree is shown by its outline, each stream what is read by the file's tables
+pub shown_read : (file : List ℕ) (t : Tree) (o : Outline) (p : IsPlaced file t o) (tables : Tables) → AreTablesOf file p.denotes.layout tables → shown (read_by file tables) o ≡ t
+shown_read file t o p tables are =
+    let d : Denotes file t = p.denotes in
+    storage_shown file d.layout (read_by file tables)
+    (λ place ns chain. read_held file d.layout tables are d.laid_out (nat_lt place.size 4096) place.first place.size ns chain)
     0 o t d.used p.told p.outlined d.holds

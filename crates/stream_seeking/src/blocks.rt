@@ -1,12 +1,12 @@
 //! Where the stream of a place lies.
 
 ghost use Rattle.cfb_directory.specs.Entries.{first_of, size_of};
-ghost use Rattle.cfb_header.specs.Bytes.{joined, sector, u32_at};
+ghost use Rattle.cfb_header.specs.Bytes.{u32_at};
 ghost use Rattle.cfb_header.specs.Header.{header_read};
 ghost use Rattle.file_model.specs.Alike.{Alike};
 ghost use Rattle.file_model.specs.Denotes.{Denotes, directory_of, minis, root_of};
 ghost use Rattle.sector_maps.specs.Painting.{IsOver};
-ghost use Rattle.std.specs.Prelude.{◌*◌, ◌+◌, ◌/◌, ◌≡◌, IfOk, List, Ok, map, ℕ};
+ghost use Rattle.std.specs.Prelude.{◌*◌, ◌+◌, ◌/◌, ◌≡◌, IfOk, List, Ok, length, map, ℕ};
 ghost use Rattle.storage_tree.specs.Tree.{Tree};
 ghost use Rattle.stream_seeking.specs.Blocks.{held_at, held_in, stream_sectors};
 ghost use Rattle.stream_seeking.specs.Chains.{begins_at, walked};
@@ -41,24 +41,8 @@ pub struct Lies {
     pub size: usize,
 }
 
-/// Where the mini sectors of a stream begin in a file, given the sectors of the mini FAT and of the mini stream.
-fn minis_at(
-    alloc: Global,
-    file: &Places,
-    mini_fat: &[u32],
-    mini_stream: &[u32],
-    place: Place,
-) -> Result<Vec<usize>, AllocError>
-    ensures { IfOk result (λ v. v.items ≡ map (begins_at mini_stream.now) (walked (λ n. u32_at (joined (sector file.now) mini_fat.now) (4 * n)) place.first ((place.size + 63) / 64))) }
-{
-    let bytes = join(alloc, file, mini_fat)?;
-    let count = (place.size as usize + 63) / 64;
-    let minis = follow_minis(alloc, &bytes, place.first, count)?;
-    mini_places(alloc, mini_stream, &minis)
-}
-
 /// How many sectors the bytes of a place take.
-fn count_sectors(place: Place) -> usize
+pub(crate) fn count_sectors(place: Place) -> usize
     ensures { result ≡ (place.size + 511) / 512 }
 {
     (place.size as usize + 511) / 512
@@ -76,6 +60,47 @@ fn root_place(alloc: Global, header: &Header, file: &Places) -> Result<Place, Al
     Ok(Place { first, size })
 }
 
+/// The sectors of the mini stream, given the FAT's entries.
+pub(crate) fn mini_stream_sectors(
+    alloc: Global,
+    header: &Header,
+    file: &Places,
+    table: &[u32],
+) -> Result<Vec<u32>, AllocError>
+    requires read { header_read file.now ≡ Ok header.now }
+    ensures found { IfOk result (λ v. (a : List ℕ) → Alike a file.now → (t : Tree) → (d : Denotes a t) → IsOver a d.layout (directory_of a d.layout) table.now
+        → v.items ≡ stream_sectors a d.layout) }
+{
+    let root = root_place(alloc, header, file)?;
+    let sectors = follow(alloc, table, root.first, count_sectors(root))?;
+    Ok(sectors)
+}
+
+/// The bytes of the mini FAT, given the FAT's entries.
+pub(crate) fn mini_fat_bytes(
+    alloc: Global,
+    header: &Header,
+    file: &Places,
+    table: &[u32],
+) -> Result<Vec<u8>, AllocError>
+    requires read { header_read file.now ≡ Ok header.now }
+    ensures next { IfOk result (λ v. (a : List ℕ) → Alike a file.now → (t : Tree) → (d : Denotes a t) → IsOver a d.layout (directory_of a d.layout) table.now
+        → (λ (n : ℕ). u32_at v.items (4 * n)) ≡ (minis a d.layout).next) }
+    ensures whole { IfOk result (λ v. (m : ℕ) × (length v.items ≡ 4 * m)) }
+{
+    let count = header.mini_fat_count() as usize;
+    let sectors = follow(alloc, table, header.first_mini_fat(), count)?;
+    let bytes = join(alloc, file, &sectors)?;
+    Ok(bytes)
+}
+
+/// How many mini sectors the bytes of a place take.
+pub(crate) fn count_minis(place: Place) -> usize
+    ensures { result ≡ (place.size + 63) / 64 }
+{
+    (place.size as usize + 63) / 64
+}
+
 /// Where the mini sectors of a stream begin in a file, given the FAT's entries.
 fn short_blocks(
     alloc: Global,
@@ -88,17 +113,20 @@ fn short_blocks(
     ensures found { IfOk result (λ v. (a : List ℕ) → Alike a file.now → (t : Tree) → (d : Denotes a t) → IsOver a d.layout (directory_of a d.layout) table.now
         → v.items ≡ map (begins_at (stream_sectors a d.layout)) (walked (minis a d.layout).next place.first ((place.size + 63) / 64))) }
 {
-    let root = root_place(alloc, header, file)?;
-    let mini_stream = follow(alloc, table, root.first, count_sectors(root))?;
-    let count = header.mini_fat_count() as usize;
-    let mini_fat = follow(alloc, table, header.first_mini_fat(), count)?;
-    let places = minis_at(alloc, file, &mini_fat, &mini_stream, place)?;
+    let mini_stream = mini_stream_sectors(alloc, header, file, table)?;
+    let mini_fat = mini_fat_bytes(alloc, header, file, table)?;
+    let minis = follow_minis(alloc, &mini_fat, place.first, count_minis(place))?;
+    let places = mini_places(alloc, &mini_stream, &minis)?;
     Ok(places)
 }
 
 /// The FAT's entries of a file of which the blocks were read that its listing needs: those of each file that has the same
 /// bytes in those blocks.
-fn fat_entries(alloc: Global, header: &Header, file: &Places) -> Result<Vec<u32>, AllocError>
+pub(crate) fn fat_entries(
+    alloc: Global,
+    header: &Header,
+    file: &Places,
+) -> Result<Vec<u32>, AllocError>
     requires read { header_read file.now ≡ Ok header.now }
     ensures over { IfOk result (λ v. (a : List ℕ) → Alike a file.now → (t : Tree) → (d : Denotes a t) → IsOver a d.layout (directory_of a d.layout) v.items) }
 {

@@ -1,5 +1,6 @@
-//! Why a stream isn't copied.
+//! Why a stream isn't copied, or read.
 
+use std::alloc::AllocError;
 use thiserror::Error;
 
 /// Why blocks aren't copied.
@@ -14,4 +15,26 @@ pub enum CopyFault {
     /// No memory was left.
     #[error("no memory is left")]
     NoMemory,
+}
+
+/// Why blocks aren't read.
+#[derive(Debug, Clone, Copy, PartialEq, Eq, Error)]
+pub enum SeekFault {
+    /// A read fails.
+    #[error("reading fails")]
+    Unreadable,
+    /// No memory was left.
+    #[error("no memory is left")]
+    NoMemory,
+}
+
+impl From<AllocError> for SeekFault {
+    ghost use Rattle.std.specs.Prelude.{◌≡◌};
+    ghost use Rattle.stream_seeking.specs.declared.fault.SeekFault.TheVariants.{NoMemory};
+
+    ghost from_gives = { λ _ e. e ≡ NoMemory };
+
+    fn from(_: AllocError) -> Self {
+        SeekFault::NoMemory
+    }
 }

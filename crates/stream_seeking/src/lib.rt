@@ -7,3 +7,4 @@ mod chains;
 pub mod copying;
 pub mod fault;
 mod filling;
+pub mod tables;

@@ -7,7 +7,8 @@ use Rattle.file_outline.specs.View.{outline_view}
 use Rattle.stream_io.proofs.ReadingAlike.{alike_read}
 use Rattle.stream_io.proofs.ReadingTold.{read_refused}
 use Rattle.file_listings.specs.Lists.{ListsAs}
-use Rattle.file_listings.proofs.Listed.{lists, placed_in}
+use Rattle.stream_seeking.proofs.Alike.{placed_in}
+use Rattle.file_listings.proofs.Listed.{lists}
 use Rattle.file_commands.specs.Run.{IsOfWriting, MayRefuseList}
 use Rattle.file_commands.specs.declared.fault.ListFault.TheVariants as list
 use Rattle.file_commands.proofs.Listed.{err_map, no_fault, not_written, ok_map, outlined_alike, some_map}

@@ -1,0 +1,4 @@
+//! Writing a compound file anew of one that can be sought in.
+#![tactic(auto)]
+
+pub mod cleaning;

@@ -1,0 +1,43 @@
+//! Why the tree of a file isn't read.
+
+ghost use Rattle.std.specs.Prelude.{◌≡◌};
+ghost use Rattle.tree_seeking.specs.Sources.{of_places_fault, of_seek_fault};
+
+use file_places::fault::PlacesFault;
+use stream_io::fault::ReadFault;
+use stream_seeking::fault::SeekFault;
+use texts::input::InputFault;
+use thiserror::Error;
+
+/// Why the tree of a file that can be sought in isn't read.
+#[derive(Debug, Clone, Copy, PartialEq, Eq, Error)]
+pub enum SourceFault {
+    /// The file isn't read.
+    #[error("{0}")]
+    Input(InputFault),
+    /// The bytes denote no tree.
+    #[error("{0}")]
+    Read(ReadFault),
+}
+
+/// A fault of a file of which only some blocks are read.
+pub(crate) fn of_places(fault: PlacesFault) -> SourceFault
+    ensures { result ≡ of_places_fault fault }
+{
+    match fault {
+        PlacesFault::Unreadable => SourceFault::Input(InputFault::Unreadable),
+        PlacesFault::TooBig => SourceFault::Input(InputFault::TooBig),
+        PlacesFault::NoMemory => SourceFault::Input(InputFault::NoMemory),
+        PlacesFault::Header(fault) => SourceFault::Read(ReadFault::from(fault)),
+    }
+}
+
+/// A fault of a stream that is read.
+pub(crate) fn of_seeking(fault: SeekFault) -> SourceFault
+    ensures { result ≡ of_seek_fault fault }
+{
+    match fault {
+        SeekFault::Unreadable => SourceFault::Input(InputFault::Unreadable),
+        SeekFault::NoMemory => SourceFault::Input(InputFault::NoMemory),
+    }
+}
