@@ -1,8 +1,10 @@
-use Rattle.std.proofs.Common.{◌==◌, if◌then◌else◌, ap, refl, ◌∙◌, ℕ}
+use Rattle.std.proofs.Common.{◌==◌, if◌then◌else◌, ap, refl, ◌∙◌, ℕ, ◌≡◌, rules}
 use Rattle.script_model.specs.Bounds.{Pace, pace, resting}
 use Rattle.script_links.specs.Links.{beside}
 use Rattle.script_links.specs.Ready.{pace_beside}
 use Rattle.script_links.proofs.Paces.{apart_on, may_read, paced_on, read_on}
+use Rattle.std.specs.Result.{IsErrAnd}
+use Rattle.script_links.proofs.Shown.{passed_on}
 use Rattle.script_links.proofs.links.hear.Goals as goal
 
 pub read_some-requires-clause-within : goal.read_some-requires-clause-within
@@ -29,3 +31,13 @@ loop-reads-preserved g c = record {
   served = c.in_ok-read_some.ensures.served;
   ordered = c.read_some.ensures.ordered ∙ c.take_frames.ensures.ordered ∙ c.loop-reads.invariant.ordered;
 }
+
+pub returns-in_err-heard-clause-shown : goal.returns-in_err-heard-clause-shown
+returns-in_err-heard-clause-shown g c =
+    let again : IsErrAnd c.from_residual-in_err-heard.result (λ x. x ≡ c.in_err-heard.field-0.0) = search rules in
+    passed_on c.from_residual-in_err-heard.result c.in_err-heard.field-0.0 (g.H.Host.told c.take_frames-heard.new.host) again c.in_err-heard.ensures.shown
+
+pub returns-in_err-read_some-clause-shown : goal.returns-in_err-read_some-clause-shown
+returns-in_err-read_some-clause-shown g c =
+    let again : IsErrAnd c.from_residual-in_err-read_some.result (λ x. x ≡ c.in_err-read_some.field-0.0) = search rules in
+    passed_on c.from_residual-in_err-read_some.result c.in_err-read_some.field-0.0 (g.H.Host.told c.read_some.new.host) again c.in_err-read_some.ensures.shown
