@@ -300,8 +300,11 @@ none_ended es ls new place inc d within is single linked rest =
 -- ---- turns that were had
 
 -- a turn of a server is counted
+next_of : (p : Pace) → p.is_anew ≡ false → sending p ≡ record { turns = p.turns + 1; anew = 0; reads = 0; is_anew = false }
+next_of p sent = ap (λ b. if b then record { turns = p.turns; anew = p.anew; reads = p.reads; is_anew = false } else record { turns = p.turns + 1; anew = 0; reads = 0; is_anew = false }) sent
+
 sent_next : (p : Pace) → p.is_anew ≡ false → (sending p).turns ≡ p.turns + 1
-sent_next p sent = ap (λ b. (if b then record { turns = p.turns; anew = p.anew; reads = p.reads; is_anew = false } else record { turns = p.turns + 1; anew = 0; reads = 0; is_anew = false }).turns) sent
+sent_next p sent = ap (λ (q : Pace). q.turns) (next_of p sent)
 
 had_next : (n : ℕ) (before now : Pace) → HadTurn before now → n ≤ (sending before).turns → n + 1 ≤ (sending now).turns
 had_next n before now had least = let same = had.turns in let next = sent_next now had.sent in omega (arith, least, same, next)
@@ -322,6 +325,12 @@ without : (b : Bool) (n : ℕ) → b ≡ false → n ≡ 0 → n + (if b then 1 
 without true n is none = absurd (cc)
 without false n is none = omega (arith, none)
 
+nothing_behind : (s : ℕ) (ls : List Link) (place : ℕ) → length ls ≤ place → links_of s (drop place ls) ≡ 0
+nothing_behind s [] zero past = refl
+nothing_behind s [] (suc place) past = refl
+nothing_behind s (l ∷ ls) zero past = absurd (omega (arith, past))
+nothing_behind s (l ∷ ls) (suc place) past = nothing_behind s ls place (omega (arith, past))
+
 module _ {D : Type 0} where
   pub due_first : (es : List (Event D)) (ls : List Link) → AreReady 1 es ls → AreDue 1 es ls
   due_first es ls ready = λ s some. (ready s some).first
@@ -332,12 +341,6 @@ module _ {D : Type 0} where
     all = due;
     before = λ s some none. let zero : links_of s ls ≡ 0 = subst (λ (k : ℕ). links_of s (drop k ls) ≡ 0) first none in absurd (omega (arith, zero, some));
   }
-
-  nothing_behind : (s : ℕ) (ls : List Link) (place : ℕ) → length ls ≤ place → links_of s (drop place ls) ≡ 0
-  nothing_behind s [] zero past = refl
-  nothing_behind s [] (suc place) past = refl
-  nothing_behind s (l ∷ ls) zero past = absurd (omega (arith, past))
-  nothing_behind s (l ∷ ls) (suc place) past = nothing_behind s ls place (omega (arith, past))
 
   -- all had their turn
   pub had_all : (n : ℕ) (es : List (Event D)) (ls : List Link) (place : ℕ) → length ls ≤ place → HaveHad n es ls place → AreDue (n + 1) es ls

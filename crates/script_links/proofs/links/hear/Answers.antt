@@ -22,6 +22,7 @@ loop-reads-preserved g c = record {
   told = c.read_some.ensures.told c.take_frames.new.core c.take_frames.ensures.told;
   still = λ s. c.read_some.ensures.still s ∙ c.take_frames.ensures.still s ∙ c.loop-reads.invariant.still s;
   same = c.read_some.ensures.same ∙ c.take_frames.ensures.same ∙ c.loop-reads.invariant.same;
+  holding = c.read_some.ensures.holding ∙ c.take_frames.ensures.holding ∙ c.loop-reads.invariant.holding;
   apart = apart_on beside c.args.link.now.inc c.loop-reads.link.inc c.take_frames.new.link.inc (g.H.Host.told c.args.host.now) (g.H.Host.told c.loop-reads.host) (g.H.Host.told c.take_frames.new.host) (g.H.Host.told c.read_some.new.host) c.loop-reads.invariant.same c.take_frames.ensures.same c.loop-reads.invariant.apart c.take_frames.ensures.apart c.read_some.ensures.apart;
   aside = apart_on pace_beside c.args.link.now.inc c.take_frames.new.link.inc c.take_frames.new.link.inc (g.H.Host.told c.args.host.now) (g.H.Host.told c.take_frames.new.host) (g.H.Host.told c.take_frames.new.host) (g.H.Host.told c.read_some.new.host) (c.take_frames.ensures.same ∙ c.loop-reads.invariant.same) refl
       (λ s. ap (λ (p : Pace). if c.args.link.now.inc == s then resting else p) (c.take_frames.ensures.paced s) ∙ c.loop-reads.invariant.aside s) (λ s. refl) c.read_some.ensures.aside;
@@ -34,8 +35,8 @@ loop-reads-preserved g c = record {
 
 pub returns-in_err-heard-clause-shown : goal.returns-in_err-heard-clause-shown
 returns-in_err-heard-clause-shown g c =
-    let again : IsErrAnd c.from_residual-in_err-heard.result (λ x. x ≡ c.in_err-heard.field-0.0) = search rules in
-    passed_on c.from_residual-in_err-heard.result c.in_err-heard.field-0.0 (g.H.Host.told c.take_frames-heard.new.host) again c.in_err-heard.ensures.shown
+    let again : IsErrAnd c.from_residual.result (λ x. x ≡ c.in_err-heard.field-0.0) = search rules in
+    passed_on c.from_residual.result c.in_err-heard.field-0.0 (g.H.Host.told c.take_frames.new.host) again c.in_err-heard.ensures.shown
 
 pub returns-in_err-read_some-clause-shown : goal.returns-in_err-read_some-clause-shown
 returns-in_err-read_some-clause-shown g c =

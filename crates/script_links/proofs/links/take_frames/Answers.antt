@@ -11,7 +11,7 @@ returns-in-Ok-Some-Turn-clause-served g c = turn_taken (passed c.loop.link.inc (
 pub meet-requires-clause-served : goal.meet-requires-clause-served
 meet-requires-clause-served g c = message_taken (passed c.loop.link.inc (g.H.Host.told c.loop.host)) c.loop.link c.next.new.self c.in-Ok-Some-Message.taken c.next.result (cc) c.next.ensures c.loop.invariant.served
 
-pub returns-in_err-meet-clause-shown : goal.returns-in_err-meet-clause-shown
-returns-in_err-meet-clause-shown g c =
+pub returns-in_err-meet-in-Ok-Some-Message-clause-shown : goal.returns-in_err-meet-in-Ok-Some-Message-clause-shown
+returns-in_err-meet-in-Ok-Some-Message-clause-shown g c =
     let again : IsErrAnd c.from_residual.result (λ x. x ≡ c.in_err-meet.field-0.0) = search rules in
     passed_on c.from_residual.result c.in_err-meet.field-0.0 (g.H.Host.told c.meet.new.host) again c.in_err-meet.ensures.shown
