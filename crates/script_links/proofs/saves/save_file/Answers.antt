@@ -20,16 +20,25 @@ returns-in_err-name-clause-shown g c = memory_on c.from_residual.result (g.H.Hos
 
 pub returns-in_err-committed-in-Ok-Kept-clause-shown : goal.returns-in_err-committed-in-Ok-Kept-clause-shown
 returns-in_err-committed-in-Ok-Kept-clause-shown g c =
-    let again : IsErrAnd c.from_residual-in_err-committed.result (λ x. x ≡ c.in_err-committed.field-0.0) = search rules in
-    passed_on c.from_residual-in_err-committed.result c.in_err-committed.field-0.0 (g.H.Host.told c.committed.new.host) again c.in_err-committed.ensures.shown
+    let again : IsErrAnd c.from_residual-in_err-committed-in-Ok-Kept.result (λ x. x ≡ c.in_err-committed-in-Ok-Kept.field-0.0) = search rules in
+    passed_on c.from_residual-in_err-committed-in-Ok-Kept.result c.in_err-committed-in-Ok-Kept.field-0.0 (g.H.Host.told c.committed.new.host) again c.in_err-committed-in-Ok-Kept.ensures.shown
 
 pub returns-in_err-lose-in-Ok-Lost-clause-shown : goal.returns-in_err-lose-in-Ok-Lost-clause-shown
 returns-in_err-lose-in-Ok-Lost-clause-shown g c =
-    let again : IsErrAnd c.from_residual-in_err-lose.result (λ x. x ≡ c.in_err-lose.field-0.0) = search rules in
-    passed_on c.from_residual-in_err-lose.result c.in_err-lose.field-0.0 (g.H.Host.told c.lose.new.host) again c.in_err-lose.ensures.shown
+    let again : IsErrAnd c.from_residual-in_err-lose-in-Ok-Lost.result (λ x. x ≡ c.in_err-lose-in-Ok-Lost.field-0.0) = search rules in
+    passed_on c.from_residual-in_err-lose-in-Ok-Lost.result c.in_err-lose-in-Ok-Lost.field-0.0 (g.H.Host.told c.lose.new.host) again c.in_err-lose-in-Ok-Lost.ensures.shown
 
 pub returns-clause-shown : goal.returns-clause-shown
 returns-clause-shown g c =
     subst (λ (n : List ℕ). IsUnknown (g.H.Host.told c.commit.new.host) n) c.deref.ensures.value
     (unknown_by (g.H.Host.told c.commit.new.host) c.args.core.now c.args.frame c.in-Some.found.now c.deref.result.now c.args.file.now (c.commit.ensures.told c.args.core.now c.requires.told) c.in-Err.ensures.unopened (sym c.in-Some.ensures)
     (c.deref.ensures.value ∙ c.in_ok-name.ensures) c.requires.image)
+
+pub committed-requires-clause-told : goal.committed-requires-clause-told
+committed-requires-clause-told g c = c.commit.ensures.told c.args.core.now c.requires.told
+
+pub lose-requires-clause-told : goal.lose-requires-clause-told
+lose-requires-clause-told g c = c.commit.ensures.told c.args.core.now c.requires.told
+
+pub returns-clause-told : goal.returns-clause-told
+returns-clause-told g c = c.commit.ensures.told c.args.core.now c.requires.told
