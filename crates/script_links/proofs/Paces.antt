@@ -367,9 +367,9 @@ module _ {D : Type 0} where
               either_least (old.inc == s) (pace s after) (pace s es) (n + 1) (aside s)
               (λ this. this_one s this)
               (λ other.
-                let rest : links_of s (drop (suc place) ls) ≡ 0 = sym (ap (links_of s) (ap (λ (k : ℕ). drop k (slice_set ls place new)) (next place) ∙ behind_set ls place new)) ∙ none in
-                let not_here : ((slice_index_or ls place old).inc == s) ≡ false = ap (λ (x : Link). x.inc == s) (sym is) ∙ other in
-                u.before s (subst (λ (k : ℕ). 1 ≤ k) (links s) some) (behind s ls place old within ∙ without ((slice_index_or ls place old).inc == s) (links_of s (drop (suc place) ls)) not_here rest));
+              let rest : links_of s (drop (suc place) ls) ≡ 0 = sym (ap (links_of s) (ap (λ (k : ℕ). drop k (slice_set ls place new)) (next place) ∙ behind_set ls place new)) ∙ none in
+              let not_here : ((slice_index_or ls place old).inc == s) ≡ false = ap (λ (x : Link). x.inc == s) (sym is) ∙ other in
+              u.before s (subst (λ (k : ℕ). 1 ≤ k) (links s) some) (behind s ls place old within ∙ without ((slice_index_or ls place old).inc == s) (links_of s (drop (suc place) ls)) not_here rest));
         }
 
     -- it was ended

@@ -1,5 +1,5 @@
 -- What a history shows of an error, and which links hold what comes.
-use Rattle.std.proofs.Common.{◌≡◌, inl, inr, ◌≤◌, ◌<◌, ◌+◌, ◌==◌, ◌&&◌, ℕ, zero, suc, Bool, true, false, List, [], ◌∷◌, length, remove, drop, if◌then◌else◌, Option, Some, None, Result, Ok, Err, IfErr, refl, sym, ap, ◌∙◌, subst, arith, slice_index_or, slice_set}
+use Rattle.std.proofs.Common.{◌≡◌, inl, inr, ◌≤◌, ◌<◌, ◌+◌, ◌==◌, ◌&&◌, ℕ, zero, suc, Bool, true, false, List, [], ◌∷◌, length, remove, if◌then◌else◌, Option, Some, None, Result, Ok, Err, IfErr, refl, sym, ap, ◌∙◌, subst, arith, slice_index_or, slice_set}
 use Rattle.std.specs.Prelude.{◌||◌, is_some}
 use Rattle.std.specs.Result.{IsErrAnd}
 use Rattle.std.proofs.lemmas.Bool.{eq-eqb}
@@ -10,9 +10,9 @@ use Rattle.container_model.specs.declared.record.Link.{Link as Activation}
 use Rattle.container_model.specs.declared.record.Object.{Object}
 use Rattle.container_model.specs.Saves.{image as image_of}
 use Rattle.store_model.specs.declared.disk.Disk.{Ghosts as Disks}
-use Rattle.script_model.specs.Bounds.{pace, sending}
+use Rattle.script_model.specs.Bounds.{pace}
 use Rattle.script_model.specs.Errors.{IsMissing, IsUnanswered, IsUnknown, IsUnopened, asks, is_asked}
-use Rattle.script_model.specs.Events.{Event, Opened, Shut, running}
+use Rattle.script_model.specs.Events.{Event, Opened, Shut}
 use Rattle.script_model.specs.Saved.{file_name}
 use Rattle.script_links.specs.Links.{AreLinked, HoldFor, links_of}
 use Rattle.script_links.specs.Ready.{AreDue}
