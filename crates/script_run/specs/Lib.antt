@@ -1,4 +1,3 @@
 pub mod Again
 pub mod Came
 pub mod Carried
-pub mod Faults

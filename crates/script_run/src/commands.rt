@@ -2,18 +2,15 @@
 
 ghost use Rattle.container_model.specs.Record.{Record};
 ghost use Rattle.script_model.specs.Bounds.{linking, pace, resting};
-ghost use Rattle.script_model.specs.Errors.{behind_hold};
 ghost use Rattle.script_model.specs.Events.{running};
 ghost use Rattle.script_model.specs.Orders.{behind_command, orders};
 ghost use Rattle.script_model.specs.Origins.{AreNext, Passed, giving, passed};
 ghost use Rattle.script_model.specs.declared.step.Step.{Step};
-ghost use Rattle.script_links.specs.Links.{AreLinked, AreServed, EachServed, HoldFor, IsLinkAt, beside, links_of};
+ghost use Rattle.script_links.specs.Links.{AreLinked, AreServed, EachServed, beside, links_of};
 ghost use Rattle.script_links.specs.Ready.{AreReady, MayLink, pace_beside};
-ghost use Rattle.script_links.specs.Shown.{Shows};
 ghost use Rattle.script_links.specs.Told.{IsTold};
-ghost use Rattle.script_links.specs.declared.fault.ScriptFault.TheVariants.{NoMemory};
 ghost use Rattle.script_links.specs.declared.links.Link.{Link};
-ghost use Rattle.std.specs.Prelude.{◌≡◌, ◌==◌, ◌≤◌, ◌<◌, ◌++◌, ◌∷◌, [], Bool, None, false, if◌then◌else◌, true, IfErr, IfOk, IfSome, OnOk, length, ℕ, slice_index_or, slice_set, vec_capacity, vec_len};
+ghost use Rattle.std.specs.Prelude.{◌≡◌, ◌≤◌, ◌<◌, ◌++◌, ◌∷◌, [], false, true, IfOk, IfSome, OnOk, length, ℕ, slice_index_or, slice_set, vec_capacity, vec_len};
 
 use crate::opens::open;
 use container_core::container::ContainerCore;
@@ -38,12 +35,10 @@ use wire_msgs::message::Message;
 
 /// Where the link of a server stands.
 fn place_of(links: &[Link], inc: u32) -> Option<usize>
-    ensures within { IfSome result (λ i. i < length links.now) }
-    ensures found { IfSome result (λ i. IsLinkAt links.now i inc) }
-    ensures missing { result ≡ None → links_of inc links.now ≡ 0 }
+    ensures { IfSome result (λ i. i < length links.now) }
 {
-    for place in 0..links.len() {
-        if links[place].inc == inc {
+    for (place, link) in links.iter().enumerate() {
+        if link.inc == inc {
             return Some(place);
         }
     }
@@ -62,7 +57,7 @@ fn is_linked(links: &[Link], inc: u32) -> bool
     false
 }
 
-/// Starts a server, and makes its link, unless it has one. The container stays as it is.
+/// Starts a server, and makes its link. The container stays as it is.
 fn start<H: Host>(
     alloc: Global,
     host: &mut H,
@@ -78,11 +73,9 @@ fn start<H: Host>(
     ensures served { AreServed (H.told host.new) links.new.items }
     ensures paced { (s : ℕ) → pace s (H.told host.new) ≡ pace s (H.told host.old) }
     ensures ordered { orders (H.told host.new) ≡ orders (H.told host.old) }
-    ensures holding { (f : ℕ → Bool) → HoldFor f links.old.items → HoldFor f links.new.items }
-    ensures shown { IfErr result (λ fault. Shows (H.told host.new) fault) }
 {
     if is_linked(links, inc) {
-        return Ok(());
+        return Err(ScriptFault::Link(inc));
     }
     links.reserve(1)?;
     match host.start(inc) {
@@ -119,8 +112,6 @@ fn end<H: Host>(
     ensures served { AreServed (H.told host.new) links.new.items }
     ensures paced { (s : ℕ) → pace s (H.told host.new) ≡ pace s (H.told host.old) }
     ensures ordered { orders (H.told host.new) ≡ orders (H.told host.old) }
-    ensures holding { (f : ℕ → Bool) → HoldFor f links.old.items → HoldFor f links.new.items }
-    ensures shown { IfErr result (λ fault. Shows (H.told host.new) fault) }
 {
     match place_of(links, inc) {
         Some(place) => end_at(alloc, host, core, links, place, noticed),
@@ -145,8 +136,6 @@ fn act_on<H: Host>(
     ensures served { AreServed (H.told host.new) links.new.items }
     ensures paced { (s : ℕ) → pace s (H.told host.new) ≡ pace s (H.told host.old) }
     ensures ordered { orders (H.told host.new) ≡ orders (H.told host.old) }
-    ensures holding { (f : ℕ → Bool) → HoldFor f links.old.items → HoldFor f links.new.items }
-    ensures shown { IfErr result (λ fault. Shows (H.told host.new) fault) }
 {
     match action {
         Action::Start(inc) => start(alloc, host, core, links, *inc),
@@ -172,8 +161,6 @@ fn act<H: Host>(
     ensures served { AreServed (H.told host.new) links.new.items }
     ensures paced { (s : ℕ) → pace s (H.told host.new) ≡ pace s (H.told host.old) }
     ensures ordered { orders (H.told host.new) ≡ orders (H.told host.old) }
-    ensures holding { (f : ℕ → Bool) → HoldFor f links.old.items → HoldFor f links.new.items }
-    ensures shown { IfErr result (λ fault. Shows (H.told host.new) fault) }
 {
     for action in answer.actions.as_slice() {
         act_on(alloc, host, core, links, action, noticed)?;
@@ -198,8 +185,6 @@ fn order<H: Host>(
     ensures served { AreServed (H.told host.new) links.new.items }
     ensures paced { (s : ℕ) → pace s (H.told host.new) ≡ pace s (H.told host.old) }
     ensures ordered { orders (H.told host.new) ≡ Step.Command ordered ∷ orders (H.told host.old) }
-    ensures holding { (f : ℕ → Bool) → HoldFor f links.old.items → HoldFor f links.new.items }
-    ensures shown { IfErr result (λ fault. Shows (H.told host.new) fault) }
 {
     match command(alloc, host, core, ordered) {
         Ok(answer) => {
@@ -230,8 +215,6 @@ fn cut<H: Host>(
     ensures served { AreServed (H.told host.new) links.new.items }
     ensures ready { OnOk result (AreReady 1 (H.told host.new) links.new.items) }
     ensures ordered { orders (H.told host.new) ≡ orders (H.told host.old) }
-    ensures holding { (f : ℕ → Bool) → HoldFor f links.old.items → HoldFor f links.new.items }
-    ensures shown { IfErr result (λ fault. Shows (H.told host.new) fault) }
 {
     let inc = links[place].inc;
     send_turn(alloc, host, core, inc)?;
@@ -258,7 +241,6 @@ fn hand_all<H: Host>(
     ensures given { IfOk result (λ all. all ≡ true → passed inc (H.told host.new) ≡ giving waiting (passed inc (H.told host.old))) }
     ensures paced { (s : ℕ) → pace s (H.told host.new) ≡ pace s (H.told host.old) }
     ensures ordered { orders (H.told host.new) ≡ orders (H.told host.old) }
-    ensures shown { IfErr result (λ fault. Shows (H.told host.new) fault) }
 {
     for taken in waiting.into_vec() {
         if !hand_over(alloc, host, core, inc, taken, noticed)? {
@@ -273,7 +255,6 @@ fn let_go(alloc: Global, links: &mut Vec<Link>, place: usize) -> Items<Message>
     requires { place < length links.old.items }
     ensures same { (s : ℕ) → links_of s links.new.items ≡ links_of s links.old.items }
     ensures changed { (d : Link) → links.new.items ≡ slice_set links.old.items place (record (slice_index_or links.old.items place d) { held = false; waiting = [] }) }
-    ensures released { (f : ℕ → Bool) (d : Link) → links_of (slice_index_or links.old.items place d).inc links.old.items ≤ 1 → HoldFor f links.old.items → HoldFor (λ s. if (slice_index_or links.old.items place d).inc == s then false else f s) links.new.items }
     ensures waited { (d : Link) → result ≡ (slice_index_or links.old.items place d).waiting }
     ensures many { length links.new.items ≡ length links.old.items }
 {
@@ -297,7 +278,6 @@ fn reconnect_at<H: Host>(alloc: Global, host: &mut H, links: &mut Vec<Link>, pla
     ensures aside { (d : Link) (s : ℕ) → pace_beside (slice_index_or links.old.items place d).inc s (H.told host.new) ≡ pace_beside (slice_index_or links.old.items place d).inc s (H.told host.old) }
     ensures made { (d : Link) → pace (slice_index_or links.old.items place d).inc (H.told host.new) ≡ linking result (pace (slice_index_or links.old.items place d).inc (H.told host.old)) }
     ensures ordered { orders (H.told host.new) ≡ orders (H.told host.old) }
-    ensures holding { (f : ℕ → Bool) → HoldFor f links.old.items → HoldFor f links.new.items }
 {
     reconnect(alloc, host, &mut links[place])
 }
@@ -320,8 +300,6 @@ fn release<H: Host>(
     ensures served { OnOk result (AreServed (H.told host.new) links.new.items) }
     ensures paced { (s : ℕ) → pace s (H.told host.new) ≡ pace s (H.told host.old) }
     ensures ordered { orders (H.told host.new) ≡ orders (H.told host.old) }
-    ensures released { (f : ℕ → Bool) (d : Link) → HoldFor f links.old.items → HoldFor (λ s. if (slice_index_or links.old.items place d).inc == s then false else f s) links.new.items }
-    ensures shown { IfErr result (λ fault. Shows (H.told host.new) fault) }
 {
     let inc = links[place].inc;
     let waiting = let_go(alloc, links, place);
@@ -336,18 +314,17 @@ fn hold(links: &mut Vec<Link>, place: usize)
     requires { place < length links.old.items }
     ensures same { (s : ℕ) → links_of s links.new.items ≡ links_of s links.old.items }
     ensures served { (f : ℕ → Passed) → EachServed f links.old.items → EachServed f links.new.items }
-    ensures holding { (f : ℕ → Bool) (d : Link) → HoldFor f links.old.items → HoldFor (λ s. if (slice_index_or links.old.items place d).inc == s then true else f s) links.new.items }
 {
     links[place].held = true;
 }
 
-/// Cuts the link of a server, where there is one.
-fn cut_link<H: Host>(
+/// A command about the link of a server: none where there is no such server.
+fn at_link<H: Host>(
     alloc: Global,
     host: &mut H,
     core: &mut ContainerCore,
     links: &mut Vec<Link>,
-    inc: u32,
+    command: &ScriptCommand,
     noticed: &mut Option<Told>,
 ) -> Result<Told, ScriptFault>
     requires told { IsTold ⟦<H::Disk as Disk>⟧ (H.told host.old) core.old }
@@ -356,63 +333,23 @@ fn cut_link<H: Host>(
     requires rested { (s : ℕ) → pace s (H.told host.old) ≡ resting }
     ensures told { IsTold ⟦<H::Disk as Disk>⟧ (H.told host.new) core.new }
     ensures linked { AreLinked (H.told host.new) links.new.items }
-    ensures served { AreServed (H.told host.new) links.new.items }
+    ensures served { OnOk result (AreServed (H.told host.new) links.new.items) }
     ensures ready { OnOk result (AreReady 1 (H.told host.new) links.new.items) }
     ensures ordered { orders (H.told host.new) ≡ orders (H.told host.old) }
-    ensures holding { (f : ℕ → Bool) → HoldFor f links.old.items → HoldFor f links.new.items }
-    ensures shown { IfErr result (λ fault. Shows (H.told host.new) fault) }
 {
-    match place_of(links, inc) {
-        Some(place) => {
-            cut(alloc, host, core, links, place, noticed)?;
-            Ok(Told::Done)
-        }
-        None => Ok(Told::Fault(ContainerFault::NoSuch)),
+    let inc = match command {
+        ScriptCommand::Cut(inc) | ScriptCommand::Hold(inc) | ScriptCommand::Release(inc) => *inc,
+        _ => return Ok(Told::Done),
+    };
+    let Some(place) = place_of(links, inc) else {
+        return Ok(Told::Fault(ContainerFault::NoSuch));
+    };
+    match command {
+        ScriptCommand::Cut(_) => cut(alloc, host, core, links, place, noticed)?,
+        ScriptCommand::Release(_) => release(alloc, host, core, links, place, noticed)?,
+        _ => hold(links, place),
     }
-}
-
-/// What comes on the link of a server waits from now on, where there is one.
-fn hold_link(links: &mut Vec<Link>, inc: u32) -> Told
-    ensures same { (s : ℕ) → links_of s links.new.items ≡ links_of s links.old.items }
-    ensures served { (f : ℕ → Passed) → EachServed f links.old.items → EachServed f links.new.items }
-    ensures holding { (f : ℕ → Bool) → HoldFor f links.old.items → HoldFor (λ s. if inc == s then true else f s) links.new.items }
-{
-    match place_of(links, inc) {
-        Some(place) => {
-            hold(links, place);
-            Told::Done
-        }
-        None => Told::Fault(ContainerFault::NoSuch),
-    }
-}
-
-/// Hands over what waits of a server, where it has a link, which holds nothing any more.
-fn release_link<H: Host>(
-    alloc: Global,
-    host: &mut H,
-    core: &mut ContainerCore,
-    links: &mut Vec<Link>,
-    inc: u32,
-    noticed: &mut Option<Told>,
-) -> Result<Told, ScriptFault>
-    requires told { IsTold ⟦<H::Disk as Disk>⟧ (H.told host.old) core.old }
-    requires linked { AreLinked (H.told host.old) links.old.items }
-    requires served { AreServed (H.told host.old) links.old.items }
-    ensures told { IsTold ⟦<H::Disk as Disk>⟧ (H.told host.new) core.new }
-    ensures linked { AreLinked (H.told host.new) links.new.items }
-    ensures served { OnOk result (AreServed (H.told host.new) links.new.items) }
-    ensures paced { (s : ℕ) → pace s (H.told host.new) ≡ pace s (H.told host.old) }
-    ensures ordered { orders (H.told host.new) ≡ orders (H.told host.old) }
-    ensures holding { (f : ℕ → Bool) → HoldFor f links.old.items → HoldFor (λ s. if inc == s then false else f s) links.new.items }
-    ensures shown { IfErr result (λ fault. Shows (H.told host.new) fault) }
-{
-    match place_of(links, inc) {
-        Some(place) => {
-            release(alloc, host, core, links, place, noticed)?;
-            Ok(Told::Done)
-        }
-        None => Ok(Told::Fault(ContainerFault::NoSuch)),
-    }
+    Ok(Told::Done)
 }
 
 /// Shows a frame.
@@ -421,9 +358,7 @@ fn show(
     core: &ContainerCore,
     frame: u32,
     text: &mut Vec<u8>,
-) -> Result<Told, ScriptFault>
-    ensures { IfErr result (λ fault. fault ≡ NoMemory) }
-{
+) -> Result<Told, ScriptFault> {
     match core.screen(alloc, frame) {
         Ok(shown) => {
             text.extend_from_slice(&shown)?;
@@ -453,16 +388,12 @@ fn begin<H: Host>(
     ensures served { OnOk result (AreServed (H.told host.new) links.new.items) }
     ensures ready { OnOk result (AreReady 1 (H.told host.new) links.new.items) }
     ensures ordered { orders (H.told host.new) ≡ behind_command command (orders (H.told host.old)) }
-    ensures holding { (f : ℕ → Bool) → HoldFor f links.old.items → OnOk result (HoldFor (λ s. behind_hold command s (f s)) links.new.items) }
-    ensures shown { IfErr result (λ fault. Shows (H.told host.new) fault) }
 {
     match command {
         ScriptCommand::Container(ordered) => order(alloc, host, core, links, ordered, noticed),
         ScriptCommand::Open(name, width, height) => open(alloc, host, core, name, width, height),
         ScriptCommand::Screen(frame) => show(alloc, core, frame, text),
-        ScriptCommand::Cut(inc) => cut_link(alloc, host, core, links, inc, noticed),
-        ScriptCommand::Hold(inc) => Ok(hold_link(links, inc)),
-        ScriptCommand::Release(inc) => release_link(alloc, host, core, links, inc, noticed),
+        other => at_link(alloc, host, core, links, &other, noticed),
     }
 }
 
@@ -483,8 +414,6 @@ pub(crate) fn carry_out<H: Host, W: Write>(
     ensures linked { AreLinked (H.told host.new) links.new.items }
     ensures served { OnOk result (AreServed (H.told host.new) links.new.items) }
     ensures ordered { orders (H.told host.new) ≡ behind_command command (orders (H.told host.old)) }
-    ensures holding { (f : ℕ → Bool) → HoldFor f links.old.items → OnOk result (HoldFor (λ s. behind_hold command s (f s)) links.new.items) }
-    ensures shown { IfErr result (λ fault. Shows (H.told host.new) fault) }
 {
     let mut noticed = None;
     let mut text = Vec::new(alloc);

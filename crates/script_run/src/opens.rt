@@ -8,8 +8,7 @@ ghost use Rattle.script_model.specs.Orders.{orders};
 ghost use Rattle.script_model.specs.Origins.{passed};
 ghost use Rattle.script_model.specs.Saved.{IsReadFrom, IsReadOf};
 ghost use Rattle.script_links.specs.Told.{IsTold};
-ghost use Rattle.script_links.specs.declared.fault.ScriptFault.TheVariants.{NoMemory};
-ghost use Rattle.std.specs.Prelude.{◌≡◌, ℕ, IfErr, IfOk, IfSome, Some};
+ghost use Rattle.std.specs.Prelude.{◌≡◌, ℕ, IfOk, IfSome, Some};
 
 use container_core::container::ContainerCore;
 use container_documents::reading::document_in;
@@ -81,7 +80,6 @@ fn make_frame<H: Host>(
     ensures quiet { (s : ℕ) → passed s (H.told host.new) ≡ passed s (H.told host.old) }
     ensures paced { (s : ℕ) → pace s (H.told host.new) ≡ pace s (H.told host.old) }
     ensures ordered { orders (H.told host.new) ≡ orders (H.told host.old) }
-    ensures lacking { IfErr result (λ fault. fault ≡ NoMemory) }
 {
     match opened(alloc, host, core, name, width, height, document, file) {
         Ok(answer) => Ok(opened_by(&answer)),
@@ -107,7 +105,6 @@ fn open_found<H: Host>(
     ensures quiet { (s : ℕ) → passed s (H.told host.new) ≡ passed s (H.told host.old) }
     ensures paced { (s : ℕ) → pace s (H.told host.new) ≡ pace s (H.told host.old) }
     ensures ordered { orders (H.told host.new) ≡ orders (H.told host.old) }
-    ensures lacking { IfErr result (λ fault. fault ≡ NoMemory) }
 {
     match document_in(alloc, file) {
         Ok(Some(document)) => make_frame(alloc, host, core, name, width, height, document, file),
@@ -135,7 +132,6 @@ pub(crate) fn open<H: Host>(
     ensures quiet { (s : ℕ) → passed s (H.told host.new) ≡ passed s (H.told host.old) }
     ensures paced { (s : ℕ) → pace s (H.told host.new) ≡ pace s (H.told host.old) }
     ensures ordered { orders (H.told host.new) ≡ orders (H.told host.old) }
-    ensures lacking { IfErr result (λ fault. fault ≡ NoMemory) }
 {
     match core.may_open(name.as_slice(), width, height) {
         Ok(()) => {}

@@ -1,9 +1,7 @@
-use Rattle.std.proofs.Common.{ap, ◌∙◌}
+use Rattle.std.proofs.Common.{ap}
 use Rattle.script_links.specs.declared.links.Link.{Link}
 use Rattle.script_links.proofs.Given.{same_links}
 use Rattle.script_links.proofs.Served.{hold_served}
-use Rattle.script_links.proofs.Paces.{any_at}
-use Rattle.script_run.proofs.Held.{hold_on}
 use Rattle.script_run.proofs.commands.hold.Goals as goal
 
 pub returns-clause-same : goal.returns-clause-same
@@ -11,6 +9,3 @@ returns-clause-same c = λ s. same_links s c.args.links.now.items c.args.place _
 
 pub returns-clause-served : goal.returns-clause-served
 returns-clause-served c = λ f all. hold_served f c.args.links.now.items c.args.place c.index_mut.result.now c.index_mut.ensures.value c.requires all
-
-pub returns-clause-holding : goal.returns-clause-holding
-returns-clause-holding c = λ f d hold. hold_on f c.args.links.now.items c.args.place _ d c.requires (ap (λ (l : Link). l.inc) (c.index_mut.ensures.value ∙ any_at c.args.links.now.items c.args.place c.index_mut.result.now d c.requires)) hold

@@ -1,12 +1,7 @@
-use Rattle.std.proofs.Common.{ap, ◌∙◌, refl}
+use Rattle.std.proofs.Common.{ap}
 use Rattle.script_links.specs.declared.links.Link.{Link}
 use Rattle.script_links.proofs.Given.{same_links}
-use Rattle.script_links.proofs.Paces.{any_at}
-use Rattle.script_run.proofs.Held.{hold_no_more}
 use Rattle.script_run.proofs.commands.let_go.Goals as goal
 
 pub returns-clause-same : goal.returns-clause-same
 returns-clause-same c = λ s. same_links s c.args.links.now.items c.args.place _ c.index_mut-link.result.now c.requires (ap (λ (l : Link). l.inc) c.index_mut-link.ensures.value)
-
-pub returns-clause-released : goal.returns-clause-released
-returns-clause-released c = λ f d few hold. hold_no_more f c.args.links.now.items c.args.place _ d c.requires refl few hold

@@ -1,10 +1,7 @@
-use Rattle.std.proofs.Common.{false, [], slice_index_or, ◌≡◌, rules, ◌==◌, ℕ, if◌then◌else◌}
+use Rattle.std.proofs.Common.{false, [], slice_index_or}
 use Rattle.script_model.specs.Origins.{passed}
 use Rattle.script_links.specs.Links.{AreServed}
 use Rattle.script_links.proofs.Served.{on_ok, others_placed, release_next, release_served}
-use Rattle.std.specs.Result.{IsErrAnd}
-use Rattle.script_links.proofs.Shown.{passed_on}
-use Rattle.script_links.proofs.Paces.{single_linked}
 use Rattle.script_run.proofs.commands.release.Goals as goal
 
 pub hand_all-requires-clause-next : goal.hand_all-requires-clause-next
@@ -24,17 +21,3 @@ end_at-requires-clause-served g c =
 
 pub returns-clause-served : goal.returns-clause-served
 returns-clause-served g c = on_ok c.end_at.result (AreServed (g.H.Host.told c.end_at.new.host) c.end_at.new.links.items) c.end_at.ensures.served
-
-pub returns-in_err-hand_all-clause-shown : goal.returns-in_err-hand_all-clause-shown
-returns-in_err-hand_all-clause-shown g c =
-    let again : IsErrAnd c.from_residual.result (λ x. x ≡ c.in_err-hand_all.field-0.0) = search rules in
-    passed_on c.from_residual.result c.in_err-hand_all.field-0.0 (g.H.Host.told c.hand_all.new.host) again c.in_err-hand_all.ensures.shown
-
-pub returns-in_err-hand_all-clause-released : goal.returns-in_err-hand_all-clause-released
-returns-in_err-hand_all-clause-released g c = λ f d hold. (c.let_go-waiting.ensures.released f d (single_linked (g.H.Host.told c.args.host.now) c.args.links.now.items (slice_index_or c.args.links.now.items c.args.place d).inc c.requires.told.single c.requires.linked) hold)
-
-pub returns-then-branch-clause-released : goal.returns-then-branch-clause-released
-returns-then-branch-clause-released g c = λ f d hold. (c.let_go-waiting.ensures.released f d (single_linked (g.H.Host.told c.args.host.now) c.args.links.now.items (slice_index_or c.args.links.now.items c.args.place d).inc c.requires.told.single c.requires.linked) hold)
-
-pub returns-clause-released : goal.returns-clause-released
-returns-clause-released g c = λ f d hold. c.end_at.ensures.holding (λ s. if (slice_index_or c.args.links.now.items c.args.place d).inc == s then false else f s) (c.let_go-waiting.ensures.released f d (single_linked (g.H.Host.told c.args.host.now) c.args.links.now.items (slice_index_or c.args.links.now.items c.args.place d).inc c.requires.told.single c.requires.linked) hold)

@@ -1,10 +1,6 @@
-use Rattle.std.proofs.Common.{◌≡◌, ◌≤◌, ◌+◌, [], ◌∷◌, ℕ, Bool, true, List, inr, subst, rules}
-use Rattle.std.specs.Result.{IsErrAnd}
+use Rattle.std.proofs.Common.{◌≡◌, ◌+◌, ◌∷◌, ℕ, List, rules, arith}
 use Rattle.std.specs.Vec.Iter.{into_iter_items}
-use Rattle.script_links.specs.Links.{HoldFor, links_of}
-use Rattle.script_links.specs.declared.links.Link.{Link}
-use Rattle.script_run.proofs.Carried.{so_far_begun_more, so_far_held, so_far_more}
-use Rattle.script_run.proofs.Faults.{passed_in}
+use Rattle.script_run.proofs.Carried.{SoFar, so_far_begun, so_far_more}
 use Rattle.script_run.proofs.script.carry_out_all.Goals as goal
 
 pub loop-place-preserved : goal.loop-place-preserved
@@ -17,7 +13,7 @@ loop-place-preserved g c =
       linked = c.carry_out.ensures.linked;
       served = c.in_ok-carry_out.ensures.served;
       so_far = so_far_more (g.H.Host.told c.loop-place.host) (g.H.Host.told c.begins.new.host) (g.H.Host.told c.carry_out.new.host) c.args.commands.items (into_iter_items c.loop-place.place-iterator.iter)
-          (into_iter_items c.next.new.self.iter) c.in-Some.command c.loop-place.place-iterator.count c.in-Some.place c.next.new.self.count c.loop-place.links.items c.carry_out.new.links.items c.loop-place.invariant.so_far at counts items c.begins.ensures.ordered c.carry_out.ensures.ordered c.in_ok-carry_out.ensures.holding;
+          (into_iter_items c.next.new.self.iter) c.in-Some.command c.loop-place.place-iterator.count c.in-Some.place c.next.new.self.count c.loop-place.invariant.so_far at counts items c.begins.ensures.ordered c.carry_out.ensures.ordered;
     }
 
 pub returns-in_err-carry_out-clause-begun : goal.returns-in_err-carry_out-clause-begun
@@ -25,17 +21,6 @@ returns-in_err-carry_out-clause-begun g c =
     let items : into_iter_items c.loop-place.place-iterator.iter ≡ c.in-Some.command ∷ into_iter_items c.next.new.self.iter = search rules in
     let at : c.in-Some.place ≡ c.loop-place.place-iterator.count = search rules in
     let counts : c.next.new.self.count ≡ c.loop-place.place-iterator.count + 1 = search rules in
-    so_far_begun_more (g.H.Host.told c.loop-place.host) (g.H.Host.told c.begins.new.host) (g.H.Host.told c.carry_out.new.host) c.args.commands.items (into_iter_items c.loop-place.place-iterator.iter)
-    (into_iter_items c.next.new.self.iter) c.in-Some.command c.loop-place.place-iterator.count c.in-Some.place c.next.new.self.count c.loop-place.links.items c.loop-place.invariant.so_far at counts items c.begins.ensures.ordered c.carry_out.ensures.ordered
-
-pub returns-in_err-carry_out-clause-faulted : goal.returns-in_err-carry_out-clause-faulted
-returns-in_err-carry_out-clause-faulted g c =
-    let again : IsErrAnd c.from_residual.result (λ x. x ≡ c.in_err-carry_out.field-0.0) = search rules in
-    passed_in c.from_residual.result c.args.commands.items (g.H.Host.told c.carry_out.new.host) c.in_err-carry_out.field-0.0 again c.in_err-carry_out.ensures.shown
-
-pub returns-then-is_any_held-clause-faulted : goal.returns-then-is_any_held-clause-faulted
-returns-then-is_any_held-clause-faulted g c =
-    let none : into_iter_items c.loop-place.place-iterator.iter ≡ [] = search rules in
-    let any : (f : ℕ → Bool) → HoldFor f c.loop-place.links.items → (s : ℕ) × (1 ≤ links_of s c.loop-place.links.items) × (f s ≡ true) =
-    subst (λ (ls : List Link). (f : ℕ → Bool) → HoldFor f ls → (s : ℕ) × (1 ≤ links_of s ls) × (f s ≡ true)) c.deref.ensures.value (c.is_any_held.ensures c.if-is_any_held.true) in
-    inr (so_far_held (g.H.Host.told c.loop-place.host) c.args.commands.items (into_iter_items c.loop-place.place-iterator.iter) c.loop-place.place-iterator.count c.loop-place.links.items none c.loop-place.invariant.so_far c.loop-place.invariant.linked any)
+    let now = so_far_more (g.H.Host.told c.loop-place.host) (g.H.Host.told c.begins.new.host) (g.H.Host.told c.carry_out.new.host) c.args.commands.items (into_iter_items c.loop-place.place-iterator.iter)
+    (into_iter_items c.next.new.self.iter) c.in-Some.command c.loop-place.place-iterator.count c.in-Some.place c.next.new.self.count c.loop-place.invariant.so_far at counts items c.begins.ensures.ordered c.carry_out.ensures.ordered in
+    so_far_begun (g.H.Host.told c.carry_out.new.host) c.args.commands.items (into_iter_items c.next.new.self.iter) c.next.new.self.count now
