@@ -4,3 +4,4 @@ pub mod Opened
 pub mod Paces
 pub mod Saved
 pub mod Served
+pub mod Shown

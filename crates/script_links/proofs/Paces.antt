@@ -6,7 +6,7 @@ use Rattle.script_model.specs.Events.{Event, Connected, Heard, Sent, running}
 use Rattle.container_model.specs.Record.{Record}
 use Rattle.store_model.specs.declared.disk.Disk.{Ghosts as Disks}
 use Rattle.script_links.specs.Links.{AreLinked, links_of}
-use Rattle.script_links.specs.Ready.{AreReady, GoesOn, HadTurn, HasLeft, IsReady, IsUnderway, MayLink, pace_beside}
+use Rattle.script_links.specs.Ready.{AreDue, AreReady, GoesOn, HadTurn, HasLeft, HaveHad, IsReady, IsUnderway, MayLink, pace_beside}
 use Rattle.script_links.specs.Told.{IsTold}
 use Rattle.script_links.specs.declared.links.Link.{Link}
 use Rattle.script_links.proofs.Served.{none_left, not_this, with_this}
@@ -22,6 +22,7 @@ next_turn : (n : ℕ) (p : Pace) → p.is_anew ≡ false → p.turns ≤ n → I
 next_turn n p sent few =
     let next : sending p ≡ record { turns = p.turns + 1; anew = 0; reads = 0; is_anew = false } = ap (λ b. if b then record { turns = p.turns; anew = p.anew; reads = p.reads; is_anew = false } else record { turns = p.turns + 1; anew = 0; reads = 0; is_anew = false }) sent in
     record {
+      first = subst (λ (q : Pace). 1 ≤ q.turns) (sym next) (omega arith);
       turns = subst (λ (q : Pace). q.turns ≤ n + 1) (sym next) (omega (arith, few));
       anew = subst (λ (q : Pace). q.anew + 1 ≤ most_anew q.turns) (sym next) (one_or_two (p.turns + 1 == 1));
       reads = ap (λ (q : Pace). q.reads) next;
@@ -32,10 +33,10 @@ had_turn n before now had ready = next_turn n now had.sent (let few = ready.turn
 
 -- a turn that may come later may come now
 pub sooner : (n m : ℕ) (p : Pace) → n ≤ m → IsReady n p → IsReady m p
-sooner n m p le ready = record { turns = let few = ready.turns in omega (arith, few, le); anew = ready.anew; reads = ready.reads }
+sooner n m p le ready = record { first = ready.first; turns = let few = ready.turns in omega (arith, few, le); anew = ready.anew; reads = ready.reads }
 
 pub rested : IsReady 1 resting
-rested = record { turns = omega arith; anew = omega arith; reads = refl }
+rested = record { first = omega arith; turns = omega arith; anew = omega arith; reads = refl }
 
 -- ---- a turn of a server
 
@@ -275,7 +276,7 @@ module _ {D : Type 0} where
     pub cut_ready : (ls : List Link) (b : Bool) → b ≡ true → pace inc sent ≡ sending (pace inc es) → pace inc made ≡ linking b (pace inc sent) → AreReady 1 made ls
     cut_ready ls b is first again = λ s some.
         let now : pace inc made ≡ linking true (sending resting) = again ∙ ap (λ (x : Bool). linking x (pace inc sent)) is ∙ ap (linking true) (first ∙ ap sending (rests inc)) in
-        let ready : IsReady 1 (linking true (sending resting)) = record { turns = omega arith; anew = omega arith; reads = refl } in
+        let ready : IsReady 1 (linking true (sending resting)) = record { first = omega arith; turns = omega arith; anew = omega arith; reads = refl } in
         either (inc == s) (pace s made) (pace s es) 1 (make s ∙ send s)
         (λ this. this_server inc s 1 made (subst (λ (p : Pace). IsReady 1 p) (sym now) ready) this)
         (λ other. subst (λ (p : Pace). IsReady 1 p) (sym (rests s)) rested)
@@ -295,3 +296,92 @@ pub none_ended : {D : Type 0} (es : List (Event D)) (ls new : List Link) (place 
 none_ended es ls new place inc d within is single linked rest =
     ap (links_of inc) rest ∙ ap (λ (i : ℕ). links_of i (remove ls place)) (sym is)
     ∙ none_left es ls place (slice_index_or ls place d) within (any_at ls place d (slice_index_or ls place d) within) single linked
+
+-- ---- turns that were had
+
+-- a turn of a server is counted
+next_of : (p : Pace) → p.is_anew ≡ false → sending p ≡ record { turns = p.turns + 1; anew = 0; reads = 0; is_anew = false }
+next_of p sent = ap (λ b. if b then record { turns = p.turns; anew = p.anew; reads = p.reads; is_anew = false } else record { turns = p.turns + 1; anew = 0; reads = 0; is_anew = false }) sent
+
+sent_next : (p : Pace) → p.is_anew ≡ false → (sending p).turns ≡ p.turns + 1
+sent_next p sent = ap (λ (q : Pace). q.turns) (next_of p sent)
+
+had_next : (n : ℕ) (before now : Pace) → HadTurn before now → n ≤ (sending before).turns → n + 1 ≤ (sending now).turns
+had_next n before now had least = let same = had.turns in let next = sent_next now had.sent in omega (arith, least, same, next)
+
+few_more : (b : Bool) (n : ℕ) (p q : Pace) → p.turns ≡ n → q.turns ≡ n + 1 → (if b then p else q).turns ≤ n + 1
+few_more true n p q one other = omega (arith, one)
+few_more false n p q one other = omega (arith, other)
+
+-- The turn that is sent next is at most one past those that were sent.
+pub one_past : (p : Pace) → (sending p).turns ≤ p.turns + 1
+one_past p = few_more p.is_anew p.turns (record { turns = p.turns; anew = p.anew; reads = p.reads; is_anew = false }) (record { turns = p.turns + 1; anew = 0; reads = 0; is_anew = false }) refl refl
+
+either_least : (b : Bool) (x y : Pace) (n : ℕ) → (if b then resting else x) ≡ (if b then resting else y) → (b ≡ true → n ≤ (sending x).turns) → (b ≡ false → n ≤ (sending y).turns) → n ≤ (sending x).turns
+either_least true x y n same this other = this refl
+either_least false x y n same this other = subst (λ (p : Pace). n ≤ (sending p).turns) (sym same) (other refl)
+
+without : (b : Bool) (n : ℕ) → b ≡ false → n ≡ 0 → n + (if b then 1 else 0) ≡ 0
+without true n is none = absurd (cc)
+without false n is none = omega (arith, none)
+
+nothing_behind : (s : ℕ) (ls : List Link) (place : ℕ) → length ls ≤ place → links_of s (drop place ls) ≡ 0
+nothing_behind s [] zero past = refl
+nothing_behind s [] (suc place) past = refl
+nothing_behind s (l ∷ ls) zero past = absurd (omega (arith, past))
+nothing_behind s (l ∷ ls) (suc place) past = nothing_behind s ls place (omega (arith, past))
+
+module _ {D : Type 0} where
+  pub due_first : (es : List (Event D)) (ls : List Link) → AreReady 1 es ls → AreDue 1 es ls
+  due_first es ls ready = λ s some. (ready s some).first
+
+  -- none had its turn yet
+  pub had_none : (n : ℕ) (es : List (Event D)) (ls : List Link) (place : ℕ) → place ≡ 0 → AreDue n es ls → HaveHad n es ls place
+  had_none n es ls place first due = record {
+    all = due;
+    before = λ s some none. let zero : links_of s ls ≡ 0 = subst (λ (k : ℕ). links_of s (drop k ls) ≡ 0) first none in absurd (omega (arith, zero, some));
+  }
+
+  -- all had their turn
+  pub had_all : (n : ℕ) (es : List (Event D)) (ls : List Link) (place : ℕ) → length ls ≤ place → HaveHad n es ls place → AreDue (n + 1) es ls
+  had_all n es ls place past u = λ s some. u.before s some (nothing_behind s ls place past)
+
+  module _ (n : ℕ) (es after : List (Event D)) (ls : List Link) (place : ℕ) (within : place < length ls) where
+    -- the link at the place had its turn
+    pub had_on : (old new : Link) → old ≡ slice_index_or ls place old → new.inc ≡ old.inc → ((s : ℕ) → links_of s (slice_set ls place new) ≡ links_of s ls) → ((s : ℕ) → pace_beside old.inc s after ≡ pace_beside old.inc s es)
+        → HadTurn (pace old.inc es) (pace new.inc after) → HaveHad n es ls place → HaveHad n after (slice_set ls place new) (place + 1)
+    had_on old new is same links aside had u =
+        let here : ((slice_index_or ls place old).inc == old.inc) ≡ true = eq-eqb (slice_index_or ls place old).inc old.inc (ap (λ (x : Link). x.inc) (sym is)) in
+        let one = with_this ((slice_index_or ls place old).inc == old.inc) (links_of old.inc (drop (suc place) ls)) here in
+        let parts = behind old.inc ls place old within in
+        let fewer = fewer_behind old.inc ls place in
+        let own : 1 ≤ links_of old.inc ls = omega (arith, one, parts, fewer) in
+        let now : n + 1 ≤ (sending (pace old.inc after)).turns = subst (λ (t : ℕ). n + 1 ≤ (sending (pace t after)).turns) same (had_next n (pace old.inc es) (pace new.inc after) had (u.all old.inc own)) in
+        let this_one : (s : ℕ) → (old.inc == s) ≡ true → n + 1 ≤ (sending (pace s after)).turns = λ s this. subst (λ (t : ℕ). n + 1 ≤ (sending (pace t after)).turns) (eqb-true old.inc s this) now in
+        record {
+          all = λ s some.
+              either_least (old.inc == s) (pace s after) (pace s es) n (aside s)
+              (λ this. let more = this_one s this in omega (arith, more))
+              (λ other. u.all s (subst (λ (k : ℕ). 1 ≤ k) (links s) some));
+          before = λ s some none.
+              either_least (old.inc == s) (pace s after) (pace s es) (n + 1) (aside s)
+              (λ this. this_one s this)
+              (λ other.
+              let rest : links_of s (drop (suc place) ls) ≡ 0 = sym (ap (links_of s) (ap (λ (k : ℕ). drop k (slice_set ls place new)) (next place) ∙ behind_set ls place new)) ∙ none in
+              let not_here : ((slice_index_or ls place old).inc == s) ≡ false = ap (λ (x : Link). x.inc == s) (sym is) ∙ other in
+              u.before s (subst (λ (k : ℕ). 1 ≤ k) (links s) some) (behind s ls place old within ∙ without ((slice_index_or ls place old).inc == s) (links_of s (drop (suc place) ls)) not_here rest));
+        }
+
+    -- it was ended
+    pub had_without : (new : List Link) → new ≡ remove ls place → ((s : ℕ) → pace s after ≡ pace s es) → HaveHad n es ls (place + 1) → HaveHad n after new place
+    had_without new is paced u = record {
+      all = λ s some.
+          let few = fewer_removed s ls place in
+          let left : 1 ≤ links_of s (remove ls place) = subst (λ (all : List Link). 1 ≤ links_of s all) is some in
+          subst (λ (p : Pace). n ≤ (sending p).turns) (sym (paced s)) (u.all s (omega (arith, few, left)));
+      before = λ s some none.
+          let few = fewer_removed s ls place in
+          let left : 1 ≤ links_of s (remove ls place) = subst (λ (all : List Link). 1 ≤ links_of s all) is some in
+          let rest : links_of s (drop (suc place) ls) ≡ 0 = sym (ap (links_of s) (ap (drop place) is ∙ behind_removed ls place within)) ∙ none in
+          subst (λ (p : Pace). n + 1 ≤ (sending p).turns) (sym (paced s)) (u.before s (omega (arith, few, left)) (ap (λ (k : ℕ). links_of s (drop k ls)) (next place) ∙ rest));
+    }

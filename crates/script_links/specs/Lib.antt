@@ -1,3 +1,4 @@
 pub mod Links
 pub mod Ready
 pub mod Told
+pub mod Shown

@@ -1,5 +1,5 @@
 -- Links and the servers that run.
-use Rattle.std.specs.Prelude.{◌≡◌, ◌+◌, ◌==◌, ◌++◌, ℕ, false, List, [], ◌∷◌, if◌then◌else◌}
+use Rattle.std.specs.Prelude.{◌≡◌, ◌+◌, ◌==◌, ◌++◌, ℕ, Bool, true, false, List, [], ◌∷◌, if◌then◌else◌, slice_index_or}
 use Rattle.std.specs.List.{AllByRecursion}
 use Rattle.message_bytes.specs.Fronts.{Stands}
 use Rattle.message_model.specs.declared.frame.Frame.{Frame}
@@ -41,3 +41,13 @@ AreServed es ls = EachServed (λ s. passed s es) ls
 -- what passed between a server and the container, but for one server
 abbrev pub beside : {D : Type 0} → ℕ → ℕ → List (Event D) → Passed
 beside inc s es = if inc == s then unlinked else passed s es
+
+-- Of the server of each link that holds what comes, this is true.
+abbrev pub HoldFor : (ℕ → Bool) → List Link → Type 0
+HoldFor f ls = AllByRecursion (λ (l : Link). l.held ≡ true → f l.inc ≡ true) ls
+
+-- At a place of these links is a server's.
+pub record IsLinkAt (ls : List Link) (place inc : ℕ) : Type 0 where
+  pub link : Link
+  pub stands : link ≡ slice_index_or ls place link
+  pub server : link.inc ≡ inc

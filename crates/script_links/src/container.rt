@@ -10,8 +10,10 @@ ghost use Rattle.script_model.specs.Origins.{AreNext, giving, passed};
 ghost use Rattle.script_model.specs.Saved.{IsLost, IsReadFrom, IsSaved};
 ghost use Rattle.script_model.specs.declared.step.Step.TheVariants as given;
 ghost use Rattle.script_links.specs.Links.{beside};
+ghost use Rattle.script_links.specs.Shown.{Shows};
 ghost use Rattle.script_links.specs.Told.{IsTold, noted_of};
-ghost use Rattle.std.specs.Prelude.{◌≡◌, ◌≤◌, ◌∷◌, [], IfOk, List, Some, length, ℕ};
+ghost use Rattle.script_links.specs.declared.fault.ScriptFault.TheVariants.{NoMemory};
+ghost use Rattle.std.specs.Prelude.{◌≡◌, ◌≤◌, ◌∷◌, [], IfErr, IfOk, List, Some, length, ℕ};
 ghost use Rattle.wire_msgs.specs.declared.message.Message.{Message};
 
 use crate::fault::ScriptFault;
@@ -181,7 +183,9 @@ pub fn reap<H: Host>(
 }
 
 /// What a call of the container leaves, where what it is told can be no fault but want of memory.
-fn heard(told: &Result<Answer, ContainerFault>) -> Result<(), ScriptFault> {
+fn heard(told: &Result<Answer, ContainerFault>) -> Result<(), ScriptFault>
+    ensures lacking { IfErr result (λ fault. fault ≡ NoMemory) }
+{
     match told {
         Err(ContainerFault::NoMemory) => Err(ScriptFault::NoMemory),
         _ => Ok(()),
@@ -202,6 +206,7 @@ pub fn committed<H: Host>(
     ensures quiet { (s : ℕ) → passed s (H.told host.new) ≡ passed s (H.told host.old) }
     ensures paced { (s : ℕ) → pace s (H.told host.new) ≡ pace s (H.told host.old) }
     ensures ordered { orders (H.told host.new) ≡ orders (H.told host.old) }
+    ensures shown { IfErr result (λ fault. Shows (H.told host.new) fault) }
 {
     host.note(&Step::Committed(frame));
     let told = core.commit_done(alloc, frame);
@@ -223,6 +228,7 @@ pub fn failed<H: Host>(
     ensures quiet { (s : ℕ) → passed s (H.told host.new) ≡ passed s (H.told host.old) }
     ensures paced { (s : ℕ) → pace s (H.told host.new) ≡ pace s (H.told host.old) }
     ensures ordered { orders (H.told host.new) ≡ orders (H.told host.old) }
+    ensures shown { IfErr result (λ fault. Shows (H.told host.new) fault) }
 {
     host.note(&Step::Failed(frame));
     let told = core.commit_failed(alloc, frame);
@@ -242,6 +248,7 @@ pub fn dropped<H: Host>(
     ensures quiet { (s : ℕ) → passed s (H.told host.new) ≡ passed s (H.told host.old) }
     ensures paced { (s : ℕ) → pace s (H.told host.new) ≡ pace s (H.told host.old) }
     ensures ordered { orders (H.told host.new) ≡ orders (H.told host.old) }
+    ensures shown { IfErr result (λ fault. Shows (H.told host.new) fault) }
 {
     host.note(&Step::Resolved(frame, false));
     let told = core.resolve(alloc, frame, false);

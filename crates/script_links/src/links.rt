@@ -9,8 +9,10 @@ ghost use Rattle.script_model.specs.Origins.{AreNext, fresh, giving, passed};
 ghost use Rattle.script_model.specs.Turns.{server_of, turn_of};
 ghost use Rattle.script_links.specs.Links.{IsServed, beside};
 ghost use Rattle.script_links.specs.Ready.{GoesOn, HadTurn, HasLeft, IsReady, MayLink, pace_beside};
+ghost use Rattle.script_links.specs.Shown.{Shows};
 ghost use Rattle.script_links.specs.Told.{IsTold};
-ghost use Rattle.std.specs.Prelude.{◌≡◌, ◌++◌, ◌∷◌, [], IfOk, OnOk, ℕ};
+ghost use Rattle.script_links.specs.declared.fault.ScriptFault.TheVariants.{NoMemory};
+ghost use Rattle.std.specs.Prelude.{◌≡◌, ◌++◌, ◌∷◌, [], IfErr, IfOk, OnOk, false, ℕ};
 
 use crate::container::message;
 use crate::fault::ScriptFault;
@@ -49,6 +51,7 @@ impl Link {
     /// A link on which nothing came yet.
     pub fn new(alloc: Global, inc: u32) -> Link
         ensures server { result.inc ≡ inc }
+        ensures free { result.held ≡ false }
         ensures served { IsServed fresh result [] }
     {
         Link {
@@ -75,7 +78,8 @@ pub enum Heard {
 
 /// Adds the byte form of a frame.
 fn push_frame(out: &mut Vec<u8>, frame: &Frame) -> Result<(), ScriptFault>
-    ensures { OnOk result (out.new.items ≡ out.old.items ++ spell frame.now) }
+    ensures pushed { OnOk result (out.new.items ≡ out.old.items ++ spell frame.now) }
+    ensures lacking { IfErr result (λ fault. fault ≡ NoMemory) }
 {
     match encode_into(out, frame) {
         Ok(()) => Ok(()),
@@ -97,7 +101,8 @@ pub fn server_of(message: &Message) -> u32
 
 /// The calls that are pending for a server, and a Turn, as bytes.
 fn turn_bytes(alloc: Global, core: &ContainerCore, inc: u32) -> Result<Vec<u8>, ScriptFault>
-    ensures { IfOk result (λ v. v.items ≡ turn_of core.now inc) }
+    ensures turn { IfOk result (λ v. v.items ≡ turn_of core.now inc) }
+    ensures lacking { IfErr result (λ fault. fault ≡ NoMemory) }
 {
     let mut out = Vec::new(alloc);
     for call in core.resend(alloc)? {
@@ -124,6 +129,7 @@ pub fn send_turn<H: Host>(
     ensures aside { (s : ℕ) → pace_beside inc s (H.told host.new) ≡ pace_beside inc s (H.told host.old) }
     ensures sent { OnOk result (pace inc (H.told host.new) ≡ sending (pace inc (H.told host.old))) }
     ensures ordered { orders (H.told host.new) ≡ orders (H.told host.old) }
+    ensures shown { IfErr result (λ fault. Shows (H.told host.new) fault) }
 {
     let bytes = turn_bytes(alloc, core, inc)?;
     Ok(host.send(inc, &bytes).is_ok())
@@ -155,6 +161,7 @@ pub fn hand_over<H: Host>(
     ensures given { passed inc (H.told host.new) ≡ giving (taken ∷ []) (passed inc (H.told host.old)) }
     ensures paced { (s : ℕ) → pace s (H.told host.new) ≡ pace s (H.told host.old) }
     ensures ordered { orders (H.told host.new) ≡ orders (H.told host.old) }
+    ensures shown { IfErr result (λ fault. Shows (H.told host.new) fault) }
 {
     match message(alloc, host, core, inc, taken) {
         Ok(answer) => {
@@ -187,6 +194,8 @@ fn meet<H: Host>(
     ensures served { OnOk result (IsServed (passed link.new.inc (H.told host.new)) link.new []) }
     ensures paced { (s : ℕ) → pace s (H.told host.new) ≡ pace s (H.told host.old) }
     ensures ordered { orders (H.told host.new) ≡ orders (H.told host.old) }
+    ensures shown { IfErr result (λ fault. Shows (H.told host.new) fault) }
+    ensures holding { link.new.held ≡ link.old.held }
 {
     if link.held {
         link.waiting.push(taken)?;
@@ -212,6 +221,8 @@ fn take_frames<H: Host>(
     ensures served { OnOk result (IsServed (passed link.new.inc (H.told host.new)) link.new []) }
     ensures paced { (s : ℕ) → pace s (H.told host.new) ≡ pace s (H.told host.old) }
     ensures ordered { orders (H.told host.new) ≡ orders (H.told host.old) }
+    ensures shown { IfErr result (λ fault. Shows (H.told host.new) fault) }
+    ensures holding { link.new.held ≡ link.old.held }
 {
     for _ in 0..=PIECE {
         match link.decoder.next() {
@@ -240,6 +251,8 @@ fn read_some<H: Host>(host: &mut H, link: &mut Link) -> Result<bool, ScriptFault
     ensures aside { (s : ℕ) → pace_beside link.old.inc s (H.told host.new) ≡ pace_beside link.old.inc s (H.told host.old) }
     ensures read { pace link.new.inc (H.told host.new) ≡ reading (pace link.old.inc (H.told host.old)) }
     ensures ordered { orders (H.told host.new) ≡ orders (H.told host.old) }
+    ensures shown { IfErr result (λ fault. Shows (H.told host.new) fault) }
+    ensures holding { link.new.held ≡ link.old.held }
 {
     let mut piece = [0u8; PIECE];
     let n = match host.read(link.inc, &mut piece) {
@@ -279,6 +292,8 @@ fn hear<H: Host>(
     ensures aside { (s : ℕ) → pace_beside link.old.inc s (H.told host.new) ≡ pace_beside link.old.inc s (H.told host.old) }
     ensures on { OnOk result (GoesOn (pace link.old.inc (H.told host.old)) (pace link.new.inc (H.told host.new)) reads.new) }
     ensures ordered { orders (H.told host.new) ≡ orders (H.told host.old) }
+    ensures shown { IfErr result (λ fault. Shows (H.told host.new) fault) }
+    ensures holding { link.new.held ≡ link.old.held }
 {
     while *reads > 0 {
         let heard = take_frames(alloc, host, core, link, noticed)?;
@@ -314,6 +329,8 @@ fn exchange<H: Host>(
     ensures aside { (s : ℕ) → pace_beside link.old.inc s (H.told host.new) ≡ pace_beside link.old.inc s (H.told host.old) }
     ensures on { OnOk result (GoesOn (sending (pace link.old.inc (H.told host.old))) (pace link.new.inc (H.told host.new)) reads.new) }
     ensures ordered { orders (H.told host.new) ≡ orders (H.told host.old) }
+    ensures shown { IfErr result (λ fault. Shows (H.told host.new) fault) }
+    ensures holding { link.new.held ≡ link.old.held }
 {
     if !send_turn(alloc, host, core, link.inc)? {
         return Ok(Heard::Failed);
@@ -333,6 +350,7 @@ pub fn reconnect<H: Host>(alloc: Global, host: &mut H, link: &mut Link) -> bool
     ensures aside { (s : ℕ) → pace_beside link.old.inc s (H.told host.new) ≡ pace_beside link.old.inc s (H.told host.old) }
     ensures linked { pace link.new.inc (H.told host.new) ≡ linking result (pace link.old.inc (H.told host.old)) }
     ensures ordered { orders (H.told host.new) ≡ orders (H.told host.old) }
+    ensures holding { link.new.held ≡ link.old.held }
 {
     link.decoder = Decoder::new(alloc);
     host.connect(link.inc).is_ok()
@@ -357,6 +375,8 @@ pub fn serve<H: Host>(
     ensures aside { (s : ℕ) → pace_beside link.old.inc s (H.told host.new) ≡ pace_beside link.old.inc s (H.told host.old) }
     ensures turned { OnOk result (HadTurn (pace link.old.inc (H.told host.old)) (pace link.new.inc (H.told host.new))) }
     ensures ordered { orders (H.told host.new) ≡ orders (H.told host.old) }
+    ensures shown { IfErr result (λ fault. Shows (H.told host.new) fault) }
+    ensures holding { link.new.held ≡ link.old.held }
 {
     let mut reads = MOST_READS;
     match exchange(alloc, host, core, link, noticed, &mut reads)? {

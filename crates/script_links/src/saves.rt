@@ -3,12 +3,14 @@
 ghost use Rattle.container_model.specs.Record.{Record};
 ghost use Rattle.doc_store.specs.Opened.{disk_of, needs_reopen_of};
 ghost use Rattle.script_model.specs.Bounds.{pace};
+ghost use Rattle.script_model.specs.Errors.{IsMissing, IsUnopened};
 ghost use Rattle.script_model.specs.Events.{running};
 ghost use Rattle.script_model.specs.Orders.{orders};
 ghost use Rattle.script_model.specs.Origins.{passed};
 ghost use Rattle.script_model.specs.Saved.{IsLost, IsLostOn, IsSavedOn, IsShutWith, IsShutWithout, file_name};
+ghost use Rattle.script_links.specs.Shown.{Shows};
 ghost use Rattle.script_links.specs.Told.{IfKept, IfLost, IsImage, IsLeftOn, IsReplacedOn, IsTold};
-ghost use Rattle.std.specs.Prelude.{◌≡◌, ℕ, IfOk, false};
+ghost use Rattle.std.specs.Prelude.{◌≡◌, ℕ, IfErr, IfOk, false};
 
 use crate::container::{committed, dropped, failed};
 use crate::fault::ScriptFault;
@@ -115,6 +117,7 @@ fn commit_again<H: Host>(
     ensures shut { H.Disk.follows_model → IfOk result (λ outcome. IfKept outcome (IsShutWith ⟦<H::Disk as Disk>⟧ (H.told host.new) name.now bytes.now)) }
     ensures left { H.Disk.follows_model → IfOk result (λ outcome. IfLost outcome (IsShutWithout ⟦<H::Disk as Disk>⟧ (H.told host.new) name.now bytes.now)) }
     ensures ordered { orders (H.told host.new) ≡ orders (H.told host.old) }
+    ensures unopened { IsMissing name.now (H.told host.old) → IfErr result (λ _. IsUnopened name.now (H.told host.new)) }
 {
     match host.disk(name) {
         Ok(disk) => {
@@ -142,6 +145,7 @@ fn commit<H: Host>(
     ensures shut { H.Disk.follows_model → IfOk result (λ outcome. IfKept outcome (IsShutWith ⟦<H::Disk as Disk>⟧ (H.told host.new) name.now bytes.now)) }
     ensures left { H.Disk.follows_model → IfOk result (λ outcome. IfLost outcome (IsShutWithout ⟦<H::Disk as Disk>⟧ (H.told host.new) name.now bytes.now)) }
     ensures ordered { orders (H.told host.new) ≡ orders (H.told host.old) }
+    ensures unopened { IfErr result (λ _. IsUnopened name.now (H.told host.new)) }
 {
     let given = host.disk(name);
     match given {
@@ -178,6 +182,7 @@ fn lose<H: Host>(
     ensures quiet { (s : ℕ) → passed s (H.told host.new) ≡ passed s (H.told host.old) }
     ensures paced { (s : ℕ) → pace s (H.told host.new) ≡ pace s (H.told host.old) }
     ensures ordered { orders (H.told host.new) ≡ orders (H.told host.old) }
+    ensures shown { IfErr result (λ fault. Shows (H.told host.new) fault) }
 {
     failed(alloc, host, core, frame)?;
     dropped(alloc, host, core, frame)
@@ -198,6 +203,7 @@ fn save_file<H: Host>(
     ensures quiet { (s : ℕ) → passed s (H.told host.new) ≡ passed s (H.told host.old) }
     ensures paced { (s : ℕ) → pace s (H.told host.new) ≡ pace s (H.told host.old) }
     ensures ordered { orders (H.told host.new) ≡ orders (H.told host.old) }
+    ensures shown { IfErr result (λ fault. Shows (H.told host.new) fault) }
 {
     let Some(found) = core.frame(frame) else {
         return Ok(None);
@@ -231,6 +237,7 @@ fn save<H: Host>(
     ensures quiet { (s : ℕ) → passed s (H.told host.new) ≡ passed s (H.told host.old) }
     ensures paced { (s : ℕ) → pace s (H.told host.new) ≡ pace s (H.told host.old) }
     ensures ordered { orders (H.told host.new) ≡ orders (H.told host.old) }
+    ensures shown { IfErr result (λ fault. Shows (H.told host.new) fault) }
 {
     match core.image(alloc, frame) {
         Ok(file) => save_file(alloc, host, core, frame, &file),
@@ -257,6 +264,7 @@ pub fn save_all<H: Host>(
     ensures quiet { (s : ℕ) → passed s (H.told host.new) ≡ passed s (H.told host.old) }
     ensures paced { (s : ℕ) → pace s (H.told host.new) ≡ pace s (H.told host.old) }
     ensures ordered { orders (H.told host.new) ≡ orders (H.told host.old) }
+    ensures shown { IfErr result (λ fault. Shows (H.told host.new) fault) }
 {
     for action in answer.actions.as_slice() {
         if let Action::Commit(frame) = action {

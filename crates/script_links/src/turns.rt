@@ -1,15 +1,17 @@
 //! Turns: each link is sent what is pending for its server, and what comes back is carried out.
 
 ghost use Rattle.script_model.specs.Bounds.{AreBounded, pace};
+ghost use Rattle.script_model.specs.Errors.{before_ends};
 ghost use Rattle.script_model.specs.Events.{running};
 ghost use Rattle.script_model.specs.Orders.{orders};
 ghost use Rattle.script_model.specs.Origins.{AreHeard};
 ghost use Rattle.script_model.specs.Saved.{AreOpened, AreSaved};
 ghost use Rattle.script_model.specs.Turns.{AreTurns};
-ghost use Rattle.script_links.specs.Links.{AreLinked, AreServed};
-ghost use Rattle.script_links.specs.Ready.{AreReady, IsUnderway};
+ghost use Rattle.script_links.specs.Links.{AreLinked, AreServed, HoldFor, links_of};
+ghost use Rattle.script_links.specs.Ready.{AreDue, AreReady, HaveHad, IsUnderway};
+ghost use Rattle.script_links.specs.Shown.{Shows, AreAsked, pending_of};
 ghost use Rattle.script_links.specs.Told.{IsTold};
-ghost use Rattle.std.specs.Prelude.{◌≡◌, ◌+◌, ◌<◌, OnOk, length, remove, ℕ};
+ghost use Rattle.std.specs.Prelude.{◌≡◌, ◌+◌, ◌<◌, ◌≤◌, Bool, IfErr, OnOk, length, remove, true, ℕ};
 
 use crate::container::reap;
 use crate::fault::ScriptFault;
@@ -46,6 +48,8 @@ pub fn end_at<H: Host>(
     ensures rest { links.new.items ≡ remove links.old.items place }
     ensures paced { (s : ℕ) → pace s (H.told host.new) ≡ pace s (H.told host.old) }
     ensures ordered { orders (H.told host.new) ≡ orders (H.told host.old) }
+    ensures shown { IfErr result (λ fault. Shows (H.told host.new) fault) }
+    ensures holding { (f : ℕ → Bool) → HoldFor f links.old.items → HoldFor f links.new.items }
 {
     let link = links.remove(place);
     host.end(link.inc);
@@ -71,6 +75,7 @@ pub fn end_all<H: Host>(host: &mut H, links: &mut Vec<Link>)
     ensures opened { H.Disk.follows_model → AreOpened ⟦<H::Disk as Disk>⟧ (H.told host.new) }
     ensures ended { (s : ℕ) → running s (H.told host.new) ≡ 0 }
     ensures ordered { orders (H.told host.new) ≡ orders (H.told host.old) }
+    ensures ends { before_ends (H.told host.new) ≡ before_ends (H.told host.old) }
 {
     while let Some(link) = links.pop() {
         host.end(link.inc);
@@ -78,20 +83,37 @@ pub fn end_all<H: Host>(host: &mut H, links: &mut Vec<Link>)
 }
 
 /// The server that an object has a pending call for.
-fn pending_server(object: &Object) -> Option<u32> {
+fn pending_server(object: &Object) -> Option<u32>
+    ensures { result ≡ pending_of object.now.link }
+{
     match &object.link {
-        Some(link) if link.pending.is_some() => Some(link.inc),
-        _ => None,
+        Some(link) => {
+            if link.pending.is_some() {
+                Some(link.inc)
+            } else {
+                None
+            }
+        }
+        None => None,
     }
 }
 
 /// Whether a link of this server is there, and isn't held.
-fn is_free(links: &[Link], inc: u32) -> bool {
-    links.iter().any(|link| link.inc == inc && !link.held)
+fn is_free(links: &[Link], inc: u32) -> bool
+    ensures { result ≡ true → 1 ≤ links_of inc links.now }
+{
+    for link in links {
+        if link.inc == inc && !link.held {
+            return true;
+        }
+    }
+    false
 }
 
 /// Whether a call is pending on a link that isn't held.
-fn is_pending(core: &ContainerCore, links: &[Link]) -> bool {
+fn is_pending(core: &ContainerCore, links: &[Link]) -> bool
+    ensures { result ≡ true → AreAsked core.now.objects links.now }
+{
     for object in core.all_objects() {
         if let Some(inc) = pending_server(object) {
             if is_free(links, inc) {
@@ -122,6 +144,9 @@ fn serve_at<H: Host>(
     ensures many { length links.new.items ≡ length links.old.items }
     ensures ready { (n : ℕ) → IsUnderway n (H.told host.old) links.old.items place → OnOk result (IsUnderway n (H.told host.new) links.new.items (place + 1)) }
     ensures ordered { orders (H.told host.new) ≡ orders (H.told host.old) }
+    ensures shown { IfErr result (λ fault. Shows (H.told host.new) fault) }
+    ensures holding { (f : ℕ → Bool) → HoldFor f links.old.items → HoldFor f links.new.items }
+    ensures due { (n : ℕ) → HaveHad n (H.told host.old) links.old.items place → OnOk result (HaveHad n (H.told host.new) links.new.items (place + 1)) }
 {
     serve(alloc, host, core, &mut links[place], noticed)
 }
@@ -143,6 +168,9 @@ fn turn<H: Host>(
     ensures served { OnOk result (AreServed (H.told host.new) links.new.items) }
     ensures ready { (n : ℕ) → AreReady n (H.told host.old) links.old.items → OnOk result (AreReady (n + 1) (H.told host.new) links.new.items) }
     ensures ordered { orders (H.told host.new) ≡ orders (H.told host.old) }
+    ensures shown { IfErr result (λ fault. Shows (H.told host.new) fault) }
+    ensures holding { (f : ℕ → Bool) → HoldFor f links.old.items → HoldFor f links.new.items }
+    ensures due { (n : ℕ) → AreDue n (H.told host.old) links.old.items → OnOk result (AreDue (n + 1) (H.told host.new) links.new.items) }
 {
     let mut place = 0;
     while place < links.len() {
@@ -173,6 +201,8 @@ pub fn turns<H: Host>(
     ensures linked { AreLinked (H.told host.new) links.new.items }
     ensures served { OnOk result (AreServed (H.told host.new) links.new.items) }
     ensures ordered { orders (H.told host.new) ≡ orders (H.told host.old) }
+    ensures shown { IfErr result (λ fault. Shows (H.told host.new) fault) }
+    ensures holding { (f : ℕ → Bool) → HoldFor f links.old.items → HoldFor f links.new.items }
 {
     for done in 0..MOST_TURNS {
         if !is_pending(core, links) {

@@ -7,3 +7,4 @@ pub mod Saved
 pub mod Origins
 pub mod Answers
 pub mod Histories
+pub mod Errors

@@ -44,7 +44,8 @@ abbrev pub behind_commands : ℕ → List ScriptCommand → List Step → List S
 behind_commands place [] os = os
 behind_commands place (c ∷ cs) os = behind_commands (place + 1) cs (behind_command c (step.Begins place ∷ os))
 
--- Commands were carried out one after another, from the first on, each once, and no other: so many of them.
+-- Commands began one after another, from the first on, each once, and no other: so many of them, of which the container was given what
+-- its user asks for.
 pub record HaveBegun {D : Type 0} (es : List (Event D)) (commands : List ScriptCommand) : Type 0 where
   pub front : List ScriptCommand
   pub rest : List ScriptCommand

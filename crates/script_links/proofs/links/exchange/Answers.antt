@@ -1,5 +1,8 @@
+use Rattle.std.proofs.Common.{◌≡◌, rules}
 use Rattle.script_model.specs.Bounds.{pace}
 use Rattle.script_links.proofs.Paces.{heard_on, may_hear, none_heard, sent_within}
+use Rattle.std.specs.Result.{IsErrAnd}
+use Rattle.script_links.proofs.Shown.{passed_on}
 use Rattle.script_links.proofs.links.exchange.Goals as goal
 
 pub returns-then-not-branch-clause-on : goal.returns-then-not-branch-clause-on
@@ -17,3 +20,8 @@ hear-requires-clause-on g c =
 pub returns-clause-on : goal.returns-clause-on
 returns-clause-on g c =
     heard_on c.hear.result (pace c.args.link.now.inc (g.H.Host.told c.args.host.now)) (pace c.args.link.now.inc (g.H.Host.told c.send_turn.new.host)) (pace c.hear.new.link.inc (g.H.Host.told c.hear.new.host)) c.hear.new.reads c.in_ok-send_turn.ensures.sent c.hear.ensures.on
+
+pub returns-in_err-send_turn-clause-shown : goal.returns-in_err-send_turn-clause-shown
+returns-in_err-send_turn-clause-shown g c =
+    let again : IsErrAnd c.from_residual.result (λ x. x ≡ c.in_err-send_turn.field-0.0) = search rules in
+    passed_on c.from_residual.result c.in_err-send_turn.field-0.0 (g.H.Host.told c.send_turn.new.host) again c.in_err-send_turn.ensures.shown

@@ -1,8 +1,10 @@
-use Rattle.std.proofs.Common.{◌==◌, if◌then◌else◌, ap, refl, ◌∙◌, ℕ}
+use Rattle.std.proofs.Common.{◌==◌, if◌then◌else◌, ap, refl, ◌∙◌, ℕ, ◌≡◌, rules}
 use Rattle.script_model.specs.Bounds.{Pace, pace, resting}
 use Rattle.script_links.specs.Links.{beside}
 use Rattle.script_links.specs.Ready.{pace_beside}
 use Rattle.script_links.proofs.Paces.{apart_on, may_read, paced_on, read_on}
+use Rattle.std.specs.Result.{IsErrAnd}
+use Rattle.script_links.proofs.Shown.{passed_on}
 use Rattle.script_links.proofs.links.hear.Goals as goal
 
 pub read_some-requires-clause-within : goal.read_some-requires-clause-within
@@ -20,6 +22,7 @@ loop-reads-preserved g c = record {
   told = c.read_some.ensures.told c.take_frames.new.core c.take_frames.ensures.told;
   still = λ s. c.read_some.ensures.still s ∙ c.take_frames.ensures.still s ∙ c.loop-reads.invariant.still s;
   same = c.read_some.ensures.same ∙ c.take_frames.ensures.same ∙ c.loop-reads.invariant.same;
+  holding = c.read_some.ensures.holding ∙ c.take_frames.ensures.holding ∙ c.loop-reads.invariant.holding;
   apart = apart_on beside c.args.link.now.inc c.loop-reads.link.inc c.take_frames.new.link.inc (g.H.Host.told c.args.host.now) (g.H.Host.told c.loop-reads.host) (g.H.Host.told c.take_frames.new.host) (g.H.Host.told c.read_some.new.host) c.loop-reads.invariant.same c.take_frames.ensures.same c.loop-reads.invariant.apart c.take_frames.ensures.apart c.read_some.ensures.apart;
   aside = apart_on pace_beside c.args.link.now.inc c.take_frames.new.link.inc c.take_frames.new.link.inc (g.H.Host.told c.args.host.now) (g.H.Host.told c.take_frames.new.host) (g.H.Host.told c.take_frames.new.host) (g.H.Host.told c.read_some.new.host) (c.take_frames.ensures.same ∙ c.loop-reads.invariant.same) refl
       (λ s. ap (λ (p : Pace). if c.args.link.now.inc == s then resting else p) (c.take_frames.ensures.paced s) ∙ c.loop-reads.invariant.aside s) (λ s. refl) c.read_some.ensures.aside;
@@ -29,3 +32,13 @@ loop-reads-preserved g c = record {
   served = c.in_ok-read_some.ensures.served;
   ordered = c.read_some.ensures.ordered ∙ c.take_frames.ensures.ordered ∙ c.loop-reads.invariant.ordered;
 }
+
+pub returns-in_err-heard-clause-shown : goal.returns-in_err-heard-clause-shown
+returns-in_err-heard-clause-shown g c =
+    let again : IsErrAnd c.from_residual.result (λ x. x ≡ c.in_err-heard.field-0.0) = search rules in
+    passed_on c.from_residual.result c.in_err-heard.field-0.0 (g.H.Host.told c.take_frames.new.host) again c.in_err-heard.ensures.shown
+
+pub returns-in_err-read_some-clause-shown : goal.returns-in_err-read_some-clause-shown
+returns-in_err-read_some-clause-shown g c =
+    let again : IsErrAnd c.from_residual-in_err-read_some.result (λ x. x ≡ c.in_err-read_some.field-0.0) = search rules in
+    passed_on c.from_residual-in_err-read_some.result c.in_err-read_some.field-0.0 (g.H.Host.told c.read_some.new.host) again c.in_err-read_some.ensures.shown

@@ -13,6 +13,7 @@ invariant-loop-reads g l = record {
   told : IsTold g.H.Disk.Disk (g.H.Host.told l.host) l.core;
   still : (s : ℕ) → running s (g.H.Host.told l.host) ≡ running s (g.H.Host.told l.fn.host);
   same : l.link.inc ≡ l.fn.link.inc;
+  holding : l.link.held ≡ l.fn.link.held;
   apart : (s : ℕ) → beside l.fn.link.inc s (g.H.Host.told l.host) ≡ beside l.fn.link.inc s (g.H.Host.told l.fn.host);
   aside : (s : ℕ) → pace_beside l.fn.link.inc s (g.H.Host.told l.host) ≡ pace_beside l.fn.link.inc s (g.H.Host.told l.fn.host);
   on : GoesOn (pace l.fn.link.inc (g.H.Host.told l.fn.host)) (pace l.link.inc (g.H.Host.told l.host)) l.reads;

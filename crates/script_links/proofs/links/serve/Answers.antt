@@ -1,5 +1,8 @@
+use Rattle.std.proofs.Common.{◌≡◌, rules}
 use Rattle.script_model.specs.Bounds.{pace}
 use Rattle.script_links.proofs.Paces.{all_left, left_again, may_link, may_send, may_send_again, turn_again, turn_over, turn_unlinked}
+use Rattle.std.specs.Result.{IsErrAnd}
+use Rattle.script_links.proofs.Shown.{passed_on}
 use Rattle.script_links.proofs.links.serve.Goals as goal
 
 pub exchange-requires-clause-within : goal.exchange-requires-clause-within
@@ -36,3 +39,13 @@ pub returns-clause-turned : goal.returns-clause-turned
 returns-clause-turned g c =
     turn_again (pace c.args.link.now.inc (g.H.Host.told c.args.host.now)) (pace c.exchange.new.link.inc (g.H.Host.told c.exchange.new.host)) (pace c.reconnect.new.link.inc (g.H.Host.told c.reconnect.new.host)) (pace c.exchange-2.new.link.inc (g.H.Host.told c.exchange-2.new.host))
     c.exchange.new.reads c.exchange-2.new.reads c.reconnect.result (cc) c.reconnect.ensures.linked c.in_ok-exchange.ensures.on c.in_ok-heard.ensures.on
+
+pub returns-in_err-exchange-clause-shown : goal.returns-in_err-exchange-clause-shown
+returns-in_err-exchange-clause-shown g c =
+    let again : IsErrAnd c.from_residual.result (λ x. x ≡ c.in_err-exchange.field-0.0) = search rules in
+    passed_on c.from_residual.result c.in_err-exchange.field-0.0 (g.H.Host.told c.exchange.new.host) again c.in_err-exchange.ensures.shown
+
+pub returns-in_err-heard-clause-shown : goal.returns-in_err-heard-clause-shown
+returns-in_err-heard-clause-shown g c =
+    let again : IsErrAnd c.from_residual-in_err-heard.result (λ x. x ≡ c.in_err-heard.field-0.0) = search rules in
+    passed_on c.from_residual-in_err-heard.result c.in_err-heard.field-0.0 (g.H.Host.told c.exchange-2.new.host) again c.in_err-heard.ensures.shown

@@ -1,5 +1,8 @@
+use Rattle.std.proofs.Common.{◌≡◌, rules}
 use Rattle.script_model.specs.Origins.{passed}
 use Rattle.script_links.proofs.Served.{message_taken, turn_taken}
+use Rattle.std.specs.Result.{IsErrAnd}
+use Rattle.script_links.proofs.Shown.{passed_on}
 use Rattle.script_links.proofs.links.take_frames.Goals as goal
 
 pub returns-in-Ok-Some-Turn-clause-served : goal.returns-in-Ok-Some-Turn-clause-served
@@ -7,3 +10,8 @@ returns-in-Ok-Some-Turn-clause-served g c = turn_taken (passed c.loop.link.inc (
 
 pub meet-requires-clause-served : goal.meet-requires-clause-served
 meet-requires-clause-served g c = message_taken (passed c.loop.link.inc (g.H.Host.told c.loop.host)) c.loop.link c.next.new.self c.in-Ok-Some-Message.taken c.next.result (cc) c.next.ensures c.loop.invariant.served
+
+pub returns-in_err-meet-in-Ok-Some-Message-clause-shown : goal.returns-in_err-meet-in-Ok-Some-Message-clause-shown
+returns-in_err-meet-in-Ok-Some-Message-clause-shown g c =
+    let again : IsErrAnd c.from_residual.result (λ x. x ≡ c.in_err-meet-in-Ok-Some-Message.field-0.0) = search rules in
+    passed_on c.from_residual.result c.in_err-meet-in-Ok-Some-Message.field-0.0 (g.H.Host.told c.meet.new.host) again c.in_err-meet-in-Ok-Some-Message.ensures.shown

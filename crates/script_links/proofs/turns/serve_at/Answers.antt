@@ -2,8 +2,9 @@ use Rattle.std.proofs.Common.{ap, sym, ◌∙◌}
 use Rattle.script_links.specs.declared.links.Link.{Link}
 use Rattle.std.proofs.lemmas.Result.{on_ok_weaker}
 use Rattle.script_links.proofs.Given.{same_links}
-use Rattle.script_links.proofs.Paces.{is_next, single_linked, turn_goes_on}
+use Rattle.script_links.proofs.Paces.{had_on, is_next, single_linked, turn_goes_on}
 use Rattle.script_links.proofs.Served.{placed_served}
+use Rattle.script_links.proofs.Shown.{hold_set}
 use Rattle.script_links.proofs.turns.serve_at.Goals as goal
 
 pub returns-clause-linked : goal.returns-clause-linked
@@ -29,3 +30,16 @@ returns-clause-ready g c = λ n underway.
     (λ s. same_links s c.args.links.now.items c.args.place _ c.index_mut.result.now c.requires.within (c.serve.ensures.same ∙ ap (λ (l : Link). l.inc) c.index_mut.ensures.value))
     c.serve.ensures.aside had underway)
     c.serve.ensures.turned
+
+pub returns-clause-due : goal.returns-clause-due
+returns-clause-due g c = λ n had_before.
+    on_ok_weaker c.serve.result
+    (λ had. had_on n (g.H.Host.told c.args.host.now) (g.H.Host.told c.serve.new.host) c.args.links.now.items c.args.place c.requires.within c.index_mut.result.now c.serve.new.link c.index_mut.ensures.value c.serve.ensures.same
+    (λ s. same_links s c.args.links.now.items c.args.place _ c.index_mut.result.now c.requires.within (c.serve.ensures.same ∙ ap (λ (l : Link). l.inc) c.index_mut.ensures.value))
+    c.serve.ensures.aside had had_before)
+    c.serve.ensures.turned
+
+pub returns-clause-holding : goal.returns-clause-holding
+returns-clause-holding g c = λ f hold.
+    hold_set f c.args.links.now.items c.args.place c.serve.new.link c.index_mut.result.now c.requires.within (c.serve.ensures.same ∙ ap (λ (l : Link). l.inc) c.index_mut.ensures.value)
+    (c.serve.ensures.holding ∙ ap (λ (l : Link). l.held) c.index_mut.ensures.value) hold

@@ -1,7 +1,7 @@
-use Rattle.std.proofs.Common.{length, ◌≡◌, ◌-◌, ℕ}
+use Rattle.std.proofs.Common.{length, ◌≡◌, ◌-◌, Bool, ℕ}
 use Rattle.script_model.specs.Orders.{orders}
-use Rattle.script_links.specs.Links.{AreLinked, AreServed}
-use Rattle.script_links.specs.Ready.{AreReady, IsUnderway}
+use Rattle.script_links.specs.Links.{AreLinked, AreServed, HoldFor}
+use Rattle.script_links.specs.Ready.{AreDue, AreReady, HaveHad, IsUnderway}
 use Rattle.script_links.specs.Told.{IsTold}
 use Rattle.script_links.proofs.turns.turn.Given as goal
 
@@ -11,6 +11,8 @@ invariant-loop-place g l = record {
   linked : AreLinked (g.H.Host.told l.host) l.links.items;
   served : AreServed (g.H.Host.told l.host) l.links.items;
   each : (n : ℕ) → AreReady n (g.H.Host.told l.fn.host) l.fn.links.items → IsUnderway n (g.H.Host.told l.host) l.links.items l.place;
+  holding : (f : ℕ → Bool) → HoldFor f l.fn.links.items → HoldFor f l.links.items;
+  due : (n : ℕ) → AreDue n (g.H.Host.told l.fn.host) l.fn.links.items → HaveHad n (g.H.Host.told l.host) l.links.items l.place;
   ordered : orders (g.H.Host.told l.host) ≡ orders (g.H.Host.told l.fn.host);
 }
 

@@ -1,7 +1,7 @@
-use Rattle.std.proofs.Common.{◌≡◌, ◌+◌}
+use Rattle.std.proofs.Common.{◌≡◌, ◌+◌, Bool, ℕ}
 use Rattle.script_model.specs.Orders.{orders}
-use Rattle.script_links.specs.Links.{AreLinked, AreServed}
-use Rattle.script_links.specs.Ready.{AreReady}
+use Rattle.script_links.specs.Links.{AreLinked, AreServed, HoldFor}
+use Rattle.script_links.specs.Ready.{AreDue, AreReady}
 use Rattle.script_links.specs.Told.{IsTold}
 use Rattle.script_links.proofs.turns.turns.Given as goal
 
@@ -11,5 +11,7 @@ invariant-loop-done g l = record {
   linked : AreLinked (g.H.Host.told l.host) l.links.items;
   served : AreServed (g.H.Host.told l.host) l.links.items;
   ready : AreReady (l.done + 1) (g.H.Host.told l.host) l.links.items;
+  holding : (f : ℕ → Bool) → HoldFor f l.fn.links.items → HoldFor f l.links.items;
+  due : AreDue (l.done + 1) (g.H.Host.told l.host) l.links.items;
   ordered : orders (g.H.Host.told l.host) ≡ orders (g.H.Host.told l.fn.host);
 }

@@ -1,0 +1,96 @@
+-- What a history shows of the error that ended its script.
+use Rattle.std.specs.Prelude.{◌≡◌, ◌≤◌, ◌⊎◌, ◌==◌, ◌&&◌, ◌||◌, ℕ, Bool, true, false, List, [], ◌∷◌, if◌then◌else◌, Option, Some, None, Ok, is_some}
+use Rattle.wire_msgs.specs.Found.{nth}
+use Rattle.container_model.specs.declared.answer.Part.{Part}
+use Rattle.container_model.specs.declared.record.Frame.{Frame}
+use Rattle.container_model.specs.declared.record.Link.{Link}
+use Rattle.container_model.specs.declared.record.Object.{Object}
+use Rattle.container_model.specs.Record.{Record}
+use Rattle.container_model.specs.Saves.{image}
+use Rattle.script_model.specs.declared.command.ScriptCommand.{ScriptCommand}
+use Rattle.script_model.specs.declared.command.ScriptCommand.TheVariants as script
+use Rattle.script_model.specs.Bounds.{MOST_TURNS, pace}
+use Rattle.script_model.specs.Containers.{record_of}
+use Rattle.script_model.specs.Events.{Event, Started, Connected, Sent, Heard, Ended, Opened, Found, Shut, Stepped, running}
+use Rattle.script_model.specs.Orders.{behind_commands, orders}
+use Rattle.script_model.specs.Saved.{file_name}
+
+-- A history without the ends of servers that are its last calls: however a script ends, the servers that still run are ended then.
+abbrev pub before_ends : {D : Type 0} → List (Event D) → List (Event D)
+before_ends [] = []
+before_ends (Ended inc ∷ es) = before_ends es
+before_ends (Started inc ok ∷ es) = Started inc ok ∷ es
+before_ends (Connected inc ok ∷ es) = Connected inc ok ∷ es
+before_ends (Sent inc bytes ok ∷ es) = Sent inc bytes ok ∷ es
+before_ends (Heard inc bytes ok ∷ es) = Heard inc bytes ok ∷ es
+before_ends (Opened name disk ∷ es) = Opened name disk ∷ es
+before_ends (Found name disk ∷ es) = Found name disk ∷ es
+before_ends (Shut name disk ∷ es) = Shut name disk ∷ es
+before_ends (Stepped step ∷ es) = Stepped step ∷ es
+
+-- ---- servers
+
+-- The last call was to start a server, and it wasn't done.
+abbrev pub IsUnstarted : {D : Type 0} → ℕ → List (Event D) → Type 0
+IsUnstarted {D = D} inc es = (before : List (Event D)) × (es ≡ Started inc false ∷ before)
+
+-- whether an activation has a call of a server that isn't answered
+abbrev pub asks : ℕ → Option Link → Bool
+asks s None = false
+asks s (Some l) = is_some l.pending && (l.inc == s)
+
+abbrev pub is_asked : ℕ → List Object → Bool
+is_asked s [] = false
+is_asked s (o ∷ os) = asks s o.link || is_asked s os
+
+-- A server that runs was sent all turns that a command may send it, since the command began that began last, and a call of it
+-- isn't answered.
+pub record IsUnanswered {D : Type 0} (es : List (Event D)) : Type 0 where
+  pub server : ℕ
+  pub runs : 1 ≤ running server es
+  pub turned : MOST_TURNS ≤ (pace server es).turns
+  pub asked : is_asked server (record_of es).objects ≡ true
+
+-- whether what comes from a server is held behind a command
+abbrev pub behind_hold : ScriptCommand → ℕ → Bool → Bool
+behind_hold (script.Hold inc) s held = if inc == s then true else held
+behind_hold (script.Release inc) s held = if inc == s then false else held
+behind_hold (script.Container c) s held = held
+behind_hold (script.Open name w h) s held = held
+behind_hold (script.Cut inc) s held = held
+behind_hold (script.Screen f) s held = held
+
+-- whether a server is held, and not released again, by these commands
+abbrev pub is_held : ℕ → List ScriptCommand → Bool → Bool
+is_held s [] held = held
+is_held s (c ∷ cs) held = is_held s cs (behind_hold c s held)
+
+-- All these commands began, one after another, and a server runs that they hold and don't release again.
+pub record IsLeftHeld {D : Type 0} (es : List (Event D)) (commands : List ScriptCommand) : Type 0 where
+  pub ordered : orders es ≡ behind_commands 0 commands []
+  pub server : ℕ
+  pub runs : 1 ≤ running server es
+  pub held : is_held server commands false ≡ true
+
+-- ---- files
+
+-- The last call asked for the disk of this name, and it wasn't given.
+abbrev pub IsMissing : {D : Type 0} → List ℕ → List (Event D) → Type 0
+IsMissing {D = D} name es = (before : List (Event D)) × (es ≡ Opened name None ∷ before)
+
+-- The disk of this name wasn't given, though it was asked for twice, in the last two calls; or the last call gave it back, and the
+-- call before it had given it. The container isn't told of it.
+abbrev pub IsUnopened : {D : Type 0} → List ℕ → List (Event D) → Type 0
+IsUnopened {D = D} name es = ((before : List (Event D)) × (es ≡ Opened name None ∷ Opened name None ∷ before))
+    ⊎ ((given disk : D) × (before : List (Event D)) × (es ≡ Shut name disk ∷ Opened name (Some given) ∷ before))
+
+-- The commit of a frame's file is asked for, the disk of the file's name wasn't opened, and the container isn't told what became of
+-- the commit.
+pub record IsUnknown {D : Type 0} (es : List (Event D)) (name : List ℕ) : Type 0 where
+  pub f : ℕ
+  pub frame : Frame
+  pub found : nth (record_of es).frames f ≡ Some frame
+  pub named : name ≡ file_name frame
+  pub parts : List Part
+  pub counted : image (record_of es) f ≡ Ok parts
+  pub last : IsUnopened name es
