@@ -1,6 +1,6 @@
 //! How much may be stored of an object.
 
-ghost use Rattle.std.specs.Prelude.{◌≡◌, ◌+◌, nat_le};
+ghost use Rattle.std.specs.Prelude.{◌≡◌, ◌+◌, false, nat_le};
 ghost use Rattle.object_parts.specs.Limits.{COMP_OBJ, OLE, OLE_PRES, has_ole_name, is_ole_name, is_within, total};
 
 use cfb_names::name::Name;
@@ -43,10 +43,21 @@ pub fn ole_pres() -> Name
     }
 }
 
+// Whether a name begins as the three OLE streams' do, which hardly another one does.
+fn begins_low(name: &Name) -> bool
+    ensures { result ≡ false → is_ole_name name.now ≡ false }
+{
+    let first = name.as_bytes()[0];
+    first == 1 || first == 2
+}
+
 /// Whether a name is one of the three OLE streams', in upper or lower case.
 pub fn is_ole_name(name: &Name) -> bool
     ensures { result ≡ is_ole_name name.now }
 {
+    if !begins_low(name) {
+        return false;
+    }
     name.cmp(&ole()).is_eq() || name.cmp(&comp_obj()).is_eq() || name.cmp(&ole_pres()).is_eq()
 }
 
