@@ -3,7 +3,7 @@
 ghost use Rattle.message_bytes.specs.Fronts.{Fed, Grows, Leaves};
 ghost use Rattle.message_bytes.specs.Holding.{Holds, IsBody};
 ghost use Rattle.message_model.specs.Frames.{shown};
-ghost use Rattle.std.specs.Prelude.{◌≡◌, ◌<◌, ◌++◌, ℕ, List, IfOk, None, OnErr, length, slice_set, take};
+ghost use Rattle.std.specs.Prelude.{[], ◌≡◌, ◌<◌, ◌++◌, ℕ, List, IfOk, None, OnErr, length, slice_set, take};
 
 use crate::front::{Front, front_of, put_behind, take_frames};
 use crate::unfinished::{Unfinished, body_of};
@@ -48,6 +48,41 @@ fn take_behind(
                 Err(fault) => Err(fault),
             }
         }
+    }
+}
+
+// Takes a piece where nothing of a frame came: whole frames leave all as it is.
+//
+// Refused for want of memory alone. Then some of the frames may have been put behind those that wait.
+fn feed_none(
+    alloc: Global,
+    bytes: &mut Unfinished,
+    piece: &[u8],
+    waiting: &mut VecDeque<Frame>,
+) -> Result<Option<WireFault>, AllocError>
+    requires { bytes.old ≡ record { front = []; body = None } }
+    ensures leaves { IfOk result (λ shown. Leaves waiting.old.items waiting.new.items piece.now bytes.new shown) }
+    ensures same { OnErr result (bytes.new ≡ bytes.old) }
+    ensures kept { OnErr result (take (length waiting.old.items) waiting.new.items ≡ waiting.old.items) }
+{
+    let (used, shown) = match take_frames(alloc, piece, waiting) {
+        Ok(taken) => taken,
+        Err(fault) => return Err(fault),
+    };
+    match shown {
+        Some(_) => return Ok(shown),
+        None => {}
+    }
+    let (_, rest) = piece.split_at(used);
+    if rest.is_empty() {
+        return Ok(None);
+    }
+    match Unfinished::begun(alloc, rest) {
+        Ok(begun) => {
+            *bytes = begun;
+            Ok(None)
+        }
+        Err(fault) => Err(fault),
     }
 }
 
@@ -183,6 +218,16 @@ pub(crate) fn feed(
     ensures waiting { OnErr result (waiting.new.items ≡ waiting.old.items) }
 {
     let old = waiting.len();
+    // Most pieces end where a frame does.
+    if bytes.is_empty() {
+        return match feed_none(alloc, bytes, piece, waiting) {
+            Ok(shown) => Ok(shown),
+            Err(fault) => {
+                waiting.truncate(old);
+                Err(fault)
+            }
+        };
+    }
     match bytes.take_body() {
         Some(body) => {
             let mut body = body;

@@ -2,7 +2,7 @@
 
 ghost use Rattle.message_bytes.specs.Holding.{Holds, IsBody, MOST_HELD};
 ghost use Rattle.message_model.specs.Frames.{shown};
-ghost use Rattle.std.specs.Prelude.{[], ◌≡◌, ◌≤◌, ◌<◌, ◌+◌, ◌++◌, IfOk, None, Some, length, take};
+ghost use Rattle.std.specs.Prelude.{[], true, ◌≡◌, ◌≤◌, ◌<◌, ◌+◌, ◌++◌, IfOk, None, Some, length, take};
 
 use crate::front::{Head, head_of};
 use message_drafts::body::Body;
@@ -124,6 +124,19 @@ impl Unfinished {
         }
         let body = body_of(alloc, bytes)?;
         Ok(Unfinished::of_body(body))
+    }
+
+    /// Whether nothing of a frame came.
+    pub(crate) fn is_empty(&self) -> bool
+        ensures { result ≡ true → self.now ≡ record { front = []; body = None } }
+    {
+        if self.len > 0 {
+            return false;
+        }
+        match self.body {
+            Some(_) => false,
+            None => true,
+        }
     }
 
     /// The bytes that are held.

@@ -183,7 +183,7 @@ impl Host {
                 put_file(&mut self.files, name, bytes);
                 add_all(&mut self.container_done, counted);
                 set_counted(&mut self.counted, f, Document { k, parts });
-                Ok(self.join(answer, room))
+                Ok(self.join(alloc, answer, room))
             }
             Err(fault) => Err(lacking(fault)),
         }

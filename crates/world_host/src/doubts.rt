@@ -45,7 +45,7 @@ impl Host {
     {
         let room = self.make_room(alloc)?;
         match self.core.commit_failed(alloc, f) {
-            Ok(answer) => Ok(self.join(answer, room)),
+            Ok(answer) => Ok(self.join(alloc, answer, room)),
             Err(fault) => Err(lacking(fault)),
         }
     }
@@ -60,7 +60,7 @@ impl Host {
     {
         let room = self.make_room(alloc)?;
         match self.core.resolve(alloc, f, false) {
-            Ok(answer) => Ok(self.join(answer, room)),
+            Ok(answer) => Ok(self.join(alloc, answer, room)),
             Err(fault) => Err(lacking(fault)),
         }
     }
@@ -94,7 +94,7 @@ impl Host {
                 put_file(&mut self.files, name, bytes);
                 add_all(&mut self.container_done, counted);
                 set_counted(&mut self.counted, f, Document { k, parts });
-                Ok(self.join(answer, room))
+                Ok(self.join(alloc, answer, room))
             }
             Err(fault) => Err(lacking(fault)),
         }

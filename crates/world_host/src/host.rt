@@ -18,6 +18,7 @@ use container_model::answer::{Action, Answer, Done};
 use container_model::command::Command;
 use container_model::fault::ContainerFault;
 use std::alloc::{AllocError, Global};
+use std::mem::replace;
 use wire_msgs::items::Items;
 use wire_msgs::message::Message;
 use world_model::event::{Stop, copy_command};
@@ -47,6 +48,8 @@ pub struct Host {
     pub counted: Vec<Option<Document>>,
     /// The servers, by their incarnations, of which messages were forged.
     pub hostile: Vec<u32>,
+    // What the last step took of room and didn't keep, for the next one.
+    pub(crate) room: Room,
 }
 
 /// The servers that a step of the container ends, and those that it starts.
@@ -159,19 +162,57 @@ fn add_owner(owners: &mut Vec<u32>, command: &Command)
     }
 }
 
+// A list emptied, with room for so many.
+fn emptied(mut items: Vec<u32>, count: usize) -> Result<Vec<u32>, AllocError>
+    ensures empty { IfOk result (λ v. v.items ≡ []) }
+    ensures room { IfOk result (λ v. count ≤ vec_capacity v) }
+{
+    items.clear();
+    items.reserve(count)?;
+    Ok(items)
+}
+
+// What stands in a list, without the room behind it, which the list keeps for the next step. Where memory for that is wanting,
+// the room goes along.
+fn taken_from(alloc: Global, items: &mut Vec<u32>) -> Vec<u32>
+    ensures { result.items ≡ items.old.items }
+{
+    match Vec::from_slice(alloc, items) {
+        Ok(exact) => exact,
+        Err(_) => replace(items, Vec::new(alloc)),
+    }
+}
+
 impl Room {
-    // Room for so many actions.
-    pub(crate) fn new(alloc: Global, count: usize) -> Result<Room, AllocError>
+    // No room.
+    fn none(alloc: Global) -> Room {
+        Room {
+            servers: Servers {
+                ends: Vec::new(alloc),
+                starts: Vec::new(alloc),
+            },
+            commits: Vec::new(alloc),
+            places: Vec::new(alloc),
+        }
+    }
+
+    // Room for so many actions, where room was taken before.
+    fn for_actions(self, count: usize) -> Result<Room, AllocError>
         ensures { IfOk result (λ r. IsRoom count r) }
     {
+        let Room {
+            servers: Servers { ends, starts },
+            commits,
+            places,
+        } = self;
         let servers = Servers {
-            ends: Vec::with_capacity(alloc, count)?,
-            starts: Vec::with_capacity(alloc, count)?,
+            ends: emptied(ends, count)?,
+            starts: emptied(starts, count)?,
         };
         Ok(Room {
             servers,
-            commits: Vec::with_capacity(alloc, count)?,
-            places: Vec::with_capacity(alloc, count)?,
+            commits: emptied(commits, count)?,
+            places: emptied(places, count)?,
         })
     }
 }
@@ -193,6 +234,7 @@ impl Host {
             server_done: Vec::new(alloc),
             counted: Vec::new(alloc),
             hostile: Vec::new(alloc),
+            room: Room::none(alloc),
         }
     }
 
@@ -231,13 +273,13 @@ impl Host {
         ensures kept { bare self.new ≡ bare self.old }
     {
         let count = self.most();
-        let room = Room::new(alloc, count)?;
+        let room = replace(&mut self.room, Room::none(alloc)).for_actions(count)?;
         self.reserve(count)?;
         Ok(room)
     }
 
     // Keeps what a step of the container asks for; gives the servers that it ends and starts.
-    pub(crate) fn join(&mut self, answer: Answer, room: Room) -> Servers
+    pub(crate) fn join(&mut self, alloc: Global, answer: Answer, room: Room) -> Servers
         requires logs { HasLogRoom (length answer.actions) self.old }
         requires room { IsRoom (length answer.actions) room }
         ensures joined { joined (bare self.old) (counts_none self.old.core answer) ≡ started (bare self.new) self.old.core.numbers result.starts.items }
@@ -278,11 +320,20 @@ impl Host {
             taken,
             refused,
             no_tools,
-            sent: Items::from_vec(places),
-            commits: Items::from_vec(commits),
+            sent: Items::from_vec(taken_from(alloc, &mut places)),
+            commits: Items::from_vec(taken_from(alloc, &mut commits)),
         };
         add(&mut self.answers, EventAnswer::Took(outcome));
-        Servers { ends, starts }
+        let servers = Servers {
+            ends: taken_from(alloc, &mut ends),
+            starts: taken_from(alloc, &mut starts),
+        };
+        self.room = Room {
+            servers: Servers { ends, starts },
+            commits,
+            places,
+        };
+        servers
     }
 
     // Keeps why the container refused an event; no server ends or starts.
@@ -309,7 +360,7 @@ impl Host {
         match self.core.command(alloc, copy_command(alloc, command)?) {
             Ok(answer) => {
                 add_owner(&mut self.owners, command);
-                Ok(self.join(answer, room))
+                Ok(self.join(alloc, answer, room))
             }
             Err(ContainerFault::NoMemory) => Err(AllocError),
             Err(fault) => Ok(self.refuse(fault, room)),
@@ -338,7 +389,7 @@ impl Host {
         match self.core.on_message(alloc, inc, message) {
             Ok(answer) => {
                 log(&mut self.taken, answer.taken, entry);
-                Ok(self.join(answer, room))
+                Ok(self.join(alloc, answer, room))
             }
             Err(ContainerFault::NoMemory) => Err(AllocError),
             Err(fault) => Ok(self.refuse(fault, room)),
@@ -368,7 +419,7 @@ impl Host {
             Ok(answer) => {
                 log(&mut self.taken, answer.taken, entry);
                 add(&mut self.hostile, inc);
-                Ok(self.join(answer, room))
+                Ok(self.join(alloc, answer, room))
             }
             Err(ContainerFault::NoMemory) => Err(AllocError),
             Err(fault) => {
@@ -389,7 +440,7 @@ impl Host {
     {
         let room = self.make_room(alloc)?;
         match self.core.on_reap(alloc, inc) {
-            Ok(answer) => Ok(self.join(answer, room)),
+            Ok(answer) => Ok(self.join(alloc, answer, room)),
             Err(ContainerFault::NoMemory) => Err(AllocError),
             Err(fault) => Ok(self.refuse(fault, room)),
         }

@@ -46,7 +46,7 @@ impl Host {
         let copied = name.copy(alloc)?;
         let file = file_bytes(&self.files, name.as_slice());
         match self.core.open_file(alloc, copied, width, height, file) {
-            Ok(answer) => Ok(self.join(answer, room)),
+            Ok(answer) => Ok(self.join(alloc, answer, room)),
             Err(ContainerFault::NoMemory) => Err(AllocError),
             Err(fault) => Ok(self.refuse(fault, room)),
         }
