@@ -3,3 +3,4 @@ pub mod Overlaid
 pub mod Same
 pub mod SameSectors
 pub mod Trimmed
+pub mod Undoing

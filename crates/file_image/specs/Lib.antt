@@ -1,2 +1,3 @@
 pub mod Changed
 pub mod Trimmed
+pub mod Undone

@@ -4,24 +4,25 @@ ghost use Rattle.cfb_header.specs.declared.fault.ChainFault.{ChainFault};
 ghost use Rattle.cfb_header.specs.Header.{fat_count, header_read};
 ghost use Rattle.file_image.specs.Changed.{changed_blocks};
 ghost use Rattle.file_image.specs.Trimmed.{trimmed};
+ghost use Rattle.file_image.specs.Undone.{undone};
 ghost use Rattle.file_model.specs.Denotes.{Denotes};
-ghost use Rattle.file_model.specs.Limits.{MOST_BYTES};
+ghost use Rattle.file_model.specs.Limits.{MOST_BYTES, MOST_FAT_SECTORS};
 ghost use Rattle.file_model.specs.Refusals.{Refuses, writable};
-ghost use Rattle.std.specs.Prelude.{◌≡◌, ◌≤◌, Err, IfErr, IfOk, IfSome, Ok, OnErr, OnOk, length};
+ghost use Rattle.std.specs.Prelude.{◌≡◌, ◌≤◌, ◌+◌, ◌*◌, Err, IfErr, IfNone, IfOk, IfSome, IsTrue, Ok, OnErr, OnOk, [], length};
 ghost use Rattle.storage_tree.specs.Kept.{kept};
 ghost use Rattle.storage_tree.specs.Tree as tree;
 ghost use Rattle.stream_io.specs.Reads.{MayRefuseFile, chain_fault};
 ghost use Rattle.stream_io.specs.declared.fault.ReadFault.TheVariants.{NoMemory};
 
-use crate::changed::changed;
-use crate::update::{Update, overlaid};
+use crate::changed::{BLOCK, changed};
+use crate::in_place::{Was, lay_over, put_back};
+use crate::update::overlaid;
 use cfb_bytes::numbers::read_u32;
 use file_model::fault::WriteFault;
 use file_placing::placing::place_over;
 use file_writer::write::{fits, write_file};
 use std::alloc::{AllocError, Global};
 use std::marker::Model;
-use storage_tree::storage::Storage;
 use storage_tree::tree::Tree;
 use stream_io::fault::ReadFault;
 use stream_io::read::{is_file_of, read_outline};
@@ -68,23 +69,6 @@ fn check_room(tree: &Tree) -> Result<(), WriteFault>
     Ok(())
 }
 
-/// The file of a tree with this root in the sectors of an older one, which denotes a tree. None where those sectors won't do.
-fn placed(alloc: Global, old: &[u8], root: &Storage) -> Result<Option<Update>, AllocError>
-    ensures { IfOk result (λ update. IfSome update (λ u. u.numbers.items ≡ changed_blocks old.now u.file.items)) }
-{
-    let outline = match read_outline(alloc, old) {
-        Ok(outline) => outline,
-        Err(ReadFault::NoMemory) => return Err(AllocError),
-        // What denotes a tree isn't refused so.
-        Err(_) => return Ok(None),
-    };
-    let Some(laid) = place_over(alloc, old, &outline, root)? else {
-        return Ok(None);
-    };
-    let blocks = laid.blocks(alloc)?;
-    Ok(Some(overlaid(alloc, old, &blocks)?))
-}
-
 /// The file, if it denotes the tree: it is read again. Nothing is known of it but this.
 fn checked<'a>(alloc: Global, file: &'a [u8], tree: &Tree) -> Result<Option<&'a [u8]>, AllocError>
     ensures { IfOk result (λ checked. IfSome checked (λ _. ∥ Denotes file.now (kept tree.now).now ∥₁)) }
@@ -97,53 +81,167 @@ fn checked<'a>(alloc: Global, file: &'a [u8], tree: &Tree) -> Result<Option<&'a 
     }
 }
 
-/// The file of a tree in the sectors of an older one, which denotes a tree. None where those sectors won't do.
-///
-/// Refused: as `write_file`.
-fn moved(alloc: Global, old: &[u8], tree: &Tree) -> Result<Option<Update>, WriteFault>
-    ensures denotes { IfOk result (λ update. IfSome update (λ u. ∥ Denotes u.file.items (kept tree.now).now ∥₁)) }
-    ensures changed { IfOk result (λ update. IfSome update (λ u. u.numbers.items ≡ changed_blocks old.now u.file.items)) }
-    ensures refused { IfErr result (Refuses (writable (kept tree.now).now)) }
-    ensures allowed { OnOk result (writable (kept tree.now).now ≡ Ok tt) }
+/// Lays blocks over a file of as many, and tells whether it then denotes the tree. What is written over is kept, and the numbers
+/// of the blocks that change are added.
+fn lay_and_check(
+    alloc: Global,
+    file: &mut [u8],
+    was: &mut Vec<Was>,
+    numbers: &mut Vec<u32>,
+    blocks: &[&[u8]],
+    tree: &Tree,
+) -> Result<bool, AllocError>
+    requires as_many { 512 * length blocks.now ≡ length file.old }
+    requires few { length blocks.now ≤ 1 + 128 * MOST_FAT_SECTORS }
+    requires none_kept { was.old.items ≡ [] }
+    requires none_changed { numbers.old.items ≡ [] }
+    ensures undone { undone was.new.items file.new ≡ file.old }
+    ensures changed { OnOk result (numbers.new.items ≡ changed_blocks file.old file.new) }
+    ensures denotes { IfOk result (λ is. IsTrue is → ∥ Denotes file.new (kept tree.now).now ∥₁) }
 {
-    check_room(tree)?;
-    let Some(update) = placed(alloc, old, tree.root())? else {
-        return Ok(None);
-    };
-    match checked(alloc, &update.file, tree)? {
-        Some(_) => Ok(Some(update)),
-        None => Ok(None),
+    lay_over(file, was, numbers, blocks)?;
+    match checked(alloc, file, tree)? {
+        Some(_) => Ok(true),
+        None => Ok(false),
     }
 }
 
-/// The file of a tree, laid out anew, in the place of an older one.
+/// Lays blocks over a file of as many, and gives the numbers of those that change. None where it then doesn't denote the tree.
 ///
-/// Refused: as `write_file`.
-fn anew(alloc: Global, old: &[u8], tree: &Tree) -> Result<Update, WriteFault>
-    ensures denotes { IfOk result (λ u. ∥ Denotes u.file.items (kept tree.now).now ∥₁) }
-    ensures changed { IfOk result (λ u. u.numbers.items ≡ changed_blocks old.now u.file.items) }
+/// Where that is so, and where memory is wanting, the file is put back as it was.
+fn change_in_place(
+    alloc: Global,
+    file: &mut [u8],
+    blocks: &[&[u8]],
+    tree: &Tree,
+) -> Result<Option<Vec<u32>>, AllocError>
+    requires as_many { 512 * length blocks.now ≡ length file.old }
+    requires few { length blocks.now ≤ 1 + 128 * MOST_FAT_SECTORS }
+    ensures denotes { IfOk result (λ numbers. IfSome numbers (λ _. ∥ Denotes file.new (kept tree.now).now ∥₁)) }
+    ensures changed { IfOk result (λ numbers. IfSome numbers (λ n. n.items ≡ changed_blocks file.old file.new)) }
+    ensures stays { IfOk result (λ numbers. IfNone numbers (file.new ≡ file.old)) }
+    ensures kept { OnErr result (file.new ≡ file.old) }
+{
+    let mut was = Vec::new(alloc);
+    let mut numbers = Vec::new(alloc);
+    let denotes = lay_and_check(alloc, file, &mut was, &mut numbers, blocks, tree);
+    if let Ok(true) = denotes {
+        return Ok(Some(numbers));
+    }
+    put_back(file, was);
+    denotes?;
+    Ok(None)
+}
+
+/// Puts a new file of these blocks in the place of an older one, and gives the numbers of those that change or are new. None
+/// where it wouldn't denote the tree.
+///
+/// Where that is so, and where memory is wanting, the file stays as it was.
+fn replace_file(
+    alloc: Global,
+    file: &mut Vec<u8>,
+    blocks: &[&[u8]],
+    tree: &Tree,
+) -> Result<Option<Vec<u32>>, AllocError>
+    requires { length blocks.now ≤ 1 + 128 * MOST_FAT_SECTORS }
+    ensures denotes { IfOk result (λ numbers. IfSome numbers (λ _. ∥ Denotes file.new.items (kept tree.now).now ∥₁)) }
+    ensures changed { IfOk result (λ numbers. IfSome numbers (λ n. n.items ≡ changed_blocks file.old.items file.new.items)) }
+    ensures stays { IfOk result (λ numbers. IfNone numbers (file.new.items ≡ file.old.items)) }
+    ensures kept { OnErr result (file.new.items ≡ file.old.items) }
+{
+    let update = overlaid(alloc, file, blocks)?;
+    if checked(alloc, &update.file, tree)?.is_none() {
+        return Ok(None);
+    }
+    *file = update.file;
+    Ok(Some(update.numbers))
+}
+
+/// Makes a file that of these blocks, in place if it has as many, and gives the numbers of those that change or are new. None
+/// where it wouldn't denote the tree.
+///
+/// Where that is so, and where memory is wanting, the file stays as it was.
+fn change_blocks(
+    alloc: Global,
+    file: &mut Vec<u8>,
+    blocks: &[&[u8]],
+    tree: &Tree,
+) -> Result<Option<Vec<u32>>, AllocError>
+    requires { length blocks.now ≤ 1 + 128 * MOST_FAT_SECTORS }
+    ensures denotes { IfOk result (λ numbers. IfSome numbers (λ _. ∥ Denotes file.new.items (kept tree.now).now ∥₁)) }
+    ensures changed { IfOk result (λ numbers. IfSome numbers (λ n. n.items ≡ changed_blocks file.old.items file.new.items)) }
+    ensures stays { IfOk result (λ numbers. IfNone numbers (file.new.items ≡ file.old.items)) }
+    ensures kept { OnErr result (file.new.items ≡ file.old.items) }
+{
+    if BLOCK * blocks.len() == file.len() {
+        return change_in_place(alloc, file, blocks, tree);
+    }
+    replace_file(alloc, file, blocks, tree)
+}
+
+/// Makes a file, which denotes a tree, that of another one, in the sectors that it has, and gives the numbers of the blocks that
+/// change or are new. None where those sectors won't do.
+///
+/// Where that is so, and where memory is wanting, the file stays as it was.
+fn change_in_sectors(
+    alloc: Global,
+    file: &mut Vec<u8>,
+    tree: &Tree,
+) -> Result<Option<Vec<u32>>, AllocError>
+    ensures denotes { IfOk result (λ numbers. IfSome numbers (λ _. ∥ Denotes file.new.items (kept tree.now).now ∥₁)) }
+    ensures changed { IfOk result (λ numbers. IfSome numbers (λ n. n.items ≡ changed_blocks file.old.items file.new.items)) }
+    ensures stays { IfOk result (λ numbers. IfNone numbers (file.new.items ≡ file.old.items)) }
+    ensures kept { OnErr result (file.new.items ≡ file.old.items) }
+{
+    let outline = match read_outline(alloc, file) {
+        Ok(outline) => outline,
+        Err(ReadFault::NoMemory) => return Err(AllocError),
+        // What denotes a tree isn't refused so.
+        Err(_) => return Ok(None),
+    };
+    let Some(laid) = place_over(alloc, file, &outline, tree.root())? else {
+        return Ok(None);
+    };
+    let blocks = laid.blocks(alloc)?;
+    change_blocks(alloc, file, &blocks, tree)
+}
+
+/// Puts the file of a tree, laid out anew, in the place of an older one, and gives the numbers of the blocks that change or are
+/// new.
+///
+/// Refused: as `write_file`. Then the file stays as it was.
+fn lay_out_anew(alloc: Global, file: &mut Vec<u8>, tree: &Tree) -> Result<Vec<u32>, WriteFault>
+    ensures denotes { OnOk result (∥ Denotes file.new.items (kept tree.now).now ∥₁) }
+    ensures changed { IfOk result (λ numbers. numbers.items ≡ changed_blocks file.old.items file.new.items) }
     ensures refused { IfErr result (Refuses (writable (kept tree.now).now)) }
     ensures allowed { OnOk result (writable (kept tree.now).now ≡ Ok tt) }
+    ensures kept { OnErr result (file.new.items ≡ file.old.items) }
 {
-    let file = written(alloc, tree)?;
-    match changed(alloc, old, &file) {
-        Ok(numbers) => Ok(Update { file, numbers }),
+    let new = written(alloc, tree)?;
+    match changed(alloc, file, &new) {
+        Ok(numbers) => {
+            *file = new;
+            Ok(numbers)
+        }
         Err(_) => Err(WriteFault::NoMemory),
     }
 }
 
-/// The file of a tree that takes the place of one that denotes a tree: in its sectors, or else laid out anew.
+/// Makes a file, which denotes a tree, that of another one: in its sectors, or else laid out anew. Gives the numbers of the
+/// blocks that change or are new.
 ///
-/// Refused: as `write_file`.
-fn laid_over(alloc: Global, old: &[u8], tree: &Tree) -> Result<Update, WriteFault>
-    ensures denotes { IfOk result (λ u. ∥ Denotes u.file.items (kept tree.now).now ∥₁) }
-    ensures changed { IfOk result (λ u. u.numbers.items ≡ changed_blocks old.now u.file.items) }
+/// Refused: as `write_file`. Then the file stays as it was.
+fn change_file(alloc: Global, file: &mut Vec<u8>, tree: &Tree) -> Result<Vec<u32>, WriteFault>
+    ensures denotes { OnOk result (∥ Denotes file.new.items (kept tree.now).now ∥₁) }
+    ensures changed { IfOk result (λ numbers. numbers.items ≡ changed_blocks file.old.items file.new.items) }
     ensures refused { IfErr result (Refuses (writable (kept tree.now).now)) }
     ensures allowed { OnOk result (writable (kept tree.now).now ≡ Ok tt) }
+    ensures kept { OnErr result (file.new.items ≡ file.old.items) }
 {
-    match moved(alloc, old, tree)? {
-        Some(update) => Ok(update),
-        None => anew(alloc, old, tree),
+    check_room(tree)?;
+    match change_in_sectors(alloc, file, tree)? {
+        Some(numbers) => Ok(numbers),
+        None => lay_out_anew(alloc, file, tree),
     }
 }
 
@@ -212,8 +310,6 @@ impl Image {
         ensures allowed { OnOk result (writable (kept tree.now).now ≡ Ok tt) }
         ensures kept { OnErr result (self.new ≡ self.old) }
     {
-        let Update { file, numbers } = laid_over(alloc, &self.file, tree)?;
-        self.file = file;
-        Ok(numbers)
+        change_file(alloc, &mut self.file, tree)
     }
 }

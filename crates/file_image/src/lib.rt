@@ -3,4 +3,5 @@
 
 pub mod changed;
 pub mod image;
+mod in_place;
 mod update;
