@@ -1,3 +1,4 @@
 pub mod Again
 pub mod Came
 pub mod Carried
+pub mod Faulted

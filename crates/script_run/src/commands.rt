@@ -2,15 +2,19 @@
 
 ghost use Rattle.container_model.specs.Record.{Record};
 ghost use Rattle.script_model.specs.Bounds.{linking, pace, resting};
+ghost use Rattle.script_model.specs.Errors.{behind_hold};
 ghost use Rattle.script_model.specs.Events.{running};
 ghost use Rattle.script_model.specs.Orders.{behind_command, orders};
 ghost use Rattle.script_model.specs.Origins.{AreNext, Passed, giving, passed};
+ghost use Rattle.script_model.specs.declared.command.ScriptCommand.TheVariants as script;
 ghost use Rattle.script_model.specs.declared.step.Step.{Step};
-ghost use Rattle.script_links.specs.Links.{AreLinked, AreServed, EachServed, beside, links_of};
+ghost use Rattle.script_links.specs.Links.{AreLinked, AreServed, EachServed, HoldFor, IsLinkAt, beside, links_of};
 ghost use Rattle.script_links.specs.Ready.{AreReady, MayLink, pace_beside};
+ghost use Rattle.script_links.specs.Shown.{Shows};
 ghost use Rattle.script_links.specs.Told.{IsTold};
+ghost use Rattle.script_links.specs.declared.fault.ScriptFault.TheVariants.{NoMemory};
 ghost use Rattle.script_links.specs.declared.links.Link.{Link};
-ghost use Rattle.std.specs.Prelude.{◌≡◌, ◌≤◌, ◌<◌, ◌++◌, ◌∷◌, [], false, true, IfOk, IfSome, OnOk, length, ℕ, slice_index_or, slice_set, vec_capacity, vec_len};
+ghost use Rattle.std.specs.Prelude.{◌≡◌, ◌≤◌, ◌<◌, ◌++◌, ◌∷◌, Bool, [], false, true, IfErr, IfNone, IfOk, IfSome, OnOk, length, ℕ, slice_index_or, slice_set, vec_capacity, vec_len};
 
 use crate::opens::open;
 use container_core::container::ContainerCore;
@@ -35,7 +39,9 @@ use wire_msgs::message::Message;
 
 /// Where the link of a server stands.
 fn place_of(links: &[Link], inc: u32) -> Option<usize>
-    ensures { IfSome result (λ i. i < length links.now) }
+    ensures within { IfSome result (λ i. i < length links.now) }
+    ensures there { IfSome result (λ i. IsLinkAt links.now i inc) }
+    ensures none { IfNone result (links_of inc links.now ≡ 0) }
 {
     for (place, link) in links.iter().enumerate() {
         if link.inc == inc {
@@ -57,7 +63,7 @@ fn is_linked(links: &[Link], inc: u32) -> bool
     false
 }
 
-/// Starts a server, and makes its link. The container stays as it is.
+/// Starts a server that has no link yet, and makes its link. The container stays as it is.
 fn start<H: Host>(
     alloc: Global,
     host: &mut H,
@@ -73,9 +79,11 @@ fn start<H: Host>(
     ensures served { AreServed (H.told host.new) links.new.items }
     ensures paced { (s : ℕ) → pace s (H.told host.new) ≡ pace s (H.told host.old) }
     ensures ordered { orders (H.told host.new) ≡ orders (H.told host.old) }
+    ensures shown { IfErr result (λ fault. Shows (H.told host.new) fault) }
+    ensures holding { (f : ℕ → Bool) → HoldFor f links.old.items → HoldFor f links.new.items }
 {
     if is_linked(links, inc) {
-        return Err(ScriptFault::Link(inc));
+        return Ok(());
     }
     links.reserve(1)?;
     match host.start(inc) {
@@ -112,6 +120,8 @@ fn end<H: Host>(
     ensures served { AreServed (H.told host.new) links.new.items }
     ensures paced { (s : ℕ) → pace s (H.told host.new) ≡ pace s (H.told host.old) }
     ensures ordered { orders (H.told host.new) ≡ orders (H.told host.old) }
+    ensures shown { IfErr result (λ fault. Shows (H.told host.new) fault) }
+    ensures holding { (f : ℕ → Bool) → HoldFor f links.old.items → HoldFor f links.new.items }
 {
     match place_of(links, inc) {
         Some(place) => end_at(alloc, host, core, links, place, noticed),
@@ -136,6 +146,8 @@ fn act_on<H: Host>(
     ensures served { AreServed (H.told host.new) links.new.items }
     ensures paced { (s : ℕ) → pace s (H.told host.new) ≡ pace s (H.told host.old) }
     ensures ordered { orders (H.told host.new) ≡ orders (H.told host.old) }
+    ensures shown { IfErr result (λ fault. Shows (H.told host.new) fault) }
+    ensures holding { (f : ℕ → Bool) → HoldFor f links.old.items → HoldFor f links.new.items }
 {
     match action {
         Action::Start(inc) => start(alloc, host, core, links, *inc),
@@ -161,6 +173,8 @@ fn act<H: Host>(
     ensures served { AreServed (H.told host.new) links.new.items }
     ensures paced { (s : ℕ) → pace s (H.told host.new) ≡ pace s (H.told host.old) }
     ensures ordered { orders (H.told host.new) ≡ orders (H.told host.old) }
+    ensures shown { IfErr result (λ fault. Shows (H.told host.new) fault) }
+    ensures holding { (f : ℕ → Bool) → HoldFor f links.old.items → HoldFor f links.new.items }
 {
     for action in answer.actions.as_slice() {
         act_on(alloc, host, core, links, action, noticed)?;
@@ -185,6 +199,8 @@ fn order<H: Host>(
     ensures served { AreServed (H.told host.new) links.new.items }
     ensures paced { (s : ℕ) → pace s (H.told host.new) ≡ pace s (H.told host.old) }
     ensures ordered { orders (H.told host.new) ≡ Step.Command ordered ∷ orders (H.told host.old) }
+    ensures shown { IfErr result (λ fault. Shows (H.told host.new) fault) }
+    ensures holding { (f : ℕ → Bool) → HoldFor f links.old.items → HoldFor f links.new.items }
 {
     match command(alloc, host, core, ordered) {
         Ok(answer) => {
@@ -215,6 +231,8 @@ fn cut<H: Host>(
     ensures served { AreServed (H.told host.new) links.new.items }
     ensures ready { OnOk result (AreReady 1 (H.told host.new) links.new.items) }
     ensures ordered { orders (H.told host.new) ≡ orders (H.told host.old) }
+    ensures shown { IfErr result (λ fault. Shows (H.told host.new) fault) }
+    ensures holding { (f : ℕ → Bool) → HoldFor f links.old.items → HoldFor f links.new.items }
 {
     let inc = links[place].inc;
     send_turn(alloc, host, core, inc)?;
@@ -241,6 +259,7 @@ fn hand_all<H: Host>(
     ensures given { IfOk result (λ all. all ≡ true → passed inc (H.told host.new) ≡ giving waiting (passed inc (H.told host.old))) }
     ensures paced { (s : ℕ) → pace s (H.told host.new) ≡ pace s (H.told host.old) }
     ensures ordered { orders (H.told host.new) ≡ orders (H.told host.old) }
+    ensures shown { IfErr result (λ fault. Shows (H.told host.new) fault) }
 {
     for taken in waiting.into_vec() {
         if !hand_over(alloc, host, core, inc, taken, noticed)? {
@@ -278,6 +297,7 @@ fn reconnect_at<H: Host>(alloc: Global, host: &mut H, links: &mut Vec<Link>, pla
     ensures aside { (d : Link) (s : ℕ) → pace_beside (slice_index_or links.old.items place d).inc s (H.told host.new) ≡ pace_beside (slice_index_or links.old.items place d).inc s (H.told host.old) }
     ensures made { (d : Link) → pace (slice_index_or links.old.items place d).inc (H.told host.new) ≡ linking result (pace (slice_index_or links.old.items place d).inc (H.told host.old)) }
     ensures ordered { orders (H.told host.new) ≡ orders (H.told host.old) }
+    ensures holding { (f : ℕ → Bool) → HoldFor f links.old.items → HoldFor f links.new.items }
 {
     reconnect(alloc, host, &mut links[place])
 }
@@ -300,6 +320,8 @@ fn release<H: Host>(
     ensures served { OnOk result (AreServed (H.told host.new) links.new.items) }
     ensures paced { (s : ℕ) → pace s (H.told host.new) ≡ pace s (H.told host.old) }
     ensures ordered { orders (H.told host.new) ≡ orders (H.told host.old) }
+    ensures shown { IfErr result (λ fault. Shows (H.told host.new) fault) }
+    ensures holding { (f : ℕ → Bool) (inc : ℕ) → IsLinkAt links.old.items place inc → HoldFor f links.old.items → HoldFor (λ s. behind_hold (script.Release inc) s (f s)) links.new.items }
 {
     let inc = links[place].inc;
     let waiting = let_go(alloc, links, place);
@@ -314,17 +336,18 @@ fn hold(links: &mut Vec<Link>, place: usize)
     requires { place < length links.old.items }
     ensures same { (s : ℕ) → links_of s links.new.items ≡ links_of s links.old.items }
     ensures served { (f : ℕ → Passed) → EachServed f links.old.items → EachServed f links.new.items }
+    ensures holding { (f : ℕ → Bool) (inc : ℕ) → IsLinkAt links.old.items place inc → HoldFor f links.old.items → HoldFor (λ s. behind_hold (script.Hold inc) s (f s)) links.new.items }
 {
     links[place].held = true;
 }
 
-/// A command about the link of a server: none where there is no such server.
-fn at_link<H: Host>(
+/// Cuts the link of a server, if it has one.
+fn cut_link<H: Host>(
     alloc: Global,
     host: &mut H,
     core: &mut ContainerCore,
     links: &mut Vec<Link>,
-    command: &ScriptCommand,
+    inc: u32,
     noticed: &mut Option<Told>,
 ) -> Result<Told, ScriptFault>
     requires told { IsTold ⟦<H::Disk as Disk>⟧ (H.told host.old) core.old }
@@ -336,20 +359,55 @@ fn at_link<H: Host>(
     ensures served { OnOk result (AreServed (H.told host.new) links.new.items) }
     ensures ready { OnOk result (AreReady 1 (H.told host.new) links.new.items) }
     ensures ordered { orders (H.told host.new) ≡ orders (H.told host.old) }
+    ensures shown { IfErr result (λ fault. Shows (H.told host.new) fault) }
+    ensures holding { (f : ℕ → Bool) → HoldFor f links.old.items → HoldFor f links.new.items }
 {
-    let inc = match command {
-        ScriptCommand::Cut(inc) | ScriptCommand::Hold(inc) | ScriptCommand::Release(inc) => *inc,
-        _ => return Ok(Told::Done),
-    };
     let Some(place) = place_of(links, inc) else {
         return Ok(Told::Fault(ContainerFault::NoSuch));
     };
-    match command {
-        ScriptCommand::Cut(_) => cut(alloc, host, core, links, place, noticed)?,
-        ScriptCommand::Release(_) => release(alloc, host, core, links, place, noticed)?,
-        _ => hold(links, place),
-    }
+    cut(alloc, host, core, links, place, noticed)?;
     Ok(Told::Done)
+}
+
+/// Releases the link of a server, if it has one.
+fn release_link<H: Host>(
+    alloc: Global,
+    host: &mut H,
+    core: &mut ContainerCore,
+    links: &mut Vec<Link>,
+    inc: u32,
+    noticed: &mut Option<Told>,
+) -> Result<Told, ScriptFault>
+    requires told { IsTold ⟦<H::Disk as Disk>⟧ (H.told host.old) core.old }
+    requires linked { AreLinked (H.told host.old) links.old.items }
+    requires served { AreServed (H.told host.old) links.old.items }
+    requires rested { (s : ℕ) → pace s (H.told host.old) ≡ resting }
+    ensures told { IsTold ⟦<H::Disk as Disk>⟧ (H.told host.new) core.new }
+    ensures linked { AreLinked (H.told host.new) links.new.items }
+    ensures served { OnOk result (AreServed (H.told host.new) links.new.items) }
+    ensures ready { OnOk result (AreReady 1 (H.told host.new) links.new.items) }
+    ensures ordered { orders (H.told host.new) ≡ orders (H.told host.old) }
+    ensures shown { IfErr result (λ fault. Shows (H.told host.new) fault) }
+    ensures holding { (f : ℕ → Bool) → HoldFor f links.old.items → HoldFor (λ s. behind_hold (script.Release inc) s (f s)) links.new.items }
+{
+    let Some(place) = place_of(links, inc) else {
+        return Ok(Told::Fault(ContainerFault::NoSuch));
+    };
+    release(alloc, host, core, links, place, noticed)?;
+    Ok(Told::Done)
+}
+
+/// Holds the link of a server, if it has one.
+fn hold_link(links: &mut Vec<Link>, inc: u32) -> Told
+    ensures same { (s : ℕ) → links_of s links.new.items ≡ links_of s links.old.items }
+    ensures served { (f : ℕ → Passed) → EachServed f links.old.items → EachServed f links.new.items }
+    ensures holding { (f : ℕ → Bool) → HoldFor f links.old.items → HoldFor (λ s. behind_hold (script.Hold inc) s (f s)) links.new.items }
+{
+    let Some(place) = place_of(links, inc) else {
+        return Told::Fault(ContainerFault::NoSuch);
+    };
+    hold(links, place);
+    Told::Done
 }
 
 /// Shows a frame.
@@ -358,7 +416,9 @@ fn show(
     core: &ContainerCore,
     frame: u32,
     text: &mut Vec<u8>,
-) -> Result<Told, ScriptFault> {
+) -> Result<Told, ScriptFault>
+    ensures { IfErr result (λ fault. fault ≡ NoMemory) }
+{
     match core.screen(alloc, frame) {
         Ok(shown) => {
             text.extend_from_slice(&shown)?;
@@ -388,12 +448,16 @@ fn begin<H: Host>(
     ensures served { OnOk result (AreServed (H.told host.new) links.new.items) }
     ensures ready { OnOk result (AreReady 1 (H.told host.new) links.new.items) }
     ensures ordered { orders (H.told host.new) ≡ behind_command command (orders (H.told host.old)) }
+    ensures shown { IfErr result (λ fault. Shows (H.told host.new) fault) }
+    ensures holding { (f : ℕ → Bool) → HoldFor f links.old.items → HoldFor (λ s. behind_hold command s (f s)) links.new.items }
 {
     match command {
         ScriptCommand::Container(ordered) => order(alloc, host, core, links, ordered, noticed),
         ScriptCommand::Open(name, width, height) => open(alloc, host, core, name, width, height),
         ScriptCommand::Screen(frame) => show(alloc, core, frame, text),
-        other => at_link(alloc, host, core, links, &other, noticed),
+        ScriptCommand::Cut(inc) => cut_link(alloc, host, core, links, inc, noticed),
+        ScriptCommand::Hold(inc) => Ok(hold_link(links, inc)),
+        ScriptCommand::Release(inc) => release_link(alloc, host, core, links, inc, noticed),
     }
 }
 
@@ -414,6 +478,8 @@ pub(crate) fn carry_out<H: Host, W: Write>(
     ensures linked { AreLinked (H.told host.new) links.new.items }
     ensures served { OnOk result (AreServed (H.told host.new) links.new.items) }
     ensures ordered { orders (H.told host.new) ≡ behind_command command (orders (H.told host.old)) }
+    ensures shown { IfErr result (λ fault. Shows (H.told host.new) fault) }
+    ensures holding { (f : ℕ → Bool) → HoldFor f links.old.items → HoldFor (λ s. behind_hold command s (f s)) links.new.items }
 {
     let mut noticed = None;
     let mut text = Vec::new(alloc);

@@ -8,7 +8,8 @@ ghost use Rattle.script_model.specs.Orders.{orders};
 ghost use Rattle.script_model.specs.Origins.{passed};
 ghost use Rattle.script_model.specs.Saved.{IsReadFrom, IsReadOf};
 ghost use Rattle.script_links.specs.Told.{IsTold};
-ghost use Rattle.std.specs.Prelude.{◌≡◌, ℕ, IfOk, IfSome, Some};
+ghost use Rattle.script_links.specs.declared.fault.ScriptFault.TheVariants.{NoMemory};
+ghost use Rattle.std.specs.Prelude.{◌≡◌, ℕ, IfErr, IfOk, IfSome, Some};
 
 use container_core::container::ContainerCore;
 use container_documents::reading::document_in;
@@ -80,6 +81,7 @@ fn make_frame<H: Host>(
     ensures quiet { (s : ℕ) → passed s (H.told host.new) ≡ passed s (H.told host.old) }
     ensures paced { (s : ℕ) → pace s (H.told host.new) ≡ pace s (H.told host.old) }
     ensures ordered { orders (H.told host.new) ≡ orders (H.told host.old) }
+    ensures lacking { IfErr result (λ fault. fault ≡ NoMemory) }
 {
     match opened(alloc, host, core, name, width, height, document, file) {
         Ok(answer) => Ok(opened_by(&answer)),
@@ -105,6 +107,7 @@ fn open_found<H: Host>(
     ensures quiet { (s : ℕ) → passed s (H.told host.new) ≡ passed s (H.told host.old) }
     ensures paced { (s : ℕ) → pace s (H.told host.new) ≡ pace s (H.told host.old) }
     ensures ordered { orders (H.told host.new) ≡ orders (H.told host.old) }
+    ensures lacking { IfErr result (λ fault. fault ≡ NoMemory) }
 {
     match document_in(alloc, file) {
         Ok(Some(document)) => make_frame(alloc, host, core, name, width, height, document, file),
@@ -132,6 +135,7 @@ pub(crate) fn open<H: Host>(
     ensures quiet { (s : ℕ) → passed s (H.told host.new) ≡ passed s (H.told host.old) }
     ensures paced { (s : ℕ) → pace s (H.told host.new) ≡ pace s (H.told host.old) }
     ensures ordered { orders (H.told host.new) ≡ orders (H.told host.old) }
+    ensures lacking { IfErr result (λ fault. fault ≡ NoMemory) }
 {
     match core.may_open(name.as_slice(), width, height) {
         Ok(()) => {}

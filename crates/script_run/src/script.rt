@@ -8,10 +8,11 @@ ghost use Rattle.script_model.specs.Origins.{AreHeard, passed};
 ghost use Rattle.script_model.specs.Saved.{AreOpened, AreSaved};
 ghost use Rattle.script_model.specs.Turns.{AreTurns};
 ghost use Rattle.script_run.specs.Carried.{AreCarriedOut, MayHaveBegun};
+ghost use Rattle.script_run.specs.Faulted.{IsFaultOf, RefusesScript, ShowsOf};
 ghost use Rattle.script_texts.specs.Commands.{commands_read};
-ghost use Rattle.script_links.specs.Links.{AreLinked, AreServed};
+ghost use Rattle.script_links.specs.Links.{AreLinked, AreServed, HoldFor, links_of};
 ghost use Rattle.script_links.specs.Told.{IsTold};
-ghost use Rattle.std.specs.Prelude.{◌≡◌, ◌∷◌, ℕ, [], IfOk, IfSome, Ok, OnOk};
+ghost use Rattle.std.specs.Prelude.{◌≡◌, ◌≤◌, ◌∷◌, Bool, ℕ, [], false, true, IfErr, IfOk, IfSome, Ok, OnOk};
 
 use crate::commands::carry_out;
 use container_core::container::{ContainerCore, Limits};
@@ -33,7 +34,8 @@ const MOST_NUMBERS: u32 = 1_000_000;
 
 /// The commands that a text spells.
 fn read_script<R: Read>(alloc: Global, reader: &mut R) -> Result<Vec<ScriptCommand>, ScriptFault>
-    ensures { IfOk result (λ commands. IfSome (R.remaining reader.old) (λ text. commands_read text ≡ Ok commands.items)) }
+    ensures read { IfOk result (λ commands. IfSome (R.remaining reader.old) (λ text. commands_read text ≡ Ok commands.items)) }
+    ensures refused { IfErr result (λ fault. RefusesScript (R.remaining reader.old) fault) }
 {
     let text = match read_all(alloc, reader) {
         Ok(text) => text,
@@ -56,6 +58,18 @@ fn begins<H: Host>(host: &mut H, place: usize)
     host.note(&Step::Begins(place));
 }
 
+/// Whether a link is held.
+fn is_any_held(links: &[Link]) -> bool
+    ensures { result ≡ true → (f : ℕ → Bool) → HoldFor f links.now → (server : ℕ) × (1 ≤ links_of server links.now) × (f server ≡ true) }
+{
+    for link in links {
+        if link.held {
+            return true;
+        }
+    }
+    false
+}
+
 /// Carries out commands, one after another.
 fn carry_out_all<H: Host, W: Write>(
     alloc: Global,
@@ -69,16 +83,18 @@ fn carry_out_all<H: Host, W: Write>(
     requires linked { AreLinked (H.told host.old) links.old.items }
     requires served { AreServed (H.told host.old) links.old.items }
     requires none { orders (H.told host.old) ≡ [] }
+    requires free { HoldFor (λ _. false) links.old.items }
     ensures told { IsTold ⟦<H::Disk as Disk>⟧ (H.told host.new) core.new }
     ensures linked { AreLinked (H.told host.new) links.new.items }
     ensures ordered { OnOk result (orders (H.told host.new) ≡ behind_commands 0 commands.items []) }
     ensures begun { HaveBegun (H.told host.new) commands.items }
+    ensures shown { IfErr result (λ fault. ShowsOf commands.items (H.told host.new) fault) }
 {
     for (place, command) in commands.into_iter().enumerate() {
         begins(host, place);
         carry_out(alloc, host, core, links, command, writer)?;
     }
-    if links.iter().any(|link| link.held) {
+    if is_any_held(links) {
         return Err(ScriptFault::Stalled);
     }
     Ok(())
@@ -90,7 +106,8 @@ fn carry_out_all<H: Host, W: Write>(
 ///
 /// Refused: an input that isn't read or has more than 134,217,728 bytes; the first line that spells no command; and then, as
 /// commands are carried out: a server that isn't started (`Link`); what isn't answered in 1,000 turns, or a link that is held
-/// at the end (`Stalled`); no memory; a write that fails.
+/// at the end (`Stalled`); a file that can't be opened, so that it isn't known what became of its save (`File`); no memory; a
+/// write that fails. Which of these it is, the host's history shows (`faulted`), but for the last two.
 pub fn run_script<H: Host, R: Read, W: Write>(
     alloc: Global,
     host: &mut H,
@@ -106,6 +123,7 @@ pub fn run_script<H: Host, R: Read, W: Write>(
     ensures opened { H.Disk.follows_model → AreOpened ⟦<H::Disk as Disk>⟧ (H.told host.new) }
     ensures carried { OnOk result (IfSome (R.remaining reader.old) (λ text. AreCarriedOut (H.told host.new) text)) }
     ensures begun { IfSome (R.remaining reader.old) (λ text. MayHaveBegun (H.told host.new) text) }
+    ensures faulted { IfErr result (λ fault. IsFaultOf (R.remaining reader.old) (H.told host.new) fault) }
 {
     let commands = match read_script(alloc, reader) {
         Ok(commands) => commands,

@@ -1,7 +1,7 @@
-use Rattle.std.proofs.Common.{◌≡◌, ℕ}
+use Rattle.std.proofs.Common.{◌≡◌, Bool, ℕ}
 use Rattle.script_model.specs.Orders.{orders}
 use Rattle.script_model.specs.Bounds.{pace}
-use Rattle.script_links.specs.Links.{AreLinked, AreServed}
+use Rattle.script_links.specs.Links.{AreLinked, AreServed, HoldFor}
 use Rattle.script_links.specs.Told.{IsTold}
 use Rattle.script_run.proofs.commands.act.Given as goal
 
@@ -11,5 +11,6 @@ invariant-loop-action g l = record {
   linked : AreLinked (g.H.Host.told l.host) l.links.items;
   served : AreServed (g.H.Host.told l.host) l.links.items;
   paced : (s : ℕ) → pace s (g.H.Host.told l.host) ≡ pace s (g.H.Host.told l.fn.host);
+  holding : (f : ℕ → Bool) → HoldFor f l.fn.links.items → HoldFor f l.links.items;
   ordered : orders (g.H.Host.told l.host) ≡ orders (g.H.Host.told l.fn.host);
 }

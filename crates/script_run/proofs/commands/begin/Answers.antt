@@ -1,6 +1,10 @@
+use Rattle.std.proofs.Common.{◌∙◌, sym}
 use Rattle.script_links.specs.Ready.{AreReady}
 use Rattle.script_links.proofs.Paces.{all_rested, still_rested}
 use Rattle.script_links.proofs.Served.{on_ok}
+use Rattle.script_links.proofs.Shown.{memory_shown}
+use Rattle.script_model.specs.Origins.{passed}
+use Rattle.script_run.proofs.Held.{as_command}
 use Rattle.script_run.proofs.commands.begin.Goals as goal
 
 pub returns-in-Container-clause-ready : goal.returns-in-Container-clause-ready
@@ -13,3 +17,36 @@ returns-in-Open-clause-ready g c =
 
 pub returns-in-Screen-clause-ready : goal.returns-in-Screen-clause-ready
 returns-in-Screen-clause-ready g c = on_ok c.show.result (AreReady 1 (g.H.Host.told c.args.host.now) c.args.links.now.items) (all_rested (g.H.Host.told c.args.host.now) c.args.links.now.items c.requires.rested)
+
+pub returns-in-Hold-clause-ready : goal.returns-in-Hold-clause-ready
+returns-in-Hold-clause-ready g c = all_rested (g.H.Host.told c.args.host.now) c.hold_link.new.links.items c.requires.rested
+
+pub returns-in-Hold-clause-linked : goal.returns-in-Hold-clause-linked
+returns-in-Hold-clause-linked g c = λ s. c.requires.linked s ∙ sym (c.hold_link.ensures.same s)
+
+pub returns-in-Hold-clause-served : goal.returns-in-Hold-clause-served
+returns-in-Hold-clause-served g c = c.hold_link.ensures.served (λ s. passed s (g.H.Host.told c.args.host.now)) c.requires.served
+
+pub returns-in-Open-clause-shown : goal.returns-in-Open-clause-shown
+returns-in-Open-clause-shown g c = memory_shown c.open.result (g.H.Host.told c.open.new.host) c.open.ensures.lacking
+
+pub returns-in-Screen-clause-shown : goal.returns-in-Screen-clause-shown
+returns-in-Screen-clause-shown g c = memory_shown c.show.result (g.H.Host.told c.args.host.now) c.show.ensures
+
+pub returns-in-Container-clause-holding : goal.returns-in-Container-clause-holding
+returns-in-Container-clause-holding g c = λ f hold. as_command f _ c.args.command c.order.new.links.items c.in-Container.is (c.order.ensures.holding f hold)
+
+pub returns-in-Cut-clause-holding : goal.returns-in-Cut-clause-holding
+returns-in-Cut-clause-holding g c = λ f hold. as_command f _ c.args.command c.cut_link.new.links.items c.in-Cut.is (c.cut_link.ensures.holding f hold)
+
+pub returns-in-Hold-clause-holding : goal.returns-in-Hold-clause-holding
+returns-in-Hold-clause-holding g c = λ f hold. as_command f _ c.args.command c.hold_link.new.links.items c.in-Hold.is (c.hold_link.ensures.holding f hold)
+
+pub returns-in-Release-clause-holding : goal.returns-in-Release-clause-holding
+returns-in-Release-clause-holding g c = λ f hold. as_command f _ c.args.command c.release_link.new.links.items c.in-Release.is (c.release_link.ensures.holding f hold)
+
+pub returns-in-Open-clause-holding : goal.returns-in-Open-clause-holding
+returns-in-Open-clause-holding g c = λ f hold. as_command f _ c.args.command c.args.links.now.items c.in-Open.is hold
+
+pub returns-in-Screen-clause-holding : goal.returns-in-Screen-clause-holding
+returns-in-Screen-clause-holding g c = λ f hold. as_command f _ c.args.command c.args.links.now.items c.in-Screen.is hold

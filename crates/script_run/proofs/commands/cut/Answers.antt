@@ -1,9 +1,11 @@
-use Rattle.std.proofs.Common.{◌≡◌, ◌<◌, ℕ, length, ap, sym, subst, ◌∙◌}
+use Rattle.std.proofs.Common.{◌≡◌, ◌<◌, ℕ, length, ap, sym, subst, ◌∙◌, rules}
 use Rattle.script_model.specs.Bounds.{linking, pace}
 use Rattle.script_links.specs.declared.links.Link.{Link}
 use Rattle.script_links.specs.Ready.{AreReady, MayLink, pace_beside}
 use Rattle.script_links.proofs.Paces.{any_at, cut_ended, cut_may, cut_ready, none_ended, rests_within}
 use Rattle.script_links.proofs.Served.{on_ok}
+use Rattle.std.specs.Result.{IsErrAnd}
+use Rattle.script_links.proofs.Shown.{passed_on}
 use Rattle.script_run.proofs.commands.cut.Goals as goal
 
 pub send_turn-requires-clause-within : goal.send_turn-requires-clause-within
@@ -30,3 +32,11 @@ returns-clause-ready g c =
     (cut_ended (g.H.Host.told c.args.host.now) (g.H.Host.told c.send_turn.new.host) (g.H.Host.told c.reconnect_at.new.host) c.index.result.now.inc c.requires.rested c.send_turn.ensures.aside
     (subst (λ (l : Link). (s : ℕ) → pace_beside l.inc s (g.H.Host.told c.reconnect_at.new.host) ≡ pace_beside l.inc s (g.H.Host.told c.send_turn.new.host)) (sym c.index.ensures) (c.reconnect_at.ensures.aside c.index.result.now))
     (g.H.Host.told c.end_at.new.host) c.end_at.new.links.items c.end_at.ensures.paced none)
+
+pub returns-in_err-send_turn-clause-shown : goal.returns-in_err-send_turn-clause-shown
+returns-in_err-send_turn-clause-shown g c =
+    let again : IsErrAnd c.from_residual.result (λ x. x ≡ c.in_err-send_turn.field-0.0) = search rules in
+    passed_on c.from_residual.result c.in_err-send_turn.field-0.0 (g.H.Host.told c.send_turn.new.host) again c.in_err-send_turn.ensures.shown
+
+pub returns-clause-holding : goal.returns-clause-holding
+returns-clause-holding g c = λ f hold. c.end_at.ensures.holding f (c.reconnect_at.ensures.holding f hold)

@@ -2,6 +2,8 @@ use Rattle.std.proofs.Common.{◌≡◌, ◌∷◌, ◌∙◌, rules}
 use Rattle.std.specs.Vec.Iter.{into_iter_items}
 use Rattle.script_model.specs.Origins.{giving, passed}
 use Rattle.script_links.proofs.Served.{others_given, others_next}
+use Rattle.std.specs.Result.{IsErrAnd}
+use Rattle.script_links.proofs.Shown.{passed_on}
 use Rattle.script_run.proofs.commands.hand_all.Goals as goal
 
 pub loop-taken-preserved : goal.loop-taken-preserved
@@ -18,3 +20,8 @@ loop-taken-preserved g c =
           (into_iter_items c.next.new.self) items c.hand_over.ensures.given c.loop-taken.invariant.given;
       ordered = c.hand_over.ensures.ordered ∙ c.loop-taken.invariant.ordered;
     }
+
+pub returns-in_err-hand_over-clause-shown : goal.returns-in_err-hand_over-clause-shown
+returns-in_err-hand_over-clause-shown g c =
+    let again : IsErrAnd c.from_residual.result (λ x. x ≡ c.in_err-hand_over.field-0.0) = search rules in
+    passed_on c.from_residual.result c.in_err-hand_over.field-0.0 (g.H.Host.told c.hand_over.new.host) again c.in_err-hand_over.ensures.shown

@@ -1,7 +1,8 @@
-use Rattle.std.proofs.Common.{ap}
+use Rattle.std.proofs.Common.{ap, true}
 use Rattle.script_links.specs.declared.links.Link.{Link}
 use Rattle.script_links.proofs.Given.{same_links}
 use Rattle.script_links.proofs.Served.{hold_served}
+use Rattle.script_run.proofs.Held.{hold_this, server_at}
 use Rattle.script_run.proofs.commands.hold.Goals as goal
 
 pub returns-clause-same : goal.returns-clause-same
@@ -9,3 +10,8 @@ returns-clause-same c = λ s. same_links s c.args.links.now.items c.args.place _
 
 pub returns-clause-served : goal.returns-clause-served
 returns-clause-served c = λ f all. hold_served f c.args.links.now.items c.args.place c.index_mut.result.now c.index_mut.ensures.value c.requires all
+
+pub returns-clause-holding : goal.returns-clause-holding
+returns-clause-holding c = λ f inc at hold.
+    hold_this f inc c.args.links.now.items c.args.place (record (c.index_mut.result.now) { held = true }) c.requires
+    (server_at c.args.links.now.items c.args.place inc c.index_mut.result.now c.requires c.index_mut.ensures.value at) hold

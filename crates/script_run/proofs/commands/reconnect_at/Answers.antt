@@ -5,6 +5,7 @@ use Rattle.script_links.specs.Ready.{MayLink, pace_beside}
 use Rattle.script_links.proofs.Given.{same_links}
 use Rattle.script_links.proofs.Paces.{any_at, set_at}
 use Rattle.script_links.proofs.Served.{placed_served}
+use Rattle.script_links.proofs.Shown.{hold_set}
 use Rattle.script_run.proofs.commands.reconnect_at.Goals as goal
 
 pub returns-clause-linked : goal.returns-clause-linked
@@ -35,3 +36,8 @@ returns-clause-made g c = λ d.
     subst (λ (l : Link). pace l.inc (g.H.Host.told c.reconnect.new.host) ≡ linking c.reconnect.result (pace l.inc (g.H.Host.told c.args.host.now)))
     (c.index_mut.ensures.value ∙ any_at c.args.links.now.items c.args.place c.index_mut.result.now d c.requires.within)
     (subst (λ (i : ℕ). pace i (g.H.Host.told c.reconnect.new.host) ≡ linking c.reconnect.result (pace c.index_mut.result.now.inc (g.H.Host.told c.args.host.now))) c.reconnect.ensures.same c.reconnect.ensures.linked)
+
+pub returns-clause-holding : goal.returns-clause-holding
+returns-clause-holding g c = λ f hold.
+    hold_set f c.args.links.now.items c.args.place c.reconnect.new.link c.index_mut.result.now c.requires.within (c.reconnect.ensures.same ∙ ap (λ (l : Link). l.inc) c.index_mut.ensures.value)
+    (c.reconnect.ensures.holding ∙ ap (λ (l : Link). l.held) c.index_mut.ensures.value) hold

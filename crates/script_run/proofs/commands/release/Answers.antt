@@ -1,7 +1,10 @@
-use Rattle.std.proofs.Common.{false, [], slice_index_or}
+use Rattle.std.proofs.Common.{◌≡◌, ◌==◌, ℕ, Bool, false, [], if◌then◌else◌, rules, slice_index_or}
 use Rattle.script_model.specs.Origins.{passed}
 use Rattle.script_links.specs.Links.{AreServed}
 use Rattle.script_links.proofs.Served.{on_ok, others_placed, release_next, release_served}
+use Rattle.std.specs.Result.{IsErrAnd}
+use Rattle.script_links.proofs.Shown.{passed_on}
+use Rattle.script_run.proofs.Held.{let_go_holds}
 use Rattle.script_run.proofs.commands.release.Goals as goal
 
 pub hand_all-requires-clause-next : goal.hand_all-requires-clause-next
@@ -21,3 +24,20 @@ end_at-requires-clause-served g c =
 
 pub returns-clause-served : goal.returns-clause-served
 returns-clause-served g c = on_ok c.end_at.result (AreServed (g.H.Host.told c.end_at.new.host) c.end_at.new.links.items) c.end_at.ensures.served
+
+pub returns-in_err-hand_all-clause-shown : goal.returns-in_err-hand_all-clause-shown
+returns-in_err-hand_all-clause-shown g c =
+    let again : IsErrAnd c.from_residual.result (λ x. x ≡ c.in_err-hand_all.field-0.0) = search rules in
+    passed_on c.from_residual.result c.in_err-hand_all.field-0.0 (g.H.Host.told c.hand_all.new.host) again c.in_err-hand_all.ensures.shown
+
+pub returns-in_err-hand_all-clause-holding : goal.returns-in_err-hand_all-clause-holding
+returns-in_err-hand_all-clause-holding g c = λ f inc at hold.
+    let_go_holds f (g.H.Host.told c.args.host.now) c.args.links.now.items c.let_go-waiting.new.links.items c.args.place inc c.index.result.now c.requires.within at c.requires.told.single c.requires.linked (c.let_go-waiting.ensures.changed c.index.result.now) hold
+
+pub returns-then-branch-clause-holding : goal.returns-then-branch-clause-holding
+returns-then-branch-clause-holding g c = λ f inc at hold.
+    let_go_holds f (g.H.Host.told c.args.host.now) c.args.links.now.items c.let_go-waiting.new.links.items c.args.place inc c.index.result.now c.requires.within at c.requires.told.single c.requires.linked (c.let_go-waiting.ensures.changed c.index.result.now) hold
+
+pub returns-clause-holding : goal.returns-clause-holding
+returns-clause-holding g c = λ f inc at hold. c.end_at.ensures.holding (λ s. if inc == s then false else f s)
+    (let_go_holds f (g.H.Host.told c.args.host.now) c.args.links.now.items c.let_go-waiting.new.links.items c.args.place inc c.index.result.now c.requires.within at c.requires.told.single c.requires.linked (c.let_go-waiting.ensures.changed c.index.result.now) hold)

@@ -2,6 +2,8 @@ use Rattle.std.proofs.Common.{◌≡◌, ◌++◌, ◌∷◌, [], ap, sym, ◌�
 use Rattle.script_links.specs.Links.{links_of}
 use Rattle.script_links.proofs.Given.{started_linked}
 use Rattle.script_links.proofs.Served.{started_served, unstarted_served}
+use Rattle.script_links.proofs.Shown.{memory_on}
+use Rattle.script_run.proofs.Held.{hold_with}
 use Rattle.script_run.proofs.commands.start.Goals as goal
 
 pub returns-in-Ok-clause-linked : goal.returns-in-Ok-clause-linked
@@ -17,3 +19,14 @@ returns-in-Ok-clause-served g c =
 
 pub returns-in-Err-clause-served : goal.returns-in-Err-clause-served
 returns-in-Err-clause-served g c = unstarted_served (g.H.Host.told c.args.host.now) (g.H.Host.told c.start.new.self) c.args.links.now.items c.reserve.new.self.items c.args.inc c.in-Err.ensures c.in_ok-reserve.ensures.items c.requires.served
+
+pub returns-in-Ok-clause-holding : goal.returns-in-Ok-clause-holding
+returns-in-Ok-clause-holding g c =
+    let with_one : c.add.new.list.items ≡ c.args.links.now.items ++ c.new.result ∷ [] = search rules in
+    λ f hold. hold_with f c.args.links.now.items c.add.new.list.items c.new.result c.new.ensures.free with_one hold
+
+pub returns-in_err-reserve-clause-shown : goal.returns-in_err-reserve-clause-shown
+returns-in_err-reserve-clause-shown g c = memory_on c.from_residual.result (g.H.Host.told c.args.host.now) c.from_residual.ensures.1
+
+pub returns-in-Err-clause-shown : goal.returns-in-Err-clause-shown
+returns-in-Err-clause-shown g c = (g.H.Host.told c.args.host.now, c.in-Err.ensures)

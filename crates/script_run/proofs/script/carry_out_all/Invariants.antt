@@ -9,5 +9,5 @@ invariant-loop-place g l = record {
   told : IsTold g.H.Disk.Disk (g.H.Host.told l.host) l.core;
   linked : AreLinked (g.H.Host.told l.host) l.links.items;
   served : AreServed (g.H.Host.told l.host) l.links.items;
-  so_far : SoFar (g.H.Host.told l.host) l.fn.commands.items (into_iter_items l.place-iterator.iter) l.place-iterator.count;
+  so_far : SoFar (g.H.Host.told l.host) l.links.items l.fn.commands.items (into_iter_items l.place-iterator.iter) l.place-iterator.count;
 }

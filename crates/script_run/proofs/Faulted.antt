@@ -1,0 +1,151 @@
+-- The error that ended a script, in its history without the last ends of servers.
+use Rattle.std.proofs.Common.{◌≡◌, ◌≤◌, ◌-◌, ◌==◌, ◌⊎◌, ⊎_elim, inl, inr, ℕ, Bool, true, false, List, [], ◌∷◌, if◌then◌else◌, Option, Some, None, Result, Ok, Err, IfErr, refl, sym, ap, ◌∙◌, subst, arith}
+use Rattle.std.specs.Prelude.{IfSome}
+use Rattle.std.specs.Result.{IsErrAnd}
+use Rattle.script_links.specs.declared.fault.ScriptFault.{ScriptFault}
+use Rattle.script_links.specs.declared.fault.ScriptFault.TheVariants as fault
+use Rattle.script_links.specs.Shown.{Shows}
+use Rattle.script_model.specs.declared.command.ScriptCommand.{ScriptCommand}
+use Rattle.script_model.specs.Bounds.{MOST_TURNS, Pace, pace}
+use Rattle.script_model.specs.Containers.{Given, given_by}
+use Rattle.script_model.specs.Errors.{IsLeftHeld, IsUnanswered, IsUnknown, IsUnopened, IsUnstarted, before_ends, is_asked}
+use Rattle.script_model.specs.Events.{Event, Started, Connected, Sent, Heard, Ended, Opened, Found, Shut, Stepped, running}
+use Rattle.script_model.specs.Orders.{orders}
+use Rattle.script_texts.specs.Commands.{commands_read}
+use Rattle.script_run.specs.Faulted.{IsFaultOf, IsHeldToTheEnd, RefusesScript, ShowsOf}
+
+-- ---- without the last ends
+
+as_many : (n : ℕ) → n ≤ n
+as_many n = omega arith
+
+less : (b : Bool) (n : ℕ) → (if b then n - 1 else n) ≤ n
+less true n = omega arith
+less false n = omega arith
+
+module _ {D : Type 0} where
+  ran : (s : ℕ) (es : List (Event D)) → running s es ≤ running s (before_ends es)
+  ran s [] = as_many 0
+  ran s (Ended inc ∷ es) = let now = less (inc == s) (running s es) in let before = ran s es in omega (arith, now, before)
+  ran s (Started inc ok ∷ es) = as_many (running s (Started inc ok ∷ es))
+  ran s (Connected inc ok ∷ es) = as_many (running s es)
+  ran s (Sent inc bytes ok ∷ es) = as_many (running s es)
+  ran s (Heard inc bytes ok ∷ es) = as_many (running s es)
+  ran s (Opened name disk ∷ es) = as_many (running s es)
+  ran s (Found name disk ∷ es) = as_many (running s es)
+  ran s (Shut name disk ∷ es) = as_many (running s es)
+  ran s (Stepped step ∷ es) = as_many (running s es)
+
+  paced : (s : ℕ) (es : List (Event D)) → pace s (before_ends es) ≡ pace s es
+  paced s [] = refl
+  paced s (Ended inc ∷ es) = paced s es
+  paced s (Started inc ok ∷ es) = refl
+  paced s (Connected inc ok ∷ es) = refl
+  paced s (Sent inc bytes ok ∷ es) = refl
+  paced s (Heard inc bytes ok ∷ es) = refl
+  paced s (Opened name disk ∷ es) = refl
+  paced s (Found name disk ∷ es) = refl
+  paced s (Shut name disk ∷ es) = refl
+  paced s (Stepped step ∷ es) = refl
+
+  recorded : (es : List (Event D)) → given_by (before_ends es) ≡ given_by es
+  recorded [] = refl
+  recorded (Ended inc ∷ es) = recorded es
+  recorded (Started inc ok ∷ es) = refl
+  recorded (Connected inc ok ∷ es) = refl
+  recorded (Sent inc bytes ok ∷ es) = refl
+  recorded (Heard inc bytes ok ∷ es) = refl
+  recorded (Opened name disk ∷ es) = refl
+  recorded (Found name disk ∷ es) = refl
+  recorded (Shut name disk ∷ es) = refl
+  recorded (Stepped step ∷ es) = refl
+
+  ordered : (es : List (Event D)) → orders (before_ends es) ≡ orders es
+  ordered [] = refl
+  ordered (Ended inc ∷ es) = ordered es
+  ordered (Started inc ok ∷ es) = refl
+  ordered (Connected inc ok ∷ es) = refl
+  ordered (Sent inc bytes ok ∷ es) = refl
+  ordered (Heard inc bytes ok ∷ es) = refl
+  ordered (Opened name disk ∷ es) = refl
+  ordered (Found name disk ∷ es) = refl
+  ordered (Shut name disk ∷ es) = refl
+  ordered (Stepped step ∷ es) = refl
+
+  -- ---- errors
+
+  unanswered_still : (es : List (Event D)) → IsUnanswered es → IsUnanswered (before_ends es)
+  unanswered_still es u = record {
+    server = u.server;
+    runs = let now = u.runs in let before = ran u.server es in omega (arith, now, before);
+    turned = subst (λ (p : Pace). MOST_TURNS ≤ p.turns) (sym (paced u.server es)) u.turned;
+    asked = ap (λ (g : Given). is_asked u.server g.now.objects) (recorded es) ∙ u.asked;
+  }
+
+  held_still : (es : List (Event D)) (commands : List ScriptCommand) → IsLeftHeld es commands → IsLeftHeld (before_ends es) commands
+  held_still es commands h = record {
+    ordered = ordered es ∙ h.ordered;
+    server = h.server;
+    runs = let now = h.runs in let before = ran h.server es in omega (arith, now, before);
+    held = h.held;
+  }
+
+  unstarted_still : (inc : ℕ) (es : List (Event D)) → IsUnstarted inc es → IsUnstarted inc (before_ends es)
+  unstarted_still inc es u = (u.0, ap before_ends u.1)
+
+  -- a file's disk isn't given, or is given back, by a call that ends no server
+  is_last : (name : List ℕ) (es : List (Event D)) → IsUnopened name es → es ≡ before_ends es
+  is_last name es u = ⊎_elim (λ asked. asked.1 ∙ sym (ap before_ends asked.1)) (λ given. given.3 ∙ sym (ap before_ends given.3)) u
+
+  unknown_still : (name : List ℕ) (es : List (Event D)) → IsUnknown es name → IsUnknown (before_ends es) name
+  unknown_still name es u = subst (λ (h : List (Event D)). IsUnknown h name) (is_last name es u.last) u
+
+  -- ---- scripts
+
+  -- the error of a command is one of the script
+  shows_of : (commands : List ScriptCommand) (es : List (Event D)) (e : ScriptFault) → Shows es e → ShowsOf commands es e
+  shows_of commands es (fault.Input why) shows = shows
+  shows_of commands es (fault.Line n why) shows = shows
+  shows_of commands es (fault.Link inc) shows = shows
+  shows_of commands es fault.Stalled shows = inl shows
+  shows_of commands es (fault.File name why) shows = shows
+  shows_of commands es fault.NoMemory shows = shows
+  shows_of commands es fault.Unwritable shows = shows
+
+  pub handed_on : {A : Type 0} (r : Result A ScriptFault) (e : ScriptFault) (commands : List ScriptCommand) (es : List (Event D)) → IsErrAnd r (λ x. x ≡ e) → Shows es e → IfErr r (λ x. ShowsOf commands es x)
+  handed_on (Ok x) e commands es is shown = tt
+  handed_on (Err x) e commands es is shown = subst (λ (f : ScriptFault). ShowsOf commands es f) (sym is) (shows_of commands es e shown)
+
+  still : (input : Option (List ℕ)) (commands : List ScriptCommand) (es : List (Event D)) (e : ScriptFault) → IfSome input (λ text. commands_read text ≡ Ok commands) → ShowsOf commands es e → IsFaultOf input es e
+  still input commands es (fault.Input why) read shows = absurd shows
+  still input commands es (fault.Line n why) read shows = absurd shows
+  still input commands es (fault.Link inc) read shows = unstarted_still inc es shows
+  still input commands es fault.Stalled read shows = ⊎_elim (λ u. inl (unanswered_still es u)) (λ h. inr (record { commands = commands; read = read; left = held_still es commands h })) shows
+  still input commands es (fault.File name why) read shows = unknown_still name.items es shows
+  still input commands es fault.NoMemory read shows = tt
+  still input commands es fault.Unwritable read shows = tt
+
+  -- ends of servers behind it leave an error as it is
+  ends_on : (input : Option (List ℕ)) (commands : List ScriptCommand) (es after : List (Event D)) (e : ScriptFault) → before_ends after ≡ before_ends es → ShowsOf commands es e → IsFaultOf input es e → IsFaultOf input after e
+  ends_on input commands es after (fault.Input why) same shows is = absurd shows
+  ends_on input commands es after (fault.Line n why) same shows is = absurd shows
+  ends_on input commands es after (fault.Link inc) same shows is = subst (λ (h : List (Event D)). IsUnstarted inc h) (sym same) is
+  ends_on input commands es after fault.Stalled same shows is = subst (λ (h : List (Event D)). IsUnanswered h ⊎ IsHeldToTheEnd input h) (sym same) is
+  ends_on input commands es after (fault.File name why) same shows is = subst (λ (h : List (Event D)). IsUnknown h name.items) (sym same) is
+  ends_on input commands es after fault.NoMemory same shows is = tt
+  ends_on input commands es after fault.Unwritable same shows is = tt
+
+  pub ended_so : {A : Type 0} (r : Result A ScriptFault) (input : Option (List ℕ)) (commands : List ScriptCommand) (es after : List (Event D)) → IfSome input (λ text. commands_read text ≡ Ok commands) → before_ends after ≡ before_ends es
+      → IfErr r (λ e. ShowsOf commands es e) → IfErr r (λ e. IsFaultOf input after e)
+  ended_so (Ok x) input commands es after read same shows = tt
+  ended_so (Err e) input commands es after read same shows = ends_on input commands es after e same shows (still input commands es e read shows)
+
+  -- a script that isn't read
+  pub unread_so : (input : Option (List ℕ)) (es : List (Event D)) (e : ScriptFault) → es ≡ [] → RefusesScript input e → IsFaultOf input es e
+  unread_so input es (fault.Input why) none refused = (none, refused)
+  unread_so input es (fault.Line n why) none refused = (none, refused)
+  unread_so input es (fault.Link inc) none refused = absurd refused
+  unread_so input es fault.Stalled none refused = absurd refused
+  unread_so input es (fault.File name why) none refused = absurd refused
+  unread_so input es fault.NoMemory none refused = absurd refused
+  unread_so input es fault.Unwritable none refused = absurd refused

@@ -1,0 +1,23 @@
+use Rattle.std.proofs.Common.{◌≡◌, ◌∙◌, List, ap, sym, subst, rules}
+use Rattle.script_links.specs.Links.{IsLinkAt, links_of}
+use Rattle.script_links.specs.declared.links.Link.{Link}
+use Rattle.std.specs.Result.{IsErrAnd}
+use Rattle.script_links.proofs.Shown.{passed_on}
+use Rattle.script_run.proofs.Held.{release_none}
+use Rattle.script_run.proofs.commands.release_link.Goals as goal
+
+pub returns-in_err-release-clause-shown : goal.returns-in_err-release-clause-shown
+returns-in_err-release-clause-shown g c =
+    let again : IsErrAnd c.from_residual.result (λ x. x ≡ c.in_err-release.field-0.0) = search rules in
+    passed_on c.from_residual.result c.in_err-release.field-0.0 (g.H.Host.told c.release.new.host) again c.in_err-release.ensures.shown
+
+pub returns-in_default-clause-holding : goal.returns-in_default-clause-holding
+returns-in_default-clause-holding g c =
+    let none : links_of c.args.inc c.deref.result.now ≡ 0 = c.in_default.ensures.none in
+    λ f hold. release_none f c.args.inc c.args.links.now.items (ap (links_of c.args.inc) (sym c.deref.ensures.value) ∙ none) hold
+
+pub returns-in_err-release-clause-holding : goal.returns-in_err-release-clause-holding
+returns-in_err-release-clause-holding g c = λ f hold. c.release.ensures.holding f c.args.inc (subst (λ (ls : List Link). IsLinkAt ls c.in-Some.place c.args.inc) c.deref.ensures.value c.in-Some.ensures.there) hold
+
+pub returns-clause-holding : goal.returns-clause-holding
+returns-clause-holding g c = λ f hold. c.release.ensures.holding f c.args.inc (subst (λ (ls : List Link). IsLinkAt ls c.in-Some.place c.args.inc) c.deref.ensures.value c.in-Some.ensures.there) hold
