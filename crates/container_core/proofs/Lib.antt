@@ -1,1 +1,2 @@
 pub mod OpensMade
+pub mod FewCalls

@@ -8,7 +8,7 @@ use container_model::answer::{Answer, Part};
 use container_model::command::Command;
 use container_model::fault::ContainerFault;
 use container_model::record::{Frame, Object};
-use container_numbers::sound_laws::sound_after;
+use container_numbers::sound_laws::{few_frames_after, sound_after};
 use container_screen::screen::screen;
 use container_state::state::State;
 use container_steps::steady_laws::steady_after;
@@ -25,8 +25,8 @@ pub struct Limits {
     pub numbers: u32,
 }
 
-/// A container: its frames and objects, and the servers that it started. Its record is steady and within its numbers, whatever
-/// it was told.
+/// A container: its frames and objects, and the servers that it started. Its record is steady, within its numbers and has at
+/// most 8 frames, whatever it was told.
 #[derive(Drop)]
 pub struct ContainerCore {
     state: State,
@@ -36,12 +36,13 @@ impl Model for ContainerCore {
     ghost use Rattle.container_steady.specs.Steady.{Steady};
     ghost use Rattle.container_model.specs.Record.{Record};
     ghost use Rattle.container_model.specs.Room.{IsSound};
+    ghost use Rattle.container_numbers.specs.FewFrames.{FewFrames};
 
     ghost Value = { Record };
 
     ghost view = { λ c. c.state };
 
-    ghost invariant = { λ c. Steady c.state × IsSound c.state };
+    ghost invariant = { λ c. Steady c.state × IsSound c.state × FewFrames c.state };
 }
 
 impl ContainerCore {
@@ -174,6 +175,7 @@ impl ContainerCore {
     {
         steady_after();
         sound_after();
+        few_frames_after();
         self.state.command(alloc, command)
     }
 
@@ -209,6 +211,7 @@ impl ContainerCore {
     {
         steady_after();
         sound_after();
+        few_frames_after();
         messages_stay_apart();
         self.state.on_message(alloc, link, message)
     }
@@ -228,6 +231,7 @@ impl ContainerCore {
     {
         steady_after();
         sound_after();
+        few_frames_after();
         reaps::on_reap(alloc, &mut self.state, inc)
     }
 
@@ -246,6 +250,7 @@ impl ContainerCore {
     {
         steady_after();
         sound_after();
+        few_frames_after();
         commits::commit_done(alloc, &mut self.state, f)
     }
 
@@ -264,6 +269,7 @@ impl ContainerCore {
     {
         steady_after();
         sound_after();
+        few_frames_after();
         commits::commit_failed(alloc, &mut self.state, f)
     }
 
@@ -288,6 +294,7 @@ impl ContainerCore {
     {
         steady_after();
         sound_after();
+        few_frames_after();
         commits::resolve(alloc, &mut self.state, f, is_kept)
     }
 
@@ -327,14 +334,18 @@ impl ContainerCore {
     {
         steady_after();
         sound_after();
+        few_frames_after();
         opens::open_file(alloc, &mut self.state, name, w, h, file)
     }
 
-    /// The calls that are pending, by their objects, each as it was first sent.
+    /// The calls that are pending, by their objects, each as it was first sent: at most one for each object, and so at most 512,
+    /// since there are at most 8 frames of 64 objects.
     ///
     /// Refused for want of memory alone.
     pub fn resend(&self, alloc: Global) -> Result<Vec<Message>, AllocError>
-        ensures { IfOk result (λ v. v.items ≡ pending_calls self.now.objects) }
+        ensures calls { IfOk result (λ v. v.items ≡ pending_calls self.now.objects) }
+        ensures few { IfOk result (λ v. length v.items ≤ 512) }
+        ensures single { IfOk result (λ v. length v.items ≤ length self.now.objects) }
     {
         pending_calls(alloc, self.state.objects())
     }

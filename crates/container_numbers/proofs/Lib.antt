@@ -11,3 +11,4 @@ pub mod SoundRooms
 pub mod SoundSaves
 pub mod SoundVerbs
 pub mod SoundInputs
+pub mod FewFrames

@@ -1,26 +1,23 @@
 -- Commands leave a record sound.
-use Rattle.std.proofs.Common.{◌≡◌, ◌≤◌, ◌<◌, ◌+◌, ◌==◌, ℕ, zero, suc, Bool, true, false, not, List, [], ◌∷◌, ◌++◌, length, map, Option, Some, None, Result, Ok, Err, refl, sym, ◌∙◌, ap, subst, arith, if◌then◌else◌, slice_get}
-use Rattle.std.proofs.lemmas.Bool.{eqb-false, leb-false}
+use Rattle.std.proofs.Common.{◌≡◌, ◌≤◌, ◌<◌, ◌+◌, ◌==◌, ℕ, zero, suc, Bool, true, false, List, [], ◌∷◌, ◌++◌, length, map, Option, Some, None, Ok, refl, sym, ◌∙◌, ap, subst, arith, if◌then◌else◌, slice_get}
+use Rattle.std.proofs.lemmas.Bool.{eqb-false}
 use Rattle.std.proofs.lemmas.List.{length-append}
-use Rattle.std.specs.Prelude.{is_some, nat_lt, nat_le, ◌||◌}
+use Rattle.std.specs.Prelude.{nat_lt}
 use Rattle.std.specs.List.{AllByRecursion}
-use Rattle.wire_msgs.specs.Found.{find, nth, put, set_nth}
+use Rattle.wire_msgs.specs.Found.{find, put, set_nth}
 use Rattle.wire_msgs.specs.declared.operation.Operation.{Operation}
 use Rattle.wire_msgs.specs.declared.operation.Operation.TheVariants.{Edit, Save}
-use Rattle.embed_core.specs.Kinds.{Kind}
-use Rattle.object_parts.specs.declared.area.Area.{Area}
 use Rattle.container_model.specs.declared.record.Link.{Link}
 use Rattle.container_model.specs.declared.record.Object.{Object}
 use Rattle.container_model.specs.declared.record.Frame.{Frame}
 use Rattle.container_model.specs.declared.command.Command.{Command}
-use Rattle.container_model.specs.Record.{Record, Took, MOST_FRAMES, MOST_OBJECTS, MOST_SERVERS, MARGIN, acts, asked_link, asked_object, count_alive, count_objects, counts_none, has_numbers, is_alive, is_busy, is_doubtful, is_moving, is_object, is_saving, link_has_numbers, with_object, without_first}
+use Rattle.container_model.specs.Record.{Record, Took, MARGIN, asked_link, asked_object, has_numbers, is_object, link_has_numbers, with_object, without_first}
 use Rattle.container_model.specs.Room.{HasNumbers, IfLinked, IsRoomy, debt_in}
 use Rattle.container_model.specs.Commands
 use Rattle.container_steady.specs.Steady.{Steady}
 use Rattle.container_steady.proofs.SteadyCounts.{each_without}
 use Rattle.container_steady.proofs.SteadyLookups.{each_append, each_set, each_weaker, nth-set_other, pairs_map}
-use Rattle.container_steady.proofs.SteadyTells.{if_told, or_false, unless_ok}
-use Rattle.container_steady.proofs.SteadyTests.{found_numbered, not_false}
+use Rattle.container_steady.proofs.SteadyTells.{if_told}
 use Rattle.container_steady.specs.Taken.{IsTakenAs, as_close, as_delete, as_edit, as_insert, as_kill, as_new, as_run, as_save, as_save_as, as_start, as_verb, edited}
 use Rattle.container_steady.proofs.Taken.{command_taken}
 use Rattle.container_model.specs.Commands.{on_command}

@@ -25,8 +25,8 @@ use Rattle.container_model.specs.declared.fault.ContainerFault.{ContainerFault}
 use Rattle.container_model.specs.declared.fault.ContainerFault.TheVariants.{WrongLink, Stale, BadAnswer}
 use Rattle.container_model.specs.HandOffs.{hand_off_in, is_answered, unasked}
 use Rattle.container_model.specs.Grants.{Requested, event_of, grant_each, grant_of, is_by, moved, passed_to, regranted, regranted_by, regranted_in, request}
-use Rattle.container_model.specs.Record.{Record, Took, is_alive, is_linked, is_object, with_frame, is_link}
-use Rattle.container_model.specs.Room.{IfLinked, IsRoomy, IsSound, grant_debt, HasNumbers}
+use Rattle.container_model.specs.Record.{Record, Took, is_alive, is_linked, is_object, with_frame}
+use Rattle.container_model.specs.Room.{IfLinked, IsRoomy, grant_debt, HasNumbers}
 use Rattle.container_model.specs.Saves.{settle}
 use Rattle.container_model.specs.Messages.{Replied, ask_found, ask_framed, is_held_by, is_open_to, on_ask, on_reply, on_write, relieved, replied_grant, replied_object, replied_record, replied_saving, reply_found, reply_link, reply_taken, write_found, write_link, write_made, written_object, on_message}
 use Rattle.container_steady.specs.Roles.{IsClaim, SteadyGrant}

@@ -10,7 +10,7 @@ use Rattle.container_model.specs.declared.record.Link.{Link}
 use Rattle.container_model.specs.declared.record.Object.{Object}
 use Rattle.container_model.specs.declared.record.Frame.{Frame}
 use Rattle.container_model.specs.Record.{Record, ask, ask_at, ask_each, asked_link, is_object}
-use Rattle.container_model.specs.Room.{IfLinked, IsRoomy, IsSound, debt_in, HasNumbers}
+use Rattle.container_model.specs.Room.{IfLinked, IsRoomy, debt_in, HasNumbers}
 use Rattle.container_steady.specs.Steady.{EachPair, InOrder, Steady}
 use Rattle.container_steady.proofs.SteadyLookups.{each_found, each_put, each_weaker}
 

@@ -1,11 +1,9 @@
 -- Saves that go on leave a record sound, and so does a commit that is done.
-use Rattle.std.proofs.Common.{◌≡◌, ◌≤◌, ◌+◌, ◌==◌, ℕ, zero, suc, Bool, true, false, List, [], ◌∷◌, length, map, Option, Some, None, Result, Ok, Err, refl, sym, ◌∙◌, ap, inl, inr, subst, arith, slice_get}
+use Rattle.std.proofs.Common.{◌≡◌, ◌≤◌, ◌+◌, ◌==◌, ℕ, zero, suc, Bool, true, false, List, [], ◌∷◌, length, map, Option, Some, None, Result, Ok, refl, sym, ◌∙◌, ap, inl, inr, subst, arith, slice_get}
 use Rattle.std.proofs.lemmas.Bool.{eqb-true, eqb-false}
 use Rattle.wire_msgs.specs.Found.{nth, set_nth}
 use Rattle.wire_msgs.specs.declared.operation.Operation.{Operation}
-use Rattle.container_model.specs.declared.answer.Part.{Part}
 use Rattle.container_model.specs.declared.fault.ContainerFault.{ContainerFault}
-use Rattle.container_model.specs.declared.fault.ContainerFault.TheVariants.{WrongState}
 use Rattle.container_model.specs.declared.record.Link.{Link}
 use Rattle.container_model.specs.declared.record.Object.{Object}
 use Rattle.container_model.specs.declared.record.Frame.{Frame}
@@ -17,7 +15,7 @@ use Rattle.container_model.specs.Saves.{commit_done, commit_doubted, commit_fail
 use Rattle.container_model.proofs.Completing.{completed_in, completed_out}
 use Rattle.container_steady.proofs.SteadyLookups.{each_map, each_nth, each_set, each_settled, each_weaker, nth-set_other, nth-set_same}
 use Rattle.container_steady.proofs.SteadyTells.{if_told}
-use Rattle.container_numbers.proofs.SoundRooms.{IsSaved, Owing, Within, all_of, asked_linked, debts, each_of, length-set_nth, owes_less, within_of}
+use Rattle.container_numbers.proofs.SoundRooms.{IsSaved, Owing, Within, all_of, asked_linked, debts, each_of, length-set_nth, owes_less}
 use Rattle.container_steady.specs.Steady.{IsUnsettled}
 use Rattle.container_steady.proofs.Settling.{IsCommitOf, done_commits, is_dropped, is_failed, kept_commits}
 use Rattle.grant_core.specs.Frames.{Ui}
@@ -48,7 +46,7 @@ settled_debts : (os : List Object) (frames : List Frame) (n f : ℕ) → debts (
 settled_debts os frames n zero = refl
 settled_debts os frames n (suc i) = settled_get n 1 os frames i
 
-settled_length : (f : ℕ) (os : List Object) (frames : List Frame) → length (settled_frames f os frames) ≡ length frames
+pub settled_length : (f : ℕ) (os : List Object) (frames : List Frame) → length (settled_frames f os frames) ≡ length frames
 settled_length f os [] = refl
 settled_length f os (frame ∷ frames) = ap suc (settled_length (f + 1) os frames)
 

@@ -1,10 +1,9 @@
 -- Verbs and closes leave a record sound.
-use Rattle.std.proofs.Common.{◌≡◌, ◌≤◌, ◌<◌, ◌+◌, ◌==◌, ℕ, suc, true, false, not, List, [], ◌∷◌, length, map, Option, Some, None, Result, Ok, refl, sym, ◌∙◌, ap, subst, arith, if◌then◌else◌}
-use Rattle.std.proofs.lemmas.Bool.{eqb-true, eqb-false, leb-false}
-use Rattle.std.specs.Prelude.{◌||◌, ◌&&◌, ℤ, nat_le}
+use Rattle.std.proofs.Common.{◌≡◌, ◌≤◌, ◌<◌, ◌+◌, ◌==◌, ℕ, suc, true, false, List, [], ◌∷◌, length, map, Option, Some, None, refl, sym, ◌∙◌, ap, subst, arith, if◌then◌else◌}
+use Rattle.std.proofs.lemmas.Bool.{eqb-true, eqb-false}
 use Rattle.wire_msgs.specs.Found.{find, nth, put, set_nth}
 use Rattle.wire_msgs.specs.declared.operation.Operation.TheVariants.{UiDeactivate}
-use Rattle.object_state.specs.Verbs.{close_steps, columns, steps, verb_of}
+use Rattle.object_state.specs.Verbs.{close_steps, columns, steps}
 use Rattle.object_state.specs.declared.operations.CloseOption.{CloseOption}
 use Rattle.object_state.specs.declared.object_states.ObjectState.{ObjectState}
 use Rattle.object_state.specs.declared.object_states.ObjectState.TheVariants as state
@@ -18,19 +17,16 @@ use Rattle.grant_core.specs.Grants.{Ask}
 use Rattle.container_model.specs.declared.record.Link.{Link}
 use Rattle.container_model.specs.declared.record.Object.{Object}
 use Rattle.container_model.specs.declared.record.Frame.{Frame}
-use Rattle.container_model.specs.declared.fault.ContainerFault.{ContainerFault}
-use Rattle.container_model.specs.declared.fault.ContainerFault.TheVariants.{Busy, InDoubt as Doubtful, NumbersSpent}
 use Rattle.container_model.specs.Grants.{grant_of, moved, requested}
-use Rattle.container_model.specs.Record.{Record, Took, asked_link, counts_none, has_numbers, is_busy, is_doubtful, is_moving, is_object, is_saving, quiet_answer, with_frame, with_object}
+use Rattle.container_model.specs.Record.{Record, Took, asked_link, has_numbers, is_object, with_frame, with_object}
 use Rattle.container_model.specs.Room.{HasNumbers, IfLinked, IsRoomy}
-use Rattle.container_model.specs.Verbs as verbs
 use Rattle.container_model.specs.Verbs.{before_taking, claim_of, claimed, gives_up, holder_has_numbers, holder_of, leaving_made, object_has_numbers, operation_of, revoked, revoked_at, stepped_link, steps_now, takes, taking_made}
 use Rattle.container_steady.specs.Steady.{Steady}
 use Rattle.container_steady.specs.Taken.{IsStepped, steps_leave, steps_nothing, steps_take}
 use Rattle.container_steady.proofs.SteadyFinds.{find-put_other, find-put_same}
 use Rattle.container_steady.proofs.SteadyLookups.{each_found, each_nth}
-use Rattle.container_steady.proofs.SteadyTells.{if_told, or_false, unless_ok}
-use Rattle.container_steady.proofs.SteadyTests.{found_numbered, not_false}
+use Rattle.container_steady.proofs.SteadyTells.{if_told}
+use Rattle.container_steady.proofs.SteadyTests.{found_numbered}
 use Rattle.container_numbers.proofs.SoundAsking.{asked_checked, asks_debts, debts_few, one_asked}
 use Rattle.container_numbers.proofs.SoundMoves.{one_framed}
 use Rattle.container_numbers.proofs.SoundRooms.{IsSaved, Owing, Within, debts, put_within, sound_of, within_less, within_of}

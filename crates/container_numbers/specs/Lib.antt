@@ -1,1 +1,2 @@
+pub mod FewFrames
 pub mod Sound

@@ -1,5 +1,6 @@
-//! Laws of a container's numbers: each step leaves its activations room for what they may be asked without a check. Each
-//! function is empty: its contract is the law, which is proved.
+//! Laws of a container's numbers: each step leaves its activations room for what they may be asked without a check, and no
+//! more frames than there may be. Each function is empty: its contract is the law, which is proved.
+ghost use Rattle.container_numbers.specs.FewFrames.{FewFramesAfter};
 ghost use Rattle.container_numbers.specs.Sound.{NumbersAfter, SoundAfter};
 
 /// Whatever a container is given and takes, a command, a message, the end of a server or of a commit, leaves a sound
@@ -11,4 +12,9 @@ pub fn sound_after()
 /// Whatever its limit, it leaves a record's numbers within it, and the limit as it is.
 pub fn numbers_after()
     ensures { NumbersAfter }
+{}
+
+/// It leaves no more than 8 frames where there were no more: one is made only where there are fewer.
+pub fn few_frames_after()
+    ensures { FewFramesAfter }
 {}

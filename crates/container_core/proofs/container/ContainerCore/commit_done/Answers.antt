@@ -2,6 +2,7 @@ use Rattle.container_steady.specs.Steady.{Steady}
 use Rattle.container_model.specs.Inputs.{Input}
 use Rattle.container_model.specs.Saves.{commit_done, counted_of}
 use Rattle.container_model.specs.Room.{IsSound}
+use Rattle.container_numbers.specs.FewFrames.{FewFrames}
 use Rattle.container_steps.proofs.StepsKeep.{step_keeps}
 use Rattle.container_core.proofs.container.ContainerCore.commit_done.Goals as goal
 
@@ -17,4 +18,5 @@ pub invariant_of-self : goal.invariant_of-self
 invariant_of-self c = (
   step_keeps Steady c.self.inside.state c.commit_done.new.state (commit_done c.self.inside.state c.args.f) (counted_of c.self.inside.state c.args.f) c.self.invariant.0 (λ t e. c.steady_after.ensures c.self.inside.state (Input.Committed c.args.f) t c.self.invariant.0 e) c.commit_done.result c.commit_done.ensures.taken c.commit_done.ensures.kept,
   step_keeps IsSound c.self.inside.state c.commit_done.new.state (commit_done c.self.inside.state c.args.f) (counted_of c.self.inside.state c.args.f) c.self.invariant.1 (λ t e. c.sound_after.ensures c.self.inside.state (Input.Committed c.args.f) t c.self.invariant.0 c.self.invariant.1 e) c.commit_done.result c.commit_done.ensures.taken c.commit_done.ensures.kept,
+  step_keeps FewFrames c.self.inside.state c.commit_done.new.state (commit_done c.self.inside.state c.args.f) (counted_of c.self.inside.state c.args.f) c.self.invariant.2 (λ t e. c.few_frames_after.ensures c.self.inside.state (Input.Committed c.args.f) t c.self.invariant.2 e) c.commit_done.result c.commit_done.ensures.taken c.commit_done.ensures.kept,
 )
