@@ -1,4 +1,4 @@
-use Rattle.std.proofs.Common.{◌≡◌, ◌==◌, ℕ, Bool, false, [], if◌then◌else◌, rules, slice_index_or}
+use Rattle.std.proofs.Common.{◌≡◌, ◌==◌, false, [], if◌then◌else◌, rules, slice_index_or}
 use Rattle.script_model.specs.Origins.{passed}
 use Rattle.script_links.specs.Links.{AreServed}
 use Rattle.script_links.proofs.Served.{on_ok, others_placed, release_next, release_served}

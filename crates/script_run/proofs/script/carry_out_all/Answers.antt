@@ -1,9 +1,9 @@
-use Rattle.std.proofs.Common.{◌≡◌, ◌≤◌, ◌+◌, ◌∷◌, [], ℕ, Bool, true, List, inr, sym, ◌∙◌, subst, rules, arith}
+use Rattle.std.proofs.Common.{◌≡◌, ◌≤◌, ◌+◌, ◌∷◌, [], ℕ, Bool, true, List, inr, sym, ◌∙◌, subst, rules}
 use Rattle.std.proofs.lemmas.List.{nil_from_length}
 use Rattle.std.specs.Vec.Iter.{into_iter_items}
 use Rattle.script_links.specs.Links.{HoldFor, links_of}
 use Rattle.script_links.specs.declared.links.Link.{Link}
-use Rattle.script_run.proofs.Carried.{SoFar, left_held, so_far_begun, so_far_more}
+use Rattle.script_run.proofs.Carried.{left_held, so_far_begun, so_far_more}
 use Rattle.script_run.proofs.Faulted.{handed_on}
 use Rattle.std.specs.Result.{IsErrAnd}
 use Rattle.script_run.proofs.script.carry_out_all.Goals as goal

@@ -1,5 +1,3 @@
-use Rattle.std.proofs.Common.{ap, sym, ◌∙◌}
-use Rattle.script_links.specs.declared.links.Link.{Link}
 use Rattle.script_run.proofs.Held.{some_held}
 use Rattle.script_run.proofs.script.is_any_held.Goals as goal
 
