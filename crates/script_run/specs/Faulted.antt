@@ -42,8 +42,8 @@ pub record IsHeldToTheEnd {D : Type 0} (input : Option (List ℕ)) (es : List (E
 -- server that runs is asked isn't answered, or it is still held behind the last command; or it isn't known what became of a save. Of
 -- memory and of writers a history says nothing.
 abbrev pub IsFaultOf : {D : Type 0} → Option (List ℕ) → List (Event D) → ScriptFault → Type 0
-IsFaultOf input es (fault.Input why) = (es ≡ []) × IfSome input (λ text. MayRefuseInput text why)
-IsFaultOf input es (fault.Line n why) = (es ≡ []) × IfSome input (λ text. RefusesText line_read text (n, why))
+IsFaultOf input es (fault.Input why) = (es ≡ []) × RefusesScript input (fault.Input why)
+IsFaultOf input es (fault.Line n why) = (es ≡ []) × RefusesScript input (fault.Line n why)
 IsFaultOf input es (fault.Link inc) = IsUnstarted inc (before_ends es)
 IsFaultOf input es fault.Stalled = IsUnanswered (before_ends es) ⊎ IsHeldToTheEnd input (before_ends es)
 IsFaultOf input es (fault.File name why) = IsUnknown (before_ends es) name.items
