@@ -32,11 +32,11 @@ use Rattle.container_steady.proofs.SteadyRecords.{if_told, unless_ok, or_false, 
 use Rattle.container_steady.proofs.SteadyTests.{idle_of, not_false, none_of, found_numbered, asked_follows, link_asked}
 use Rattle.container_steady.proofs.SteadyMoves.{set_object, unset_object}
 use Rattle.container_steady.proofs.SteadyClaims.{KeepsLink, LinkStays, append_back, claim_kept, grant_kept, keeps_append, keeps_map, keeps_put, keeps_refl, keeps_without, set_back}
-use Rattle.container_steady.specs.Taken.{IsTakenAs, as_close, as_delete, as_edit, as_insert, as_kill, as_new, as_run, as_save, as_save_as, as_start, as_verb}
-use Rattle.container_steady.proofs.Taken.{command_taken}
+use Rattle.container_steady.specs.Made.{IsMade, makes_activation, makes_edit, makes_end, makes_fewer, makes_frame, makes_nothing, makes_object, makes_save, makes_server, makes_steps, makes_taking, run_by}
+use Rattle.container_steady.proofs.Taken.{command_made}
 use Rattle.container_steps.proofs.SteadyAsks.{edit_keeps}
 use Rattle.container_steps.proofs.SteadyHandOffs.{asked_stays, asked_took, hand_off_in_steady}
-use Rattle.container_steps.proofs.SteadyVerbs.{closing_keeps, stepped_keeps}
+use Rattle.container_steps.proofs.SteadyVerbs.{claiming_keeps, row_keeps}
 
 -- a new frame
 framed : (r : Record) (frame : Frame) (o : Object) → SteadyObject r o → SteadyObject (record r { frames = r.frames ++ frame ∷ [] }) o
@@ -252,22 +252,24 @@ deleted_steady r o s found passive =
       grants = λ f x e. grant_kept r after f x.ui.state (λ c names k. claim_kept r after f c (keeps_without r.objects o.number c.object (λ q. unclaimed r f c o k found passive (sym q))) (omega arith) k) (s.grants f x e);
     }
 
--- each command keeps a record steady
-taken_keeps : (r : Record) (c : Command) (t : Took) → Steady r → IsTakenAs r t c → Steady t.rec
-taken_keeps r _ t s (as_new name w h new made) = subst (λ (z : Took). Steady z.rec) made (frame_steady r (Commands.new_frame name w h) s (record { asked = refl }) refl)
-taken_keeps r _ t s (as_insert f kind area at made) = subst (λ (z : Took). Steady z.rec) made
+-- whatever a command makes of it keeps a record steady
+made_keeps : (r : Record) (ns : List ℕ) (t : Took) → Steady r → IsMade r t ns → Steady t.rec
+made_keeps r _ t s (makes_nothing made) = subst (λ (z : Took). Steady z.rec) made s
+made_keeps r _ t s (makes_frame name w h new made) = subst (λ (z : Took). Steady z.rec) made (frame_steady r (Commands.new_frame name w h) s (record { asked = refl }) refl)
+made_keeps r _ t s (makes_object f kind area at made) = subst (λ (z : Took). Steady z.rec) made
     (object_steady r (Commands.new_object (r.last_object + 1) f (Commands.kind_of kind) area) at.frame s refl refl at.there refl (user_type_fits (Commands.kind_of kind)) at.few)
-taken_keeps r _ t s (as_start started made) = subst (λ (z : Took). Steady z.rec) made (start_steady r s)
-taken_keeps r _ t s (as_run n inc at run made) = subst (λ (z : Took). Steady z.rec) made
+made_keeps r _ t s (makes_fewer n at passive made) = subst (λ (z : Took). Steady z.rec) made (deleted_steady r at.object s at.own passive)
+made_keeps r _ t s (makes_server started made) = subst (λ (z : Took). Steady z.rec) made (start_steady r s)
+made_keeps r _ t s (makes_end inc alive made) = subst (λ (z : Took). Steady z.rec) made s
+made_keeps r _ t s (makes_activation n inc at run made) = subst (λ (z : Took). Steady z.rec) made
     (run_steady r at.object inc (Commands.first_operation at.object at.object.work.streams) at.frame s at.own run.alive (first_begins at.object at.object.work.streams) at.inside at.idle run.passive)
-taken_keeps r _ t s (as_edit n bytes go small has made) = subst (λ (z : Took). Steady z.rec) made (edit_keeps r go.at.object go.at.frame go.link s go.at.own go.at.inside go.at.idle go.at.quiet go.linked bytes)
-taken_keeps r _ t s (as_save f at made) = subst (λ (z : Took). Steady z.rec) made (settle_steady (Commands.saving_on r f at.frame None).rec (hand_off_in_steady (Commands.saving r f at.frame None) f (saving_steady r f at.frame s at.there at.idle None at.frame.ui.state at.quiet)))
-taken_keeps r _ t s (as_save_as f name at apart own made) = subst (λ (z : Took). Steady z.rec) made (settle_steady (Commands.saving_on r f at.frame (Some name)).rec (hand_off_in_steady (Commands.saving r f at.frame (Some name)) f (saving_steady r f at.frame s at.there at.idle (Some name) at.frame.ui.state at.quiet)))
-taken_keeps r _ t s (as_delete n at passive made) = subst (λ (z : Took). Steady z.rec) made (deleted_steady r at.object s at.own passive)
-taken_keeps r _ t s (as_kill inc alive made) = subst (λ (z : Took). Steady z.rec) made s
-taken_keeps r _ t s (as_close n option go ts has row made) = subst (λ (z : Took). Steady z.rec) made
-    (closing_keeps r go.at.object go.at.frame go.link s go.at.own go.at.inside go.at.idle go.at.quiet go.linked go.at.unclaimed option ts row)
-taken_keeps r _ t s (as_verb n number go verb) = stepped_keeps r go.at.object go.at.frame go.link s go.at.own go.at.inside go.at.idle go.at.quiet go.linked go.at.unclaimed verb.verb verb.ts t verb.still verb.row verb.stepped
+made_keeps r _ t s (makes_edit n bytes go small has made) = subst (λ (z : Took). Steady z.rec) made (edit_keeps r go.at.object go.at.frame go.link s go.at.own go.at.inside go.at.idle go.at.quiet go.linked bytes)
+made_keeps r _ t s (makes_save f name at other made) = subst (λ (z : Took). Steady z.rec) made
+    (settle_steady (Commands.saving_on r f at.frame name).rec (hand_off_in_steady (Commands.saving r f at.frame name) f (saving_steady r f at.frame s at.there at.idle name at.frame.ui.state at.quiet)))
+made_keeps r _ t s (makes_steps n go ts has row made) = subst (λ (z : Took). Steady z.rec) made
+    (row_keeps r go.at.object go.at.frame go.link s go.at.own go.at.inside go.at.idle go.at.quiet go.linked go.at.unclaimed ts row)
+made_keeps r _ t s (makes_taking n go ts taking made) = subst (λ (z : Took). Steady z.rec) made
+    (claiming_keeps r go.at.object go.at.frame go.link s go.at.own go.at.inside go.at.idle go.at.quiet go.linked go.at.unclaimed ts taking)
 
 pub on_command_keeps : (r : Record) (c : Command) (t : Took) → Steady r → Commands.on_command r c ≡ Ok t → Steady t.rec
-on_command_keeps r c t s e = taken_keeps r c t s (command_taken r c t e)
+on_command_keeps r c t s e = made_keeps r (run_by c) t s (command_made r c t e)

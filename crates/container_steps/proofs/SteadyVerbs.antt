@@ -36,7 +36,7 @@ use Rattle.container_model.specs.Verbs as verbs
 use Rattle.container_model.specs.Verbs.{claim_of, gives_up, leaving_made, operation_of, stepped_link, takes, taking_made}
 use Rattle.container_steady.specs.Roles.{IsClaim, IsPlain, IsShown, Other, Giving, Role, SteadyGrant, role_in}
 use Rattle.container_steady.specs.Steady.{ended, EndsAs, EndsWell, SteadyLink, Steady}
-use Rattle.container_steady.specs.Taken.{IsStepped, steps_leave, steps_nothing, steps_take}
+use Rattle.container_steady.specs.Made.{IsRow, IsTaking, row_of_close, row_of_verb}
 use Rattle.container_steps.proofs.SteadyAsks.{held_idle, free, linked_keeps, was}
 use Rattle.container_steady.proofs.SteadyLinks.{asked_each, quiet_asked, quiet_ends, quiet_plays}
 use Rattle.container_steady.proofs.SteadyMoves.{But, SteadyBut, all_steady, gives_it, has_it, move_but, moved_to, parts_ended, put_but, set_object}
@@ -144,7 +144,7 @@ module _ (r : Record) (o : Object) (frame : Frame) (l : Link) (s : Steady r) (fo
   rows : l.states ≡ record { persist = record { state = Normal; last_save = l.states.persist.last_save }; object = l.states.object }
   rows = ap (λ (p : PersistState). record { persist = record { state = p; last_save = l.states.persist.last_save }; object = l.states.object }) ends.storage
 
-  pub closing_keeps : (option : CloseOption) (ts : List Step) → close_steps option l.states.object ≡ Some ts → Steady (leaving_made r frame o l ts).rec
+  closing_keeps : (option : CloseOption) (ts : List Step) → close_steps option l.states.object ≡ Some ts → Steady (leaving_made r frame o l ts).rec
   closing_keeps option ts e = leaving_at l.states.object ts (record { persist = record { state = Normal; last_save = l.states.persist.last_save }; object = Passive }) refl (closing_from option l.states.object ts e)
       (ap (λ (v : States). ended (Ok v) (map (operation_of 0) ts)) rows ∙ close_runs option 0 l.states.object ts l.states.persist.last_save e)
       (record { storage = refl; last_save = ends.last_save; running = tt; waits = tt })
@@ -157,20 +157,22 @@ module _ (r : Record) (o : Object) (frame : Frame) (l : Link) (s : Steady r) (fo
   goal_running verb.UiActivate = tt
   goal_running InPlaceActivate = tt
 
-  pub leaving_keeps : (v : Verb) (ts : List Step) → steps v l.states.object ≡ Some ts → takes ts ≡ false → Steady (leaving_made r frame o l ts).rec
+  leaving_keeps : (v : Verb) (ts : List Step) → steps v l.states.object ≡ Some ts → takes ts ≡ false → Steady (leaving_made r frame o l ts).rec
   leaving_keeps v ts e n = leaving_at l.states.object ts (record { persist = record { state = Normal; last_save = l.states.persist.last_save }; object = goal_of v }) refl (leaving_from v l.states.object ts e n)
       (ap (λ (v : States). ended (Ok v) (map (operation_of 0) ts)) rows ∙ verb_runs v 0 l.states.object ts l.states.persist.last_save e)
       (record { storage = refl; last_save = ends.last_save; running = goal_running v; waits = tt })
 
-  -- what a verb or a close makes
+  -- what a row makes: of steps that leave the frame, and of steps that take it
+  pub row_keeps : (ts : List Step) → IsRow l.states.object ts → Steady (leaving_made r frame o l ts).rec
+  row_keeps ts (row_of_verb v row leaves) = leaving_keeps v ts row leaves
+  row_keeps ts (row_of_close option row) = closing_keeps option ts row
+
   takes_ui : (v : Verb) (a : ObjectState) (ts : List Step) → TakesFrom v a ts → activates_ui v ≡ true
   takes_ui v a ts (hidden e) = e
   takes_ui v a ts (placed e) = e
 
-  pub stepped_keeps : (v : Verb) (ts : List Step) (t : Took) → (activates_ui v && is_moving frame.ui.state) ≡ false → steps v l.states.object ≡ Some ts → IsStepped r frame o l ts t → Steady t.rec
-  stepped_keeps v ts t moves e (steps_nothing none made) = subst (λ (z : Took). Steady z.rec) made s
-  stepped_keeps v ts t moves e (steps_leave has leaves made) = subst (λ (z : Took). Steady z.rec) made (leaving_keeps v ts e leaves)
-  stepped_keeps v ts t moves e (steps_take has takes lt holder made) =
-      let from = taking_from v l.states.object ts e takes in
-      let rest : is_moving frame.ui.state ≡ false = subst (λ (z : Bool). (z && is_moving frame.ui.state) ≡ false) (takes_ui v l.states.object ts from) moves in
-      subst (λ (z : Took). Steady z.rec) made (taking_keeps r o frame l s found at idle quiet is unclaimed v l.states.object ts refl from (still_at frame.ui.state rest))
+  pub claiming_keeps : (ts : List Step) → IsTaking r frame o l ts → Steady (taking_made r frame o l ts).rec
+  claiming_keeps ts h =
+      let from = taking_from h.verb l.states.object ts h.row h.taken in
+      let rest : is_moving frame.ui.state ≡ false = subst (λ (z : Bool). (z && is_moving frame.ui.state) ≡ false) (takes_ui h.verb l.states.object ts from) h.still in
+      taking_keeps r o frame l s found at idle quiet is unclaimed h.verb l.states.object ts refl from (still_at frame.ui.state rest)
