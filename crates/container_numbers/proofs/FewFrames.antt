@@ -14,7 +14,6 @@ use Rattle.grant_core.specs.Frames.{after}
 use Rattle.grant_core.specs.Grants as grant
 use Rattle.grant_core.specs.Grants.{Event}
 use Rattle.container_model.specs.declared.answer.Part.{Part}
-use Rattle.container_model.specs.declared.command.Command.{Command}
 use Rattle.container_model.specs.declared.fault.ContainerFault.{ContainerFault}
 use Rattle.container_model.specs.declared.fault.ContainerFault.TheVariants.{BadAnswer, NoSuch, Stale, WrongLink, WrongState}
 use Rattle.container_model.specs.declared.grants.Tells.{Tells}

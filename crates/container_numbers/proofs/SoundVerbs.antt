@@ -18,10 +18,9 @@ use Rattle.container_model.specs.declared.record.Link.{Link}
 use Rattle.container_model.specs.declared.record.Object.{Object}
 use Rattle.container_model.specs.declared.record.Frame.{Frame}
 use Rattle.container_model.specs.Grants.{grant_of, moved, requested}
-use Rattle.container_model.specs.Record.{Record, Took, asked_link, has_numbers, is_object, with_frame, with_object}
+use Rattle.container_model.specs.Record.{Record, asked_link, has_numbers, is_object, with_frame, with_object}
 use Rattle.container_model.specs.Room.{HasNumbers, IfLinked, IsRoomy}
-use Rattle.container_model.specs.Verbs.{before_taking, claim_of, claimed, gives_up, holder_has_numbers, holder_of, leaving_made, object_has_numbers, operation_of, revoked, revoked_at, stepped_link, steps_now, takes, taking_made}
-use Rattle.container_steady.specs.Steady.{Steady}
+use Rattle.container_model.specs.Verbs.{before_taking, claim_of, claimed, gives_up, holder_has_numbers, holder_of, leaving_made, object_has_numbers, operation_of, revoked, revoked_at, stepped_link, steps_now, taking_made}
 use Rattle.container_steady.specs.Made.{IsRow, IsTaking, row_of_close, row_of_verb}
 use Rattle.container_steady.proofs.SteadyFinds.{find-put_other, find-put_same}
 use Rattle.container_steady.proofs.SteadyLookups.{each_found, each_nth}
@@ -29,7 +28,7 @@ use Rattle.container_steady.proofs.SteadyTells.{if_told}
 use Rattle.container_steady.proofs.SteadyTests.{found_numbered}
 use Rattle.container_numbers.proofs.SoundAsking.{asked_checked, asks_debts, debts_few, one_asked}
 use Rattle.container_numbers.proofs.SoundMoves.{one_framed}
-use Rattle.container_numbers.proofs.SoundRooms.{IsSaved, Owing, Within, debts, put_within, sound_of, within_less, within_of}
+use Rattle.container_numbers.proofs.SoundRooms.{IsSaved, Owing, Within, debts, put_within, sound_of, within_less}
 
 -- ---- the tables ask for at most three steps
 abbrev pub IsFew : Option (List Step) → Type 0

@@ -1,5 +1,5 @@
 -- What holds where a command is taken.
-use Rattle.std.proofs.Common.{◌≡◌, ◌<◌, ◌||◌, ◌&&◌, ℕ, ℤ, Bool, true, false, not, List, [], ◌∷◌, length, nat_le, nat_lt, Option, Some, None, is_some, Result, Ok, Err, refl, ◌∙◌, if◌then◌else◌}
+use Rattle.std.proofs.Common.{◌≡◌, ◌||◌, ◌&&◌, ℕ, ℤ, Bool, true, false, not, List, [], ◌∷◌, length, nat_le, nat_lt, Option, Some, None, is_some, Result, Ok, Err, refl, ◌∙◌, if◌then◌else◌}
 use Rattle.std.proofs.lemmas.Bool.{leb-false}
 use Rattle.std.specs.Str.{bytes_eq}
 use Rattle.wire_msgs.specs.Found.{find, nth}
@@ -23,7 +23,7 @@ use Rattle.container_model.specs.Commands
 use Rattle.container_model.specs.Located.{located_at, located_in, located, ready}
 use Rattle.container_model.specs.Verbs as verbs
 use Rattle.container_steady.specs.Made.{IsMade, TakenIsMade, makes_activation, makes_edit, makes_end, makes_fewer, makes_frame, makes_nothing, makes_object, makes_save, makes_server, makes_steps, makes_taking, row_of_close, row_of_verb, run_by}
-use Rattle.container_steady.specs.Taken.{CommandsAreTakenSo, IsInserted, IsNew, IsReadyAt, IsRun, IsRunningAt, IsSaved, IsStarted, IsStepped, IsTakenAs, IsVerb, as_close, as_delete, as_edit, as_insert, as_kill, as_new, as_run, as_save, as_save_as, as_start, as_verb, edited, steps_leave, steps_nothing, steps_take}
+use Rattle.container_steady.specs.Taken.{CommandsAreTakenSo, IsReadyAt, IsRunningAt, IsStepped, IsTakenAs, IsVerb, as_close, as_delete, as_edit, as_insert, as_kill, as_new, as_run, as_save, as_save_as, as_start, as_verb, edited, steps_leave, steps_nothing, steps_take}
 use Rattle.container_steady.proofs.SteadyTells.{or_false, unless_ok}
 use Rattle.container_steady.proofs.SteadyTests.{found_numbered, idle_of, none_of, not_false}
 

@@ -1,7 +1,7 @@
 -- Commands keep a record steady.
-use Rattle.std.proofs.Common.{◌≡◌, ◌≤◌, ◌<◌, inl, inr, ℕ, zero, suc, ◌+◌, Bool, true, false, not, List, [], ◌∷◌, ◌++◌, length, Option, Some, None, Result, Ok, Err, refl, sym, ap, ◌∙◌, arith, subst, ◌==◌}
-use Rattle.std.proofs.lemmas.Bool.{eqb-true, eqb-false, leb-false, ne_eqb}
-use Rattle.std.specs.Prelude.{IfSome, IsOkAnd, is_some, nat_lt, nat_le, ◌||◌, slice_get}
+use Rattle.std.proofs.Common.{◌≡◌, ◌≤◌, ◌<◌, inl, inr, ℕ, zero, suc, ◌+◌, Bool, true, false, List, [], ◌∷◌, ◌++◌, length, Option, Some, None, Ok, refl, sym, ap, ◌∙◌, arith, subst, ◌==◌}
+use Rattle.std.proofs.lemmas.Bool.{eqb-true, eqb-false, ne_eqb}
+use Rattle.std.specs.Prelude.{IfSome, IsOkAnd, nat_lt, slice_get}
 use Rattle.wire_msgs.specs.Found.{find, put, nth}
 use Rattle.wire_msgs.specs.declared.operation.Operation.{Operation}
 use Rattle.wire_msgs.specs.declared.operation.Operation.TheVariants.{InitNew, Load, Save}
@@ -12,7 +12,6 @@ use Rattle.object_state.specs.Both as both
 use Rattle.storage_tree.specs.declared.streams.NamedStream.{NamedStream}
 use Rattle.embed_core.specs.Kinds.{Kind, Note, Table, Drawing}
 use Rattle.object_parts.specs.Limits.{is_within}
-use Rattle.object_parts.specs.declared.area.Area.{Area}
 use Rattle.ole_parts.specs.CompObjs.{PAST_USER_TYPE}
 use Rattle.container_model.specs.declared.record.Link.{Link}
 use Rattle.container_model.specs.declared.record.Object.{Object}
@@ -20,18 +19,18 @@ use Rattle.container_model.specs.declared.record.Frame.{Frame}
 use Rattle.container_model.specs.declared.record.Phase.{Phase}
 use Rattle.container_model.specs.declared.record.Phase.TheVariants.{Idle, Saving}
 use Rattle.container_model.specs.declared.command.Command.{Command}
-use Rattle.container_model.specs.Record.{Record, Took, MOST_FRAMES, MOST_OBJECTS, MOST_SERVERS, MARGIN, is_object, is_alive, is_asked, is_busy, is_claim, is_moving, is_saving, is_doubtful, count_alive, count_objects, is_unreaped, acts, counts_none, without_first, asked_link, asked_object}
+use Rattle.container_model.specs.Record.{Record, Took, MOST_OBJECTS, is_object, is_alive, is_asked, is_busy, is_claim, count_objects, is_unreaped, without_first, asked_link, asked_object}
 use Rattle.grant_core.specs.Grants.{waiting}
 use Rattle.container_model.specs.Commands
 use Rattle.container_steady.specs.Roles.{IsClaim, IsPlain, Other, Role, SteadyGrant, role_in}
 use Rattle.container_steady.specs.Steady.{SteadyLink, SteadyObject, SteadyFrame, InOrder, Steady, IsBeginning, IsTimely, EndsWell, ended}
-use Rattle.container_steady.proofs.SteadyLookups.{each_found, each_weaker, each_both, each_put, each_map, each_append, each_set, each_nth, pairs_put, pairs_map, pairs_append, nth_append, none_busy}
+use Rattle.container_steady.proofs.SteadyLookups.{each_found, each_weaker, each_both, each_put, each_map, each_append, each_set, pairs_put, pairs_map, pairs_append, nth_append, none_busy}
 use Rattle.container_steady.proofs.SteadyCounts.{count_put, count_map, count_more, count_without, each_without, pairs_without}
 use Rattle.container_steady.proofs.SteadyLinks.{link_moved, save_asked}
-use Rattle.container_steady.proofs.SteadyRecords.{if_told, unless_ok, or_false, some_and, and_some, if_weaker, Held as HeldIn, Apart, apart_none, IsOut, TookPlace, order_both, settle_steady}
-use Rattle.container_steady.proofs.SteadyTests.{idle_of, not_false, none_of, found_numbered, asked_follows, link_asked}
+use Rattle.container_steady.proofs.SteadyRecords.{if_told, or_false, some_and, and_some, if_weaker, Held as HeldIn, Apart, apart_none, IsOut, order_both, settle_steady}
+use Rattle.container_steady.proofs.SteadyTests.{none_of}
 use Rattle.container_steady.proofs.SteadyMoves.{set_object, unset_object}
-use Rattle.container_steady.proofs.SteadyClaims.{KeepsLink, LinkStays, append_back, claim_kept, grant_kept, keeps_append, keeps_map, keeps_put, keeps_refl, keeps_without, set_back}
+use Rattle.container_steady.proofs.SteadyClaims.{KeepsLink, append_back, claim_kept, grant_kept, keeps_append, keeps_map, keeps_put, keeps_refl, keeps_without, set_back}
 use Rattle.container_steady.specs.Made.{IsMade, makes_activation, makes_edit, makes_end, makes_fewer, makes_frame, makes_nothing, makes_object, makes_save, makes_server, makes_steps, makes_taking, run_by}
 use Rattle.container_steady.proofs.Taken.{command_made}
 use Rattle.container_steps.proofs.SteadyAsks.{edit_keeps}

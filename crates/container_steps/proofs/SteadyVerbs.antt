@@ -1,10 +1,10 @@
 -- Verbs and closes keep a record steady.
-use Rattle.std.proofs.Common.{◌≡◌, ℕ, Bool, true, false, not, List, [], ◌∷◌, map, Option, Some, None, Result, Ok, refl, sym, ap, ◌∙◌, arith, subst, if◌then◌else◌, eq-eqb}
-use Rattle.std.specs.Prelude.{IsOkAnd, ◌||◌, ◌&&◌, ℤ, nat_le}
+use Rattle.std.proofs.Common.{◌≡◌, ℕ, Bool, true, false, List, [], ◌∷◌, map, Some, None, Result, Ok, refl, sym, ap, ◌∙◌, arith, subst, if◌then◌else◌, eq-eqb}
+use Rattle.std.specs.Prelude.{IsOkAnd, ◌&&◌}
 use Rattle.std.specs.List.{AllByRecursion}
 use Rattle.wire_msgs.specs.Found.{find, nth, put}
 use Rattle.object_state.specs.Laws.{goal_of}
-use Rattle.object_state.specs.Verbs.{activates_ui, close_steps, steps, verb_of}
+use Rattle.object_state.specs.Verbs.{activates_ui, close_steps, steps}
 use Rattle.object_state.specs.declared.both_states.States.{States}
 use Rattle.object_state.specs.declared.faults.StateFault.{StateFault}
 use Rattle.object_state.specs.declared.operations.CloseOption.{CloseOption}
@@ -28,11 +28,8 @@ use Rattle.container_model.specs.declared.record.Object.{Object}
 use Rattle.container_model.specs.declared.record.Frame.{Frame}
 use Rattle.container_model.specs.declared.record.Phase.{Phase}
 use Rattle.container_model.specs.declared.record.Phase.TheVariants.{Idle}
-use Rattle.container_model.specs.declared.fault.ContainerFault.{ContainerFault}
-use Rattle.container_model.specs.declared.fault.ContainerFault.TheVariants.{Busy, InDoubt as Doubtful, NumbersSpent}
 use Rattle.container_model.specs.Grants.{grant_of, moved}
-use Rattle.container_model.specs.Record.{Record, Took, counts_none, has_numbers, is_asked, is_busy, is_claim, is_doubtful, is_moving, is_object, is_saving, quiet_answer, with_frame, with_object}
-use Rattle.container_model.specs.Verbs as verbs
+use Rattle.container_model.specs.Record.{Record, is_asked, is_claim, is_moving, is_object, with_frame, with_object}
 use Rattle.container_model.specs.Verbs.{claim_of, gives_up, leaving_made, operation_of, stepped_link, takes, taking_made}
 use Rattle.container_steady.specs.Roles.{IsClaim, IsPlain, IsShown, Other, Giving, Role, SteadyGrant, role_in}
 use Rattle.container_steady.specs.Steady.{ended, EndsAs, EndsWell, SteadyLink, Steady}
@@ -40,11 +37,9 @@ use Rattle.container_steady.specs.Made.{IsRow, IsTaking, row_of_close, row_of_ve
 use Rattle.container_steps.proofs.SteadyAsks.{held_idle, free, linked_keeps, was}
 use Rattle.container_steady.proofs.SteadyLinks.{asked_each, quiet_asked, quiet_ends, quiet_plays}
 use Rattle.container_steady.proofs.SteadyMoves.{But, SteadyBut, all_steady, gives_it, has_it, move_but, moved_to, parts_ended, put_but, set_object}
-use Rattle.container_steady.proofs.SteadyRecords.{if_told, unless_ok, or_false}
 use Rattle.container_steady.proofs.SteadyRoles.{AtHeld, AtRest, holds, rests, at_rest, is_ui}
 use Rattle.container_steps.proofs.SteadySteps.{LeavesFrom, TakesFrom, hidden, placed, leaves_nothing, leaves_frame, leaves_plain, closing_from, close_runs, leaving_from, steps_timely, taking_from, verb_runs}
 use Rattle.container_steps.proofs.SteadyTaking.{still_at, taking_keeps}
-use Rattle.container_steady.proofs.SteadyTests.{idle_of, found_numbered}
 
 -- where an object's own claim is, its activation has it
 pub claim_act : (r : Record) (f : ℕ) (c : Claim) (x : Object) (l : Link) → IsClaim r f c → c.object ≡ x.number → find (is_object x.number) r.objects ≡ Some x → x.link ≡ Some l → l.act ≡ c.act

@@ -4,7 +4,6 @@ use Rattle.wire_msgs.specs.Found.{find, nth, put}
 use Rattle.wire_msgs.specs.declared.message.Message.{Message}
 use Rattle.wire_msgs.specs.declared.message.Message.TheVariants.{Call, Reply, Write}
 use Rattle.wire_msgs.specs.declared.message.Message.TheVariants as message
-use Rattle.wire_msgs.specs.declared.operation.Operation.{Operation}
 use Rattle.wire_msgs.specs.declared.operation.Operation.TheVariants.{Save, SaveDropped, UiDeactivate}
 use Rattle.wire_msgs.specs.declared.answer.Answer.{Answer}
 use Rattle.object_parts.specs.Limits.{is_within}
@@ -18,7 +17,7 @@ use Rattle.container_model.specs.declared.record.Frame.{Frame}
 use Rattle.container_model.specs.declared.fault.ContainerFault.{ContainerFault}
 use Rattle.container_model.specs.declared.record.Phase.TheVariants.{Idle}
 use Rattle.container_model.specs.declared.fault.ContainerFault.TheVariants.{WrongLink, Stale, BadAnswer, NoSuch}
-use Rattle.container_model.specs.Record.{Record, Took, quiet_answer, counts_none, acts, sends, with_frame, is_object, is_linked, is_alive, asked_link, asked_object}
+use Rattle.container_model.specs.Record.{Record, Took, counts_none, acts, sends, with_frame, is_object, is_linked, is_alive, asked_object}
 use Rattle.container_model.specs.Saves.{commit_doubted, doubted_frame, dropped_frame, dropped_object, forgotten_object, save_dropped, cleared, kept}
 use Rattle.container_model.specs.Grants.{grant_of, moved, request}
 use Rattle.container_model.specs.Verbs.{claim_of, gives_up, left, stepped_link, leaving_made, holder_of, revoked_at, claimed, revoked, steps_now, taking_made}

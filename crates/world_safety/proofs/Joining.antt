@@ -1,21 +1,18 @@
 -- What a step of the container makes of a world that agrees.
-use Rattle.std.proofs.Common.{◌≡◌, ◌≢◌, ℕ, suc, ◌+◌, Bool, true, false, List, [], ◌∷◌, ◌++◌, length, map, Option, Some, None, Ok, refl, sym, ap, ◌∙◌, inl, inr, arith, subst, nat_le, slice_get}
+use Rattle.std.proofs.Common.{◌≡◌, ◌≢◌, ℕ, suc, ◌+◌, Bool, true, false, List, [], ◌∷◌, ◌++◌, length, map, Option, Some, None, Ok, refl, sym, ap, ◌∙◌, inl, inr, arith, subst, slice_get}
 use Rattle.std.proofs.lemmas.List.{append-nil}
 use Rattle.std.proofs.lemmas.Bool.Decides.{eqb_tells}
 use Rattle.wire_msgs.specs.Found.{nth, set_nth}
 use Rattle.wire_msgs.specs.declared.message.Message.{Message}
 use Rattle.wire_msgs.specs.declared.operation.Operation.{Operation}
 use Rattle.server_model.specs.Server.{Activation}
-use Rattle.container_model.specs.Record.{Record, Took, MOST_SERVERS, acts, counts_none, count_alive, is_alive, is_unreaped}
-use Rattle.container_model.specs.Commands.{on_command, kill, start, start_made}
+use Rattle.container_model.specs.Record.{Record, Took, acts, counts_none, is_alive, is_unreaped}
+use Rattle.container_model.specs.Commands.{on_command, start_made}
 use Rattle.container_model.specs.declared.command.Command.{Command}
-use Rattle.container_model.specs.declared.fault.ContainerFault.TheVariants.{Full, NumbersSpent}
 use Rattle.container_model.specs.declared.answer.Action.TheVariants.{End}
 use Rattle.container_model.specs.declared.answer.Done.{Done}
 use Rattle.container_steady.specs.Made.{run_by}
 use Rattle.container_steady.specs.Steady.{Steady}
-use Rattle.container_steady.proofs.SteadyRecords.{unless_ok}
-use Rattle.container_steps.proofs.SteadyCommands.{on_command_keeps}
 use Rattle.world_model.specs.declared.life.Life.{Life}
 use Rattle.world_model.specs.declared.life.Life.TheVariants.{Running, Ended, Reaped}
 use Rattle.world_model.specs.World.{World, Instance, fresh, messages_of, of_container, started_by, end_of, ended_at, ended_by, joined}
@@ -34,7 +31,7 @@ use Rattle.world_grants.proofs.Alike.{grants_same}
 use Rattle.world_grants.proofs.Answering.{ready_for}
 use Rattle.world_grants.proofs.Stepping as starting
 use Rattle.world_grants.proofs.Stepping.{followed}
-use Rattle.world_grants.proofs.Taking.{MovesBy, command_moves}
+use Rattle.world_grants.proofs.Taking.{MovesBy}
 use Rattle.world_steps.specs.Steps.{IsBegun, IsCommanded, IsPlain, IsTurned, IsReplied, IsReaped}
 use Rattle.world_steps.proofs.Keeping.{AreKept, longer, messages_longer, turned_kept, replied_kept, reaped_kept}
 use Rattle.world_steps.proofs.Instances.{nth_same, nth_other}

@@ -2,7 +2,7 @@
 use Rattle.std.proofs.Common.{◌≡◌, ◌≤◌, ◌+◌, ℕ, List, [], ◌∷◌, ◌++◌, length, Option, Some, None, Result, Ok, Err, refl, sym, ap, ◌∙◌, arith, subst}
 use Rattle.std.proofs.lemmas.List.{length-append}
 use Rattle.std.specs.List.{AllByRecursion}
-use Rattle.std.specs.Prelude.{Bool, true, false, nat_le}
+use Rattle.std.specs.Prelude.{Bool, true, false}
 use Rattle.wire_msgs.specs.Found.{find, nth, set_nth}
 use Rattle.wire_msgs.specs.declared.message.Message.{Message}
 use Rattle.wire_msgs.specs.declared.message.Message.TheVariants.{Call, Reply, Write, Ask}
@@ -12,7 +12,7 @@ use Rattle.embed_core.specs.Kinds.{Kind}
 use Rattle.server_model.specs.Server.{Served, Told, on_call, wanted}
 use Rattle.server_model.specs.Server as server
 use Rattle.server_model.specs.declared.fault.ServerFault.{ServerFault}
-use Rattle.container_model.specs.Record.{Took, MOST_SERVERS, count_alive, is_object}
+use Rattle.container_model.specs.Record.{Took, is_object}
 use Rattle.container_model.specs.Room.{HasRoom}
 use Rattle.container_model.specs.Saves.{image, commit_done, commit_failed, commit_made, resolve}
 use Rattle.container_model.specs.Messages.{on_message, on_reap}
@@ -21,9 +21,7 @@ use Rattle.container_model.specs.declared.command.Command.{Command}
 use Rattle.container_model.specs.declared.record.Frame.{Frame}
 use Rattle.container_model.specs.declared.answer.Part.{Part}
 use Rattle.container_model.specs.declared.fault.ContainerFault.{ContainerFault}
-use Rattle.container_model.specs.declared.fault.ContainerFault.TheVariants.{Full, NumbersSpent}
 use Rattle.container_steady.proofs.Settling.{IsCommitOf, done_commits, kept_commits}
-use Rattle.container_steady.proofs.SteadyRecords.{unless_ok}
 use Rattle.container_steady.specs.Made.{run_by}
 use Rattle.container_numbers.specs.Sound.{IsNumbered}
 use Rattle.container_model.specs.Inputs.{Input}

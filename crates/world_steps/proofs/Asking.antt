@@ -1,33 +1,23 @@
 -- What is asked of one object, and of whole frames.
-use Rattle.std.proofs.Common.{◌≡◌, ◌⊎◌, ◌==◌, ℕ, ◌+◌, ◌<◌, Bool, true, false, not, List, [], ◌∷◌, ◌++◌, length, map, Option, Some, None, option_map, Ok, refl, sym, ap, ◌∙◌, inl, inr, arith, subst, nat_le, if◌then◌else◌, eq-eqb}
+use Rattle.std.proofs.Common.{◌≡◌, ◌⊎◌, ◌==◌, ℕ, ◌+◌, ◌<◌, Bool, true, false, List, [], ◌∷◌, ◌++◌, map, Option, Some, None, option_map, refl, sym, ap, ◌∙◌, inl, inr, arith, subst, if◌then◌else◌, eq-eqb}
 use Rattle.std.specs.List.{AllByRecursion}
-use Rattle.wire_msgs.specs.Found.{find, put, nth}
+use Rattle.wire_msgs.specs.Found.{find, put}
 use Rattle.wire_msgs.specs.declared.message.Message.{Message}
 use Rattle.wire_msgs.specs.declared.operation.Operation.{Operation}
-use Rattle.wire_msgs.specs.declared.operation.Operation.TheVariants.{Edit}
 use Rattle.storage_tree.specs.declared.stored.Stored.{Stored}
-use Rattle.embed_core.specs.Kinds.{Kind}
-use Rattle.object_parts.specs.declared.area.Area.{Area}
 use Rattle.container_model.specs.declared.record.Link.{Link}
 use Rattle.container_model.specs.declared.record.Object.{Object}
-use Rattle.container_model.specs.declared.record.Frame.{Frame}
-use Rattle.container_model.specs.declared.fault.ContainerFault.TheVariants.{Busy, InDoubt as Doubtful, Full, NumbersSpent, WrongState}
-use Rattle.container_model.specs.Record.{Record, Took, MOST_FRAMES, MOST_OBJECTS, is_object, is_saving, is_doubtful, count_objects, ask, ask_at, asked_link, asked_sent, asked_object, asked_all}
-use Rattle.container_model.specs.Commands.{new, new_made, insert, insert_at, insert_made, new_object, is_named, is_size, is_empty_area, edit, edit_linked}
+use Rattle.container_model.specs.Record.{Record, is_object, ask, ask_at, asked_link, asked_sent, asked_object, asked_all}
 use Rattle.container_steady.specs.Steady.{EachPair, InOrder, WaitsBehind, Steady}
-use Rattle.container_steady.specs.Taken.{edited}
-use Rattle.container_steady.proofs.Taken.{edited_by, ready_at}
 use Rattle.std.proofs.lemmas.Bool.{eqb-true, eqb-false, ne_eqb}
-use Rattle.container_steady.proofs.SteadyRecords.{if_told, unless_ok}
+use Rattle.container_steady.proofs.SteadyRecords.{if_told}
 use Rattle.container_steady.proofs.SteadyTests.{found_numbered}
 use Rattle.container_steady.proofs.SteadyShapes.{asked_of}
-use Rattle.world_model.specs.World.{messages_of}
 use Rattle.world_model.specs.Safe.{Among, link_at, links_of}
 use Rattle.world_facts.specs.Words.{Links}
 use Rattle.world_facts.specs.Shapes.{IsSame, AskedAt, none, stays, queues, sends as sent, AsksAll, IsQuiet}
 use Rattle.world_facts.proofs.Lookups.{among_join}
-use Rattle.world_steps.specs.Steps.{IsPlain}
-use Rattle.world_steps.proofs.Objects.{IsHeld, Waits, found_held, link_mapped, link_was, put_here, put_there, messages_sends, no_start_sent, no_end_sent}
+use Rattle.world_steps.proofs.Objects.{IsHeld, Waits, found_held, link_mapped, link_was, put_here, put_there}
 
 -- an object of which nothing is asked
 same_link : (l : Link) → IsSame l l

@@ -1,22 +1,20 @@
 -- Saves that are asked for and that go on: each object of a frame is asked for its content, and in a save under another name
 -- then for its storage.
-use Rattle.std.proofs.Common.{◌≡◌, ℕ, ◌+◌, Bool, true, false, List, [], ◌∷◌, ◌++◌, length, map, Option, Some, None, Ok, refl, sym, ap, ◌∙◌, subst, if◌then◌else◌, ◌<◌}
+use Rattle.std.proofs.Common.{◌≡◌, ℕ, ◌+◌, Bool, true, false, List, [], ◌∷◌, ◌++◌, length, map, Option, Some, None, refl, sym, ap, ◌∙◌, subst, if◌then◌else◌, ◌<◌}
 use Rattle.wire_msgs.specs.Found.{find, nth}
 use Rattle.wire_msgs.specs.declared.operation.Operation.{Operation}
 use Rattle.wire_msgs.specs.declared.operation.Operation.TheVariants.{HandsOff, Save, UiActivate}
 use Rattle.grant_core.specs.Grants.{Event}
 use Rattle.grant_core.specs.Frames.{after}
 use Rattle.grant_core.specs.declared.grant_states.Claim.{Claim}
-use Rattle.container_model.specs.declared.command.Command.{Command}
-use Rattle.container_model.specs.declared.command.Command.TheVariants as command
 use Rattle.container_model.specs.declared.grants.Tells.{Tells}
 use Rattle.container_model.specs.declared.record.Frame.{Frame}
 use Rattle.container_model.specs.declared.record.Object.{Object}
-use Rattle.container_model.specs.Record.{Record, Took, asked_all, asked_link, asked_object, is_object, with_frame}
+use Rattle.container_model.specs.Record.{Record, asked_all, asked_link, asked_object, is_object, with_frame}
 use Rattle.container_model.specs.Grants.{Requested, event_of, further, grant_each, moved, passed_to, regranted, regranted_by, regranted_in, request, requested}
 use Rattle.container_model.specs.Saves.{settle_actions}
 use Rattle.container_model.specs.HandOffs.{hand_off, hand_off_at, hand_off_each, hand_off_in, handed_off, hands_off, unasked as not_handed}
-use Rattle.container_model.specs.Commands.{on_command, save_made, saving, saving_on}
+use Rattle.container_model.specs.Commands.{save_made, saving, saving_on}
 use Rattle.container_steady.specs.Steady.{EachPair, Steady}
 use Rattle.container_steady.proofs.SteadyTests.{found_numbered}
 use Rattle.world_model.specs.Safe.{links_of}

@@ -1,16 +1,13 @@
 -- Run: an activation begins.
-use Rattle.std.proofs.Common.{◌≡◌, ◌||◌, ℕ, ◌+◌, true, not, List, [], ◌∷◌, Some, is_some, Ok, refl, sym, ap, ◌∙◌, subst, nat_le, nat_lt}
+use Rattle.std.proofs.Common.{◌≡◌, ℕ, ◌+◌, true, List, [], ◌∷◌, Some, refl, sym, ap, ◌∙◌, subst}
 use Rattle.wire_msgs.specs.Found.{find, put, nth}
 use Rattle.wire_msgs.specs.declared.operation.Operation.{Operation}
 use Rattle.storage_tree.specs.declared.streams.NamedStream.{NamedStream}
 use Rattle.container_model.specs.declared.record.Object.{Object}
-use Rattle.container_model.specs.declared.fault.ContainerFault.TheVariants.{NoSuch, NumbersSpent, WrongState, UnknownClass}
-use Rattle.container_model.specs.Record.{Record, Took, MARGIN, is_object, is_alive}
-use Rattle.container_model.specs.Commands.{is_known_class, run, run_made, run_object, first_operation, begun_link}
+use Rattle.container_model.specs.Record.{Record, is_object, is_alive}
+use Rattle.container_model.specs.Commands.{run, run_made, first_operation, begun_link}
 use Rattle.container_steady.specs.Steady.{Steady}
 use Rattle.container_steady.specs.Taken.{IsReadyAt, IsRun}
-use Rattle.container_steady.proofs.SteadyRecords.{unless_ok}
-use Rattle.container_steady.proofs.SteadyTests.{not_false, none_of, found_numbered}
 use Rattle.world_model.specs.declared.life.Life.{Life}
 use Rattle.world_model.specs.World.{messages_of}
 use Rattle.world_model.specs.Safe.{links_of}

@@ -1,10 +1,10 @@
 -- Verbs: the holder of a frame is asked to give it up, and an object is asked the steps of the verb, one after the other.
-use Rattle.std.proofs.Common.{◌≡◌, ◌+◌, length, ◌&&◌, ◌||◌, ℕ, ℤ, true, false, not, List, [], ◌∷◌, ◌++◌, map, Option, Some, None, Result, Ok, refl, sym, ap, ◌∙◌, subst, if◌then◌else◌, nat_le, eq-eqb}
+use Rattle.std.proofs.Common.{◌≡◌, ◌+◌, length, ℕ, true, false, List, [], ◌∷◌, ◌++◌, map, Option, Some, None, Result, Ok, refl, sym, ap, ◌∙◌, subst, if◌then◌else◌, eq-eqb}
 use Rattle.std.specs.List.{AllByRecursion}
 use Rattle.std.proofs.lemmas.List.{append-nil}
 use Rattle.wire_msgs.specs.Found.{find, put, nth, set_nth}
 use Rattle.wire_msgs.specs.declared.operation.Operation.TheVariants.{UiDeactivate}
-use Rattle.object_state.specs.Verbs.{steps, verb_of}
+use Rattle.object_state.specs.Verbs.{steps}
 use Rattle.object_state.specs.declared.object_states.ObjectState.{ObjectState}
 use Rattle.object_state.specs.declared.object_states.ObjectState.TheVariants.{UiActive}
 use Rattle.object_state.specs.declared.verbs.Verb.{Verb}
@@ -18,19 +18,17 @@ use Rattle.container_model.specs.declared.record.Link.{Link}
 use Rattle.container_model.specs.declared.record.Object.{Object}
 use Rattle.container_model.specs.declared.record.Frame.{Frame}
 use Rattle.container_model.specs.declared.fault.ContainerFault.{ContainerFault}
-use Rattle.container_model.specs.declared.fault.ContainerFault.TheVariants.{Busy, NumbersSpent}
-use Rattle.container_model.specs.Record.{Record, Took, acts, counts_none, quiet_answer, sends, with_frame, with_object, has_numbers, is_moving, is_object}
+use Rattle.container_model.specs.Record.{Record, Took, acts, sends, with_frame, with_object, is_object}
 use Rattle.container_model.specs.Grants.{Requested, grant_of, moved, request}
-use Rattle.container_model.specs.Verbs.{operation_of, claim_of, takes, gives_up, stepped_link, leaving_made, holder_of, holder_has_numbers, revoked_at, claimed, steps_now, taking_made, taking, stepping, verb_steps, steps_of, verb_linked, wants_ui, verb_framed, verb}
+use Rattle.container_model.specs.Verbs.{operation_of, claim_of, takes, gives_up, stepped_link, leaving_made, holder_of, revoked_at, claimed, steps_now, taking_made}
 use Rattle.container_steady.specs.Made.{IsTaking}
 use Rattle.container_steady.specs.Roles.{Holding, Other, IsShown, role_in}
 use Rattle.container_steady.specs.Steady.{WaitsBehind, Steady}
-use Rattle.container_steady.proofs.SteadyRecords.{if_told, unless_ok}
+use Rattle.container_steady.proofs.SteadyRecords.{if_told}
 use Rattle.container_steady.proofs.SteadyTests.{found_numbered}
-use Rattle.world_model.specs.World.{messages_of}
 use Rattle.world_model.specs.Safe.{link_at, links_of}
 use Rattle.world_facts.specs.Shapes.{IsQuiet}
-use Rattle.world_steps.specs.Steps.{IsPlain, AsksInTurn, asks_none, asks_first, IsTurned}
+use Rattle.world_steps.specs.Steps.{AsksInTurn, asks_none, asks_first, IsTurned}
 use Rattle.world_steps.proofs.Objects.{found_held, linked_object, messages_sends, no_start_sent, no_end_sent, steady_waits}
 use Rattle.world_steps.proofs.Turns.{each_turns, placed_here, placed_there, KeepsRest, rest_same, request_keeps, request_others, request_asks, turns_join}
 
